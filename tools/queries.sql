@@ -5,19 +5,37 @@
 --
 -- A list in a column is split by json_each; its members are names, which need no escapes.
 
--- What a SYSMOD states in its ++VER for an SREL: an operand (FMID, PRE, REQ, SUP, NPRE, DELETE) and one id of it; and
--- IFREQ, an id in the REQ of an ++IF, with the function that the ++IF is about.
+-- The ++VERs of each SYSMOD, numbered from 1 among those of one SREL.
+CREATE TEMP VIEW vers AS
+SELECT id, srel, 1 AS number, fmid, pre, req, sup, npre, del FROM ver
+UNION ALL SELECT id, srel, n, fmid, pre, req, sup, '', '' FROM morever;
+
+-- What a SYSMOD states in a ++VER: an operand (FMID, PRE, REQ, SUP, NPRE, DELETE) and one id of it; and IFREQ, an id in
+-- the REQ of an ++IF, with the function that the ++IF is about.
 CREATE TEMP VIEW states AS
-WITH listed (id, srel, operand, function, list) AS (
-  SELECT id, srel, 'FMID', NULL, fmid FROM ver WHERE fmid IS NOT NULL
-  UNION ALL SELECT id, srel, 'PRE', NULL, pre FROM ver WHERE pre <> ''
-  UNION ALL SELECT id, srel, 'REQ', NULL, req FROM ver WHERE req <> ''
-  UNION ALL SELECT id, srel, 'SUP', NULL, sup FROM ver WHERE sup <> ''
-  UNION ALL SELECT id, srel, 'NPRE', NULL, npre FROM ver WHERE npre <> ''
-  UNION ALL SELECT id, srel, 'DELETE', NULL, del FROM ver WHERE del <> ''
-  UNION ALL SELECT id, srel, 'IFREQ', fmid, req FROM ifreq)
-SELECT listed.id, srel, operand, function, value AS names
+WITH listed (id, srel, number, operand, function, list) AS (
+  SELECT id, srel, number, 'FMID', NULL, fmid FROM vers WHERE fmid IS NOT NULL
+  UNION ALL SELECT id, srel, number, 'PRE', NULL, pre FROM vers WHERE pre <> ''
+  UNION ALL SELECT id, srel, number, 'REQ', NULL, req FROM vers WHERE req <> ''
+  UNION ALL SELECT id, srel, number, 'SUP', NULL, sup FROM vers WHERE sup <> ''
+  UNION ALL SELECT id, srel, number, 'NPRE', NULL, npre FROM vers WHERE npre <> ''
+  UNION ALL SELECT id, srel, number, 'DELETE', NULL, del FROM vers WHERE del <> ''
+  UNION ALL SELECT id, srel, 1, 'IFREQ', fmid, req FROM ifreq
+  UNION ALL SELECT id, srel, v, 'IFREQ', fmid, req FROM moreif)
+SELECT listed.id, srel, number, operand, function, value AS names
 FROM listed, json_each('["' || replace(list, ',', '","') || '"]');
+
+-- Which ++VER of a received SYSMOD counts in a zone, of those for its SREL: of what is applied the one by which it was
+-- installed, else the first without FMID or with an FMID that is applied, else the first.
+CREATE TEMP VIEW counting AS
+SELECT zone.name AS zone, ver.id, coalesce(
+  CASE WHEN entry.date IS NOT NULL THEN coalesce(chosen.n, 1) END,
+  (SELECT min(number) FROM vers LEFT JOIN entry AS function ON function.zone = zone.name AND function.id = vers.fmid
+    WHERE vers.id = ver.id AND vers.srel = zone.srel AND (vers.fmid IS NULL OR function.date IS NOT NULL)),
+  1) AS number
+FROM zone JOIN ver ON ver.srel = zone.srel
+LEFT JOIN entry ON entry.zone = zone.name AND entry.id = ver.id
+LEFT JOIN chosen ON chosen.zone = zone.name AND chosen.id = ver.id;
 
 -- How an id stands in each zone that knows of it: APPLIED (ACCEPTED in a distribution zone), SUPERSEDED or DELETED.
 CREATE TEMP VIEW standing AS
@@ -27,8 +45,8 @@ SELECT zone.name AS zone, entry.id,
   date, supby, delby, waived
 FROM zone JOIN entry ON entry.zone = zone.name;
 
--- What would supply an id to a zone: the received SYSMOD of that id, and each that names it in SUP, by their ++VERs for
--- the zone's SREL, and how they stand there. (An FMID is supplied by the function of that id alone.)
+-- What would supply an id to a zone: the received SYSMOD of that id, and each that names it in SUP, by any ++VER for the
+-- zone's SREL, and how they stand there. (An FMID is supplied by the function of that id alone.)
 CREATE TEMP VIEW suppliers AS
 SELECT zone.name AS zone, wanted, supplier, stands
 FROM zone JOIN (
@@ -36,7 +54,7 @@ FROM zone JOIN (
   UNION SELECT names, srel, id FROM states WHERE operand = 'SUP') AS named ON named.srel = zone.srel
 LEFT JOIN standing ON standing.zone = zone.name AND standing.id = supplier;
 
--- Who needs whom in a zone: FMID, PRE, REQ and IFREQ of the received SYSMODs that have a ++VER for its SREL, an IFREQ
+-- Who needs whom in a zone: FMID, PRE, REQ and IFREQ of the received SYSMODs by their ++VERs that count there, an IFREQ
 -- only where its function is applied there. `stands` and `needed_stands` say how the two ids stand in the zone; `state`
 -- is MET where the zone supplies what is needed, else WAIVED where BYPASS waived it, else OPEN.
 CREATE TEMP VIEW needs AS
@@ -45,6 +63,7 @@ SELECT zone.name AS zone, states.id, whose.stands AS stands, operand AS kind, fu
   CASE WHEN what.date IS NOT NULL OR what.supby <> '' AND operand <> 'FMID' THEN 'MET'
     WHEN instr(',' || whose.waived || ',', ',' || names || ',') > 0 THEN 'WAIVED' ELSE 'OPEN' END AS state
 FROM zone JOIN states ON states.srel = zone.srel AND operand IN ('FMID', 'PRE', 'REQ', 'IFREQ')
+JOIN counting ON counting.zone = zone.name AND counting.id = states.id AND counting.number = states.number
 LEFT JOIN standing AS whose ON whose.zone = zone.name AND whose.id = states.id
 LEFT JOIN standing AS what ON what.zone = zone.name AND what.id = names
 WHERE function IS NULL
@@ -63,9 +82,10 @@ LEFT JOIN standing ON standing.zone = zone.name AND standing.id = hold.id;
 -- What is not installed in a zone: received, with a ++VER for its SREL, and neither applied nor superseded nor deleted
 -- there, with the number of its open holds and of the ids that it needs and the zone does not supply.
 CREATE TEMP VIEW not_installed AS
-SELECT zone.name AS zone, sysmod.id, sysmod.kind, fmid, coalesce(sourceids, '') AS sources,
+SELECT zone.name AS zone, sysmod.id, sysmod.kind, vers.fmid, coalesce(sourceids, '') AS sources,
   coalesce(holds, 0) AS holds, coalesce(unmet, 0) AS unmet
-FROM zone JOIN ver ON ver.srel = zone.srel JOIN sysmod ON sysmod.id = ver.id
+FROM zone JOIN counting ON counting.zone = zone.name JOIN sysmod ON sysmod.id = counting.id
+JOIN vers ON vers.id = sysmod.id AND vers.srel = zone.srel AND vers.number = counting.number
 LEFT JOIN entry ON entry.zone = zone.name AND entry.id = sysmod.id
 LEFT JOIN (SELECT id, group_concat(name) AS sourceids FROM (SELECT id, name FROM source ORDER BY id, name)
   GROUP BY id) AS s ON s.id = sysmod.id

@@ -19,6 +19,7 @@ use Rattle.zones.specs.Delta.{ZoneDelta}
 use Rattle.terms.specs.Deleted.{zone_less}
 use Rattle.terms.specs.Install.{Installation, TakesEffect, applied_with, cleared, delby_after}
 use Rattle.terms.proofs.Ids.{is_in_from_Contains, Contains_from_is_in, in_or_not}
+use Rattle.sysmods.specs.Choices.{number_in}
 use Rattle.change.specs.declared.deleting.Deleting.{Deleting}
 use Rattle.change.specs.declared.plan.Plan.{Plan}
 use Rattle.change.specs.Deleting.{AreDeletions, choice_of, left, at_stake}
@@ -108,7 +109,7 @@ module _ (d : Deleting) (bypassed : List (Id × Id)) (date : Text) (is_global : 
   zone = d.zone.now
 
   abbrev i : Installation
-  i = installation d.vers.now.global.now (choice_of d) d.zone.now d.kept.now bypassed date
+  i = installation d.vers.now.global.now (choice_of d) (number_in d.vers.now) d.zone.now d.kept.now bypassed date
 
   pub cleared_is : cleared i ≡ left d
   cleared_is = ap (λ ds. zone_less d.vers.now.global.now choice ds zone) (sym dels)
@@ -234,7 +235,9 @@ module _ (d : Deleting) (bypassed : List (Id × Id)) (date : Text) (is_global : 
         ]
 
     pub applied : (x : Id) → TakesEffect i x → applied_of new x ≡ Some (applied_with i x)
-    applied x t = date_reads x ∙ ap (λ v. v.applied) (effect x t).rest ∙ ap (λ v. Some (an_applied v 1)) plan.date
+    applied x t =
+        date_reads x ∙ ap (λ v. v.applied) (effect x t).rest
+        ∙ ap (λ v. Some (an_applied v (number_in d.vers.now x))) plan.date
 
     pub not_applied : (x : Id) → (¬ TakesEffect i x) → applied_of new x ≡ applied_of (cleared i) x
     not_applied x out =

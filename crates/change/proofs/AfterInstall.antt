@@ -10,6 +10,7 @@ use Rattle.terms.specs.Global.{IsGlobal}
 use Rattle.zones.specs.Delta.{ZoneDelta, IsChanged}
 use Rattle.sorted.specs.Edits.{edit_key, edit_put}
 use Rattle.terms.specs.Install.{Installation, cleared, HasInstalled}
+use Rattle.sysmods.specs.Choices.{number_in}
 use Rattle.change.specs.declared.deleting.Deleting.{Deleting}
 use Rattle.change.specs.declared.plan.Plan.{Plan}
 use Rattle.change.specs.Deleting.{AreDeletions, choice_of}
@@ -26,7 +27,7 @@ module _ (d : Deleting) (bypassed : List (Id × Id)) (date : Text) (is_global : 
     (is_zone : IsZone d.zone.now) (lists : All (λ e. IsRising e.supby × IsRising e.waived) d.zone.now.entries)
     (dels : AreDeletions d) (fresh : All (IsFresh d.zone.now) d.kept.now) where
   abbrev i : Installation
-  i = installation d.vers.now.global.now (choice_of d) d.zone.now d.kept.now bypassed date
+  i = installation d.vers.now.global.now (choice_of d) (number_in d.vers.now) d.zone.now d.kept.now bypassed date
 
   pub installs : (p : Plan) (start between delta : ZoneDelta) (none less edits : List ElementEdit) (es : List Element)
       → IsPlan i d.dels.now p → none ≡ [] → HasPutEntries d p p.touched start between

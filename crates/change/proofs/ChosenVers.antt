@@ -1,5 +1,5 @@
 -- What ++VERs that count for one SREL say, in a global zone: they make no loop, and supersede no function.
-use Rattle.std.proofs.Common.{◌≡◌, ◌∙◌, Bool, true, false, not, List, [], ◌++◌, map, filter, find, Option, None, Some}
+use Rattle.std.proofs.Common.{◌≡◌, ◌∙◌, ◌-◌, Bool, true, false, not, List, [], ◌++◌, map, filter, Option, None, Some}
 use Rattle.std.proofs.Common.{All, Contains, IsTrue, inl, inr, refl, sym, ap, subst, true≢false}
 use Rattle.std.specs.Prelude.{◌&&◌}
 use Rattle.std.specs.List.{list_any, flat_map}
@@ -14,10 +14,10 @@ use Rattle.lemmas.proofs.Searches.{find_gives, All_find, All_from_no_list_any}
 use Rattle.lemmas.proofs.Texts.{same_from}
 use Rattle.terms.specs.Types.{Text, Id, IfReq, Ver, Sysmod, Global, Zone}
 use Rattle.terms.specs.Lookups.{at_most_one, sysmod_of, is_received, is_function}
-use Rattle.terms.specs.Choice.{Choice, vers_of, fits, or_first, counting, fmid_of, pre_of, sup_of, del_of}
+use Rattle.terms.specs.Choice.{Choice, vers_of, place, counting, fmid_of, pre_of, sup_of, del_of}
 use Rattle.terms.specs.Choice.{ifs_of}
 use Rattle.sysmods.specs.declared.choice.VerChoice.{VerChoice}
-use Rattle.sysmods.specs.Choices.{choice}
+use Rattle.sysmods.specs.Choices.{number_in, choice}
 use Rattle.terms.specs.Over.{Reaches, Supersedes, names}
 use Rattle.terms.specs.Global.{named, names_for, HasLoop, is_service, named_functions, fits_roles, RolesFit}
 use Rattle.terms.proofs.Leads.{reaches_more, last_step}
@@ -32,15 +32,11 @@ AreFor g srel c = (x : Id) (v : Ver) → c x ≡ Some v → Contains (vers_of g 
 
 -- those that a value looks up are
 pub looked_up : (vers : VerChoice) → AreFor vers.global.now vers.srel (choice vers)
-looked_up vers x v found = contains_at (vers_of vers.global.now vers.srel x) 0 v found
+looked_up vers x v found = contains_at (vers_of vers.global.now vers.srel x) (number_in vers x - 1) v found
 
 -- and those that count in a zone
 pub counting_for : (g : Global) (zone : Zone) (cands : List Id) → AreFor g zone.srel (counting g zone cands)
-counting_for g zone cands x v = by (vers_of g zone.srel x) (find (fits zone cands) (vers_of g zone.srel x)) refl
-  where
-    by : (vs : List Ver) (o : Option Ver) → find (fits zone cands) vs ≡ o → or_first vs o ≡ Some v → Contains vs v
-    by vs None found at = contains_at vs 0 v at
-    by vs (Some w) found at = (find_gives (fits zone cands) vs v (found ∙ at)).1
+counting_for g zone cands x v found = contains_at (vers_of g zone.srel x) (place g zone cands x) v found
 
 module _ (g : Global) (srel : Text) (c : Choice) (are : AreFor g srel c) where
   -- the ++VER that counts is one of a received SYSMOD

@@ -18,6 +18,7 @@ use Rattle.terms.proofs.NothingDeleted.{is_taken_out_none, zone_less_none}
 use Rattle.zones_views.proofs.Filtered.{passing}
 use Rattle.zones_views.proofs.Entries.{entry_less_waives}
 use Rattle.zones_views.proofs.Lookups.{entry_of_less}
+use Rattle.sysmods.specs.Choices.{number_in}
 use Rattle.change.specs.declared.deleting.Deleting.{Deleting}
 use Rattle.change.specs.Deleting.{AreDeletions, choice_of, is_gone, left, is_function_gone, first_naming, first_meeting}
 use Rattle.change.specs.Deleting.{first_deleter, delby_left, at_stake}
@@ -112,7 +113,8 @@ first_of {X} p (x ∷ xs) = by (first_of p xs) (p x) refl
 module _ (d : Deleting) (dels : AreDeletions d) where
   pub delby_is : (bypassed : List (Id × Id)) (date : Text) (x : Id)
       → delby_left d x
-      ≡ delby_after (installation d.vers.now.global.now (choice_of d) d.zone.now d.kept.now bypassed date) x
+      ≡ delby_after (installation d.vers.now.global.now (choice_of d) (number_in d.vers.now) d.zone.now d.kept.now
+      bypassed date) x
   unfolding delby_after
   delby_is bypassed date x = by (delby_of d.zone.now x)
     where

@@ -1,5 +1,5 @@
 -- The lists of an install.
-use Rattle.std.proofs.Common.{◌≡◌, inl, inr, List, ◌++◌, refl, map}
+use Rattle.std.proofs.Common.{◌≡◌, inl, inr, ℕ, List, ◌++◌, refl, map}
 use Rattle.std.specs.Prelude.{◌↔◌, Contains}
 use Rattle.std.proofs.lemmas.List.Elements.{Contains-append_left, Contains-append_right}
 use Rattle.lemmas.proofs.Members.{in_map}
@@ -15,27 +15,28 @@ use Rattle.change.specs.Plans.{installation, IsPlan}
 abbrev first : Id × Id → Id
 first p = p.0
 
-pub is_plan : (g : Global) (c : Choice) (zone : Zone) (kept : List Id) (bypassed : List (Id × Id)) (date : Text)
-    (dels effective touched : List Id) (pairs : List (Id × Id)) (superseders by_id : List Group)
+pub is_plan : (g : Global) (c : Choice) (number : Id → ℕ) (zone : Zone) (kept : List Id) (bypassed : List (Id × Id))
+    (date : Text) (dels effective touched : List Id) (pairs : List (Id × Id)) (superseders by_id : List Group)
     → ((i : Installation) → i.kept ≡ kept → i.choice ≡ c
     → (x : Id) → Contains effective x ↔ TakesEffect i x)
     → AreSuperseded c effective pairs
     → ((x : Id) → Contains touched x ↔ Contains ((map first pairs ++ effective) ++ at_stake zone dels) x)
     → AreGrouped pairs superseders → AreGrouped bypassed by_id
-    → IsPlan (installation g c zone kept bypassed date) dels (record {
+    → IsPlan (installation g c number zone kept bypassed date) dels (record {
       effective = effective;
       superseders = superseders;
       bypassed = by_id;
       touched = touched;
       date = date;
     })
-is_plan g c zone kept bypassed date dels effective touched pairs superseders by_id takes are all gathered waived =
+is_plan g c number zone kept bypassed date dels effective touched pairs superseders by_id takes are all gathered
+    waived =
+    let effect = takes (installation g c number zone kept bypassed date) refl refl in
     record {
-      effective = takes (installation g c zone kept bypassed date) refl refl;
+      effective = effect;
       superseders = λ x y. (
-        λ h. let both = (are x y).0 ((gathered x y).0 h) in
-            ((takes (installation g c zone kept bypassed date) refl refl y).0 both.0, both.1),
-        λ h. (gathered x y).1 ((are x y).1 ((takes (installation g c zone kept bypassed date) refl refl y).1 h.0, h.1)),
+        λ h. let both = (are x y).0 ((gathered x y).0 h) in ((effect y).0 both.0, both.1),
+        λ h. (gathered x y).1 ((are x y).1 ((effect y).1 h.0, h.1)),
       );
       bypassed = waived;
       touched = λ x h. (all x).1 (elim h [

@@ -12,6 +12,7 @@ use Rattle.change.specs.declared.plan.Plan.{Plan}
 use Rattle.change.specs.Deleting.{left, delby_left}
 use Rattle.zones.specs.Differing.{EntryEdit, ChangesEntry, AddsEntryEdit}
 use Rattle.change.specs.Pairs.{others_of}
+use Rattle.sysmods.specs.Choices.{number_in}
 
 -- whether nothing supplies it after the install
 abbrev pub is_open : Deleting → Plan → Id → Bool
@@ -31,7 +32,11 @@ pub record IsWaived (d : Deleting) (p : Plan) (x : Id) (waived : List Id) : Type
 
 -- the entry of a SYSMOD that takes effect
 pub record IsAppliedEntry (d : Deleting) (p : Plan) (x : Id) (e : Entry) : Type 0 where
-  pub rest : e ≡ record (bare_entry x) { applied = Some (an_applied p.date 1); delby = delby_left d x; waived = e.waived }
+  pub rest : e ≡ record (bare_entry x) {
+    applied = Some (an_applied p.date (number_in d.vers.now x));
+    delby = delby_left d x;
+    waived = e.waived;
+  }
   pub waived : IsWaived d p x e.waived
 
 -- the entry of any other id: what is left of it, with more in SUPBY

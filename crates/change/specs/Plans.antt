@@ -1,5 +1,5 @@
 -- What an install does to entries, as lists.
-use Rattle.std.specs.Prelude.{◌≡◌, ◌↔◌, ◌⊎◌, List, Contains, IsFalse, is_some}
+use Rattle.std.specs.Prelude.{◌≡◌, ◌↔◌, ◌⊎◌, ℕ, List, Contains, IsFalse, is_some}
 use Rattle.terms.specs.Types.{Text, Id, Global, Zone}
 use Rattle.terms.specs.Lookups.{is_supplied, delby_of}
 use Rattle.terms.specs.Choice.{Choice}
@@ -9,11 +9,12 @@ use Rattle.change.specs.declared.plan.Plan.{Plan}
 use Rattle.change.specs.Pairs.{others_of}
 use Rattle.change.specs.Deleting.{at_stake}
 
--- an install by these ++VERs
-abbrev pub installation : Global → Choice → Zone → List Id → List (Id × Id) → Text → Installation
-installation g choice zone kept bypassed date = record {
+-- an install by these ++VERs, of these numbers
+abbrev pub installation : Global → Choice → (Id → ℕ) → Zone → List Id → List (Id × Id) → Text → Installation
+installation g choice number zone kept bypassed date = record {
   global = g;
   choice = choice;
+  number = number;
   zone = zone;
   kept = kept;
   bypassed = bypassed;

@@ -82,7 +82,10 @@ fn applied_entry(
 {
     Ok(Entry {
         id,
-        applied: Some(Applied::on(plan.date)),
+        applied: Some(Applied {
+            date: plan.date,
+            number: deleting.vers.number(id),
+        }),
         supby: IdList::new(alloc),
         delby: deleting.delby(id),
         waived: waived(alloc, deleting, plan, id)?,

@@ -1,7 +1,7 @@
 //! What kept SYSMODs put into a zone.
 ghost use Rattle.std.specs.Prelude.{◌≡◌, ◌≢◌, ◌⊎◌, All, Contains, IfOk, OnOk};
 ghost use Rattle.terms.specs.Types.{Id as AnId, Zone as AZone};
-ghost use Rattle.sysmods.specs.Choices.{choice};
+ghost use Rattle.sysmods.specs.Choices.{number_in, choice};
 ghost use Rattle.terms.specs.Over.{IsOver};
 ghost use Rattle.terms.specs.Tests.{ShareElement};
 ghost use Rattle.zones.specs.Delta.{IsChanged};
@@ -36,11 +36,13 @@ pub fn install(
     requires fresh { All (IsFresh zone.now) kept.now }
     requires order { (x y : AnId) → Contains kept.now x → Contains kept.now y → x ≢ y
         → ShareElement vers.now.global.now x y → IsOver (choice vers.now) x y ⊎ IsOver (choice vers.now) y x }
-    requires base { HasBases (installation vers.now.global.now (choice vers.now) zone.now kept.now bypassed.now date) }
+    requires base { HasBases (installation vers.now.global.now (choice vers.now) (number_in vers.now) zone.now kept.now
+        bypassed.now date) }
     ensures installs { IfOk result (λ delta. (new : AZone) → IsChanged delta zone.now new →
         HasInstalled (record {
           global = vers.now.global.now;
           choice = choice vers.now;
+          number = number_in vers.now;
           zone = zone.now;
           kept = kept.now;
           bypassed = bypassed.now;

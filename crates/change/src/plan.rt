@@ -1,7 +1,7 @@
 //! What an install does to entries.
 ghost use Rattle.std.specs.Prelude.{◌≡◌, ◌↔◌, ◌++◌, Contains, IfOk, OnOk, map};
 ghost use Rattle.terms.specs.Types.{Id as AnId};
-ghost use Rattle.sysmods.specs.Choices.{choice};
+ghost use Rattle.sysmods.specs.Choices.{number_in, choice};
 ghost use Rattle.change.specs.Deleting.{at_stake};
 ghost use Rattle.change.specs.Plans.{IsPlan, installation};
 
@@ -33,7 +33,8 @@ pub(crate) fn planned(
     date: YyDdd,
 ) -> Result<Plan, AllocError>
     ensures { IfOk result
-        (IsPlan (installation vers.now.global.now (choice vers.now) zone.now kept.now bypassed.now date) dels.now) }
+        (IsPlan (installation vers.now.global.now (choice vers.now) (number_in vers.now) zone.now kept.now bypassed.now
+        date) dels.now) }
 {
     let effective = taking_effect(alloc, vers, kept)?;
     let pairs = sorted(superseded_pairs(alloc, vers, effective.as_slice())?);

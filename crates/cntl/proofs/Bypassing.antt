@@ -14,7 +14,8 @@ use Rattle.terms.specs.Statement.{Piece}
 use Rattle.terms.specs.Words.{Word, HasWords, HasMembers, IsListOf}
 use Rattle.terms.specs.Operands.{HasSorted}
 use Rattle.terms.specs.CommandForms.{members_of, HasBypassed, IsBypassList, HasBypass}
-use Rattle.terms.specs.Commands.{list_behind, runs_from, runs_in, is_often, has_double}
+use Rattle.terms.specs.Commands.{runs_from, runs_in, has_double}
+use Rattle.terms.specs.Operands.{list_behind, is_often}
 use Rattle.terms.proofs.BypassMembers.{behind_operand}
 use Rattle.terms.proofs.ExactBypass.{are_members}
 use Rattle.operands.specs.Left.{AreNamed}

@@ -5,7 +5,8 @@ use Rattle.terms.specs.declared.codes.CommandWord.{CommandWord}
 use Rattle.terms.specs.Words.{Word}
 use Rattle.terms.specs.Operands.{operand}
 use Rattle.terms.specs.CommandForms.{members_of}
-use Rattle.terms.specs.Commands.{runs_in, is_often}
+use Rattle.terms.specs.Commands.{runs_in}
+use Rattle.terms.specs.Operands.{is_often}
 use Rattle.terms.proofs.BypassMembers.{list_of}
 
 -- No member that the BYPASS of the command may have is there twice.

@@ -3,7 +3,8 @@ ghost use Rattle.std.specs.Prelude.{◌≡◌, List, codes};
 ghost use Rattle.std.specs.List.{list_any};
 ghost use Rattle.terms.specs.Statement.{Piece};
 ghost use Rattle.terms.specs.CommandForms.{operands_of, members_of};
-ghost use Rattle.terms.specs.Commands.{words_in, runs_in, list_behind, is_often, has_double};
+ghost use Rattle.terms.specs.Commands.{runs_in, has_double};
+ghost use Rattle.terms.specs.Operands.{words_in, list_behind, is_often};
 ghost use Rattle.operands.specs.Left.{LeavesPieces};
 
 use crate::runs::any_run_twice;

@@ -1,7 +1,8 @@
 //! Runs of word characters in a list, outside of inner lists.
 ghost use Rattle.std.specs.Prelude.{◌≡◌, ◌<◌, ◌+◌, [], All, false, length, IfSome, IfNone};
 ghost use Rattle.std.specs.List.{list_any};
-ghost use Rattle.terms.specs.Commands.{runs_from, is_often};
+ghost use Rattle.terms.specs.Commands.{runs_from};
+ghost use Rattle.terms.specs.Operands.{is_often};
 ghost use Rattle.terms.proofs.OperandWords.{count};
 ghost use Rattle.rec80.specs.Cursors.{text_of};
 

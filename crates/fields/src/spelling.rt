@@ -197,6 +197,7 @@ pub fn test_text(test: Test) -> &'static [u8]
         Test::J10 => b"J10",
         Test::J11 => b"J11",
         Test::J12 => b"J12",
+        Test::J13 => b"J13",
     }
 }
 

@@ -10,7 +10,7 @@ use Rattle.std.proofs.lemmas.List.Elements.{Contains-append_left, Contains-appen
 use Rattle.lemmas.proofs.Members.{here, here_or, there, none_in, in_filter, filter_in}
 use Rattle.lemmas.proofs.Places.{contains_at, found_at}
 use Rattle.terms.specs.declared.codes.Test.{Test}
-use Rattle.terms.specs.declared.codes.Test.TheVariants.{J1, J2, J3, J4, J5, J6, J7, J8, J9, J10, J11, J12}
+use Rattle.terms.specs.declared.codes.Test.TheVariants.{J1, J2, J3, J4, J5, J6, J7, J8, J9, J10, J11, J12, J13}
 use Rattle.terms.specs.Types.{Id}
 use Rattle.terms.specs.Lookups.{IsRising}
 use Rattle.terms.specs.Tests.{Setting, AreSurvivors, Survives, FailsAlone, Fails}
@@ -119,6 +119,7 @@ among J9 = (8, omega arith, refl)
 among J10 = (9, omega arith, refl)
 among J11 = (10, omega arith, refl)
 among J12 = (11, omega arith, refl)
+among J13 = (12, omega arith, refl)
 
 module _ (s : Setting) (rows : List (List Test)) (failed : AreFailedTests s rows) where
   -- what fails only that test survives
@@ -146,6 +147,7 @@ module _ (s : Setting) (rows : List (List Test)) (failed : AreFailedTests s rows
       alone J10 = λ e. e
       alone J11 = λ e. e
       alone J12 = λ e. e
+      alone J13 = off J13 refl
 
   -- a survivor fails only that test
   survives : (x : Id) → Survives s x → SurvivesIn s.cands rows (length s.cands) x
@@ -173,6 +175,7 @@ module _ (s : Setting) (rows : List (List Test)) (failed : AreFailedTests s rows
       only J10 f = absurd f
       only J11 f = absurd f
       only J12 f = absurd f
+      only J13 f = absurd (h.0.1 J13 f)
 
   pub survivors_are : (xs : List Id) → IsRising xs
       → ((x : Id) → Contains xs x ↔ SurvivesIn s.cands rows (length s.cands) x) → AreSurvivors s xs

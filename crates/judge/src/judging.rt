@@ -51,7 +51,7 @@ pub fn install_system(
         ↔ (Contains ids.now x × Contains (bypassed_ids
         (setting global.now zone.now (option_copied related.entry) ids.now bypass.now) x) z)) }
 {
-    let vers = choose(global, zone, ids);
+    let vers = choose(alloc, global, zone, ids)?;
     let scope = Scope {
         vers: &vers,
         zone,

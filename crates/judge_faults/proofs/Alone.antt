@@ -1,4 +1,4 @@
--- What candidates fail by themselves: those of J1 to J8 that their faults say.
+-- What candidates fail by themselves: those of J1 to J8 and J13 that their faults say.
 use Rattle.std.proofs.Common.{◌≡◌, ◌≢◌, Bool, true, false, not, List, [], ◌∷◌, Option, None, Some, IsTrue}
 use Rattle.std.proofs.Common.{refl, sym, ap, ◌∙◌, subst, true≢false, filter, find, Contains, arith}
 use Rattle.std.specs.Prelude.{◌↔◌, ◌==◌, ◌&&◌, is_some}
@@ -13,7 +13,7 @@ use Rattle.terms.specs.declared.kinds.HoldKind.TheVariants.{System, User}
 use Rattle.terms.specs.declared.kinds.ZoneKind.{ZoneKind}
 use Rattle.terms.specs.declared.kinds.ZoneKind.TheVariants.{Target, Distribution}
 use Rattle.terms.specs.declared.codes.Test.{Test}
-use Rattle.terms.specs.declared.codes.Test.TheVariants.{J1, J2, J3, J4, J5, J6, J7, J8, J9, J10, J11, J12}
+use Rattle.terms.specs.declared.codes.Test.TheVariants.{J1, J2, J3, J4, J5, J6, J7, J8, J9, J10, J11, J12, J13}
 use Rattle.terms.specs.Types.{Text, Id, Change, Element, Global, Sysmod, Zone, zone_number}
 use Rattle.terms.specs.Lookups.{changes_of, change_of, element_cmp, element_of, holds_of}
 use Rattle.terms.specs.Lookups.{is_applied, sysmod_of}
@@ -239,12 +239,14 @@ module _ (s : Setting) (is_global : IsGlobal s.global) where
             ∙ ap not fails.2,
       )
 
-      -- it passes J1 to J7
+      -- it passes J1 to J7, and J13
       pub alone_if : IsTrue (passes_alone a) ↔ PassesAlone s x
       alone_if = (
         λ on.
+            let w = and_parts (not a.system_held && not a.user_held && not a.forbidden && not a.foreign && not a.lower
+            && not a.bare && not a.unapplied) (not a.ambiguous) on in
             let p = and_parts (not a.system_held && not a.user_held && not a.forbidden && not a.foreign && not a.lower
-            && not a.bare) (not a.unapplied) on in
+            && not a.bare) (not a.unapplied) w.0 in
             let q = and_parts (not a.system_held && not a.user_held && not a.forbidden && not a.foreign && not a.lower)
             (not a.bare) p.0 in
             let r = and_parts (not a.system_held && not a.user_held && not a.forbidden && not a.foreign)
@@ -254,7 +256,8 @@ module _ (s : Setting) (is_global : IsGlobal s.global) where
             let u = and_parts (not a.system_held) (not a.user_held) v.0 in (
               in_ids,
               λ test. by test (not-true a.system_held u.0) (not-true a.user_held u.1) (not-true a.forbidden v.1)
-                  (not-true a.foreign t.1) (not-true a.lower r.1) (not-true a.bare q.1) (not-true a.unapplied p.1),
+                  (not-true a.foreign t.1) (not-true a.lower r.1) (not-true a.bare q.1) (not-true a.unapplied p.1)
+                  (not-true a.ambiguous w.1),
             ),
         λ alone.
             let no_one = off a.system_held (λ on. alone.1 J1 (one.0 on)) in
@@ -264,23 +267,25 @@ module _ (s : Setting) (is_global : IsGlobal s.global) where
             let no_five = off a.lower (λ on. alone.1 J5 (five.0 on)) in
             let no_six = off a.bare (λ on. alone.1 J6 (six.0 on)) in
             let no_seven = off a.unapplied (λ on. alone.1 J7 (seven.0 on)) in
-            rw (no_one, no_two, no_three, no_four, no_five, no_six, no_seven) refl,
+            let no_thirteen = off a.ambiguous (λ on. alone.1 J13 (own.ambiguous.0 on)) in
+            rw (no_one, no_two, no_three, no_four, no_five, no_six, no_seven, no_thirteen) refl,
       )
         where
           by : (test : Test) → a.system_held ≡ false → a.user_held ≡ false → a.forbidden ≡ false → a.foreign ≡ false
-              → a.lower ≡ false → a.bare ≡ false → a.unapplied ≡ false → ¬ FailsAlone s x test
-          by J1 e1 e2 e3 e4 e5 e6 e7 fails = true≢false (sym (one.1 fails) ∙ e1)
-          by J2 e1 e2 e3 e4 e5 e6 e7 fails = true≢false (sym (two.1 fails) ∙ e2)
-          by J3 e1 e2 e3 e4 e5 e6 e7 fails = true≢false (sym (own.forbidden.1 fails) ∙ e3)
-          by J4 e1 e2 e3 e4 e5 e6 e7 fails = true≢false (sym (four.1 fails) ∙ e4)
-          by J5 e1 e2 e3 e4 e5 e6 e7 fails = true≢false (sym (five.1 fails) ∙ e5)
-          by J6 e1 e2 e3 e4 e5 e6 e7 fails = true≢false (sym (six.1 fails) ∙ e6)
-          by J7 e1 e2 e3 e4 e5 e6 e7 fails = true≢false (sym (seven.1 fails) ∙ e7)
-          by J8 e1 e2 e3 e4 e5 e6 e7 fails = fails
-          by J9 e1 e2 e3 e4 e5 e6 e7 fails = fails
-          by J10 e1 e2 e3 e4 e5 e6 e7 fails = fails
-          by J11 e1 e2 e3 e4 e5 e6 e7 fails = fails
-          by J12 e1 e2 e3 e4 e5 e6 e7 fails = fails
+              → a.lower ≡ false → a.bare ≡ false → a.unapplied ≡ false → a.ambiguous ≡ false → ¬ FailsAlone s x test
+          by J1 e1 e2 e3 e4 e5 e6 e7 e8 fails = true≢false (sym (one.1 fails) ∙ e1)
+          by J2 e1 e2 e3 e4 e5 e6 e7 e8 fails = true≢false (sym (two.1 fails) ∙ e2)
+          by J3 e1 e2 e3 e4 e5 e6 e7 e8 fails = true≢false (sym (own.forbidden.1 fails) ∙ e3)
+          by J4 e1 e2 e3 e4 e5 e6 e7 e8 fails = true≢false (sym (four.1 fails) ∙ e4)
+          by J5 e1 e2 e3 e4 e5 e6 e7 e8 fails = true≢false (sym (five.1 fails) ∙ e5)
+          by J6 e1 e2 e3 e4 e5 e6 e7 e8 fails = true≢false (sym (six.1 fails) ∙ e6)
+          by J7 e1 e2 e3 e4 e5 e6 e7 e8 fails = true≢false (sym (seven.1 fails) ∙ e7)
+          by J8 e1 e2 e3 e4 e5 e6 e7 e8 fails = fails
+          by J9 e1 e2 e3 e4 e5 e6 e7 e8 fails = fails
+          by J10 e1 e2 e3 e4 e5 e6 e7 e8 fails = fails
+          by J11 e1 e2 e3 e4 e5 e6 e7 e8 fails = fails
+          by J12 e1 e2 e3 e4 e5 e6 e7 e8 fails = fails
+          by J13 e1 e2 e3 e4 e5 e6 e7 e8 fails = true≢false (sym (own.ambiguous.1 fails) ∙ e8)
 
       never : (T : Type 0) → ¬ T → IsTrue false ↔ T
       never T lacks = (λ e. absurd (true≢false (sym e)), λ t. absurd (lacks t))
@@ -313,3 +318,4 @@ module _ (s : Setting) (is_global : IsGlobal s.global) where
         test_fails clashes nine J10 = never (Fails s x J10) (λ no. no)
         test_fails clashes nine J11 = never (Fails s x J11) (λ no. no)
         test_fails clashes nine J12 = never (Fails s x J12) (λ no. no)
+        test_fails clashes nine J13 = own.ambiguous

@@ -1,4 +1,4 @@
--- J8: whom the DELETEs take of those that pass J1 to J7.
+-- J8: whom the DELETEs take of those that pass J1 to J7, and J13.
 use Rattle.std.proofs.Common.{◌≡◌, ◌∙◌, inl, inr, ℕ, ◌<◌, ◌+◌, Bool, true, false, List, [], ◌∷◌, ◌++◌}
 use Rattle.std.proofs.Common.{Some, length, refl, sym, ap, subst, cond, Contains, IsTrue, true≢false, slice_get, arith}
 use Rattle.std.specs.Prelude.{◌↔◌, ◌&&◌}
@@ -119,9 +119,10 @@ module _ (s : Setting) (is_global : IsGlobal s.global) (alone faults : List OwnF
     lower = h.lower;
     bare = h.bare;
     unapplied = h.unapplied;
+    ambiguous = h.ambiguous;
   }
 
-  -- the faults by J1 to J7 stay
+  -- the faults by J1 to J7 and J13 stay
   pub own_still : Beside (λ n x a. HasFaults s x a) s.cands faults
   own_still = record {
     lengths = marked.lengths;

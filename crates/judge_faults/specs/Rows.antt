@@ -3,7 +3,7 @@ use Rattle.std.specs.Prelude.{◌&&◌, ℕ, Bool, false, not, List, filter}
 use Rattle.std.specs.List.{list_any}
 use Rattle.std.specs.Prelude.{nat_eq}
 use Rattle.terms.specs.declared.codes.Test.{Test}
-use Rattle.terms.specs.declared.codes.Test.TheVariants.{J1, J2, J3, J4, J5, J6, J7, J8, J9}
+use Rattle.terms.specs.declared.codes.Test.TheVariants.{J1, J2, J3, J4, J5, J6, J7, J8, J9, J13}
 use Rattle.terms.specs.Failures.{all_tests}
 use Rattle.judge_faults.specs.declared.own.OwnFaults.{OwnFaults}
 use Rattle.judge_faults.specs.Own.{passes}
@@ -19,6 +19,7 @@ fails_test a clashes J6 = a.bare
 fails_test a clashes J7 = a.unapplied
 fails_test a clashes J8 = a.deleted
 fails_test a clashes J9 = clashes
+fails_test a clashes J13 = a.ambiguous
 fails_test a clashes _ = false
 
 abbrev pub is_among : List ℕ → ℕ → Bool

@@ -1,4 +1,4 @@
-//! J8: which candidates the DELETEs take that pass J1 to J7.
+//! J8: which candidates the DELETEs take that pass J1 to J7, and J13.
 ghost use Rattle.std.specs.Prelude.{◌≡◌, ◌++◌, [], ◌∷◌, List, length, IfOk, OnOk, if◌then◌else◌};
 ghost use Rattle.terms.specs.Types.{Id as AnId};
 ghost use Rattle.terms.specs.Deleted.{deletions, is_deleted};
@@ -22,7 +22,7 @@ fn add_if_passing(passing: &mut Vec<Id>, own: OwnFaults, id: Id) -> Result<(), A
     Ok(())
 }
 
-// The candidates that pass J1 to J7.
+// The candidates that pass J1 to J7, and J13.
 fn passing_ids(alloc: Global, ids: &[Id], faults: &[OwnFaults]) -> Result<Vec<Id>, AllocError>
     requires { length faults.now ≡ length ids.now }
     ensures { IfOk result (λ passing. ArePassing ids.now faults.now (length ids.now) passing.items) }
@@ -84,7 +84,7 @@ fn all_with(
     Ok(all)
 }
 
-/// The faults of all candidates with J8, from those by J1 to J7.
+/// The faults of all candidates with J8, from those by J1 to J7 and J13.
 pub(crate) fn all_with_deleted(
     alloc: Global,
     vers: &VerChoice<'_>,

@@ -1,14 +1,16 @@
 //! The tests that look at one candidate alone.
 ghost use Rattle.std.specs.Prelude.{◌≡◌, ◌==◌, ◌<◌, ◌&&◌, ◌↔◌, Some, Any, not, IsTrue, IsFalse, IfOk, OnOk};
-ghost use Rattle.std.specs.Prelude.{length, slice_get, option_copied, false};
+ghost use Rattle.std.specs.Prelude.{[], filter, length, slice_get, option_copied, false};
+ghost use Rattle.std.specs.Str.{bytes_eq};
 ghost use Rattle.std.specs.List.{list_any};
 ghost use Rattle.std.specs.Option.{option_map_or};
 ghost use Rattle.terms.specs.Types.{zone_number};
-ghost use Rattle.terms.specs.Lookups.{changes_of, holds_of, is_applied};
-ghost use Rattle.terms.specs.Tests.{is_bypassed_hold};
+ghost use Rattle.terms.specs.Lookups.{changes_of, holds_of, is_applied, is_in, sysmod_of};
+ghost use Rattle.terms.specs.Choice.{fits};
+ghost use Rattle.terms.specs.Tests.{FailsJ13, is_bypassed_hold};
 ghost use Rattle.sysmods.specs.Choices.{choice};
 ghost use Rattle.judge_faults.specs.Forbidders.{AreForbidders};
-ghost use Rattle.zones_views.specs.Scopes.{global_of, choice_of, setting_with};
+ghost use Rattle.zones_views.specs.Scopes.{global_of, choice_of, setting_of, setting_with};
 ghost use Rattle.judge_faults.specs.Overs.{AreOver};
 ghost use Rattle.judge_faults.specs.Own.{IsLowerAt, HasFaults, passes_alone, passes};
 ghost use Rattle.lemmas.specs.Beside.{Beside};
@@ -22,14 +24,15 @@ use fields::{Id, IdList};
 use indexmap::IndexSet;
 use std::alloc::{AllocError, Global};
 use sysmods::GlobalZone;
-use sysmods_records::ElemChange;
+use sysmods_records::{ElemChange, Ver};
 use terms::{HoldKind, ZoneKind};
 use zones::Zone;
-use zones_views::{Scope, is_bypassed_hold, view_deletions};
+use zones_views::{Scope, fits, is_bypassed_hold, view_deletions};
 
 /// What a candidate fails by itself: a SYSTEM hold (J1) or a USER hold (J2) stands against it, an NPRE forbids it (J3),
 /// it changes an element that another owns (J4) or that a SYSMOD made which it is not over (J5), it updates an element
-/// that is not there (J6), it is accepted where it is not applied (J7), or it has none of these and is deleted (J8).
+/// that is not there (J6), it is accepted where it is not applied (J7), two of its `++VER`s fit (J13), or it has none
+/// of these and is deleted (J8).
 #[derive(Clone, Copy)]
 pub(crate) struct OwnFaults {
     pub(crate) system_held: bool,
@@ -39,11 +42,12 @@ pub(crate) struct OwnFaults {
     pub(crate) lower: bool,
     pub(crate) bare: bool,
     pub(crate) unapplied: bool,
+    pub(crate) ambiguous: bool,
     pub(crate) deleted: bool,
 }
 
 impl OwnFaults {
-    /// Whether it passes J1 to J7.
+    /// Whether it passes J1 to J7, and J13.
     pub(crate) fn passes_alone(self) -> bool
         ensures { result ≡ passes_alone self }
     {
@@ -54,6 +58,7 @@ impl OwnFaults {
             && !self.lower
             && !self.bare
             && !self.unapplied
+            && !self.ambiguous
     }
 
     /// Whether it has none of the faults.
@@ -120,7 +125,36 @@ fn is_unapplied(zone: &Zone, related: Option<&Zone>, bypass: &Bypass, id: Id) ->
     zone.kind() == ZoneKind::Distribution && !bypass.applycheck && !has_applied(related, id)
 }
 
-// What the candidate fails of J1 to J7, in its view and with what it is known to be over.
+// How many of the `++VER`s for the zone's SREL fit.
+fn fitting_count(zone: &Zone, cands: &IdList, vers: &[Ver]) -> usize
+    ensures { result
+        ≡ length (filter (fits zone.now (is_in cands.now)) (filter (λ v. bytes_eq v.srel zone.now.srel) vers.now)) }
+{
+    let srel = zone.srel();
+    vers.iter()
+        .filter(|ver| ver.srel == srel)
+        .filter(|ver| fits(zone, cands, ver))
+        .count()
+}
+
+// The `++VER`s of a received SYSMOD, for all SRELs.
+fn vers_of(global: &GlobalZone, id: Id) -> &[Ver]
+    ensures { result.now ≡ option_map_or (λ s. s.vers) (sysmod_of global.now id) [] }
+{
+    match global.get(id) {
+        Some(sysmod) => sysmod.vers.as_slice(),
+        None => &[],
+    }
+}
+
+// Whether two of its `++VER`s fit.
+fn is_ambiguous(scope: &Scope<'_, '_>, id: Id) -> bool
+    ensures { IsTrue result ↔ FailsJ13 (setting_of scope.now) id }
+{
+    fitting_count(scope.zone, scope.ids, vers_of(scope.global(), id)) >= 2
+}
+
+// What the candidate fails of J1 to J7 and J13, in its view and with what it is known to be over.
 fn own_faults(
     alloc: Global,
     scope: &Scope<'_, '_>,
@@ -153,11 +187,12 @@ fn own_faults(
         lower,
         bare: has_bare_update(global, &view, scope.ids, vers.fmid(id), changes),
         unapplied: is_unapplied(scope.zone, related, scope.bypass, id),
+        ambiguous: is_ambiguous(scope, id),
         deleted: false,
     })
 }
 
-/// What each candidate fails of J1 to J7.
+/// What each candidate fails of J1 to J7, and of J13.
 pub(crate) fn all_faults(
     alloc: Global,
     scope: &Scope<'_, '_>,

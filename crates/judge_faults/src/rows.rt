@@ -33,6 +33,7 @@ fn row_of(alloc: Global, own: OwnFaults, clashes: bool) -> Result<Vec<Test>, All
     add_if(&mut tests, own.unapplied, Test::J7)?;
     add_if(&mut tests, own.deleted, Test::J8)?;
     add_if(&mut tests, clashes, Test::J9)?;
+    add_if(&mut tests, own.ambiguous, Test::J13)?;
     Ok(tests)
 }
 

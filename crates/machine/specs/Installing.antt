@@ -1,6 +1,6 @@
 -- What APPLY and ACCEPT make of a zone, and what they print of each id.
 -- (IBM z/OS SMP/E Commands, APPLY and ACCEPT processing. The lines are this project's.)
-use Rattle.std.specs.Prelude.{◌≡◌, ◌↔◌, Bool, List, Option, Some, IsTrue, Contains, filter, map}
+use Rattle.std.specs.Prelude.{◌≡◌, ◌↔◌, ◌+◌, Bool, List, Option, Some, IsTrue, Contains, filter, map}
 use Rattle.std.specs.List.{flat_map}
 use Rattle.terms.specs.declared.kinds.ZoneKind.{ZoneKind}
 use Rattle.terms.specs.declared.kinds.ZoneKind.TheVariants.{Target, Distribution}
@@ -10,7 +10,7 @@ use Rattle.terms.specs.declared.not_chosen.NotChosen.{NotChosen}
 use Rattle.terms.specs.declared.not_chosen.NotChosen.TheVariants as out
 use Rattle.terms.specs.Types.{Text, Id, Global, Zone, Bypass, Selection}
 use Rattle.terms.specs.Lookups.{IsRising}
-use Rattle.terms.specs.Choice.{counting}
+use Rattle.terms.specs.Choice.{place, counting}
 use Rattle.terms.specs.Tests.{Setting, Fails, IsEligible, AreSurvivors}
 use Rattle.terms.specs.Needs.{Needs, Serves, bypassed_ids}
 use Rattle.terms.specs.Candidates.{AreCandidates, not_chosen}
@@ -57,6 +57,7 @@ pub record IsDecision (g : Global) (zone : Zone) (related : Option Zone) (sel : 
   pub installing : d.installing ≡ record {
     global = g;
     choice = counting g zone cands;
+    number = λ x. place g zone cands x + 1;
     zone = zone;
     kept = d.kept;
     bypassed = bypassed;

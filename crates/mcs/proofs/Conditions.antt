@@ -1,6 +1,6 @@
 -- What an ++IF says, and why one says nothing.
 use Rattle.std.proofs.Common.{◌≡◌, List, [], ◌∷◌, Option, Some, None, refl, sym, subst}
-use Rattle.std.specs.Prelude.{All, Contains, IsSomeAnd, IfSome, IsTrue, codes, length, ◌<◌}
+use Rattle.std.specs.Prelude.{Contains, IsSomeAnd, IfSome, codes, length, ◌<◌}
 use Rattle.terms.specs.declared.statement_words.StatementWord.{StatementWord}
 use Rattle.terms.specs.declared.statement_words.StatementWord.TheVariants as word
 use Rattle.terms.specs.Types.{Text, Id, Lines, IfReq, Sysmod}
@@ -9,7 +9,7 @@ use Rattle.terms.specs.Statement.{Piece}
 use Rattle.terms.specs.Words.{Word, plain, HasWords, IsShort}
 use Rattle.terms.specs.Operands.{HasOne, HasSorted}
 use Rattle.terms.specs.Statements.{SaysIf, IsIfOf}
-use Rattle.terms.specs.Ptfin.{Begun, sysmod_in, is_last, HasValue, IsWithin}
+use Rattle.terms.specs.Ptfin.{Begun, sysmod_in, last_of, HasValue, IsWithin}
 use Rattle.terms.proofs.ExactOperands.{has_sorted_only}
 use Rattle.terms.proofs.ExactWords.{words_only}
 use Rattle.operands.specs.declared.errors.OperandError.{OperandError}
@@ -97,13 +97,12 @@ if_error current b w own rest inline Bad at is x =
     x (i, (ws, h, subst (λ c. IsSomeAnd (sysmod_in c) (λ y. IsIfOf y own ws i)) at k)))
 
 abbrev pub HasPlace : Begun → IfReq → Type 0
-HasPlace b i = All (λ v. IsTrue (is_last b v) → length v.ifs < 100) b.sysmod.vers × IsShort i.req
+HasPlace b i = IfSome (last_of b) (λ v. length v.ifs < 100) × IsShort i.req
 
 pub if_within : (current : Option Begun) (b : Begun) (i : IfReq) (inline : Lines) → current ≡ Some b
     → IsWithin current (SaysIf i) inline → HasPlace b i
 if_within current b i inline at h = (
-  subst (λ c. IfSome c (λ x.
-      All (λ v. IsTrue (is_last x v) → length v.ifs < 100) x.sysmod.vers)) at h.0,
+  subst (λ c. IfSome c (λ x. IfSome (last_of x) (λ v. length v.ifs < 100))) at h.0,
   h.1,
 )
 
@@ -113,8 +112,7 @@ pub if_said : (current : Option Begun) (b : Begun) (w : StatementWord) (own : Op
 if_said current b w own rest inline i at is h within = record {
   value = if_value current b w own rest inline i at is h;
   within = (
-    subst (λ c. IfSome c (λ x. All (λ v. IsTrue (is_last x v) → length v.ifs < 100) x.sysmod.vers)) (sym at)
-        within.0,
+    subst (λ c. IfSome c (λ x. IfSome (last_of x) (λ v. length v.ifs < 100))) (sym at) within.0,
     within.1,
   );
   text = tt;

@@ -1,15 +1,16 @@
 -- Statements, one by one.
-use Rattle.std.proofs.Common.{◌≡◌, ℕ, List, [], ◌∷◌, ◌++◌, map, Option, Some, None, refl, sym, ap, subst, inr}
+use Rattle.std.proofs.Common.{◌≡◌, ℕ, List, [], ◌∷◌, ◌++◌, Option, Some, None, refl, sym, ap, subst, inr}
 use Rattle.std.proofs.Common.{inl}
-use Rattle.std.specs.Prelude.{IsSomeAnd, if◌then◌else◌}
+use Rattle.std.specs.Prelude.{IsSomeAnd}
+use Rattle.std.specs.Option.{option_map_or}
 use Rattle.terms.specs.declared.codes.McCode.{McCode}
-use Rattle.terms.specs.Types.{Text, Lines, IfReq, Ver, Hold, Item}
+use Rattle.terms.specs.Types.{Text, Lines, IfReq, Hold, Item}
 use Rattle.terms.specs.Records.{HasRecords}
 use Rattle.terms.specs.Groups.{Group, TakesGroup}
 use Rattle.terms.specs.Words.{Word}
 use Rattle.terms.specs.Statements.{Statement, SaysHeader, SaysVer, SaysIf, SaysHold, SaysAssign, SaysChange}
 use Rattle.terms.specs.Statements.{IsOwnHoldOf}
-use Rattle.terms.specs.Ptfin.{Begun, sysmod_in, is_last, with_if, SoFar, nothing, after, IsGoodStatement}
+use Rattle.terms.specs.Ptfin.{Begun, sysmod_in, with_if_at, with_if, SoFar, nothing, after, IsGoodStatement}
 use Rattle.terms.specs.Ptfin.{IsStatementFault, BeginsWithStatements, IsPtfin}
 use Rattle.terms.proofs.ExactPtfin.{ptfin_fault_no_items}
 use Rattle.mcs_statements.specs.declared.fault.StatementError.{StatementError}
@@ -83,9 +84,7 @@ good_suits current later records (SaysAssign a) good = tt
 good_suits current later records (SaysChange c) good = tt
 
 -- An ++IF outside every ++VER changes nothing.
-pub no_last : (i : IfReq) (b : Begun) → b.srel ≡ None → with_if i b ≡ b
-no_last i b none = ap (λ vs. record b { sysmod = record b.sysmod { vers = vs } }) (each b.sysmod.vers)
-  where
-    each : (vs : List Ver) → map (λ (v : Ver). if is_last b v then record v { ifs = v.ifs ++ i ∷ [] } else v) vs ≡ vs
-    each [] = refl
-    each (v ∷ vs) = rw none (ap (λ ws. v ∷ ws) (each vs))
+pub no_last : (i : IfReq) (b : Begun) → b.last ≡ None → with_if i b ≡ b
+no_last i b none = ap (λ o. record b {
+  sysmod = record b.sysmod { vers = option_map_or (with_if_at i b.sysmod.vers) o b.sysmod.vers };
+}) none

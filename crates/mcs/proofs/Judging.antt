@@ -19,11 +19,11 @@ use Rattle.mcs.specs.Statements.{statement_of}
 pub record Stands (current : Option Begun) (later records : Lines) (w : StatementWord) (own : Option Text)
     (rest : List Piece) (inline : Lines) : Type 0 where
   pub known : IsKnown records w own rest inline
-  pub placed : IsPlaced (sysmod_in current) later w own inline
+  pub placed : IsPlaced (sysmod_in current) later w own rest inline
 
 pub stands : (current : Option Begun) (later records : Lines) (w : StatementWord) (own : Option Text)
     (rest : List Piece) (inline : Lines) (b : Bool) → IsKnown records w own rest inline
-    → (IsTrue b ↔ ((why : Disorder) × IsMisplaced (sysmod_in current) later w own inline why)) → b ≡ false
+    → (IsTrue b ↔ ((why : Disorder) × IsMisplaced (sysmod_in current) later w own rest inline why)) → b ≡ false
     → Stands current later records w own rest inline
 stands current later records w own rest inline b known test in_order =
     record { known = known; placed = λ why m. true≢false (sym (test.1 (why, m)) ∙ in_order) }

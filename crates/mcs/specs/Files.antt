@@ -21,7 +21,7 @@ abbrev pub items : List Item → List terms.Item
 items xs = map item_of xs
 
 abbrev pub begun_of : Begun → ptfin.Begun
-begun_of b = record { sysmod = b.sysmod; srel = b.srel }
+begun_of b = record { sysmod = b.sysmod; last = b.last }
 
 abbrev pub begun_in : Option Begun → Option ptfin.Begun
 begun_in current = option_map begun_of current

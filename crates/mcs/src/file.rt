@@ -10,7 +10,7 @@ ghost use Rattle.mcs.specs.Files.{Suits, begun_in, so_far, items};
 use crate::said::Statement;
 use std::alloc::{AllocError, Global};
 use std::marker::Model;
-use sysmods_records::{ElemChange, Hold, Id, IfReq, Source, Srel, Sysmod, Ver};
+use sysmods_records::{ElemChange, Hold, Id, IfReq, Source, Sysmod, Ver};
 
 /// `++ASSIGN`: the source that the ids get, as the statement has them.
 #[derive(Drop)]
@@ -34,12 +34,12 @@ pub enum Item {
     Assign(Assign),
 }
 
-/// A SYSMOD to which the next statement may belong, and the SREL of its last `++VER`, to which an
+/// A SYSMOD to which the next statement may belong, and the place of its last `++VER`, to which an
 /// `++IF` belongs.
 #[derive(Drop)]
 pub(crate) struct Begun {
     pub sysmod: Sysmod,
-    pub srel: Option<Srel>,
+    pub last: Option<usize>,
 }
 
 /// What the statements so far make: what is whole, and the SYSMOD that is begun.
@@ -84,12 +84,11 @@ fn with_ver(current: Option<Begun>, ver: Ver) -> Result<Option<Begun>, AllocErro
     let Some(begun) = current else {
         return Ok(None);
     };
-    let srel = ver.srel;
     let mut sysmod = begun.sysmod;
-    sysmod.add_ver(ver)?;
+    let place = sysmod.add_ver(ver)?;
     Ok(Some(Begun {
         sysmod,
-        srel: Some(srel),
+        last: Some(place),
     }))
 }
 
@@ -99,14 +98,14 @@ fn with_if(current: Option<Begun>, condition: IfReq) -> Result<Option<Begun>, Al
     let Some(begun) = current else {
         return Ok(None);
     };
-    let Some(srel) = begun.srel else {
+    let Some(place) = begun.last else {
         return Ok(Some(begun));
     };
     let mut sysmod = begun.sysmod;
-    sysmod.add_if(srel, condition)?;
+    sysmod.add_if(place, condition)?;
     Ok(Some(Begun {
         sysmod,
-        srel: Some(srel),
+        last: Some(place),
     }))
 }
 
@@ -117,10 +116,10 @@ fn with_hold(current: Option<Begun>, hold: Hold) -> Result<Option<Begun>, AllocE
     let Some(begun) = current else {
         return Ok(None);
     };
-    let srel = begun.srel;
+    let last = begun.last;
     let mut sysmod = begun.sysmod;
     sysmod.add_hold(hold)?;
-    Ok(Some(Begun { sysmod, srel }))
+    Ok(Some(Begun { sysmod, last }))
 }
 
 fn with_change(current: Option<Begun>, change: ElemChange) -> Result<Option<Begun>, AllocError>
@@ -129,10 +128,10 @@ fn with_change(current: Option<Begun>, change: ElemChange) -> Result<Option<Begu
     let Some(begun) = current else {
         return Ok(None);
     };
-    let srel = begun.srel;
+    let last = begun.last;
     let mut sysmod = begun.sysmod;
     sysmod.add_change(change)?;
-    Ok(Some(Begun { sysmod, srel }))
+    Ok(Some(Begun { sysmod, last }))
 }
 
 impl SoFar {
@@ -157,7 +156,7 @@ impl SoFar {
                 whole: with_current(whole, current)?,
                 current: Some(Begun {
                     sysmod: Sysmod::new(alloc, kind, id),
-                    srel: None,
+                    last: None,
                 }),
             }),
             Statement::Assign(assign) => Ok(SoFar {

@@ -1,12 +1,12 @@
 //! `++IF`.
-ghost use Rattle.std.specs.Prelude.{◌≡◌, ◌↔◌, ◌<◌, List, [], ◌∷◌, length, codes, All, IsTrue, IfOk, IfErr, IfSome};
-ghost use Rattle.std.specs.Prelude.{IfNone};
+ghost use Rattle.std.specs.Prelude.{◌≡◌, ◌↔◌, ◌<◌, List, [], ◌∷◌, length, codes, IsTrue, IfOk, IfErr, IfSome, IfNone};
+ghost use Rattle.std.specs.Prelude.{option_copied};
 ghost use Rattle.terms.specs.declared.statement_words.StatementWord.TheVariants as word;
 ghost use Rattle.terms.specs.Types.{IfReq as AnyIf};
 ghost use Rattle.terms.specs.Words as grammar;
 ghost use Rattle.terms.specs.Statement.{Piece, HasSolid};
 ghost use Rattle.terms.specs.Statements.{IsIfOf};
-ghost use Rattle.terms.specs.Ptfin.{is_last};
+ghost use Rattle.terms.specs.Ptfin.{last_of};
 ghost use Rattle.operands.specs.Failing.{Excludes};
 ghost use Rattle.rec80.specs.Views.{left_of, word_of};
 ghost use Rattle.mcs_statements.specs.KnownWords.{own_list};
@@ -116,37 +116,30 @@ fn read_if(alloc: Global, sysmod: &Sysmod, known: &Known<'_>) -> Result<IfReq, O
     Ok(IfReq { function, req })
 }
 
-/// Whether the `++VER` is the last one.
-fn is_last(begun: &Begun, ver: &Ver) -> bool
-    ensures { result ≡ is_last (begun_of begun.now) ver.now }
+/// The last `++VER`.
+fn last_ver(begun: &Begun) -> Option<&Ver>
+    ensures { option_copied result ≡ last_of (begun_of begun.now) }
 {
-    match begun.srel {
-        Some(srel) => ver.srel == srel,
-        None => false,
-    }
-}
-
-/// Whether the `++VER` may have one `++IF` more, where it is the last one.
-fn has_place(begun: &Begun, ver: &Ver) -> bool
-    ensures { IsTrue result ↔ (IsTrue (is_last (begun_of begun.now) ver.now) → length ver.now.ifs < 100) }
-{
-    !is_last(begun, ver) || ver.ifs.len() < 100
+    let place = begun.last?;
+    begun.sysmod.vers.get(place)
 }
 
 /// Whether the last `++VER` may have one `++IF` more.
-fn have_place(begun: &Begun) -> bool
-    ensures { IsTrue result ↔ All (λ v. IsTrue (is_last (begun_of begun.now) v)
-        → length v.ifs < 100) begun.now.sysmod.vers }
+fn has_place(begun: &Begun) -> bool
+    ensures { IsTrue result ↔ IfSome (last_of (begun_of begun.now)) (λ v. length v.ifs < 100) }
 {
-    begun.sysmod.vers.iter().all(|ver| has_place(begun, ver))
+    match last_ver(begun) {
+        Some(ver) => ver.ifs.len() < 100,
+        None => true,
+    }
 }
 
 /// Whether the last `++VER` may have this `++IF` too.
 fn is_within(begun: &Begun, condition: &IfReq) -> bool
-    ensures { IsTrue result ↔ (All (λ v. IsTrue (is_last (begun_of begun.now) v)
-        → length v.ifs < 100) begun.now.sysmod.vers × grammar.IsShort condition.now.req) }
+    ensures { IsTrue result ↔ (IfSome (last_of (begun_of begun.now)) (λ v. length v.ifs < 100)
+        × grammar.IsShort condition.now.req) }
 {
-    have_place(begun) && condition.req.len() <= 1000
+    has_place(begun) && condition.req.len() <= 1000
 }
 
 /// What an `++IF` says.

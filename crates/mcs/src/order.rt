@@ -1,18 +1,20 @@
 //! Which statements may follow which.
-ghost use Rattle.std.specs.Prelude.{◌≡◌, ◌↔◌, Some, IsTrue};
+ghost use Rattle.std.specs.Prelude.{◌≡◌, ◌↔◌, ◌⊎◌, ℕ, List, Some, Any, IsTrue, IfSome, IfNone, IsSomeAnd};
 ghost use Rattle.terms.specs.declared.statement_words.StatementWord.TheVariants as word;
 ghost use Rattle.terms.specs.declared.kinds.Kind.TheVariants.{Function};
 ghost use Rattle.terms.specs.Statements.{changed_type};
-ghost use Rattle.terms.specs.Ptfin.{MayStand, IsSecond, IsUpdateWord, Disorder, IsMisplaced, sysmod_in};
+ghost use Rattle.terms.specs.Statement.{Piece, HasSolid};
+ghost use Rattle.terms.specs.Ptfin.{MayStand, NamesFmid, IsSecond, IsUpdateWord, Disorder, IsMisplaced, sysmod_in};
+ghost use Rattle.rec80.specs.Views.{left_of};
 ghost use Rattle.mcs_statements.specs.KnownWords.{own_list};
 ghost use Rattle.mcs.specs.Files.{begun_in};
 
 use crate::file::Begun;
-use fields::{Name, Srel};
+use fields::{Id, Name, Srel};
 use mcs_statements::Known;
-use operands::one;
-use rec80::Record;
-use sysmods_records::{Kind, Sysmod};
+use operands::{any_twice, list_behind, one};
+use rec80::{Record, Word, Words};
+use sysmods_records::{Kind, Sysmod, Ver};
 use terms::{ElemType, StatementWord};
 
 /// The type of the element that a statement of the word changes.
@@ -66,13 +68,59 @@ fn may_stand(current: &Option<Begun>, word: StatementWord) -> bool
     }
 }
 
-/// Whether it is a second `++VER` of one SREL.
+/// The operand that names an FMID where it stands once.
+const FMID: &[&[u8]] = &[b"FMID"];
+
+/// The id that FMID names, whatever else stands among the words.
+fn named_fmid(words: &Words<'_>) -> Option<Id>
+    ensures some { (rest : List Piece) → HasSolid (left_of words.now) rest → IfSome result (NamesFmid rest) }
+    ensures none { (rest : List Piece) → HasSolid (left_of words.now) rest
+        → IfNone result ((fmid : List ℕ) → NamesFmid rest fmid → ⊥) }
+{
+    if any_twice(FMID, words) {
+        return None;
+    }
+    let list = list_behind(words, b"FMID");
+    one::<Id>(&Word {
+        word: b"FMID",
+        list,
+    })
+}
+
+/// Whether the `++VER` is for the FMID that is named.
+fn has_fmid(ver: &Ver, named: Option<Id>) -> bool
+    ensures { IsTrue result ↔ IsSomeAnd ver.now.fmid (λ f. named ≡ Some f) }
+{
+    match (ver.fmid, named) {
+        (Some(fmid), Some(named)) => fmid == named,
+        _ => false,
+    }
+}
+
+/// Whether the `++VER`, in a SYSMOD of the kind, leaves no place for one of the SREL and FMID.
+fn is_like(kind: Kind, ver: &Ver, srel: Srel, named: Option<Id>) -> bool
+    ensures { IsTrue result ↔ ((ver.now.srel ≡ srel) × ((kind ≡ Function) ⊎ IsSomeAnd ver.now.fmid
+        (λ f. named ≡ Some f))) }
+{
+    ver.srel == srel && (matches!(kind, Kind::Function) || has_fmid(ver, named))
+}
+
+/// Whether one of the `++VER`s, in a SYSMOD of the kind, leaves no place for one of the SREL and FMID.
+fn has_like(kind: Kind, vers: &[Ver], srel: Srel, named: Option<Id>) -> bool
+    ensures { IsTrue result ↔ Any (λ v. (v.srel ≡ srel) × ((kind ≡ Function) ⊎ IsSomeAnd v.fmid
+        (λ f. named ≡ Some f))) vers.now }
+{
+    vers.iter().any(|ver| is_like(kind, ver, srel, named))
+}
+
+/// Whether it is a second `++VER` of one SREL in a function, or of one SREL and FMID in another SYSMOD.
 fn is_second_ver(sysmod: &Sysmod, known: &Known<'_>) -> bool
     requires { known.now.word ≡ word.Ver }
-    ensures { IsTrue result ↔ IsSecond sysmod.now known.now.word (own_list known.now) }
+    ensures { (rest : List Piece) → HasSolid (left_of known.now.rest) rest
+        → IsTrue result ↔ IsSecond sysmod.now known.now.word (own_list known.now) rest }
 {
     match one::<Srel>(&known.first) {
-        Some(srel) => sysmod.has_srel(srel),
+        Some(srel) => has_like(sysmod.kind, &sysmod.vers, srel, named_fmid(&known.rest)),
         None => false,
     }
 }
@@ -80,7 +128,7 @@ fn is_second_ver(sysmod: &Sysmod, known: &Known<'_>) -> bool
 /// Whether it is a second change of one element.
 fn is_second_change(sysmod: &Sysmod, elem_type: ElemType, known: &Known<'_>) -> bool
     requires { changed_type known.now.word ≡ Some elem_type }
-    ensures { IsTrue result ↔ IsSecond sysmod.now known.now.word (own_list known.now) }
+    ensures { (rest : List Piece) → IsTrue result ↔ IsSecond sysmod.now known.now.word (own_list known.now) rest }
 {
     match one::<Name>(&known.first) {
         Some(name) => sysmod.has_change(elem_type, name),
@@ -88,9 +136,10 @@ fn is_second_change(sysmod: &Sysmod, elem_type: ElemType, known: &Known<'_>) -> 
     }
 }
 
-/// Whether it is a second `++VER` of one SREL, or a second change of one element.
+/// Whether it is a second `++VER`, or a second change of one element.
 fn is_second(sysmod: &Sysmod, known: &Known<'_>) -> bool
-    ensures { IsTrue result ↔ IsSecond sysmod.now known.now.word (own_list known.now) }
+    ensures { (rest : List Piece) → HasSolid (left_of known.now.rest) rest
+        → IsTrue result ↔ IsSecond sysmod.now known.now.word (own_list known.now) rest }
 {
     if matches!(known.word, StatementWord::Ver) {
         return is_second_ver(sysmod, known);
@@ -111,8 +160,8 @@ fn is_update_in_function(sysmod: &Sysmod, word: StatementWord) -> bool
 
 /// Whether the statement is out of order behind the statements so far.
 pub fn is_misplaced(current: &Option<Begun>, later: &[Record], known: &Known<'_>) -> bool
-    ensures { IsTrue result ↔ ((why : Disorder)
-        × IsMisplaced (sysmod_in (begun_in current.now)) later.now known.now.word (own_list known.now)
+    ensures { (rest : List Piece) → HasSolid (left_of known.now.rest) rest → IsTrue result ↔ ((why : Disorder)
+        × IsMisplaced (sysmod_in (begun_in current.now)) later.now known.now.word (own_list known.now) rest
         known.now.rest.inline.now why) }
 {
     if !may_stand(current, known.word) {

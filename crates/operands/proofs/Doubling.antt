@@ -3,7 +3,7 @@ use Rattle.std.proofs.Common.{◌≡◌, ◌+◌, true, false, List, ◌∷◌, 
 use Rattle.std.specs.Prelude.{is_some, IfSome, IfNone, if◌then◌else◌}
 use Rattle.terms.specs.Types.{Text}
 use Rattle.terms.specs.Statement.{Piece, TheWord, TheList, Blank, Comment, Stray, HasSolid}
-use Rattle.terms.specs.Commands.{words_in, leading_list, list_behind, is_often}
+use Rattle.terms.specs.Operands.{words_in, leading_list, list_behind, is_often}
 use Rattle.terms.proofs.OperandWords.{count, is_named, often, seldom}
 use Rattle.rec80.specs.declared.words.Words.{Words}
 use Rattle.operands.specs.Left.{LeavesPieces}

@@ -2,7 +2,7 @@
 ghost use Rattle.std.specs.Prelude.{◌≡◌, ◌+◌, ◌∷◌, List, None, option_map, IfSome, IfNone};
 ghost use Rattle.std.specs.List.{list_any};
 ghost use Rattle.terms.specs.Statement.{Piece as AnyPiece};
-ghost use Rattle.terms.specs.Commands.{words_in, leading_list, list_behind, is_often};
+ghost use Rattle.terms.specs.Operands.{words_in, leading_list, list_behind, is_often};
 ghost use Rattle.terms.proofs.OperandWords.{count, is_named};
 ghost use Rattle.rec80.specs.Cursors.{text_of};
 ghost use Rattle.rec80.specs.Pieces.{piece_of};

@@ -51,6 +51,14 @@ impl Spelled {
         self.put(&[b'0' + (number % 10) as u8]);
     }
 
+    /// A number below 100.
+    pub(crate) fn put_number(&mut self, number: usize) {
+        if number >= 10 {
+            self.put_digit(number / 10);
+        }
+        self.put_digit(number);
+    }
+
     /// The ids in parentheses behind the name, where there are any.
     pub(crate) fn put_ids(&mut self, name: &[u8], ids: &IdList) {
         if ids.is_empty() {

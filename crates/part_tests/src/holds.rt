@@ -66,7 +66,7 @@ pub(crate) fn put_error(spelled: &mut Spelled, error: McsError) {
     match error {
         McsError::Memory => spelled.put(b"memory"),
         McsError::Fault { number, code } => {
-            spelled.put_digit(number);
+            spelled.put_number(number);
             spelled.put(b" ");
             spelled.put(mc_text(code));
         }

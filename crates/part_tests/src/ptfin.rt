@@ -114,6 +114,19 @@ struct Row {
     wanted: &'static str,
 }
 
+/// A SYSMOD with as many `++VER`s as one may have.
+const EIGHT: &[&str] = &[
+    HEADER,
+    VER,
+    "++VER(C150) FMID(HAA1100).",
+    "++VER(Z038) FMID(HAA1200).",
+    "++VER(C150) FMID(HAA1200).",
+    "++VER(Z038) FMID(HAA1300).",
+    "++VER(C150) FMID(HAA1300).",
+    "++VER(Z038) FMID(HAA1400).",
+    "++VER(C150) FMID(HAA1400).",
+];
+
 const GOOD: &[Row] = &[
     Row {
         cards: &[],
@@ -150,6 +163,25 @@ const GOOD: &[Row] = &[
             "++IF FMID(HCC1100) THEN REQ(UA00004).",
         ],
         wanted: "PTF UA00001 C150 HAA1100 IF HCC1100 REQ(UA00004 ) Z038 HAA1100 IF HBB1100 REQ(UA00002 UA00003 );",
+    },
+    Row {
+        cards: &[
+            HEADER,
+            "++VER(Z038) FMID(HAA1200).",
+            "++IF FMID(HBB1100) THEN REQ(UA00002).",
+            "++VER(C150) FMID(HAA1100).",
+            "++IF FMID(HBB1100) THEN REQ(UA00003).",
+            VER,
+            "++IF FMID(HBB1100) THEN REQ(UA00004).",
+            "++IF FMID(HCC1100) THEN REQ(UA00005).",
+        ],
+        wanted: "PTF UA00001 C150 HAA1100 IF HBB1100 REQ(UA00003 ) Z038 HAA1200 IF HBB1100 REQ(UA00002 ) \
+            Z038 HAA1100 IF HBB1100 REQ(UA00004 ) IF HCC1100 REQ(UA00005 );",
+    },
+    Row {
+        cards: EIGHT,
+        wanted: "PTF UA00001 C150 HAA1100 C150 HAA1200 C150 HAA1300 C150 HAA1400 \
+            Z038 HAA1100 Z038 HAA1200 Z038 HAA1300 Z038 HAA1400;",
     },
     Row {
         cards: &[
@@ -256,6 +288,15 @@ const BAD: &[Row] = &[
     },
     Row {
         cards: &[
+            "++FUNCTION(HAA1200).",
+            VER,
+            "++VER(P001) FMID(HAA1100).",
+            "++VER(Z038) FMID(HBB1100).",
+        ],
+        wanted: "4 Mc4",
+    },
+    Row {
+        cards: &[
             "++ASSIGN TO(UA00009) SOURCEID(",
             "PUT2401$RSU2404#PUT2401$RSU2404#PUT2401$RSU2404#PUT2401$RSU2404#A).",
         ],
@@ -267,6 +308,12 @@ const BAD: &[Row] = &[
 const THIRD: &[[&str; 2]] = &[
     ["++PTX(UA00001).", "3 Mc2"],
     [VER, "3 Mc4"],
+    ["++VER(Z038) FMID(HAA1100) PRE(UA00000).", "3 Mc4"],
+    ["++VER(Z038) (A) FMIDS FMID(HAA1100).", "3 Mc4"],
+    ["++VER(Z038) FMID(HAA1100) FMID(HAA1100).", "3 Mc3"],
+    ["++VER(Z038) FMID(HAA1200) FMID(HAA1100).", "3 Mc3"],
+    ["++VER(Z038) FMID(HAA1100 HAA1200).", "3 Mc3"],
+    ["++VER(Z038).", "3 Mc3"],
     [
         "++RELEASE(UA00001) ERROR FMID(HAA1100) REASON(AA00001).",
         "3 Mc4",
@@ -287,6 +334,36 @@ const THIRD: &[[&str; 2]] = &[
     ["++MACUPD(M1).", "3 Mc5"],
     ["++MAC(M1) DISTLIB(A) SYSLIB(B).", "3 Mc5"],
 ];
+
+/// A statement behind as many `++VER`s as a SYSMOD may have, and the record and the code of the fault.
+const NINTH: &[[&str; 2]] = &[
+    ["++VER(Z038) FMID(HAA1500).", "10 Mc6"],
+    ["++VER(P001) FMID(HAA1100).", "10 Mc6"],
+    ["++VER(Z038) FMID(HAA1300).", "10 Mc4"],
+    ["++VER(C150) FMID(HAA1400).", "10 Mc4"],
+];
+
+/// The SYSMOD with as many `++VER`s as one may have, and a statement behind it.
+fn behind_eight<'a>(alloc: Global, ninth: &'a str) -> Result<Vec<&'a str>, AllocError> {
+    let mut cards = Vec::new(alloc);
+    cards.extend_from_slice(EIGHT)?;
+    cards.push(ninth)?;
+    Ok(cards)
+}
+
+fn received_ninth(alloc: Global, ninth: &str) -> Result<Spelled, AllocError> {
+    let cards = behind_eight(alloc, ninth)?;
+    received_by(alloc, cards.as_slice())
+}
+
+#[test]
+fn ninth_statements(rt: HostRuntime) -> Result<(), Fail> {
+    for [ninth, wanted] in NINTH {
+        let spelled = received_ninth(rt.alloc(), ninth)?;
+        assert_eq!(rt; spelled.text(), *wanted, "{ninth}");
+    }
+    Ok(())
+}
 
 #[test]
 fn faults(rt: HostRuntime) -> Result<(), Fail> {

@@ -47,11 +47,11 @@ fn data(alloc: Global, name: Name) -> Result<ElemChange, AllocError> {
     })
 }
 
-/// A PTF with a `++VER` for each SREL.
-fn with_vers(alloc: Global, id: Id, fmid: Id, srels: &[Srel]) -> Result<Sysmod, AllocError> {
+/// A PTF with a `++VER` for each SREL and FMID.
+fn with_vers(alloc: Global, id: Id, vers: &[(Srel, Id)]) -> Result<Sysmod, AllocError> {
     let mut sysmod = Sysmod::new(alloc, Kind::Ptf, id);
-    for srel in srels {
-        sysmod.add_ver(ver(alloc, *srel, fmid))?;
+    for (srel, fmid) in vers {
+        sysmod.add_ver(ver(alloc, *srel, *fmid))?;
     }
     Ok(sysmod)
 }
@@ -74,17 +74,19 @@ fn named_for(alloc: Global, sysmod: &Sysmod, srel: Srel) -> Result<Vec<Id>, Allo
 
 #[test]
 fn vers(rt: HostRuntime) -> Result<(), Fail> {
-    let (function, fix) = (id(b"HAA1100")?, id(b"UA00003")?);
+    let (function, other, fix) = (id(b"HAA1100")?, id(b"HBB1100")?, id(b"UA00003")?);
     let (low, high, none) = (srel(b"P004")?, srel(b"Z038")?, srel(b"C150")?);
-    let fix = with_vers(rt.alloc(), fix, function, &[high, low, high])?;
-    assert_eq!(rt; fix.vers.len(), 2);
+    let vers = [(high, other), (low, function), (high, function)];
+    let mut fix = with_vers(rt.alloc(), fix, &vers)?;
+    assert_eq!(rt; fix.vers.len(), 3);
+    assert_eq!(rt; fix.add_ver(ver(rt.alloc(), low, other))?, 1);
     assert!(rt; fix.has_srel(low) && fix.has_srel(high) && !fix.has_srel(none));
     assert!(rt; fix.names(function) && fix.names_function(function) && !fix.supersedes(function));
     assert!(rt; fix.names_for(high, function) && !fix.names_for(none, function));
     assert_eq!(rt; named_for(rt.alloc(), &fix, none)?.len(), 0);
     assert_eq!(rt;
         named_for(rt.alloc(), &fix, high)?.as_slice(),
-        [function].as_slice()
+        [other, function].as_slice()
     );
     Ok(())
 }

@@ -161,13 +161,13 @@ gains_next old middle new named i k f below at first second =
     )))
 
 -- a SYSMOD resolves itself and what it supersedes
-pub gains_sysmod : (c : Choice) (by : Id) (superseded : List Id) (old middle new : Resolvers) → IsTrue (is_some (c by))
-    → ((z : Id) → Contains superseded z ↔ Supersedes c by z)
+pub gains_sysmod : (these : Id → Bool) (c : Choice) (by : Id) (superseded : List Id) (old middle new : Resolvers)
+    → IsTrue (these by) → ((z : Id) → Contains superseded z ↔ Supersedes c by z)
     → Gains old middle (λ z y. (z ≡ by) × (y ≡ by)) → Gains middle new (λ z y. Contains superseded z × (y ≡ by))
-    → Gains old new (λ z y. ResolvesBy c by z × (y ≡ by))
-gains_sysmod c by superseded old middle new counts all first second =
+    → Gains old new (λ z y. ResolvesBy these c by z × (y ≡ by))
+gains_sysmod these c by superseded old middle new counts all first second =
     gains_join old middle new (λ z y. (z ≡ by) × (y ≡ by)) (λ z y. Contains superseded z × (y ≡ by))
-    (λ z y. ResolvesBy c by z × (y ≡ by)) first second (λ z y. (
+    (λ z y. ResolvesBy these c by z × (y ≡ by)) first second (λ z y. (
       λ h. elim h.0.1 [
         | inl same ↦ inl (sym same, h.1)
         | inr below ↦ inr ((all z).1 below, h.1)
@@ -179,53 +179,56 @@ gains_sysmod c by superseded old middle new counts all first second =
     ))
 
 -- the SYSMODs before the rest were added
-pub record IsAdding (c : Choice) (old new : Resolvers) (ids rest : List Id) : Type 0 where
+pub record IsAdding (these : Id → Bool) (c : Choice) (old new : Resolvers) (ids rest : List Id) : Type 0 where
   pub done : List Id
   pub ids_are : ids ≡ done ++ rest
-  pub gains : Gains old new (λ z y. Contains done y × ResolvesBy c y z)
+  pub gains : Gains old new (λ z y. Contains done y × ResolvesBy these c y z)
 
-pub adding_first : (c : Choice) (old : Resolvers) (ids rest : List Id) → ids ≡ rest → IsAdding c old old ids rest
-adding_first c old ids rest is = record {
+pub adding_first : (these : Id → Bool) (c : Choice) (old : Resolvers) (ids rest : List Id) → ids ≡ rest
+    → IsAdding these c old old ids rest
+adding_first these c old ids rest is = record {
   done = [];
   ids_are = is;
-  gains = gains_nothing old (λ z y. Contains [] y × ResolvesBy c y z) (λ z y asked more. none_in y more.0);
+  gains = gains_nothing old (λ z y. Contains [] y × ResolvesBy these c y z) (λ z y asked more. none_in y more.0);
 }
 
-pub adding_next : (c : Choice) (old middle new : Resolvers) (ids rest more : List Id) (x : Id)
-    → IsAdding c old middle ids rest → rest ≡ x ∷ more → Gains middle new (λ z y. ResolvesBy c x z × (y ≡ x))
-    → IsAdding c old new ids more
-adding_next c old middle new ids rest more x a rest_is gains =
+pub adding_next : (these : Id → Bool) (c : Choice) (old middle new : Resolvers) (ids rest more : List Id) (x : Id)
+    → IsAdding these c old middle ids rest → rest ≡ x ∷ more
+    → Gains middle new (λ z y. ResolvesBy these c x z × (y ≡ x)) → IsAdding these c old new ids more
+adding_next these c old middle new ids rest more x a rest_is gains =
     let front = a.done in
     record {
       done = front ++ x ∷ [];
       ids_are = a.ids_are ∙ ap (λ l. front ++ l) rest_is ∙ sym (append_assoc front (x ∷ []) more);
       gains =
-          gains_join old middle new (λ z y. Contains front y × ResolvesBy c y z) (λ z y. ResolvesBy c x z × (y ≡ x))
-          (λ z y. Contains (front ++ x ∷ []) y × ResolvesBy c y z) a.gains gains (λ z y. (
+          gains_join old middle new (λ z y. Contains front y × ResolvesBy these c y z)
+          (λ z y. ResolvesBy these c x z × (y ≡ x))
+          (λ z y. Contains (front ++ x ∷ []) y × ResolvesBy these c y z) a.gains gains (λ z y. (
             λ h. elim (Contains-push_cases front x y h.0) [
               | inl was ↦ inl (was, h.1)
-              | inr is ↦ inr (subst (λ v. ResolvesBy c v z) (sym is) h.1, sym is)
+              | inr is ↦ inr (subst (λ v. ResolvesBy these c v z) (sym is) h.1, sym is)
             ],
             λ h. elim h [
               | inl was ↦ (Contains-append_left front (x ∷ []) y was.0, was.1)
               | inr is ↦ (
                 subst (Contains (front ++ x ∷ [])) (sym is.1) (Contains-push front x),
-                subst (λ v. ResolvesBy c v z) (sym is.1) is.0,
+                subst (λ v. ResolvesBy these c v z) (sym is.1) is.0,
               )
             ],
           ));
     }
 
-pub adding_last : (c : Choice) (old new : Resolvers) (ids rest : List Id) → IsAdding c old new ids rest → rest ≡ []
-    → Gains old new (λ z y. Contains ids y × ResolvesBy c y z)
-adding_last c old new ids rest a rest_is =
-    subst (λ l. Gains old new (λ z y. Contains l y × ResolvesBy c y z))
+pub adding_last : (these : Id → Bool) (c : Choice) (old new : Resolvers) (ids rest : List Id)
+    → IsAdding these c old new ids rest → rest ≡ [] → Gains old new (λ z y. Contains ids y × ResolvesBy these c y z)
+adding_last these c old new ids rest a rest_is =
+    subst (λ l. Gains old new (λ z y. Contains l y × ResolvesBy these c y z))
     (sym (a.ids_are ∙ ap (λ l. a.done ++ l) rest_is ∙ append-nil a.done)) a.gains
 
-pub gathered_all : (g : terms.Global) (c : Choice) (errors : List OpenError) (old new : Resolvers)
+pub gathered_all : (g : terms.Global) (these : Id → Bool) (c : Choice) (errors : List OpenError) (old new : Resolvers)
     → HasReasons errors old
-    → Gains old new (λ z y. Contains (map (λ s. s.id) g.sysmods) y × ResolvesBy c y z) → AreResolvers g c errors new
-gathered_all g c errors old new has gains o is y = (
+    → Gains old new (λ z y. Contains (map (λ s. s.id) g.sysmods) y × ResolvesBy these c y z)
+    → AreResolvers g these c errors new
+gathered_all g these c errors old new has gains o is y = (
   λ h. elim ((gains.has o.reason y).0 h) [
     | inl was ↦ absurd (none_in y (subst (λ l. Contains l y) (has.none o.reason) was))
     | inr more ↦ more.1

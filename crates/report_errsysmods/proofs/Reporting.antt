@@ -1,9 +1,9 @@
 -- The lines of REPORT ERRSYSMODS are those of the definition: what resolves a reason can be told, since walks are
 -- short.
 use Rattle.std.proofs.Common.{◌≡◌, ◌∙◌, ◌⊎◌, inl, inr, Bool, true, false, not, List, [], ◌∷◌, ◌++◌, map, filter}
-use Rattle.std.proofs.Common.{Option, None, Some, find, Contains, IsTrue, refl, sym, ap, subst, true≢false}
+use Rattle.std.proofs.Common.{Option, None, Some, Contains, IsTrue, refl, sym, ap, subst, true≢false}
 use Rattle.std.proofs.lemmas.List.{map-append}
-use Rattle.std.specs.Prelude.{◌↔◌, is_some, slice_get}
+use Rattle.std.specs.Prelude.{◌↔◌}
 use Rattle.std.specs.List.{flat_map}
 use Rattle.std.specs.Option.{option_map_or}
 use Rattle.std.specs.Str.{bytes_eq}
@@ -15,7 +15,9 @@ use Rattle.lemmas.proofs.Searches.{find_gives}
 use Rattle.lemmas.proofs.Texts.{same_from, same_or_not}
 use Rattle.terms.specs.Types.{Id, Ver, Sysmod, Entry, Global, Zone}
 use Rattle.terms.specs.Lookups.{IsRising, at_most_one, is_nil, sysmod_of, is_before}
-use Rattle.terms.specs.Choice.{Choice, vers_of, fits, or_first, counting, sup_of}
+use Rattle.terms.specs.Choice.{Choice, vers_of, place, counting, sup_of}
+use Rattle.sysmods.specs.Choices.{has_ver}
+use Rattle.lemmas.proofs.Places.{contains_at}
 use Rattle.terms.specs.Over.{Reaches}
 use Rattle.terms.specs.Global.{IsGlobal, named, names_for}
 use Rattle.terms.proofs.Leads.{reaches_more}
@@ -32,27 +34,6 @@ use Rattle.report_errsysmods.specs.Lines.{AreLinesOf}
 map-map : {X Y Z : Type 0} (f : Y → Z) (h : X → Y) (xs : List X) → map f (map h xs) ≡ map (λ x. f (h x)) xs
 map-map f h [] = refl
 map-map f h (x ∷ xs) = ap (λ l. f (h x) ∷ l) (map-map f h xs)
-
--- one is found, or else the first is taken
-first_in : (p : Ver → Bool) (vs : List Ver) (v : Ver) → or_first vs (find p vs) ≡ Some v → Contains vs v
-first_in p vs v = by (find p vs) refl vs refl
-  where
-    by : (o : Option Ver) → find p vs ≡ o → (ws : List Ver) → vs ≡ ws → or_first vs o ≡ Some v → Contains vs v
-    by (Some w) at ws is found = let same : w ≡ v = cc found in
-        subst (Contains vs) same (find_gives p vs w at).1
-    by None at [] is found = let none : None ≡ Some v = ap (λ l. slice_get l 0) (sym is) ∙ found in absurd (cc none)
-    by None at (w ∷ ws) is found =
-        let same : Some w ≡ Some v = ap (λ l. slice_get l 0) (sym is) ∙ found in
-        let one : w ≡ v = cc same in
-        subst (λ l. Contains l v) (sym is) (subst (Contains (w ∷ ws)) one (here w ws))
-
-some_first : (p : Ver → Bool) (vs : List Ver) → is_some (or_first vs (find p vs)) ≡ not (is_nil vs)
-some_first p [] = refl
-some_first p (v ∷ vs) = by (find p (v ∷ vs))
-  where
-    by : (o : Option Ver) → is_some (or_first (v ∷ vs) o) ≡ true
-    by None = refl
-    by (Some w) = refl
 
 module _ (g : Global) (zone : Zone) (is_global : IsGlobal g) where
   abbrev c : Choice
@@ -77,7 +58,7 @@ module _ (g : Global) (zone : Zone) (is_global : IsGlobal g) where
       by : (o : Option Ver) → c x ≡ o → Contains (option_map_or (λ v. v.sup) o []) z
           → (v : Ver) × Contains (vers_of g zone.srel x) v × Contains v.sup z
       by None at is = absurd (none_in z is)
-      by (Some v) at is = (v, first_in (fits zone []) (vers_of g zone.srel x) v at, is)
+      by (Some v) at is = (v, contains_at (vers_of g zone.srel x) (place g zone [] x) v at, is)
 
   sup_received : (x z : Id) → Contains (sup_of c x) z → Contains ids x
   sup_received x z is = let from = sup_by x z is in received x from.0 from.1
@@ -93,14 +74,14 @@ module _ (g : Global) (zone : Zone) (is_global : IsGlobal g) where
   no_loop x loop =
       is_global.no_loop (zone.srel, x, reaches_more (sup_of c) (names_for g zone.srel) sup_among x x loop)
 
-  counts : (y : Id) → is_some (c y) ≡ not (is_nil (vers_of g zone.srel y))
-  counts y = some_first (fits zone []) (vers_of g zone.srel y)
+  abbrev these : Id → Bool
+  these = has_ver g zone.srel
 
   -- whether it resolves the reason
-  resolves_or_not : (reason y : Id) → ResolvesBy c y reason ⊎ (¬ ResolvesBy c y reason)
-  resolves_or_not reason y = by (is_some (c y)) refl
+  resolves_or_not : (reason y : Id) → ResolvesBy these c y reason ⊎ (¬ ResolvesBy these c y reason)
+  resolves_or_not reason y = by (these y) refl
     where
-      by : (b : Bool) → is_some (c y) ≡ b → ResolvesBy c y reason ⊎ (¬ ResolvesBy c y reason)
+      by : (b : Bool) → these y ≡ b → ResolvesBy these c y reason ⊎ (¬ ResolvesBy these c y reason)
       by false at = inr (λ r. true≢false (sym r.0 ∙ at))
       by true at = elim (same_or_not y reason) [
         | inl same ↦ inl (at, inl same)
@@ -131,7 +112,7 @@ module _ (g : Global) (zone : Zone) (is_global : IsGlobal g) where
       (pairs_map (λ (a b : Sysmod). IsTrue (is_before a.id b.id)) (λ x y. IsTrue (is_before x y)) (λ s. s.id)
       (λ a b before. before) g.sysmods is_global.sysmods)
 
-  in_resolvers : (reason y : Id) → Contains (resolvers reason) y ↔ (Contains ids y × ResolvesBy c y reason)
+  in_resolvers : (reason y : Id) → Contains (resolvers reason) y ↔ (Contains ids y × ResolvesBy these c y reason)
   in_resolvers reason y = (
     λ h. let both = filter_in (λ y. told (resolves_or_not reason y)) ids y h in
         (both.0, told_so (resolves_or_not reason y) both.1),
@@ -141,8 +122,8 @@ module _ (g : Global) (zone : Zone) (is_global : IsGlobal g) where
   resolves_is : (reason y : Id) → Contains (resolvers reason) y ↔ Resolves g zone reason y
   resolves_is reason y = (
     λ h. let both = (in_resolvers reason y).0 h in
-        record { fits = sym (counts y) ∙ both.1.0; reaches = both.1.1 },
-    λ r. (in_resolvers reason y).1 (is_there r.fits, (counts y ∙ r.fits, r.reaches)),
+        record { fits = both.1.0; reaches = both.1.1 },
+    λ r. (in_resolvers reason y).1 (is_there r.fits, (r.fits, r.reaches)),
   )
     where
       is_there : IsTrue (not (is_nil (vers_of g zone.srel y))) → Contains ids y
@@ -168,7 +149,7 @@ module _ (g : Global) (zone : Zone) (is_global : IsGlobal g) where
 
   pub are_errsysmods : (errors : List OpenError) (all : Resolvers) (lines : List Line)
       → errors ≡ flat_map (λ e. open_on g zone e.id) (filter is_current zone.entries)
-      → AreResolvers g (counting g zone []) errors all → AreLinesOf all errors lines
+      → AreResolvers g these (counting g zone []) errors all → AreLinesOf all errors lines
       → AreErrsysmods g zone (map line_view lines)
   are_errsysmods errors all lines errors_are known lines_are = record {
     resolvers = resolvers;

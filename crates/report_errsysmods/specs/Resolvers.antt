@@ -31,12 +31,12 @@ pub record Gains (old new : Resolvers) (More : Id → Id → Type 0) : Type 0 wh
   pub has : (z y : Id) → Contains (resolvers_of new z) y
       ↔ (Contains (resolvers_of old z) y ⊎ (IsTrue (is_asked old z) × More z y))
 
--- a ++VER of it counts, and it is the reason or supersedes it
-abbrev pub ResolvesBy : Choice → Id → Id → Type 0
-ResolvesBy c y z = IsTrue (is_some (c y)) × ((y ≡ z) ⊎ Supersedes c y z)
+-- it is one of these, and is the reason or supersedes it
+abbrev pub ResolvesBy : (Id → Bool) → Choice → Id → Id → Type 0
+ResolvesBy these c y z = IsTrue (these y) × ((y ≡ z) ⊎ Supersedes c y z)
 
--- they are the received SYSMODs that resolve the reasons of these holds
-abbrev pub AreResolvers : Global → Choice → List OpenError → Resolvers → Type 0
-AreResolvers g c errors all =
+-- they are the received SYSMODs among these that resolve the reasons of these holds
+abbrev pub AreResolvers : Global → (Id → Bool) → Choice → List OpenError → Resolvers → Type 0
+AreResolvers g these c errors all =
     (o : OpenError) → Contains errors o → (y : Id) → Contains (resolvers_of all o.reason) y
-    ↔ (Contains (map (λ s. s.id) g.sysmods) y × ResolvesBy c y o.reason)
+    ↔ (Contains (map (λ s. s.id) g.sysmods) y × ResolvesBy these c y o.reason)

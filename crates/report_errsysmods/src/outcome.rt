@@ -1,6 +1,7 @@
 //! The outcome of REPORT ERRSYSMODS.
 ghost use Rattle.std.specs.Prelude.{◌≡◌, [], IfOk};
 ghost use Rattle.terms.specs.Choice.{counting};
+ghost use Rattle.sysmods.specs.Choices.{has_ver};
 ghost use Rattle.report_errsysmods.specs.Lines.{AreLinesOf, IsLineOf, IsReportOf};
 ghost use Rattle.report_errsysmods.specs.Resolvers.{AreResolvers};
 
@@ -48,10 +49,11 @@ fn gathered(
     zone: &Zone,
     errors: &[OpenError],
 ) -> Result<Resolvers, AllocError>
-    ensures { IfOk result (AreResolvers global.now (counting global.now zone.now []) errors.now) }
+    ensures { IfOk result
+        (AreResolvers global.now (has_ver global.now zone.now.srel) (counting global.now zone.now []) errors.now) }
 {
     let cands = IdList::new(alloc);
-    let vers = choose(global, zone, &cands);
+    let vers = choose(alloc, global, zone, &cands)?;
     let mut all = reasons(alloc, errors)?;
     add_all(alloc, global, &vers, &mut all)?;
     Ok(all)

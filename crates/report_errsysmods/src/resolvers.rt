@@ -1,7 +1,7 @@
 //! What resolves a reason: it itself, and all that supersedes it.
 ghost use Rattle.std.specs.Prelude.{◌≡◌, ◌↔◌, Contains, IfOk, OnOk, map};
 ghost use Rattle.terms.specs.Types.{Id as AnId};
-ghost use Rattle.sysmods.specs.Choices.{choice};
+ghost use Rattle.sysmods.specs.Choices.{has_ver, choice};
 ghost use Rattle.report_errsysmods.specs.Resolvers.{HasReasons, Gains, ResolvesBy};
 ghost use Rattle.report_errsysmods.specs.Resolvers.{resolvers_of};
 
@@ -44,16 +44,17 @@ fn add_each(all: &mut Resolvers, reasons: &[Id], by: Id) -> Result<(), AllocErro
     Ok(())
 }
 
-// Adds a SYSMOD to what it resolves, if a `++VER` of it counts.
+// Adds a SYSMOD to what it resolves, if it has a `++VER` for the SREL.
 fn add_sysmod(
     alloc: Global,
     vers: &VerChoice<'_>,
     by: Id,
     all: &mut Resolvers,
 ) -> Result<(), AllocError>
-    ensures { OnOk result (Gains all.old all.new (λ z y. ResolvesBy (choice vers.now) by z × (y ≡ by))) }
+    ensures { OnOk result (Gains all.old all.new
+        (λ z y. ResolvesBy (has_ver vers.now.global.now vers.now.srel) (choice vers.now) by z × (y ≡ by))) }
 {
-    if vers.ver(by).is_none() {
+    if !vers.has_ver(by) {
         return Ok(());
     }
     let superseded = vers.sup_all(alloc, by)?;
@@ -70,7 +71,8 @@ pub(crate) fn add_all(
     all: &mut Resolvers,
 ) -> Result<(), AllocError>
     ensures { OnOk result (Gains all.old all.new
-        (λ z y. Contains (map (λ s. s.id) global.now.sysmods) y × ResolvesBy (choice vers.now) y z)) }
+        (λ z y. Contains (map (λ s. s.id) global.now.sysmods) y
+        × ResolvesBy (has_ver vers.now.global.now vers.now.srel) (choice vers.now) y z)) }
 {
     for sysmod in global.sysmods() {
         add_sysmod(alloc, vers, sysmod.id, all)?;

@@ -1,127 +1,212 @@
--- What comes to be asked for once a SYSMOD grows: what it asks for, and what others ask for by an ++IF for it.
-use Rattle.std.proofs.Common.{◌≡◌, ◌⊎◌, inl, inr, Bool, true, false, not, ◌&&◌, List, [], ◌++◌, map}
-use Rattle.std.proofs.Common.{filter, Contains, IsTrue, if◌then◌else◌, refl, sym}
-use Rattle.std.proofs.Common.{subst}
+-- What comes to be asked for once an id is: what it asks for, and what those ask for by it that name it as a function.
+use Rattle.std.proofs.Common.{◌≡◌, ◌-◌, inl, inr, Bool, true, false, not, List, [], ◌++◌, map, Option, None, Some}
+use Rattle.std.proofs.Common.{filter, Contains, IsTrue, is_some, if◌then◌else◌, refl, sym, ap, subst, ◌↔◌}
+use Rattle.std.specs.Prelude.{ℕ, position, slice_get, unwrap_or}
+use Rattle.std.specs.List.{flat_map}
+use Rattle.std.specs.Option.{option_map_or, option_and_then}
 use Rattle.std.specs.Str.{bytes_eq}
-use Rattle.std.proofs.lemmas.Bool.{and_parts, and_from, or_cases, or_left, or_right}
 use Rattle.std.proofs.lemmas.List.Elements.{Contains-append_left, Contains-append_right, Contains-append_cases}
 use Rattle.terms.specs.declared.kinds.HoldKind.TheVariants.{Error}
-use Rattle.terms.specs.Types.{Id, Global, Zone, Selection}
-use Rattle.terms.specs.Lookups.{at_most_one, is_applied, is_supplied, is_function, applied_ids, holds_of}
-use Rattle.terms.specs.Choice.{Choice, fmid_of, pre_of, req_of, ifs_of, first_ver}
-use Rattle.terms.specs.Conditions.{if_reqs, stated_for}
+use Rattle.terms.specs.Types.{Id, IfReq, Ver, Applied, Entry, Global, Zone, Selection}
+use Rattle.terms.specs.Lookups.{is_in, is_applied, applied_of, entry_of, is_supplied, is_function, applied_ids}
+use Rattle.terms.specs.Lookups.{holds_of}
+use Rattle.terms.specs.Choice.{vers_of, fits, counting}
+use Rattle.terms.specs.Candidates.{fmids_for}
+use Rattle.terms.specs.Conditions.{reqs_where, if_reqs, stated_for}
 use Rattle.lemmas.proofs.Members.{none_in, filter_in, in_filter, flat_in, in_flat}
+use Rattle.lemmas.proofs.Places.{contains_at}
+use Rattle.lemmas.proofs.Texts.{same_from}
 use Rattle.terms.proofs.Applied.{AppliedAre}
 use Rattle.sysmods_received.specs.Namers.{function_namers}
-use Rattle.select.specs.Growing.{taken_up, has_grown, reqs_if, is_there, counts_for, stated, reasons}
-use Rattle.select.specs.Growing.{own_requisites, brought_by}
-use Rattle.select.proofs.Needs.{Asks, Fmid, Listed, ByIf, Stated, Reason}
-use Rattle.select.proofs.Listed.{stating_listed}
+use Rattle.select.specs.Growing.{taken_up, has_grown, open_fmids, own_requisites, kept_ver, stated, reasons, own_asked}
+use Rattle.select.specs.Growing.{required_through, asked_through, asked_by_namers}
+use Rattle.select.proofs.Needs.{Asks, Fmid, Required, Stated, Reason, in_own, own_in, AsksThrough, through_required}
+use Rattle.select.proofs.Listed.{function_listed, if_named}
 
--- What is brought is asked for, and what is asked for is brought.
-module _ (g : Global) (zone : Zone) (sel : Selection) (seen : List Id) (x : Id) where
-  abbrev c : Choice
-  c = first_ver g zone.srel
+-- An applied SYSMOD has a number, and what has one is applied.
+applied_some : (o : Option Entry) → option_map_or (λ e. is_some e.applied) o false ≡ true
+    → (a : Applied) × (option_and_then (λ e. e.applied) o ≡ Some a)
+applied_some None e = absurd (cc e)
+applied_some (Some e) on = by e.applied on
+  where
+    by : (o : Option Applied) → is_some o ≡ true → (a : Applied) × (o ≡ Some a)
+    by None is = absurd (cc is)
+    by (Some a) is = (a, refl)
 
+some_applied : (o : Option Entry) (a : Applied) → option_and_then (λ e. e.applied) o ≡ Some a
+    → option_map_or (λ e. is_some e.applied) o false ≡ true
+some_applied None a e = absurd (cc e)
+some_applied (Some e) a is = ap is_some is
+
+-- of those of an applied SYSMOD the one of its number, whatever would be taken else
+by_number : (vs : List Ver) (o : Option Applied) (a : Applied) (other : ℕ) → o ≡ Some a
+    → slice_get vs (option_map_or (λ b. b.number - 1) o other)
+    ≡ option_and_then (λ b. slice_get vs (b.number - 1)) o
+by_number vs None a other at = absurd (cc at)
+by_number vs (Some b) a other at = refl
+
+module _ (g : Global) (zone : Zone) where
+  -- the ++VER that counts of what is applied
+  kept_counts : (y : Id) (a : Applied) → applied_of zone y ≡ Some a → counting g zone [] y ≡ kept_ver g zone y
+  kept_counts y a at = by_number (vers_of g zone.srel y) (applied_of zone y) a
+      (unwrap_or (position (fits zone (is_in [])) (vers_of g zone.srel y)) 0) at
+
+  -- what has one is applied, and it is one of its ++VERs
+  kept_there : (y : Id) (v : Ver) → kept_ver g zone y ≡ Some v
+      → IsTrue (is_applied zone y) × Contains (vers_of g zone.srel y) v
+  kept_there y v = by (applied_of zone y) refl
+    where
+      by : (o : Option Applied) → applied_of zone y ≡ o
+          → option_and_then (λ a. slice_get (vers_of g zone.srel y) (a.number - 1)) o ≡ Some v
+          → IsTrue (is_applied zone y) × Contains (vers_of g zone.srel y) v
+      by None at found = absurd (cc found)
+      by (Some a) at found = (
+        some_applied (entry_of zone y) a at,
+        contains_at (vers_of g zone.srel y) (a.number - 1) v found,
+      )
+
+  -- what states anything for a function by it
+  record States (x y : Id) : Type 0 where
+    on : IsTrue (is_applied zone y)
+    names : Contains (function_namers g.sysmods x) y
+
+  states : (x y z : Id) → Contains (if_reqs (kept_ver g zone) (bytes_eq x) y) z → States x y
+  states x y z = by (kept_ver g zone y) refl
+    where
+      by : (o : Option Ver) → kept_ver g zone y ≡ o
+          → Contains (reqs_where (bytes_eq x) (option_map_or (λ v. v.ifs) o [])) z → States x y
+      by None at none = absurd (none_in z none)
+      by (Some v) at h =
+          let from = flat_in (λ (i : IfReq). i.req) (filter (λ i. bytes_eq x i.function) v.ifs) z h in
+          let kept = filter_in (λ i. bytes_eq x i.function) v.ifs from.0 from.1 in
+          let is = kept_there y v at in
+          record {
+            on = is.0;
+            names = subst (λ f. Contains (function_namers g.sysmods f) y) (sym (same_from x from.0.function kept.1))
+                (function_listed g zone.srel y from.0.function v is.1 (if_named v from.0 kept.0));
+          }
+
+  abbrev by_counting : Id → List Id
+  by_counting x = if is_function g x then stated_for (counting g zone []) (applied_ids zone) x else []
+
+  -- What applied SYSMODs state for it is what those among its namers state.
+  stated_same : AppliedAre zone → (x z : Id) → Contains (stated g zone x) z ↔ Contains (by_counting x) z
+  stated_same applied x z = by (is_function g x)
+    where
+      reqs_at : Option Ver → List Id
+      reqs_at o = reqs_where (bytes_eq x) (option_map_or (λ v. v.ifs) o [])
+
+      counted : (y : Id) → IsTrue (is_applied zone y) → counting g zone [] y ≡ kept_ver g zone y
+      counted y on = let a = applied_some (entry_of zone y) on in kept_counts y a.0 a.1
+
+      by : (b : Bool)
+          → Contains (if b then stated_for (kept_ver g zone) (function_namers g.sysmods x) x else []) z
+          ↔ Contains (if b then stated_for (counting g zone []) (applied_ids zone) x else []) z
+      by false = (λ none. none, λ none. none)
+      by true = (
+        λ h.
+            let from = flat_in (if_reqs (kept_ver g zone) (bytes_eq x)) (function_namers g.sysmods x) z h in
+            let is = states x from.0 z from.2 in
+            in_flat (if_reqs (counting g zone []) (bytes_eq x)) (applied_ids zone) from.0 z
+            ((applied from.0).1 is.on)
+            (subst (λ o. Contains (reqs_at o) z) (sym (counted from.0 is.on)) from.2),
+        λ h.
+            let from = flat_in (if_reqs (counting g zone []) (bytes_eq x)) (applied_ids zone) z h in
+            let on = (applied from.0).0 from.1 in
+            let within : Contains (if_reqs (kept_ver g zone) (bytes_eq x) from.0) z =
+            subst (λ o. Contains (reqs_at o) z) (counted from.0 on) from.2 in
+            in_flat (if_reqs (kept_ver g zone) (bytes_eq x)) (function_namers g.sysmods x) from.0 z
+            (states x from.0 z within).names within,
+      )
+
+module _ (g : Global) (zone : Zone) (sel : Selection) (seen : List Id) where
   abbrev free : Id → Bool
   free z = not (is_supplied zone z)
 
-  abbrev fmids : List Id
-  fmids = filter (λ z. not (is_applied zone z)) (at_most_one (fmid_of c x))
+  abbrev fmids : Id → List Id
+  fmids x = open_fmids zone (fmids_for g zone.srel x)
 
-  abbrev error_reasons : List Id
-  error_reasons = map (λ h. h.reason) (holds_of g Error x)
+  abbrev cands : Id → Bool
+  cands = taken_up g zone sel seen
 
-  abbrev all_requisites : List Id
-  all_requisites = own_requisites g zone sel seen x ++ stated g zone sel seen x ++ reasons g sel x
+  abbrev error_reasons : Id → List Id
+  error_reasons x = map (λ h. h.reason) (holds_of g Error x)
 
-  in_brought : (z : Id) → IsTrue (free z) → Contains all_requisites z → Contains (brought_by g zone sel seen x) z
-  in_brought z is_free h = Contains-append_right fmids (filter free all_requisites) z
-      (in_filter free all_requisites z h is_free)
+  abbrev all_requisites : Id → List Id
+  all_requisites x = own_requisites g zone cands x ++ stated g zone x ++ reasons g sel x
 
-  own_brought : (z : Id) → IsTrue (free z) → Contains (own_requisites g zone sel seen x) z
-      → Contains (brought_by g zone sel seen x) z
-  own_brought z is_free h = in_brought z is_free
-      (Contains-append_left (own_requisites g zone sel seen x ++ stated g zone sel seen x) (reasons g sel x) z
-      (Contains-append_left (own_requisites g zone sel seen x) (stated g zone sel seen x) z h))
+  in_asked : (x z : Id) → IsTrue (free z) → Contains (all_requisites x) z → Contains (own_asked g zone sel seen x) z
+  in_asked x z is_free h = Contains-append_right (fmids x) (filter free (all_requisites x)) z
+      (in_filter free (all_requisites x) z h is_free)
 
-  -- what one states for it whose ++IFs count
-  stated_brought : (y z : Id) → IsTrue (counts_for g zone sel seen x y) → IsTrue (free z)
-      → Contains (if_reqs c (bytes_eq x) y) z → Contains (brought_by g zone sel seen x) z
-  stated_brought y z counts is_free h = in_brought z is_free
-      (Contains-append_left (own_requisites g zone sel seen x ++ stated g zone sel seen x) (reasons g sel x) z
-      (Contains-append_right (own_requisites g zone sel seen x) (stated g zone sel seen x) z
-      (in_flat (if_reqs c (bytes_eq x)) (filter (counts_for g zone sel seen x) (function_namers g.sysmods x)) y z
-      (in_filter (counts_for g zone sel seen x) (function_namers g.sysmods x) y (stating_listed g zone.srel x y z h)
-      counts) h)))
+  -- What it asks for it does by itself, and only that.
+  pub own_has : AppliedAre zone → (x z : Id) → Asks g zone sel cands x z → Contains (own_asked g zone sel seen x) z
+  own_has applied x z (Fmid h) = Contains-append_left (fmids x) (filter free (all_requisites x)) z h
+  own_has applied x z (Required is_free v is fit within) = in_asked x z is_free
+      (Contains-append_left (own_requisites g zone cands x ++ stated g zone x) (reasons g sel x) z
+      (Contains-append_left (own_requisites g zone cands x) (stated g zone x) z
+      (in_own g zone sel cands x z v is fit within)))
+  own_has applied x z (Stated is_free h) = in_asked x z is_free
+      (Contains-append_left (own_requisites g zone cands x ++ stated g zone x) (reasons g sel x) z
+      (Contains-append_right (own_requisites g zone cands x) (stated g zone x) z
+      ((stated_same g zone applied x z).1 h)))
+  own_has applied x z (Reason extend h) =
+      let kept = filter_in free (error_reasons x) z h in
+      in_asked x z kept.1
+      (Contains-append_right (own_requisites g zone cands x ++ stated g zone x) (reasons g sel x) z
+      (subst (λ b. Contains (if b then error_reasons x else []) z) (sym extend) kept.0))
 
-  pub grower_states : (y z : Id) → IsTrue (has_grown g zone sel seen y) → IsTrue (free z)
-      → Contains (if_reqs c (bytes_eq x) y) z → Contains (brought_by g zone sel seen x) z
-  grower_states y z grows is_free h =
-      stated_brought y z (or_left (has_grown g zone sel seen y) (is_function g x && is_applied zone y) grows) is_free h
-
-  pub asked_brought : AppliedAre zone → (z : Id) → Asks g zone sel (taken_up g zone sel seen) x z
-      → Contains (brought_by g zone sel seen x) z
-  asked_brought applied z (Fmid h) = Contains-append_left fmids (filter free all_requisites) z h
-  asked_brought applied z (Listed is_free h) = own_brought z is_free
-      (Contains-append_left (pre_of c x ++ req_of c x) (reqs_if (is_there g zone sel seen) (ifs_of c x)) z h)
-  asked_brought applied z (ByIf is_free h) = own_brought z is_free
-      (Contains-append_right (pre_of c x ++ req_of c x) (reqs_if (is_there g zone sel seen) (ifs_of c x)) z h)
-  asked_brought applied z (Reason extend h) =
-      let kept = filter_in free error_reasons z h in
-      in_brought z kept.1
-      (Contains-append_right (own_requisites g zone sel seen x ++ stated g zone sel seen x) (reasons g sel x) z
-      (subst (λ b. Contains (if b then error_reasons else []) z) (sym extend) kept.0))
-  asked_brought applied z (Stated is_free h) = by (is_function g x) refl h
-    where
-      by : (b : Bool) → is_function g x ≡ b → Contains (if b then stated_for c (applied_ids zone) x else []) z
-          → Contains (brought_by g zone sel seen x) z
-      by false e none = absurd (none_in z none)
-      by true e there =
-          let from = flat_in (if_reqs c (bytes_eq x)) (applied_ids zone) z there in
-          stated_brought from.0 z (or_right (has_grown g zone sel seen from.0)
-          (is_function g x && is_applied zone from.0) (and_from (is_function g x) (is_applied zone from.0) e
-          ((applied from.0).0 from.1))) is_free from.2
-
-  -- it is asked for by x, or by one that grows and has an ++IF for x
-  abbrev pub IsCalledFor : Id → Type 0
-  IsCalledFor z = Asks g zone sel (taken_up g zone sel seen) x z
-      ⊎ ((y : Id) × IsTrue (has_grown g zone sel seen y) × IsTrue (free z) × Contains (if_reqs c (bytes_eq x) y) z)
-
-  stated_called : AppliedAre zone → (z : Id) → IsTrue (free z) → Contains (stated g zone sel seen x) z → IsCalledFor z
-  stated_called applied z is_free h =
-      let from = flat_in (if_reqs c (bytes_eq x)) (filter (counts_for g zone sel seen x) (function_namers g.sysmods
-      x)) z h in
-      let counts = filter_in (counts_for g zone sel seen x) (function_namers g.sysmods x) from.0 from.1 in
-      elim (or_cases (has_grown g zone sel seen from.0) (is_function g x && is_applied zone from.0) counts.1) [
-        | inl grows ↦ inr (from.0, grows, is_free, from.2)
-        | inr on ↦ inl (let parts = and_parts (is_function g x) (is_applied zone from.0) on in
-            Stated is_free (subst (λ b. Contains (if b then stated_for c (applied_ids zone) x else []) z) (sym parts.0)
-            (in_flat (if_reqs c (bytes_eq x)) (applied_ids zone) from.0 z ((applied from.0).1 parts.1) from.2)))
-      ]
-
-  pub brought_called : AppliedAre zone → (z : Id) → Contains (brought_by g zone sel seen x) z → IsCalledFor z
-  brought_called applied z h =
-      elim (Contains-append_cases fmids (filter free all_requisites) z h) [
-        | inl fmid ↦ inl (Fmid fmid)
-        | inr rest ↦ let kept = filter_in free all_requisites z rest in called kept.1 kept.0
+  pub own_asks : AppliedAre zone → (x z : Id) → Contains (own_asked g zone sel seen x) z → Asks g zone sel cands x z
+  own_asks applied x z h =
+      elim (Contains-append_cases (fmids x) (filter free (all_requisites x)) z h) [
+        | inl fmid ↦ Fmid fmid
+        | inr rest ↦ let kept = filter_in free (all_requisites x) z rest in called kept.1 kept.0
       ]
     where
       reason : IsTrue (free z) → (b : Bool) → sel.groupextend ≡ b
-          → Contains (if b then error_reasons else []) z → IsCalledFor z
+          → Contains (if b then error_reasons x else []) z → Asks g zone sel cands x z
       reason is_free false e none = absurd (none_in z none)
-      reason is_free true e there = inl (Reason e (in_filter free error_reasons z there is_free))
+      reason is_free true e is = Reason e (in_filter free (error_reasons x) z is is_free)
 
-      own : IsTrue (free z) → Contains (own_requisites g zone sel seen x) z → IsCalledFor z
-      own is_free there =
-          elim (Contains-append_cases (pre_of c x ++ req_of c x) (reqs_if (is_there g zone sel seen) (ifs_of c x)) z
-          there) [ inl names ↦ inl (Listed is_free names) | inr ifs ↦ inl (ByIf is_free ifs) ]
-
-      called : IsTrue (free z) → Contains all_requisites z → IsCalledFor z
-      called is_free there =
-          elim (Contains-append_cases (own_requisites g zone sel seen x ++ stated g zone sel seen x) (reasons g sel x)
-          z there) [
-            | inl first ↦ elim (Contains-append_cases (own_requisites g zone sel seen x) (stated g zone sel seen x) z
-                first) [ inl mine ↦ own is_free mine | inr others ↦ stated_called applied z is_free others ]
+      called : IsTrue (free z) → Contains (all_requisites x) z → Asks g zone sel cands x z
+      called is_free is =
+          elim (Contains-append_cases (own_requisites g zone cands x ++ stated g zone x) (reasons g sel x) z is) [
+            | inl first ↦ elim (Contains-append_cases (own_requisites g zone cands x) (stated g zone x) z first) [
+              | inl mine ↦ own_in g zone sel cands x z is_free mine
+              | inr others ↦ Stated is_free ((stated_same g zone applied x z).0 others)
+            ]
             | inr last ↦ reason is_free sel.groupextend refl last
           ]
+
+  -- What those ask for by it that grow and name it.
+  abbrev growing_namers : Id → List Id
+  growing_namers f = filter (has_grown g zone sel seen) (function_namers g.sysmods f)
+
+  abbrev fitting : Id → List Ver
+  fitting y = filter (fits zone cands) (vers_of g zone.srel y)
+
+  pub namers_have : (f y z : Id) → IsTrue (has_grown g zone sel seen y) → AsksThrough g zone sel cands f y z
+      → Contains (asked_by_namers g zone sel seen f) z
+  namers_have f y z grows asks =
+      in_filter free (flat_map (asked_through g zone cands f) (growing_namers f)) z
+      (in_flat (asked_through g zone cands f) (growing_namers f) y z
+      (in_filter (has_grown g zone sel seen) (function_namers g.sysmods f) y asks.named grows)
+      (in_flat (required_through zone cands f) (fitting y) asks.ver z
+      (in_filter (fits zone cands) (vers_of g zone.srel y) asks.ver asks.there asks.fit) asks.within))
+      asks.is_free
+
+  -- one that grows asks for it
+  abbrev pub IsCalledFor : Id → Type 0
+  IsCalledFor z = (y : Id) × IsTrue (has_grown g zone sel seen y) × Asks g zone sel cands y z
+
+  pub namers_ask : (f z : Id) → IsTrue (cands f) → Contains (asked_by_namers g zone sel seen f) z → IsCalledFor z
+  namers_ask f z is h =
+      let passed = filter_in free (flat_map (asked_through g zone cands f) (growing_namers f)) z h in
+      let from = flat_in (asked_through g zone cands f) (growing_namers f) z passed.0 in
+      let grows = filter_in (has_grown g zone sel seen) (function_namers g.sysmods f) from.0 from.1 in
+      let ver = flat_in (required_through zone cands f) (fitting from.0) z from.2 in
+      let kept = filter_in (fits zone cands) (vers_of g zone.srel from.0) ver.0 ver.1 in (
+        from.0,
+        grows.1,
+        Required passed.1 ver.0 kept.0 kept.1 (through_required zone cands ver.0 z f is ver.2),
+      )

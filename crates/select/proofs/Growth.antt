@@ -1,19 +1,15 @@
 -- The ids that are asked for, as a search finds them, and the candidates.
-use Rattle.std.proofs.Common.{◌≡◌, ℕ, ◌<◌, ◌≤◌, ◌+◌, ◌⊎◌, inl, inr, Bool, true, false, not, ◌&&◌, ◌||◌, List, [], ◌∷◌}
+use Rattle.std.proofs.Common.{◌≡◌, ℕ, ◌<◌, ◌≤◌, ◌+◌, ◌⊎◌, inl, inr, Bool, true, false, ◌&&◌, ◌||◌, List, [], ◌∷◌}
 use Rattle.std.proofs.Common.{◌++◌, length, length-append, take, drop, get_or, filter, Contains, IsTrue, All, arith}
 use Rattle.std.proofs.Common.{if◌then◌else◌, refl, sym, subst, ap, ◌∙◌, ◌↔◌, true≢false}
 use Rattle.std.specs.List.{flat_map}
-use Rattle.std.specs.Str.{bytes_eq}
 use Rattle.std.proofs.lemmas.Bool.{and_parts, and_from, or_cases, or_left, or_right}
 use Rattle.std.proofs.lemmas.List.{take_more, take_all, take-append-drop}
 use Rattle.std.proofs.lemmas.List.Elements.{Contains-get_or, Contains-append_left, Contains-append_right}
 use Rattle.std.proofs.lemmas.List.Elements.{Contains-append_cases, Contains-push_cases}
 use Rattle.terms.specs.Types.{Id, Global, Zone, Selection}
-use Rattle.terms.specs.Lookups.{is_in, is_supplied, IsRising}
-use Rattle.terms.specs.Choice.{Choice, sup_of, first_ver}
+use Rattle.terms.specs.Lookups.{is_in, IsRising}
 use Rattle.terms.specs.Over.{Leads, Reaches}
-use Rattle.terms.specs.Global.{IsGlobal}
-use Rattle.terms.specs.Conditions.{if_reqs}
 use Rattle.terms.specs.Candidates.{is_installable, is_open, is_start, is_growing_start, is_mass_chosen, sups_for}
 use Rattle.terms.specs.Candidates.{needed_ids, open_reasons, Extends, BringsIn, IsClosedPair, AreCandidates}
 use Rattle.terms.proofs.Ids.{is_in_from_Contains, Contains_from_is_in}
@@ -23,14 +19,13 @@ use Rattle.terms.proofs.Applied.{AppliedAre}
 use Rattle.sysmods_paths.specs.Seen.{AddsAll}
 use Rattle.sysmods_paths.proofs.Growth.{adds_keeps, adds_cases, take_adds}
 use Rattle.sysmods_received.specs.Namers.{namers_for}
-use Rattle.select.specs.Growing.{WillDo, IsAsked, taken_up, has_grown, asked_by, HasAsked, AreAsked, brought_by}
-use Rattle.select.specs.Growing.{superseders, next_asked, asked_first}
+use Rattle.select.specs.Growing.{WillDo, IsAsked, taken_up, has_grown, asked_by, HasAsked, AreAsked, own_asked}
+use Rattle.select.specs.Growing.{asked_by_namers, brought_by, superseders, next_asked, asked_first}
 use Rattle.select.proofs.Opened.{open_parts}
-use Rattle.select.proofs.Needs.{Asks, asks_from, asks_needed, asks_asked, asks_with, asks_more, needed_asked}
-use Rattle.select.proofs.Needs.{reason_asked, needed_for}
-use Rattle.select.proofs.OneVer.{sups_are}
+use Rattle.select.proofs.Needs.{Asks, asks_from, asks_needed, asks_asked, AsksThrough, asks_with, asks_more}
+use Rattle.select.proofs.Needs.{through_still, needed_asked, reason_asked, either}
 use Rattle.select.proofs.Listed.{super_listed}
-use Rattle.select.proofs.Brought.{grower_states, asked_brought, IsCalledFor, brought_called}
+use Rattle.select.proofs.Brought.{own_has, own_asks, namers_have, namers_ask}
 
 -- a list of what one has, and behind it another
 pub joined : (ids all start keys grown : List Id) → all ≡ start ++ keys → keys ≡ grown
@@ -68,15 +63,17 @@ with_one p q xs d z h = elim (or_cases (p z) (is_in (xs ++ d ∷ []) z && q z) h
         (is_in_from_Contains xs z was) passes))
     by passes (inr same) = inr (same, subst (λ w. IsTrue (q w)) (sym same) passes)
 
+-- the first of two of which none passes
+left_false : (a b : Bool) → (a || b) ≡ false → a ≡ false
+left_false true b e = absurd (true≢false e)
+left_false false b e = refl
+
 -- the search has seen these ids and gone through the first n of them
 pub record IsGrowth (g : Global) (zone : Zone) (sel : Selection) (seen : List Id) (n : ℕ) : Type 0 where
   pub within : n ≤ length seen
   pub has : HasAsked g zone sel (take n seen) seen
 
-module _ (g : Global) (zone : Zone) (sel : Selection) (form : IsGlobal g) where
-  abbrev c : Choice
-  c = first_ver g zone.srel
-
+module _ (g : Global) (zone : Zone) (sel : Selection) where
   abbrev sups : Id → List Id
   sups = sups_for g zone.srel
 
@@ -125,14 +122,14 @@ module _ (g : Global) (zone : Zone) (sel : Selection) (form : IsGlobal g) where
   over_asked x z asks h = by sel.groupextend refl h
     where
       by : (b : Bool) → sel.groupextend ≡ b
-          → Contains (if b then filter (λ y. is_in (sup_of c y) z) (namers_for g.sysmods zone.srel z) else []) x
+          → Contains (if b then filter (λ y. is_in (sups y) z) (namers_for g.sysmods zone.srel z) else []) x
           → IsAsked g zone sel x
       by false e none = absurd (none_in x none)
       by true e there = λ cands growing closed y opened will. asks cands growing closed y opened (inr (e, over y will))
         where
           names : Contains (sups x) z
-          names = subst (λ zs. Contains zs z) (sym (sups_are g form zone.srel x)) (Contains_from_is_in (sup_of c x) z
-              (filter_in (λ y. is_in (sup_of c y) z) (namers_for g.sysmods zone.srel z) x there).1)
+          names = Contains_from_is_in (sups x) z
+              (filter_in (λ y. is_in (sups y) z) (namers_for g.sysmods zone.srel z) x there).1
 
           over : (y : Id) → WillDo g zone sel y x → Reaches sups y z
           over y (inl same) = subst (λ w. Reaches sups w z) (sym same) (reaches_named sups x z names)
@@ -141,11 +138,10 @@ module _ (g : Global) (zone : Zone) (sel : Selection) (form : IsGlobal g) where
   -- what supersedes an id directly is among those that are asked for once it is
   superseder_listed : (y z : Id) → IsTrue sel.groupextend → Contains (sups y) z
       → Contains (superseders g zone sel z) y
-  superseder_listed y z extend there =
-      let names = subst (λ zs. Contains zs z) (sups_are g form zone.srel y) there in
-      subst (λ b. Contains (if b then filter (λ y. is_in (sup_of c y) z) (namers_for g.sysmods zone.srel z) else []) y)
-      (sym extend) (in_filter (λ y. is_in (sup_of c y) z) (namers_for g.sysmods zone.srel z) y
-      (super_listed g zone.srel y z names) (is_in_from_Contains (sup_of c y) z names))
+  superseder_listed y z extend names =
+      subst (λ b. Contains (if b then filter (λ y. is_in (sups y) z) (namers_for g.sysmods zone.srel z) else []) y)
+      (sym extend) (in_filter (λ y. is_in (sups y) z) (namers_for g.sysmods zone.srel z) y
+      (super_listed g zone.srel y z names) (is_in_from_Contains (sups y) z names))
 
   -- Where ids are asked for, what one of them brings is.
   module _ (seen : List Id) (sound : (z : Id) → Contains seen z → IsAsked g zone sel z) where
@@ -169,50 +165,72 @@ module _ (g : Global) (zone : Zone) (sel : Selection) (form : IsGlobal g) where
           | inr asked ↦ closed.part x (asked_grows x asked cands growing closed)
         ]
 
-    brought_asked : AppliedAre zone → (x z : Id) → AlwaysGrows x → Contains (brought_by g zone sel seen x) z
-        → IsAsked g zone sel z
-    brought_asked applied x z grows h = by (brought_called g zone sel seen x applied z h)
-      where
-        by : IsCalledFor g zone sel seen x z → IsAsked g zone sel z
-        by (inl asks) = wanted_asked x z grows (λ cands growing closed. asks_needed g zone sel form cands x z
-            (asks_more g zone sel (taken_up g zone sel seen) cands x z
-            (λ f taken. taken_candidate f taken cands growing closed) asks))
-        by (inr (y, y_grows, is_free, within)) =
-            wanted_asked y z (grown_grows y y_grows) (λ cands growing closed. inl (needed_for g zone sel form cands x y
-            z (closed.part x (grows cands growing closed)) is_free within))
+    asks_for : (y z : Id) → AlwaysGrows y → Asks g zone sel (taken_up g zone sel seen) y z → IsAsked g zone sel z
+    asks_for y z grows asks = wanted_asked y z grows (λ cands growing closed.
+        asks_needed g zone sel cands y z (asks_more g zone sel (taken_up g zone sel seen) cands y z
+        (λ f taken. taken_candidate f taken cands growing closed) asks))
 
-    asked_next : AppliedAre zone → (z w : Id) → IsAsked g zone sel z → Contains (next_asked g zone sel seen z) w
+    own_is_asked : AppliedAre zone → (x z : Id) → AlwaysGrows x → Contains (own_asked g zone sel seen x) z
+        → IsAsked g zone sel z
+    own_is_asked applied x z grows h = asks_for x z grows (own_asks g zone sel seen applied x z h)
+
+    namers_are_asked : (f z : Id) → IsTrue (taken_up g zone sel seen f)
+        → Contains (asked_by_namers g zone sel seen f) z → IsAsked g zone sel z
+    namers_are_asked f z is h =
+        let from = namers_ask g zone sel seen f z is h in
+        asks_for from.0 z (grown_grows from.0 from.1) from.2
+
+    -- what is brought by one that is asked for and open
+    brought_asked : AppliedAre zone → (x z : Id) → Contains seen x → IsTrue (is_open g zone sel x)
+        → Contains (brought_by g zone sel seen x) z → IsAsked g zone sel z
+    brought_asked applied x z there opened h =
+        elim (Contains-append_cases (if is_growing_start g zone sel x then [] else own_asked g zone sel seen x)
+        (if is_start g zone sel x then [] else asked_by_namers g zone sel seen x) z h)
+        [ inl own ↦ by_own (is_growing_start g zone sel x) own | inr others ↦ by_others (is_start g zone sel x) others ]
+      where
+        both : IsTrue (is_in seen x && is_open g zone sel x)
+        both = and_from (is_in seen x) (is_open g zone sel x) (is_in_from_Contains seen x there) opened
+
+        by_own : (b : Bool) → Contains (if b then [] else own_asked g zone sel seen x) z → IsAsked g zone sel z
+        by_own true none = absurd (none_in z none)
+        by_own false own = own_is_asked applied x z (asked_grows x both) own
+
+        by_others : (b : Bool) → Contains (if b then [] else asked_by_namers g zone sel seen x) z → IsAsked g zone sel z
+        by_others true none = absurd (none_in z none)
+        by_others false others = namers_are_asked x z
+            (or_right (is_start g zone sel x) (is_in seen x && is_open g zone sel x) both) others
+
+    asked_next : AppliedAre zone → (z w : Id) → Contains seen z → Contains (next_asked g zone sel seen z) w
         → IsAsked g zone sel w
-    asked_next applied z w asks h =
+    asked_next applied z w there h =
         elim (Contains-append_cases (if is_open g zone sel z then brought_by g zone sel seen z else [])
         (superseders g zone sel z) w h)
-        [ inl own ↦ by (is_open g zone sel z) refl own | inr over ↦ over_asked w z asks over ]
+        [ inl own ↦ by (is_open g zone sel z) refl own | inr over ↦ over_asked w z (sound z there) over ]
       where
         by : (b : Bool) → is_open g zone sel z ≡ b → Contains (if b then brought_by g zone sel seen z else []) w
             → IsAsked g zone sel w
         by false e none = absurd (none_in w none)
-        by true e there = brought_asked applied z w (λ cands growing closed. asks cands growing closed z e (inl refl))
-            there
+        by true e brought = brought_asked applied z w there e brought
 
   none_asked : (z : Id) → Contains {X = Id} [] z → IsAsked g zone sel z
   none_asked z none = absurd (none_in z none)
 
-  -- what one of the start brings is asked for
+  -- what one of the start asks for is asked for
   first_asked : AppliedAre zone → (x z : Id) → IsTrue (is_start g zone sel x) → Contains (asked_first g zone sel x) z
       → IsAsked g zone sel z
   first_asked applied x z start h = by (sel.groupextend || is_in sel.group x) refl h
     where
       by : (b : Bool) → (sel.groupextend || is_in sel.group x) ≡ b
-          → Contains (if b then brought_by g zone sel [] x else []) z
+          → Contains (if b then own_asked g zone sel [] x else []) z
           → IsAsked g zone sel z
       by false e none = absurd (none_in z none)
-      by true e there = brought_asked [] none_asked applied x z (λ cands growing closed. closed.growing_start x
+      by true e there = own_is_asked [] none_asked applied x z (λ cands growing closed. closed.growing_start x
           (and_from (is_start g zone sel x) (sel.groupextend || is_in sel.group x) start e)) there
 
-  brought_first : (x z : Id) → IsTrue (is_growing_start g zone sel x) → Contains (brought_by g zone sel [] x) z
+  own_first : (x z : Id) → IsTrue (is_growing_start g zone sel x) → Contains (own_asked g zone sel [] x) z
       → Contains (asked_first g zone sel x) z
-  brought_first x z grows brought = subst (λ b. Contains (if b then brought_by g zone sel [] x else []) z)
-      (sym (growing_starts x grows).1) brought
+  own_first x z grows own = subst (λ b. Contains (if b then own_asked g zone sel [] x else []) z)
+      (sym (growing_starts x grows).1) own
 
   pub growth_start : AppliedAre zone → (start seen : List Id)
       → ((x : Id) → Contains start x ↔ IsTrue (is_start g zone sel x))
@@ -228,8 +246,8 @@ module _ (g : Global) (zone : Zone) (sel : Selection) (form : IsGlobal g) where
       ];
       asked = λ x z grows asks. adds.has z (in_flat (asked_first g zone sel) start x z
           ((starts x).1 (growing_starts x (first x grows)).0)
-          (brought_first x z (first x grows) (asked_brought g zone sel [] x applied z
-          (asks_from g zone sel form (taken_up g zone sel []) x z asks))));
+          (own_first x z (first x grows) (own_has g zone sel [] applied x z
+          (asks_from g zone sel (taken_up g zone sel []) x z asks))));
       over = λ y z extend none names. absurd (none_in z none);
     };
   }
@@ -266,39 +284,66 @@ module _ (g : Global) (zone : Zone) (sel : Selection) (form : IsGlobal g) where
         (Contains-append_left (if is_open g zone sel d then brought_by g zone sel old d else []) (superseders g zone sel
         d) z (subst (λ b. Contains (if b then brought_by g zone sel old d else []) z) (sym opened) h))
 
+    own_in : IsTrue (is_open g zone sel d) → is_growing_start g zone sel d ≡ false → (z : Id)
+        → Contains (own_asked g zone sel old d) z → Contains new z
+    own_in opened other z h = brought_in opened z
+        (Contains-append_left (if is_growing_start g zone sel d then [] else own_asked g zone sel old d)
+        (if is_start g zone sel d then [] else asked_by_namers g zone sel old d) z
+        (subst (λ b. Contains (if b then [] else own_asked g zone sel old d) z) (sym other) h))
+
+    others_in : IsTrue (is_open g zone sel d) → is_start g zone sel d ≡ false → (z : Id)
+        → Contains (asked_by_namers g zone sel old d) z → Contains new z
+    others_in opened other z h = brought_in opened z
+        (Contains-append_right (if is_growing_start g zone sel d then [] else own_asked g zone sel old d)
+        (if is_start g zone sel d then [] else asked_by_namers g zone sel old d) z
+        (subst (λ b. Contains (if b then [] else asked_by_namers g zone sel old d) z) (sym other) h))
+
+    -- a candidate by what is done is one by what is seen
+    by_now : (f : Id) → IsTrue (taken_up g zone sel done f) → IsTrue (taken_up g zone sel old f)
+    by_now f = with_more (is_start g zone sel) (is_open g zone sel) done old f (done_seen f)
+
     -- what one that had grown before asks for by now
     before : (x z : Id) → IsTrue (has_grown g zone sel (take n old) x)
         → Contains (asked_by g zone sel (taken_up g zone sel done) x) z → Contains new z
-    before x z grows asks =
-        by (asks_with g zone sel (taken_up g zone sel done) (taken_up g zone sel (take n old)) x z
-        (asks_from g zone sel form (taken_up g zone sel done) x z asks))
+    before x z grows asks = by (asks_with g zone sel (taken_up g zone sel done) (taken_up g zone sel (take n old)) x z
+        (asks_from g zone sel (taken_up g zone sel done) x z asks))
       where
-        by : Asks g zone sel (taken_up g zone sel (take n old)) x z
-            ⊎ ((f : Id) × IsTrue (taken_up g zone sel done f) × (taken_up g zone sel (take n old) f ≡ false)
-            × IsTrue (not (is_supplied zone z)) × Contains (if_reqs c (bytes_eq f) x) z) → Contains new z
-        by (inl same) = stays z
-            (has.asked x z grows (asks_asked g zone sel form (taken_up g zone sel (take n old)) x z same))
-        by (inr (f, taken, other, is_free, within)) =
+        through : (f : Id) → IsTrue (taken_up g zone sel done f) → taken_up g zone sel (take n old) f ≡ false
+            → AsksThrough g zone sel (taken_up g zone sel done) f x z → Contains new z
+        through f taken other asks_so =
             elim (with_one (is_start g zone sel) (is_open g zone sel) (take n old) d f taken) [
               | inl was ↦ absurd (true≢false (sym was ∙ other))
-              | inr (same, opened) ↦ brought_in opened z (grower_states g zone sel old d x z
+              | inr (same, opened) ↦ others_in opened (left_false (is_start g zone sel d)
+                  (is_in (take n old) d && is_open g zone sel d) (ap (taken_up g zone sel (take n old)) same ∙ other)) z
+                  (namers_have g zone sel old d x z
                   (with_more (is_growing_start g zone sel) (is_open g zone sel) (take n old) old x (was_seen x) grows)
-                  is_free (subst (λ w. Contains (if_reqs c (bytes_eq w) x) z) (sym same) within))
+                  (through_still g zone sel (taken_up g zone sel done) (taken_up g zone sel old) d x z by_now
+                  (subst (λ w. AsksThrough g zone sel (taken_up g zone sel done) w x z) (sym same) asks_so)))
             ]
+
+        by : Asks g zone sel (taken_up g zone sel (take n old)) x z
+            ⊎ ((f : Id) × IsTrue (taken_up g zone sel done f) × (taken_up g zone sel (take n old) f ≡ false)
+            × AsksThrough g zone sel (taken_up g zone sel done) f x z) → Contains new z
+        by (inl same) = stays z
+            (has.asked x z grows (asks_asked g zone sel (taken_up g zone sel (take n old)) x z same))
+        by (inr (f, taken, other, asks_so)) = through f taken other asks_so
 
     -- what it asks for itself
     itself : IsTrue (is_open g zone sel d) → (z : Id) → Contains (asked_by g zone sel (taken_up g zone sel done) d) z
         → Contains new z
-    itself opened z asks = brought_in opened z (asked_brought g zone sel old d applied z
-        (asks_more g zone sel (taken_up g zone sel done) (taken_up g zone sel old) d z
-        (λ f. with_more (is_start g zone sel) (is_open g zone sel) done old f (done_seen f))
-        (asks_from g zone sel form (taken_up g zone sel done) d z asks)))
+    itself opened z asks = elim (either (is_growing_start g zone sel d)) [
+      | inl first ↦ before d z
+          (or_left (is_growing_start g zone sel d) (is_in (take n old) d && is_open g zone sel d) first) asks
+      | inr other ↦ own_in opened other z (own_has g zone sel old applied d z
+          (asks_more g zone sel (taken_up g zone sel done) (taken_up g zone sel old) d z by_now
+          (asks_from g zone sel (taken_up g zone sel done) d z asks)))
+    ]
 
     has_more : HasAsked g zone sel done new
     has_more = record {
       sound = λ z h. elim (adds_cases old (next_asked g zone sel old d) new adds z h) [
         | inl was ↦ has.sound z was
-        | inr named ↦ asked_next old has.sound applied d z (has.sound d d_seen) named
+        | inr named ↦ asked_next old has.sound applied d z d_seen named
       ];
       asked = λ x z grows asks.
           elim (with_one (is_growing_start g zone sel) (is_open g zone sel) (take n old) d x grows) [
@@ -381,9 +426,9 @@ module _ (g : Global) (zone : Zone) (sel : Selection) (form : IsGlobal g) where
     grower_open x h = elim (grower x h) [ inl l ↦ start_open x (growing_starts x l).0 | inr r ↦ (grown_in x r).1 ]
 
     asked_seen : (x z : Id) → IsTrue (grows x) → Contains (asked_by g zone sel (is_in ids) x) z → Contains seen z
-    asked_seen x z h asks = asked.asked x z h (asks_asked g zone sel form (taken_up g zone sel seen) x z
+    asked_seen x z h asks = asked.asked x z h (asks_asked g zone sel (taken_up g zone sel seen) x z
         (asks_more g zone sel (is_in ids) (taken_up g zone sel seen) x z candidate_taken
-        (asks_from g zone sel form (is_in ids) x z asks)))
+        (asks_from g zone sel (is_in ids) x z asks)))
 
     over_seen : IsTrue sel.groupextend → (y z : Id) (between : List Id) → Leads sups y between z
         → Contains seen z → Contains seen y

@@ -1,23 +1,11 @@
 -- What a filter keeps, and tests of what it keeps.
-use Rattle.std.proofs.Common.{◌≡◌, ◌<◌, ◌+◌, ℕ, length, take, get_or, Bool, true, false, not, ◌&&◌, ◌||◌, List, [], ◌∷◌}
-use Rattle.std.proofs.Common.{◌++◌, map, filter, cond, if◌then◌else◌, refl, sym, ap, ◌∙◌, append_assoc}
-use Rattle.std.specs.List.{list_all, list_any, flat_map}
+use Rattle.std.proofs.Common.{◌≡◌, ◌<◌, ◌+◌, ℕ, length, take, get_or, Bool, true, false, ◌&&◌, ◌||◌, List, [], ◌∷◌}
+use Rattle.std.proofs.Common.{◌++◌, filter, cond, if◌then◌else◌, refl, sym, ap, ◌∙◌, append_assoc}
+use Rattle.std.specs.List.{list_any, flat_map}
 use Rattle.std.proofs.lemmas.Grind.{flat_map-append}
-use Rattle.std.proofs.lemmas.List.{append-nil}
+use Rattle.std.proofs.lemmas.List.{append-nil, take_more}
 use Rattle.std.proofs.lemmas.List.Folds.{list_any-append}
 use Rattle.std.proofs.lemmas.List.Elements.{filter_more}
-
--- a test of all that is kept, item by item
-pub all_kept : {X Y : Type 0} (p : X → Bool) (f : X → Y) (q : Y → Bool) (xs : List X)
-    → list_all (λ x. not (p x) || q (f x)) xs ≡ list_all q (map f (filter p xs))
-all_kept p f q [] = refl
-all_kept p f q (x ∷ xs) = by (all_kept p f q xs) (p x)
-  where
-    by : list_all (λ x. not (p x) || q (f x)) xs ≡ list_all q (map f (filter p xs)) → (b : Bool)
-        → ((not b || q (f x)) && list_all (λ x. not (p x) || q (f x)) xs) ≡ list_all q
-        (map f (cond b (x ∷ filter p xs) (filter p xs)))
-    by rest true = ap (λ r. q (f x) && r) rest
-    by rest false = rest
 
 -- a test of the items of what is kept
 pub any_kept : {X Y : Type 0} (p : X → Bool) (f : X → List Y) (q : Y → Bool) (xs : List X)
@@ -55,3 +43,26 @@ kept_more p f xs i x below at old seen new more so_far =
     next = ap (flat_map f) (filter_next p xs i x below at)
         ∙ flat_map-append f (filter p (take i xs)) (cond (p x) (x ∷ []) [])
         ∙ ap (λ ys. flat_map f (filter p (take i xs)) ++ ys) (one (p x))
+
+-- what is made of the items so far, at one item more
+pub flat_more : {X Y : Type 0} (f : X → List Y) (xs : List X) (i : ℕ) (x : X) → i < length xs
+    → x ≡ get_or xs i x → (old seen new : List Y) → new ≡ seen ++ f x
+    → seen ≡ old ++ flat_map f (take i xs) → new ≡ old ++ flat_map f (take (i + 1) xs)
+flat_more f xs i x below at old seen new more so_far =
+    more ∙ ap (λ ys. ys ++ f x) so_far ∙ append_assoc old (flat_map f (take i xs)) (f x)
+    ∙ ap (λ ys. old ++ ys) (sym next)
+  where
+    next : flat_map f (take (i + 1) xs) ≡ flat_map f (take i xs) ++ f x
+    next = ap (flat_map f) (take_more xs i x below ∙ ap (λ y. take i xs ++ y ∷ []) (sym at))
+        ∙ flat_map-append f (take i xs) (x ∷ [])
+        ∙ ap (λ ys. flat_map f (take i xs) ++ ys) (append-nil (f x))
+
+-- two filters are one
+pub filter_both : {X : Type 0} (p q : X → Bool) (xs : List X) → filter (λ x. p x && q x) xs ≡ filter q (filter p xs)
+filter_both p q [] = refl
+filter_both p q (x ∷ xs) = by (filter_both p q xs) (p x) refl
+  where
+    by : filter (λ x. p x && q x) xs ≡ filter q (filter p xs) → (b : Bool) → p x ≡ b
+        → filter (λ x. p x && q x) (x ∷ xs) ≡ filter q (filter p (x ∷ xs))
+    by rest true e = rw e (ap (λ l. cond (q x) (x ∷ l) l) rest)
+    by rest false e = rw e rest

@@ -2,7 +2,6 @@ pub mod Kept
 pub mod Adds
 pub mod Opened
 pub mod ErrorReasons
-pub mod OneVer
 pub mod Needs
 pub mod Listed
 pub mod Brought

@@ -3,7 +3,6 @@ use Rattle.std.proofs.Common.{◌≡◌, inl, inr, Bool, true, false, List, [], 
 use Rattle.std.proofs.Common.{filter, Option, None, Some, Contains, IsTrue, refl, sym}
 use Rattle.std.proofs.Common.{subst, ap, ◌∙◌}
 use Rattle.std.specs.List.{flat_map, list_any}
-use Rattle.std.specs.Prelude.{slice_get}
 use Rattle.std.specs.Option.{option_map_or}
 use Rattle.std.specs.Str.{bytes_eq}
 use Rattle.std.proofs.lemmas.Bool.{or_left, or_right}
@@ -11,16 +10,15 @@ use Rattle.std.proofs.lemmas.List.Elements.{Contains-append_left, Contains-appen
 use Rattle.terms.specs.Types.{Text, Id, IfReq, Ver, Sysmod, Global}
 use Rattle.terms.specs.Lookups.{at_most_one, sysmod_of}
 use Rattle.terms.specs.Lookups.{is_in}
-use Rattle.terms.specs.Choice.{ifs_of, sup_of, first_ver}
+use Rattle.terms.specs.Choice.{vers_of}
+use Rattle.terms.specs.Candidates.{sups_for}
 use Rattle.terms.specs.Global.{named, named_functions, names_for}
-use Rattle.terms.specs.Conditions.{if_reqs}
-use Rattle.lemmas.proofs.Members.{here, none_in, here_or, in_map, in_filter, filter_in, in_flat}
+use Rattle.lemmas.proofs.Members.{here, none_in, here_or, in_map, in_filter, filter_in, flat_in, in_flat}
 use Rattle.lemmas.proofs.Searches.{find_gives}
 use Rattle.lemmas.proofs.Texts.{same_from}
 use Rattle.sysmods_received.specs.Held.{zone_of}
 use Rattle.sysmods_received.specs.Namers.{namers_for, names_as_function, function_namers}
 use Rattle.terms.proofs.Ids.{is_in_from_Contains}
-use Rattle.select.proofs.Needs.{if_in}
 
 -- What names anything in a ++VER that counts is received.
 abbrev of_srel : Text → Ver → Bool
@@ -32,21 +30,20 @@ listed g y s e =
     subst (Contains (map (λ s. s.id) g.sysmods)) (same_from s.id y gives.0) (in_map (λ s. s.id) g.sysmods s gives.1)
 
 -- What supersedes an id directly names it.
-pub super_listed : (g : Global) (srel : Text) (y z : Id) → Contains (sup_of (first_ver g srel) y) z
+pub super_listed : (g : Global) (srel : Text) (y z : Id) → Contains (sups_for g srel y) z
     → Contains (namers_for g.sysmods srel z) y
 super_listed g srel y z names = by (sysmod_of g y) refl names
   where
     in_named : (v : Ver) → Contains v.sup z → Contains (named v) z
     in_named v h = Contains-append_left (v.pre ++ v.sup) (at_most_one v.fmid) z (Contains-append_right v.pre v.sup z h)
 
-    among : (vs : List Ver) → Contains (option_map_or (λ v. v.sup) (slice_get vs 0) []) z
-        → Contains (flat_map named vs) z
-    among [] none = absurd (none_in z none)
-    among (v ∷ vs) h = in_flat named (v ∷ vs) v z (here v vs) (in_named v h)
+    among : (vs : List Ver) → Contains (flat_map (λ v. v.sup) vs) z → Contains (flat_map named vs) z
+    among vs h =
+        let from = flat_in (λ v. v.sup) vs z h in
+        in_flat named vs from.0 z from.1 (in_named from.0 from.2)
 
     by : (o : Option Sysmod) → sysmod_of g y ≡ o
-        → Contains (option_map_or (λ v. v.sup)
-        (slice_get (option_map_or (λ s. filter (of_srel srel) s.vers) o []) 0) []) z
+        → Contains (flat_map (λ v. v.sup) (option_map_or (λ s. filter (of_srel srel) s.vers) o [])) z
         → Contains (namers_for g.sysmods srel z) y
     by None e none = absurd (none_in z none)
     by (Some s) e h =
@@ -63,44 +60,28 @@ some_from p (y ∷ ys) x h passes = elim (here_or y ys x h) [
   | inr later ↦ or_right (p y) (list_any p ys) (some_from p ys x later passes)
 ]
 
--- What has an ++IF for a function names it as a function.
-pub if_listed : (g : Global) (srel : Text) (y : Id) (i : IfReq) → Contains (ifs_of (first_ver g srel) y) i
-    → Contains (function_namers g.sysmods i.function) y
-if_listed g srel y i has = by (sysmod_of g y) refl has
+-- An FMID and the function of an ++IF are named as functions.
+pub fmid_named : (v : Ver) (f : Id) → v.fmid ≡ Some f → IsTrue (is_in (named_functions v) f)
+fmid_named v f at = is_in_from_Contains (named_functions v) f
+    (Contains-append_left (v.del ++ at_most_one v.fmid) (map (λ i. i.function) v.ifs) f
+    (Contains-append_right v.del (at_most_one v.fmid) f
+    (subst (λ o. Contains (at_most_one o) f) (sym at) (here f []))))
+
+pub if_named : (v : Ver) (i : IfReq) → Contains v.ifs i → IsTrue (is_in (named_functions v) i.function)
+if_named v i h = is_in_from_Contains (named_functions v) i.function
+    (Contains-append_right (v.del ++ at_most_one v.fmid) (map (λ i. i.function) v.ifs) i.function
+    (in_map (λ (i : IfReq). i.function) v.ifs i h))
+
+-- What has a ++VER that names a function so is among its namers.
+pub function_listed : (g : Global) (srel : Text) (y f : Id) (v : Ver) → Contains (vers_of g srel y) v
+    → IsTrue (is_in (named_functions v) f) → Contains (function_namers g.sysmods f) y
+function_listed g srel y f v there names = by (sysmod_of g y) refl there
   where
-    f : Id
-    f = i.function
-
-    functions : (v : Ver) → Contains v.ifs i → IsTrue (is_in (named_functions v) f)
-    functions v h = is_in_from_Contains (named_functions v) f
-        (Contains-append_right (v.del ++ at_most_one v.fmid) (map (λ i. i.function) v.ifs) f
-        (in_map (λ i. i.function) v.ifs i h))
-
-    among : (vs : List Ver) → Contains (option_map_or (λ v. v.ifs) (slice_get (filter (of_srel srel) vs) 0) []) i
-        → list_any (λ v. is_in (named_functions v) f) vs ≡ true
-    among vs h = at (filter (of_srel srel) vs) refl h
-      where
-        at : (ws : List Ver) → filter (of_srel srel) vs ≡ ws
-            → Contains (option_map_or (λ v. v.ifs) (slice_get ws 0) []) i
-            → list_any (λ v. is_in (named_functions v) f) vs ≡ true
-        at [] e none = absurd (none_in i none)
-        at (v ∷ ws) e h =
-            some_from (λ v. is_in (named_functions v) f) vs v
-            (filter_in (of_srel srel) vs v (subst (λ ws. Contains ws v) (sym e) (here v ws))).0 (functions v h)
-
     by : (o : Option Sysmod) → sysmod_of g y ≡ o
-        → Contains (option_map_or (λ v. v.ifs)
-        (slice_get (option_map_or (λ s. filter (of_srel srel) s.vers) o []) 0) []) i
+        → Contains (option_map_or (λ s. filter (of_srel srel) s.vers) o []) v
         → Contains (function_namers g.sysmods f) y
-    by None e none = absurd (none_in i none)
+    by None e none = absurd (none_in v none)
     by (Some s) e h =
         in_filter (names_as_function g.sysmods f) (map (λ s. s.id) g.sysmods) y (listed g y s e)
-        (ap (λ o. option_map_or (λ s. list_any (λ v. is_in (named_functions v) f) s.vers) o false) e ∙ among s.vers h)
-
--- and so does what states anything for it
-pub stating_listed : (g : Global) (srel : Text) (x y z : Id) → Contains (if_reqs (first_ver g srel) (bytes_eq x) y) z
-    → Contains (function_namers g.sysmods x) y
-stating_listed g srel x y z h =
-    let from = if_in (first_ver g srel) (bytes_eq x) y z h in
-    subst (λ f. Contains (function_namers g.sysmods f) y) (sym (same_from x from.0.function from.2))
-    (if_listed g srel y from.0 from.1)
+        (ap (λ o. option_map_or (λ s. list_any (λ v. is_in (named_functions v) f) s.vers) o false) e
+        ∙ some_from (λ v. is_in (named_functions v) f) s.vers v (filter_in (of_srel srel) s.vers v h).0 names)

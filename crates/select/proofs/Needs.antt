@@ -1,84 +1,230 @@
--- What a SYSMOD needs, and what it asks for once it grows.
-use Rattle.std.proofs.Common.{◌≡◌, ◌⊎◌, inl, inr, Bool, true, false, not, ◌||◌, List, [], ◌++◌, map}
-use Rattle.std.proofs.Common.{filter, Contains, IsTrue, if◌then◌else◌, refl, sym}
-use Rattle.std.proofs.Common.{subst, ◌∙◌, true≢false}
+-- What a SYSMOD asks for where some ids are candidates, and where others are.
+use Rattle.std.proofs.Common.{◌≡◌, ◌⊎◌, inl, inr, Bool, true, false, not, ◌||◌, List, [], ◌++◌, Option, None, Some}
+use Rattle.std.proofs.Common.{filter, Contains, IsTrue, if◌then◌else◌, refl, sym, ap, subst, ◌∙◌, true≢false}
+use Rattle.std.specs.Option.{option_map_or}
 use Rattle.std.specs.Str.{bytes_eq}
-use Rattle.std.proofs.lemmas.Bool.{or_right}
+use Rattle.std.proofs.lemmas.Bool.{or_cases, or_left, or_right}
 use Rattle.std.proofs.lemmas.List.Elements.{Contains-append_left, Contains-append_right, Contains-append_cases}
-use Rattle.terms.specs.Types.{Id, IfReq, Global, Zone, Selection}
-use Rattle.terms.specs.declared.kinds.HoldKind.TheVariants.{Error}
-use Rattle.terms.specs.Lookups.{at_most_one, is_applied, is_supplied, is_function, applied_ids, holds_of}
-use Rattle.terms.specs.Choice.{Choice, fmid_of, pre_of, req_of, ifs_of, first_ver}
-use Rattle.terms.specs.Global.{IsGlobal}
-use Rattle.terms.specs.Candidates.{needed_ids, open_reasons}
-use Rattle.terms.specs.Conditions.{if_reqs, stated_for, if_needed}
-use Rattle.lemmas.proofs.Members.{none_in, filter_in, in_filter, flat_in, in_flat}
+use Rattle.terms.specs.Types.{Id, IfReq, Ver, Global, Zone, Selection}
+use Rattle.terms.specs.Lookups.{is_in, at_most_one, is_applied, is_supplied, is_function, applied_ids}
+use Rattle.terms.specs.Choice.{vers_of, fits, counting}
+use Rattle.terms.specs.Candidates.{fmids_for, required_by, needed_ids, open_reasons}
+use Rattle.terms.specs.Conditions.{reqs_where, stated_for}
+use Rattle.terms.proofs.Ids.{is_in_from_Contains}
+use Rattle.lemmas.proofs.Members.{none_in, here, filter_in, in_filter, flat_in, in_flat}
 use Rattle.lemmas.proofs.Texts.{same_from, same_itself}
-use Rattle.select.specs.Growing.{asked_by}
-use Rattle.select.proofs.OneVer.{needed_are}
+use Rattle.sysmods_received.specs.Namers.{function_namers}
+use Rattle.select.specs.Growing.{asked_by, open_fmids, own_requisites, required_through}
+use Rattle.select.proofs.Listed.{function_listed, fmid_named, if_named}
 
--- The requisites of ++IFs whose function passes.
-pub if_in : (c : Choice) (p : Id → Bool) (x z : Id) → Contains (if_reqs c p x) z
-    → (i : IfReq) × Contains (ifs_of c x) i × IsTrue (p i.function) × Contains i.req z
-if_in c p x z h =
-    let from = flat_in (λ i. i.req) (filter (λ i. p i.function) (ifs_of c x)) z h in
-    let kept = filter_in (λ i. p i.function) (ifs_of c x) from.0 from.1 in
-    (from.0, kept.0, kept.1, from.2)
+-- a value that is one or the other
+pub either : (b : Bool) → (b ≡ true) ⊎ (b ≡ false)
+either true = inl refl
+either false = inr refl
 
-pub in_if : (c : Choice) (p : Id → Bool) (x z : Id) (i : IfReq) → Contains (ifs_of c x) i → IsTrue (p i.function)
-    → Contains i.req z → Contains (if_reqs c p x) z
-in_if c p x z i there passes within =
-    in_flat (λ i. i.req) (filter (λ i. p i.function) (ifs_of c x)) i z
-    (in_filter (λ i. p i.function) (ifs_of c x) i there passes) within
+module _ (zone : Zone) where
+  abbrev there_with : (Id → Bool) → Id → Bool
+  there_with cands f = is_applied zone f || cands f
 
--- those of one test are those of another, or those of a function that passes the first alone
-pub if_split : (c : Choice) (p q : Id → Bool) (x z : Id) → Contains (if_reqs c p x) z
-    → Contains (if_reqs c q x) z
-    ⊎ ((f : Id) × IsTrue (p f) × (q f ≡ false) × Contains (if_reqs c (bytes_eq f) x) z)
-if_split c p q x z h = let from = if_in c p x z h in by from (q from.0.function) refl
-  where
-    by : (from : (i : IfReq) × Contains (ifs_of c x) i × IsTrue (p i.function) × Contains i.req z) → (b : Bool)
-        → q from.0.function ≡ b
-        → Contains (if_reqs c q x) z
-        ⊎ ((f : Id) × IsTrue (p f) × (q f ≡ false) × Contains (if_reqs c (bytes_eq f) x) z)
-    by (i, at, passes, within) true e = inl (in_if c q x z i at e within)
-    by (i, at, passes, within) false e = inr (
-      i.function,
-      passes,
-      e,
-      in_if c (bytes_eq i.function) x z i at
-          (same_itself i.function) within,
-    )
+  -- a function that is there with some candidates is there with others, or is a candidate of the first alone
+  there_split : (cands others : Id → Bool) (f : Id) → IsTrue (there_with cands f)
+      → IsTrue (there_with others f) ⊎ (IsTrue (cands f) × (others f ≡ false))
+  there_split cands others f h = elim (or_cases (is_applied zone f) (cands f) h) [
+    | inl on ↦ inl (or_left (is_applied zone f) (others f) on)
+    | inr is ↦ elim (either (others f)) [
+      | inl too ↦ inl (or_right (is_applied zone f) (others f) too)
+      | inr off ↦ inr (is, off)
+    ]
+  ]
+
+  fits_split : (cands others : Id → Bool) (v : Ver) → IsTrue (fits zone cands v)
+      → IsTrue (fits zone others v) ⊎ ((f : Id) × (v.fmid ≡ Some f) × IsTrue (cands f) × (others f ≡ false))
+  fits_split cands others v = by v.fmid refl
+    where
+      by : (o : Option Id) → v.fmid ≡ o → IsTrue (option_map_or (there_with cands) o true)
+          → IsTrue (option_map_or (there_with others) v.fmid true)
+          ⊎ ((f : Id) × (v.fmid ≡ Some f) × IsTrue (cands f) × (others f ≡ false))
+      by None e h = inl (subst (λ o. IsTrue (option_map_or (there_with others) o true)) (sym e) refl)
+      by (Some f) e h = elim (there_split cands others f h) [
+        | inl too ↦ inl (subst (λ o. IsTrue (option_map_or (there_with others) o true)) (sym e) too)
+        | inr (is, off) ↦ inr (f, e, is, off)
+      ]
+
+  required_split : (cands others : Id → Bool) (v : Ver) (z : Id) → Contains (required_by zone cands v) z
+      → Contains (required_by zone others v) z
+      ⊎ ((i : IfReq) × Contains v.ifs i × Contains i.req z × IsTrue (cands i.function) × (others i.function ≡ false))
+  required_split cands others v z h =
+      elim (Contains-append_cases (v.pre ++ v.req) (reqs_where (there_with cands) v.ifs) z h) [
+        | inl names ↦ inl (Contains-append_left (v.pre ++ v.req) (reqs_where (there_with others) v.ifs) z names)
+        | inr ifs ↦ (
+            let from = flat_in (λ (i : IfReq). i.req) (filter (λ i. there_with cands i.function) v.ifs) z ifs in
+            let kept = filter_in (λ i. there_with cands i.function) v.ifs from.0 from.1 in
+            elim (there_split cands others from.0.function kept.1) [
+              | inl too ↦ inl (Contains-append_right (v.pre ++ v.req) (reqs_where (there_with others) v.ifs) z
+                  (in_flat (λ i. i.req) (filter (λ i. there_with others i.function) v.ifs) from.0 z
+                  (in_filter (λ i. there_with others i.function) v.ifs from.0 kept.0 too) from.2))
+              | inr (is, off) ↦ inr (from.0, kept.0, from.2, is, off)
+            ])
+      ]
+
+  -- with more candidates no ++VER fits less or requires less
+  module _ (cands others : Id → Bool) (more : (f : Id) → IsTrue (cands f) → IsTrue (others f)) (v : Ver) where
+    fits_more : IsTrue (fits zone cands v) → IsTrue (fits zone others v)
+    fits_more fit = elim (fits_split cands others v fit) [
+      | inl too ↦ too
+      | inr (f, _, is, off) ↦ absurd (true≢false (sym (more f is) ∙ off))
+    ]
+
+    required_more : (z : Id) → Contains (required_by zone cands v) z → Contains (required_by zone others v) z
+    required_more z h = elim (required_split cands others v z h) [
+      | inl too ↦ too
+      | inr (i, _, _, is, off) ↦ absurd (true≢false (sym (more i.function is) ∙ off))
+    ]
+
+    through_more : (f z : Id) → Contains (required_through zone cands f v) z
+        → Contains (required_through zone others f v) z
+    through_more f z = by (is_in (at_most_one v.fmid) f)
+      where
+        by : (b : Bool) → Contains (if b then required_by zone cands v else reqs_where (bytes_eq f) v.ifs) z
+            → Contains (if b then required_by zone others v else reqs_where (bytes_eq f) v.ifs) z
+        by true h = required_more z h
+        by false h = h
+
+  -- What it requires by its FMID or by the function of an ++IF, and back.
+  module _ (cands : Id → Bool) (v : Ver) (z : Id) where
+    through_fmid : (f : Id) → v.fmid ≡ Some f → Contains (required_by zone cands v) z
+        → Contains (required_through zone cands f v) z
+    through_fmid f at h =
+        subst (λ b. Contains (if b then required_by zone cands v else reqs_where (bytes_eq f) v.ifs) z) (sym named) h
+      where
+        named : is_in (at_most_one v.fmid) f ≡ true
+        named = ap (λ o. is_in (at_most_one o) f) at ∙ is_in_from_Contains (at_most_one (Some f)) f (here f [])
+
+    through_if : (i : IfReq) → Contains v.ifs i → Contains i.req z → Contains (required_by zone cands v) z
+        → Contains (required_through zone cands i.function v) z
+    through_if i has states h = by (is_in (at_most_one v.fmid) i.function)
+      where
+        by : (b : Bool)
+            → Contains (if b then required_by zone cands v else reqs_where (bytes_eq i.function) v.ifs) z
+        by true = h
+        by false = in_flat (λ (j : IfReq). j.req) (filter (λ j. bytes_eq i.function j.function) v.ifs) i z
+            (in_filter (λ j. bytes_eq i.function j.function) v.ifs i has (same_itself i.function)) states
+
+    pub through_required : (f : Id) → IsTrue (cands f) → Contains (required_through zone cands f v) z
+        → Contains (required_by zone cands v) z
+    through_required f is = by (is_in (at_most_one v.fmid) f)
+      where
+        by : (b : Bool) → Contains (if b then required_by zone cands v else reqs_where (bytes_eq f) v.ifs) z
+            → Contains (required_by zone cands v) z
+        by true h = h
+        by false h =
+            let from = flat_in (λ (i : IfReq). i.req) (filter (λ i. bytes_eq f i.function) v.ifs) z h in
+            let kept = filter_in (λ i. bytes_eq f i.function) v.ifs from.0 from.1 in
+            Contains-append_right (v.pre ++ v.req) (reqs_where (there_with cands) v.ifs) z
+            (in_flat (λ (i : IfReq). i.req) (filter (λ i. there_with cands i.function) v.ifs) from.0 z
+            (in_filter (λ i. there_with cands i.function) v.ifs from.0 kept.0
+            (or_right (is_applied zone from.0.function) (cands from.0.function)
+            (subst (λ w. IsTrue (cands w)) (same_from f from.0.function kept.1) is))) from.2)
 
 module _ (g : Global) (zone : Zone) (sel : Selection) where
-  abbrev c : Choice
-  c = first_ver g zone.srel
-
   abbrev free : Id → Bool
   free z = not (is_supplied zone z)
 
   abbrev fmids : Id → List Id
-  fmids x = filter (λ z. not (is_applied zone z)) (at_most_one (fmid_of c x))
-
-  abbrev with_ifs : (Id → Bool) → Id → Bool
-  with_ifs cands f = is_applied zone f || cands f
-
-  abbrev error_reasons : Id → List Id
-  error_reasons x = map (λ h. h.reason) (holds_of g Error x)
+  fmids x = open_fmids zone (fmids_for g zone.srel x)
 
   abbrev for_function : Id → List Id
-  for_function x = if is_function g x then stated_for c (applied_ids zone) x else []
-
-  abbrev all_listed : (Id → Bool) → Id → List Id
-  all_listed cands x = pre_of c x ++ req_of c x ++ if_needed g c zone cands x
+  for_function x = if is_function g x then stated_for (counting g zone []) (applied_ids zone) x else []
 
   -- by which operand it asks for an id
   pub data Asks (cands : Id → Bool) (x z : Id) : Type 0 where
     Fmid : Contains (fmids x) z → Asks cands x z
-    Listed : IsTrue (free z) → Contains (pre_of c x ++ req_of c x) z → Asks cands x z
-    ByIf : IsTrue (free z) → Contains (if_reqs c (with_ifs cands) x) z → Asks cands x z
+    Required : IsTrue (free z) → (v : Ver) → Contains (vers_of g zone.srel x) v → IsTrue (fits zone cands v)
+        → Contains (required_by zone cands v) z → Asks cands x z
     Stated : IsTrue (free z) → Contains (for_function x) z → Asks cands x z
     Reason : IsTrue sel.groupextend → Contains (open_reasons g zone x) z → Asks cands x z
+
+  -- the requisites of a ++VER that fits
+  pub in_own : (cands : Id → Bool) (x z : Id) (v : Ver) → Contains (vers_of g zone.srel x) v
+      → IsTrue (fits zone cands v) → Contains (required_by zone cands v) z → Contains (own_requisites g zone cands x) z
+  in_own cands x z v there fit within =
+      in_flat (required_by zone cands) (filter (fits zone cands) (vers_of g zone.srel x)) v z
+      (in_filter (fits zone cands) (vers_of g zone.srel x) v there fit) within
+
+  pub own_in : (cands : Id → Bool) (x z : Id) → IsTrue (free z) → Contains (own_requisites g zone cands x) z
+      → Asks cands x z
+  own_in cands x z is_free h =
+      let from = flat_in (required_by zone cands) (filter (fits zone cands) (vers_of g zone.srel x)) z h in
+      let kept = filter_in (fits zone cands) (vers_of g zone.srel x) from.0 from.1 in
+      Required is_free from.0 kept.0 kept.1 from.2
+
+  -- it asks for an id by this function, with a ++VER that fits
+  pub record AsksThrough (cands : Id → Bool) (f x z : Id) : Type 0 where
+    pub named : Contains (function_namers g.sysmods f) x
+    pub is_free : IsTrue (free z)
+    pub ver : Ver
+    pub there : Contains (vers_of g zone.srel x) ver
+    pub fit : IsTrue (fits zone cands ver)
+    pub within : Contains (required_through zone cands f ver) z
+
+  -- With other candidates it asks for the same, or it does so by a function that is a candidate here alone.
+  pub asks_with : (cands others : Id → Bool) (x z : Id) → Asks cands x z
+      → Asks others x z
+      ⊎ ((f : Id) × IsTrue (cands f) × (others f ≡ false) × AsksThrough cands f x z)
+  asks_with cands others x z (Fmid h) = inl (Fmid h)
+  asks_with cands others x z (Stated is_free h) = inl (Stated is_free h)
+  asks_with cands others x z (Reason extend h) = inl (Reason extend h)
+  asks_with cands others x z (Required is_free v there fit within) = elim (fits_split zone cands others v fit) [
+    | inr (f, at, is, off) ↦ inr (
+      f,
+      is,
+      off,
+      record {
+        named = function_listed g zone.srel x f v there (fmid_named v f at);
+        is_free = is_free;
+        ver = v;
+        there = there;
+        fit = fit;
+        within = through_fmid zone cands v z f at within;
+      },
+    )
+    | inl fit_too ↦ elim (required_split zone cands others v z within) [
+      | inl too ↦ inl (Required is_free v there fit_too too)
+      | inr (i, has, states, is, off) ↦ inr (
+        i.function,
+        is,
+        off,
+        record {
+          named = function_listed g zone.srel x i.function v there (if_named v i has);
+          is_free = is_free;
+          ver = v;
+          there = there;
+          fit = fit;
+          within = through_if zone cands v z i has states within;
+        },
+      )
+    ]
+  ]
+
+  -- with more candidates it asks for no less
+  pub asks_more : (cands others : Id → Bool) (x z : Id) → ((f : Id) → IsTrue (cands f) → IsTrue (others f))
+      → Asks cands x z → Asks others x z
+  asks_more cands others x z more (Fmid h) = Fmid h
+  asks_more cands others x z more (Stated is_free h) = Stated is_free h
+  asks_more cands others x z more (Reason extend h) = Reason extend h
+  asks_more cands others x z more (Required is_free v there fit within) =
+      Required is_free v there (fits_more zone cands others more v fit) (required_more zone cands others more v z within)
+
+  pub through_still : (cands others : Id → Bool) (f x z : Id) → ((h : Id) → IsTrue (cands h) → IsTrue (others h))
+      → AsksThrough cands f x z → AsksThrough others f x z
+  through_still cands others f x z more asks = record {
+    named = asks.named;
+    is_free = asks.is_free;
+    ver = asks.ver;
+    there = asks.there;
+    fit = fits_more zone cands others more asks.ver asks.fit;
+    within = through_more zone cands others more asks.ver f z asks.within;
+  }
 
   -- what a growing one asks for has the needed ids, and under GROUPEXTEND the open reasons
   pub needed_asked : (cands : Id → Bool) (x z : Id) → Contains (needed_ids g zone cands x) z
@@ -92,120 +238,54 @@ module _ (g : Global) (zone : Zone) (sel : Selection) where
       (if sel.groupextend then open_reasons g zone x else []) z
       (subst (λ b. Contains (if b then open_reasons g zone x else []) z) (sym extend) h)
 
-  -- With other candidates it asks for the same, or by an ++IF whose function is a candidate there alone.
-  pub asks_with : (cands others : Id → Bool) (x z : Id) → Asks cands x z
-      → Asks others x z
-      ⊎ ((f : Id) × IsTrue (cands f) × (others f ≡ false) × IsTrue (free z) × Contains (if_reqs c (bytes_eq f) x) z)
-  asks_with cands others x z (Fmid h) = inl (Fmid h)
-  asks_with cands others x z (Listed is_free h) = inl (Listed is_free h)
-  asks_with cands others x z (Stated is_free h) = inl (Stated is_free h)
-  asks_with cands others x z (Reason extend h) = inl (Reason extend h)
-  asks_with cands others x z (ByIf is_free h) =
-      elim (if_split c (with_ifs cands) (with_ifs others) x z h) [
-        | inl same ↦ inl (ByIf is_free same)
-        | inr (f, is, other, within) ↦ inr (
-          f,
-          only f (is_applied zone f) refl is other,
-          (none_of f other).1,
-          is_free,
-          within,
-        )
-      ]
-    where
-      none_of : (f : Id) → with_ifs others f ≡ false → (is_applied zone f ≡ false) × (others f ≡ false)
-      none_of f other = parts (is_applied zone f) (others f) other
-        where
-          parts : (a b : Bool) → (a || b) ≡ false → (a ≡ false) × (b ≡ false)
-          parts true b e = absurd (true≢false e)
-          parts false b e = (refl, e)
+  abbrev all_listed : (Id → Bool) → Id → List Id
+  all_listed cands x = own_requisites g zone cands x ++ for_function x
 
-      only : (f : Id) (b : Bool) → is_applied zone f ≡ b → IsTrue (with_ifs cands f) → with_ifs others f ≡ false
-          → IsTrue (cands f)
-      only f true e is other = absurd (true≢false (sym e ∙ (none_of f other).0))
-      only f false e is other = subst (λ b. IsTrue (b || cands f)) e is
+  needed_are : (cands : Id → Bool) (x : Id) → needed_ids g zone cands x ≡ fmids x ++ filter free (all_listed cands x)
+  unfolding needed_ids
+  needed_are cands x = refl
 
-  -- with more candidates it asks for no less
-  pub asks_more : (cands others : Id → Bool) (x z : Id) → ((f : Id) → IsTrue (cands f) → IsTrue (others f))
-      → Asks cands x z → Asks others x z
-  asks_more cands others x z more asks = elim (asks_with cands others x z asks) [
-    | inl same ↦ same
-    | inr (f, is, other, _, _) ↦ absurd (true≢false (sym (more f is) ∙ other))
+  in_needed : (cands : Id → Bool) (x z : Id) → IsTrue (free z) → Contains (all_listed cands x) z
+      → Contains (needed_ids g zone cands x) z
+  in_needed cands x z is_free h = subst (λ zs. Contains zs z) (sym (needed_are cands x))
+      (Contains-append_right (fmids x) (filter free (all_listed cands x)) z
+      (in_filter free (all_listed cands x) z h is_free))
+
+  pub asks_needed : (cands : Id → Bool) (x z : Id) → Asks cands x z
+      → Contains (needed_ids g zone cands x) z ⊎ (IsTrue sel.groupextend × Contains (open_reasons g zone x) z)
+  asks_needed cands x z (Fmid h) = inl (subst (λ zs. Contains zs z) (sym (needed_are cands x))
+      (Contains-append_left (fmids x) (filter free (all_listed cands x)) z h))
+  asks_needed cands x z (Required is_free v there fit within) = inl (in_needed cands x z is_free
+      (Contains-append_left (own_requisites g zone cands x) (for_function x) z (in_own cands x z v there fit within)))
+  asks_needed cands x z (Stated is_free h) = inl (in_needed cands x z is_free
+      (Contains-append_right (own_requisites g zone cands x) (for_function x) z h))
+  asks_needed cands x z (Reason extend h) = inr (extend, h)
+
+  pub asks_asked : (cands : Id → Bool) (x z : Id) → Asks cands x z → Contains (asked_by g zone sel cands x) z
+  asks_asked cands x z asks = elim (asks_needed cands x z asks) [
+    | inl needed ↦ needed_asked cands x z needed
+    | inr (extend, reason) ↦ reason_asked cands x z extend reason
   ]
 
-  -- Needed ids, by the one ++VER.
-  module _ (form : IsGlobal g) where
-    pub asks_from : (cands : Id → Bool) (x z : Id) → Contains (asked_by g zone sel cands x) z → Asks cands x z
-    asks_from cands x z h =
-        elim (Contains-append_cases (needed_ids g zone cands x) (if sel.groupextend then open_reasons g zone x else [])
-        z h) [
-          | inl needed ↦ elim (Contains-append_cases (fmids x) (filter free (all_listed cands x)) z
-              (subst (λ zs. Contains zs z) (needed_are g zone cands x form) needed)) [
-                | inl fmid ↦ Fmid fmid
-                | inr rest ↦ listed_ask (filter_in free (all_listed cands x) z rest)
-              ]
-          | inr reason ↦ by sel.groupextend refl reason
-        ]
-      where
-        by : (b : Bool) → sel.groupextend ≡ b → Contains (if b then open_reasons g zone x else []) z → Asks cands x z
-        by true e there = Reason e there
-        by false e none = absurd (none_in z none)
-
-        listed_ask : Contains (all_listed cands x) z × (free z ≡ true)
-            → Asks cands x z
-        listed_ask (there, is_free) =
-            elim (Contains-append_cases (pre_of c x ++ req_of c x) (if_needed g c zone cands x) z there) [
-              | inl names ↦ Listed is_free names
-              | inr ifs ↦ elim (Contains-append_cases (if_reqs c (with_ifs cands) x) (for_function x) z ifs) [
-                | inl own ↦ ByIf is_free own
-                | inr others ↦ Stated is_free others
-              ]
+  pub asks_from : (cands : Id → Bool) (x z : Id) → Contains (asked_by g zone sel cands x) z → Asks cands x z
+  asks_from cands x z h =
+      elim (Contains-append_cases (needed_ids g zone cands x) (if sel.groupextend then open_reasons g zone x else [])
+      z h) [
+        | inl needed ↦ elim (Contains-append_cases (fmids x) (filter free (all_listed cands x)) z
+            (subst (λ zs. Contains zs z) (needed_are cands x) needed)) [
+              | inl fmid ↦ Fmid fmid
+              | inr rest ↦ listed_ask (filter_in free (all_listed cands x) z rest)
             ]
+        | inr reason ↦ by sel.groupextend refl reason
+      ]
+    where
+      by : (b : Bool) → sel.groupextend ≡ b → Contains (if b then open_reasons g zone x else []) z → Asks cands x z
+      by true e there = Reason e there
+      by false e none = absurd (none_in z none)
 
-    needed_from : (cands : Id → Bool) (x z : Id) → Contains (fmids x ++ filter free (all_listed cands x)) z
-        → Contains (needed_ids g zone cands x) z
-    needed_from cands x z h = subst (λ zs. Contains zs z) (sym (needed_are g zone cands x form)) h
-
-    needed_listed : (cands : Id → Bool) (x z : Id) → IsTrue (free z)
-        → Contains (all_listed cands x) z → Contains (needed_ids g zone cands x) z
-    needed_listed cands x z is_free h = needed_from cands x z
-        (Contains-append_right (fmids x) (filter free (all_listed cands x)) z
-        (in_filter free (all_listed cands x) z h is_free))
-
-    needed_fmid : (cands : Id → Bool) (x z : Id) → Contains (fmids x) z → Contains (needed_ids g zone cands x) z
-    needed_fmid cands x z h =
-        needed_from cands x z (Contains-append_left (fmids x) (filter free (all_listed cands x)) z h)
-
-    needed_if : (cands : Id → Bool) (x z : Id) → IsTrue (free z) → Contains (if_needed g c zone cands x) z
-        → Contains (needed_ids g zone cands x) z
-    needed_if cands x z is_free h =
-        needed_listed cands x z is_free
-        (Contains-append_right (pre_of c x ++ req_of c x) (if_needed g c zone cands x) z h)
-
-    -- what it asks for it needs, or it is an open reason
-    pub asks_needed : (cands : Id → Bool) (x z : Id) → Asks cands x z
-        → Contains (needed_ids g zone cands x) z ⊎ (IsTrue sel.groupextend × Contains (open_reasons g zone x) z)
-    asks_needed cands x z (Fmid h) = inl (needed_fmid cands x z h)
-    asks_needed cands x z (Listed is_free h) =
-        inl (needed_listed cands x z is_free (Contains-append_left (pre_of c x ++ req_of c x) (if_needed g c zone cands
-        x) z h))
-    asks_needed cands x z (ByIf is_free h) =
-        inl (needed_if cands x z is_free (Contains-append_left (if_reqs c (with_ifs cands) x) (for_function x) z h))
-    asks_needed cands x z (Stated is_free h) =
-        inl (needed_if cands x z is_free (Contains-append_right (if_reqs c (with_ifs cands) x) (for_function x) z h))
-    asks_needed cands x z (Reason extend h) = inr (extend, h)
-
-    pub asks_asked : (cands : Id → Bool) (x z : Id) → Asks cands x z → Contains (asked_by g zone sel cands x) z
-    asks_asked cands x z asks = elim (asks_needed cands x z asks) [
-      | inl needed ↦ needed_asked cands x z needed
-      | inr (extend, reason) ↦ reason_asked cands x z extend reason
-    ]
-
-    -- one that grows needs what its ++IFs for a candidate name
-    pub needed_for : (cands : Id → Bool) (x y z : Id) → IsTrue (cands x) → IsTrue (free z)
-        → Contains (if_reqs c (bytes_eq x) y) z → Contains (needed_ids g zone cands y) z
-    needed_for cands x y z cand is_free h =
-        let from = if_in c (bytes_eq x) y z h in
-        needed_if cands y z is_free (Contains-append_left (if_reqs c (with_ifs cands) y) (for_function y) z
-        (in_if c (with_ifs cands) y z from.0 from.1
-        (or_right (is_applied zone from.0.function) (cands from.0.function)
-        (subst (λ f. IsTrue (cands f)) (same_from x from.0.function from.2) cand)) from.3))
+      listed_ask : Contains (all_listed cands x) z × (free z ≡ true) → Asks cands x z
+      listed_ask (there, is_free) =
+          elim (Contains-append_cases (own_requisites g zone cands x) (for_function x) z there) [
+            | inl own ↦ own_in cands x z is_free own
+            | inr others ↦ Stated is_free others
+          ]

@@ -1,14 +1,13 @@
 -- Where the ids of the start are looked for.
 use Rattle.std.proofs.Common.{◌≡◌, ◌⊎◌, inl, inr, true, false, ◌||◌, List, [], ◌++◌, map, filter, Option, None, Some}
-use Rattle.std.proofs.Common.{is_some, Contains, IsTrue, refl, sym, subst, ◌∙◌, true≢false, ◌↔◌}
-use Rattle.std.specs.Prelude.{slice_get}
+use Rattle.std.proofs.Common.{not, Contains, IsTrue, refl, sym, subst, ◌∙◌, true≢false, ◌↔◌}
 use Rattle.std.specs.Option.{option_map_or}
 use Rattle.std.specs.Str.{bytes_eq}
 use Rattle.std.proofs.lemmas.Bool.{and_parts, or_cases}
 use Rattle.std.proofs.lemmas.List.Elements.{Contains-append_left, Contains-append_right, All-contains_itself}
 use Rattle.terms.specs.Types.{Text, Id, Sysmod, Global, Zone, Selection}
-use Rattle.terms.specs.Lookups.{is_in, sysmod_of}
-use Rattle.terms.specs.Choice.{first_ver}
+use Rattle.terms.specs.Lookups.{is_in, is_nil, sysmod_of}
+use Rattle.sysmods.specs.Choices.{has_ver}
 use Rattle.terms.specs.Candidates.{is_open, has_mass_choice, is_mass_chosen, is_start}
 use Rattle.terms.proofs.Ids.{Contains_from_is_in}
 use Rattle.lemmas.proofs.Members.{in_map, filter_in, in_filter}
@@ -16,12 +15,12 @@ use Rattle.lemmas.proofs.Texts.{same_from}
 use Rattle.lemmas.proofs.Searches.{find_passes, All_find}
 use Rattle.select.proofs.Opened.{open_parts}
 
-received_there : (g : Global) (srel : Text) (x : Id) → is_some (first_ver g srel x) ≡ true
+received_there : (g : Global) (srel : Text) (x : Id) → has_ver g srel x ≡ true
     → Contains (map (λ s. s.id) g.sysmods) x
 received_there g srel x there = by (sysmod_of g x) refl there
   where
     by : (o : Option Sysmod) → sysmod_of g x ≡ o
-        → is_some (slice_get (option_map_or (λ s. filter (λ v. bytes_eq v.srel srel) s.vers) o []) 0) ≡ true
+        → not (is_nil (option_map_or (λ s. filter (λ v. bytes_eq v.srel srel) s.vers) o [])) ≡ true
         → Contains (map (λ s. s.id) g.sysmods) x
     by None e none = absurd (true≢false (sym none))
     by (Some s) e _ =

@@ -1,20 +1,21 @@
-//! What comes to be asked for once a SYSMOD grows.
-ghost use Rattle.std.specs.Prelude.{◌≡◌, ◌++◌, ◌&&◌, ◌||◌, ◌==◌, [], not, filter, map, IfOk, OnOk};
+//! What a SYSMOD that grows asks for by itself.
+ghost use Rattle.std.specs.Prelude.{◌≡◌, ◌++◌, ◌&&◌, ◌||◌, ◌==◌, [], ◌∷◌, not, filter, map, IfOk, OnOk};
 ghost use Rattle.std.specs.Prelude.{if◌then◌else◌};
-ghost use Rattle.std.specs.List.{flat_map};
+ghost use Rattle.std.specs.List.{flat_map, list_any};
 ghost use Rattle.std.specs.Str.{bytes_eq};
 ghost use Rattle.terms.specs.declared.kinds.HoldKind.TheVariants.{Error};
-ghost use Rattle.terms.specs.Lookups.{at_most_one, is_applied, is_function, is_in, is_supplied, holds_of};
-ghost use Rattle.terms.specs.Choice.{first_ver};
-ghost use Rattle.terms.specs.Candidates.{is_open, is_growing_start};
-ghost use Rattle.terms.specs.Conditions.{if_reqs};
-ghost use Rattle.select.specs.Growing.{taken_up, has_grown, is_there, reqs_if, own_requisites, counts_for, stated};
-ghost use Rattle.select.specs.Growing.{error_reason, reasons, brought_by};
+ghost use Rattle.terms.specs.Lookups.{at_most_one, is_applied, is_in, is_supplied, holds_of};
+ghost use Rattle.terms.specs.Choice.{fits};
+ghost use Rattle.terms.specs.Candidates.{is_open, is_growing_start, required_by, fmids_for};
+ghost use Rattle.terms.specs.Conditions.{reqs_where, if_reqs, stated_for};
+ghost use Rattle.sysmods_received.specs.Namers.{function_namers};
+ghost use Rattle.select.specs.Growing.{taken_up, has_grown, is_there, open_fmids, own_requisites, kept_ver};
+ghost use Rattle.select.specs.Growing.{stated, error_reason, reasons, own_asked};
 
 use crate::scope::Scope;
 use crate::start::is_start;
 use cntl::Selection;
-use fields::Id;
+use fields::{Id, Srel};
 use indexmap::IndexSet;
 use std::alloc::{AllocError, Global};
 use sysmods_records::{Hold, IfReq, Ver};
@@ -28,7 +29,8 @@ pub(crate) fn brings_others(selection: &Selection, id: Id) -> bool
     selection.groupextend || selection.group.contains(id)
 }
 
-fn is_growing_start(scope: &Scope, id: Id) -> bool
+/// Whether it is of the start and brings others in.
+pub(crate) fn is_growing_start(scope: &Scope, id: Id) -> bool
     ensures { result ≡ is_growing_start scope.now.global.now scope.now.zone.now scope.now.selection.now id }
 {
     is_start(scope, id) && brings_others(scope.selection, id)
@@ -47,7 +49,8 @@ fn is_taken_up(scope: &Scope, seen: &IndexSet<Id>, id: Id) -> bool
     is_start(scope, id) || is_asked_and_open(scope, seen, id)
 }
 
-fn has_grown(scope: &Scope, seen: &IndexSet<Id>, id: Id) -> bool
+/// Whether it grows, where these ids are asked for already.
+pub(crate) fn has_grown(scope: &Scope, seen: &IndexSet<Id>, id: Id) -> bool
     ensures { result ≡ has_grown scope.now.global.now scope.now.zone.now scope.now.selection.now seen.now.keys id }
 {
     is_growing_start(scope, id) || is_asked_and_open(scope, seen, id)
@@ -90,7 +93,7 @@ fn append_conditional(
     found: &mut Vec<Id>,
 ) -> Result<(), AllocError>
     ensures { OnOk result (found.new.items ≡ found.old.items
-        ++ reqs_if (is_there scope.now.global.now scope.now.zone.now scope.now.selection.now seen.now.keys)
+        ++ reqs_where (is_there scope.now.global.now scope.now.zone.now scope.now.selection.now seen.now.keys)
         conditions.now) }
 {
     for condition in conditions {
@@ -99,19 +102,76 @@ fn append_conditional(
     Ok(())
 }
 
-fn append_operands(
+/// What the `++VER` requires by PRE, REQ and `++IF`.
+pub(crate) fn append_operands(
     scope: &Scope,
     seen: &IndexSet<Id>,
     ver: &Ver,
     found: &mut Vec<Id>,
 ) -> Result<(), AllocError>
     ensures { OnOk result (found.new.items ≡ found.old.items ++ (ver.now.pre ++ ver.now.req
-        ++ reqs_if (is_there scope.now.global.now scope.now.zone.now scope.now.selection.now seen.now.keys)
+        ++ reqs_where (is_there scope.now.global.now scope.now.zone.now scope.now.selection.now seen.now.keys)
         ver.now.ifs)) }
 {
     found.extend_from_slice(ver.pre.as_slice())?;
     found.extend_from_slice(ver.req.as_slice())?;
     append_conditional(scope, seen, ver.ifs.as_slice(), found)?;
+    Ok(())
+}
+
+// Whether it has no FMID, or one that is applied or a candidate.
+fn fits(scope: &Scope, seen: &IndexSet<Id>, ver: &Ver) -> bool
+    ensures { result ≡ fits scope.now.zone.now
+        (taken_up scope.now.global.now scope.now.zone.now scope.now.selection.now seen.now.keys) ver.now }
+{
+    match ver.fmid {
+        Some(fmid) => is_there(scope, seen, fmid),
+        None => true,
+    }
+}
+
+/// Whether it is for the zone's SREL and fits.
+pub(crate) fn is_for_and_fits(scope: &Scope, seen: &IndexSet<Id>, ver: &Ver) -> bool
+    ensures { result ≡ (bytes_eq ver.now.srel scope.now.zone.now.srel && fits scope.now.zone.now
+        (taken_up scope.now.global.now scope.now.zone.now scope.now.selection.now seen.now.keys) ver.now) }
+{
+    ver.srel == scope.zone.srel() && fits(scope, seen, ver)
+}
+
+// What the `++VER` requires, if it is for the zone's SREL and fits.
+fn append_required(
+    scope: &Scope,
+    seen: &IndexSet<Id>,
+    ver: &Ver,
+    found: &mut Vec<Id>,
+) -> Result<(), AllocError>
+    ensures { OnOk result (found.new.items ≡ found.old.items
+        ++ (if bytes_eq ver.now.srel scope.now.zone.now.srel && fits scope.now.zone.now
+        (taken_up scope.now.global.now scope.now.zone.now scope.now.selection.now seen.now.keys) ver.now
+        then required_by scope.now.zone.now
+        (taken_up scope.now.global.now scope.now.zone.now scope.now.selection.now seen.now.keys) ver.now else [])) }
+{
+    if is_for_and_fits(scope, seen, ver) {
+        append_operands(scope, seen, ver, found)?;
+    }
+    Ok(())
+}
+
+fn append_all_required(
+    scope: &Scope,
+    seen: &IndexSet<Id>,
+    vers: &[Ver],
+    found: &mut Vec<Id>,
+) -> Result<(), AllocError>
+    ensures { OnOk result (found.new.items ≡ found.old.items
+        ++ flat_map (required_by scope.now.zone.now
+        (taken_up scope.now.global.now scope.now.zone.now scope.now.selection.now seen.now.keys))
+        (filter (λ v. bytes_eq v.srel scope.now.zone.now.srel && fits scope.now.zone.now
+        (taken_up scope.now.global.now scope.now.zone.now scope.now.selection.now seen.now.keys) v) vers.now)) }
+{
+    for ver in vers {
+        append_required(scope, seen, ver, found)?;
+    }
     Ok(())
 }
 
@@ -122,12 +182,10 @@ fn append_own(
     found: &mut Vec<Id>,
 ) -> Result<(), AllocError>
     ensures { OnOk result (found.new.items ≡ found.old.items
-        ++ own_requisites scope.now.global.now scope.now.zone.now scope.now.selection.now seen.now.keys id) }
+        ++ own_requisites scope.now.global.now scope.now.zone.now
+        (taken_up scope.now.global.now scope.now.zone.now scope.now.selection.now seen.now.keys) id) }
 {
-    match scope.ver(id) {
-        Some(ver) => append_operands(scope, seen, ver, found),
-        None => Ok(()),
-    }
+    append_all_required(scope, seen, scope.vers(id), found)
 }
 
 fn append_if_for(function: Id, condition: &IfReq, found: &mut Vec<Id>) -> Result<(), AllocError>
@@ -137,8 +195,13 @@ fn append_if_for(function: Id, condition: &IfReq, found: &mut Vec<Id>) -> Result
     append_if(function == condition.function, condition, found)
 }
 
-fn append_all_for(function: Id, conditions: &[IfReq], found: &mut Vec<Id>) -> Result<(), AllocError>
-    ensures { OnOk result (found.new.items ≡ found.old.items ++ reqs_if (bytes_eq function) conditions.now) }
+/// What `++IF`s for the function require.
+pub(crate) fn append_all_for(
+    function: Id,
+    conditions: &[IfReq],
+    found: &mut Vec<Id>,
+) -> Result<(), AllocError>
+    ensures { OnOk result (found.new.items ≡ found.old.items ++ reqs_where (bytes_eq function) conditions.now) }
 {
     for condition in conditions {
         append_if_for(function, condition, found)?;
@@ -146,7 +209,7 @@ fn append_all_for(function: Id, conditions: &[IfReq], found: &mut Vec<Id>) -> Re
     Ok(())
 }
 
-// What one SYSMOD states for the function.
+// What an applied SYSMOD states for the function.
 fn append_stated_by(
     scope: &Scope,
     function: Id,
@@ -154,76 +217,52 @@ fn append_stated_by(
     found: &mut Vec<Id>,
 ) -> Result<(), AllocError>
     ensures { OnOk result (found.new.items ≡ found.old.items
-        ++ if_reqs (first_ver scope.now.global.now scope.now.zone.now.srel) (bytes_eq function) namer) }
+        ++ if_reqs (kept_ver scope.now.global.now scope.now.zone.now) (bytes_eq function) namer) }
 {
-    match scope.ver(namer) {
+    match scope.kept_ver(namer) {
         Some(ver) => append_all_for(function, ver.ifs.as_slice(), found),
         None => Ok(()),
     }
 }
 
-fn is_applied_for(scope: &Scope, function: Id, namer: Id) -> bool
-    ensures { result ≡ (is_function scope.now.global.now function && is_applied scope.now.zone.now namer) }
-{
-    scope.global.is_function(function) && scope.zone.is_applied(namer)
-}
-
-fn counts_for(scope: &Scope, seen: &IndexSet<Id>, function: Id, namer: Id) -> bool
-    ensures { result ≡ counts_for scope.now.global.now scope.now.zone.now scope.now.selection.now seen.now.keys
-        function namer }
-{
-    has_grown(scope, seen, namer) || is_applied_for(scope, function, namer)
-}
-
-fn append_if_counting(
-    scope: &Scope,
-    seen: &IndexSet<Id>,
-    function: Id,
-    namer: Id,
-    found: &mut Vec<Id>,
-) -> Result<(), AllocError>
-    ensures { OnOk result (found.new.items ≡ found.old.items
-        ++ (if counts_for scope.now.global.now scope.now.zone.now scope.now.selection.now seen.now.keys function namer
-        then if_reqs (first_ver scope.now.global.now scope.now.zone.now.srel) (bytes_eq function) namer else [])) }
-{
-    if counts_for(scope, seen, function, namer) {
-        append_stated_by(scope, function, namer, found)?;
-    }
-    Ok(())
-}
-
 fn append_stated_among(
     scope: &Scope,
-    seen: &IndexSet<Id>,
     function: Id,
     namers: &[Id],
     found: &mut Vec<Id>,
 ) -> Result<(), AllocError>
     ensures { OnOk result (found.new.items ≡ found.old.items
-        ++ flat_map (if_reqs (first_ver scope.now.global.now scope.now.zone.now.srel) (bytes_eq function))
-        (filter (counts_for scope.now.global.now scope.now.zone.now scope.now.selection.now seen.now.keys function)
-        namers.now)) }
+        ++ stated_for (kept_ver scope.now.global.now scope.now.zone.now) namers.now function) }
 {
     for namer in namers {
-        append_if_counting(scope, seen, function, *namer, found)?;
+        append_stated_by(scope, function, *namer, found)?;
     }
     Ok(())
 }
 
-// The requisites that others state for it by `++IF`: those that grow, and for a function those that are applied.
+/// Those that name it as a function.
+pub(crate) fn function_namers(alloc: Global, scope: &Scope, id: Id) -> Result<Vec<Id>, AllocError>
+    ensures { IfOk result (λ namers. namers.items ≡ function_namers scope.now.global.now.sysmods id) }
+{
+    let mut namers = Vec::new(alloc);
+    scope.global.append_function_namers(id, &mut namers)?;
+    Ok(namers)
+}
+
+// The requisites that applied SYSMODs state by `++IF` for a function.
 fn append_stated(
     alloc: Global,
     scope: &Scope,
-    seen: &IndexSet<Id>,
     id: Id,
     found: &mut Vec<Id>,
 ) -> Result<(), AllocError>
     ensures { OnOk result (found.new.items ≡ found.old.items
-        ++ stated scope.now.global.now scope.now.zone.now scope.now.selection.now seen.now.keys id) }
+        ++ stated scope.now.global.now scope.now.zone.now id) }
 {
-    let mut namers = Vec::new(alloc);
-    scope.global.append_function_namers(id, &mut namers)?;
-    append_stated_among(scope, seen, id, namers.as_slice(), found)?;
+    if scope.global.is_function(id) {
+        let namers = function_namers(alloc, scope, id)?;
+        append_stated_among(scope, id, namers.as_slice(), found)?;
+    }
     Ok(())
 }
 
@@ -267,18 +306,20 @@ fn requisites(
     id: Id,
 ) -> Result<Vec<Id>, AllocError>
     ensures { IfOk result (λ ids. ids.items
-        ≡ own_requisites scope.now.global.now scope.now.zone.now scope.now.selection.now seen.now.keys id
-        ++ stated scope.now.global.now scope.now.zone.now scope.now.selection.now seen.now.keys id
+        ≡ own_requisites scope.now.global.now scope.now.zone.now
+        (taken_up scope.now.global.now scope.now.zone.now scope.now.selection.now seen.now.keys) id
+        ++ stated scope.now.global.now scope.now.zone.now id
         ++ reasons scope.now.global.now scope.now.selection.now id) }
 {
     let mut ids = Vec::new(alloc);
     append_own(scope, seen, id, &mut ids)?;
-    append_stated(alloc, scope, seen, id, &mut ids)?;
+    append_stated(alloc, scope, id, &mut ids)?;
     append_reasons(scope, id, &mut ids)?;
     Ok(ids)
 }
 
-fn unsupplied(alloc: Global, zone: &Zone, ids: &[Id]) -> Result<Vec<Id>, AllocError>
+/// Those that the zone does not supply.
+pub(crate) fn unsupplied(alloc: Global, zone: &Zone, ids: &[Id]) -> Result<Vec<Id>, AllocError>
     ensures { IfOk result (λ found. found.items ≡ filter (λ z. not (is_supplied zone.now z)) ids.now) }
 {
     ids.iter()
@@ -287,29 +328,66 @@ fn unsupplied(alloc: Global, zone: &Zone, ids: &[Id]) -> Result<Vec<Id>, AllocEr
         .collect(alloc)
 }
 
-fn unapplied(alloc: Global, zone: &Zone, fmid: Option<Id>) -> Result<Vec<Id>, AllocError>
-    ensures { IfOk result (λ found. found.items ≡ filter (λ z. not (is_applied zone.now z)) (at_most_one fmid)) }
+// The FMID, if the `++VER` is for the SREL.
+fn append_fmid(srel: Srel, ver: &Ver, found: &mut Vec<Id>) -> Result<(), AllocError>
+    ensures { OnOk result (found.new.items ≡ found.old.items
+        ++ (if bytes_eq ver.now.srel srel then at_most_one ver.now.fmid else [])) }
 {
-    let mut found = Vec::new(alloc);
-    if let Some(id) = fmid {
-        if !zone.is_applied(id) {
-            found.push(id)?;
+    if ver.srel == srel {
+        if let Some(fmid) = ver.fmid {
+            found.push(fmid)?;
         }
     }
-    Ok(found)
+    Ok(())
 }
 
-/// What comes to be asked for once it grows, where these ids are asked for already.
-pub(crate) fn brought_by(
+fn append_fmids(srel: Srel, vers: &[Ver], found: &mut Vec<Id>) -> Result<(), AllocError>
+    ensures { OnOk result (found.new.items ≡ found.old.items
+        ++ flat_map (λ v. at_most_one v.fmid) (filter (λ v. bytes_eq v.srel srel) vers.now)) }
+{
+    for ver in vers {
+        append_fmid(srel, ver, found)?;
+    }
+    Ok(())
+}
+
+// The FMIDs of its `++VER`s for the zone's SREL.
+fn fmids(alloc: Global, scope: &Scope, id: Id) -> Result<Vec<Id>, AllocError>
+    ensures { IfOk result (λ ids. ids.items ≡ fmids_for scope.now.global.now scope.now.zone.now.srel id) }
+{
+    let mut ids = Vec::new(alloc);
+    append_fmids(scope.zone.srel(), scope.vers(id), &mut ids)?;
+    Ok(ids)
+}
+
+fn any_applied(zone: &Zone, ids: &[Id]) -> bool
+    ensures { result ≡ list_any (is_applied zone.now) ids.now }
+{
+    ids.iter().any(|id| zone.is_applied(*id))
+}
+
+// These, unless one of them is applied.
+fn unless_applied(alloc: Global, zone: &Zone, ids: Vec<Id>) -> Vec<Id>
+    ensures { result.items ≡ open_fmids zone.now ids.items }
+{
+    if any_applied(zone, ids.as_slice()) {
+        Vec::new(alloc)
+    } else {
+        ids
+    }
+}
+
+/// What it asks for by itself, where these ids are asked for already.
+pub(crate) fn own_asked(
     alloc: Global,
     scope: &Scope,
     seen: &IndexSet<Id>,
     id: Id,
 ) -> Result<Vec<Id>, AllocError>
     ensures { IfOk result (λ found. found.items
-        ≡ brought_by scope.now.global.now scope.now.zone.now scope.now.selection.now seen.now.keys id) }
+        ≡ own_asked scope.now.global.now scope.now.zone.now scope.now.selection.now seen.now.keys id) }
 {
-    let mut found = unapplied(alloc, scope.zone, scope.fmid(id))?;
+    let mut found = unless_applied(alloc, scope.zone, fmids(alloc, scope, id)?);
     let requisites = requisites(alloc, scope, seen, id)?;
     let wanted = unsupplied(alloc, scope.zone, requisites.as_slice())?;
     found.extend_from_slice(wanted.as_slice())?;

@@ -28,7 +28,6 @@ fn start_and_growing(alloc: Global, scope: &Scope) -> Result<IdList, AllocError>
     ensures installable { IfOk result (λ ids.
         All (λ x. IsTrue (is_installable scope.now.global.now scope.now.zone.now x)) ids) }
 {
-    scope.attest();
     let mut ids = start(alloc, scope)?;
     let asked = asked(alloc, scope, ids.as_slice())?;
     let brought_in = open_among(alloc, scope, asked.as_slice())?;

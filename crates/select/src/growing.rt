@@ -1,17 +1,18 @@
 //! What GROUP and GROUPEXTEND ask for beside the start.
-//! The search goes once through the ids that are asked for, open or not, and each brings others. A requisite by `++IF`
-//! has two premises, that one SYSMOD grows and that a function is a candidate: it is asked for when the later of the
-//! two is met.
+//! The search goes once through the ids that are asked for, open or not, and each brings others. A requisite can have
+//! several premises: that one SYSMOD grows, that the FMID of the `++VER` is a candidate, and that the function of the
+//! `++IF` is. It is asked for when the last of them is met: once a function is a candidate, those that grow and name it
+//! are asked again by the `++VER`s that name it.
 ghost use Rattle.std.specs.Prelude.{◌≡◌, ◌++◌, ◌↔◌, [], filter, Contains, IsTrue, IfOk, OnOk, if◌then◌else◌};
 ghost use Rattle.std.specs.List.{flat_map};
 ghost use Rattle.terms.specs.Types.{Id as AnId};
 ghost use Rattle.terms.specs.Lookups.{is_in};
-ghost use Rattle.terms.specs.Choice.{sup_of, first_ver};
-ghost use Rattle.terms.specs.Candidates.{is_open, is_start};
+ghost use Rattle.terms.specs.Candidates.{is_open, is_start, sups_for};
 ghost use Rattle.sysmods_paths.specs.Seen.{AddsAll};
 ghost use Rattle.select.specs.Growing.{AreAsked, brought_by, asked_first, superseders, next_asked};
 
-use crate::asking::{brings_others, brought_by};
+use crate::asking::{brings_others, own_asked};
+use crate::bringing::brought_by;
 use crate::scope::Scope;
 use fields::Id;
 use indexmap::IndexSet;
@@ -19,7 +20,7 @@ use std::alloc::{AllocError, Global};
 
 fn those_over(alloc: Global, scope: &Scope, id: Id, namers: &[Id]) -> Result<Vec<Id>, AllocError>
     ensures { IfOk result (λ found. found.items
-        ≡ filter (λ y. is_in (sup_of (first_ver scope.now.global.now scope.now.zone.now.srel) y) id) namers.now) }
+        ≡ filter (λ y. is_in (sups_for scope.now.global.now scope.now.zone.now.srel y) id) namers.now) }
 {
     namers
         .iter()
@@ -97,7 +98,7 @@ fn asked_first(alloc: Global, scope: &Scope, id: Id) -> Result<Vec<Id>, AllocErr
         ≡ asked_first scope.now.global.now scope.now.zone.now scope.now.selection.now id) }
 {
     if brings_others(scope.selection, id) {
-        brought_by(alloc, scope, &IndexSet::new(alloc), id)
+        own_asked(alloc, scope, &IndexSet::new(alloc), id)
     } else {
         Ok(Vec::new(alloc))
     }
@@ -137,7 +138,6 @@ pub(crate) fn asked(alloc: Global, scope: &Scope, start: &[Id]) -> Result<IndexS
     ensures { IfOk result
         (λ seen. AreAsked scope.now.global.now scope.now.zone.now scope.now.selection.now seen.keys) }
 {
-    scope.attest();
     scope.zone.attest();
     let mut seen = asked_by_start(alloc, scope, start)?;
     let mut i = 0;

@@ -1,13 +1,16 @@
 //! What is open to an APPLY.
-ghost use Rattle.std.specs.Prelude.{◌≡◌, not, is_some, option_copied};
-ghost use Rattle.terms.specs.Lookups.{is_in, is_nil, delby_of};
-ghost use Rattle.terms.specs.Choice.{fmid_of, sup_of, vers_of, first_ver};
-ghost use Rattle.terms.specs.Global.{IsGlobal};
-ghost use Rattle.terms.specs.Candidates.{is_installable, is_open};
+ghost use Rattle.std.specs.Prelude.{◌≡◌, ◌&&◌, filter, is_some, option_copied};
+ghost use Rattle.std.specs.List.{list_any};
+ghost use Rattle.std.specs.Str.{bytes_eq};
+ghost use Rattle.terms.specs.Lookups.{is_in, delby_of};
+ghost use Rattle.terms.specs.Choice.{vers_of};
+ghost use Rattle.terms.specs.Candidates.{is_installable, is_open, sups_for};
+ghost use Rattle.sysmods.specs.Choices.{has_ver};
+ghost use Rattle.select.specs.Growing.{kept_ver};
 
 use cntl::Selection;
-use fields::Id;
-use sysmods::{GlobalZone, first_ver};
+use fields::{Id, Srel};
+use sysmods::{GlobalZone, has_ver, numbered_ver};
 use sysmods_records::Ver;
 use zones::Zone;
 
@@ -32,44 +35,36 @@ impl<'a> Scope<'a> {
         }
     }
 
-    /// The global zone is in order.
-    pub(crate) fn attest(&self)
-        ensures { IsGlobal self.now.global.now }
+    /// Its `++VER`s, among which are those for the zone's SREL.
+    pub(crate) fn vers(&self, id: Id) -> &'a [Ver]
+        ensures { filter (λ v. bytes_eq v.srel self.now.zone.now.srel) result.now
+            ≡ vers_of self.now.global.now self.now.zone.now.srel id }
     {
-        prove!(self.global.len() < 65_536);
-    }
-
-    /// The `++VER` that counts, if one does.
-    pub(crate) fn ver(&self, id: Id) -> Option<&'a Ver>
-        ensures { option_copied result ≡ first_ver self.now.global.now self.now.zone.now.srel id }
-    {
-        first_ver(self.global, self.zone.srel(), id)
-    }
-
-    /// The FMID of the `++VER` that counts.
-    pub(crate) fn fmid(&self, id: Id) -> Option<Id>
-        ensures { result ≡ fmid_of (first_ver self.now.global.now self.now.zone.now.srel) id }
-    {
-        self.ver(id)?.fmid
+        match self.global.get(id) {
+            Some(sysmod) => sysmod.vers.as_slice(),
+            None => &[],
+        }
     }
 
     fn has_ver(&self, id: Id) -> bool
-        ensures { result ≡ not (is_nil (vers_of self.now.global.now self.now.zone.now.srel id)) }
+        ensures { result ≡ has_ver self.now.global.now self.now.zone.now.srel id }
     {
-        match self.ver(id) {
-            Some(_) => true,
-            None => false,
-        }
+        has_ver(self.global, self.zone.srel(), id)
     }
 
-    /// Whether the `++VER` of the one that counts names the other in SUP.
-    pub(crate) fn supersedes(&self, id: Id, other: Id) -> bool
-        ensures { result ≡ is_in (sup_of (first_ver self.now.global.now self.now.zone.now.srel) id) other }
+    /// The `++VER` by which it was installed, if it is applied.
+    pub(crate) fn kept_ver(&self, id: Id) -> Option<&'a Ver>
+        ensures { option_copied result ≡ kept_ver self.now.global.now self.now.zone.now id }
     {
-        match self.ver(id) {
-            Some(ver) => ver.supersedes(other),
-            None => false,
-        }
+        let applied = self.zone.applied(id)?;
+        numbered_ver(self.global, self.zone.srel(), id, applied.number)
+    }
+
+    /// Whether a `++VER` of the one for the zone's SREL names the other in SUP.
+    pub(crate) fn supersedes(&self, id: Id, other: Id) -> bool
+        ensures { result ≡ is_in (sups_for self.now.global.now self.now.zone.now.srel id) other }
+    {
+        any_supersedes(self.vers(id), self.zone.srel(), other)
     }
 
     pub(crate) fn is_deleted(&self, id: Id) -> bool
@@ -95,4 +90,17 @@ impl<'a> Scope<'a> {
         let selection = self.selection;
         self.is_installable(id) && !selection.exclude.contains(id)
     }
+}
+
+// Whether one for the SREL names the id in SUP.
+fn any_supersedes(vers: &[Ver], srel: Srel, id: Id) -> bool
+    ensures { result ≡ list_any (λ v. bytes_eq v.srel srel && is_in v.sup id) vers.now }
+{
+    vers.iter().any(|ver| is_for_and_supersedes(ver, srel, id))
+}
+
+fn is_for_and_supersedes(ver: &Ver, srel: Srel, id: Id) -> bool
+    ensures { result ≡ (bytes_eq ver.now.srel srel && is_in ver.now.sup id) }
+{
+    ver.srel == srel && ver.supersedes(id)
 }

@@ -61,6 +61,7 @@ passes_all s x is passes = (((is, alone), passes test.J8), passes test.J9)
     alone test.J10 fails = fails
     alone test.J11 fails = fails
     alone test.J12 fails = fails
+    alone test.J13 fails = passes test.J13 fails
 
 module _ (d : Decision) (sel : Selection) where
   -- x failed, by this failure

@@ -36,6 +36,7 @@ each_test test.J9 = (8, omega arith, refl)
 each_test test.J10 = (9, omega arith, refl)
 each_test test.J11 = (10, omega arith, refl)
 each_test test.J12 = (11, omega arith, refl)
+each_test test.J13 = (12, omega arith, refl)
 
 -- the ids of a list that have a property, rising
 pub record AreThose (P : Id → Type 0) (xs ids : List Id) : Type 0 where

@@ -1,9 +1,9 @@
 -- What APPLY and ACCEPT decide is determined, but for the order of the pairs of bypassed requisites.
 use Rattle.std.proofs.Common.{◌≡◌, ◌∙◌, List, Option, Contains, sym, ap, subst}
-use Rattle.std.specs.Prelude.{◌↔◌}
+use Rattle.std.specs.Prelude.{◌↔◌, ◌+◌}
 use Rattle.terms.specs.Types.{Text, Id, Global, Zone, Bypass, Selection}
 use Rattle.terms.specs.Lookups.{IsRising}
-use Rattle.terms.specs.Choice.{counting}
+use Rattle.terms.specs.Choice.{place, counting}
 use Rattle.terms.specs.Candidates.{AreCandidates}
 use Rattle.terms.specs.Tests.{Setting, AreSurvivors}
 use Rattle.terms.specs.Needs.{bypassed_ids}
@@ -49,6 +49,7 @@ module _ (g : Global) (zone : Zone) (related : Option Zone) (sel : Selection) (b
   install cands kept bypassed = record {
     global = g;
     choice = counting g zone cands;
+    number = λ x. place g zone cands x + 1;
     zone = zone;
     kept = kept;
     bypassed = bypassed;

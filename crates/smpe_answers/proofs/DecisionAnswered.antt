@@ -1,7 +1,7 @@
 -- What APPLY and ACCEPT decide is there, and so are the lines of it: that they are not can be refuted.
 use Rattle.std.proofs.Common.{◌≡◌, ◌∙◌, true, not, filter, List, [], Option, None, Some}
 use Rattle.std.proofs.Common.{Contains, IsTrue, refl, sym, ap, subst, true≢false, map, bytes_eq}
-use Rattle.std.specs.Prelude.{◌↔◌}
+use Rattle.std.specs.Prelude.{◌↔◌, ◌+◌}
 use Rattle.std.specs.List.{flat_map}
 use Rattle.std.specs.Option.{option_map_or}
 use Rattle.std.proofs.lemmas.Bool.{and_parts}
@@ -10,7 +10,7 @@ use Rattle.lemmas.proofs.Searches.{find_gives}
 use Rattle.lemmas.proofs.Texts.{same_from}
 use Rattle.terms.specs.Types.{Text, Id, Sysmod, Global, Zone, Bypass, Selection}
 use Rattle.terms.specs.Lookups.{is_nil, sysmod_of}
-use Rattle.terms.specs.Choice.{counting, vers_of}
+use Rattle.terms.specs.Choice.{place, counting, vers_of}
 use Rattle.terms.specs.Candidates.{AreCandidates, IsCandidate, is_installable}
 use Rattle.terms.specs.Tests.{Setting, Survives, AreSurvivors}
 use Rattle.terms.specs.Needs.{bypassed_ids}
@@ -116,6 +116,7 @@ decision_answered g zone related sel bypass date refuted =
         installing = record {
           global = g;
           choice = counting g zone cands.0;
+          number = λ x. place g zone cands.0 x + 1;
           zone = zone;
           kept = kept.0;
           bypassed = pairs;

@@ -28,7 +28,7 @@ module _ (current : Option Begun) (later records : Lines) where
       → IsKnown records w own rest inline → ¬ ¬ GoodOrFault
   known_judged w own rest inline known none = none (inr (Mc3, (w, own, rest, inline, known, (placed, no_value))))
     where
-      placed : IsPlaced (sysmod_in current) later w own inline
+      placed : IsPlaced (sysmod_in current) later w own rest inline
       placed why misplaced = none (inr (Mc4, (w, own, rest, inline, known, (why, misplaced))))
 
       no_value : (s : Statement) → ¬ HasValue (sysmod_in current) w own rest inline s

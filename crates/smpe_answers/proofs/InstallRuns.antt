@@ -1,13 +1,13 @@
 -- APPLY and ACCEPT run at each zone of theirs in a state that can be stored: that they do not can be refuted.
 use Rattle.std.proofs.Common.{◌≡◌, Bool, true, false, List, Option, None, Some, All, Contains, refl, sym, subst}
 use Rattle.std.proofs.Common.{true≢false, is_some}
-use Rattle.std.specs.Prelude.{◌==◌, if◌then◌else◌}
+use Rattle.std.specs.Prelude.{◌+◌, ◌==◌, if◌then◌else◌}
 use Rattle.std.specs.Option.{option_map_or, option_and_then}
 use Rattle.std.proofs.lemmas.Bool.{and_parts}
 use Rattle.terms.specs.declared.kinds.ZoneKind.{ZoneKind}
 use Rattle.terms.specs.Types.{Text, Id, Global, Zone, Bypass, Selection, Install, Command, zone_number}
 use Rattle.terms.specs.Lookups.{IsZone, is_applied}
-use Rattle.terms.specs.Choice.{counting}
+use Rattle.terms.specs.Choice.{place, counting}
 use Rattle.terms.specs.Global.{IsGlobal}
 use Rattle.terms.specs.Tests.{Setting}
 use Rattle.terms.specs.Judged.{setting, IsKeptSet}
@@ -50,6 +50,7 @@ module _ (g : Global) (is_global : IsGlobal g) (sysmods : All HasSysmodForms g.s
       i = record {
         global = g;
         choice = counting g zone decides.cands;
+        number = λ x. place g zone decides.cands x + 1;
         zone = zone;
         kept = d.kept;
         bypassed = decides.bypassed;

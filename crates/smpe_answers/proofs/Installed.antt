@@ -1,14 +1,14 @@
 -- The zone that an install leaves is determined.
 use Rattle.std.proofs.Common.{◌≡◌, ◌∙◌, Bool, true, false, not, Option, None, Some, Contains, IsTrue, refl}
 use Rattle.std.proofs.Common.{sym, ap, subst, is_some}
-use Rattle.std.specs.Prelude.{◌↔◌, ◌||◌, IsFalse}
+use Rattle.std.specs.Prelude.{◌↔◌, ◌||◌, ◌+◌, IsFalse}
 use Rattle.std.specs.Option.{option_map_or, option_and_then}
 use Rattle.terms.specs.declared.kinds.ElemType.{ElemType}
 use Rattle.terms.specs.Types.{Text, Id, Entry, Global, Zone, Bypass, Selection}
 use Rattle.terms.specs.Lookups.{is_nil, has_change, entry_of, element_of, is_applied, is_supplied, applied_of, supby_of}
 use Rattle.terms.specs.Lookups.{waived_of}
 use Rattle.terms.specs.Over.{IsOver}
-use Rattle.terms.specs.Choice.{counting}
+use Rattle.terms.specs.Choice.{place, counting}
 use Rattle.terms.specs.Global.{IsGlobal}
 use Rattle.terms.specs.Judged.{setting, IsKeptSet}
 use Rattle.terms.specs.Install.{Installation, TakesEffect, HasInstalled}
@@ -96,6 +96,7 @@ module _ (g : Global) (is_global : IsGlobal g) (zone : Zone) (related : Option Z
       (installed_only (record {
         global = g;
         choice = counting g zone decides.cands;
+        number = λ x. place g zone decides.cands x + 1;
         zone = zone;
         kept = d.kept;
         bypassed = decides.bypassed;

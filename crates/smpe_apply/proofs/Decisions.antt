@@ -1,6 +1,6 @@
 -- What an APPLY or ACCEPT decides, from what its parts answer: the kept ones may be installed together, and the lines
 -- are those of the decision.
-use Rattle.std.proofs.Common.{◌≡◌, ◌≢◌, ◌⊎◌, inl, inr, Bool, true, false, not, List, [], ◌∷◌, ◌++◌, Option, Some}
+use Rattle.std.proofs.Common.{◌≡◌, ◌≢◌, ◌⊎◌, ◌+◌, inl, inr, Bool, true, false, not, List, [], ◌∷◌, ◌++◌, Option, Some}
 use Rattle.std.proofs.Common.{IsTrue, filter, map, refl, sym, ap, ◌∙◌, subst, true≢false}
 use Rattle.std.specs.Prelude.{◌↔◌, All, Contains, IsPermutation, if◌then◌else◌}
 use Rattle.std.proofs.lemmas.Bool.{and_parts, not-true}
@@ -12,7 +12,7 @@ use Rattle.std.proofs.lemmas.List.Sorted.{IsPermutation-map, IsPermutation-sym, 
 use Rattle.terms.specs.declared.not_chosen.NotChosen.{NotChosen}
 use Rattle.terms.specs.Types.{Text, Id, Global, Zone, Bypass, Selection}
 use Rattle.terms.specs.Lookups.{IsRising, IsZone, is_in, is_applied, is_supplied}
-use Rattle.terms.specs.Choice.{counting}
+use Rattle.terms.specs.Choice.{place, counting}
 use Rattle.terms.specs.Over.{IsOver}
 use Rattle.terms.specs.Global.{IsGlobal}
 use Rattle.terms.specs.Candidates.{AreCandidates, is_installable, not_chosen}
@@ -92,6 +92,7 @@ module _ (g : Global) (zone : Zone) (related : Option Zone) (sel : Selection) (b
     installing = record {
       global = g;
       choice = counting g zone cands;
+      number = λ x. place g zone cands x + 1;
       zone = zone;
       kept = kept;
       bypassed = bypassed;

@@ -51,7 +51,7 @@ pub fn apply(
         failed,
         bypassed,
     } = decide(alloc, global, zone, related, &ids, bypass)?;
-    let vers = choose(global, zone, &ids);
+    let vers = choose(alloc, global, zone, &ids)?;
     let effective = taking_effect(alloc, &vers, &kept)?;
     let delta = install(alloc, &vers, zone, &kept, bypassed.as_slice(), date)?;
     let left_out = not_chosen(alloc, global, zone, selection)?;

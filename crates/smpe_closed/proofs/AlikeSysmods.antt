@@ -1,8 +1,9 @@
--- A zone stays closed under another global zone that has what is applied as it was, but for its sources.
+-- A zone stays closed under another global zone that has what is applied as it was, but for its sources, and under
+-- another choice by which the same counts for what is applied.
 use Rattle.std.proofs.Common.{◌≡◌, ℕ, zero, suc, ◌+◌, true, false, List, [], ◌∷◌, length, Option, None, Some, All}
 use Rattle.std.proofs.Common.{Contains, IsTrue, IsFalse, IsSome, IsNone, IfSome, is_some, filter, find, get_or}
 use Rattle.std.proofs.Common.{unwrap_or, refl, sym, ◌∙◌, ap, subst, add-one}
-use Rattle.std.specs.Prelude.{option_map, ◌&&◌, ◌==◌, not, if◌then◌else◌}
+use Rattle.std.specs.Prelude.{option_map, ◌&&◌, ◌==◌, ◌-◌, not, position, slice_get, if◌then◌else◌}
 use Rattle.std.specs.Option.{option_map_or, option_and_then}
 use Rattle.std.specs.Str.{bytes_eq}
 use Rattle.std.proofs.lemmas.List.Elements.{All-nil, All-cons, All-head, All-contains, All-contains_itself}
@@ -10,8 +11,8 @@ use Rattle.lemmas.proofs.Members.{here, there}
 use Rattle.lemmas.proofs.Options.{is_some_map, map_or_map}
 use Rattle.terms.specs.Types.{Id, Ver, Change, Sysmod, Global, Element, Zone, type_number, kind_number}
 use Rattle.terms.specs.Lookups.{is_applied, is_supplied, applied_ids, sysmod_of, is_received, is_function, changes_of}
-use Rattle.terms.specs.Lookups.{delby_of}
-use Rattle.terms.specs.Choice.{Choice, fits, or_first, counting, fmid_of}
+use Rattle.terms.specs.Lookups.{is_in, applied_of, delby_of}
+use Rattle.terms.specs.Choice.{Choice, fits, counting, fmid_of}
 use Rattle.terms.specs.Over.{chain_from}
 use Rattle.terms.specs.Changes.{is_replacement}
 use Rattle.terms.specs.Needs.{binding_ids}
@@ -43,39 +44,40 @@ alike_function = seen (λ s. kind_number s.kind == 0) false (λ s. refl)
 alike_changes : (g h : Global) (x : Id) → AreAlike g h x → changes_of h x ≡ changes_of g x
 alike_changes = seen (λ s. s.changes) [] (λ s. refl)
 
-alike_choice : (g h : Global) (zone : Zone) (x : Id) → AreAlike g h x → counting h zone [] x ≡ counting g zone [] x
-alike_choice g h zone x alike = ap (λ vs. or_first vs (find (fits zone []) vs))
+-- the place of the one that counts, among these
+abbrev place_in : Zone → List Id → Id → List Ver → ℕ
+place_in zone cands x vs =
+    option_map_or (λ a. a.number - 1) (applied_of zone x) (unwrap_or (position (fits zone (is_in cands)) vs) 0)
+
+pub alike_choice : (g h : Global) (zone : Zone) (x : Id) → AreAlike g h x → counting h zone [] x ≡ counting g zone [] x
+alike_choice g h zone x alike = ap (λ vs. slice_get vs (place_in zone [] x vs))
     (seen (λ s. filter (λ v. bytes_eq v.srel zone.srel) s.vers) [] (λ s. refl) g h x alike)
 
 -- a SYSMOD whose ++VER counts is received
-pub chosen_received : (g : Global) (zone : Zone) (x : Id) → IsSome (counting g zone [] x) → IsTrue (is_received g x)
-chosen_received g zone x some = by (sysmod_of g x) refl
+pub chosen_received : (g : Global) (zone : Zone) (cands : List Id) (x : Id) → IsSome (counting g zone cands x)
+    → IsTrue (is_received g x)
+chosen_received g zone cands x some = by (sysmod_of g x) refl
   where
     by : (o : Option Sysmod) → sysmod_of g x ≡ o → is_some o ≡ true
-    by None at = sym (ap (λ o. is_some (or_first (among o) (find (fits zone []) (among o)))) at) ∙ some
+    by None at = sym (ap (λ o. is_some (slice_get (among o) (place_in zone cands x (among o)))) at) ∙ some
       where
         among : Option Sysmod → List Ver
         among o = option_map_or (λ s. filter (λ v. bytes_eq v.srel zone.srel) s.vers) o []
     by (Some s) at = refl
 
-module _ (g h : Global) (zone : Zone) (closed : IsClosedZone g (counting g zone []) zone)
-    (alike : (x : Id) → Contains (applied_ids zone) x → AreAlike g h x) where
-  abbrev was : Choice
-  was = counting g zone []
-
-  abbrev now : Choice
-  now = counting h zone []
-
+module _ (g h : Global) (was now : Choice) (zone : Zone) (closed : IsClosedZone g was zone)
+    (alike : (x : Id) → Contains (applied_ids zone) x → AreAlike g h x)
+    (same : (x : Id) → Contains (applied_ids zone) x → was x ≡ now x) where
   still_supported : (x : Id) → Contains (applied_ids zone) x → IsSupported now zone x
   still_supported x there =
       let s = All-contains (IsSupported was zone) (applied_ids zone) x closed.supported there in
-      let same : was x ≡ now x = sym (alike_choice g h zone x (alike x there)) in
+      let at = same x there in
       record {
-        received = subst IsSome same s.received;
-        fmid = subst (λ o. IfSome (option_and_then (λ (v : Ver). v.fmid) o) (λ f. IsTrue (is_applied zone f))) same
+        received = subst IsSome at s.received;
+        fmid = subst (λ o. IfSome (option_and_then (λ (v : Ver). v.fmid) o) (λ f. IsTrue (is_applied zone f))) at
             s.fmid;
         requisites = subst (λ o. All (λ z. IsTrue (is_supplied zone z)) (binding_ids (λ y. o) zone (is_applied zone) x))
-            same s.requisites;
+            at s.requisites;
       }
 
   -- What is applied has no DELBY, and its FMID is applied, to the end of the chain.
@@ -108,22 +110,20 @@ module _ (g h : Global) (zone : Zone) (closed : IsClosedZone g (counting g zone 
   still_at_peace : (x : Id) → Contains (applied_ids zone) x → IsAtPeace h now zone x
   still_at_peace x there =
       let peace = All-contains (IsAtPeace g was zone) (applied_ids zone) x closed.at_peace there in
-      let same : was x ≡ now x = sym (alike_choice g h zone x (alike x there)) in
       record {
         npre = λ function. subst
             (λ o. All (λ y. IsFalse (is_applied zone y)) (option_map_or (λ (v : Ver). v.npre) o []))
-            same (peace.npre (sym (alike_function g h x (alike x there)) ∙ function));
+            (same x there) (peace.npre (sym (alike_function g h x (alike x there)) ∙ function));
         chain = chain_free (length h.sysmods + 1) x there;
       }
 
   still_owned : (e : Element) → IsOwned g was zone e → IsOwned h now zone e
   still_owned e o =
       let ids = e.fmid ∷ e.rmid ∷ e.umids in
-      let among : (x : Id) → Contains ids x → AreAlike g h x =
-      λ x there. alike x (in_applied_ids zone x
-      (All-contains (λ x. IsTrue (is_applied zone x)) ids x o.applied there)) in
+      let on : (x : Id) → Contains ids x → Contains (applied_ids zone) x =
+      λ x there. in_applied_ids zone x (All-contains (λ x. IsTrue (is_applied zone x)) ids x o.applied there) in
       let changes : (x : Id) → Contains ids x → changes_of g x ≡ changes_of h x =
-      λ x there. sym (alike_changes g h x (among x there)) in
+      λ x there. sym (alike_changes g h x (alike x (on x there))) in
       let found : List Change → Option Change =
       λ hs. find (λ (c : Change). (type_number c.elem_type == type_number e.elem_type) && bytes_eq c.name e.name) hs in
       record {
@@ -138,16 +138,17 @@ module _ (g h : Global) (zone : Zone) (closed : IsClosedZone g (counting g zone 
             (changes x within) (o.umids k d below);
         owner = λ k d below.
             let x = get_or ids k d in
-            let same = among x (All-contains_itself ids k d below) in
-            subst (λ b. (if b then x else unwrap_or (fmid_of now x) x) ≡ e.fmid) (sym (alike_function g h x same))
+            let within = on x (All-contains_itself ids k d below) in
+            subst (λ b. (if b then x else unwrap_or (fmid_of now x) x) ≡ e.fmid)
+            (sym (alike_function g h x (alike x within)))
             (subst
             (λ v. (if is_function g x then x else unwrap_or (option_and_then (λ (v : Ver). v.fmid) v) x) ≡ e.fmid)
-            (sym (alike_choice g h zone x same)) (o.owner k d below));
+            (same x within) (o.owner k d below));
         text = o.text;
       }
 
-  pub still_closed : IsClosedZone h now zone
-  still_closed = record {
+  pub closed_alike : IsClosedZone h now zone
+  closed_alike = record {
     supported = λ k d below. still_supported (get_or (applied_ids zone) k d)
         (All-contains_itself (applied_ids zone) k d below);
     at_peace = λ k d below. still_at_peace (get_or (applied_ids zone) k d)
@@ -156,9 +157,21 @@ module _ (g h : Global) (zone : Zone) (closed : IsClosedZone g (counting g zone 
     elements = λ k d below. still_owned (get_or zone.elements k d) (closed.elements k d below);
   }
 
+-- under the ++VERs that count in the zone
+pub still_closed : (g h : Global) (zone : Zone) → IsClosedZone g (counting g zone []) zone
+    → ((x : Id) → Contains (applied_ids zone) x → AreAlike g h x) → IsClosedZone h (counting h zone []) zone
+still_closed g h zone closed alike =
+    closed_alike g h (counting g zone []) (counting h zone []) zone closed alike
+    (λ x there. sym (alike_choice g h zone x (alike x there)))
+
+-- under one global zone, by another choice
+pub closed_by : (g : Global) (was now : Choice) (zone : Zone) → IsClosedZone g was zone
+    → ((x : Id) → Contains (applied_ids zone) x → was x ≡ now x) → IsClosedZone g now zone
+closed_by g was now zone closed same = closed_alike g g was now zone closed (λ x there. refl) same
+
 -- A zone whose applied SYSMODs are received, as they are where it is closed.
-pub applied_received : (g : Global) (zone : Zone) → IsClosedZone g (counting g zone []) zone → (x : Id)
-    → Contains (applied_ids zone) x → IsTrue (is_received g x)
-applied_received g zone closed x there =
-    chosen_received g zone x
-    (All-contains (IsSupported (counting g zone []) zone) (applied_ids zone) x closed.supported there).received
+pub applied_received : (g : Global) (zone : Zone) (cands : List Id) → IsClosedZone g (counting g zone cands) zone
+    → (x : Id) → Contains (applied_ids zone) x → IsTrue (is_received g x)
+applied_received g zone cands closed x there =
+    chosen_received g zone cands x
+    (All-contains (IsSupported (counting g zone cands) zone) (applied_ids zone) x closed.supported there).received

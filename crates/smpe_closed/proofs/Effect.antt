@@ -6,7 +6,7 @@ use Rattle.std.proofs.lemmas.List.Elements.{Contains-append_left, Contains-appen
 use Rattle.lemmas.proofs.Members.{here_or, none_in, here, there}
 use Rattle.terms.specs.Types.{Text, Id, Zone}
 use Rattle.terms.specs.Lookups.{at_most_one, is_received, is_function, is_applied, is_supplied}
-use Rattle.terms.specs.Choice.{counting, fmid_of, pre_of, sup_of}
+use Rattle.terms.specs.Choice.{fmid_of, pre_of, sup_of}
 use Rattle.terms.specs.Over.{names, Supersedes}
 use Rattle.terms.specs.Tests.{Setting}
 use Rattle.terms.specs.Install.{Installation, TakesEffect, cleared, HasInstalled}
@@ -14,7 +14,6 @@ use Rattle.terms.proofs.Ids.{in_or_not}
 use Rattle.terms.proofs.Leads.{reaches_through}
 use Rattle.terms.proofs.Walks.{reaches_or_not}
 use Rattle.change.proofs.ChosenVers.{names_received, never_itself, fmid_function, function_first}
-use Rattle.sysmods.proofs.Counting.{counted}
 use Rattle.smpe_closed.proofs.Supplied.{applied_dated, supplied_or, supplied_applied, supplied_by}
 use Rattle.smpe_closed.proofs.Given.{Keeps, installing, kept_candidate, candidate_ver}
 use Rattle.smpe_closed.proofs.AlikeSysmods.{chosen_received}
@@ -74,13 +73,9 @@ module _ (s : Setting) (survivors kept : List Id) (k : Keeps s survivors kept) w
   supersedes_or_not = reaches_or_not (sup_of s.choice) (map (λ s. s.id) s.global.sysmods)
       (λ x z named. names_received s.global s.zone.srel s.choice k.vers x z (sup_named x z named)) not_itself
 
-  -- the ++VERs count as they do without candidates
-  pub choice_is : s.choice ≡ counting s.global s.zone []
-  choice_is = k.chosen ∙ counted s.global s.zone s.cands k.global ∙ sym (counted s.global s.zone [] k.global)
-
   -- what is kept is received
   pub kept_received : (x : Id) → Contains kept x → IsTrue (is_received s.global x)
-  kept_received x is = chosen_received s.global s.zone x (subst (λ c. IsSome (c x)) choice_is
+  kept_received x is = chosen_received s.global s.zone s.cands x (subst (λ c. IsSome (c x)) k.chosen
       (candidate_ver s survivors kept k x (kept_candidate s survivors kept k x is)))
 
   module _ (bypassed : List (Id × Id)) (date : Text) where

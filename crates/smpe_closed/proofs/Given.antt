@@ -1,11 +1,14 @@
 -- What is known of an APPLY or ACCEPT in a closed zone.
-use Rattle.std.proofs.Common.{◌≡◌, true, false, not, List, [], ◌∷◌, Option, None, Some, Contains, IsTrue, IsSome}
-use Rattle.std.proofs.Common.{is_some, find, refl, sym, ◌∙◌, ap, subst, true≢false}
-use Rattle.std.specs.Prelude.{◌↔◌}
-use Rattle.std.proofs.lemmas.Bool.{and_parts}
-use Rattle.terms.specs.Types.{Text, Id, Ver, Global, Zone, Bypass, Selection}
-use Rattle.terms.specs.Lookups.{IsZone, is_nil, is_applied}
-use Rattle.terms.specs.Choice.{vers_of, fits, or_first, counting, first_ver}
+use Rattle.std.proofs.Common.{◌≡◌, ◌+◌, Bool, true, false, not, List, [], ◌∷◌, Option, Contains, IsTrue}
+use Rattle.std.proofs.Common.{IsSome, is_some, length, inl, inr, refl, sym, ◌∙◌, ap, subst, arith, true≢false}
+use Rattle.std.specs.Prelude.{◌↔◌, ◌-◌, position, slice_get, nat_lt, unwrap_or}
+use Rattle.std.specs.List.{position_or_len}
+use Rattle.std.specs.Option.{option_map_or}
+use Rattle.std.proofs.lemmas.Bool.{and_parts, ltb-true}
+use Rattle.std.proofs.lemmas.Option.{slice_get_cases}
+use Rattle.terms.specs.Types.{Text, Id, Applied, Global, Zone, Bypass, Selection}
+use Rattle.terms.specs.Lookups.{IsZone, is_nil, is_in, is_applied, applied_ids}
+use Rattle.terms.specs.Choice.{vers_of, fits, place, counting}
 use Rattle.terms.specs.Global.{IsGlobal}
 use Rattle.terms.specs.Candidates.{is_installable}
 use Rattle.terms.specs.Tests.{Setting, IsEligible, AreSurvivors}
@@ -14,12 +17,14 @@ use Rattle.terms.specs.Judged.{setting, Stays, IsKeptSet}
 use Rattle.terms.specs.Install.{Installation, HasInstalled}
 use Rattle.terms.specs.Closed.{IsClosedZone}
 use Rattle.machine.specs.Installing.{Decision}
-use Rattle.sysmods.proofs.Counting.{counted}
 use Rattle.change.proofs.ChosenVers.{AreFor, counting_for}
 use Rattle.change.proofs.Installable.{is_fresh}
 use Rattle.change.proofs.KeptTogether.{unsupplied}
 use Rattle.smpe_upkeep.proofs.Decisions.{candidate_open}
+use Rattle.smpe_closed.proofs.AlikeSysmods.{closed_by}
+use Rattle.smpe_closed.proofs.AppliedIds.{applied_in_ids}
 use Rattle.smpe_closed.proofs.Installs.{IsInstall}
+use Rattle.smpe_closed.proofs.KeptChoice.{undated, counts_whatever, install_keeps_choice}
 
 -- A kept set in a setting whose zone is closed.
 pub record Keeps (s : Setting) (survivors kept : List Id) : Type 0 where
@@ -37,11 +42,31 @@ abbrev pub installing : Setting → List Id → List (Id × Id) → Text → Ins
 installing s kept bypassed date = record {
   global = s.global;
   choice = s.choice;
+  number = λ x. place s.global s.zone s.cands x + 1;
   zone = s.zone;
   kept = kept;
   bypassed = bypassed;
   date = date;
 }
+
+-- Of some items the first that passes is there, or else the first.
+first_there : {X : Type 0} (p : X → Bool) (xs : List X) → not (is_nil xs) ≡ true
+    → is_some (slice_get xs (unwrap_or (position p xs) 0)) ≡ true
+first_there {X} p xs some = by (nat_lt (position_or_len p xs) (length xs)) refl
+  where
+    front : (ys : List X) → not (is_nil ys) ≡ true → is_some (slice_get ys 0) ≡ true
+    front [] none = absurd (true≢false (sym none))
+    front (y ∷ ys) there = refl
+
+    by : (b : Bool) → nat_lt (position_or_len p xs) (length xs) ≡ b
+        → is_some (slice_get xs (unwrap_or (position p xs) 0)) ≡ true
+    by true e =
+        let below = ltb-true (position_or_len p xs) (length xs) e in
+        rw e (elim (slice_get_cases xs (position_or_len p xs)).1 [
+          | inl there ↦ ap is_some there.2
+          | inr past ↦ absurd (omega (arith, below, past.0))
+        ])
+    by false e = rw e (front xs some)
 
 module _ (s : Setting) (survivors kept : List Id) (k : Keeps s survivors kept) where
   pub eligible : (x : Id) → Contains kept x → IsEligible s x
@@ -60,13 +85,11 @@ module _ (s : Setting) (survivors kept : List Id) (k : Keeps s survivors kept) w
   -- and has a ++VER that counts
   pub candidate_ver : (x : Id) → Contains s.cands x → IsSome (s.choice x)
   candidate_ver x is = ap (λ c. is_some (c x)) k.chosen
-      ∙ by (vers_of s.global s.zone.srel x) (find (fits s.zone s.cands) (vers_of s.global s.zone.srel x))
+      ∙ ap (λ o. is_some (slice_get (vers_of s.global s.zone.srel x) (option_map_or (λ (a : Applied). a.number - 1) o
+      (unwrap_or (position (fits s.zone (is_in s.cands)) (vers_of s.global s.zone.srel x)) 0))))
+      (undated s.zone x (unapplied x is))
+      ∙ first_there (fits s.zone (is_in s.cands)) (vers_of s.global s.zone.srel x)
       (and_parts _ _ (and_parts _ _ (k.installable x is)).0).0
-    where
-      by : (vs : List Ver) (o : Option Ver) → not (is_nil vs) ≡ true → is_some (or_first vs o) ≡ true
-      by [] o none = absurd (true≢false (sym none))
-      by (v ∷ vs) None some = refl
-      by (v ∷ vs) (Some w) some = refl
 
 module _ (g : Global) (zone : Zone) (related : Option Zone) (sel : Selection) (bypass : Bypass) (date : Text)
     (d : Decision) (new : Zone) (is : IsInstall g zone related sel bypass date d new) where
@@ -86,8 +109,8 @@ module _ (g : Global) (zone : Zone) (related : Option Zone) (sel : Selection) (b
         ((is.decides.candidates.members x).0 there))).0;
     are_survivors = kept_set.are_survivors;
     members = kept_set.members;
-    closed = subst (λ c. IsClosedZone g c zone)
-        (counted g zone [] is.global ∙ sym (counted g zone is.decides.cands is.global)) is.closed;
+    closed = closed_by g (counting g zone []) (counting g zone is.decides.cands) zone is.closed
+        (λ x there. counts_whatever g zone [] is.decides.cands x (applied_in_ids zone is.is_zone x there));
   }
 
   pub installed : HasInstalled (installing decided d.kept is.decides.bypassed date) new
@@ -100,9 +123,8 @@ module _ (g : Global) (zone : Zone) (related : Option Zone) (sel : Selection) (b
       (λ s. Contains is.decides.bypassed (x, z) ↔ (Contains d.kept x × Contains (bypassed_ids s x) z))
       is.decides.setting (is.decides.are_bypassed x z)
 
-  -- the choice by the new zone is that of the setting
-  pub choice_after : counting g new [] ≡ counting g zone is.decides.cands
-  choice_after =
-      counted g new [] is.global
-      ∙ sym (subst (λ z. counting g zone is.decides.cands ≡ first_ver g z.srel) (sym installed.rest)
-      (counted g zone is.decides.cands is.global))
+  -- what counts for the applied ones of the new zone is what counted in the setting
+  pub choice_after : (x : Id) → Contains (applied_ids new) x → counting g zone is.decides.cands x ≡ counting g new [] x
+  choice_after x there = sym (install_keeps_choice (installing decided d.kept is.decides.bypassed date)
+      is.decides.cands (λ y. refl) is.is_zone new installed []
+      x (applied_in_ids new is.installs.is_zone x there))

@@ -15,6 +15,8 @@ use Rattle.machine.specs.Outcome.{Line}
 use Rattle.machine.specs.Installing.{Decision, IsDecision, InstallsSelected}
 use Rattle.smpe_upkeep.proofs.Decisions.{decision_forms}
 use Rattle.smpe_upkeep.proofs.InstallForms.{installed_forms}
+use Rattle.smpe_closed.proofs.AlikeSysmods.{closed_by}
+use Rattle.smpe_closed.proofs.Given.{choice_after}
 use Rattle.smpe_closed.proofs.Installs.{IsInstall}
 use Rattle.smpe_closed.proofs.Supported.{installed_supported}
 use Rattle.smpe_closed.proofs.Peaceful.{install_keeps_peace, install_keeps_supby}
@@ -45,12 +47,14 @@ pub install_keeps_closed : (g : Global) (zone : Zone) (related : Option Zone) (s
     (date : Text) (d : Decision) (new : Zone) → IsInstall g zone related sel bypass date d new
     → All HasSysmodForms g.sysmods → All (λ e. HasForm e.elem_type e.text) new.elements
     → IsClosedZone g (counting g new []) new
-install_keeps_closed g zone related sel bypass date d new is sysmods texts = record {
-  supported = installed_supported g zone related sel bypass date d new is;
-  at_peace = install_keeps_peace g zone related sel bypass date d new is sysmods;
-  supby = install_keeps_supby g zone related sel bypass date d new is;
-  elements = install_keeps_owned g zone related sel bypass date d new is texts;
-}
+install_keeps_closed g zone related sel bypass date d new is sysmods texts =
+    closed_by g (counting g zone is.decides.cands) (counting g new []) new (record {
+      supported = installed_supported g zone related sel bypass date d new is;
+      at_peace = install_keeps_peace g zone related sel bypass date d new is sysmods;
+      supby = install_keeps_supby g zone related sel bypass date d new is;
+      elements = install_keeps_owned g zone related sel bypass date d new is texts;
+    })
+    (choice_after g zone related sel bypass date d new is)
 
 -- So do APPLY and ACCEPT in a zone of an inventory.
 pub apply_keeps_closed : (i : Inventory) (zone : Zone) (related : Option Zone) (sel : Selection) (bypass : Bypass)

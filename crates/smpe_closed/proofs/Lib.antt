@@ -15,7 +15,10 @@ pub mod AppliedIds
 pub mod TakenOff
 pub mod RestoreKeeps
 pub mod AlikeSysmods
+pub mod KeptChoice
 pub mod ReceiveKeeps
 pub mod RejectKeeps
 pub mod StepKeeps
+pub mod StepChoice
+pub mod SingleVers
 pub mod JobsKeep

@@ -34,11 +34,11 @@ use Rattle.change.proofs.LessLookups.{element_was}
 use Rattle.smpe_upkeep.proofs.Lists.{find_itself}
 use Rattle.smpe_closed.proofs.Installs.{IsInstall}
 use Rattle.smpe_closed.proofs.Supplied.{left_applied, left_element}
-use Rattle.smpe_closed.proofs.Given.{Keeps, installing, eligible, keeps, installed, choice_after}
+use Rattle.smpe_closed.proofs.Given.{Keeps, installing, eligible, keeps, installed}
 use Rattle.smpe_closed.proofs.AlikeSysmods.{applied_received}
 use Rattle.smpe_closed.proofs.AppliedIds.{in_applied_ids}
 use Rattle.smpe_closed.proofs.Chains.{view_element, deleted_either}
-use Rattle.smpe_closed.proofs.Effect.{choice_is, kept_received, effect_or_not, applied_either, effect_applied}
+use Rattle.smpe_closed.proofs.Effect.{kept_received, effect_or_not, applied_either, effect_applied}
 use Rattle.smpe_closed.proofs.Undeleted.{undeleted_applied, fmid_applied}
 
 -- one that passes, or none
@@ -83,8 +83,8 @@ IsOwnedWith g c zone e = (text : Lines) → HasForm e.elem_type text → IsOwned
 module _ (s : Setting) (survivors kept : List Id) (k : Keeps s survivors kept) where
   -- what was applied is received
   was_received : (x : Id) → is_applied s.zone x ≡ true → is_received s.global x ≡ true
-  was_received x on = applied_received s.global s.zone (subst (λ c. IsClosedZone s.global c s.zone)
-      (choice_is s survivors kept k) k.closed) x (in_applied_ids s.zone x on)
+  was_received x on = applied_received s.global s.zone s.cands (subst (λ c. IsClosedZone s.global c s.zone) k.chosen
+      k.closed) x (in_applied_ids s.zone x on)
 
   -- It is taken out with its owner alone, since DELETE names functions.
   undeleted_with_owner : (x : Id) → is_applied s.zone x ≡ true
@@ -336,9 +336,8 @@ module _ (s : Setting) (survivors kept : List Id) (k : Keeps s survivors kept) (
 module _ (g : Global) (zone : Zone) (related : Option Zone) (sel : Selection) (bypass : Bypass) (date : Text)
     (d : Decision) (new : Zone) (is : IsInstall g zone related sel bypass date d new) where
   pub install_keeps_owned : All (λ e. HasForm e.elem_type e.text) new.elements
-      → All (IsOwned g (counting g new []) new) new.elements
-  install_keeps_owned forms = subst (λ c. All (IsOwned g c new) new.elements)
-      (sym (choice_after g zone related sel bypass date d new is))
-      (λ j e below. owned_after _ _ d.kept (keeps g zone related sel bypass date d new is) is.decides.bypassed date new
+      → All (IsOwned g (counting g zone is.decides.cands) new) new.elements
+  install_keeps_owned forms = λ j e below.
+      owned_after _ _ d.kept (keeps g zone related sel bypass date d new is) is.decides.bypassed date new
       (installed g zone related sel bypass date d new is) (get_or new.elements j e)
-      (All-contains_itself new.elements j e below) (forms j e below))
+      (All-contains_itself new.elements j e below) (forms j e below)

@@ -30,7 +30,7 @@ use Rattle.smpe_upkeep.proofs.OperandForms.{HasVers, ver_forms}
 use Rattle.smpe_closed.proofs.AppliedIds.{in_applied_ids, applied_in_ids}
 use Rattle.smpe_closed.proofs.Installs.{IsInstall}
 use Rattle.smpe_closed.proofs.Supplied.{left_applied, left_supby}
-use Rattle.smpe_closed.proofs.Given.{Keeps, installing, eligible, kept_candidate, keeps, installed, choice_after}
+use Rattle.smpe_closed.proofs.Given.{Keeps, installing, eligible, kept_candidate, keeps, installed}
 use Rattle.smpe_closed.proofs.Chains.{was_supby, view_applied}
 use Rattle.smpe_closed.proofs.Effect.{applied_either, effect_applied}
 use Rattle.smpe_closed.proofs.Undeleted.{in_chain, undeleted_by, applied_undeleted, undeleted_applied, chain_applied}
@@ -158,14 +158,14 @@ module _ (g : Global) (zone : Zone) (related : Option Zone) (sel : Selection) (b
   found e there = find_itself nat_list_cmp_total (λ (e : Entry). e.id) bytes_eq texts_ties new.entries e
       is.installs.is_zone.entries there
 
-  pub install_keeps_peace : All HasSysmodForms g.sysmods → All (IsAtPeace g (counting g new []) new) (applied_ids new)
-  install_keeps_peace sysmods = subst (λ c. All (IsAtPeace g c new) (applied_ids new))
-      (sym (choice_after g zone related sel bypass date d new is))
-      (λ j e below. peace_after _ _ d.kept (keeps g zone related sel bypass date d new is) is.decides.bypassed date new
+  pub install_keeps_peace : All HasSysmodForms g.sysmods
+      → All (IsAtPeace g (counting g zone is.decides.cands) new) (applied_ids new)
+  install_keeps_peace sysmods = λ j e below.
+      peace_after _ _ d.kept (keeps g zone related sel bypass date d new is) is.decides.bypassed date new
       (installed g zone related sel bypass date d new is) (ver_forms g sysmods zone is.decides.cands)
       (get_or (applied_ids new) j e)
       (applied_in_ids new is.installs.is_zone (get_or (applied_ids new) j e)
-      (All-contains_itself (applied_ids new) j e below)))
+      (All-contains_itself (applied_ids new) j e below))
 
   pub install_keeps_supby : All (λ e. All (λ y. IsTrue (is_applied new y)) e.supby) new.entries
   install_keeps_supby = λ j e below.

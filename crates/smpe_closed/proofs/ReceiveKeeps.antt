@@ -111,4 +111,4 @@ receive_keeps_closed source items holds g middle new lines more zones runs runs_
     let z = get_or zones k d in
     still_closed g new z.zone (closed k d below) (λ x there.
     items_keep source items holds g middle new lines more runs runs_holds x
-    (applied_received g z.zone (closed k d below) x there))
+    (applied_received g z.zone [] (closed k d below) x there))

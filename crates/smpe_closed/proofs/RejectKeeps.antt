@@ -20,7 +20,7 @@ use Rattle.smpe_closed.proofs.AppliedIds.{applied_in_ids}
 use Rattle.smpe_closed.proofs.AlikeSysmods.{but_sources, AreAlike, still_closed}
 
 -- all others stay as they are
-without_alike : (g : Global) (x y : Id) → bytes_eq x y ≡ false → AreAlike g (without_sysmod g x) y
+pub without_alike : (g : Global) (x y : Id) → bytes_eq x y ≡ false → AreAlike g (without_sysmod g x) y
 without_alike g x y other =
     ap (option_map but_sources) (sysmod_of_without_sysmod g x y ∙ ap (λ b. cond b None (sysmod_of g y)) other)
 

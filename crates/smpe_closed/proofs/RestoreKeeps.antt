@@ -4,7 +4,7 @@ use Rattle.std.proofs.Common.{Some, All, Any, Contains, IfSome, IsTrue, IsFalse,
 use Rattle.std.proofs.Common.{get_or, unwrap_or, refl, sym, ap, subst, true≢false}
 use Rattle.std.specs.Prelude.{◌&&◌, ◌||◌, ◌==◌, find, if◌then◌else◌}
 use Rattle.std.specs.List.{list_any}
-use Rattle.std.specs.Option.{option_map_or}
+use Rattle.std.specs.Option.{option_map_or, option_and_then}
 use Rattle.std.specs.Str.{bytes_eq}
 use Rattle.std.proofs.lemmas.Bool.{and_parts, and_from, or_left, or_right, eqb-true, false_from_ne_true}
 use Rattle.std.proofs.lemmas.List.Elements.{All-contains, All-contains_itself, All-weaker}
@@ -16,26 +16,29 @@ use Rattle.lemmas.proofs.Texts.{same_from, same_itself}
 use Rattle.terms.specs.declared.kinds.ElemType.{ElemType}
 use Rattle.terms.specs.declared.codes.Test.TheVariants.{J10, J12}
 use Rattle.terms.specs.declared.codes.NeedKind.TheVariants.{Dep}
-use Rattle.terms.specs.Types.{Text, Id, IfReq, Change, Global, Entry, Element, Zone, RestoreList, type_number}
+use Rattle.terms.specs.Types.{Text, Id, IfReq, Ver, Applied, Change, Global, Entry, Element, Zone, RestoreList}
+use Rattle.terms.specs.Types.{type_number}
 use Rattle.terms.specs.Lookups.{IsZone, is_nil, is_in, is_function, has_content, is_applied, is_supplied, supplies}
 use Rattle.terms.specs.Lookups.{supby_of, delby_of, waived_of, applied_ids, element_of, element_key, element_eq}
-use Rattle.terms.specs.Lookups.{entry_of, changes_of, change_of, has_change}
-use Rattle.terms.specs.Choice.{counting, fmid_of, pre_of, req_of, ifs_of, npre_of, first_ver}
+use Rattle.terms.specs.Lookups.{entry_of, applied_of, is_received, changes_of, change_of, has_change}
+use Rattle.terms.specs.Choice.{Choice, counting, fmid_of, pre_of, req_of, ifs_of, npre_of}
 use Rattle.terms.specs.Over.{chain, owner}
 use Rattle.terms.specs.Changes.{is_replacement, has_replacement, has_update}
 use Rattle.terms.specs.Deleted.{entry_less}
 use Rattle.terms.specs.Needs.{unwaived, binding_ifs, binding_ids}
 use Rattle.terms.specs.Global.{IsGlobal}
 use Rattle.terms.specs.Restore.{Restoring, NeedsDep, is_supplied_outside, MayBeRestored, IsRestored}
-use Rattle.terms.specs.Restore.{Restores, are_applied}
+use Rattle.terms.specs.Restore.{Restores, are_applied, is_alike, are_alike, may_return}
 use Rattle.terms.specs.Closed.{IsSupported, IsAtPeace, IsOwned, IsClosedZone}
 use Rattle.terms.proofs.Ids.{is_in_from_Contains, Contains_from_is_in}
 use Rattle.terms.proofs.ElementOrder.{element_cmp_total, element_ties}
-use Rattle.sysmods.proofs.Counting.{counted}
+use Rattle.change.proofs.ChosenVers.{counting_for, fmid_function}
 use Rattle.machine.specs.Outcome.{Line}
 use Rattle.machine.specs.Restoring.{RestoresListed}
 use Rattle.smpe_upkeep.proofs.Lists.{find_itself, flat_map_in}
-use Rattle.smpe_closed.proofs.AppliedIds.{of_applied, each_applied}
+use Rattle.smpe_closed.proofs.AlikeSysmods.{closed_by, chosen_received}
+use Rattle.smpe_closed.proofs.AppliedIds.{applied_in_ids, of_applied, each_applied}
+use Rattle.smpe_closed.proofs.KeptChoice.{counts_alike, counts_left}
 use Rattle.smpe_closed.proofs.TakenOff.{applied_left, supby_left, delby_left, waived_left}
 
 -- What is kept, of a list, and the zones of it, which are closed.
@@ -44,8 +47,11 @@ pub record IsRestore (r : Restoring) (ids kept : List Id) (new : Zone) : Type 0 
   pub members : (x : Id) → Contains kept x → IsRestored r ids x
   pub others : (x : Id) → IsRestored r ids x → Contains kept x
   pub restores : Restores r kept new
+  pub global : IsGlobal r.global
+  pub choice : r.choice ≡ counting r.global r.zone []
+  pub srel : r.accepted.srel ≡ r.zone.srel
   pub closed : IsClosedZone r.global r.choice r.zone
-  pub closed_accepted : IsClosedZone r.global r.choice r.accepted
+  pub closed_accepted : IsClosedZone r.global (counting r.global r.accepted []) r.accepted
 
 -- ---- what is kept
 
@@ -308,6 +314,84 @@ module _ (r : Restoring) (ids kept : List Id) (new : Zone) (is : IsRestore r ids
       by None h = h
       by (Some c) h = refl
 
+  -- ---- what counts in the accepted zone
+
+  abbrev accepted_choice : Choice
+  accepted_choice = counting r.global r.accepted []
+
+  -- what both zones have applied by one number counts alike in both
+  same_counts : (x : Id) → IsTrue (is_alike r.zone r.accepted x) → accepted_choice x ≡ r.choice x
+  same_counts x alike = by (applied_of r.zone x) refl (applied_of r.accepted x) refl alike
+      ∙ ap (λ (c : Choice). c x) (sym is.choice)
+    where
+      by : (m : Option Applied) → applied_of r.zone x ≡ m → (n : Option Applied) → applied_of r.accepted x ≡ n
+          → IsTrue (option_map_or (λ a. option_map_or (λ b. a.number == b.number) n false) m false)
+          → accepted_choice x ≡ counting r.global r.zone [] x
+      by None of_zone n of_accepted is_so = absurd (cc is_so)
+      by (Some m) of_zone None of_accepted is_so = absurd (cc is_so)
+      by (Some m) of_zone (Some n) of_accepted is_so =
+          counts_alike r.global r.accepted r.zone [] [] x n m is.srel of_accepted of_zone
+          (sym (eqb-true m.number n.number is_so))
+
+  -- what the accepted zone has applied is received
+  accepted_received : (x : Id) → IsTrue (is_applied r.accepted x) → IsTrue (is_received r.global x)
+  accepted_received x on = chosen_received r.global r.accepted [] x
+      (of_applied (IsSupported accepted_choice r.accepted) r.accepted is.closed_accepted.supported x on).received
+
+  -- Who owns what is alike in both zones owns it in both.
+  same_owner : (x f : Id) → IsTrue (is_alike r.zone r.accepted x) → owner r.global accepted_choice x ≡ f
+      → owner r.global r.choice x ≡ f
+  same_owner x f alike =
+      subst (λ v. (if is_function r.global x then x else unwrap_or (option_and_then (λ (v : Ver). v.fmid) v) x) ≡ f)
+      (same_counts x alike)
+
+  -- An owner owns itself: it is a function, or alike in both zones.
+  owns_itself : (x f : Id) → IsTrue (is_alike r.zone r.accepted x) → IsTrue (is_applied r.accepted f)
+      → owner r.global accepted_choice x ≡ f → owner r.global accepted_choice f ≡ f → owner r.global r.choice f ≡ f
+  owns_itself x f alike on owns itself =
+      by (is_function r.global x) (fmid_of accepted_choice x) refl owns (either_bool (is_function r.global f))
+    where
+      function : IsTrue (is_function r.global f) → owner r.global r.choice f ≡ f
+      function is_so = ap (λ b. if b then f else unwrap_or (fmid_of r.choice f) f) is_so
+
+      same : x ≡ f → owner r.global r.choice f ≡ f
+      same at = same_owner f f (subst (λ y. IsTrue (is_alike r.zone r.accepted y)) at alike) itself
+
+      by : (b : Bool) (o : Option Id) → fmid_of accepted_choice x ≡ o → (if b then x else unwrap_or o x) ≡ f
+          → (is_function r.global f ≡ true) ⊎ (is_function r.global f ≡ false) → owner r.global r.choice f ≡ f
+      by b o at is_owner (inl is_so) = function is_so
+      by true o at is_owner (inr none) = same is_owner
+      by false None at is_owner (inr none) = same is_owner
+      by false (Some h) at is_owner (inr none) = function (fmid_function r.global r.accepted.srel accepted_choice
+          (counting_for r.global r.accepted []) is.global.roles x f (at ∙ ap (λ v. Some v) is_owner)
+          (accepted_received f on))
+
+  -- So an element of the accepted zone that may return keeps its owner.
+  owner_still : (e : Element) → IsOwned r.global accepted_choice r.accepted e → IsTrue (are_alike r.zone r.accepted e)
+      → (x : Id) → Contains (e.fmid ∷ e.rmid ∷ e.umids) x → owner r.global r.choice x ≡ e.fmid
+  owner_still e was alike x among = elim (here_or e.fmid (e.rmid ∷ e.umids) x among) [
+    | inl first ↦ subst (λ y. owner r.global r.choice y ≡ e.fmid) first
+        (owns_itself e.rmid e.fmid (each e.rmid (here e.rmid e.umids))
+        (on e.fmid (here e.fmid (e.rmid ∷ e.umids)))
+        (owned_by e.rmid (there e.fmid (e.rmid ∷ e.umids) e.rmid (here e.rmid e.umids)))
+        (owned_by e.fmid (here e.fmid (e.rmid ∷ e.umids))))
+    | inr rest ↦ same_owner x e.fmid (each x rest) (owned_by x among)
+  ]
+    where
+      owned_by : (y : Id) → Contains (e.fmid ∷ e.rmid ∷ e.umids) y → owner r.global accepted_choice y ≡ e.fmid
+      owned_by y is_in_ids = All-contains (λ y. owner r.global accepted_choice y ≡ e.fmid)
+          (e.fmid ∷ e.rmid ∷ e.umids) y was.owner is_in_ids
+
+      on : (y : Id) → Contains (e.fmid ∷ e.rmid ∷ e.umids) y → IsTrue (is_applied r.accepted y)
+      on y is_in_ids = All-contains (λ y. IsTrue (is_applied r.accepted y)) (e.fmid ∷ e.rmid ∷ e.umids) y was.applied
+          is_in_ids
+
+      each : (y : Id) → Contains (e.rmid ∷ e.umids) y → IsTrue (is_alike r.zone r.accepted y)
+      each y is_in_ids = true_from_not (is_alike r.zone r.accepted y)
+          (All-contains (λ y. IsFalse (not (is_alike r.zone r.accepted y))) (e.rmid ∷ e.umids) y
+          (All_from_no_list_any (λ y. not (is_alike r.zone r.accepted y)) (e.rmid ∷ e.umids)
+          (false_from_true (list_any (λ y. not (is_alike r.zone r.accepted y)) (e.rmid ∷ e.umids)) alike)) is_in_ids)
+
   module _ (e : Element) (stands : Contains new.elements e) where
     found : element_of new e.elem_type e.name ≡ Some e
     found = find_itself element_cmp_total element_key element_eq element_ties new.elements e
@@ -356,16 +440,16 @@ module _ (r : Restoring) (ids kept : List Id) (new : Zone) (is : IsRestore r ids
         Members_rmid : Contains (e.fmid ∷ e.rmid ∷ e.umids) e.rmid
         Members_rmid = there e.fmid (e.rmid ∷ e.umids) e.rmid (here e.rmid e.umids)
 
-    -- an element of the accepted zone that a candidate changes: all its ids are applied in the target zone
+    -- an element of the accepted zone that a candidate changes passes J12
     tested : (x : Id) → Contains kept x → IsTrue (has_change r.global x e.elem_type e.name)
-        → element_of r.accepted e.elem_type e.name ≡ Some e → IsTrue (are_applied r.zone e)
+        → element_of r.accepted e.elem_type e.name ≡ Some e → IsTrue (may_return r e)
     tested x among changes at = by (change_of r.global x e.elem_type e.name) refl changes
       where
         fits : Change → Bool
         fits h = (type_number h.elem_type == type_number e.elem_type) && bytes_eq h.name e.name
 
         by : (o : Option Change) → change_of r.global x e.elem_type e.name ≡ o → IsTrue (is_some o)
-            → IsTrue (are_applied r.zone e)
+            → IsTrue (may_return r e)
         by None is_change none = absurd (true≢false (sym none))
         by (Some h) is_change some =
             let gives = find_gives fits (changes_of r.global x) h is_change in
@@ -376,11 +460,11 @@ module _ (r : Restoring) (ids kept : List Id) (new : Zone) (is : IsRestore r ids
             (λ n. find (λ (v : Element). (type_number v.elem_type == n) && bytes_eq v.name h.name) r.accepted.elements)
             (eqb-true (type_number h.elem_type) (type_number e.elem_type) same.0)
             ∙ ap (element_of r.accepted e.elem_type) (same_from h.name e.name same.1) ∙ at in
-            let applied : Option Element → Bool = λ o. option_map_or (are_applied r.zone) o true in
-            elim (either_bool (are_applied r.zone e)) [
+            let returns : Option Element → Bool = λ o. option_map_or (may_return r) o true in
+            elim (either_bool (may_return r e)) [
               | inl good ↦ good
               | inr bad ↦ absurd ((may_be x among).passes J12
-                  (gives.1.0, h, gives.1.1, gives.1.2, ap applied found_there ∙ bad))
+                  (gives.1.0, h, gives.1.1, gives.1.2, ap returns found_there ∙ bad))
             ]
 
     -- it is of the accepted zone, and a kept SYSMOD changes it
@@ -389,12 +473,13 @@ module _ (r : Restoring) (ids kept : List Id) (new : Zone) (is : IsRestore r ids
         let at = sym (is.restores.reverted e.elem_type e.name some) ∙ found in
         let among = (find_gives (λ (v : Element). element_eq (element_key v) (e.elem_type, e.name)) r.accepted.elements
         e at).1 in
-        let was = All-contains (IsOwned r.global r.choice r.accepted) r.accepted.elements e is.closed_accepted.elements
-        among in
+        let was = All-contains (IsOwned r.global accepted_choice r.accepted) r.accepted.elements e
+        is.closed_accepted.elements among in
+        let returns = and_parts (are_applied r.zone e) (are_alike r.zone r.accepted e)
+        (tested some.1 (some.0, some.2, some.3) some.4 at) in
         let ids = e.fmid ∷ e.rmid ∷ e.umids in
         let all = All_from_no_list_any (λ y. not (is_applied r.zone y)) ids
-        (false_from_true (list_any (λ y. not (is_applied r.zone y)) ids)
-        (tested some.1 (some.0, some.2, some.3) some.4 at)) in
+        (false_from_true (list_any (λ y. not (is_applied r.zone y)) ids) returns.0) in
         let each : (x : Id) → Contains ids x → IsTrue (is_applied new x) =
         λ x there. still_applied x (
           true_from_not (is_applied r.zone x) (All-contains (λ y. IsFalse (not (is_applied r.zone y))) ids x all there),
@@ -406,7 +491,8 @@ module _ (r : Restoring) (ids kept : List Id) (new : Zone) (is : IsRestore r ids
           applied = λ k d below. each (get_or ids k d) (All-contains_itself ids k d below);
           rmid = was.rmid;
           umids = was.umids;
-          owner = was.owner;
+          owner = λ k d below.
+              owner_still e was returns.1 (get_or ids k d) (All-contains_itself ids k d below);
           text = was.text;
         }
 
@@ -426,10 +512,6 @@ module _ (r : Restoring) (ids kept : List Id) (new : Zone) (is : IsRestore r ids
     elements = λ k d below. owned (get_or new.elements k d) (All-contains_itself new.elements k d below);
   }
 
--- one SREL, one choice
-same_choice : (g : Global) (a b : Zone) → IsGlobal g → a.srel ≡ b.srel → counting g a [] ≡ counting g b []
-same_choice g a b is same = counted g a [] is ∙ ap (first_ver g) same ∙ sym (counted g b [] is)
-
 -- RESTORE in a closed zone, with a closed distribution zone of its SREL, leads to a closed zone.
 pub restore_keeps_closed : (g : Global) (zone accepted : Zone) (what : RestoreList) (new : Zone) (lines : List Line)
     → RestoresListed g zone accepted what new lines → IsGlobal g → IsZone zone → accepted.srel ≡ zone.srel
@@ -439,9 +521,7 @@ restore_keeps_closed g zone accepted what new lines restores global is_zone srel
     let r : Restoring = record { global = g; choice = counting g zone []; zone = zone; accepted = accepted } in
     let at = restores.setting_is in
     let done : Restores r restores.kept new = subst (λ s. Restores s restores.kept new) at restores.restores in
-    let same : counting g zone [] ≡ counting g new [] = same_choice g zone new global (sym (ap (λ z. z.srel) done.rest))
-    in
-    subst (λ c. IsClosedZone g c new) same
+    closed_by g (counting g zone []) (counting g new []) new
     (restored_closed r restores.ids restores.kept new (record {
       is_zone = is_zone;
       members = λ x. (subst (λ s. (x : Id) → Contains restores.kept x ↔ IsRestored s restores.ids x) at
@@ -449,7 +529,11 @@ restore_keeps_closed g zone accepted what new lines restores global is_zone srel
       others = λ x. (subst (λ s. (x : Id) → Contains restores.kept x ↔ IsRestored s restores.ids x) at
           restores.members x).1;
       restores = done;
+      global = global;
+      choice = refl;
+      srel = srel;
       closed = closed;
-      closed_accepted =
-          subst (λ c. IsClosedZone g c accepted) (same_choice g accepted zone global srel) closed_accepted;
+      closed_accepted = closed_accepted;
     }))
+    (λ x there. sym (counts_left g (is_in restores.kept) zone new [] [] x is_zone done.entries
+    (ap (λ (z : Zone). z.srel) done.rest) (applied_in_ids new done.is_zone x there)))

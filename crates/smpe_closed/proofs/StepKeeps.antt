@@ -110,7 +110,7 @@ taken_closed files s what t outcome (TakesAll items holds middle g lines more re
 taken_closed files s what t outcome (TakesNone fault reads is_fault) closed = closed
 taken_closed files s what t outcome (TakesNoHold items fault has reads is_fault) closed = closed
 
-each_zone : (s : State) → IsStorable s → All (λ (z : NamedZone). IsZone z.zone) s.zones
+pub each_zone : (s : State) → IsStorable s → All (λ (z : NamedZone). IsZone z.zone) s.zones
 each_zone s is = All-weaker IsZoneNamed (λ z. IsZone z.zone) (λ z has. has.zone) s.zones is.zones
 
 rejects_closed : (s : State) (ids : List Text) (t : State) (outcome : Outcome) → Rejects s ids t outcome

@@ -23,7 +23,7 @@ use Rattle.smpe_closed.proofs.AppliedIds.{in_applied_ids, applied_in_ids}
 use Rattle.smpe_closed.proofs.Supplied.{left_applied, waived_left}
 use Rattle.smpe_closed.proofs.Installs.{IsInstall}
 use Rattle.smpe_closed.proofs.Given.{Keeps, installing, kept_candidate, candidate_ver, decided, kept_set}
-use Rattle.smpe_closed.proofs.Given.{keeps, installed, bypassed_for, choice_after}
+use Rattle.smpe_closed.proofs.Given.{keeps, installed, bypassed_for}
 use Rattle.smpe_closed.proofs.Chains.{was_supported, view_applied}
 use Rattle.smpe_closed.proofs.Binding.{BindsIf, binds, is_bound, required_where}
 use Rattle.smpe_closed.proofs.Effect.{kept_received, effect_or_not, applied_either, other_applied}
@@ -172,12 +172,10 @@ module _ (s : Setting) (survivors kept : List Id) (k : Keeps s survivors kept) (
 
 -- APPLY and ACCEPT keep it that all applied SYSMODs are supported.
 pub installed_supported : (g : Global) (zone : Zone) (related : Option Zone) (sel : Selection) (bypass : Bypass)
-    (date : Text) (d : Decision) (new : Zone) → IsInstall g zone related sel bypass date d new
-    → All (IsSupported (counting g new []) new) (applied_ids new)
+    (date : Text) (d : Decision) (new : Zone) (is : IsInstall g zone related sel bypass date d new)
+    → All (IsSupported (counting g zone is.decides.cands) new) (applied_ids new)
 installed_supported g zone related sel bypass date d new is =
-    subst (λ c. All (IsSupported c new) (applied_ids new))
-    (sym (choice_after g zone related sel bypass date d new is))
-    (all_supported (decided g zone related sel bypass date d new is)
+    all_supported (decided g zone related sel bypass date d new is)
     (kept_set g zone related sel bypass date d new is).survivors d.kept (keeps g zone related sel bypass date d new is)
     is.decides.bypassed date new (installed g zone related sel bypass date d new is)
-    (bypassed_for g zone related sel bypass date d new is))
+    (bypassed_for g zone related sel bypass date d new is)

@@ -10,7 +10,8 @@ use Rattle.lemmas.proofs.Pairs.{pairs_map}
 use Rattle.lemmas.proofs.Searches.{find_map, find_passes}
 use Rattle.lemmas.proofs.Texts.{same_from}
 use Rattle.terms.specs.Types.{Id, Entry, Zone, Applied}
-use Rattle.terms.specs.Lookups.{IsZone, is_nil, is_before, has_content, entry_of, is_applied, supby_of, delby_of, waived_of}
+use Rattle.terms.specs.Lookups.{IsZone, is_nil, is_before, has_content, entry_of, is_applied, applied_of, supby_of}
+use Rattle.terms.specs.Lookups.{delby_of, waived_of}
 use Rattle.terms.specs.Deleted.{entry_less, entries_less}
 use Rattle.zones_views.proofs.Filtered.{passing, find_filter}
 
@@ -80,6 +81,27 @@ module _ (is_gone : Id → Bool) (zone new : Zone) (z : IsZone zone)
   applied_left x = field_left (λ e. is_some e.applied) false (λ b. b && not (is_gone x))
       (λ e unheld. ap is_some (unheld_is e unheld).date_none) refl x
       (λ e same. date_left e.applied (is_gone e.id) ∙ ap (λ y. is_some e.applied && not (is_gone y)) same)
+
+  -- and has the date and the number that it had
+  pub dated_left : (x : Id) (a : Applied) → applied_of new x ≡ Some a → applied_of zone x ≡ Some a
+  dated_left x a at = by (entry_of zone x) refl (sym (ap (option_and_then (λ (e : Entry). e.applied)) (left x)) ∙ at)
+    where
+      from : (date : Option Applied) (gone : Bool) → (if gone then None else date) ≡ Some a → date ≡ Some a
+      from date true shown = absurd (cc shown)
+      from date false shown = shown
+
+      kept : (e : Entry) (held : Bool)
+          → option_and_then (λ e. e.applied) (if held then Some (entry_less is_gone e) else None) ≡ Some a
+          → e.applied ≡ Some a
+      kept e true shown = from e.applied (is_gone e.id) shown
+      kept e false shown = absurd (cc shown)
+
+      by : (o : Option Entry) → entry_of zone x ≡ o
+          → option_and_then (λ e. e.applied) (passing has_content (option_map (entry_less is_gone) o)) ≡ Some a
+          → applied_of zone x ≡ Some a
+      by None found shown = absurd (cc shown)
+      by (Some e) found shown = ap (option_and_then (λ e. e.applied)) found
+          ∙ kept e (has_content (entry_less is_gone e)) shown
 
   pub supby_left : (x : Id) → supby_of new x ≡ filter (λ y. not (is_gone y)) (supby_of zone x)
   supby_left x = field_left (λ e. e.supby) [] (filter (λ y. not (is_gone y)))

@@ -1,6 +1,11 @@
-//! What the machine's steps keep: the closed zone. There is no code here.
+//! What the machine's steps keep: the closed zone, and what counts for what is applied.
 //! What APPLY and ACCEPT (`apply_keeps_closed`), RESTORE (`restore_keeps_closed`), RECEIVE (`receive_keeps_closed`) and
 //! REJECT (`reject_keeps_closed`) leave is closed where what they found was, and so are new zones (`empty_closed`).
 //! So each act (`step_keeps`), each job (`job_keeps`) and each list of jobs (`jobs_keep`) leads from an inventory whose
-//! zones are closed to such a one.
+//! zones are closed to such a one. That the `++VER` of an install keeps counting is a law, `choice_is_kept`, and so is
+//! that nothing differs where no SYSMOD has two `++VER`s of one SREL, `one_ver_counts`.
 #![tactic(auto)]
+
+mod law;
+
+pub use law::{choice_is_kept, one_ver_counts};

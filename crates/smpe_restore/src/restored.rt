@@ -37,7 +37,7 @@ pub fn restore(
         (map line_view r.lines.items)) }
 {
     let none = IdList::new(alloc);
-    let vers = choose(global, zone, &none);
+    let vers = choose(alloc, global, zone, &none)?;
     let ids = restore_list(alloc, &vers, zone, accepted, list)?;
     let Judged {
         cands,

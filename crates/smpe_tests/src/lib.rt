@@ -19,4 +19,6 @@ mod requisites;
 #[cfg(test)]
 mod selection;
 #[cfg(test)]
+mod several;
+#[cfg(test)]
 mod tests;

@@ -13,6 +13,7 @@ use crate::requisites::{
     NO_CONDITION, OPEN_ERROR, OPEN_PRE, REQ_BOTH_WAYS, RESOLVED_ERROR, SUPERSEDED,
 };
 use crate::selection::{BY_TYPE, EXCLUDED, EXTENDED, EXTENDED_TWICE, NOT_EXTENDED};
+use crate::several::{BOTH_FIT, CHOICES, FIRST_FITS, KEPT, OTHER_LEVEL, SECOND_FITS};
 use smpe_play::{Step, play_lists};
 use std::test::Fail;
 
@@ -55,6 +56,10 @@ const RESTORES: &[&[Step]] = &[
 ];
 
 const DEPENDENTS: &[&[Step]] = &[STILL_REQUIRED, GROUP_RESTORED, ACCEPTED_STAYS];
+
+const SEVERAL: &[&[Step]] = &[FIRST_FITS, BOTH_FIT, SECOND_FITS, OTHER_LEVEL];
+
+const KEPT_CHOICES: &[&[Step]] = &[CHOICES, KEPT];
 
 const HOSTILE: &[&[Step]] = &[UNPRINTABLE, NO_WORD, OPEN_COMMENT, THIRD_LEVEL];
 
@@ -101,4 +106,14 @@ fn restores(rt: HostRuntime) -> Result<(), Fail> {
 #[test]
 fn dependents(rt: HostRuntime) -> Result<(), Fail> {
     play_lists(rt.alloc(), DEPENDENTS)
+}
+
+#[test]
+fn several_functions(rt: HostRuntime) -> Result<(), Fail> {
+    play_lists(rt.alloc(), SEVERAL)
+}
+
+#[test]
+fn kept_choices(rt: HostRuntime) -> Result<(), Fail> {
+    play_lists(rt.alloc(), KEPT_CHOICES)
 }

@@ -1,6 +1,6 @@
 -- What APPLY and ACCEPT decide to install has its forms, where the received SYSMODs and the zone have theirs.
 use Rattle.std.proofs.Common.{◌≡◌, ◌≢◌, true, not, List, [], filter, Option, None, Some, All, Contains, IsTrue}
-use Rattle.std.proofs.Common.{inr, refl, sym, ◌∙◌, ap, subst, get_or, true≢false}
+use Rattle.std.proofs.Common.{inr, refl, sym, ◌∙◌, ap, subst, get_or, true≢false, arith}
 use Rattle.std.specs.Prelude.{◌↔◌}
 use Rattle.std.specs.Option.{option_map_or}
 use Rattle.std.specs.Str.{bytes_eq}
@@ -19,6 +19,7 @@ use Rattle.store_schema.specs.Forms.{HasSysmodForms, HasZoneForms}
 use Rattle.machine.specs.Installing.{Decision, IsDecision}
 use Rattle.smpe_upkeep.proofs.OperandForms.{HasVers, sysmod_forms, ver_forms, bypassed_form}
 use Rattle.smpe_upkeep.proofs.GivenForms.{HasInstallForms}
+use Rattle.smpe_upkeep.proofs.Numbers.{number_form}
 
 -- The open ids are a closed pair by themselves, so each candidate is open.
 pub candidate_open : (g : Global) (zone : Zone) (sel : Selection) (x : Id) → IsCandidate g zone sel x
@@ -66,6 +67,7 @@ module _ (g : Global) (sysmods : All HasSysmodForms g.sysmods) (zone : Zone) (fo
     vers = vers;
     zone = forms;
     kept = λ k x below. kept_form (get_or d.kept k x) (All-contains_itself d.kept k x below);
+    numbers = λ x. (omega arith, number_form g sysmods zone forms decides.cands x);
     bypassed = λ x z there. bypassed_form decided vers x z ((are_bypassed x z).0 there).1;
     date = dated;
     ordered = λ x y of_x of_y. eligible_ordered decided x y (eligible x of_x) (eligible y of_y);

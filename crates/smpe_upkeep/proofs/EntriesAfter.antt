@@ -67,7 +67,7 @@ module _ (i : Installation) (has : HasInstallForms i) where
         (λ effect. (
           effect_form i has x effect,
           subst HasAppliedForms (same_Some (applied_with i x) a (sym (installs.applied x effect) ∙ at))
-              (record { date = has.date; number = refl }),
+              (record { date = has.date; least = (has.numbers x).0; most = (has.numbers x).1 }),
         ))
         (λ none. applied_forms (cleared i) (cleared_forms i has) x a (sym (installs.not_applied x none) ∙ at))
       where

@@ -1,5 +1,5 @@
 -- What is given to an installation has its forms.
-use Rattle.std.proofs.Common.{All, Contains}
+use Rattle.std.proofs.Common.{◌≤◌, ◌<◌, ◌^◌, All, Contains}
 use Rattle.std.proofs.lemmas.List.Elements.{All-contains}
 use Rattle.terms.specs.Types.{Id}
 use Rattle.terms.specs.Install.{Installation, TakesEffect, cleared}
@@ -10,12 +10,14 @@ use Rattle.smpe_upkeep.proofs.Deciders.{AreOrdered}
 use Rattle.smpe_upkeep.proofs.LessForms.{zone_less_forms}
 use Rattle.smpe_upkeep.proofs.OperandForms.{HasVers}
 
--- The forms of SYSMODs, ++VERs, zone, ids and date. Of two kept ones that change one element, one is over the other.
+-- The forms of SYSMODs, ++VERs and their numbers, zone, ids and date. Of two kept ones that change one element, one is
+-- over the other.
 pub record HasInstallForms (i : Installation) : Type 0 where
   pub sysmods : All HasSysmodForms i.global.sysmods
   pub vers : HasVers i.choice
   pub zone : HasZoneForms i.zone
   pub kept : All IsId i.kept
+  pub numbers : (x : Id) → (1 ≤ i.number x) × (i.number x < 2 ^ 63)
   pub bypassed : (x z : Id) → Contains i.bypassed (x, z) → IsId z
   pub date : IsDottedDate i.date
   pub ordered : AreOrdered i

@@ -119,7 +119,8 @@ sourced_forms source x s form has = by (bytes_eq s.id x) refl
       };
       some = has.some;
       vers = has.vers;
-      srels = has.srels;
+      apart = has.apart;
+      most = has.most;
       changes = has.changes;
       elements = has.elements;
     })
@@ -144,7 +145,8 @@ laid_aside s has = record {
   sources = has.sources;
   some = has.some;
   vers = has.vers;
-  srels = has.srels;
+  apart = has.apart;
+  most = has.most;
   changes = has.changes;
   elements = has.elements;
 }

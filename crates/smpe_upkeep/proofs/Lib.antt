@@ -9,6 +9,7 @@ pub mod HoldFileForms
 pub mod InstallForms
 pub mod LessForms
 pub mod Lists
+pub mod Numbers
 pub mod OperandForms
 pub mod Paired
 pub mod Printable

@@ -1,6 +1,6 @@
 -- What received SYSMODs name in their ++VERs and change by their element statements has its forms.
 use Rattle.std.proofs.Common.{◌≡◌, ◌≢◌, inl, inr, Bool, true, false, List, [], Option, Some, None, All, Contains}
-use Rattle.std.proofs.Common.{IfSome, refl, ◌∙◌, subst, find, filter}
+use Rattle.std.proofs.Common.{IfSome, refl, subst, find, filter}
 use Rattle.std.specs.Prelude.{◌++◌, ◌&&◌, ◌||◌, ◌==◌, unwrap_or, if◌then◌else◌}
 use Rattle.std.specs.Option.{option_map_or, option_and_then}
 use Rattle.std.specs.Str.{bytes_eq}
@@ -14,7 +14,7 @@ use Rattle.terms.specs.declared.kinds.Kind.{Kind}
 use Rattle.terms.specs.declared.kinds.ElemType.{ElemType}
 use Rattle.terms.specs.Types.{Text, Id, IfReq, Ver, Change, Sysmod, Global, Zone, type_number, kind_number}
 use Rattle.terms.specs.Lookups.{sysmod_of, is_function, change_of, is_in, is_applied, applied_ids}
-use Rattle.terms.specs.Choice.{Choice, vers_of, fits, or_first, counting, fmid_of, pre_of, req_of, sup_of}
+use Rattle.terms.specs.Choice.{Choice, vers_of, place, counting, fmid_of, pre_of, req_of, sup_of}
 use Rattle.terms.specs.Choice.{del_of, ifs_of}
 use Rattle.terms.specs.Over.{Supersedes, owner}
 use Rattle.terms.specs.Conditions.{if_reqs, stated_for, if_needed}
@@ -30,14 +30,6 @@ use Rattle.smpe_upkeep.proofs.Lists.{flat_map_in}
 either_in : {X : Type 0} (b : Bool) (xs : List X) (x : X) → Contains (if b then xs else []) x → Contains xs x
 either_in true xs x there = there
 either_in false xs x there = absurd (none_in x there)
-
--- what is taken of a list is one of it
-counting_one : {X : Type 0} (p : X → Bool) (xs : List X) (x : X) → or_first xs (find p xs) ≡ Some x → Contains xs x
-counting_one p xs x = by (find p xs) refl
-  where
-    by : (o : Option _) → find p xs ≡ o → or_first xs o ≡ Some x → Contains xs x
-    by None found at = contains_at xs 0 x at
-    by (Some y) found at = (find_gives p xs x (found ∙ at)).1
 
 -- The received SYSMODs have their forms.
 module _ (g : Global) (sysmods : All HasSysmodForms g.sysmods) where
@@ -77,7 +69,8 @@ module _ (g : Global) (sysmods : All HasSysmodForms g.sysmods) where
   -- the ++VER that counts, as it is one of those for the zone's SREL
   pub ver_forms : (zone : Zone) (cands : List Id) (x : Id) (v : Ver) → counting g zone cands x ≡ Some v
       → (kind : Kind) × HasVerForms kind x v
-  ver_forms zone cands x v at = by (sysmod_of g x) refl (counting_one (fits zone cands) (vers_of g zone.srel x) v at)
+  ver_forms zone cands x v at =
+      by (sysmod_of g x) refl (contains_at (vers_of g zone.srel x) (place g zone cands x) v at)
     where
       by : (s : Option Sysmod) → sysmod_of g x ≡ s
           → Contains (option_map_or (λ s. filter (λ v. bytes_eq v.srel zone.srel) s.vers) s []) v

@@ -1,14 +1,21 @@
 -- What a PTFIN says has the forms of what is stored.
-use Rattle.std.proofs.Common.{◌≡◌, ◌≢◌, ◌⊎◌, ℕ, Bool, true, false, List, [], ◌∷◌, ◌++◌, map, Option, Some, None, All}
-use Rattle.std.proofs.Common.{IsTrue, refl, sym, subst, inl, inr, arith}
+use Rattle.std.proofs.Common.{◌≡◌, ◌≢◌, ◌⊎◌, ◌≤◌, ◌<◌, ℕ, zero, suc, Bool, true, false, List, [], ◌∷◌, ◌++◌, length}
+use Rattle.std.proofs.Common.{take, drop, Option, Some, None, All, AllPairs, IsTrue, IsFalse, IsSome, refl, sym, ◌∙◌}
+use Rattle.std.proofs.Common.{ap, subst, inl, inr, get_or, cond, not, is_lt, arith, length-append}
 use Rattle.std.specs.declared.cmp.Ordering.{Ordering}
 use Rattle.std.specs.List.{AllByRecursion}
-use Rattle.std.specs.Prelude.{IfSome, IsSomeAnd, option_map, if◌then◌else◌}
+use Rattle.std.specs.Option.{option_map_or}
+use Rattle.std.specs.Prelude.{IfSome, IsSomeAnd, option_map, slice_get, set, map, codes, ◌+◌}
 use Rattle.std.specs.Ordering.{nat_cmp}
 use Rattle.std.specs.Cmp.Lexicographic.{slice_cmp}
+use Rattle.std.proofs.lemmas.Bool.{true≢false, false_from_ne_true}
+use Rattle.std.proofs.lemmas.Option.{same_Some}
 use Rattle.std.proofs.lemmas.Cmp.{nat_list_cmp_total}
-use Rattle.std.proofs.lemmas.List.Elements.{All-append, All-cons, All-nil, All-map, All-weaker, All-from_recursion}
+use Rattle.std.proofs.Math.ListN.{length-set}
+use Rattle.std.proofs.lemmas.List.{take-append-drop, get_or_default}
+use Rattle.std.proofs.lemmas.List.Elements.{All-append, All-cons, All-nil, All-set, All-weaker, All-from_recursion}
 use Rattle.std.proofs.lemmas.List.Elements.{recursion_from_All}
+use Rattle.std.proofs.lemmas.List.Kept.{AllPairs-cons}
 use Rattle.terms.specs.declared.kinds.Kind.{Kind}
 use Rattle.terms.specs.declared.kinds.Kind.TheVariants.{Function}
 use Rattle.terms.specs.declared.kinds.ElemType.{ElemType}
@@ -16,25 +23,32 @@ use Rattle.terms.specs.declared.kinds.HoldKind.TheVariants.{System}
 use Rattle.terms.specs.declared.statement_words.StatementWord.{StatementWord}
 use Rattle.terms.specs.declared.statement_words.StatementWord.TheVariants as word
 use Rattle.terms.specs.Types.{Text, Id, Lines, IfReq, Ver, Hold, Change, Sysmod, Item, ASysmod, AnAssign}
-use Rattle.terms.specs.Lookups.{at_most_one}
+use Rattle.terms.specs.Lookups.{at_most_one, is_before}
 use Rattle.terms.specs.Rising.{Rises, with_item, before, behind}
 use Rattle.terms.specs.Global.{change_cmp}
 use Rattle.terms.specs.Forms.{IsId, IsSource}
 use Rattle.terms.specs.Records.{IsRecord}
 use Rattle.terms.specs.Statement.{Piece, IsStatement}
-use Rattle.terms.specs.Words.{Word}
+use Rattle.terms.specs.Words.{Word, HasWords}
+use Rattle.terms.specs.Operands.{operand, HasOwn, HasOptional, words_in, list_behind}
 use Rattle.terms.specs.Texts.{IsActionOf}
 use Rattle.terms.specs.HoldStatements.{HasShortComment}
 use Rattle.terms.specs.Statements.{changed_type, Statement, SaysHeader, SaysVer, SaysIf, SaysHold, SaysAssign}
-use Rattle.terms.specs.Statements.{SaysChange, IsVerOf, IsIfOf, IsOwnHoldOf, IsChangeOf}
-use Rattle.terms.specs.Ptfin.{Begun, SoFar, nothing, items_of, begun, with_ver, with_change, is_last, with_if}
-use Rattle.terms.specs.Ptfin.{with_hold, after, sysmod_in, MayStand, CannotStand, LastHeader, UpdateInFunction}
+use Rattle.terms.specs.Statements.{SaysChange, IsVerOf, IsIfOf, IsOwnHoldOf, IsChangeOf, SuitsKind}
+use Rattle.terms.specs.Ptfin.{Begun, SoFar, nothing, items_of, begun, place_of, with_ver, with_change}
+use Rattle.terms.specs.Ptfin.{with_if_at, with_if, with_hold, after, sysmod_in, MayStand, NamesFmid, HasVerLike}
+use Rattle.terms.specs.Ptfin.{IsSecond, CannotStand, LastHeader, Second, UpdateInFunction}
 use Rattle.terms.specs.Ptfin.{IsHeader, IsUpdateWord, IsPlaced, IsKnown, IsGood, BeginsWithStatements, IsPtfin}
 use Rattle.terms.proofs.ElementOrder.{change_cmp_total}
-use Rattle.terms.proofs.GlobalKept.{Rises_map}
+use Rattle.terms.proofs.OperandWords.{words_of, count, count_once, seldom}
+use Rattle.terms.proofs.BypassMembers.{list_of, behind_operand}
 use Rattle.terms.proofs.Placing.{All_with_item, Rises_with_item}
-use Rattle.lemmas.proofs.Each.{recursion_append, recursion_front, recursion_back}
-use Rattle.store_schema.specs.Forms.{AreRecords, VerSuitsKind, HasIfForms, HasVerForms, HasChangeForms, HasHoldForms}
+use Rattle.lemmas.proofs.Each.{All_between, All_front, All_back, recursion_append, recursion_front, recursion_back}
+use Rattle.lemmas.proofs.Places.{All-found}
+use Rattle.lemmas.proofs.Orderings.{Less_from_is_lt}
+use Rattle.lemmas.proofs.Pairs.{AllPairs_first, AllPairs_rest, AllPairs_between, pairs_map}
+use Rattle.store_schema.specs.Forms.{AreRecords, VerSuitsKind, HasIfForms, HasVerForms, AreVersApart, HasChangeForms}
+use Rattle.store_schema.specs.Forms.{HasHoldForms}
 use Rattle.smpe_upkeep.proofs.Printable.{HasPrintableList, operands_printable}
 use Rattle.smpe_upkeep.proofs.StatementForms.{one_form, hold_formed, ver_formed, if_formed, source_formed}
 use Rattle.smpe_upkeep.proofs.StatementForms.{change_formed}
@@ -48,7 +62,8 @@ pub record IsGrowing (s : Sysmod) : Type 0 where
   pub id : IsId s.id
   pub no_sources : s.sources ≡ []
   pub vers : All (HasVerForms s.kind s.id) s.vers
-  pub srels : Rises (slice_cmp nat_cmp) (λ (v : Ver). v.srel) s.vers
+  pub apart : AllPairs (AreVersApart s.kind) s.vers
+  pub most : length s.vers ≤ 8
   pub changes : All (HasChangeForms s.kind) s.changes
   pub elements : Rises change_cmp (λ (c : Change). c) s.changes
   pub held : AllByRecursion HasHoldForms s.holds
@@ -73,7 +88,73 @@ record IsGoodSoFar (c : SoFar) (left : Lines) : Type 0 where
   whole : AllByRecursion IsItem c.whole
   current : IfSome c.current (IsOpen left)
 
+-- ---- the order of ++VERs
+
+before_trans : (a b c : Text) → is_before a b ≡ true → is_before b c ≡ true → is_before a c ≡ true
+before_trans a b c low high = ap is_lt (nat_list_cmp_total.trans a b c (Less_from_is_lt (slice_cmp nat_cmp a b) low)
+    (Less_from_is_lt (slice_cmp nat_cmp b c) high))
+
+not_itself : (a : Text) → is_before a a ≡ true → ⊥
+not_itself a low = absurd (cc (Less_from_is_lt (slice_cmp nat_cmp a a) low, nat_list_cmp_total.antisymm a a))
+
+not_back : (a b : Text) → is_before a b ≡ true → IsFalse (is_before b a)
+not_back a b low = false_from_ne_true (is_before b a) (λ high. not_itself a (before_trans a b a low high))
+
+-- What is not before the second is not before the first, where that is.
+not_down : (a b c : Text) → is_before a b ≡ true → IsFalse (is_before c b) → IsFalse (is_before c a)
+not_down a b c low not_below = false_from_ne_true (is_before c a)
+    (λ below. true≢false (sym (before_trans c a b below low) ∙ not_below))
+
+-- The ++VERs in front of the place of one are for no later SREL, and those behind it for no earlier one.
+places : (kind : Kind) (v : Ver) (vs : List Ver) → AllPairs (AreVersApart kind) vs
+    → All (λ w. IsFalse (is_before v.srel w.srel)) (take (place_of v vs) vs)
+    × All (λ w. IsFalse (is_before w.srel v.srel)) (drop (place_of v vs) vs)
+places kind v [] apart =
+    (All-nil (λ (w : Ver). IsFalse (is_before v.srel w.srel)), All-nil (λ (w : Ver). IsFalse (is_before w.srel v.srel)))
+places kind v (w ∷ vs) apart =
+    by (places kind v vs (AllPairs_rest (AreVersApart kind) w vs apart)) (is_before v.srel w.srel) refl
+  where
+    Placed : ℕ → Type 0
+    Placed n = All (λ w. IsFalse (is_before v.srel w.srel)) (take n (w ∷ vs))
+        × All (λ w. IsFalse (is_before w.srel v.srel)) (drop n (w ∷ vs))
+
+    by : All (λ w. IsFalse (is_before v.srel w.srel)) (take (place_of v vs) vs)
+        × All (λ w. IsFalse (is_before w.srel v.srel)) (drop (place_of v vs) vs)
+        → (b : Bool) → is_before v.srel w.srel ≡ b → Placed (place_of v (w ∷ vs))
+    by more true low = subst Placed (sym (ap (λ b. cond (not b) (1 + place_of v vs) 0) low)) (
+      All-nil (λ (w : Ver). IsFalse (is_before v.srel w.srel)),
+      All-cons (λ (w : Ver). IsFalse (is_before w.srel v.srel)) w vs (not_back v.srel w.srel low)
+          (λ k d below. not_down v.srel w.srel (get_or vs k d).srel low
+          (AllPairs_first (AreVersApart kind) w vs apart k d below).srels),
+    )
+    by more false high =
+        let place : place_of v (w ∷ vs) ≡ suc (place_of v vs)
+        = ap (λ b. cond (not b) (1 + place_of v vs) 0) high ∙ omega arith in
+        subst Placed (sym place) (
+          All-cons (λ (w : Ver). IsFalse (is_before v.srel w.srel)) w (take (place_of v vs) vs) high more.0,
+          more.1,
+        )
+
+-- what stays where one item becomes another
+pairs_set : {X : Type 0} (R : X → X → Type 0) (old new : X) → ((x : X) → R x old → R x new)
+    → ((x : X) → R old x → R new x) → (xs : List X) (n : ℕ) → slice_get xs n ≡ Some old → AllPairs R xs
+    → AllPairs R (set xs n new)
+pairs_set R old new left right [] n at pairs = absurd (cc at)
+pairs_set R old new left right (x ∷ xs) zero at pairs =
+    let same : x ≡ old = same_Some x old at in
+    AllPairs-cons R new xs (All-weaker (R old) (R new) right xs (subst (λ y. All (R y) xs) same
+    (AllPairs_first R x xs pairs))) (AllPairs_rest R x xs pairs)
+pairs_set R old new left right (x ∷ xs) (suc n) at pairs =
+    let first = AllPairs_first R x xs pairs in
+    AllPairs-cons R x (set xs n new) (All-set (R x) xs n new (left x (All-found (R x) xs n old first at)) first)
+    (pairs_set R old new left right xs n at (AllPairs_rest R x xs pairs))
+
 -- ---- what each statement adds
+
+set_some : {X : Type 0} (xs : List X) (n : ℕ) (x : X) → xs ≢ [] → set xs n x ≢ []
+set_some [] n x some e = some refl
+set_some (y ∷ xs) zero x some e = absurd (cc e)
+set_some (y ∷ xs) (suc n) x some e = absurd (cc e)
 
 no_middle : {X : Type 0} (xs : List X) (x : X) (ys : List X) → xs ++ x ∷ ys ≢ []
 no_middle [] x ys e = absurd (cc e)
@@ -87,48 +168,76 @@ with_some : {X K : Type 0} (R : K → K → Ordering) (key : X → K) (xs : List
 with_some R key xs x = front_some (before R key (key x) xs ++ x ∷ []) (behind R key (key x) xs)
     (no_middle (before R key (key x) xs) x [])
 
-map_some : {X : Type 0} (f : X → X) (xs : List X) → xs ≢ [] → map f xs ≢ []
-map_some f [] some e = some refl
-map_some f (x ∷ xs) some e = absurd (cc e)
-
 header_growing : (kind : Kind) (id : Id) → IsId id → IsGrowing (begun kind id).sysmod
 header_growing kind id form = record {
   id = form;
   no_sources = refl;
   vers = All-nil (HasVerForms kind id);
-  srels = λ i j d up below. absurd (omega arith);
+  apart = λ i j d up below. absurd (omega arith);
+  most = omega arith;
   changes = All-nil (HasChangeForms kind);
   elements = λ i j d up below. absurd (omega arith);
   held = tt;
   holds = tt;
 }
 
-ver_growing : (b : Begun) (v : Ver) → IsGrowing b.sysmod → HasVerForms b.sysmod.kind b.sysmod.id v
-    → IsGrowing (with_ver v b).sysmod
-ver_growing b v g forms = record {
-  id = g.id;
-  no_sources = g.no_sources;
-  vers = All_with_item (slice_cmp nat_cmp) (λ (w : Ver). w.srel) (HasVerForms b.sysmod.kind b.sysmod.id) b.sysmod.vers v
-      g.vers forms;
-  srels = Rises_with_item nat_list_cmp_total (λ (w : Ver). w.srel) b.sysmod.vers v g.srels;
-  changes = g.changes;
-  elements = g.elements;
-  held = g.held;
-  holds = g.holds;
+-- a ++VER that comes in is for another SREL, or in service for another FMID
+abbrev IsFree : Kind → Ver → Ver → Type 0
+IsFree kind v w = w.srel ≡ v.srel → (kind ≢ Function) × (w.fmid ≢ v.fmid)
+
+apart_before : (kind : Kind) (v w : Ver) → IsFalse (is_before v.srel w.srel) → IsFree kind v w → AreVersApart kind w v
+apart_before kind v w low free = record { srels = low; service = λ same. (free same).0; fmids = λ same. (free same).1 }
+
+apart_behind : (kind : Kind) (v w : Ver) → IsFalse (is_before w.srel v.srel) → IsFree kind v w → AreVersApart kind v w
+apart_behind kind v w high free = record {
+  srels = high;
+  service = λ same. (free (sym same)).0;
+  fmids = λ same fmids. (free (sym same)).1 (sym fmids);
 }
 
-suits_still : (kind : Kind) (v : Ver) (ifs : List IfReq) → VerSuitsKind kind v → VerSuitsKind kind (record v { ifs = ifs })
+ver_growing : (b : Begun) (v : Ver) → IsGrowing b.sysmod → HasVerForms b.sysmod.kind b.sysmod.id v
+    → All (IsFree b.sysmod.kind v) b.sysmod.vers → length b.sysmod.vers < 8 → IsGrowing (with_ver v b).sysmod
+ver_growing b v g forms free room =
+    let vs = b.sysmod.vers in
+    let n = place_of v vs in
+    let parts : take n vs ++ drop n vs ≡ vs = take-append-drop n vs in
+    let placed = places b.sysmod.kind v vs g.apart in
+    let frees = subst (All (IsFree b.sysmod.kind v)) (sym parts) free in
+    record {
+      id = g.id;
+      no_sources = g.no_sources;
+      vers = All_between (HasVerForms b.sysmod.kind b.sysmod.id) (take n vs) (drop n vs) v
+          (subst (All (HasVerForms b.sysmod.kind b.sysmod.id)) (sym parts) g.vers) forms;
+      apart = AllPairs_between (AreVersApart b.sysmod.kind) (take n vs) (drop n vs) v
+          (subst (AllPairs (AreVersApart b.sysmod.kind)) (sym parts) g.apart)
+          (λ k d below. apart_before b.sysmod.kind v _ (placed.0 k d below)
+          (All_front (IsFree b.sysmod.kind v) (take n vs) (drop n vs) frees k d below))
+          (λ k d below. apart_behind b.sysmod.kind v _ (placed.1 k d below)
+          (All_back (IsFree b.sysmod.kind v) (take n vs) (drop n vs) frees k d below));
+      most = omega (
+        arith,
+        length-append (take n vs) (v ∷ drop n vs),
+        length-append (take n vs) (drop n vs),
+        ap length parts,
+      );
+      changes = g.changes;
+      elements = g.elements;
+      held = g.held;
+      holds = g.holds;
+    }
+
+suits_still : (kind : Kind) (v : Ver) (ifs : List IfReq) → VerSuitsKind kind v
+    → VerSuitsKind kind (record v { ifs = ifs })
 suits_still Function v ifs suits = suits
 suits_still _ v ifs suits = suits
 
--- the ++VER with an ++IF more, where it is the last one
+-- the ++VER with an ++IF more
 module _ (i : IfReq) where
-  abbrev more : Bool → Ver → Ver
-  more last v = if last then record v { ifs = v.ifs ++ i ∷ [] } else v
+  abbrev more : Ver → Ver
+  more v = record v { ifs = v.ifs ++ i ∷ [] }
 
-  more_forms : (kind : Kind) (x : Id) (last : Bool) (v : Ver) → HasIfForms x i → HasVerForms kind x v
-      → HasVerForms kind x (more last v)
-  more_forms kind x true v forms has =
+  more_forms : (kind : Kind) (x : Id) (v : Ver) → HasIfForms x i → HasVerForms kind x v → HasVerForms kind x (more v)
+  more_forms kind x v forms has =
       let ifs = All-append (HasIfForms x) v.ifs (i ∷ []) has.ifs
       (All-cons (HasIfForms x) i [] forms (All-nil (HasIfForms x))) in
       let suits = suits_still kind v (v.ifs ++ i ∷ []) has.suits in
@@ -143,23 +252,33 @@ module _ (i : IfReq) where
         ifs = ifs;
         suits = suits;
       }
-  more_forms kind x false v forms has = has
 
-  more_srel : (last : Bool) (v : Ver) → (more last v).srel ≡ v.srel
-  more_srel true v = refl
-  more_srel false v = refl
+  -- what holds of ++VERs holds of them with the ++IF, where it does of those with any one replaced
+  each_if : (P : List Ver → Type 0) (vs : List Ver) (last : Option ℕ) → P vs
+      → ((n : ℕ) (v : Ver) → slice_get vs n ≡ Some v → P (set vs n (more v)))
+      → P (option_map_or (with_if_at i vs) last vs)
+  each_if P vs None old new = old
+  each_if P vs (Some n) old new = by (slice_get vs n) refl
+    where
+      by : (o : Option Ver) → slice_get vs n ≡ o → P (option_map_or (λ v. set vs n (more v)) o vs)
+      by None none = old
+      by (Some v) at = new n v at
 
   if_growing : (b : Begun) → IsGrowing b.sysmod → HasIfForms b.sysmod.id i → IsGrowing (with_if i b).sysmod
   if_growing b g forms =
+      let vs = b.sysmod.vers in
       let P : Ver → Type 0 = HasVerForms b.sysmod.kind b.sysmod.id in
-      let f : Ver → Ver = λ v. more (is_last b v) v in
       record {
         id = g.id;
         no_sources = g.no_sources;
-        vers = All-map P f b.sysmod.vers (All-weaker P (λ v. P (f v))
-            (λ v has. more_forms b.sysmod.kind b.sysmod.id (is_last b v) v forms has) b.sysmod.vers g.vers);
-        srels = Rises_map nat_list_cmp_total (λ (v : Ver). v.srel) f (λ v. more_srel (is_last b v) v) b.sysmod.vers
-            g.srels;
+        vers = each_if (All P) vs b.last g.vers (λ n v at. All-set P vs n (more v)
+            (more_forms b.sysmod.kind b.sysmod.id v forms (All-found P vs n v g.vers at)) g.vers);
+        apart = each_if (AllPairs (AreVersApart b.sysmod.kind)) vs b.last g.apart (λ n v at.
+            pairs_set (AreVersApart b.sysmod.kind) v (more v)
+            (λ u apart. record { srels = apart.srels; service = apart.service; fmids = apart.fmids })
+            (λ u apart. record { srels = apart.srels; service = apart.service; fmids = apart.fmids }) vs n at g.apart);
+        most = each_if (λ ws. length ws ≤ 8) vs b.last g.most (λ n v at.
+            omega (arith, length-set vs n (more v), g.most));
         changes = g.changes;
         elements = g.elements;
         held = g.held;
@@ -172,7 +291,8 @@ hold_growing b h g forms own = record {
   id = g.id;
   no_sources = g.no_sources;
   vers = g.vers;
-  srels = g.srels;
+  apart = g.apart;
+  most = g.most;
   changes = g.changes;
   elements = g.elements;
   held = recursion_append HasHoldForms b.sysmod.holds (h ∷ []) g.held (forms, tt);
@@ -185,13 +305,69 @@ change_growing b c g forms = record {
   id = g.id;
   no_sources = g.no_sources;
   vers = g.vers;
-  srels = g.srels;
+  apart = g.apart;
+  most = g.most;
   changes = All_with_item change_cmp (λ (x : Change). x) (HasChangeForms b.sysmod.kind) b.sysmod.changes c g.changes
       forms;
   elements = Rises_with_item change_cmp_total (λ (x : Change). x) b.sysmod.changes c g.elements;
   held = g.held;
   holds = g.holds;
 }
+
+-- ---- a ++VER that is no second one
+
+-- Service has an FMID among its operands.
+suits_named : (kind : Kind) (operands : List Word) → SuitsKind kind operands → kind ≢ Function
+    → IsSome (operand (codes "FMID") operands)
+suits_named Function operands suits other = absurd (other refl)
+suits_named _ operands suits other = suits.0
+
+listed_fmid : (found : Option Word) (fmid : Option Id) → IsSome found → HasOptional IsId found fmid
+    → IsSomeAnd fmid (HasOwn IsId (list_of found))
+listed_fmid None fmid there has = absurd (true≢false (sym there))
+listed_fmid (Some w) None there has = has
+listed_fmid (Some w) (Some f) there has = has
+
+names_weaker : (P Q : Id → Type 0) → ((f : Id) → P f → Q f) → (o : Option Id) → IsSomeAnd o P → IsSomeAnd o Q
+names_weaker P Q more None has = has
+names_weaker P Q more (Some f) has = more f has
+
+-- the pieces of a ++VER of service name its FMID
+fmid_named : (s : Sysmod) (own : Option Text) (operands : List Word) (rest : List Piece) (v : Ver)
+    → HasWords rest operands → IsVerOf s own operands v → s.kind ≢ Function → IsSomeAnd v.fmid (NamesFmid rest)
+fmid_named s own operands rest v words is other =
+    let listed = listed_fmid (operand (codes "FMID") operands) v.fmid (suits_named s.kind operands is.suits other)
+    is.fmid in
+    let texts : words_in rest ≡ map (λ (w : Word). w.word) operands = ap words_in words ∙ words_of operands in
+    let apart = pairs_map (λ (a b : Word). a.word ≢ b.word) (λ (a b : Text). a ≢ b) (λ (w : Word). w.word)
+    (λ a b n. n) operands is.are_operands.once in
+    let few = count_once (codes "FMID") (map (λ (w : Word). w.word) operands) apart in
+    let once = seldom 2 (words_in rest) (codes "FMID") (subst (λ ts. count (codes "FMID") ts < 2) (sym texts)
+    (omega (arith, few))) in
+    let behind_it : list_behind (codes "FMID") rest ≡ list_of (operand (codes "FMID") operands)
+    = ap (list_behind (codes "FMID")) words ∙ behind_operand (codes "FMID") operands in
+    names_weaker (HasOwn IsId (list_of (operand (codes "FMID") operands))) (NamesFmid rest)
+    (λ f has. (once, subst (λ own. HasOwn IsId own f) (sym behind_it) has)) v.fmid listed
+
+free_vers : (s : Sysmod) (own : Option Text) (operands : List Word) (rest : List Piece) (v : Ver)
+    → HasWords rest operands → IsVerOf s own operands v → ¬ HasVerLike s v.srel rest → All (IsFree s.kind v) s.vers
+free_vers s own operands rest v words is free = λ k d below same.
+    let w = get_or s.vers k d in
+    let at : get_or s.vers k w ≡ w = sym (get_or_default s.vers k d w below) in
+    let other : s.kind ≢ Function = λ function. free (k, w, below, at, (same, inl function)) in (
+      other,
+      λ fmids. free (
+        k,
+        w,
+        below,
+        at,
+        (
+          same,
+          inr (subst (λ o. IsSomeAnd o (NamesFmid rest)) (sym fmids)
+              (fmid_named s own operands rest v words is other)),
+        ),
+      ),
+    )
 
 -- ---- the items so far
 
@@ -215,14 +391,17 @@ some_vers w behind (Some b) may = λ e. may (λ stands. behind b.sysmod stands e
 -- ---- the SYSMOD that is begun
 
 module _ (own : Option Text) (operands : List Word) (left later : Lines) where
-  ver_current : (v : Ver) (o : Option Begun) → IfSome o (IsOpen left)
+  ver_current : (v : Ver) (rest : List Piece) (o : Option Begun) → IfSome o (IsOpen left) → HasWords rest operands
+      → ¬ IsSomeAnd (sysmod_in o) (λ s. IsSecond s word.Ver own rest) → IfSome o (λ b. length b.sysmod.vers < 8)
       → IsSomeAnd (sysmod_in o) (λ s. IsVerOf s own operands v)
       → IfSome (option_map (with_ver v) o) (IsOpen later)
-  ver_current v None g says = absurd says
-  ver_current v (Some b) g says = (
-    ver_growing b v g.0 (ver_formed b.sysmod own operands v says),
-    inl (with_some (slice_cmp nat_cmp) (λ (w : Ver). w.srel) b.sysmod.vers v),
-  )
+  ver_current v rest None g words second room says = absurd says
+  ver_current v rest (Some b) g words second room says =
+      let vs = b.sysmod.vers in (
+        ver_growing b v g.0 (ver_formed b.sysmod own operands v says)
+            (free_vers b.sysmod own operands rest v words says (λ like. second (v.srel, says.srel, like))) room,
+        inl (no_middle (take (place_of v vs) vs) v (drop (place_of v vs) vs)),
+      )
 
   if_current : (i : IfReq) (o : Option Begun) → IfSome o (IsOpen left) → ¬ ¬ MayStand (sysmod_in o) word.If
       → IsSomeAnd (sysmod_in o) (λ s. IsIfOf s own operands i)
@@ -230,7 +409,8 @@ module _ (own : Option Text) (operands : List Word) (left later : Lines) where
   if_current i None g may says = absurd says
   if_current i (Some b) g may says = (
     if_growing i b g.0 (if_formed b.sysmod own operands i says),
-    inl (map_some (λ (v : Ver). more i (is_last b v) v) b.sysmod.vers (λ e. may (λ stands. stands.0 e))),
+    inl (each_if i (λ vs. vs ≢ []) b.sysmod.vers b.last (λ e. may (λ stands. stands.0 e))
+        (λ n v at. set_some b.sysmod.vers n (more i v) (λ e. may (λ stands. stands.0 e)))),
   )
 
   hold_current : (h : Hold) (o : Option Begun) → IfSome o (IsOpen left) → ¬ ¬ MayStand (sysmod_in o) word.Hold
@@ -284,7 +464,7 @@ inline_records records pieces inline (ps, tail, ends, idle, is) each =
 -- the state behind a good statement
 module _ (c : SoFar) (later records : Lines) (w : StatementWord) (own : Option Text) (rest : List Piece)
     (inline : Lines) (known : IsKnown records w own rest inline) (each : AllByRecursion IsRecord records) where
-  may : (v : StatementWord) → w ≡ v → IsPlaced (sysmod_in c.current) later w own inline
+  may : (v : StatementWord) → w ≡ v → IsPlaced (sysmod_in c.current) later w own rest inline
       → ¬ ¬ MayStand (sysmod_in c.current) v
   may v same placed = subst (λ x. ¬ ¬ MayStand (sysmod_in c.current) x) same (placed CannotStand)
 
@@ -302,7 +482,9 @@ module _ (c : SoFar) (later records : Lines) (w : StatementWord) (own : Option T
       }
   good_after left (SaysVer v) g good = record {
     whole = g.whole;
-    current = ver_current own good.value.0 left later v c.current g.current good.value.2.1;
+    current = ver_current own good.value.0 left later v rest c.current g.current good.value.1
+        (subst (λ x. ¬ IsSomeAnd (sysmod_in c.current) (λ s. IsSecond s x own rest)) good.value.2.0
+        (good.placed Second)) good.within.0 good.value.2.1;
   }
   good_after left (SaysIf i) g good = record {
     whole = g.whole;

@@ -11,15 +11,13 @@ use Rattle.std.specs.Cmp.Lexicographic.{slice_cmp}
 use Rattle.std.proofs.lemmas.Bool.{cases_lt, lt-ltb, eq-eqb, or_right, and_from}
 use Rattle.std.proofs.lemmas.Cmp.{nat_list_cmp_total}
 use Rattle.std.proofs.lemmas.List.Elements.{All-from_recursion}
-use Rattle.terms.specs.Types.{Text, type_number, Ver, Change, Sysmod, Global, Item, ASysmod, AnAssign, HoldItem, AHold}
+use Rattle.terms.specs.Types.{Text, type_number, Change, Sysmod, Global, Item, ASysmod, AnAssign, HoldItem, AHold}
 use Rattle.terms.specs.Types.{ARelease, ReceiveWhat}
-use Rattle.terms.specs.Lookups.{is_before}
 use Rattle.terms.specs.Rising.{Rises}
 use Rattle.terms.specs.Forms.{IsSource}
 use Rattle.terms.specs.Global.{IsSysmod, change_cmp, ReceiveFault, Receives}
 use Rattle.terms.specs.Ptfin.{IsPtfin}
 use Rattle.terms.specs.HoldFile.{IsHoldFile}
-use Rattle.lemmas.proofs.Pairs.{pairs_map}
 use Rattle.terms.proofs.Placing.{All_with_item, Rises_with_item}
 use Rattle.store_schema.specs.Forms.{AreSorted, is_change_before, HasSysmodForms, HasHoldForms}
 use Rattle.store_schema.specs.Inventory.{Inventory, IsInventory}
@@ -77,8 +75,8 @@ with_forms s sources whole listed = record {
   sources = listed;
   some = whole.some;
   vers = whole.growing.vers;
-  srels = pairs_map (λ (a b : Ver). IsTrue (is_lt (slice_cmp nat_cmp a.srel b.srel)))
-      (λ (x y : Text). IsTrue (is_before x y)) (λ (v : Ver). v.srel) (λ a b lower. lower) s.vers whole.growing.srels;
+  apart = whole.growing.apart;
+  most = whole.growing.most;
   changes = whole.growing.changes;
   elements = λ i j d less below. before_from_cmp (get_or s.changes i d) (get_or s.changes j d)
       (whole.growing.elements i j d less below);
@@ -88,7 +86,6 @@ is_sysmod : (s : Sysmod) (sources : List Text) → IsWhole s → AreSorted IsSou
     → IsSysmod (record s { sources = sources })
 is_sysmod s sources whole listed = record {
   sources = listed.rising;
-  vers = whole.growing.srels;
   changes = whole.growing.elements;
   holds = All-from_recursion (IsOwnHold s.id) s.holds whole.growing.holds;
 }

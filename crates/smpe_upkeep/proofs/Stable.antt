@@ -1,6 +1,6 @@
 -- Forms are stable: what can't be refuted of them is so. So a form may be shown by cases that nothing decides.
-use Rattle.std.proofs.Common.{◌≡◌, ◌≤◌, ◌<◌, ◌⊎◌, inl, inr, ℕ, Bool, true, false, List, get_or, IsTrue, refl, arith}
-use Rattle.std.proofs.Common.{All, length}
+use Rattle.std.proofs.Common.{◌≡◌, ◌≤◌, ◌<◌, ◌^◌, ◌⊎◌, inl, inr, ℕ, Bool, true, false, List, get_or, IsTrue, refl}
+use Rattle.std.proofs.Common.{All, length, arith}
 use Rattle.std.specs.Char.{IsAsciiDigit}
 use Rattle.std.specs.Prelude.{slice_index_or}
 use Rattle.std.proofs.lemmas.Bool.{cases_lt, cases_eq}
@@ -93,7 +93,8 @@ stable_dotted date h = (
 pub stable_applied : (a : Applied) → Stable (HasAppliedForms a)
 stable_applied a h = record {
   date = part_of (λ f. f.date) (stable_dotted a.date) h;
-  number = part_of (λ f. f.number) (stable_number a.number 1) h;
+  least = part_of (λ f. f.least) (stable_le 1 a.number) h;
+  most = part_of (λ f. f.most) (stable_lt a.number (2 ^ 63)) h;
 }
 
 pub stable_listed : (ids : List Id) → Stable (AreSorted IsId ids)

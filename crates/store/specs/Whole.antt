@@ -10,7 +10,7 @@ use Rattle.store_schema.specs.Rows.{hold_row}
 use Rattle.store_schema.specs.Tables.{hold}
 use Rattle.store_sysmod_loads.specs.Flats.{AreFormed, AreRowsOf}
 use Rattle.store_zone_loads.specs.Found.{head_of}
-use Rattle.store_zone_loads.specs.Held.{HoldsZone, ChoosesNone, HoldsHeads}
+use Rattle.store_zone_loads.specs.Held.{HoldsZone, HoldsNumbers, HoldsHeads}
 
 -- the rows of the SYSMODs and of the holds, which have their forms
 pub record HoldsLists (release : Release) (contents : Contents) (sysmods : List Sysmod) (holds : List Hold) :
@@ -25,8 +25,8 @@ pub record HoldsGlobal (release : Release) (contents : Contents) (global : Globa
   pub lists : HoldsLists release contents global.sysmods global.holds
   pub whole : IsGlobal global
 
--- the rows of these zones, each of which has its forms
+-- the rows of these zones, each of which has its forms and its numbers
 pub record HoldsZones (release : Release) (contents : Contents) (zones : List NamedZone) : Type 0 where
   pub heads : HoldsHeads contents (map head_of zones)
   pub each : AllByRecursion (HoldsZone contents) zones
-  pub none_chosen : AllByRecursion (λ z. ChoosesNone release contents z.name) zones
+  pub numbers : AllByRecursion (HoldsNumbers release contents) zones

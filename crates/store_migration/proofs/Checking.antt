@@ -1,6 +1,6 @@
 -- Zones that are read one after the other.
 use Rattle.std.proofs.Common.{◌≡◌, ◌<◌, ◌≤◌, ◌+◌, ℕ, inl, inr, Bool, true, false, List, [], ◌∷◌, ◌++◌, map, take, length}
-use Rattle.std.proofs.Common.{get_or, Option, Some, None, Result, Ok, IsPermutation, refl, sym, ap, subst, ◌∙◌, arith}
+use Rattle.std.proofs.Common.{get_or, Option, Some, None, Result, Ok, refl, sym, ap, subst, ◌∙◌, arith}
 use Rattle.std.specs.Prelude.{IsSome, IsTrue, find, option_map}
 use Rattle.std.specs.List.{AllByRecursion}
 use Rattle.std.specs.Str.{bytes_eq}
@@ -21,15 +21,14 @@ use Rattle.store_rows.proofs.InsideLemmas.{stays}
 use Rattle.store_rows.specs.Rows.{Contents, has_key}
 use Rattle.store_rows.proofs.Keys.{equals, and_true}
 use Rattle.store_rows.proofs.RowLemmas.{has_permuted, mapped, unmapped}
-use Rattle.terms.specs.Types.{Text, Zone, NamedZone}
+use Rattle.terms.specs.Types.{Zone, NamedZone}
 use Rattle.store_schema.specs.declared.release.Release.{Release}
 use Rattle.store_schema.specs.Inventory.{Inventory}
-use Rattle.store_schema.specs.Rows.{zone_row}
 use Rattle.store_schema.specs.Tables.{zone}
 use Rattle.store_schema.proofs.Spelled.{zone_same, or_null_same}
 use Rattle.store_zone_loads.specs.declared.head.ZoneHead.{ZoneHead}
 use Rattle.store_zone_loads.specs.Found.{head_of, zone_in}
-use Rattle.store_zone_loads.specs.Held.{name_key, HoldsZone, HoldsUnder, ChoosesNone, HoldsHeads}
+use Rattle.store_zone_loads.specs.Held.{name_key, HoldsZone, HoldsUnder, HoldsNumbers, HoldsHeads}
 use Rattle.store_zone_loads.specs.Read.{head_row}
 use Rattle.store.specs.Whole.{HoldsZones}
 
@@ -53,10 +52,10 @@ reads_none g schema at is_open = record {
 pub record HoldsFirst (r : Release) (c : Contents) (heads : List ZoneHead) (zones : List NamedZone) : Type 0 where
   pub are : map head_of zones ≡ heads
   pub each : AllByRecursion (HoldsZone c) zones
-  pub none_chosen : AllByRecursion (λ z. ChoosesNone r c z.name) zones
+  pub numbers : AllByRecursion (HoldsNumbers r c) zones
 
 pub first_none : (r : Release) (c : Contents) → HoldsFirst r c [] []
-first_none r c = record { are = refl; each = tt; none_chosen = tt }
+first_none r c = record { are = refl; each = tt; numbers = tt }
 
 same_head : (a b : ZoneHead) → head_row a ≡ head_row b → a ≡ b
 same_head a b e =
@@ -94,7 +93,7 @@ first_more r c heads i head zones z within at all first own =
       are = map-append head_of zones (named ∷ []) ∙ (ap (λ l. l ++ head_of named ∷ []) first.are
           ∙ (ap (λ x. take i heads ++ x ∷ []) (is ∙ at) ∙ sym (take_more heads i head within)));
       each = recursion_append (HoldsZone c) zones (named ∷ []) first.each (own.1, tt);
-      none_chosen = recursion_append (λ w. ChoosesNone r c w.name) zones (named ∷ []) first.none_chosen (own.0, tt);
+      numbers = recursion_append (HoldsNumbers r c) zones (named ∷ []) first.numbers (own.0, tt);
     }
 
 pub first_all : (r : Release) (c : Contents) (heads : List ZoneHead) (i : ℕ) (zones : List NamedZone)
@@ -102,7 +101,7 @@ pub first_all : (r : Release) (c : Contents) (heads : List ZoneHead) (i : ℕ) (
 first_all r c heads i zones end all first = record {
   heads = subst (HoldsHeads c) (sym (first.are ∙ take_all i heads (omega (arith, end)))) all;
   each = first.each;
-  none_chosen = first.none_chosen;
+  numbers = first.numbers;
 }
 
 -- a zone of an inventory is found by its name

@@ -1,12 +1,10 @@
 -- How a migration ends, from how its calls do.
 use Rattle.std.proofs.Common.{◌≡◌, ◌≢◌, ◌⊎◌, inl, inr, Result, Ok, Err, OnOk, OnErr, IfOk, IsErrOf, IsErrAnd, IsTrue, Vec}
-use Rattle.std.proofs.Common.{List, false, arith, refl, sym, ap, subst, ◌∙◌}
+use Rattle.std.proofs.Common.{false, arith, refl, sym, ap, subst, ◌∙◌}
 use Rattle.std.specs.declared.alloc.Global.{Global as AnyGlobal}
 use Rattle.sqlite.specs.declared.error.Error.{Error}
 use Rattle.sqlite.specs.Store.{Ghosts}
 use Rattle.sqlite.specs.Effect.{Database, IsDatabase}
-use Rattle.sqlite.specs.Schema.{Schema}
-use Rattle.sqlite.specs.Tree.{Trees}
 use Rattle.sqlite.specs.Held.{Held, state}
 use Rattle.sqlite.specs.State.{State, HasCleanDisk, IsLive, IsUnchanged, KeepsCommit, Survives}
 use Rattle.sqlite.proofs.StateLemmas.{survives_then, survives_weaker}
@@ -14,7 +12,6 @@ use Rattle.store_rows.specs.declared.error.ReadError.{ReadError}
 use Rattle.store_rows.specs.declared.error.ReadError.TheVariants as read
 use Rattle.store_rows.specs.Inside.{Holds}
 use Rattle.store_rows.proofs.InsideLemmas.{on_ok, on_ok_of}
-use Rattle.store_rows.specs.Reads.{OnlyReads}
 use Rattle.store_rows.proofs.Queries.{keeps_then, unchanged_keeps_commit, reads_then}
 use Rattle.store_schema.specs.declared.error.StoreError.{StoreError}
 use Rattle.store_schema.specs.declared.error.StoreError.TheVariants.{Fault, OtherSchema, NoState, Memory}
@@ -25,7 +22,6 @@ use Rattle.store_schema.specs.Earlier.{schema_under, StandsUnder, IsEarlierState
 use Rattle.store_schema.specs.Inventory.{Inventory, empty_inventory}
 use Rattle.store_schema.specs.Known.{HasTablesUnder, HasUnknownNumber, HasOtherNumber, HasNoState, HasNoRelease, told}
 use Rattle.store_schema.specs.Stands.{StandsFor, IsStateOf, IsSetUp}
-use Rattle.store_schema.specs.Tables.{store_schema}
 use Rattle.store_migration.specs.declared.head.Head.{Head}
 use Rattle.store_migration.specs.TakenOver.{heads_under, Takes, IsTaken}
 use Rattle.store_migration.specs.Checked.{Checks}

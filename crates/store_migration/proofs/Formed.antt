@@ -1,8 +1,8 @@
 -- SYSMODs whose rows have their forms have theirs.
-use Rattle.std.proofs.Common.{◌≡◌, ℕ, ◌+◌, get_or, ◌==◌, ◌&&◌, ◌||◌, List, [], ◌∷◌, map, IsTrue, arith, inl, inr}
-use Rattle.std.proofs.Common.{refl, sym, ap, subst, true≢false}
-use Rattle.std.specs.Prelude.{All, AllPairs, nat_lt}
-use Rattle.std.specs.List.{AllByRecursion, flat_map}
+use Rattle.std.proofs.Common.{ℕ, ◌+◌, get_or, ◌==◌, ◌&&◌, ◌||◌, List, [], ◌∷◌, map, IsTrue, arith, inl, inr}
+use Rattle.std.proofs.Common.{sym, ap, subst, true≢false}
+use Rattle.std.specs.Prelude.{All, nat_lt}
+use Rattle.std.specs.List.{AllByRecursion}
 use Rattle.std.specs.declared.cmp.Ordering.{Ordering}
 use Rattle.std.specs.declared.cmp.Ordering.TheVariants.{Equal, Greater}
 use Rattle.std.specs.Ordering.{is_lt, nat_cmp, ordering_then}
@@ -11,18 +11,18 @@ use Rattle.std.specs.Cmp.Lexicographic.{slice_cmp}
 use Rattle.std.proofs.lemmas.Bool.{cases_lt, lt-ltb, eq-eqb, or_right, and_from}
 use Rattle.std.proofs.lemmas.List.Elements.{All-from_recursion, recursion_from_All}
 use Rattle.lemmas.proofs.Each.{recursion_weaker, recursion_front, recursion_back, recursion_unmap}
-use Rattle.lemmas.proofs.Pairs.{pairs_map}
 use Rattle.terms.specs.declared.kinds.Kind.{Kind}
 use Rattle.terms.specs.declared.kinds.Kind.TheVariants.{Function, Ptf, Apar, Usermod}
 use Rattle.terms.specs.declared.kinds.ElemType.{ElemType}
 use Rattle.terms.specs.Types.{Text, Id, IfReq, Ver, Action, Replaces, Updates, Change, Sysmod, type_number}
-use Rattle.terms.specs.Lookups.{is_before}
 use Rattle.terms.specs.Global.{change_cmp}
 use Rattle.store_schema.specs.Forms.{VerSuitsKind, HasSysmodForms, HasVerForms, HasIfForms, HasChangeForms}
 use Rattle.store_schema.specs.Forms.{HasActionForms, is_change_before}
 use Rattle.store_schema.specs.Earlier.{HasShortSources}
+use Rattle.store_schema.specs.Rows.{numbered_behind}
 use Rattle.store_schema.specs.declared.release.Release.{Release}
 use Rattle.store_schema.specs.declared.release.Release.TheVariants.{First, Second, Third}
+use Rattle.store_schema.proofs.Numbered.{numbered_is}
 use Rattle.store_sysmod_loads.specs.Built.{MayDo, IsBuilt}
 use Rattle.store_sysmod_loads.specs.Flat.{HasHeadForms, HasFormsUnder, HasVerRowForms, HasIfRowForms, HasElemRowForms}
 use Rattle.store_sysmod_loads.specs.Flats.{head_of, ifs_of, all_vers, all_ifs, all_elems, AreFormed}
@@ -50,10 +50,10 @@ before_from a b lower = lower_first (type_number a.elem_type) (type_number b.ele
 
 -- ---- one SYSMOD
 
-if_forms : (x : Id) (srel : Text) (n : ℕ) (ifs : List IfReq) → AllByRecursion HasIfRowForms (if_rows x srel n ifs)
-    → AllByRecursion (HasIfForms x) ifs
-if_forms x srel n [] h = tt
-if_forms x srel n (i ∷ ifs) h = (h.0.2, if_forms x srel (n + 1) ifs h.1)
+if_forms : (x : Id) (srel : Text) (place n : ℕ) (ifs : List IfReq)
+    → AllByRecursion HasIfRowForms (if_rows x srel place n ifs) → AllByRecursion (HasIfForms x) ifs
+if_forms x srel place n [] h = tt
+if_forms x srel place n (i ∷ ifs) h = (h.0.2, if_forms x srel place (n + 1) ifs h.1)
 
 ver_forms : (kind : Kind) (x : Id) (v : Ver) → HasVerForms Function x (record v { ifs = [] }) → VerSuitsKind kind v
     → AllByRecursion (HasIfForms x) v.ifs → HasVerForms kind x v
@@ -69,16 +69,30 @@ ver_forms kind x v f suits ifs = record {
   suits = suits;
 }
 
-all_ver_forms : (kind : Kind) (x : Id) (vers : List Ver) → AllByRecursion HasVerRowForms (ver_rows x vers)
-    → AllByRecursion HasIfRowForms (ifs_of x vers) → AllByRecursion (VerSuitsKind kind) vers
-    → AllByRecursion (HasVerForms kind x) vers
+abbrev values_of : List (ℕ × Ver) → List Ver
+values_of vers = map (λ (v : ℕ × Ver). v.1) vers
+
+all_ver_forms : (kind : Kind) (x : Id) (vers : List (ℕ × Ver)) → AllByRecursion HasVerRowForms (ver_rows x vers)
+    → AllByRecursion HasIfRowForms (ifs_of x vers) → AllByRecursion (VerSuitsKind kind) (values_of vers)
+    → AllByRecursion (HasVerForms kind x) (values_of vers)
 all_ver_forms kind x [] rows ifs suits = tt
 all_ver_forms kind x (v ∷ vers) rows ifs suits =
-    let own = if_rows x v.srel 1 v.ifs in
-    let rest = flat_map (λ (w : Ver). if_rows x w.srel 1 w.ifs) vers in (
-      ver_forms kind x v rows.0.1 suits.0 (if_forms x v.srel 1 v.ifs (recursion_front HasIfRowForms own rest ifs)),
+    let own = if_rows x v.1.srel v.0 1 v.1.ifs in
+    let rest = ifs_of x vers in (
+      ver_forms kind x v.1 rows.0.1 suits.0
+          (if_forms x v.1.srel v.0 1 v.1.ifs (recursion_front HasIfRowForms own rest ifs)),
       all_ver_forms kind x vers rows.1 (recursion_back HasIfRowForms own rest ifs) suits.1,
     )
+
+-- so of all ++VERs of a SYSMOD
+vers_forms : (kind : Kind) (x : Id) (vers : List Ver)
+    → AllByRecursion HasVerRowForms (ver_rows x (numbered_behind [] vers))
+    → AllByRecursion HasIfRowForms (ifs_of x (numbered_behind [] vers)) → AllByRecursion (VerSuitsKind kind) vers
+    → AllByRecursion (HasVerForms kind x) vers
+vers_forms kind x vers rows ifs suits =
+    let are = numbered_is [] vers in
+    subst (AllByRecursion (HasVerForms kind x)) are (all_ver_forms kind x (numbered_behind [] vers) rows ifs
+    (subst (AllByRecursion (VerSuitsKind kind)) (sym are) suits))
 
 action_forms : (kind : Kind) (type : ElemType) (name : Text) (a : Action) → MayDo kind a
     → HasActionForms Ptf type name a → HasActionForms kind type name a
@@ -96,17 +110,18 @@ change_forms kind x (c ∷ changes) rows may = (
   change_forms kind x changes rows.1 may.1,
 )
 
-sysmod_forms : (s : Sysmod) → HasHeadForms (head_of s) → AllByRecursion HasVerRowForms (ver_rows s.id s.vers)
-    → AllByRecursion HasIfRowForms (ifs_of s.id s.vers) → AllByRecursion HasElemRowForms (elem_rows s.id s.changes)
-    → IsBuilt s → HasSysmodForms s
+sysmod_forms : (s : Sysmod) → HasHeadForms (head_of s)
+    → AllByRecursion HasVerRowForms (ver_rows s.id (numbered_behind [] s.vers))
+    → AllByRecursion HasIfRowForms (ifs_of s.id (numbered_behind [] s.vers))
+    → AllByRecursion HasElemRowForms (elem_rows s.id s.changes) → IsBuilt s → HasSysmodForms s
 sysmod_forms s head vers ifs elems b = record {
   id = head.0;
   sources = head.1;
   some = b.some;
-  vers = All-from_recursion (HasVerForms s.kind s.id) s.vers (all_ver_forms s.kind s.id s.vers vers ifs
+  vers = All-from_recursion (HasVerForms s.kind s.id) s.vers (vers_forms s.kind s.id s.vers vers ifs
       (recursion_from_All (VerSuitsKind s.kind) s.vers b.suits));
-  srels = pairs_map (λ (a b : Ver). IsTrue (is_lt (slice_cmp nat_cmp a.srel b.srel))) (λ x y. IsTrue (is_before x y))
-      (λ (v : Ver). v.srel) (λ a b lower. lower) s.vers b.srels;
+  apart = b.apart;
+  most = b.most;
   changes = All-from_recursion (HasChangeForms s.kind) s.changes (change_forms s.kind s.id s.changes elems
       (recursion_from_All (λ (c : Change). MayDo s.kind c.action) s.changes b.does));
   elements = λ i j d up below. before_from (get_or s.changes i d) (get_or s.changes j d) (b.changes i j d up below);
@@ -125,11 +140,11 @@ all_formed : (r : Release) (ss : List Sysmod) → AllByRecursion (HasFormsUnder 
 all_formed r [] heads vers ifs elems built = tt
 all_formed r (s ∷ ss) heads vers ifs elems built = (
   sysmod_forms s (long_forms r s heads.0)
-      (recursion_front HasVerRowForms (ver_rows s.id s.vers) (all_vers ss) vers)
-      (recursion_front HasIfRowForms (ifs_of s.id s.vers) (all_ifs ss) ifs)
+      (recursion_front HasVerRowForms (ver_rows s.id (numbered_behind [] s.vers)) (all_vers ss) vers)
+      (recursion_front HasIfRowForms (ifs_of s.id (numbered_behind [] s.vers)) (all_ifs ss) ifs)
       (recursion_front HasElemRowForms (elem_rows s.id s.changes) (all_elems ss) elems) built.0,
-  all_formed r ss heads.1 (recursion_back HasVerRowForms (ver_rows s.id s.vers) (all_vers ss) vers)
-      (recursion_back HasIfRowForms (ifs_of s.id s.vers) (all_ifs ss) ifs)
+  all_formed r ss heads.1 (recursion_back HasVerRowForms (ver_rows s.id (numbered_behind [] s.vers)) (all_vers ss) vers)
+      (recursion_back HasIfRowForms (ifs_of s.id (numbered_behind [] s.vers)) (all_ifs ss) ifs)
       (recursion_back HasElemRowForms (elem_rows s.id s.changes) (all_elems ss) elems) built.1,
 )
 

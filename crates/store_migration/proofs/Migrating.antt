@@ -1,5 +1,5 @@
 -- What follows for whoever migrates, and what the next open finds.
-use Rattle.std.proofs.Common.{◌≡◌, ◌⊎◌, ◌∷◌, inl, inr, map, Result, Ok, Err, OnErr, IsTrue, false, sym, ap, subst, arith, ◌∙◌}
+use Rattle.std.proofs.Common.{◌≡◌, ◌∷◌, inl, inr, map, Result, Ok, Err, OnErr, IsTrue, sym, ap, subst, arith, ◌∙◌}
 use Rattle.std.proofs.Math.Logic.{∥∥₁_map}
 use Rattle.std.specs.List.{AllByRecursion}
 use Rattle.lemmas.proofs.Each.{recursion_weaker}

@@ -17,7 +17,7 @@ use Rattle.sqlite_schema.specs.declared.schema.Action.TheVariants.{NoAction}
 use Rattle.sqlite_schema.specs.declared.schema.Reference.{Reference}
 use Rattle.sqlite_schema.specs.declared.schema.Constraint.TheVariants.{NotNull, ForeignKey}
 use Rattle.sqlite_schema.specs.Names.{same_name}
-use Rattle.sqlite_schema.specs.Rules.{ParentKey, parent_key, agree, equal, passes, has_null, has_parent, is_held}
+use Rattle.sqlite_schema.specs.Rules.{ParentKey, parent_key, agree, equal, passes, has_parent, is_held}
 use Rattle.sqlite_value.specs.declared.keys.Order.{Order}
 use Rattle.sqlite_value.specs.Keys.{first_key, joined, plain}
 use Rattle.sqlite_rules.specs.Lists.{Has}

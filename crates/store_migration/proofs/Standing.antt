@@ -1,36 +1,34 @@
 -- Tables whose rows were all read stand for an inventory.
-use Rattle.std.proofs.Common.{◌≡◌, ◌==◌, ℕ, inl, inr, true, false, List, [], ◌∷◌, map, if◌then◌else◌, IsPermutation}
-use Rattle.std.proofs.Common.{refl, sym, ap, subst, ◌∙◌, true≢false}
-use Rattle.std.specs.Prelude.{All}
+use Rattle.std.proofs.Common.{◌≡◌, ◌==◌, inl, List, [], ◌∷◌, map, if◌then◌else◌, IsPermutation}
+use Rattle.std.proofs.Common.{refl, sym, subst}
 use Rattle.std.specs.List.{AllByRecursion, flat_map}
 use Rattle.std.proofs.lemmas.List.Elements.{All-from_recursion}
 use Rattle.std.proofs.lemmas.List.Sorted.{IsPermutation-refl, IsPermutation-sym, IsPermutation-trans}
 use Rattle.lemmas.proofs.Each.{recursion_weaker}
 use Rattle.sqlite.specs.Effect.{Database, IsDatabase}
-use Rattle.sqlite.specs.Order.{Row}
 use Rattle.sqlite.specs.Schema.{Schema}
 use Rattle.sqlite.specs.Table.{Table}
 use Rattle.sqlite.specs.Tree.{Trees, rowid}
 use Rattle.sqlite_rules.specs.Lists.{Has}
-use Rattle.sqlite_rules.proofs.ListLemmas.{all_has, has_kept}
+use Rattle.sqlite_rules.proofs.ListLemmas.{all_has}
 use Rattle.store_rows.specs.Numbered.{AreNumbered}
-use Rattle.store_rows.specs.Rows.{Contents, HasContents, AreRows, has_key, shown}
+use Rattle.store_rows.specs.Rows.{Contents, HasContents, AreRows, shown}
 use Rattle.store_rows.proofs.ContentsLemmas.{permuted}
 use Rattle.terms.specs.Types.{Global, NamedZone}
 use Rattle.store_schema.specs.declared.release.Release.{Release}
 use Rattle.store_schema.specs.declared.release.Release.TheVariants.{First, Second, Third}
-use Rattle.store_schema.specs.Earlier.{schema_under, tables_under, number_under, StandsUnder}
+use Rattle.store_schema.specs.Earlier.{IsOfEarlier, schema_under, tables_under, number_under, StandsUnder}
 use Rattle.store_schema.specs.Forms.{HasHoldForms}
 use Rattle.store_schema.specs.Inventory.{Inventory, IsInventory, IsZoneNamed}
 use Rattle.store_schema.specs.Known.{HasTablesUnder}
-use Rattle.store_schema.specs.Rows.{setting_row, zone_row, entries_of, zelems_of}
+use Rattle.store_schema.specs.Rows.{setting_row, zone_row, entries_of, zelems_of, chosen_of}
 use Rattle.store_schema.specs.Tables.{meta, zone, entry, zelem, chosen}
 use Rattle.store_columns.proofs.Releases.{rows_under}
-use Rattle.store_zone_loads.specs.Held.{name_key, rows_named, HoldsZone, ChoosesNone}
+use Rattle.store_zone_loads.specs.Held.{HoldsZone, HoldsNumbers}
 use Rattle.store_migration.specs.Migrated.{HasRowids}
 use Rattle.store.specs.Whole.{HoldsGlobal, HoldsZones}
 use Rattle.store_migration.proofs.Formed.{sysmods_forms, short_sources}
-use Rattle.store_migration.proofs.Parents.{names_zone, chosen_refers, zone_listed}
+use Rattle.store_migration.proofs.Parents.{chosen_refers}
 use Rattle.store_migration.proofs.Zones as zones
 
 -- ---- what the tables hold, whatever it is
@@ -110,21 +108,25 @@ module _ (r : Release) (c : Contents) (db : Database) (held : HasContents (schem
   elements_are : IsPermutation (flat_map zelems_of all) (c zelem.tree)
   elements_are = zones.elements_are r c db all held z
 
-nothing_there : (rows : List Row) → ((y : Row) → Has rows y → ⊥) → rows ≡ []
-nothing_there [] never = refl
-nothing_there (y ∷ rows) never = absurd (never y (inl refl))
+-- by which ++VERs the entries were installed
+chosen_are : (c : Contents) (db : Database) (all : List NamedZone) → HasContents (schema_under Third) c db
+    → HoldsZones Third c all → IsPermutation (flat_map chosen_of all) (c chosen.tree)
+chosen_are c db all held z = zones.all_rows Third c db all held z chosen chosen_refers chosen_of z.numbers
 
-none_of : (rows : List Row) → rows ≡ [] → IsPermutation [] rows
-none_of rows none = subst (IsPermutation []) (sym none) (IsPermutation-refl [])
+-- no table of an earlier schema says more than what an inventory of then has
+first_earlier : (c : Contents) (global : Global) → HoldsGlobal First c global → (all : List NamedZone)
+    → HoldsZones First c all → IsOfEarlier (record { global = global; zones = all })
+first_earlier c global g all z = record {
+  singles = g.lists.sysmod_rows.more;
+  firsts = All-from_recursion (HoldsNumbers First c) all z.numbers;
+}
 
--- no ++VER was chosen, since each zone has none
-none_chosen : (c : Contents) (db : Database) (all : List NamedZone) → HasContents (schema_under Third) c db
-    → HoldsZones Third c all → c chosen.tree ≡ []
-none_chosen c db all held z = nothing_there (c chosen.tree) (λ y there.
-    let it = names_zone Third chosen chosen_refers c db all (zone_listed Third) held
-    (zones.zones_are Third c db all held z) y there in
-    let none = all_has (λ w. ChoosesNone Third c w.name) all it.0 z.none_chosen it.1 in
-    subst (λ rows. Has rows y) none (has_kept (has_key (name_key it.0.name)) (c chosen.tree) y there it.2))
+second_earlier : (c : Contents) (global : Global) → HoldsGlobal Second c global → (all : List NamedZone)
+    → HoldsZones Second c all → IsOfEarlier (record { global = global; zones = all })
+second_earlier c global g all z = record {
+  singles = g.lists.sysmod_rows.more;
+  firsts = All-from_recursion (HoldsNumbers Second c) all z.numbers;
+}
 
 stands : (r : Release) (c : Contents) (db : Database) (held : HasContents (schema_under r) c db)
     (known : HasTablesUnder r db) (global : Global) (g : HoldsGlobal r c global) (all : List NamedZone)
@@ -132,14 +134,16 @@ stands : (r : Release) (c : Contents) (db : Database) (held : HasContents (schem
 stands First c db held known global g all z = record {
   tables = permuted (schema_under First) c (rows_under First (record { global = global; zones = all })) db (meta_row First c db held known global g all z, (g.lists.sysmod_rows.heads, (g.lists.sysmod_rows.vers, (g.lists.sysmod_rows.ifs, (g.lists.hold_rows, (g.lists.sysmod_rows.elems, (zones_are First c db held known global g all z, (entries_are First c db held known global g all z, (elements_are First c db held known global g all z, tt))))))))) held;
   inventory = is_inventory First c db held known global g all z;
+  earlier = first_earlier c global g all z;
   sources = short_sources global.sysmods g.lists.formed;
 }
 stands Second c db held known global g all z = record {
   tables = permuted (schema_under Second) c (rows_under Second (record { global = global; zones = all })) db (meta_row Second c db held known global g all z, (g.lists.sysmod_rows.heads.0, (g.lists.sysmod_rows.vers, (g.lists.sysmod_rows.ifs, (g.lists.hold_rows, (g.lists.sysmod_rows.elems, (zones_are Second c db held known global g all z, (entries_are Second c db held known global g all z, (elements_are Second c db held known global g all z, (g.lists.sysmod_rows.heads.1, tt)))))))))) held;
   inventory = is_inventory Second c db held known global g all z;
+  earlier = second_earlier c global g all z;
 }
 stands Third c db held known global g all z = record {
-  tables = permuted (schema_under Third) c (rows_under Third (record { global = global; zones = all })) db (meta_row Third c db held known global g all z, (g.lists.sysmod_rows.heads.0, (g.lists.sysmod_rows.vers, (g.lists.sysmod_rows.ifs, (g.lists.hold_rows, (g.lists.sysmod_rows.elems, (zones_are Third c db held known global g all z, (entries_are Third c db held known global g all z, (elements_are Third c db held known global g all z, (g.lists.sysmod_rows.heads.1, (none_of _ g.lists.sysmod_rows.no_more.0, (none_of _ g.lists.sysmod_rows.no_more.1, (none_of _ (none_chosen c db all held z), tt))))))))))))) held;
+  tables = permuted (schema_under Third) c (rows_under Third (record { global = global; zones = all })) db (meta_row Third c db held known global g all z, (g.lists.sysmod_rows.heads.0, (g.lists.sysmod_rows.vers, (g.lists.sysmod_rows.ifs, (g.lists.hold_rows, (g.lists.sysmod_rows.elems, (zones_are Third c db held known global g all z, (entries_are Third c db held known global g all z, (elements_are Third c db held known global g all z, (g.lists.sysmod_rows.heads.1, (g.lists.sysmod_rows.more.0, (g.lists.sysmod_rows.more.1, (chosen_are c db all held z, tt))))))))))))) held;
   inventory = is_inventory Third c db held known global g all z;
 }
 

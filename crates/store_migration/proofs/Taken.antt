@@ -16,11 +16,13 @@ use Rattle.store_rows.proofs.ContentsLemmas.{permuted}
 use Rattle.store_schema.specs.declared.release.Release.{Release}
 use Rattle.store_schema.specs.declared.release.Release.TheVariants.{First, Second, Third}
 use Rattle.store_schema.specs.Create.{with_new}
-use Rattle.store_schema.specs.Earlier.{missing_tables}
+use Rattle.store_schema.specs.Earlier.{IsOfEarlier, StandsUnder, missing_tables}
 use Rattle.store_schema.specs.Inventory.{Inventory, IsInventory}
-use Rattle.store_schema.specs.Rows.{setting_row, number_row, source_row, sources_of}
+use Rattle.store_schema.specs.Rows.{setting_row, number_row, source_row, sources_of, morevers_of, moreifs_of}
+use Rattle.store_schema.specs.Rows.{chosen_of}
 use Rattle.store_schema.specs.Stands.{StandsFor, rows_of}
 use Rattle.store_schema.specs.Tables.{store_schema}
+use Rattle.store_schema.proofs.Singles.{no_morevers, no_moreifs, no_chosen}
 use Rattle.store_columns.proofs.Releases.{rows_under}
 use Rattle.store_migration.specs.Moved.{head_of, bare_row, with_source, with_moved, with_number}
 use Rattle.store_migration.specs.TakenOver.{heads_under}
@@ -106,15 +108,17 @@ numbered n =
     ap (λ b. (if b then number_row else setting_row n) ∷ [])
     (begins (codes "schema") (codes "schema") (Int n ∷ []) ∙ same_itself (codes "schema"))
 
-first_taken : (i : Inventory) (db : Database) → IsInventory i
+first_taken : (i : Inventory) (db : Database) → IsInventory i → IsOfEarlier i
     → HasContents store_schema (with_number (fold with_moved (made_under First i) (map head_of i.global.sysmods))) db
     → HasContents store_schema (rows_of i) db
-first_taken i db inventory =
+first_taken i db inventory earlier =
     let ss = i.global.sysmods in
     let heads = map head_of ss in
     let was = made_under First i in
     let left = λ (t : ℕ) (away : (t == 2) ≡ false) (far : (t == 18) ≡ false).
     same_rows (sym (moving_leaves heads was t away far)) in
+    let lacked = λ (t : ℕ) (away : (t == 2) ≡ false) (far : (t == 18) ≡ false) (rows : List Row) (none : rows ≡ was t).
+    same_rows (none ∙ sym (moving_leaves heads was t away far)) in
     permuted store_schema (with_number (fold with_moved was heads)) (rows_of i) db (
       same_rows (sym (ap (in_place (Text (codes "schema") ∷ []) number_row) (moving_leaves heads was 0 refl refl)
           ∙ numbered (pos 1))),
@@ -138,7 +142,13 @@ first_taken i db inventory =
                         subst (IsPermutation (flat_map sources_of ss)) (sym (moving_adds heads was))
                             (subst (λ rows. IsPermutation rows (added heads [])) (append-nil (flat_map sources_of ss))
                             (added_are ss [])),
-                        (left 20 refl refl, (left 22 refl refl, (left 24 refl refl, tt))),
+                        (
+                          lacked 20 refl refl (flat_map morevers_of ss) (no_morevers i earlier),
+                          (
+                            lacked 22 refl refl (flat_map moreifs_of ss) (no_moreifs i earlier),
+                            (lacked 24 refl refl (flat_map chosen_of i.zones) (no_chosen i earlier), tt),
+                          ),
+                        ),
                       ),
                     ),
                   ),
@@ -151,9 +161,10 @@ first_taken i db inventory =
     )
 
 -- only the number is another
-second_taken : (i : Inventory) (db : Database) → HasContents store_schema (with_number (made_under Second i)) db
+second_taken : (i : Inventory) (db : Database) → IsOfEarlier i
+    → HasContents store_schema (with_number (made_under Second i)) db
     → HasContents store_schema (rows_of i) db
-second_taken i db =
+second_taken i db earlier =
     permuted store_schema (with_number (made_under Second i)) (rows_of i) db (
       same_rows (sym (numbered (pos 2))),
       (
@@ -174,7 +185,10 @@ second_taken i db =
                       IsPermutation-refl _,
                       (
                         IsPermutation-refl _,
-                        (IsPermutation-refl [], (IsPermutation-refl [], (IsPermutation-refl [], tt))),
+                        (
+                          same_rows (no_morevers i earlier),
+                          (same_rows (no_moreifs i earlier), (same_rows (no_chosen i earlier), tt)),
+                        ),
                       ),
                     ),
                   ),
@@ -209,7 +223,7 @@ third_taken i db =
                       IsPermutation-refl _,
                       (
                         IsPermutation-refl _,
-                        (IsPermutation-refl [], (IsPermutation-refl [], (IsPermutation-refl [], tt))),
+                        (IsPermutation-refl _, (IsPermutation-refl _, (IsPermutation-refl _, tt))),
                       ),
                     ),
                   ),
@@ -221,20 +235,31 @@ third_taken i db =
       ),
     )
 
+-- what an inventory of a release is besides
+abbrev pub IsOf : Release → Inventory → Type 0
+IsOf First i = IsOfEarlier i
+IsOf Second i = IsOfEarlier i
+IsOf Third i = Unit {0}
+
+pub stands_own : (r : Release) (i : Inventory) (db : Database) → StandsUnder r i db → IsOf r i
+stands_own First i db h = h.earlier
+stands_own Second i db h = h.earlier
+stands_own Third i db h = tt
+
 pub all_taken : (r : Release) (i : Inventory) (heads : List Head) (db : Database) → heads ≡ heads_under r i
-    → IsInventory i → HasContents store_schema (with_number (fold with_moved (made_under r i) heads)) db
+    → IsInventory i → IsOf r i → HasContents store_schema (with_number (fold with_moved (made_under r i) heads)) db
     → StandsFor i db
-all_taken First i heads db are inventory held = record {
-  tables = first_taken i db inventory (subst (λ hs. HasContents store_schema
+all_taken First i heads db are inventory own held = record {
+  tables = first_taken i db inventory own (subst (λ hs. HasContents store_schema
       (with_number (fold with_moved (made_under First i) hs)) db) are held);
   inventory = inventory;
 }
-all_taken Second i heads db are inventory held = record {
-  tables = second_taken i db (subst (λ hs. HasContents store_schema
+all_taken Second i heads db are inventory own held = record {
+  tables = second_taken i db own (subst (λ hs. HasContents store_schema
       (with_number (fold with_moved (made_under Second i) hs)) db) are held);
   inventory = inventory;
 }
-all_taken Third i heads db are inventory held = record {
+all_taken Third i heads db are inventory own held = record {
   tables = third_taken i db (subst (λ hs. HasContents store_schema
       (with_number (fold with_moved (made_under Third i) hs)) db) are held);
   inventory = inventory;

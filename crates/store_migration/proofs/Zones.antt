@@ -11,18 +11,15 @@ use Rattle.lemmas.proofs.Each.{any_none, any_cases, recursion_weaker, recursion_
 use Rattle.lemmas.proofs.Members.{here, there}
 use Rattle.lemmas.proofs.Orderings.{Less_from_is_lt}
 use Rattle.lemmas.proofs.Pairs.{AllPairs_first, AllPairs_rest, pairs_map, pairs_unmap}
-use Rattle.lemmas.proofs.Texts.{same_itself, other_from_less}
+use Rattle.lemmas.proofs.Texts.{other_from_less}
 use Rattle.std.proofs.lemmas.List.Elements.{All-head, All-tail, recursion_from_All}
 use Rattle.std.proofs.lemmas.Bool.{and_parts}
-use Rattle.sqlite.specs.declared.types.Value.{Value}
 use Rattle.sqlite.specs.declared.types.Value.TheVariants.{Null, Text}
-use Rattle.sqlite.specs.Collation.TheVariants.{Binary}
 use Rattle.sqlite.specs.Effect.{Database}
 use Rattle.sqlite.specs.Order.{Row}
 use Rattle.sqlite.specs.Table.{Table}
-use Rattle.sqlite_schema.specs.Rules.{agree, equal}
+use Rattle.sqlite_schema.specs.Rules.{agree}
 use Rattle.sqlite_value.specs.Keys.{plain, first_key}
-use Rattle.sqlite_rules.specs.Lists.{Has}
 use Rattle.sqlite_rules.proofs.KeyLemmas.{agree_back, agree_chain}
 use Rattle.store_rows.specs.Rows.{Contents, HasContents, has_key}
 use Rattle.store_rows.proofs.Keys.{equals}
@@ -32,18 +29,17 @@ use Rattle.terms.specs.Types.{Text as Word, NamedZone, zone_number}
 use Rattle.terms.specs.Lookups.{IsRising, is_before}
 use Rattle.terms.specs.Rising.{Rises}
 use Rattle.store_schema.specs.declared.release.Release.{Release}
-use Rattle.store_schema.specs.declared.release.Release.TheVariants.{Third}
 use Rattle.store_schema.specs.Earlier.{schema_under}
-use Rattle.store_schema.specs.Inventory.{HasDistribution, IsRelated, IsZoneNamed, AreApart}
+use Rattle.store_schema.specs.Inventory.{IsRelated, AreApart}
 use Rattle.store_schema.specs.Rows.{zone_row, entries_of, zelems_of}
-use Rattle.store_schema.specs.Tables.{zone, entry, zelem, chosen}
+use Rattle.store_schema.specs.Tables.{zone, entry, zelem}
 use Rattle.store_zone_loads.specs.declared.head.ZoneHead.{ZoneHead}
 use Rattle.store_zone_loads.specs.Found.{head_of}
-use Rattle.store_zone_loads.specs.Held.{name_key, rows_named, HoldsZone, ChoosesNone, HoldsHeads}
+use Rattle.store_zone_loads.specs.Held.{name_key, rows_named, HoldsZone}
 use Rattle.store_zone_loads.specs.Read.{HasHeadForms}
 use Rattle.store_zone_loads.specs.Related.{IsDistributionOf, IsRelatedAmong, HeadsAreApart, AreRelated}
 use Rattle.store.specs.Whole.{HoldsZones}
-use Rattle.store_migration.proofs.Parents.{Refers, names_zone, entry_refers, element_refers, chosen_refers, zone_listed}
+use Rattle.store_migration.proofs.Parents.{Refers, names_zone, entry_refers, element_refers, zone_listed}
 use Rattle.store_migration.proofs.Parted.{AllApart, parted}
 
 -- ---- what zones say of each other
@@ -151,7 +147,7 @@ module _ (r : Release) (contents : Contents) (db : Database) (zones : List Named
       (λ (a b : ZoneHead). IsTrue (is_lt (slice_cmp nat_cmp a.name b.name))) head_of (λ a b lower. lower) zones
       h.heads.rise
 
-  all_rows : (t : Table) → Refers r t → (f : NamedZone → List Row)
+  pub all_rows : (t : Table) → Refers r t → (f : NamedZone → List Row)
       → AllByRecursion (λ z. IsPermutation (f z) (rows_named z.name t contents)) zones
       → IsPermutation (flat_map f zones) (contents t.tree)
   unfolding names

@@ -3,7 +3,9 @@ pub mod Lists
 pub mod Making
 pub mod Meta
 pub mod Number
+pub mod Numbered
 pub mod OneState
 pub mod Plain
+pub mod Singles
 pub mod Spelled
 pub mod Texts

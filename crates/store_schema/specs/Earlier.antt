@@ -1,5 +1,5 @@
 -- What the tables of earlier schemas stand for. They are read to be migrated, and for nothing else.
-use Rattle.std.specs.Prelude.{◌≡◌, ◌≤◌, ◌⊎◌, ℤ, List, [], ◌∷◌, map, length, pos, All}
+use Rattle.std.specs.Prelude.{◌≡◌, ◌≤◌, ◌⊎◌, ℤ, List, [], ◌∷◌, map, length, pos, All, IfSome}
 use Rattle.std.specs.List.{flat_map}
 use Rattle.sqlite.specs.declared.types.Value.TheVariants as value
 use Rattle.sqlite.specs.Order.{Row}
@@ -7,6 +7,7 @@ use Rattle.sqlite.specs.Table.{Table}
 use Rattle.sqlite.specs.Schema.{Schema}
 use Rattle.sqlite.specs.Effect.{Database}
 use Rattle.terms.specs.Types.{Sysmod}
+use Rattle.terms.specs.Lookups.{IsRising}
 use Rattle.terms.specs.Spelling.{kind_text}
 use Rattle.store_rows.specs.Rows.{Contents, HasContents}
 use Rattle.store_schema.specs.Tables.{meta, sysmod, ver, ifreq, hold, elem, zone, entry, zelem, source, schema_of}
@@ -17,6 +18,11 @@ use Rattle.store_schema.specs.Rows.{entries_of, zelems_of, sources_of}
 use Rattle.store_schema.specs.Stands.{rows_in, StandsFor, IsStateOf}
 use Rattle.store_schema.specs.declared.release.Release.{Release}
 use Rattle.store_schema.specs.declared.release.Release.TheVariants.{First, Second, Third}
+
+-- No SYSMOD has two ++VERs of one SREL, and each entry was installed by the first.
+pub record IsOfEarlier (i : Inventory) : Type 0 where
+  pub singles : All (λ s. IsRising (map (λ v. v.srel) s.vers)) i.global.sysmods
+  pub firsts : All (λ z. All (λ e. IfSome e.applied (λ a. a.number ≡ 1)) z.zone.entries) i.zones
 
 -- Under schema 1 the sources of a SYSMOD stand in its row, joined by commas.
 abbrev pub first_sysmod_row : Sysmod → Row
@@ -43,6 +49,7 @@ HasShortSources s = All (λ name. length name ≤ 8) s.sources
 pub record StandsForFirst (i : Inventory) (db : Database) : Type 0 where
   pub tables : HasContents (schema_of first_tables) (first_rows_of i) db
   pub inventory : IsInventory i
+  pub earlier : IsOfEarlier i
   pub sources : All HasShortSources i.global.sysmods
 
 -- Under schema 2 the sources have a table of their own, as they have today.
@@ -64,6 +71,7 @@ second_rows_of i = rows_in (
 pub record StandsForSecond (i : Inventory) (db : Database) : Type 0 where
   pub tables : HasContents (schema_of second_tables) (second_rows_of i) db
   pub inventory : IsInventory i
+  pub earlier : IsOfEarlier i
 
 -- the tables of a release
 abbrev pub tables_under : Release → List Table

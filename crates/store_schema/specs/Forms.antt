@@ -1,6 +1,6 @@
 -- The forms of what is kept: of a SYSMOD's fields as its statements have them, and of a zone's entries.
-use Rattle.std.specs.Prelude.{◌≡◌, ◌≢◌, ◌≤◌, ◌<◌, Bool, false, List, [], ◌∷◌, ◌++◌, length, map, reverse, All, AllPairs}
-use Rattle.std.specs.Prelude.{Contains, Some, IfSome, IsSome, IsTrue, ◌&&◌, ◌||◌, ◌==◌, nat_lt, nat_le}
+use Rattle.std.specs.Prelude.{◌≡◌, ◌≢◌, ◌≤◌, ◌<◌, ◌^◌, Bool, false, List, [], ◌∷◌, ◌++◌, length, reverse, All, AllPairs}
+use Rattle.std.specs.Prelude.{Contains, Some, IfSome, IsSome, IsTrue, IsFalse, ◌&&◌, ◌||◌, ◌==◌, nat_lt, nat_le}
 use Rattle.terms.specs.declared.kinds.Kind.{Kind}
 use Rattle.terms.specs.declared.kinds.Kind.TheVariants.{Function}
 use Rattle.terms.specs.declared.kinds.ElemType.{ElemType}
@@ -80,13 +80,21 @@ is_change_before a b =
     nat_lt (type_number a.elem_type) (type_number b.elem_type)
     || ((type_number a.elem_type == type_number b.elem_type) && is_before a.name b.name)
 
--- A SYSMOD has a ++VER at least, one for each SREL, rising; its element statements rise by type and name.
+-- Of two ++VERs one is not for an earlier SREL than the one before it. Where they are for one SREL, which no function
+-- has, they are for two FMIDs.
+pub record AreVersApart (kind : Kind) (v w : Ver) : Type 0 where
+  pub srels : IsFalse (is_before w.srel v.srel)
+  pub service : v.srel ≡ w.srel → kind ≢ Function
+  pub fmids : v.srel ≡ w.srel → v.fmid ≢ w.fmid
+
+-- A SYSMOD has one to eight ++VERs; its element statements rise by type and name.
 pub record HasSysmodForms (s : Sysmod) : Type 0 where
   pub id : IsId s.id
   pub sources : AreSorted IsSource s.sources
   pub some : s.vers ≢ []
   pub vers : All (HasVerForms s.kind s.id) s.vers
-  pub srels : IsRising (map (λ v. v.srel) s.vers)
+  pub apart : AllPairs (AreVersApart s.kind) s.vers
+  pub most : length s.vers ≤ 8
   pub changes : All (HasChangeForms s.kind) s.changes
   pub elements : AllPairs (λ a b. IsTrue (is_change_before a b)) s.changes
 
@@ -113,10 +121,11 @@ pub record HasHoldForms (h : Hold) : Type 0 where
   pub date : IfSome h.date IsDate
   pub comment : IfSome h.comment IsComment
 
--- The ++VER that counted is the only one of its SREL.
+-- The number counts from 1. No ++VER need have it, since the SYSMOD need not be received.
 pub record HasAppliedForms (a : Applied) : Type 0 where
   pub date : IsDottedDate a.date
-  pub number : a.number ≡ 1
+  pub least : 1 ≤ a.number
+  pub most : a.number < 2 ^ 63
 
 -- a SYSMOD entry; only what is applied has waived requisites
 pub record HasEntryForms (e : Entry) : Type 0 where

@@ -1,6 +1,9 @@
 -- The rows that an inventory is written as.
-use Rattle.std.specs.Prelude.{ℕ, ℤ, Bool, List, [], ◌∷◌, map, codes, pos, if◌then◌else◌}
+use Rattle.std.specs.Prelude.{◌+◌, ◌==◌, ℕ, ℤ, Bool, not, List, [], ◌∷◌, ◌++◌, length, map, filter, codes, pos}
+use Rattle.std.specs.Prelude.{if◌then◌else◌}
 use Rattle.std.specs.List.{concat, flat_map, enumerate_from, join_with_byte}
+use Rattle.std.specs.Option.{option_map_or}
+use Rattle.std.specs.Str.{bytes_eq}
 use Rattle.sqlite.specs.declared.types.Value.{Value}
 use Rattle.sqlite.specs.declared.types.Value.TheVariants as value
 use Rattle.sqlite.specs.Values.{or_null}
@@ -35,15 +38,28 @@ sysmod_row s = value.Text s.id ∷ value.Text (kind_text s.kind) ∷ ids [] ∷ 
 abbrev pub source_row : Id → Text → Row
 source_row x name = value.Text x ∷ value.Text name ∷ []
 
+-- a SYSMOD's first ++VER of an SREL
 abbrev pub ver_row : Id → Ver → Row
 ver_row x v =
     value.Text x ∷ value.Text v.srel ∷ or_null value.Text v.fmid ∷ ids v.pre ∷ ids v.req ∷ ids v.sup ∷ ids v.npre ∷ ids
     v.del ∷ []
 
--- a ++IF and its number
+-- a further ++VER of an SREL, and its number; no such one has NPRE or DELETE
+abbrev pub morever_row : Id → ℕ × Ver → Row
+morever_row x v =
+    value.Text x ∷ value.Text v.1.srel ∷ value.Int (pos v.0) ∷ or_null value.Text v.1.fmid ∷ ids v.1.pre ∷ ids v.1.req
+    ∷ ids v.1.sup ∷ []
+
+-- a ++IF of a first ++VER, and its number
 abbrev pub ifreq_row : Id → Text → ℕ × IfReq → Row
 ifreq_row x srel i =
     value.Text x ∷ value.Text srel ∷ value.Int (pos i.0) ∷ value.Text i.1.function ∷ ids i.1.req ∷ []
+
+-- a ++IF of the ++VER of this number, and its own number
+abbrev pub moreif_row : Id → Text → ℕ → ℕ × IfReq → Row
+moreif_row x srel v i =
+    value.Text x ∷ value.Text srel ∷ value.Int (pos v) ∷ value.Int (pos i.0) ∷ value.Text i.1.function ∷ ids i.1.req
+    ∷ []
 
 abbrev pub hold_row : Hold → Row
 hold_row h =
@@ -69,20 +85,50 @@ entry_row zone e =
     value.Text zone ∷ value.Text e.id ∷ or_null value.Text (date_of e) ∷ ids e.supby ∷ or_null value.Text e.delby ∷ ids
     e.waived ∷ []
 
+-- by which ++VER the zone has applied the SYSMOD
+abbrev pub chosen_row : Text → Id → ℕ → Row
+chosen_row zone x n = value.Text zone ∷ value.Text x ∷ value.Int (pos n) ∷ []
+
 abbrev pub zelem_row : Text → Element → Row
 zelem_row zone e =
     value.Text zone ∷ value.Text (type_text e.elem_type) ∷ value.Text e.name ∷ value.Text e.fmid ∷ value.Text e.rmid
     ∷ ids e.umids ∷ value.Text e.distlib ∷ value.Text e.syslib ∷ records e.text ∷ []
+
+-- The number of a ++VER behind these others: it counts among those of its SREL, from 1.
+abbrev pub number_behind : List Ver → Ver → ℕ
+number_behind front v = length (filter (λ w. bytes_eq w.srel v.srel) front) + 1
+
+-- ++VERs that stand behind others, each with its number
+abbrev pub numbered_behind : List Ver → List Ver → List (ℕ × Ver)
+numbered_behind front [] = []
+numbered_behind front (v ∷ vs) = (number_behind front v, v) ∷ numbered_behind (front ++ v ∷ []) vs
+
+-- whether it is the first of its SREL
+abbrev pub is_first : ℕ × Ver → Bool
+is_first v = v.0 == 1
+
+-- the first ++VERs of a SYSMOD, one of each SREL, and the further ones
+abbrev pub first_vers : Sysmod → List (ℕ × Ver)
+first_vers s = filter is_first (numbered_behind [] s.vers)
+
+abbrev pub further_vers : Sysmod → List (ℕ × Ver)
+further_vers s = filter (λ v. not (is_first v)) (numbered_behind [] s.vers)
 
 -- the rows of a SYSMOD in the tables that refer to it; the ++IFs of a ++VER count from 1
 abbrev pub sources_of : Sysmod → List Row
 sources_of s = map (source_row s.id) s.sources
 
 abbrev pub vers_of : Sysmod → List Row
-vers_of s = map (ver_row s.id) s.vers
+vers_of s = map (λ v. ver_row s.id v.1) (first_vers s)
+
+abbrev pub morevers_of : Sysmod → List Row
+morevers_of s = map (morever_row s.id) (further_vers s)
 
 abbrev pub ifreqs_of : Sysmod → List Row
-ifreqs_of s = flat_map (λ v. map (ifreq_row s.id v.srel) (enumerate_from 1 v.ifs)) s.vers
+ifreqs_of s = flat_map (λ v. map (ifreq_row s.id v.1.srel) (enumerate_from 1 v.1.ifs)) (first_vers s)
+
+abbrev pub moreifs_of : Sysmod → List Row
+moreifs_of s = flat_map (λ v. map (moreif_row s.id v.1.srel v.0) (enumerate_from 1 v.1.ifs)) (further_vers s)
 
 abbrev pub elems_of : Sysmod → List Row
 elems_of s = map (elem_row s.id) s.changes
@@ -93,3 +139,11 @@ entries_of z = map (entry_row z.name) z.zone.entries
 
 abbrev pub zelems_of : NamedZone → List Row
 zelems_of z = map (zelem_row z.name) z.zone.elements
+
+-- Where an entry was not installed by the first ++VER there is a row for it.
+abbrev pub chosen_in : Text → Entry → List Row
+chosen_in zone e =
+    option_map_or (λ a. if a.number == 1 then [] else chosen_row zone e.id a.number ∷ []) e.applied []
+
+abbrev pub chosen_of : NamedZone → List Row
+chosen_of z = flat_map (chosen_in z.name) z.zone.entries

@@ -11,10 +11,9 @@ use Rattle.store_schema.specs.Tables.{moreif, chosen, store_schema}
 use Rattle.store_schema.specs.Create.{IsBlank}
 use Rattle.store_schema.specs.Inventory.{Inventory, IsInventory, empty_inventory}
 use Rattle.store_schema.specs.Rows.{number_row, sysmod_row, vers_of, ifreqs_of, hold_row, elems_of, zone_row}
-use Rattle.store_schema.specs.Rows.{entries_of, zelems_of, sources_of}
+use Rattle.store_schema.specs.Rows.{entries_of, zelems_of, sources_of, morevers_of, moreifs_of, chosen_of}
 
--- what each table holds: the schema's number, and the rows of the inventory. No SYSMOD has more than one ++VER of an
--- SREL, so that rows of `morever`, `moreif` and `chosen` stand for nothing.
+-- what each table holds: the schema's number, and the rows of the inventory
 abbrev pub tables_of : Inventory → List (Table × List Row)
 tables_of i =
     (meta, number_row ∷ [])
@@ -27,9 +26,9 @@ tables_of i =
     ∷ (entry, flat_map entries_of i.zones)
     ∷ (zelem, flat_map zelems_of i.zones)
     ∷ (source, flat_map sources_of i.global.sysmods)
-    ∷ (morever, [])
-    ∷ (moreif, [])
-    ∷ (chosen, [])
+    ∷ (morever, flat_map morevers_of i.global.sysmods)
+    ∷ (moreif, flat_map moreifs_of i.global.sysmods)
+    ∷ (chosen, flat_map chosen_of i.zones)
     ∷ []
 
 -- the rows of the table that has the tree

@@ -15,9 +15,10 @@ use Rattle.terms.specs.Forms.{IsName}
 use Rattle.terms.specs.Lookups.{is_in}
 use Rattle.terms.specs.Spelling.{type_text}
 use Rattle.terms.specs.Texts.{IsActionOf}
+use Rattle.lemmas.proofs.Members.{none_in_nil}
 use Rattle.terms.proofs.Ids.{Contains_from_is_in}
 use Rattle.store_schema.specs.Forms.{AreSorted, AreOthers, AreRecords, HasActionForms}
-use Rattle.store_schema.specs.Rows.{ids, flag, records, ifreq_row, action_cells, elem_row}
+use Rattle.store_schema.specs.Rows.{ids, flag, records, ifreq_row, moreif_row, action_cells, elem_row}
 use Rattle.store_schema.proofs.OneState.{same_ids}
 use Rattle.store_schema.proofs.Spelled.{text_same}
 use Rattle.terms.specs.Forms.{IsId}
@@ -99,6 +100,38 @@ whole_if row x srel n function req len a b c d e =
     let all : row ≡ column row 0 ∷ column row 1 ∷ column row 2 ∷ column row 3 ∷ column row 4 ∷ [] =
     sym (columns_from row 0 5 (sym len)) in
     cc
+
+pub whole_more_ver : (row : Row) (x srel : Text) (n : ℕ) (fmid : Option Text) (pre req sup : List Text)
+    → length row ≡ 7 → column row 0 ≡ value.Text x → column row 1 ≡ value.Text srel
+    → column row 2 ≡ value.Int (Rattle.std.proofs.Common.pos n) → column row 3 ≡ or_null value.Text fmid
+    → column row 4 ≡ ids pre → column row 5 ≡ ids req → column row 6 ≡ ids sup
+    → row ≡ value.Text x ∷ value.Text srel ∷ value.Int (Rattle.std.proofs.Common.pos n) ∷ or_null value.Text fmid
+    ∷ ids pre ∷ ids req ∷ ids sup ∷ []
+whole_more_ver row x srel n fmid pre req sup len a b c d e f g =
+    let all : row ≡ column row 0 ∷ column row 1 ∷ column row 2 ∷ column row 3 ∷ column row 4 ∷ column row 5 ∷ column row
+    6 ∷ [] = sym (columns_from row 0 7 (sym len)) in
+    cc
+
+pub whole_more_if : (row : Row) (x srel : Text) (place n : ℕ) (function : Text) (req : List Text) → length row ≡ 6
+    → column row 0 ≡ value.Text x → column row 1 ≡ value.Text srel
+    → column row 2 ≡ value.Int (Rattle.std.proofs.Common.pos place)
+    → column row 3 ≡ value.Int (Rattle.std.proofs.Common.pos n)
+    → column row 4 ≡ value.Text function → column row 5 ≡ ids req
+    → row ≡ moreif_row x srel place (n, record { function = function; req = req })
+whole_more_if row x srel place n function req len a b c d e f =
+    let all : row ≡ column row 0 ∷ column row 1 ∷ column row 2 ∷ column row 3 ∷ column row 4 ∷ column row 5 ∷ [] =
+    sym (columns_from row 0 6 (sym len)) in
+    cc
+
+-- no ids are others
+pub none_other : (x : Id) (ids : List Id) → ids ≡ [] → AreOthers x ids
+none_other x ids none = record {
+  listed = record {
+    each = λ k d within. absurd (let short = ap length none in omega (arith, within, short));
+    rising = λ i j d up within. absurd (let short = ap length none in omega (arith, within, short));
+  };
+  others = λ there. none_in_nil ids x none there;
+}
 
 pub whole_elem : (row : Row) (x : Text) (t : ElemType) (name : Text) (action : Action) → length row ≡ 7
     → column row 0 ≡ value.Text x → column row 1 ≡ value.Text (type_text t) → column row 2 ≡ value.Text name

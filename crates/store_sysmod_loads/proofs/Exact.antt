@@ -1,9 +1,8 @@
 -- A row says all of what it stands for.
-use Rattle.std.proofs.Common.{◌≡◌, ℕ, ap, sym, ◌∙◌}
+use Rattle.std.proofs.Common.{◌≡◌, ap, sym, ◌∙◌}
 use Rattle.terms.specs.declared.kinds.Kind.TheVariants.{Function, Ptf}
-use Rattle.terms.specs.Types.{IfReq}
-use Rattle.store_schema.proofs.Spelled.{kind_same, ids_same, sources_are_words}
-use Rattle.store_schema.proofs.OneState.{if_same, one_head, ver_is, change_is}
+use Rattle.store_schema.proofs.Spelled.{kind_same, ids_same, or_null_same, sources_are_words}
+use Rattle.store_schema.proofs.OneState.{same_ids, if_same, HaveOneHead, one_head, ver_is, change_is}
 use Rattle.store_sysmod_loads.specs.declared.flat.HeadRow.{HeadRow}
 use Rattle.store_sysmod_loads.specs.declared.flat.BareHead.{BareHead}
 use Rattle.store_sysmod_loads.specs.declared.flat.SourceRow.{SourceRow}
@@ -11,8 +10,9 @@ use Rattle.store_sysmod_loads.specs.declared.flat.VerRow.{VerRow}
 use Rattle.store_sysmod_loads.specs.declared.flat.IfRow.{IfRow}
 use Rattle.store_sysmod_loads.specs.declared.flat.ElemRow.{ElemRow}
 use Rattle.store_sysmod_loads.specs.Flat.{row_of_head, HasShortForms, row_of_bare, HasBareForms, row_of_source}
-use Rattle.store_sysmod_loads.specs.Flat.{HasSourceForms, row_of_ver, HasVerRowForms, row_of_if, HasIfRowForms}
-use Rattle.store_sysmod_loads.specs.Flat.{row_of_elem, HasElemRowForms}
+use Rattle.store_sysmod_loads.specs.Flat.{HasSourceForms, row_of_ver, HasFirstForms, row_of_more_ver}
+use Rattle.store_sysmod_loads.specs.Flat.{HasFurtherForms, row_of_if, HasFirstIfForms, row_of_more_if}
+use Rattle.store_sysmod_loads.specs.Flat.{HasFurtherIfForms, row_of_elem, HasElemRowForms}
 
 pub exact_head : (a b : HeadRow) → HasShortForms a → HasShortForms b → row_of_head a ≡ row_of_head b → a ≡ b
 exact_head a b p q e =
@@ -35,24 +35,50 @@ exact_source a b p q e =
     let name : a.name ≡ b.name = cc in
     ap (λ x. record a { id = x }) id ∙ ap (λ x. record b { name = x }) name
 
-pub exact_ver : (a b : VerRow) → HasVerRowForms a → HasVerRowForms b → row_of_ver a ≡ row_of_ver b → a ≡ b
+pub exact_ver : (a b : VerRow) → HasFirstForms a → HasFirstForms b → row_of_ver a ≡ row_of_ver b → a ≡ b
 exact_ver a b p q e =
     let id : a.id ≡ b.id = cc in
-    let ver : a.ver ≡ b.ver = ver_is a.ver b.ver (one_head Function Function a.id b.id a.ver b.ver p.1 q.1 e)
-    (p.2 ∙ sym q.2) in
-    ap (λ x. record a { id = x }) id ∙ ap (λ x. record b { ver = x }) ver
+    let number : a.number ≡ b.number = p.1 ∙ sym q.1 in
+    let ver : a.ver ≡ b.ver = ver_is a.ver b.ver (one_head Function Function a.id b.id a.ver b.ver p.0.1 q.0.1 e)
+    (p.0.2 ∙ sym q.0.2) in
+    ap (λ x. record a { id = x }) id ∙ ap (λ x. record a { id = b.id; number = x }) number
+    ∙ ap (λ x. record b { ver = x }) ver
 
-pub exact_if : (a b : IfRow) → HasIfRowForms a → HasIfRowForms b → row_of_if a ≡ row_of_if b → a ≡ b
-exact_if a b p q e =
+pub exact_more_ver : (a b : VerRow) → HasFurtherForms a → HasFurtherForms b → row_of_more_ver a ≡ row_of_more_ver b
+    → a ≡ b
+exact_more_ver a b p q e =
     let id : a.id ≡ b.id = cc in
-    let srel : a.srel ≡ b.srel = cc in
-    let both = if_same a.id b.id a.ifreq b.ifreq p.2 q.2 a.number b.number a.srel b.srel e in
-    let number : a.number ≡ b.number = ap (λ (x : ℕ × IfReq). x.0) both in
-    let ifreq : a.ifreq ≡ b.ifreq = ap (λ (x : ℕ × IfReq). x.1) both in
+    let number : a.number ≡ b.number = cc in
+    let head : HaveOneHead a.ver b.ver = record {
+      srel = cc;
+      fmid = or_null_same a.ver.fmid b.ver.fmid cc;
+      pre = same_ids a.ver.pre b.ver.pre p.0.1.pre.listed q.0.1.pre.listed cc;
+      req = same_ids a.ver.req b.ver.req p.0.1.req.listed q.0.1.req.listed cc;
+      sup = same_ids a.ver.sup b.ver.sup p.0.1.sup.listed q.0.1.sup.listed cc;
+      npre = p.2 ∙ sym q.2;
+      del = p.3 ∙ sym q.3;
+    } in
+    ap (λ x. record a { id = x }) id ∙ ap (λ x. record a { id = b.id; number = x }) number
+    ∙ ap (λ x. record b { ver = x }) (ver_is a.ver b.ver head (p.0.2 ∙ sym q.0.2))
+
+-- all of a row of an ++IF
+if_row_is : (a b : IfRow) → a.id ≡ b.id → a.srel ≡ b.srel → a.place ≡ b.place → a.number ≡ b.number
+    → a.ifreq ≡ b.ifreq → a ≡ b
+if_row_is a b id srel place number ifreq =
     ap (λ x. record a { id = x }) id
     ∙ ap (λ x. record a { id = b.id; srel = x }) srel
+    ∙ ap (λ x. record a { id = b.id; srel = b.srel; place = x }) place
     ∙ ap (λ x. record b { number = x; ifreq = a.ifreq }) number
     ∙ ap (λ x. record b { ifreq = x }) ifreq
+
+pub exact_if : (a b : IfRow) → HasFirstIfForms a → HasFirstIfForms b → row_of_if a ≡ row_of_if b → a ≡ b
+exact_if a b p q e = if_row_is a b (cc) (cc) (p.1 ∙ sym q.1) (cc)
+    (if_same a.id b.id a.ifreq b.ifreq p.0.2 q.0.2 (cc) (cc))
+
+pub exact_more_if : (a b : IfRow) → HasFurtherIfForms a → HasFurtherIfForms b → row_of_more_if a ≡ row_of_more_if b
+    → a ≡ b
+exact_more_if a b p q e = if_row_is a b (cc) (cc) (cc) (cc)
+    (if_same a.id b.id a.ifreq b.ifreq p.0.2 q.0.2 (cc) (cc))
 
 pub exact_elem : (a b : ElemRow) → HasElemRowForms a → HasElemRowForms b → row_of_elem a ≡ row_of_elem b → a ≡ b
 exact_elem a b p q e =

@@ -1,26 +1,33 @@
 -- The rows of SYSMODs, table by table: what is taken off the front of them, and that they rise.
-use Rattle.std.proofs.Common.{◌≡◌, ◌≢◌, ℕ, ◌+◌, List, [], ◌∷◌, ◌++◌, map, IsTrue, append_assoc, refl, sym, ap, ap₂}
-use Rattle.std.proofs.Common.{subst, ◌∙◌}
+use Rattle.std.proofs.Common.{◌≡◌, ◌≢◌, inl, inr, ℕ, ◌+◌, ◌==◌, Bool, true, false, not, List, [], ◌∷◌, ◌++◌, map}
+use Rattle.std.proofs.Common.{filter, IsTrue, append_assoc, arith, refl, sym, ap, ap₂, subst, ◌∙◌}
 use Rattle.std.specs.List.{AllByRecursion, flat_map, enumerate_from}
 use Rattle.std.proofs.lemmas.List.{map-append}
+use Rattle.std.proofs.lemmas.List.Elements.{filter-append}
 use Rattle.sqlite.specs.Tree.{IsAscending}
+use Rattle.sqlite_trees.proofs.ListLemmas.{map-map, filter-map}
 use Rattle.lemmas.proofs.Each.{recursion_append, recursion_weaker}
 use Rattle.terms.specs.Types.{Text, Id, IfReq, Ver, Change, Sysmod}
 use Rattle.terms.specs.Lookups.{is_before}
 use Rattle.store_schema.proofs.Lists.{ascending}
+use Rattle.store_schema.proofs.Numbered.{numbered, IsVerBefore, numbers_ascend}
 use Rattle.store_schema.proofs.Spelled.{not_before_same}
-use Rattle.store_schema.specs.Rows.{sysmod_row, source_row, sources_of, vers_of, ifreqs_of, elems_of, ifreq_row}
+use Rattle.store_schema.specs.Forms.{AreVersApart}
+use Rattle.store_schema.specs.Rows.{sysmod_row, source_row, sources_of, ver_row, vers_of, ifreq_row, ifreqs_of}
+use Rattle.store_schema.specs.Rows.{elems_of, morever_row, morevers_of, moreif_row, moreifs_of, first_vers, further_vers}
 use Rattle.store_schema.specs.Earlier.{first_sysmod_row}
 use Rattle.store_sysmod_loads.specs.declared.flat.HeadRow.{HeadRow}
 use Rattle.store_sysmod_loads.specs.declared.flat.VerRow.{VerRow}
 use Rattle.store_sysmod_loads.specs.declared.flat.IfRow.{IfRow}
 use Rattle.store_sysmod_loads.specs.declared.flat.ElemRow.{ElemRow}
 use Rattle.store_sysmod_loads.specs.Flat.{row_of_head, row_of_bare, row_of_source, row_of_ver, row_of_if, row_of_elem}
+use Rattle.store_sysmod_loads.specs.Flat.{is_first_row, is_first_if, row_of_more_ver, row_of_more_if}
 use Rattle.store_sysmod_loads.specs.Runs.{StandsApart, parent_of_ver, parent_of_if, parent_of_elem, source_rows}
 use Rattle.store_sysmod_loads.specs.Runs.{if_rows, ver_rows, elem_rows, HasAllIfs}
 use Rattle.store_sysmod_loads.specs.Joined.{bare_of, all_sources}
 use Rattle.store_sysmod_loads.specs.Built.{IsBuilt, IsTaken, AreTaken}
 use Rattle.store_sysmod_loads.specs.Flats.{head_of, ifs_of, all_vers, all_ifs, all_elems}
+use Rattle.store_sysmod_loads.proofs.RunLemmas.{if_row}
 
 -- ---- rows of items
 
@@ -47,26 +54,102 @@ rows_of_sources (s ∷ ss) =
     map-append row_of_source (source_rows s.id s.sources) (all_sources (map head_of ss))
     ∙ ap₂ ◌++◌ (rows_of_names s.id s.sources) (rows_of_sources ss)
 
-rows_of_ver_list : (x : Id) (vers : List Ver) → map row_of_ver (ver_rows x vers) ≡ map
-    (Rattle.store_schema.specs.Rows.ver_row x) vers
-rows_of_ver_list x [] = refl
-rows_of_ver_list x (v ∷ vers) = ap (λ rows. Rattle.store_schema.specs.Rows.ver_row x v ∷ rows) (rows_of_ver_list x vers)
+passing : {X : Type 0} (p : X → Bool) (x : X) (xs : List X) → p x ≡ true → filter p (x ∷ xs) ≡ x ∷ filter p xs
+passing p x xs e = rw e refl
 
-pub rows_of_vers : (ss : List Sysmod) → map row_of_ver (all_vers ss) ≡ flat_map vers_of ss
-rows_of_vers ss = map_flat row_of_ver (λ (s : Sysmod). ver_rows s.id s.vers) vers_of (λ s. rows_of_ver_list s.id s.vers)
-    ss
+failing : {X : Type 0} (p : X → Bool) (x : X) (xs : List X) → p x ≡ false → filter p (x ∷ xs) ≡ filter p xs
+failing p x xs e = rw e refl
 
-rows_of_if_list : (x : Id) (srel : Text) (n : ℕ) (ifs : List IfReq)
-    → map row_of_if (if_rows x srel n ifs) ≡ map (ifreq_row x srel) (enumerate_from n ifs)
-rows_of_if_list x srel n [] = refl
-rows_of_if_list x srel n (i ∷ ifs) = ap (λ rows. ifreq_row x srel (n, i) ∷ rows) (rows_of_if_list x srel (n + 1) ifs)
+-- those of items that pass a test
+rows_filtered : {A B C : Type 0} (g : B → C) (p : B → Bool) (f : A → List B) (h : A → List C)
+    → ((a : A) → map g (filter p (f a)) ≡ h a) → (xs : List A) → map g (filter p (flat_map f xs)) ≡ flat_map h xs
+rows_filtered g p f h same [] = refl
+rows_filtered g p f h same (x ∷ xs) =
+    ap (map g) (filter-append p (f x) (flat_map f xs)) ∙ map-append g (filter p (f x)) (filter p (flat_map f xs))
+    ∙ ap₂ ◌++◌ (same x) (rows_filtered g p f h same xs)
 
-pub rows_of_ifs : (ss : List Sysmod) → map row_of_if (all_ifs ss) ≡ flat_map ifreqs_of ss
+-- ++VERs whose numbers pass a test
+filtered_vers : (q : ℕ → Bool) (x : Id) (vers : List (ℕ × Ver))
+    → filter (λ (r : VerRow). q r.number) (ver_rows x vers) ≡ ver_rows x (filter (λ (v : ℕ × Ver). q v.0) vers)
+filtered_vers q x vers = filter-map (λ (r : VerRow). q r.number) _ vers
+
+rows_of_ver_list : (x : Id) (vers : List (ℕ × Ver))
+    → map row_of_ver (ver_rows x vers) ≡ map (λ (v : ℕ × Ver). ver_row x v.1) vers
+rows_of_ver_list x vers = map-map row_of_ver _ vers
+
+rows_of_more_list : (x : Id) (vers : List (ℕ × Ver)) → map row_of_more_ver (ver_rows x vers) ≡ map (morever_row x) vers
+rows_of_more_list x vers = map-map row_of_more_ver _ vers
+
+pub rows_of_vers : (ss : List Sysmod) → map row_of_ver (filter is_first_row (all_vers ss)) ≡ flat_map vers_of ss
+rows_of_vers ss =
+    rows_filtered row_of_ver is_first_row (λ (s : Sysmod). ver_rows s.id (numbered s)) vers_of
+    (λ s. ap (map row_of_ver) (filtered_vers (λ n. n == 1) s.id (numbered s)) ∙ rows_of_ver_list s.id (first_vers s)) ss
+
+pub rows_of_more_vers : (ss : List Sysmod)
+    → map row_of_more_ver (filter (λ r. not (is_first_row r)) (all_vers ss)) ≡ flat_map morevers_of ss
+rows_of_more_vers ss =
+    rows_filtered row_of_more_ver (λ r. not (is_first_row r)) (λ (s : Sysmod). ver_rows s.id (numbered s)) morevers_of
+    (λ s. ap (map row_of_more_ver) (filtered_vers (λ n. not (n == 1)) s.id (numbered s))
+    ∙ rows_of_more_list s.id (further_vers s)) ss
+
+-- and their ++IFs
+kept_ifs : (q : ℕ → Bool) (x : Id) (srel : Text) (place n : ℕ) (ifs : List IfReq) → q place ≡ true
+    → filter (λ (r : IfRow). q r.place) (if_rows x srel place n ifs) ≡ if_rows x srel place n ifs
+kept_ifs q x srel place n [] e = refl
+kept_ifs q x srel place n (i ∷ ifs) e =
+    rw e (ap (λ rows. if_row x srel place n i ∷ rows) (kept_ifs q x srel place (n + 1) ifs e))
+
+dropped_ifs : (q : ℕ → Bool) (x : Id) (srel : Text) (place n : ℕ) (ifs : List IfReq) → q place ≡ false
+    → filter (λ (r : IfRow). q r.place) (if_rows x srel place n ifs) ≡ []
+dropped_ifs q x srel place n [] e = refl
+dropped_ifs q x srel place n (i ∷ ifs) e = rw e (dropped_ifs q x srel place (n + 1) ifs e)
+
+filtered_ifs : (q : ℕ → Bool) (x : Id) (vers : List (ℕ × Ver))
+    → filter (λ (r : IfRow). q r.place) (ifs_of x vers) ≡ ifs_of x (filter (λ (v : ℕ × Ver). q v.0) vers)
+filtered_ifs q x [] = refl
+filtered_ifs q x (v ∷ vers) = go (q v.0) refl (filtered_ifs q x vers)
+  where
+    go : (b : Bool) → q v.0 ≡ b
+        → filter (λ (r : IfRow). q r.place) (ifs_of x vers) ≡ ifs_of x (filter (λ (w : ℕ × Ver). q w.0) vers)
+        → filter (λ (r : IfRow). q r.place) (ifs_of x (v ∷ vers))
+        ≡ ifs_of x (filter (λ (w : ℕ × Ver). q w.0) (v ∷ vers))
+    go true e later =
+        filter-append (λ (r : IfRow). q r.place) (if_rows x v.1.srel v.0 1 v.1.ifs) (ifs_of x vers)
+        ∙ ap₂ ◌++◌ (kept_ifs q x v.1.srel v.0 1 v.1.ifs e) later
+        ∙ sym (ap (ifs_of x) (passing (λ (w : ℕ × Ver). q w.0) v vers e))
+    go false e later =
+        filter-append (λ (r : IfRow). q r.place) (if_rows x v.1.srel v.0 1 v.1.ifs) (ifs_of x vers)
+        ∙ ap₂ ◌++◌ (dropped_ifs q x v.1.srel v.0 1 v.1.ifs e) later
+        ∙ sym (ap (ifs_of x) (failing (λ (w : ℕ × Ver). q w.0) v vers e))
+
+rows_of_if_list : (x : Id) (srel : Text) (place n : ℕ) (ifs : List IfReq)
+    → map row_of_if (if_rows x srel place n ifs) ≡ map (ifreq_row x srel) (enumerate_from n ifs)
+rows_of_if_list x srel place n [] = refl
+rows_of_if_list x srel place n (i ∷ ifs) = ap (λ rows. ifreq_row x srel (n, i) ∷ rows)
+    (rows_of_if_list x srel place (n + 1) ifs)
+
+rows_of_more_if_list : (x : Id) (srel : Text) (place n : ℕ) (ifs : List IfReq)
+    → map row_of_more_if (if_rows x srel place n ifs) ≡ map (moreif_row x srel place) (enumerate_from n ifs)
+rows_of_more_if_list x srel place n [] = refl
+rows_of_more_if_list x srel place n (i ∷ ifs) = ap (λ rows. moreif_row x srel place (n, i) ∷ rows)
+    (rows_of_more_if_list x srel place (n + 1) ifs)
+
+pub rows_of_ifs : (ss : List Sysmod) → map row_of_if (filter is_first_if (all_ifs ss)) ≡ flat_map ifreqs_of ss
 rows_of_ifs ss =
-    map_flat row_of_if (λ (s : Sysmod). ifs_of s.id s.vers) ifreqs_of
-    (λ s. map_flat row_of_if (λ (v : Ver). if_rows s.id v.srel 1 v.ifs)
-    (λ (v : Ver). map (ifreq_row s.id v.srel) (enumerate_from 1 v.ifs)) (λ v. rows_of_if_list s.id v.srel 1 v.ifs)
-    s.vers) ss
+    rows_filtered row_of_if is_first_if (λ (s : Sysmod). ifs_of s.id (numbered s)) ifreqs_of
+    (λ s. ap (map row_of_if) (filtered_ifs (λ n. n == 1) s.id (numbered s))
+    ∙ map_flat row_of_if (λ (v : ℕ × Ver). if_rows s.id v.1.srel v.0 1 v.1.ifs)
+    (λ (v : ℕ × Ver). map (ifreq_row s.id v.1.srel) (enumerate_from 1 v.1.ifs))
+    (λ v. rows_of_if_list s.id v.1.srel v.0 1 v.1.ifs) (first_vers s)) ss
+
+pub rows_of_more_ifs : (ss : List Sysmod)
+    → map row_of_more_if (filter (λ r. not (is_first_if r)) (all_ifs ss)) ≡ flat_map moreifs_of ss
+rows_of_more_ifs ss =
+    rows_filtered row_of_more_if (λ r. not (is_first_if r)) (λ (s : Sysmod). ifs_of s.id (numbered s)) moreifs_of
+    (λ s. ap (map row_of_more_if) (filtered_ifs (λ n. not (n == 1)) s.id (numbered s))
+    ∙ map_flat row_of_more_if (λ (v : ℕ × Ver). if_rows s.id v.1.srel v.0 1 v.1.ifs)
+    (λ (v : ℕ × Ver). map (moreif_row s.id v.1.srel v.0) (enumerate_from 1 v.1.ifs))
+    (λ v. rows_of_more_if_list s.id v.1.srel v.0 1 v.1.ifs) (further_vers s)) ss
 
 rows_of_elem_list : (x : Id) (changes : List Change) → map row_of_elem (elem_rows x changes) ≡ map
     (Rattle.store_schema.specs.Rows.elem_row x) changes
@@ -80,12 +163,12 @@ rows_of_elems ss = map_flat row_of_elem (λ (s : Sysmod). elem_rows s.id s.chang
 
 -- ---- what was taken is all
 
-all_ifs_flat : (x : Id) (rows : List IfRow) (vers : List Ver) (rest : List IfRow) → HasAllIfs x rows vers rest
+all_ifs_flat : (x : Id) (rows : List IfRow) (vers : List (ℕ × Ver)) (rest : List IfRow) → HasAllIfs x rows vers rest
     → rows ≡ ifs_of x vers ++ rest
 all_ifs_flat x rows [] rest h = h
 all_ifs_flat x rows (v ∷ vers) rest h =
-    h.1.0 ∙ ap (λ more. if_rows x v.srel 1 v.ifs ++ more) (all_ifs_flat x h.0 vers rest h.2)
-    ∙ sym (append_assoc (if_rows x v.srel 1 v.ifs) (ifs_of x vers) rest)
+    h.1.0 ∙ ap (λ more. if_rows x v.1.srel v.0 1 v.1.ifs ++ more) (all_ifs_flat x h.0 vers rest h.2)
+    ∙ sym (append_assoc (if_rows x v.1.srel v.0 1 v.1.ifs) (ifs_of x vers) rest)
 
 -- what the rows are, if these are the SYSMODs
 pub record AreFlat (heads : List HeadRow) (ss : List Sysmod) (vers : List VerRow) (ifs : List IfRow)
@@ -116,9 +199,9 @@ taken_flat (x ∷ heads) (s ∷ ss) vers ifs elems h =
     let id : x.id ≡ s.id = sym (ap (λ (r : Sysmod). r.id) t.same) in
     record {
       heads_are = ap₂ ◌∷◌ (sym head) rest.heads_are;
-      vers_are = t.vers_are.0 ∙ ap₂ (λ (y : Id) (more : List VerRow). ver_rows y s.vers ++ more) id rest.vers_are;
-      ifs_are = all_ifs_flat x.id ifs s.vers h.1 t.vers_are.2
-          ∙ ap₂ (λ (y : Id) (more : List IfRow). ifs_of y s.vers ++ more) id rest.ifs_are;
+      vers_are = t.vers_are.0 ∙ ap₂ (λ (y : Id) (more : List VerRow). ver_rows y (numbered s) ++ more) id rest.vers_are;
+      ifs_are = all_ifs_flat x.id ifs (numbered s) h.1 t.vers_are.2
+          ∙ ap₂ (λ (y : Id) (more : List IfRow). ifs_of y (numbered s) ++ more) id rest.ifs_are;
       elems_are = t.elems_are.0 ∙ ap₂ (λ (y : Id) (more : List ElemRow). elem_rows y s.changes ++ more) id
           rest.elems_are;
       built = (t.built, rest.built);
@@ -138,51 +221,64 @@ pub stands_apart : {X K : Type 0} (parent : X → K) (k : K) (xs : List X) → A
 stands_apart parent k [] h begins = begins
 stands_apart parent k (x ∷ xs) h begins = h.0 begins
 
-pub ver_parents : (x : Id) (vers : List Ver) → AllByRecursion (λ r. parent_of_ver r ≡ x) (ver_rows x vers)
+pub ver_parents : (x : Id) (vers : List (ℕ × Ver)) → AllByRecursion (λ r. parent_of_ver r ≡ x) (ver_rows x vers)
 ver_parents x [] = tt
 ver_parents x (v ∷ vers) = (refl, ver_parents x vers)
 
-pub if_parents : (x : Id) (srel : Text) (n : ℕ) (ifs : List IfReq)
-    → AllByRecursion (λ r. parent_of_if r ≡ (x, srel)) (if_rows x srel n ifs)
-if_parents x srel n [] = tt
-if_parents x srel n (i ∷ ifs) = (refl, if_parents x srel (n + 1) ifs)
+pub if_parents : (x : Id) (srel : Text) (place n : ℕ) (ifs : List IfReq)
+    → AllByRecursion (λ r. parent_of_if r ≡ (x, srel, place)) (if_rows x srel place n ifs)
+if_parents x srel place n [] = tt
+if_parents x srel place n (i ∷ ifs) = (refl, if_parents x srel place (n + 1) ifs)
 
 pub elem_parents : (x : Id) (changes : List Change) → AllByRecursion (λ r. parent_of_elem r ≡ x) (elem_rows x changes)
 elem_parents x [] = tt
 elem_parents x (d ∷ changes) = (refl, elem_parents x changes)
 
-pub if_ids : (x : Id) (vers : List Ver) → AllByRecursion (λ (r : IfRow). r.id ≡ x) (ifs_of x vers)
+pub if_ids : (x : Id) (vers : List (ℕ × Ver)) → AllByRecursion (λ (r : IfRow). r.id ≡ x) (ifs_of x vers)
 if_ids x [] = tt
 if_ids x (v ∷ vers) =
-    recursion_append (λ (r : IfRow). r.id ≡ x) (if_rows x v.srel 1 v.ifs) (ifs_of x vers)
-    (recursion_weaker (λ r. parent_of_if r ≡ (x, v.srel)) (λ r. r.id ≡ x) (λ r e. ap (λ (k : Id × Text). k.0) e) _
-    (if_parents x v.srel 1 v.ifs)) (if_ids x vers)
+    recursion_append (λ (r : IfRow). r.id ≡ x) (if_rows x v.1.srel v.0 1 v.1.ifs) (ifs_of x vers)
+    (recursion_weaker (λ r. parent_of_if r ≡ (x, v.1.srel, v.0)) (λ r. r.id ≡ x)
+    (λ r e. ap (λ (k : Id × Text × ℕ). k.0) e) _ (if_parents x v.1.srel v.0 1 v.1.ifs)) (if_ids x vers)
 
 pub other_by : (x y z : Id) → y ≡ z → z ≢ x → y ≢ x
 other_by x y z e other same = other (sym e ∙ same)
 
--- the ++IFs of one release stand apart from those of others, and of other SYSMODs
-ifs_taken : (x : Id) (vers : List Ver) (rest : List IfRow) → IsAscending (λ (v w : Ver). w.srel ≢ v.srel) vers
+-- another ++VER, by its release and number
+abbrev pub IsOtherVer : ℕ × Ver → ℕ × Ver → Type 0
+IsOtherVer v w = w.1.srel ≡ v.1.srel → w.0 ≢ v.0
+
+-- the ++IFs of one ++VER stand apart from those of others, and of other SYSMODs
+ifs_taken : (x : Id) (vers : List (ℕ × Ver)) (rest : List IfRow) → IsAscending IsOtherVer vers
     → AllByRecursion (λ (r : IfRow). r.id ≢ x) rest → HasAllIfs x (ifs_of x vers ++ rest) vers rest
 ifs_taken x [] rest up others = refl
 ifs_taken x (v ∷ vers) rest up others =
-    let of_rest = recursion_weaker (λ (r : IfRow). r.id ≢ x) (λ r. parent_of_if r ≢ (x, v.srel))
-    (λ r other e. other (ap (λ (k : Id × Text). k.0) e)) rest others in
-    let of_vers = recursion_flat (λ (w : Ver). if_rows x w.srel 1 w.ifs) (λ (w : Ver). w.srel ≢ v.srel)
-    (λ r. parent_of_if r ≢ (x, v.srel))
-    (λ w other. recursion_weaker (λ r. parent_of_if r ≡ (x, w.srel)) (λ r. parent_of_if r ≢ (x, v.srel))
-    (λ r e f. other (ap (λ (k : Id × Text). k.1) (sym e ∙ f))) _ (if_parents x w.srel 1 w.ifs)) vers up.0 in
-    let apart = stands_apart parent_of_if (x, v.srel) (ifs_of x vers ++ rest)
+    let of_rest = recursion_weaker (λ (r : IfRow). r.id ≢ x) (λ r. parent_of_if r ≢ (x, v.1.srel, v.0))
+    (λ r other e. other (ap (λ (k : Id × Text × ℕ). k.0) e)) rest others in
+    let of_vers = recursion_flat (λ (w : ℕ × Ver). if_rows x w.1.srel w.0 1 w.1.ifs) (IsOtherVer v)
+    (λ r. parent_of_if r ≢ (x, v.1.srel, v.0))
+    (λ w other. recursion_weaker (λ r. parent_of_if r ≡ (x, w.1.srel, w.0)) (λ r. parent_of_if r ≢ (x, v.1.srel, v.0))
+    (λ r e f. other (ap (λ (k : Id × Text × ℕ). k.1) (sym e ∙ f)) (ap (λ (k : Id × Text × ℕ). k.2) (sym e ∙ f))) _
+    (if_parents x w.1.srel w.0 1 w.1.ifs)) vers up.0 in
+    let apart = stands_apart parent_of_if (x, v.1.srel, v.0) (ifs_of x vers ++ rest)
     (recursion_append _ (ifs_of x vers) rest of_vers of_rest) in (
       ifs_of x vers ++ rest,
-      (append_assoc (if_rows x v.srel 1 v.ifs) (ifs_of x vers) rest, apart),
+      (append_assoc (if_rows x v.1.srel v.0 1 v.1.ifs) (ifs_of x vers) rest, apart),
       ifs_taken x vers rest up.1 others,
     )
 
-weaker_pairs : {X : Type 0} (R S : X → X → Type 0) → ((x y : X) → R x y → S x y) → (xs : List X) → IsAscending R xs
+pub weaker_pairs : {X : Type 0} (R S : X → X → Type 0) → ((x y : X) → R x y → S x y) → (xs : List X) → IsAscending R xs
     → IsAscending S xs
 weaker_pairs R S f [] h = tt
 weaker_pairs R S f (x ∷ xs) h = (recursion_weaker (R x) (S x) (f x) xs h.0, weaker_pairs R S f xs h.1)
+
+other_ver : (v w : ℕ × Ver) → IsVerBefore v w → IsOtherVer v w
+other_ver v w (inl before) same number = absurd (not_before_same v.1.srel w.1.srel (sym same) before)
+other_ver v w (inr up) same number = absurd (let more = up.1 in omega (arith, more, number))
+
+-- the ++VERs rise by release and number
+pub numbers_up : (s : Sysmod) → IsBuilt s → IsAscending IsVerBefore (numbered s)
+numbers_up s h = numbers_ascend s.kind [] s.vers (ascending (AreVersApart s.kind) s.vers h.apart)
 
 abbrev pub BelowId : Sysmod → Sysmod → Type 0
 BelowId s t = IsTrue (is_before s.id t.id)
@@ -194,18 +290,19 @@ flat_taken (s ∷ ss) up built none =
     let others : AllByRecursion (λ (t : Sysmod). t.id ≢ s.id) ss =
     recursion_weaker (BelowId s) (λ t. t.id ≢ s.id) (λ t low same. not_before_same s.id t.id (sym same) low) ss
     up.0 in
-    let of_vers = recursion_flat (λ (t : Sysmod). ver_rows t.id t.vers) (λ t. t.id ≢ s.id) (λ r. parent_of_ver r ≢ s.id)
+    let of_vers = recursion_flat (λ (t : Sysmod). ver_rows t.id (numbered t)) (λ t. t.id ≢ s.id)
+    (λ r. parent_of_ver r ≢ s.id)
     (λ t other. recursion_weaker (λ r. parent_of_ver r ≡ t.id) (λ r. parent_of_ver r ≢ s.id)
-    (λ r e. other_by s.id r.id t.id e other) _ (ver_parents t.id t.vers)) ss others in
-    let of_ifs = recursion_flat (λ (t : Sysmod). ifs_of t.id t.vers) (λ t. t.id ≢ s.id) (λ (r : IfRow). r.id ≢ s.id)
+    (λ r e. other_by s.id r.id t.id e other) _ (ver_parents t.id (numbered t))) ss others in
+    let of_ifs = recursion_flat (λ (t : Sysmod). ifs_of t.id (numbered t)) (λ t. t.id ≢ s.id)
+    (λ (r : IfRow). r.id ≢ s.id)
     (λ t other. recursion_weaker (λ (r : IfRow). r.id ≡ t.id) (λ r. r.id ≢ s.id)
-    (λ r e. other_by s.id r.id t.id e other) _ (if_ids t.id t.vers)) ss others in
+    (λ r e. other_by s.id r.id t.id e other) _ (if_ids t.id (numbered t))) ss others in
     let of_elems = recursion_flat (λ (t : Sysmod). elem_rows t.id t.changes) (λ t. t.id ≢ s.id)
     (λ r. parent_of_elem r ≢ s.id)
     (λ t other. recursion_weaker (λ r. parent_of_elem r ≡ t.id) (λ r. parent_of_elem r ≢ s.id)
     (λ r e. other_by s.id r.id t.id e other) _ (elem_parents t.id t.changes)) ss others in
-    let releases = weaker_pairs (λ (v w : Ver). IsTrue (is_before v.srel w.srel)) (λ v w. w.srel ≢ v.srel)
-    (λ v w low same. not_before_same v.srel w.srel (sym same) low) s.vers (ascending _ s.vers built.0.srels)
+    let releases = weaker_pairs IsVerBefore IsOtherVer other_ver (numbered s) (numbers_up s built.0)
     in (
       all_vers ss,
       all_ifs ss,
@@ -215,7 +312,7 @@ flat_taken (s ∷ ss) up built none =
         vers_are = (
           refl,
           stands_apart parent_of_ver s.id (all_vers ss) of_vers,
-          ifs_taken s.id s.vers (all_ifs ss) releases of_ifs,
+          ifs_taken s.id (numbered s) (all_ifs ss) releases of_ifs,
         );
         elems_are = (refl, stands_apart parent_of_elem s.id (all_elems ss) of_elems);
         built = built.0;

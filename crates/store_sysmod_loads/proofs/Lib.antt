@@ -4,6 +4,9 @@ pub mod Exact
 pub mod RunLemmas
 pub mod FlatLemmas
 pub mod RiseLemmas
+pub mod Parted
+pub mod Further
+pub mod VersApart
 pub mod PartLemmas
 pub mod Standing
 pub mod JoinLemmas

@@ -1,24 +1,29 @@
 -- Calls that read part of the rows of SYSMODs, one after the other.
-use Rattle.std.specs.Prelude.{⊤}
-use Rattle.std.proofs.Common.{◌≡◌, ◌≢◌, ℕ, List, [], Result, Ok, Err, IfOk, OnOk, IsErr, IsErrOf, arith, rules, sym, subst}
+use Rattle.std.proofs.Common.{◌≡◌, List, Result, Ok, Err, IfOk, OnOk, IsErr, IsErrOf, arith, rules, sym, subst}
 use Rattle.sqlite.specs.Store.{Ghosts}
 use Rattle.sqlite.specs.Held.{Held, state}
 use Rattle.sqlite.specs.State.{HasCleanDisk, IsUnchanged}
 use Rattle.terms.specs.Types.{Sysmod}
 use Rattle.store_rows.specs.declared.error.ReadError.{ReadError}
 use Rattle.store_rows.specs.declared.error.ReadError.TheVariants.{BadRow, Fault}
-use Rattle.store_rows.specs.Reads.{OnlyReads}
 use Rattle.store_rows.specs.Rows.{Contents, HasContents}
 use Rattle.store_rows.proofs.InsideLemmas.{if_ok}
 use Rattle.store_rows.proofs.Queries.{reads_err, reads_more, reads_then}
 use Rattle.store_schema.specs.declared.release.Release.{Release}
 use Rattle.store_schema.specs.Earlier.{schema_under}
-use Rattle.store_sysmod_loads.specs.Flats.{AreFormed, AreRowsOf}
+use Rattle.store_sysmod_loads.specs.Flats.{AreFormed}
 use Rattle.store_sysmod_loads.specs.Parts.{LoadsPart}
+
+-- two facts of what a call answers
+pub if_both : {X E : Type 0} (q : Result X E) (P Q R : X → Type 0) → ((x : X) → P x → Q x → R x) → IfOk q P → IfOk q Q
+    → IfOk q R
+if_both (Ok x) P Q R h p q = h x p q
+if_both (Err e) P Q R h p q = tt
 
 module _ {S : Type 0} {g : Ghosts S} {r : Release} where
   -- the rows stand where they stood
-  still : {X : Type 0} {H : X → Contents → Type 0} {W : X → List Sysmod → Type 0} {a b : Held S} {q : Result X ReadError}
+  still : {X : Type 0} {H : X → Contents → Type 0} {W : X → List Sysmod → Type 0} {a b : Held S}
+      {q : Result X ReadError}
       {x : X} → q ≡ Ok x → LoadsPart g r H W a b q → HasCleanDisk (state g b) → (contents : Contents)
       → HasContents (schema_under r) contents (state g a).now → HasContents (schema_under r) contents (state g b).now
   still {a = a} {b = b} is h clean contents was =
@@ -48,29 +53,6 @@ module _ {S : Type 0} {g : Ghosts S} {r : Release} where
         if_ok q _ _ (λ x. has x sysmods) (h.only clean contents was sysmods formed rows);
     none = h.none;
     reads = h.reads;
-  }
-
-  -- what is refused is no SYSMOD's
-  pub part_none : {X : Type 0} {a b : Held S} {q : Result X ReadError} (tree : ℕ)
-      → ((sysmods : List Sysmod) (contents : Contents) → AreRowsOf r sysmods contents → contents tree ≡ [])
-      → (HasCleanDisk (state g b) → (contents : Contents) → HasContents (schema_under r) contents (state g a).now
-      → OnOk q (contents tree ≡ []))
-      → (HasCleanDisk (state g b) → IsErrOf q BadRow → (contents : Contents)
-      → HasContents (schema_under r) contents (state g a).now → contents tree ≢ [])
-      → OnlyReads g (schema_under r) BadRow Fault a b q
-      → LoadsPart g r (λ done contents. contents tree ≡ []) (λ done sysmods. ⊤) a b q
-  part_none {q = Ok x} tree nothing found none reads = record {
-    found = found;
-    only = λ clean contents was sysmods formed rows. tt;
-    none = λ clean bad contents was sysmods formed rows. absurd (search rules);
-    reads = reads;
-  }
-  part_none {q = Err e} tree nothing found none reads = record {
-    found = λ clean contents was. tt;
-    only = λ clean contents was sysmods formed rows. tt;
-    none = λ clean bad contents was sysmods formed rows.
-        none clean bad contents was (nothing sysmods contents rows);
-    reads = reads;
   }
 
   -- what was read is put to use, which meets no fault

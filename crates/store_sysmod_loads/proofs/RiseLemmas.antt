@@ -1,5 +1,6 @@
 -- The rows of SYSMODs rise by their keys, table by table.
-use Rattle.std.proofs.Common.{get_or, ◌≡◌, ◌<◌, ℕ, ◌+◌, List, [], ◌∷◌, ◌++◌, map, IsTrue, Less, Equal, Ordering, arith}
+use Rattle.std.proofs.Common.{get_or, ◌≡◌, inl, inr, ◌<◌, ℕ, ◌+◌, List, [], ◌∷◌, ◌++◌, map, IsTrue, Ordering, arith}
+use Rattle.std.proofs.Common.{Less, Equal, Greater}
 use Rattle.std.proofs.Common.{refl, sym, ap, ap₂, subst, ◌∙◌}
 use Rattle.std.specs.Prelude.{AllPairs}
 use Rattle.std.specs.List.{AllByRecursion, flat_map}
@@ -20,6 +21,7 @@ use Rattle.terms.specs.Global.{change_cmp}
 use Rattle.terms.specs.contracts.kinds.ElemTypeOrd.TheImpl as type_order
 use Rattle.terms.proofs.ElementOrder.{cmp_keys}
 use Rattle.store_schema.proofs.Lists.{ascending}
+use Rattle.store_schema.proofs.Numbered.{numbered, IsVerBefore}
 use Rattle.store_sysmod_loads.specs.declared.flat.HeadRow.{HeadRow}
 use Rattle.store_sysmod_loads.specs.declared.flat.BareHead.{BareHead}
 use Rattle.store_sysmod_loads.specs.declared.flat.SourceRow.{SourceRow}
@@ -32,6 +34,7 @@ use Rattle.store_sysmod_loads.specs.Joined.{bare_of, all_sources}
 use Rattle.store_sysmod_loads.specs.Built.{IsBuilt}
 use Rattle.store_sysmod_loads.specs.Flats.{head_of, ifs_of, all_vers, all_ifs, all_elems, AreWhole}
 use Rattle.store_sysmod_loads.proofs.FlatLemmas.{recursion_flat, ver_parents, elem_parents, if_ids, BelowId}
+use Rattle.store_sysmod_loads.proofs.FlatLemmas.{weaker_pairs, numbers_up}
 use Rattle.store_sysmod_loads.proofs.JoinLemmas.{source_parents, BelowHead}
 
 asc_append : {X : Type 0} (R : X → X → Type 0) (xs ys : List X) → IsAscending R xs → IsAscending R ys
@@ -53,46 +56,52 @@ both : {X : Type 0} (P Q S : X → Type 0) → ((x : X) → P x → Q x → S x)
 both P Q S f [] p q = tt
 both P Q S f (x ∷ xs) p q = (f x p.0 q.0, both P Q S f xs p.1 q.1)
 
-module _ {A B K : Type 0} (order : K → K → Ordering) (f : A → List B) (id_of : A → Text) (parent : B → Text)
-    (sub : B → K) where
+module _ {A B P K : Type 0} (first : P → P → Ordering) (order : K → K → Ordering) (f : A → List B) (id_of : A → P)
+    (parent : B → P) (sub : B → K) where
   -- by the parent, and then by what tells its rows apart
   abbrev pub Low : B → B → Type 0
-  Low a b = IsTrue (is_lt (ordering_then (slice_cmp nat_cmp (parent a) (parent b)) (order (sub a) (sub b))))
+  Low a b = IsTrue (is_lt (ordering_then (first (parent a) (parent b)) (order (sub a) (sub b))))
 
   abbrev pub LowSub : B → B → Type 0
   LowSub a b = IsTrue (is_lt (order (sub a) (sub b)))
 
-  low_same : (x : Text) (a b : B) → parent a ≡ x → parent b ≡ x → LowSub a b → Low a b
-  low_same x a b p q h =
-      let tie : slice_cmp nat_cmp (parent a) (parent b) ≡ Equal =
-      ap₂ (slice_cmp nat_cmp) p q ∙ tied_itself nat_list_cmp_total x in
+  abbrev IsTied : Type 0
+  IsTied = (x : P) → first x x ≡ Equal
+
+  low_same : IsTied → (x : P) (a b : B) → parent a ≡ x → parent b ≡ x → LowSub a b → Low a b
+  low_same tied x a b p q h =
+      let tie : first (parent a) (parent b) ≡ Equal = ap₂ first p q ∙ tied x in
       subst (λ o. IsTrue (is_lt (ordering_then o (order (sub a) (sub b))))) (sym tie) h
 
-  low_other : (x y : Text) (a b : B) → parent a ≡ x → parent b ≡ y → IsTrue (is_before x y) → Low a b
+  low_other : (x y : P) (a b : B) → parent a ≡ x → parent b ≡ y → IsTrue (is_lt (first x y)) → Low a b
   low_other x y a b p q h =
-      let less : slice_cmp nat_cmp (parent a) (parent b) ≡ Less =
-      ap₂ (slice_cmp nat_cmp) p q ∙ Less_from_is_lt (slice_cmp nat_cmp x y) h in
+      let less : first (parent a) (parent b) ≡ Less = ap₂ first p q ∙ Less_from_is_lt (first x y) h in
       subst (λ o. IsTrue (is_lt (ordering_then o (order (sub a) (sub b))))) (sym less) refl
 
-  of_one : (x : Text) (bs : List B) → AllByRecursion (λ b. parent b ≡ x) bs → IsAscending LowSub bs → IsAscending Low bs
-  of_one x [] p h = tt
-  of_one x (b ∷ bs) p h = (
-    both (λ c. parent c ≡ x) (LowSub b) (Low b) (λ c q low. low_same x b c p.0 q low) bs p.1 h.0,
-    of_one x bs p.1 h.1,
+  of_one : IsTied → (x : P) (bs : List B) → AllByRecursion (λ b. parent b ≡ x) bs → IsAscending LowSub bs
+      → IsAscending Low bs
+  of_one tied x [] p h = tt
+  of_one tied x (b ∷ bs) p h = (
+    both (λ c. parent c ≡ x) (LowSub b) (Low b) (λ c q low. low_same tied x b c p.0 q low) bs p.1 h.0,
+    of_one tied x bs p.1 h.1,
   )
 
   -- parents that rise, and rows that rise in each
-  pub asc_flat : ((a : A) → AllByRecursion (λ b. parent b ≡ id_of a) (f a)) → (xs : List A)
-      → IsAscending (λ s t. IsTrue (is_before (id_of s) (id_of t))) xs
+  pub asc_flat : IsTied → ((a : A) → AllByRecursion (λ b. parent b ≡ id_of a) (f a)) → (xs : List A)
+      → IsAscending (λ s t. IsTrue (is_lt (first (id_of s) (id_of t)))) xs
       → AllByRecursion (λ a. IsAscending LowSub (f a)) xs → IsAscending Low (flat_map f xs)
-  asc_flat each [] up subs = tt
-  asc_flat each (x ∷ xs) up subs =
+  asc_flat tied each [] up subs = tt
+  asc_flat tied each (x ∷ xs) up subs =
       let behind : (b : B) → parent b ≡ id_of x → AllByRecursion (Low b) (flat_map f xs) = λ b p.
-      recursion_flat f (λ y. IsTrue (is_before (id_of x) (id_of y))) (Low b)
+      recursion_flat f (λ y. IsTrue (is_lt (first (id_of x) (id_of y)))) (Low b)
       (λ y low. recursion_weaker (λ c. parent c ≡ id_of y) (Low b)
       (λ c q. low_other (id_of x) (id_of y) b c p q low) (f y) (each y)) xs up.0 in
-      asc_append Low (f x) (flat_map f xs) (of_one (id_of x) (f x) (each x) subs.0) (asc_flat each xs up.1 subs.1)
+      asc_append Low (f x) (flat_map f xs) (of_one tied (id_of x) (f x) (each x) subs.0)
+      (asc_flat tied each xs up.1 subs.1)
       (recursion_weaker (λ b. parent b ≡ id_of x) (λ b. AllByRecursion (Low b) (flat_map f xs)) behind (f x) (each x))
+
+same_text : (x : Text) → slice_cmp nat_cmp x x ≡ Equal
+same_text = tied_itself nat_list_cmp_total
 
 pub ids_up : (ss : List Sysmod) → AreWhole ss → IsAscending BelowId ss
 ids_up ss h = ascending BelowId ss h.ids
@@ -125,65 +134,110 @@ pub sources_rise : (ss : List Sysmod) → AreWhole ss → AllByRecursion HasHead
     → Rises text_key_cmp (λ (r : SourceRow). (r.id, r.name)) (all_sources (map head_of ss))
 sources_rise ss h forms =
     pairs_from _ (all_sources (map head_of ss))
-    (asc_flat (slice_cmp nat_cmp) (λ (h : HeadRow). source_rows h.id h.sources) (λ (h : HeadRow). h.id)
-    (λ (r : SourceRow). r.id) (λ (r : SourceRow). r.name) (λ h. source_parents h.id h.sources) (map head_of ss)
+    (asc_flat (slice_cmp nat_cmp) (slice_cmp nat_cmp) (λ (h : HeadRow). source_rows h.id h.sources)
+    (λ (h : HeadRow). h.id) (λ (r : SourceRow). r.id) (λ (r : SourceRow). r.name) same_text
+    (λ h. source_parents h.id h.sources) (map head_of ss)
     (ascending BelowHead (map head_of ss) (heads_rise ss h))
     (recursion_weaker HasHeadForms _ names_up (map head_of ss) forms))
 
-vers_up : (s : Sysmod) → IsBuilt s → IsAscending (λ (a b : VerRow). IsTrue (is_before a.ver.srel b.ver.srel))
-    (ver_rows s.id s.vers)
-vers_up s h = asc_map _ (λ (a b : VerRow). IsTrue (is_before a.ver.srel b.ver.srel)) s.vers (ascending _ s.vers h.srels)
+-- by the release, and then by the number of the ++VER
+abbrev pub ver_sub_cmp : Text × ℕ → Text × ℕ → Ordering
+ver_sub_cmp a b = ordering_then (slice_cmp nat_cmp a.0 b.0) (nat_cmp a.1 b.1)
 
-pub vers_rise : (ss : List Sysmod) → AreWhole ss → Rises text_key_cmp (λ (r : VerRow). (r.id, r.ver.srel)) (all_vers ss)
+abbrev pub ver_key_cmp : Id × (Text × ℕ) → Id × (Text × ℕ) → Ordering
+ver_key_cmp a b = ordering_then (slice_cmp nat_cmp a.0 b.0) (ver_sub_cmp a.1 b.1)
+
+same_ver : (x : Text × ℕ) → ver_sub_cmp x x ≡ Equal
+same_ver x = ap (λ o. ordering_then o (nat_cmp x.1 x.1)) (same_text x.0) ∙ sym (nat_cmp_is x.1 x.1 Equal refl)
+
+abbrev IsLowVer : ℕ × Ver → ℕ × Ver → Type 0
+IsLowVer a b = IsTrue (is_lt (ver_sub_cmp (a.1.srel, a.0) (b.1.srel, b.0)))
+
+low_ver : (a b : ℕ × Ver) → IsVerBefore a b → IsLowVer a b
+low_ver a b (inl before) =
+    subst (λ o. IsTrue (is_lt (ordering_then o (nat_cmp a.0 b.0)))) (sym (Less_from_is_lt _ before)) refl
+low_ver a b (inr up) =
+    let tie : slice_cmp nat_cmp a.1.srel b.1.srel ≡ Equal =
+    ap (λ (t : Text). slice_cmp nat_cmp t b.1.srel) up.0 ∙ same_text b.1.srel in
+    subst (λ o. IsTrue (is_lt (ordering_then o (nat_cmp a.0 b.0)))) (sym tie)
+    (ap is_lt (sym (nat_cmp_is a.0 b.0 Less up.1)))
+
+vers_low : (s : Sysmod) → IsBuilt s → IsAscending IsLowVer (numbered s)
+vers_low s h = weaker_pairs IsVerBefore IsLowVer low_ver (numbered s) (numbers_up s h)
+
+vers_up : (s : Sysmod) → IsBuilt s → IsAscending (λ (a b : VerRow).
+    IsTrue (is_lt (ver_sub_cmp (a.ver.srel, a.number) (b.ver.srel, b.number)))) (ver_rows s.id (numbered s))
+vers_up s h = asc_map _ (λ (a b : VerRow). IsTrue (is_lt (ver_sub_cmp (a.ver.srel, a.number) (b.ver.srel, b.number))))
+    (numbered s) (vers_low s h)
+
+pub vers_rise : (ss : List Sysmod) → AreWhole ss
+    → Rises ver_key_cmp (λ (r : VerRow). (r.id, (r.ver.srel, r.number))) (all_vers ss)
 vers_rise ss h =
     pairs_from _ (all_vers ss)
-    (asc_flat (slice_cmp nat_cmp) (λ (s : Sysmod). ver_rows s.id s.vers) (λ (s : Sysmod). s.id) (λ (r : VerRow). r.id)
-    (λ (r : VerRow). r.ver.srel)
-    (λ s. ver_parents s.id s.vers) ss (ids_up ss h) (recursion_weaker IsBuilt _ vers_up ss h.built))
+    (asc_flat (slice_cmp nat_cmp) ver_sub_cmp (λ (s : Sysmod). ver_rows s.id (numbered s)) (λ (s : Sysmod). s.id)
+    (λ (r : VerRow). r.id) (λ (r : VerRow). (r.ver.srel, r.number)) same_text
+    (λ s. ver_parents s.id (numbered s)) ss (ids_up ss h) (recursion_weaker IsBuilt _ vers_up ss h.built))
 
-abbrev pub if_sub_cmp : Text × ℕ → Text × ℕ → Ordering
-if_sub_cmp a b = ordering_then (slice_cmp nat_cmp a.0 b.0) (nat_cmp a.1 b.1)
+-- by the release, the ++VER's number and then the own one
+abbrev pub if_sub_cmp : Text × (ℕ × ℕ) → Text × (ℕ × ℕ) → Ordering
+if_sub_cmp a b =
+    ordering_then (slice_cmp nat_cmp a.0 b.0) (ordering_then (nat_cmp a.1.0 b.1.0) (nat_cmp a.1.1 b.1.1))
 
-abbrev pub if_key_cmp : Id × (Text × ℕ) → Id × (Text × ℕ) → Ordering
+abbrev pub if_key_cmp : Id × (Text × (ℕ × ℕ)) → Id × (Text × (ℕ × ℕ)) → Ordering
 if_key_cmp a b = ordering_then (slice_cmp nat_cmp a.0 b.0) (if_sub_cmp a.1 b.1)
 
-from_here : (x : Id) (srel : Text) (m n : ℕ) (ifs : List IfReq) → m < n
-    → AllByRecursion (λ (b : IfRow). IsTrue (is_lt (nat_cmp m b.number))) (if_rows x srel n ifs)
-from_here x srel m n [] low = tt
-from_here x srel m n (i ∷ ifs) low = (
+from_here : (x : Id) (srel : Text) (place m n : ℕ) (ifs : List IfReq) → m < n
+    → AllByRecursion (λ (b : IfRow). IsTrue (is_lt (nat_cmp m b.number))) (if_rows x srel place n ifs)
+from_here x srel place m n [] low = tt
+from_here x srel place m n (i ∷ ifs) low = (
   ap is_lt (sym (nat_cmp_is m n Less low)),
-  from_here x srel m (n + 1) ifs (omega (arith, low)),
+  from_here x srel place m (n + 1) ifs (omega (arith, low)),
 )
 
-ifs_up : (x : Id) (srel : Text) (n : ℕ) (ifs : List IfReq) → IsAscending
-    (λ (a b : IfRow). IsTrue (is_lt (nat_cmp a.number b.number))) (if_rows x srel n ifs)
-ifs_up x srel n [] = tt
-ifs_up x srel n (i ∷ ifs) = (from_here x srel n (n + 1) ifs (omega arith), ifs_up x srel (n + 1) ifs)
+ifs_up : (x : Id) (srel : Text) (place n : ℕ) (ifs : List IfReq) → IsAscending
+    (λ (a b : IfRow). IsTrue (is_lt (nat_cmp a.number b.number))) (if_rows x srel place n ifs)
+ifs_up x srel place n [] = tt
+ifs_up x srel place n (i ∷ ifs) = (
+  from_here x srel place n (n + 1) ifs (omega arith),
+  ifs_up x srel place (n + 1) ifs,
+)
 
-if_releases : (x : Id) (srel : Text) (n : ℕ) (ifs : List IfReq)
-    → AllByRecursion (λ (r : IfRow). r.srel ≡ srel) (if_rows x srel n ifs)
-if_releases x srel n [] = tt
-if_releases x srel n (i ∷ ifs) = (refl, if_releases x srel (n + 1) ifs)
+if_places : (x : Id) (srel : Text) (place n : ℕ) (ifs : List IfReq)
+    → AllByRecursion (λ (r : IfRow). ◌≡◌ {A = Text × ℕ} (r.srel, r.place) (srel, place)) (if_rows x srel place n ifs)
+if_places x srel place n [] = tt
+if_places x srel place n (i ∷ ifs) = (refl, if_places x srel place (n + 1) ifs)
 
-all_up : (x : Id) (vers : List Ver) → AllByRecursion (λ v. IsAscending
-    (λ (a b : IfRow). IsTrue (is_lt (nat_cmp a.number b.number))) (if_rows x v.srel 1 v.ifs)) vers
+all_up : (x : Id) (vers : List (ℕ × Ver)) → AllByRecursion (λ v. IsAscending
+    (λ (a b : IfRow). IsTrue (is_lt (nat_cmp a.number b.number))) (if_rows x v.1.srel v.0 1 v.1.ifs)) vers
 all_up x [] = tt
-all_up x (v ∷ vers) = (ifs_up x v.srel 1 v.ifs, all_up x vers)
+all_up x (v ∷ vers) = (ifs_up x v.1.srel v.0 1 v.1.ifs, all_up x vers)
+
+-- three keys in two ways
+three : (a b c : Ordering) → ordering_then (ordering_then a b) c ≡ ordering_then a (ordering_then b c)
+three Less b c = refl
+three Equal b c = refl
+three Greater b c = refl
 
 sysmod_ifs_up : (s : Sysmod) → IsBuilt s → IsAscending (λ (a b : IfRow).
-    IsTrue (is_lt (if_sub_cmp (a.srel, a.number) (b.srel, b.number)))) (ifs_of s.id s.vers)
+    IsTrue (is_lt (if_sub_cmp (a.srel, (a.place, a.number)) (b.srel, (b.place, b.number))))) (ifs_of s.id (numbered s))
 sysmod_ifs_up s h =
-    asc_flat nat_cmp (λ (v : Ver). if_rows s.id v.srel 1 v.ifs) (λ (v : Ver). v.srel) (λ (r : IfRow). r.srel)
-    (λ (r : IfRow). r.number)
-    (λ v. if_releases s.id v.srel 1 v.ifs) s.vers (ascending _ s.vers h.srels) (all_up s.id s.vers)
+    weaker_pairs (λ (a b : IfRow). IsTrue (is_lt (ordering_then (ver_sub_cmp (a.srel, a.place) (b.srel, b.place))
+    (nat_cmp a.number b.number))))
+    (λ (a b : IfRow). IsTrue (is_lt (if_sub_cmp (a.srel, (a.place, a.number)) (b.srel, (b.place, b.number)))))
+    (λ a b low. subst (λ o. IsTrue (is_lt o)) (three (slice_cmp nat_cmp a.srel b.srel) (nat_cmp a.place b.place)
+    (nat_cmp a.number b.number)) low)
+    (ifs_of s.id (numbered s))
+    (asc_flat ver_sub_cmp nat_cmp (λ (v : ℕ × Ver). if_rows s.id v.1.srel v.0 1 v.1.ifs)
+    (λ (v : ℕ × Ver). (v.1.srel, v.0)) (λ (r : IfRow). (r.srel, r.place)) (λ (r : IfRow). r.number) same_ver
+    (λ v. if_places s.id v.1.srel v.0 1 v.1.ifs) (numbered s) (vers_low s h) (all_up s.id (numbered s)))
 
-pub ifs_rise : (ss : List Sysmod) → AreWhole ss → Rises if_key_cmp (λ (r : IfRow). (r.id, (r.srel, r.number)))
-    (all_ifs ss)
+pub ifs_rise : (ss : List Sysmod) → AreWhole ss
+    → Rises if_key_cmp (λ (r : IfRow). (r.id, (r.srel, (r.place, r.number)))) (all_ifs ss)
 ifs_rise ss h =
     pairs_from _ (all_ifs ss)
-    (asc_flat if_sub_cmp (λ (s : Sysmod). ifs_of s.id s.vers) (λ (s : Sysmod). s.id) (λ (r : IfRow). r.id)
-    (λ (r : IfRow). (r.srel, r.number))
-    (λ s. if_ids s.id s.vers) ss (ids_up ss h) (recursion_weaker IsBuilt _ sysmod_ifs_up ss h.built))
+    (asc_flat (slice_cmp nat_cmp) if_sub_cmp (λ (s : Sysmod). ifs_of s.id (numbered s)) (λ (s : Sysmod). s.id)
+    (λ (r : IfRow). r.id) (λ (r : IfRow). (r.srel, (r.place, r.number))) same_text
+    (λ s. if_ids s.id (numbered s)) ss (ids_up ss h) (recursion_weaker IsBuilt _ sysmod_ifs_up ss h.built))
 
 abbrev pub elem_sub_cmp : ElemType × Text → ElemType × Text → Ordering
 elem_sub_cmp a b = ordering_then (nat_cmp (type_number a.0) (type_number b.0)) (slice_cmp nat_cmp a.1 b.1)
@@ -200,8 +254,8 @@ pub elems_rise : (ss : List Sysmod) → AreWhole ss → Rises elem_key_cmp
     (λ (r : ElemRow). (r.id, (r.change.elem_type, r.change.name))) (all_elems ss)
 elems_rise ss h =
     pairs_from _ (all_elems ss)
-    (asc_flat elem_sub_cmp (λ (s : Sysmod). elem_rows s.id s.changes) (λ (s : Sysmod). s.id) (λ (r : ElemRow). r.id)
-    (λ (r : ElemRow). (r.change.elem_type, r.change.name))
+    (asc_flat (slice_cmp nat_cmp) elem_sub_cmp (λ (s : Sysmod). elem_rows s.id s.changes) (λ (s : Sysmod). s.id)
+    (λ (r : ElemRow). r.id) (λ (r : ElemRow). (r.change.elem_type, r.change.name)) same_text
     (λ s. elem_parents s.id s.changes) ss (ids_up ss h) (recursion_weaker IsBuilt _ elems_up ss h.built))
 
 -- ---- the derived order of types

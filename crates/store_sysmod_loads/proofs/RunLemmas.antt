@@ -1,15 +1,16 @@
 -- Rows are taken off the front one by one.
 use Rattle.std.proofs.Common.{◌≡◌, ℕ, ◌+◌, List, [], ◌∷◌, ◌++◌, length, Option, Some, None, append_assoc, arith, refl}
-use Rattle.std.proofs.Common.{sym, ap, subst, ◌∙◌}
+use Rattle.std.proofs.Common.{append-nil, sym, ap, subst, ◌∙◌}
 use Rattle.std.specs.Prelude.{IfSome, option_to_list}
 use Rattle.terms.specs.Types.{Text, Id, IfReq, Ver, Change}
+use Rattle.store_schema.specs.Rows.{number_behind, numbered_behind}
 use Rattle.store_sysmod_loads.specs.declared.flat.SourceRow.{SourceRow}
 use Rattle.store_sysmod_loads.specs.declared.flat.VerRow.{VerRow}
 use Rattle.store_sysmod_loads.specs.declared.flat.IfRow.{IfRow}
 use Rattle.store_sysmod_loads.specs.declared.flat.ElemRow.{ElemRow}
 use Rattle.store_sysmod_loads.specs.Runs.{Begins, StandsApart, parent_of_source, parent_of_ver, parent_of_if}
 use Rattle.store_sysmod_loads.specs.Runs.{parent_of_elem, source_rows, if_rows, ver_rows, elem_rows, HasIfs, HasAllIfs}
-use Rattle.store_sysmod_loads.specs.Runs.{HasVers, HasChanges}
+use Rattle.store_sysmod_loads.specs.Runs.{HasVersBehind, HasChanges}
 
 pub popped : {X K : Type 0} (parent : X → K) (k : K) (old new : List X) (r : Option X) → Begins parent k old
     → old ≡ option_to_list r ++ new → IfSome r (λ row. (old ≡ row ∷ new) × (parent row ≡ k))
@@ -54,95 +55,128 @@ sources_end x rows (n ∷ names) rest apart h = absurd (apart (subst (Begins par
 
 -- ---- ++IFs
 
-abbrev pub if_row : Id → Text → ℕ → IfReq → IfRow
-if_row x srel n i = record { id = x; srel = srel; number = n; ifreq = i }
+abbrev pub if_row : Id → Text → ℕ → ℕ → IfReq → IfRow
+if_row x srel place n i = record { id = x; srel = srel; place = place; number = n; ifreq = i }
 
-if_rows_more : (x : Id) (srel : Text) (n m : ℕ) (ifs : List IfReq) (i : IfReq) → m ≡ n + length ifs
-    → if_rows x srel n (ifs ++ i ∷ []) ≡ if_rows x srel n ifs ++ if_row x srel m i ∷ []
-if_rows_more x srel n m [] i e = let same : n ≡ m = omega (arith, e) in ap (λ k. if_row x srel k i ∷ []) same
-if_rows_more x srel n m (j ∷ ifs) i e = ap (λ rows. if_row x srel n j ∷ rows)
-    (if_rows_more x srel (n + 1) m ifs i (omega (arith, e)))
+if_rows_more : (x : Id) (srel : Text) (place n m : ℕ) (ifs : List IfReq) (i : IfReq) → m ≡ n + length ifs
+    → if_rows x srel place n (ifs ++ i ∷ []) ≡ if_rows x srel place n ifs ++ if_row x srel place m i ∷ []
+if_rows_more x srel place n m [] i e = let same : n ≡ m = omega (arith, e) in
+    ap (λ k. if_row x srel place k i ∷ []) same
+if_rows_more x srel place n m (j ∷ ifs) i e = ap (λ rows. if_row x srel place n j ∷ rows)
+    (if_rows_more x srel place (n + 1) m ifs i (omega (arith, e)))
 
-if_is : (row : IfRow) (x : Id) (srel : Text) (n : ℕ) → parent_of_if row ≡ (x, srel) → row.number ≡ n
-    → row ≡ if_row x srel n row.ifreq
-if_is row x srel n key number =
-    let id : row.id ≡ x = ap (λ (k : Id × Text). k.0) key in
-    let release : row.srel ≡ srel = ap (λ (k : Id × Text). k.1) key in
+if_is : (row : IfRow) (x : Id) (srel : Text) (place n : ℕ) → parent_of_if row ≡ (x, srel, place) → row.number ≡ n
+    → row ≡ if_row x srel place n row.ifreq
+if_is row x srel place n key number =
+    let id : row.id ≡ x = ap (λ (k : Id × Text × ℕ). k.0) key in
+    let release : row.srel ≡ srel = ap (λ (k : Id × Text × ℕ). k.1) key in
+    let behind : row.place ≡ place = ap (λ (k : Id × Text × ℕ). k.2) key in
     ap (λ y. record row { id = y }) id ∙ ap (λ y. record row { id = x; srel = y }) release
-    ∙ ap (λ y. record { id = x; srel = srel; number = y; ifreq = row.ifreq }) number
+    ∙ ap (λ y. record row { id = x; srel = srel; place = y }) behind
+    ∙ ap (λ y. record { id = x; srel = srel; place = place; number = y; ifreq = row.ifreq }) number
 
-pub ifs_told : (x : Id) (srel : Text) (old : List IfRow) (ifs : List IfReq) (row : IfRow) (rows new : List IfRow)
-    → old ≡ if_rows x srel 1 ifs ++ rows → rows ≡ row ∷ new → parent_of_if row ≡ (x, srel) → row.number ≡ length ifs + 1
-    → old ≡ if_rows x srel 1 (ifs ++ row.ifreq ∷ []) ++ new
-ifs_told x srel old ifs row rows new told is key number =
-    let one : row ≡ if_row x srel (length ifs + 1) row.ifreq = if_is row x srel (length ifs + 1) key number in
-    told ∙ ap (λ r. if_rows x srel 1 ifs ++ r) (is ∙ ap (λ r. r ∷ new) one)
-    ∙ sym (append_assoc (if_rows x srel 1 ifs) (if_row x srel (length ifs + 1) row.ifreq ∷ []) new)
-    ∙ ap (λ r. r ++ new) (sym (if_rows_more x srel 1 (length ifs + 1) ifs row.ifreq (omega arith)))
+pub ifs_told : (x : Id) (srel : Text) (place : ℕ) (old : List IfRow) (ifs : List IfReq) (row : IfRow)
+    (rows new : List IfRow) → old ≡ if_rows x srel place 1 ifs ++ rows → rows ≡ row ∷ new
+    → parent_of_if row ≡ (x, srel, place) → row.number ≡ length ifs + 1
+    → old ≡ if_rows x srel place 1 (ifs ++ row.ifreq ∷ []) ++ new
+ifs_told x srel place old ifs row rows new told is key number =
+    let one : row ≡ if_row x srel place (length ifs + 1) row.ifreq = if_is row x srel place (length ifs + 1) key number
+    in
+    told ∙ ap (λ r. if_rows x srel place 1 ifs ++ r) (is ∙ ap (λ r. r ∷ new) one)
+    ∙ sym (append_assoc (if_rows x srel place 1 ifs) (if_row x srel place (length ifs + 1) row.ifreq ∷ []) new)
+    ∙ ap (λ r. r ++ new) (sym (if_rows_more x srel place 1 (length ifs + 1) ifs row.ifreq (omega arith)))
 
-pub ifs_step : (x : Id) (srel : Text) (n : ℕ) (row : IfRow) (new : List IfRow) (more : List IfReq) (rest : List IfRow)
-    → parent_of_if row ≡ (x, srel) → HasIfs x srel n (row ∷ new) more rest
-    → (left : List IfReq) × (more ≡ row.ifreq ∷ left) × (row.number ≡ n) × HasIfs x srel (n + 1) new left rest
-ifs_step x srel n row new [] rest key h = absurd (h.1 (subst (Begins parent_of_if (x, srel)) h.0 key))
-ifs_step x srel n row new (i ∷ more) rest key h =
+pub ifs_step : (x : Id) (srel : Text) (place n : ℕ) (row : IfRow) (new : List IfRow) (more : List IfReq)
+    (rest : List IfRow) → parent_of_if row ≡ (x, srel, place) → HasIfs x srel place n (row ∷ new) more rest
+    → (left : List IfReq) × (more ≡ row.ifreq ∷ left) × (row.number ≡ n) × HasIfs x srel place (n + 1) new left rest
+ifs_step x srel place n row new [] rest key h = absurd (h.1 (subst (Begins parent_of_if (x, srel, place)) h.0 key))
+ifs_step x srel place n row new (i ∷ more) rest key h =
     let e = h.0 in
-    let head : row ≡ if_row x srel n i = cc in
-    let tail : new ≡ if_rows x srel (n + 1) more ++ rest = cc in
+    let head : row ≡ if_row x srel place n i = cc in
+    let tail : new ≡ if_rows x srel place (n + 1) more ++ rest = cc in
     (more, ap (λ r. r ∷ more) (sym (ap (λ (r : IfRow). r.ifreq) head)), ap (λ (r : IfRow). r.number) head, (tail, h.1))
 
-pub ifs_end : (x : Id) (srel : Text) (n : ℕ) (rows : List IfRow) (more : List IfReq) (rest : List IfRow)
-    → StandsApart parent_of_if (x, srel) rows → HasIfs x srel n rows more rest → (more ≡ []) × (rest ≡ rows)
-ifs_end x srel n rows [] rest apart h = (refl, sym h.0)
-ifs_end x srel n rows (i ∷ more) rest apart h = absurd (apart (subst (Begins parent_of_if (x, srel)) (sym h.0) refl))
+pub ifs_end : (x : Id) (srel : Text) (place n : ℕ) (rows : List IfRow) (more : List IfReq) (rest : List IfRow)
+    → StandsApart parent_of_if (x, srel, place) rows → HasIfs x srel place n rows more rest
+    → (more ≡ []) × (rest ≡ rows)
+ifs_end x srel place n rows [] rest apart h = (refl, sym h.0)
+ifs_end x srel place n rows (i ∷ more) rest apart h =
+    absurd (apart (subst (Begins parent_of_if (x, srel, place)) (sym h.0) refl))
 
 -- ---- ++VERs
 
-ver_rows_more : (x : Id) (vers : List Ver) (v : Ver) → ver_rows x (vers ++ v ∷ []) ≡ ver_rows x vers
-    ++ ver_rows x (v ∷ [])
+-- one more ++VER behind others
+pub numbered_more : (front vers : List Ver) (v : Ver)
+    → numbered_behind front (vers ++ v ∷ []) ≡ numbered_behind front vers ++ (number_behind (front ++ vers) v, v) ∷ []
+numbered_more front [] v =
+    ap (λ (ws : List Ver). (number_behind ws v, v) ∷ []) (sym (append-nil front))
+numbered_more front (w ∷ vers) v =
+    ap (λ (ns : List (ℕ × Ver)). (number_behind front w, w) ∷ ns)
+    (numbered_more (front ++ w ∷ []) vers v
+    ∙ ap (λ (ws : List Ver). numbered_behind (front ++ w ∷ []) vers ++ (number_behind ws v, v) ∷ [])
+    (append_assoc front (w ∷ []) vers))
+
+ver_rows_more : (x : Id) (vers : List (ℕ × Ver)) (v : ℕ × Ver)
+    → ver_rows x (vers ++ v ∷ []) ≡ ver_rows x vers ++ ver_rows x (v ∷ [])
 ver_rows_more x [] v = refl
 ver_rows_more x (w ∷ vers) v = ap (λ rows. ver_rows x (w ∷ []) ++ rows) (ver_rows_more x vers v)
 
 pub vers_told : (x : Id) (old : List VerRow) (vers : List Ver) (row : VerRow) (rows new : List VerRow)
-    (ifs : List IfReq) → old ≡ ver_rows x vers ++ rows → rows ≡ row ∷ new → row.id ≡ x → row.ver.ifs ≡ []
-    → old ≡ ver_rows x (vers ++ record row.ver { ifs = ifs } ∷ []) ++ new
-vers_told x old vers row rows new ifs told is id bare =
+    (ifs : List IfReq) → old ≡ ver_rows x (numbered_behind [] vers) ++ rows → rows ≡ row ∷ new → row.id ≡ x
+    → row.number ≡ number_behind vers row.ver → row.ver.ifs ≡ []
+    → old ≡ ver_rows x (numbered_behind [] (vers ++ record row.ver { ifs = ifs } ∷ [])) ++ new
+vers_told x old vers row rows new ifs told is id number bare =
     let v = row.ver in
-    let one : row ≡ record { id = x; ver = record v { ifs = [] } } =
-    ap (λ y. record row { id = y }) id ∙ ap (λ y. record { id = x; ver = record v { ifs = y } }) bare in
-    told ∙ ap (λ r. ver_rows x vers ++ r) (is ∙ ap (λ r. r ∷ new) one)
-    ∙ sym (append_assoc (ver_rows x vers) (ver_rows x (record v { ifs = ifs } ∷ [])) new)
-    ∙ ap (λ r. r ++ new) (sym (ver_rows_more x vers (record v { ifs = ifs })))
+    let n = number_behind vers v in
+    let last : Ver = record v { ifs = ifs } in
+    let one : row ≡ record { id = x; number = n; ver = record v { ifs = [] } } =
+    ap (λ y. record row { id = y }) id ∙ ap (λ y. record row { id = x; number = y }) number
+    ∙ ap (λ y. record { id = x; number = n; ver = record v { ifs = y } }) bare in
+    told ∙ ap (λ r. ver_rows x (numbered_behind [] vers) ++ r) (is ∙ ap (λ r. r ∷ new) one)
+    ∙ sym (append_assoc (ver_rows x (numbered_behind [] vers)) (ver_rows x ((n, last) ∷ [])) new)
+    ∙ ap (λ r. r ++ new) (sym (ver_rows_more x (numbered_behind [] vers) (n, last))
+    ∙ ap (ver_rows x) (sym (numbered_more [] vers last)))
 
-pub all_ifs_more : (x : Id) (old : List IfRow) (vers : List Ver) (v : Ver) (mid new : List IfRow)
-    → HasAllIfs x old vers mid → HasIfs x v.srel 1 mid v.ifs new → HasAllIfs x old (vers ++ v ∷ []) new
+all_ifs_more : (x : Id) (old : List IfRow) (vers : List (ℕ × Ver)) (v : ℕ × Ver) (mid new : List IfRow)
+    → HasAllIfs x old vers mid → HasIfs x v.1.srel v.0 1 mid v.1.ifs new → HasAllIfs x old (vers ++ v ∷ []) new
 all_ifs_more x old [] v mid new told more = (
   new,
-  subst (λ rows. HasIfs x v.srel 1 rows v.ifs new) (sym told) more,
+  subst (λ rows. HasIfs x v.1.srel v.0 1 rows v.1.ifs new) (sym told) more,
   refl,
 )
 all_ifs_more x old (w ∷ vers) v mid new told more = (told.0, told.1, all_ifs_more x told.0 vers v mid new told.2 more)
 
+pub ver_ifs_more : (x : Id) (old : List IfRow) (vers : List Ver) (v : Ver) (mid new : List IfRow)
+    → HasAllIfs x old (numbered_behind [] vers) mid → HasIfs x v.srel (number_behind vers v) 1 mid v.ifs new
+    → HasAllIfs x old (numbered_behind [] (vers ++ v ∷ [])) new
+ver_ifs_more x old vers v mid new told more =
+    subst (λ (ns : List (ℕ × Ver)). HasAllIfs x old ns new) (sym (numbered_more [] vers v))
+    (all_ifs_more x old (numbered_behind [] vers) (number_behind vers v, v) mid new told more)
+
 -- what the first row of a ++VER says of those that are there
-abbrev pub StepsVer : Id → VerRow → List VerRow → List IfRow → List Ver → List VerRow → List IfRow → Type 0
-StepsVer x row new ifs vers rest more =
+abbrev pub StepsVer : List Ver → Id → VerRow → List VerRow → List IfRow → List Ver → List VerRow → List IfRow → Type 0
+StepsVer front x row new ifs vers rest more =
     (found : List IfReq) × (mid : List IfRow) × (left : List Ver) × (vers ≡ record row.ver { ifs = found } ∷ left)
-    × HasIfs x row.ver.srel 1 ifs found mid × HasVers x new mid left rest more
+    × (row.number ≡ number_behind front row.ver) × HasIfs x row.ver.srel row.number 1 ifs found mid
+    × HasVersBehind (front ++ record row.ver { ifs = found } ∷ []) x new mid left rest more
 
-pub vers_step : (x : Id) (row : VerRow) (new : List VerRow) (ifs : List IfRow) (vers : List Ver) (rest : List VerRow)
-    (more : List IfRow) → row.id ≡ x → HasVers x (row ∷ new) ifs vers rest more → StepsVer x row new ifs vers rest more
-vers_step x row new ifs [] rest more id h = absurd (h.1 (subst (Begins parent_of_ver x) h.0 id))
-vers_step x row new ifs (v ∷ vers) rest more id h =
+pub vers_step : (front : List Ver) (x : Id) (row : VerRow) (new : List VerRow) (ifs : List IfRow) (vers : List Ver)
+    (rest : List VerRow) (more : List IfRow) → row.id ≡ x → HasVersBehind front x (row ∷ new) ifs vers rest more
+    → StepsVer front x row new ifs vers rest more
+vers_step front x row new ifs [] rest more id h = absurd (h.1 (subst (Begins parent_of_ver x) h.0 id))
+vers_step front x row new ifs (v ∷ vers) rest more id h =
     let e = h.0 in
-    let head : row ≡ record { id = x; ver = record v { ifs = [] } } = cc in
-    let tail : new ≡ ver_rows x vers ++ rest = cc in
-    subst (λ r. StepsVer x r new ifs (v ∷ vers) rest more) (sym head)
-    (v.ifs, h.2.0, vers, refl, h.2.1, (tail, h.1, h.2.2))
+    let head : row ≡ record { id = x; number = number_behind front v; ver = record v { ifs = [] } } = cc in
+    let tail : new ≡ ver_rows x (numbered_behind (front ++ v ∷ []) vers) ++ rest = cc in
+    subst (λ r. StepsVer front x r new ifs (v ∷ vers) rest more) (sym head)
+    (v.ifs, h.2.0, vers, refl, refl, h.2.1, (tail, h.1, h.2.2))
 
-pub vers_end : (x : Id) (rows : List VerRow) (ifs : List IfRow) (vers : List Ver) (rest : List VerRow)
-    (more : List IfRow) → StandsApart parent_of_ver x rows → HasVers x rows ifs vers rest more
-    → (vers ≡ []) × (rest ≡ rows) × (more ≡ ifs)
-vers_end x rows ifs [] rest more apart h = (refl, sym h.0, sym h.2)
-vers_end x rows ifs (v ∷ vers) rest more apart h = absurd (apart (subst (Begins parent_of_ver x) (sym h.0) refl))
+pub vers_end : (front : List Ver) (x : Id) (rows : List VerRow) (ifs : List IfRow) (vers : List Ver)
+    (rest : List VerRow) (more : List IfRow) → StandsApart parent_of_ver x rows
+    → HasVersBehind front x rows ifs vers rest more → (vers ≡ []) × (rest ≡ rows) × (more ≡ ifs)
+vers_end front x rows ifs [] rest more apart h = (refl, sym h.0, sym h.2)
+vers_end front x rows ifs (v ∷ vers) rest more apart h =
+    absurd (apart (subst (Begins parent_of_ver x) (sym h.0) refl))
 
 -- ---- element statements
 

@@ -1,15 +1,18 @@
 -- The SYSMODs of an inventory have their forms, and its rows are theirs.
-use Rattle.std.proofs.Common.{get_or, ◌≡◌, ℕ, ◌+◌, List, [], ◌∷◌, map, arith, refl}
+use Rattle.std.proofs.Common.{get_or, ◌≡◌, ℕ, ◌+◌, List, [], ◌∷◌, ◌++◌, map, arith, refl}
 use Rattle.std.specs.List.{AllByRecursion}
 use Rattle.std.proofs.lemmas.List.Elements.{recursion_from_All}
 use Rattle.std.proofs.lemmas.List.Sorted.{IsPermutation-refl}
 use Rattle.sqlite.specs.Effect.{Database}
+use Rattle.lemmas.proofs.Each.{recursion_append}
 use Rattle.terms.specs.declared.kinds.Kind.{Kind}
 use Rattle.terms.specs.declared.kinds.Kind.TheVariants.{Function, Ptf, Apar, Usermod}
 use Rattle.terms.specs.Types.{Text, Id, IfReq, Ver, Action, Replaces, Updates, Change, Sysmod}
 use Rattle.terms.specs.Forms.{IsId, IsSrel}
 use Rattle.terms.specs.Global.{IsSysmod}
 use Rattle.store_schema.specs.Forms.{HasSysmodForms, HasVerForms, HasIfForms, HasChangeForms, HasActionForms}
+use Rattle.store_schema.specs.Rows.{number_behind, numbered_behind}
+use Rattle.store_schema.proofs.Numbered.{numbered}
 use Rattle.store_schema.specs.Inventory.{Inventory, IsInventory}
 use Rattle.store_schema.specs.Earlier.{HasShortSources, StandsUnder}
 use Rattle.store_schema.specs.declared.release.Release.{Release}
@@ -39,21 +42,30 @@ of_any_kind kind x v h = record {
   suits = tt;
 }
 
-vers_formed : (kind : Kind) (x : Id) (vers : List Ver) → IsId x → AllByRecursion (HasVerForms kind x) vers
-    → AllByRecursion HasVerRowForms (ver_rows x vers)
-vers_formed kind x [] id h = tt
-vers_formed kind x (v ∷ vers) id h = ((id, of_any_kind kind x v h.0, refl), vers_formed kind x vers id h.1)
+vers_formed : (kind : Kind) (x : Id) (front vers : List Ver) → IsId x → AllByRecursion (HasVerForms kind x) vers
+    → AllByRecursion HasVerRowForms (ver_rows x (numbered_behind front vers))
+vers_formed kind x front [] id h = tt
+vers_formed kind x front (v ∷ vers) id h = (
+  (id, of_any_kind kind x v h.0, refl),
+  vers_formed kind x (front ++ v ∷ []) vers id h.1,
+)
 
-if_list_formed : (x : Id) (srel : Text) (n : ℕ) (ifs : List IfReq) → IsId x → IsSrel srel
-    → AllByRecursion (HasIfForms x) ifs → AllByRecursion HasIfRowForms (if_rows x srel n ifs)
-if_list_formed x srel n [] id release h = tt
-if_list_formed x srel n (i ∷ ifs) id release h = ((id, release, h.0), if_list_formed x srel (n + 1) ifs id release h.1)
+if_list_formed : (x : Id) (srel : Text) (place n : ℕ) (ifs : List IfReq) → IsId x → IsSrel srel
+    → AllByRecursion (HasIfForms x) ifs → AllByRecursion HasIfRowForms (if_rows x srel place n ifs)
+if_list_formed x srel place n [] id release h = tt
+if_list_formed x srel place n (i ∷ ifs) id release h = (
+  (id, release, h.0),
+  if_list_formed x srel place (n + 1) ifs id release h.1,
+)
 
-ifs_formed : (kind : Kind) (x : Id) (vers : List Ver) → IsId x → AllByRecursion (HasVerForms kind x) vers
-    → AllByRecursion HasIfRowForms (ifs_of x vers)
-ifs_formed kind x vers id h =
-    recursion_flat (λ (v : Ver). if_rows x v.srel 1 v.ifs) (HasVerForms kind x) HasIfRowForms
-    (λ v f. if_list_formed x v.srel 1 v.ifs id f.srel (recursion_from_All (HasIfForms x) v.ifs f.ifs)) vers h
+ifs_formed : (kind : Kind) (x : Id) (front vers : List Ver) → IsId x → AllByRecursion (HasVerForms kind x) vers
+    → AllByRecursion HasIfRowForms (ifs_of x (numbered_behind front vers))
+ifs_formed kind x front [] id h = tt
+ifs_formed kind x front (v ∷ vers) id h =
+    let place = number_behind front v in
+    recursion_append HasIfRowForms (if_rows x v.srel place 1 v.ifs) (ifs_of x (numbered_behind (front ++ v ∷ []) vers))
+    (if_list_formed x v.srel place 1 v.ifs id h.0.srel (recursion_from_All (HasIfForms x) v.ifs h.0.ifs))
+    (ifs_formed kind x (front ++ v ∷ []) vers id h.1)
 
 action_of_any : (kind : Kind) (c : Change) (a : Action) → HasActionForms kind c.elem_type c.name a
     → HasActionForms Ptf c.elem_type c.name a
@@ -85,7 +97,8 @@ is_built : (s : Sysmod) → HasSysmodForms s → IsSysmod s → IsBuilt s
 is_built s h k = record {
   some = h.some;
   suits = λ i d within. (h.vers i d within).suits;
-  srels = k.vers;
+  apart = h.apart;
+  most = h.most;
   does = λ i d within. let c = get_or s.changes i d in may_do s.kind c c.action (h.changes i d within).action;
   changes = k.changes;
 }
@@ -112,12 +125,12 @@ inventory_formed r i h heads =
     let forms = recursion_from_All HasSysmodForms ss h.sysmods in
     record {
       heads = heads;
-      vers = recursion_flat (λ (s : Sysmod). ver_rows s.id s.vers) HasSysmodForms HasVerRowForms
-          (λ s f. vers_formed s.kind s.id s.vers f.id (recursion_from_All (HasVerForms s.kind s.id) s.vers f.vers)) ss
-          forms;
-      ifs = recursion_flat (λ (s : Sysmod). ifs_of s.id s.vers) HasSysmodForms HasIfRowForms
-          (λ s f. ifs_formed s.kind s.id s.vers f.id (recursion_from_All (HasVerForms s.kind s.id) s.vers f.vers)) ss
-          forms;
+      vers = recursion_flat (λ (s : Sysmod). ver_rows s.id (numbered s)) HasSysmodForms HasVerRowForms
+          (λ s f. vers_formed s.kind s.id [] s.vers f.id (recursion_from_All (HasVerForms s.kind s.id) s.vers f.vers))
+          ss forms;
+      ifs = recursion_flat (λ (s : Sysmod). ifs_of s.id (numbered s)) HasSysmodForms HasIfRowForms
+          (λ s f. ifs_formed s.kind s.id [] s.vers f.id (recursion_from_All (HasVerForms s.kind s.id) s.vers f.vers))
+          ss forms;
       elems = recursion_flat (λ (s : Sysmod). elem_rows s.id s.changes) HasSysmodForms HasElemRowForms
           (λ s f. elems_formed s.kind s.id s.changes f.id (recursion_from_All (HasChangeForms s.kind) s.changes
           f.changes)) ss forms;
@@ -141,25 +154,26 @@ stands_formed Third i db h =
     let ss = i.global.sysmods in
     inventory_formed Third i h.inventory (heads_formed ss (recursion_from_All HasSysmodForms ss h.inventory.sysmods))
 
-pub inventory_rows : (r : Release) (i : Inventory) → AreRowsOf r i.global.sysmods (rows_under r i)
-inventory_rows First i = record {
+pub inventory_rows : (r : Release) (i : Inventory) (db : Database) → StandsUnder r i db
+    → AreRowsOf r i.global.sysmods (rows_under r i)
+inventory_rows First i db h = record {
   heads = IsPermutation-refl _;
   vers = IsPermutation-refl _;
   ifs = IsPermutation-refl _;
   elems = IsPermutation-refl _;
-  no_more = tt;
+  more = h.earlier.singles;
 }
-inventory_rows Second i = record {
+inventory_rows Second i db h = record {
   heads = (IsPermutation-refl _, IsPermutation-refl _);
   vers = IsPermutation-refl _;
   ifs = IsPermutation-refl _;
   elems = IsPermutation-refl _;
-  no_more = tt;
+  more = h.earlier.singles;
 }
-inventory_rows Third i = record {
+inventory_rows Third i db h = record {
   heads = (IsPermutation-refl _, IsPermutation-refl _);
   vers = IsPermutation-refl _;
   ifs = IsPermutation-refl _;
   elems = IsPermutation-refl _;
-  no_more = (refl, refl);
+  more = (IsPermutation-refl _, IsPermutation-refl _);
 }

@@ -1,13 +1,11 @@
 -- A SYSMOD from its rows.
-use Rattle.std.specs.Prelude.{◌≡◌, ◌≢◌, List, [], ◌∷◌, All}
-use Rattle.std.specs.Ordering.{nat_cmp}
-use Rattle.std.specs.Cmp.Lexicographic.{slice_cmp}
+use Rattle.std.specs.Prelude.{◌≡◌, ◌≢◌, ◌≤◌, List, [], ◌∷◌, length, All, AllPairs}
 use Rattle.terms.specs.declared.kinds.Kind.{Kind}
 use Rattle.terms.specs.declared.kinds.Kind.TheVariants.{Function}
 use Rattle.terms.specs.Types.{Ver, Action, Updates, Change, Sysmod}
 use Rattle.terms.specs.Rising.{Rises}
 use Rattle.terms.specs.Global.{change_cmp}
-use Rattle.store_schema.specs.Forms.{VerSuitsKind}
+use Rattle.store_schema.specs.Forms.{VerSuitsKind, AreVersApart}
 use Rattle.store_sysmod_loads.specs.declared.flat.HeadRow.{HeadRow}
 use Rattle.store_sysmod_loads.specs.declared.flat.VerRow.{VerRow}
 use Rattle.store_sysmod_loads.specs.declared.flat.IfRow.{IfRow}
@@ -19,12 +17,13 @@ abbrev pub MayDo : Kind → Action → Type 0
 MayDo Function (Updates text) = ⊥
 MayDo kind action = Unit {0}
 
--- What the rows of a SYSMOD do not show one by one: it has a ++VER, which suit its kind and rise by SREL; its element
--- statements suit its kind and rise by type and name.
+-- What the rows of a SYSMOD do not show one by one: it has one to eight ++VERs, which suit its kind and are apart; its
+-- element statements suit its kind and rise by type and name.
 pub record IsBuilt (s : Sysmod) : Type 0 where
   pub some : s.vers ≢ []
   pub suits : All (VerSuitsKind s.kind) s.vers
-  pub srels : Rises (slice_cmp nat_cmp) (λ v. v.srel) s.vers
+  pub apart : AllPairs (AreVersApart s.kind) s.vers
+  pub most : length s.vers ≤ 8
   pub does : All (λ c. MayDo s.kind c.action) s.changes
   pub changes : Rises change_cmp (λ c. c) s.changes
 

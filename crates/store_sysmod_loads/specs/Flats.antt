@@ -1,12 +1,14 @@
 -- The rows of SYSMODs, table by table, in the order of the SYSMODs.
-use Rattle.std.specs.Prelude.{◌≡◌, List, [], map, IsPermutation}
+use Rattle.std.specs.Prelude.{◌≡◌, ℕ, List, [], map, All, IsPermutation}
 use Rattle.std.specs.List.{AllByRecursion, flat_map}
 use Rattle.std.specs.Ordering.{nat_cmp}
 use Rattle.std.specs.Cmp.Lexicographic.{slice_cmp}
 use Rattle.terms.specs.Types.{Id, Ver, Sysmod}
+use Rattle.terms.specs.Lookups.{IsRising}
 use Rattle.terms.specs.Rising.{Rises}
 use Rattle.store_rows.specs.Rows.{Contents}
-use Rattle.store_schema.specs.Rows.{sysmod_row, sources_of, vers_of, ifreqs_of, elems_of}
+use Rattle.store_schema.specs.Rows.{sysmod_row, sources_of, vers_of, ifreqs_of, elems_of, morevers_of, moreifs_of}
+use Rattle.store_schema.specs.Rows.{numbered_behind}
 use Rattle.store_schema.specs.Earlier.{first_sysmod_row}
 use Rattle.store_schema.specs.Tables.{sysmod, source, ver, ifreq, elem, morever, moreif}
 use Rattle.store_schema.specs.declared.release.Release.{Release}
@@ -22,14 +24,15 @@ use Rattle.store_sysmod_loads.specs.Built.{IsBuilt}
 abbrev pub head_of : Sysmod → HeadRow
 head_of s = record { id = s.id; kind = s.kind; sources = s.sources }
 
-abbrev pub ifs_of : Id → List Ver → List IfRow
-ifs_of x vers = flat_map (λ v. if_rows x v.srel 1 v.ifs) vers
+-- of ++VERs with their numbers
+abbrev pub ifs_of : Id → List (ℕ × Ver) → List IfRow
+ifs_of x vers = flat_map (λ v. if_rows x v.1.srel v.0 1 v.1.ifs) vers
 
 abbrev pub all_vers : List Sysmod → List VerRow
-all_vers sysmods = flat_map (λ s. ver_rows s.id s.vers) sysmods
+all_vers sysmods = flat_map (λ s. ver_rows s.id (numbered_behind [] s.vers)) sysmods
 
 abbrev pub all_ifs : List Sysmod → List IfRow
-all_ifs sysmods = flat_map (λ s. ifs_of s.id s.vers) sysmods
+all_ifs sysmods = flat_map (λ s. ifs_of s.id (numbered_behind [] s.vers)) sysmods
 
 abbrev pub all_elems : List Sysmod → List ElemRow
 all_elems sysmods = flat_map (λ s. elem_rows s.id s.changes) sysmods
@@ -55,10 +58,11 @@ AreHeadRowsOf First sysmods contents = IsPermutation (map first_sysmod_row sysmo
 AreHeadRowsOf _ sysmods contents = IsPermutation (map sysmod_row sysmods) (contents sysmod.tree)
     × IsPermutation (flat_map sources_of sysmods) (contents source.tree)
 
--- the tables of schema 3 for further ++VERs of one SREL hold nothing
-abbrev pub HoldNoMore : Release → Contents → Type 0
-HoldNoMore Third contents = (contents morever.tree ≡ []) × (contents moreif.tree ≡ [])
-HoldNoMore _ contents = Unit {0}
+-- Under schema 3 there are tables of further ++VERs for one release. Under those before no SYSMOD has two.
+abbrev pub AreMoreRowsOf : Release → List Sysmod → Contents → Type 0
+AreMoreRowsOf Third sysmods contents = IsPermutation (flat_map morevers_of sysmods) (contents morever.tree)
+    × IsPermutation (flat_map moreifs_of sysmods) (contents moreif.tree)
+AreMoreRowsOf _ sysmods contents = All (λ s. IsRising (map (λ v. v.srel) s.vers)) sysmods
 
 -- the tables hold the rows of the SYSMODs, in any order, and no others
 pub record AreRowsOf (release : Release) (sysmods : List Sysmod) (contents : Contents) : Type 0 where
@@ -66,4 +70,4 @@ pub record AreRowsOf (release : Release) (sysmods : List Sysmod) (contents : Con
   pub vers : IsPermutation (flat_map vers_of sysmods) (contents ver.tree)
   pub ifs : IsPermutation (flat_map ifreqs_of sysmods) (contents ifreq.tree)
   pub elems : IsPermutation (flat_map elems_of sysmods) (contents elem.tree)
-  pub no_more : HoldNoMore release contents
+  pub more : AreMoreRowsOf release sysmods contents

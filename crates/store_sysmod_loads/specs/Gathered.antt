@@ -1,17 +1,20 @@
 -- All rows of SYSMODs that were read.
-use Rattle.std.specs.Prelude.{◌≡◌, List, map, IsPermutation}
+use Rattle.std.specs.Prelude.{◌≡◌, not, List, [], map, filter, IsPermutation}
 use Rattle.std.specs.List.{AllByRecursion}
 use Rattle.terms.specs.Types.{Sysmod}
 use Rattle.store_rows.specs.Rows.{Contents}
-use Rattle.store_schema.specs.Tables.{sysmod, source, ver, ifreq, elem}
+use Rattle.store_schema.specs.Tables.{sysmod, source, ver, ifreq, elem, morever, moreif}
 use Rattle.store_schema.specs.declared.release.Release.{Release}
-use Rattle.store_schema.specs.declared.release.Release.TheVariants.{First}
+use Rattle.store_schema.specs.declared.release.Release.TheVariants.{First, Third}
 use Rattle.store_sysmod_loads.specs.declared.flat.HeadRow.{HeadRow}
+use Rattle.store_sysmod_loads.specs.declared.flat.VerRow.{VerRow}
+use Rattle.store_sysmod_loads.specs.declared.flat.IfRow.{IfRow}
 use Rattle.store_sysmod_loads.specs.declared.rows_of.FlatRows.{FlatRows}
 use Rattle.store_sysmod_loads.specs.Flat.{row_of_head, row_of_bare, row_of_source, row_of_ver, row_of_if, row_of_elem}
+use Rattle.store_sysmod_loads.specs.Flat.{is_first_row, is_first_if, row_of_more_ver, row_of_more_if}
 use Rattle.store_sysmod_loads.specs.Flat.{HasFormsUnder, HasVerRowForms, HasIfRowForms, HasElemRowForms}
 use Rattle.store_sysmod_loads.specs.Joined.{bare_of, all_sources}
-use Rattle.store_sysmod_loads.specs.Flats.{head_of, all_vers, all_ifs, all_elems, AreWhole, HoldNoMore}
+use Rattle.store_sysmod_loads.specs.Flats.{head_of, all_vers, all_ifs, all_elems, AreWhole}
 
 -- the tables hold the heads, with their sources or apart from them, and no others
 abbrev pub HoldHeads : Release → List HeadRow → Contents → Type 0
@@ -19,13 +22,30 @@ HoldHeads First heads contents = IsPermutation (map row_of_head heads) (contents
 HoldHeads _ heads contents = IsPermutation (map row_of_bare (map bare_of heads)) (contents sysmod.tree)
     × IsPermutation (map row_of_source (all_sources heads)) (contents source.tree)
 
+-- the tables hold the rows of further ++VERs, where they are there, or else there is none
+abbrev pub HoldMoreVers : Release → List VerRow → Contents → Type 0
+HoldMoreVers Third rows contents = IsPermutation (map row_of_more_ver rows) (contents morever.tree)
+HoldMoreVers _ rows contents = rows ≡ []
+
+abbrev pub HoldMoreIfs : Release → List IfRow → Contents → Type 0
+HoldMoreIfs Third rows contents = IsPermutation (map row_of_more_if rows) (contents moreif.tree)
+HoldMoreIfs _ rows contents = rows ≡ []
+
+-- the tables hold the rows of all ++VERs, first and further ones
+pub record HoldVers (release : Release) (rows : List VerRow) (contents : Contents) : Type 0 where
+  pub firsts : IsPermutation (map row_of_ver (filter is_first_row rows)) (contents ver.tree)
+  pub more : HoldMoreVers release (filter (λ r. not (is_first_row r)) rows) contents
+
+pub record HoldIfs (release : Release) (rows : List IfRow) (contents : Contents) : Type 0 where
+  pub firsts : IsPermutation (map row_of_if (filter is_first_if rows)) (contents ifreq.tree)
+  pub more : HoldMoreIfs release (filter (λ r. not (is_first_if r)) rows) contents
+
 -- the tables hold all rows, and no others
 pub record HoldRows (release : Release) (rows : FlatRows) (contents : Contents) : Type 0 where
   pub heads : HoldHeads release rows.heads.items contents
-  pub vers : IsPermutation (map row_of_ver rows.vers.items) (contents ver.tree)
-  pub ifs : IsPermutation (map row_of_if rows.ifs.items) (contents ifreq.tree)
+  pub vers : HoldVers release rows.vers.items contents
+  pub ifs : HoldIfs release rows.ifs.items contents
   pub elems : IsPermutation (map row_of_elem rows.elems.items) (contents elem.tree)
-  pub no_more : HoldNoMore release contents
 
 pub record HaveForms (release : Release) (rows : FlatRows) : Type 0 where
   pub heads : AllByRecursion (HasFormsUnder release) rows.heads.items

@@ -3,6 +3,7 @@ use Rattle.std.specs.Prelude.{◌≡◌, ℕ, ◌+◌, List, [], ◌∷◌, ◌+
 use Rattle.std.specs.List.{AllByRecursion}
 use Rattle.terms.specs.Types.{Text, Id, IfReq, Ver, Change}
 use Rattle.terms.specs.Lookups.{IsRising}
+use Rattle.store_schema.specs.Rows.{numbered_behind}
 use Rattle.store_sysmod_loads.specs.declared.flat.SourceRow.{SourceRow}
 use Rattle.store_sysmod_loads.specs.declared.flat.VerRow.{VerRow}
 use Rattle.store_sysmod_loads.specs.declared.flat.IfRow.{IfRow}
@@ -23,8 +24,8 @@ parent_of_source r = r.id
 abbrev pub parent_of_ver : VerRow → Id
 parent_of_ver r = r.id
 
-abbrev pub parent_of_if : IfRow → Id × Text
-parent_of_if r = (r.id, r.srel)
+abbrev pub parent_of_if : IfRow → Id × Text × ℕ
+parent_of_if r = (r.id, r.srel, r.place)
 
 abbrev pub parent_of_elem : ElemRow → Id
 parent_of_elem r = r.id
@@ -33,39 +34,47 @@ parent_of_elem r = r.id
 abbrev pub source_rows : Id → List Text → List SourceRow
 source_rows x names = map (λ name. record { id = x; name = name }) names
 
--- the rows of the ++IFs of a ++VER, whose numbers begin with n
-abbrev pub if_rows : Id → Text → ℕ → List IfReq → List IfRow
-if_rows x srel n [] = []
-if_rows x srel n (i ∷ ifs) = record { id = x; srel = srel; number = n; ifreq = i } ∷ if_rows x srel (n + 1) ifs
+-- the rows of the ++IFs of the ++VER of the place, whose numbers begin with n
+abbrev pub if_rows : Id → Text → ℕ → ℕ → List IfReq → List IfRow
+if_rows x srel place n [] = []
+if_rows x srel place n (i ∷ ifs) =
+    record { id = x; srel = srel; place = place; number = n; ifreq = i } ∷ if_rows x srel place (n + 1) ifs
 
 -- the ++IFs of these ++VERs stand elsewhere
 abbrev pub AreBare : List VerRow → Type 0
 AreBare rows = AllByRecursion (λ r. r.ver.ifs ≡ []) rows
 
--- the rows of ++VERs, without their ++IFs
-abbrev pub ver_rows : Id → List Ver → List VerRow
-ver_rows x vers = map (λ (v : Ver). record { id = x; ver = record v { ifs = [] } }) vers
+-- the rows of ++VERs with their numbers, without their ++IFs
+abbrev pub ver_rows : Id → List (ℕ × Ver) → List VerRow
+ver_rows x vers = map (λ (v : ℕ × Ver). record { id = x; number = v.0; ver = record v.1 { ifs = [] } }) vers
 
 abbrev pub elem_rows : Id → List Change → List ElemRow
 elem_rows x changes = map (λ (c : Change). record { id = x; change = c }) changes
 
 -- The rows begin with those of these sources, and the rest with another's. They rise.
 abbrev pub HasSources : Id → List SourceRow → List Text → List SourceRow → Type 0
-HasSources x rows names rest = (rows ≡ source_rows x names ++ rest) × StandsApart parent_of_source x rest × IsRising names
+HasSources x rows names rest = (rows ≡ source_rows x names ++ rest) × StandsApart parent_of_source x rest
+    × IsRising names
 
 -- the rows begin with those of these ++IFs, and the rest with another's
-abbrev pub HasIfs : Id → Text → ℕ → List IfRow → List IfReq → List IfRow → Type 0
-HasIfs x srel n rows ifs rest = (rows ≡ if_rows x srel n ifs ++ rest) × StandsApart parent_of_if (x, srel) rest
+abbrev pub HasIfs : Id → Text → ℕ → ℕ → List IfRow → List IfReq → List IfRow → Type 0
+HasIfs x srel place n rows ifs rest = (rows ≡ if_rows x srel place n ifs ++ rest)
+    × StandsApart parent_of_if (x, srel, place) rest
 
 -- and with those of the ++IFs of these ++VERs, one after the other
-abbrev pub HasAllIfs : Id → List IfRow → List Ver → List IfRow → Type 0
+abbrev pub HasAllIfs : Id → List IfRow → List (ℕ × Ver) → List IfRow → Type 0
 HasAllIfs x rows [] rest = rows ≡ rest
-HasAllIfs x rows (v ∷ vers) rest = (more : List IfRow) × HasIfs x v.srel 1 rows v.ifs more × HasAllIfs x more vers rest
+HasAllIfs x rows (v ∷ vers) rest =
+    (more : List IfRow) × HasIfs x v.1.srel v.0 1 rows v.1.ifs more × HasAllIfs x more vers rest
 
--- both tables begin with the rows of these ++VERs
+-- both tables begin with the rows of these ++VERs, whose numbers count on behind others
+abbrev pub HasVersBehind : List Ver → Id → List VerRow → List IfRow → List Ver → List VerRow → List IfRow → Type 0
+HasVersBehind front x rows ifs vers rest more = (rows ≡ ver_rows x (numbered_behind front vers) ++ rest)
+    × StandsApart parent_of_ver x rest × HasAllIfs x ifs (numbered_behind front vers) more
+
+-- and whose numbers count from 1
 abbrev pub HasVers : Id → List VerRow → List IfRow → List Ver → List VerRow → List IfRow → Type 0
-HasVers x rows ifs vers rest more = (rows ≡ ver_rows x vers ++ rest) × StandsApart parent_of_ver x rest
-    × HasAllIfs x ifs vers more
+HasVers = HasVersBehind []
 
 -- the rows begin with those of these element statements
 abbrev pub HasChanges : Id → List ElemRow → List Change → List ElemRow → Type 0

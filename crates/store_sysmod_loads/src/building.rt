@@ -1,8 +1,10 @@
 //! SYSMODs put together of their rows.
 
-ghost use Rattle.std.specs.Prelude.{◌≡◌, ◌↔◌, List, [], ◌∷◌, All, IsTrue, IfOk, IsErrOf};
+ghost use Rattle.std.specs.Prelude.{◌≡◌, ◌≢◌, ◌≤◌, ◌↔◌, List, [], ◌∷◌, length, All, AllPairs, IsTrue, IfOk};
+ghost use Rattle.std.specs.Prelude.{IsErrOf};
+ghost use Rattle.terms.specs.declared.kinds.Kind.TheVariants.{Function};
 ghost use Rattle.terms.specs.Types.{Sysmod as SysmodTerm};
-ghost use Rattle.store_schema.specs.Forms.{VerSuitsKind};
+ghost use Rattle.store_schema.specs.Forms.{VerSuitsKind, AreVersApart};
 ghost use Rattle.store_sysmod_loads.specs.declared.flat.VerRow.{VerRow as VerLine};
 ghost use Rattle.store_sysmod_loads.specs.declared.flat.IfRow.{IfRow as IfLine};
 ghost use Rattle.store_sysmod_loads.specs.declared.flat.ElemRow.{ElemRow as ElemLine};
@@ -11,6 +13,7 @@ ghost use Rattle.store_sysmod_loads.specs.Built.{MayDo, IsBuilt, sysmod_from, Is
 
 use crate::flat::{ElemRow, HeadRow, IfRow, VerRow};
 use crate::gathering::{next_of, take_changes, take_vers};
+use fields::Id;
 use sorted::are_rising;
 use std::alloc::Global;
 use std::collections::VecDeque;
@@ -44,6 +47,40 @@ fn all_suit(kind: Kind, vers: &[Ver]) -> bool
     vers.iter().all(|ver| suits_kind(kind, ver))
 }
 
+/// Whether two `++VER`s of these FMIDs may be for one release in a SYSMOD of this kind.
+fn may_share(kind: Kind, fmid: Option<Id>, other: Option<Id>) -> bool
+    ensures { IsTrue result ↔ ((kind ≢ Function) × (fmid ≢ other)) }
+{
+    kind != Kind::Function && fmid != other
+}
+
+/// Whether the second `++VER` may stand behind the first in a SYSMOD of this kind.
+fn is_apart(kind: Kind, ver: &Ver, other: &Ver) -> bool
+    ensures { IsTrue result ↔ AreVersApart kind ver.now other.now }
+{
+    if ver.srel == other.srel {
+        return may_share(kind, ver.fmid, other.fmid);
+    }
+    ver.srel < other.srel
+}
+
+fn is_apart_from(kind: Kind, vers: &[Ver], other: &Ver) -> bool
+    ensures { IsTrue result ↔ All (λ ver. AreVersApart kind ver other.now) vers.now }
+{
+    vers.iter().all(|ver| is_apart(kind, ver, other))
+}
+
+fn are_apart(kind: Kind, vers: &[Ver]) -> bool
+    ensures { IsTrue result ↔ AllPairs (AreVersApart kind) vers.now }
+{
+    for i in 0..vers.len() {
+        if !is_apart_from(kind, &vers[..i], &vers[i]) {
+            return false;
+        }
+    }
+    true
+}
+
 fn all_may(kind: Kind, changes: &[ElemChange]) -> bool
     ensures { IsTrue result ↔ All (λ c. MayDo kind c.action) changes.now }
 {
@@ -57,6 +94,7 @@ fn built(
     vers: Vec<Ver>,
     changes: Vec<ElemChange>,
 ) -> Result<Sysmod, ReadError>
+    requires { length vers.items ≤ 8 }
     ensures some { IfOk result (λ s. (s ≡ sysmod_from head vers.items changes.items) × IsBuilt s) }
     ensures none { IsErrOf result ReadError.BadRow → ¬ IsBuilt (sysmod_from head vers.items changes.items) }
     ensures fault { IsErrOf result ReadError.Fault → ⊥ }
@@ -67,7 +105,7 @@ fn built(
     if !all_suit(head.kind, &vers) {
         return Err(ReadError::BadRow);
     }
-    if !are_rising(vers.as_slice()) {
+    if !are_apart(head.kind, vers.as_slice()) {
         return Err(ReadError::BadRow);
     }
     if !all_may(head.kind, &changes) {

@@ -1,7 +1,7 @@
 //! Columns whose values depend on others of the row.
 
-ghost use Rattle.std.specs.Prelude.{◌≡◌, ◌≢◌, ◌≤◌, ◌↔◌, ℕ, List, [], ◌∷◌, Option, pos, length, IsTrue, IfOk, IfSome};
-ghost use Rattle.std.specs.Prelude.{IfNone, IsErrOf};
+ghost use Rattle.std.specs.Prelude.{◌≡◌, ◌≢◌, ◌≤◌, ◌<◌, ◌↔◌, ℕ, List, [], ◌∷◌, Option, pos, length, IsTrue, IfOk};
+ghost use Rattle.std.specs.Prelude.{IfSome, IfNone, IsErrOf};
 ghost use Rattle.sqlite.specs.declared.types.Value.TheVariants.{Int};
 ghost use Rattle.sqlite.specs.Order.{column};
 ghost use Rattle.sqlite.specs.Values.{or_null};
@@ -109,6 +109,18 @@ pub(crate) fn number_in(row: &Row, at: usize) -> Option<u64>
         return None;
     }
     Some(number as u64)
+}
+
+/// The number of a `++VER` that is not the first for its release.
+pub(crate) fn further_in(row: &Row, at: usize) -> Option<u64>
+    ensures some { IfSome result (λ n. (column row.now at ≡ Int (pos n)) × (1 < n)) }
+    ensures none { IfNone result ((n : ℕ) → 1 < n → column row.now at ≢ Int (pos n)) }
+{
+    let number = number_in(row, at)?;
+    if number < 2 {
+        return None;
+    }
+    Some(number)
 }
 
 /// The records of a replacement, of which there is one at least.

@@ -37,18 +37,20 @@ pub(crate) struct SourceRow {
     pub name: Source,
 }
 
-/// A `++VER` of the SYSMOD without its `++IF`s.
+/// A `++VER` of the SYSMOD without its `++IF`s, and its number among those for its release.
 #[derive(Drop)]
 pub(crate) struct VerRow {
     pub id: Id,
+    pub number: u64,
     pub ver: Ver,
 }
 
-/// An `++IF` and its number in the `++VER` of the SYSMOD for this release.
+/// An `++IF` and its number in a `++VER` of the SYSMOD: in the one of this place among those for this release.
 #[derive(Drop)]
 pub(crate) struct IfRow {
     pub id: Id,
     pub srel: Srel,
+    pub place: u64,
     pub number: u64,
     pub ifreq: IfReq,
 }

@@ -1,6 +1,6 @@
 //! The statements of a SYSMOD, taken off the front of rows that are sorted.
 
-ghost use Rattle.std.specs.Prelude.{◌≡◌, ◌↔◌, List, [], ◌∷◌, IsTrue, IfOk, IfSome, IfNone, IsErrOf};
+ghost use Rattle.std.specs.Prelude.{◌≡◌, ◌≤◌, ◌↔◌, List, [], ◌∷◌, length, IsTrue, IfOk, IfSome, IfNone, IsErrOf};
 ghost use Rattle.terms.specs.Types as terms;
 ghost use Rattle.store_sysmod_loads.specs.declared.flat.VerRow.{VerRow as VerLine};
 ghost use Rattle.store_sysmod_loads.specs.declared.flat.IfRow.{IfRow as IfLine};
@@ -8,6 +8,7 @@ ghost use Rattle.store_sysmod_loads.specs.declared.flat.ElemRow.{ElemRow as Elem
 ghost use Rattle.store_sysmod_loads.specs.Runs.{AreBare, Begins, StandsApart, HasIfs, HasVers, HasChanges};
 
 use crate::flat::{ElemRow, IfRow, SourceRow, VerRow};
+use crate::numbers::comes_next;
 use fields::{Id, Srel};
 use sorted::Keyed;
 use std::alloc::{AllocError, Global};
@@ -52,12 +53,12 @@ impl Child for VerRow {
 impl Child for IfRow {
     ghost use Rattle.store_sysmod_loads.specs.Runs.{parent_of_if};
 
-    type Parent = (Id, Srel);
+    type Parent = (Id, Srel, u64);
 
     ghost parent_of = { parent_of_if };
 
-    fn is_of(&self, parent: (Id, Srel)) -> bool {
-        self.id == parent.0 && self.srel == parent.1
+    fn is_of(&self, parent: (Id, Srel, u64)) -> bool {
+        self.id == parent.0 && self.srel == parent.1 && self.place == parent.2
     }
 }
 
@@ -108,16 +109,17 @@ pub(crate) fn take_ifs(
     rows: &mut VecDeque<IfRow>,
     id: Id,
     srel: Srel,
+    place: u64,
 ) -> Result<Vec<IfReq>, ReadError>
-    ensures taken { IfOk result (λ ifs. HasIfs id srel 1 rows.old.items ifs.items rows.new.items) }
+    ensures taken { IfOk result (λ ifs. HasIfs id srel place 1 rows.old.items ifs.items rows.new.items) }
     ensures only { IfOk result (λ ifs. (others : List terms.IfReq) (rest : List IfLine)
-        → HasIfs id srel 1 rows.old.items others rest → (others ≡ ifs.items) × (rest ≡ rows.new.items)) }
+        → HasIfs id srel place 1 rows.old.items others rest → (others ≡ ifs.items) × (rest ≡ rows.new.items)) }
     ensures none { IsErrOf result ReadError.BadRow → (others : List terms.IfReq) (rest : List IfLine)
-        → ¬ HasIfs id srel 1 rows.old.items others rest }
+        → ¬ HasIfs id srel place 1 rows.old.items others rest }
     ensures fault { IsErrOf result ReadError.Fault → ⊥ }
 {
     let mut ifs = Vec::new(alloc);
-    while let Some(row) = pop_of(rows, (id, srel)) {
+    while let Some(row) = pop_of(rows, (id, srel, place)) {
         if row.number != ifs.len() as u64 + 1 {
             return Err(ReadError::BadRow);
         }
@@ -146,19 +148,19 @@ fn with_ifs(ver: Ver, ifs: Vec<IfReq>) -> Ver
 /// The `++VER` with its `++IF`s, which are taken.
 fn filled(alloc: Global, ifs: &mut VecDeque<IfRow>, id: Id, row: VerRow) -> Result<Ver, ReadError>
     ensures same { IfOk result (λ ver. ver ≡ record row.ver { ifs = ver.ifs }) }
-    ensures taken { IfOk result (λ ver. HasIfs id row.ver.srel 1 ifs.old.items ver.ifs ifs.new.items) }
+    ensures taken { IfOk result (λ ver. HasIfs id row.ver.srel row.number 1 ifs.old.items ver.ifs ifs.new.items) }
     ensures only { IfOk result (λ ver. (others : List terms.IfReq) (rest : List IfLine)
-        → HasIfs id row.ver.srel 1 ifs.old.items others rest → (others ≡ ver.ifs) × (rest ≡ ifs.new.items)) }
+        → HasIfs id row.ver.srel row.number 1 ifs.old.items others rest → (others ≡ ver.ifs) × (rest ≡ ifs.new.items)) }
     ensures none { IsErrOf result ReadError.BadRow → (others : List terms.IfReq) (rest : List IfLine)
-        → ¬ HasIfs id row.ver.srel 1 ifs.old.items others rest }
+        → ¬ HasIfs id row.ver.srel row.number 1 ifs.old.items others rest }
     ensures fault { IsErrOf result ReadError.Fault → ⊥ }
 {
     let srel = row.ver.key();
-    let found = take_ifs(alloc, ifs, id, srel)?;
+    let found = take_ifs(alloc, ifs, id, srel, row.number)?;
     Ok(with_ifs(row.ver, found))
 }
 
-/// Takes the `++VER`s of a SYSMOD, with their `++IF`s.
+/// Takes the `++VER`s of a SYSMOD, eight at most, with their `++IF`s.
 pub(crate) fn take_vers(
     alloc: Global,
     rows: &mut VecDeque<VerRow>,
@@ -167,17 +169,21 @@ pub(crate) fn take_vers(
 ) -> Result<Vec<Ver>, ReadError>
     requires { AreBare rows.old.items }
     ensures bare { AreBare rows.new.items }
+    ensures most { IfOk result (λ vers. length vers.items ≤ 8) }
     ensures taken { IfOk result (λ vers. HasVers id rows.old.items ifs.old.items vers.items rows.new.items
         ifs.new.items) }
     ensures only { IfOk result (λ vers. (others : List terms.Ver) (rest : List VerLine) (more : List IfLine)
         → HasVers id rows.old.items ifs.old.items others rest more
         → (others ≡ vers.items) × (rest ≡ rows.new.items) × (more ≡ ifs.new.items)) }
     ensures none { IsErrOf result ReadError.BadRow → (others : List terms.Ver) (rest : List VerLine)
-        (more : List IfLine) → ¬ HasVers id rows.old.items ifs.old.items others rest more }
+        (more : List IfLine) → length others ≤ 8 → ¬ HasVers id rows.old.items ifs.old.items others rest more }
     ensures fault { IsErrOf result ReadError.Fault → ⊥ }
 {
     let mut vers = Vec::new(alloc);
     while let Some(row) = pop_of(rows, id) {
+        if !comes_next(vers.as_slice(), &row) {
+            return Err(ReadError::BadRow);
+        }
         let ver = filled(alloc, ifs, id, row)?;
         if vers.push(ver).is_err() {
             return Err(ReadError::Memory);

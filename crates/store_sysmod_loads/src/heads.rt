@@ -1,26 +1,24 @@
 //! SYSMODs without their statements, under each schema.
 
-ghost use Rattle.std.specs.Prelude.{◌≡◌, ◌≢◌, ⊤, map, IfOk, IsPermutation};
+ghost use Rattle.std.specs.Prelude.{◌≡◌, ◌≢◌, map, IfOk, IsPermutation};
 ghost use Rattle.std.specs.List.{AllByRecursion};
 ghost use Rattle.store_schema.specs.declared.release.Release.{Release as ARelease};
-ghost use Rattle.store_schema.specs.declared.release.Release.TheVariants.{First, Third};
+ghost use Rattle.store_schema.specs.declared.release.Release.TheVariants.{First};
 ghost use Rattle.store_schema.specs.Tables.{sysmod, source};
 ghost use Rattle.store_sysmod_loads.specs.Flat.{row_of_bare, row_of_source, HasBareForms, HasSourceForms};
 ghost use Rattle.store_sysmod_loads.specs.Flat.{HasHeadForms, HasShortForms, HasFormsUnder};
-ghost use Rattle.store_sysmod_loads.specs.Flats.{head_of, HoldNoMore};
+ghost use Rattle.store_sysmod_loads.specs.Flats.{head_of};
 ghost use Rattle.store_sysmod_loads.specs.Gathered.{HoldHeads};
 ghost use Rattle.store_sysmod_loads.specs.Joined.{bare_of, all_sources};
 ghost use Rattle.store_sysmod_loads.specs.Parts.{LoadsPart};
 
 use crate::flat::{BareHead, HeadRow, SourceRow};
 use crate::joining::joined;
-use crate::listed::{MoreIfs, MoreVers};
 use crate::loading::load_sorted;
 use crate::reading::{BareHeads, Heads, Sources};
 use sqlite::{Alter, Connection};
 use std::alloc::Global;
 use std::collections::VecDeque;
-use store_columns::refuse_rows;
 use store_rows::ReadError;
 use store_schema::Release;
 
@@ -69,27 +67,6 @@ fn load_joined<S: Alter>(alloc: Global, conn: &mut Connection<S>) -> Result<Vec<
     joined(alloc, VecDeque::from(bare), VecDeque::from(sources))
 }
 
-/// Refuses rows of further `++VER`s of one SREL.
-fn refuse_more<S: Alter>(alloc: Global, conn: &mut Connection<S>) -> Result<(), ReadError>
-    ensures part { LoadsPart S.Store Third (λ done contents. HoldNoMore Third contents) (λ done sysmods. ⊤) conn.old
-        conn.new result }
-{
-    refuse_rows::<S, MoreVers>(alloc, conn, &[])?;
-    refuse_rows::<S, MoreIfs>(alloc, conn, &[])
-}
-
-/// The heads of schema 3, where no SYSMOD has more.
-fn load_latest<S: Alter>(alloc: Global, conn: &mut Connection<S>) -> Result<Vec<HeadRow>, ReadError>
-    ensures part { LoadsPart S.Store Third
-        (λ heads contents. HoldHeads Third heads.items contents × HoldNoMore Third contents)
-        (λ heads sysmods. heads.items ≡ map head_of sysmods) conn.old conn.new result }
-    ensures forms { IfOk result (λ heads. AllByRecursion HasHeadForms heads.items) }
-{
-    let heads = load_joined(alloc, conn)?;
-    refuse_more(alloc, conn)?;
-    Ok(heads)
-}
-
 /// The heads, with their sources.
 pub(crate) fn load_heads<S: Alter>(
     alloc: Global,
@@ -97,13 +74,13 @@ pub(crate) fn load_heads<S: Alter>(
     release: Release,
 ) -> Result<Vec<HeadRow>, ReadError>
     ensures part { LoadsPart S.Store release
-        (λ heads contents. HoldHeads release heads.items contents × HoldNoMore release contents)
+        (λ heads contents. HoldHeads release heads.items contents)
         (λ heads sysmods. heads.items ≡ map head_of sysmods) conn.old conn.new result }
     ensures forms { IfOk result (λ heads. AllByRecursion (HasFormsUnder release) heads.items) }
 {
     match release {
         Release::First => load_with_sources(alloc, conn),
         Release::Second => load_joined(alloc, conn),
-        Release::Third => load_latest(alloc, conn),
+        Release::Third => load_joined(alloc, conn),
     }
 }

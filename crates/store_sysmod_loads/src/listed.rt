@@ -2,9 +2,9 @@
 
 use crate::flat::{BareHead, ElemRow, HeadRow, IfRow, SourceRow, VerRow};
 use crate::loading::Listed;
-use crate::reading::{BareHeads, Elems, Heads, Ifs, Sources, Vers};
+use crate::reading::{BareHeads, Elems, Heads, Ifs, MoreIfs, MoreVers, Sources, Vers};
 use fields::{Id, Name, Source, Srel};
-use store_columns::{Query, Refused, Unread};
+use store_columns::Query;
 use terms::ElemType;
 
 impl Query for Heads {
@@ -129,12 +129,12 @@ impl Query for Vers {
 impl Listed for Vers {
     ghost use Rattle.std.specs.Prelude.{refl};
 
-    type Key = (Id, Srel);
+    type Key = (Id, (Srel, u64));
 
-    ghost key_of = { λ row. (row.id, row.ver.srel) };
+    ghost key_of = { λ row. (row.id, (row.ver.srel, row.number)) };
 
-    fn key(item: &VerRow) -> (Id, Srel) {
-        (item.id, item.ver.srel)
+    fn key(item: &VerRow) -> (Id, (Srel, u64)) {
+        (item.id, (item.ver.srel, item.number))
     }
 
     ghost whole = { refl };
@@ -162,12 +162,12 @@ impl Query for Ifs {
 impl Listed for Ifs {
     ghost use Rattle.std.specs.Prelude.{refl};
 
-    type Key = (Id, (Srel, u64));
+    type Key = (Id, (Srel, (u64, u64)));
 
-    ghost key_of = { λ row. (row.id, (row.srel, row.number)) };
+    ghost key_of = { λ row. (row.id, (row.srel, (row.place, row.number))) };
 
-    fn key(item: &IfRow) -> (Id, (Srel, u64)) {
-        (item.id, (item.srel, item.number))
+    fn key(item: &IfRow) -> (Id, (Srel, (u64, u64))) {
+        (item.id, (item.srel, (item.place, item.number)))
     }
 
     ghost whole = { refl };
@@ -206,15 +206,12 @@ impl Listed for Elems {
     ghost whole = { refl };
 }
 
-/// Further `++VER`s of one SREL.
-pub(crate) struct MoreVers;
-
 impl Query for MoreVers {
     ghost use Rattle.std.specs.Prelude.{◌≡◌};
     ghost use Rattle.store_schema.specs.declared.release.Release.TheVariants.{Third};
     ghost use Rattle.store_schema.specs.Tables.{morever};
 
-    type Rows = Refused;
+    type Rows = MoreVers;
 
     ghost table = { morever };
 
@@ -229,19 +226,12 @@ impl Query for MoreVers {
     }
 }
 
-impl Unread for MoreVers {
-    ghost refused = { λ item none. none };
-}
-
-/// The `++IF`s of further `++VER`s.
-pub(crate) struct MoreIfs;
-
 impl Query for MoreIfs {
     ghost use Rattle.std.specs.Prelude.{◌≡◌};
     ghost use Rattle.store_schema.specs.declared.release.Release.TheVariants.{Third};
     ghost use Rattle.store_schema.specs.Tables.{moreif};
 
-    type Rows = Refused;
+    type Rows = MoreIfs;
 
     ghost table = { moreif };
 
@@ -254,8 +244,4 @@ impl Query for MoreIfs {
     fn text() -> &'static str {
         "SELECT id, srel, v, n, fmid, req FROM moreif"
     }
-}
-
-impl Unread for MoreIfs {
-    ghost refused = { λ item none. none };
 }

@@ -18,8 +18,8 @@ use store_schema::Release;
 use sysmods_records::Sysmod;
 
 /// All SYSMODs with their sources, `++VER`s, `++IF`s and element statements, by their ids, in the
-/// tables of the release. A row that belongs to no other is bad, and so is a `++IF` whose number is
-/// not the next, or a further `++VER` of one SREL.
+/// tables of the release. A row that belongs to no other is bad, and so is a `++VER` or an `++IF` whose
+/// number is not the next.
 pub fn load_sysmods<S: Alter>(
     alloc: Global,
     conn: &mut Connection<S>,

@@ -1,6 +1,6 @@
 //! The rows of a table, sorted.
 
-ghost use Rattle.std.specs.Prelude.{◌≡◌, List, map, IfOk, IsErrOf, IsPermutation};
+ghost use Rattle.std.specs.Prelude.{◌≡◌, ◌++◌, List, map, IfOk, IsErrOf, IsPermutation};
 ghost use Rattle.std.specs.List.{AllByRecursion};
 ghost use Rattle.sqlite.specs.Held.{state};
 ghost use Rattle.sqlite.specs.State.{HasCleanDisk};
@@ -11,7 +11,7 @@ ghost use Rattle.store_schema.specs.Earlier.{schema_under};
 ghost use Rattle.terms.specs.Rising.{Rises};
 
 use sqlite::{Alter, Connection};
-use std::alloc::Global;
+use std::alloc::{AllocError, Global};
 use store_columns::{Query, load_listed};
 use store_rows::{FromRow, ReadError};
 
@@ -37,6 +37,19 @@ fn sorted<T: Listed>(mut items: Vec<<T::Rows as FromRow>::Item>) -> Vec<<T::Rows
 {
     items.sort_unstable_by_key(|item| T::key(item));
     items
+}
+
+/// The items of both lists, by their keys.
+pub(crate) fn merged<T: Listed>(
+    mut items: Vec<<T::Rows as FromRow>::Item>,
+    mut more: Vec<<T::Rows as FromRow>::Item>,
+) -> Result<Vec<<T::Rows as FromRow>::Item>, AllocError>
+    ensures same { IfOk result (λ all. IsPermutation (items.items ++ more.items) all.items) }
+    ensures only { IfOk result (λ all. (xs : List T.Rows.Item) → IsPermutation (items.items ++ more.items) xs
+        → Rises T.Key.cmp T.key_of xs → all.items ≡ xs) }
+{
+    items.append(&mut more)?;
+    Ok(sorted::<T>(items))
 }
 
 /// What the rows of the table stand for, by their keys.

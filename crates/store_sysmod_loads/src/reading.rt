@@ -9,9 +9,10 @@ ghost use Rattle.store_sysmod_loads.specs.declared.flat.IfRow.{IfRow as AIfRow};
 ghost use Rattle.store_sysmod_loads.specs.declared.flat.ElemRow.{ElemRow as AElemRow};
 
 use crate::cells::{
-    action_in, is_bare, number_in, other_in, others_in, short_sources_in, source_in,
+    action_in, further_in, is_bare, number_in, other_in, others_in, short_sources_in, source_in,
 };
 use crate::flat::{BareHead, ElemRow, HeadRow, IfRow, SourceRow, VerRow};
+use fields::IdList;
 use sqlite::Row;
 use std::alloc::Global;
 use store_columns::{elem_type_in, id_in, kind_in, name_in, srel_in};
@@ -115,21 +116,21 @@ impl FromRow for Sources {
     }
 }
 
-/// Reads `++VER`s.
+/// Reads the first `++VER`s.
 pub(crate) struct Vers;
 
 impl FromRow for Vers {
-    ghost use Rattle.store_sysmod_loads.specs.Flat.{row_of_ver, HasVerRowForms};
+    ghost use Rattle.store_sysmod_loads.specs.Flat.{row_of_ver, HasFirstForms};
 
     type Item = VerRow;
 
     ghost row_of = { row_of_ver };
 
-    ghost has_form = { HasVerRowForms };
+    ghost has_form = { HasFirstForms };
 
     fn read(alloc: Global, row: &Row) -> Result<VerRow, ReadError>
-        ensures read { IfOk result (λ item. (row.now ≡ row_of_ver item) × HasVerRowForms item) }
-        ensures none { IsErrOf result ReadError.BadRow → (item : AVerRow) → HasVerRowForms item
+        ensures read { IfOk result (λ item. (row.now ≡ row_of_ver item) × HasFirstForms item) }
+        ensures none { IsErrOf result ReadError.BadRow → (item : AVerRow) → HasFirstForms item
             → row.now ≢ row_of_ver item }
         ensures fault { IsErrOf result ReadError.Fault → ⊥ }
     {
@@ -161,25 +162,78 @@ impl FromRow for Vers {
             del,
             ifs,
         };
-        Ok(VerRow { id, ver })
+        Ok(VerRow { id, number: 1, ver })
     }
 }
 
-/// Reads `++IF`s.
+/// Reads further `++VER`s for one release, which have neither NPRE nor DELETE.
+pub(crate) struct MoreVers;
+
+impl FromRow for MoreVers {
+    ghost use Rattle.store_sysmod_loads.specs.Flat.{row_of_more_ver, HasFurtherForms};
+
+    type Item = VerRow;
+
+    ghost row_of = { row_of_more_ver };
+
+    ghost has_form = { HasFurtherForms };
+
+    fn read(alloc: Global, row: &Row) -> Result<VerRow, ReadError>
+        ensures read { IfOk result (λ item. (row.now ≡ row_of_more_ver item) × HasFurtherForms item) }
+        ensures none { IsErrOf result ReadError.BadRow → (item : AVerRow) → HasFurtherForms item
+            → row.now ≢ row_of_more_ver item }
+        ensures fault { IsErrOf result ReadError.Fault → ⊥ }
+    {
+        if row.column_count() != 7 {
+            return Err(ReadError::BadRow);
+        }
+        let Some(id) = id_in(row, 0) else {
+            return Err(ReadError::BadRow);
+        };
+        let Some(srel) = srel_in(row, 1) else {
+            return Err(ReadError::BadRow);
+        };
+        let Some(number) = further_in(row, 2) else {
+            return Err(ReadError::BadRow);
+        };
+        let Some(fmid) = other_in(row, 3, id) else {
+            return Err(ReadError::BadRow);
+        };
+        let pre = others_in(alloc, row, 4, id)?;
+        let req = others_in(alloc, row, 5, id)?;
+        let sup = others_in(alloc, row, 6, id)?;
+        let npre = IdList::new(alloc);
+        let del = IdList::new(alloc);
+        let ifs = Vec::new(alloc);
+        let ver = Ver {
+            srel,
+            fmid,
+            pre,
+            req,
+            sup,
+            npre,
+            del,
+            ifs,
+        };
+        Ok(VerRow { id, number, ver })
+    }
+}
+
+/// Reads the `++IF`s of first `++VER`s.
 pub(crate) struct Ifs;
 
 impl FromRow for Ifs {
-    ghost use Rattle.store_sysmod_loads.specs.Flat.{row_of_if, HasIfRowForms};
+    ghost use Rattle.store_sysmod_loads.specs.Flat.{row_of_if, HasFirstIfForms};
 
     type Item = IfRow;
 
     ghost row_of = { row_of_if };
 
-    ghost has_form = { HasIfRowForms };
+    ghost has_form = { HasFirstIfForms };
 
     fn read(alloc: Global, row: &Row) -> Result<IfRow, ReadError>
-        ensures read { IfOk result (λ item. (row.now ≡ row_of_if item) × HasIfRowForms item) }
-        ensures none { IsErrOf result ReadError.BadRow → (item : AIfRow) → HasIfRowForms item
+        ensures read { IfOk result (λ item. (row.now ≡ row_of_if item) × HasFirstIfForms item) }
+        ensures none { IsErrOf result ReadError.BadRow → (item : AIfRow) → HasFirstIfForms item
             → row.now ≢ row_of_if item }
         ensures fault { IsErrOf result ReadError.Fault → ⊥ }
     {
@@ -206,6 +260,58 @@ impl FromRow for Ifs {
         Ok(IfRow {
             id,
             srel,
+            place: 1,
+            number,
+            ifreq,
+        })
+    }
+}
+
+/// Reads the `++IF`s of further `++VER`s.
+pub(crate) struct MoreIfs;
+
+impl FromRow for MoreIfs {
+    ghost use Rattle.store_sysmod_loads.specs.Flat.{row_of_more_if, HasFurtherIfForms};
+
+    type Item = IfRow;
+
+    ghost row_of = { row_of_more_if };
+
+    ghost has_form = { HasFurtherIfForms };
+
+    fn read(alloc: Global, row: &Row) -> Result<IfRow, ReadError>
+        ensures read { IfOk result (λ item. (row.now ≡ row_of_more_if item) × HasFurtherIfForms item) }
+        ensures none { IsErrOf result ReadError.BadRow → (item : AIfRow) → HasFurtherIfForms item
+            → row.now ≢ row_of_more_if item }
+        ensures fault { IsErrOf result ReadError.Fault → ⊥ }
+    {
+        if row.column_count() != 6 {
+            return Err(ReadError::BadRow);
+        }
+        let Some(id) = id_in(row, 0) else {
+            return Err(ReadError::BadRow);
+        };
+        let Some(srel) = srel_in(row, 1) else {
+            return Err(ReadError::BadRow);
+        };
+        let Some(place) = further_in(row, 2) else {
+            return Err(ReadError::BadRow);
+        };
+        let Some(number) = number_in(row, 3) else {
+            return Err(ReadError::BadRow);
+        };
+        let Some(function) = id_in(row, 4) else {
+            return Err(ReadError::BadRow);
+        };
+        let req = others_in(alloc, row, 5, id)?;
+        if req.is_empty() {
+            return Err(ReadError::BadRow);
+        }
+        let ifreq = IfReq { function, req };
+        Ok(IfRow {
+            id,
+            srel,
+            place,
             number,
             ifreq,
         })

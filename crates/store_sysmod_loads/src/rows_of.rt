@@ -3,20 +3,21 @@
 ghost use Rattle.std.specs.Prelude.{◌≡◌, List, map, IfOk, IsErrOf, IsPermutation};
 ghost use Rattle.std.specs.List.{AllByRecursion};
 ghost use Rattle.store_schema.specs.declared.release.Release.{Release as ARelease};
-ghost use Rattle.store_schema.specs.Tables.{ver, ifreq, elem};
+ghost use Rattle.store_schema.specs.Tables.{elem};
 ghost use Rattle.terms.specs.Types.{Sysmod as SysmodTerm};
-ghost use Rattle.store_sysmod_loads.specs.Flat.{row_of_ver, row_of_if, row_of_elem, HasVerRowForms, HasIfRowForms};
-ghost use Rattle.store_sysmod_loads.specs.Flat.{HasElemRowForms};
+ghost use Rattle.store_sysmod_loads.specs.Flat.{row_of_elem, HasElemRowForms};
 ghost use Rattle.store_sysmod_loads.specs.Runs.{AreBare};
-ghost use Rattle.store_sysmod_loads.specs.Flats.{all_vers, all_ifs, all_elems, AreWhole, AreFormed, AreRowsOf};
+ghost use Rattle.store_sysmod_loads.specs.Flats.{all_elems, AreWhole, AreFormed, AreRowsOf};
 ghost use Rattle.store_sysmod_loads.specs.Gathered.{HaveForms, HoldRows, HasRows, IsGathered};
 ghost use Rattle.store_sysmod_loads.specs.Parts.{LoadsPart};
 
 use crate::building::assemble;
 use crate::flat::{ElemRow, HeadRow, IfRow, VerRow};
 use crate::heads::load_heads;
+use crate::ifs_of::load_ifs;
 use crate::loading::load_sorted;
-use crate::reading::{Elems, Ifs, Vers};
+use crate::reading::Elems;
+use crate::vers_of::load_vers;
 use sorted::are_rising;
 use sqlite::{Alter, Connection};
 use std::alloc::Global;
@@ -32,24 +33,6 @@ pub(crate) struct FlatRows {
     pub vers: Vec<VerRow>,
     pub ifs: Vec<IfRow>,
     pub elems: Vec<ElemRow>,
-}
-
-fn load_vers<S: Alter>(alloc: Global, conn: &mut Connection<S>) -> Result<Vec<VerRow>, ReadError>
-    ensures part { (r : ARelease) → LoadsPart S.Store r
-        (λ rows contents. IsPermutation (map row_of_ver rows.items) (contents ver.tree))
-        (λ rows sysmods. rows.items ≡ all_vers sysmods) conn.old conn.new result }
-    ensures forms { IfOk result (λ rows. AllByRecursion HasVerRowForms rows.items) }
-{
-    load_sorted::<S, Vers>(alloc, conn)
-}
-
-fn load_ifs<S: Alter>(alloc: Global, conn: &mut Connection<S>) -> Result<Vec<IfRow>, ReadError>
-    ensures part { (r : ARelease) → LoadsPart S.Store r
-        (λ rows contents. IsPermutation (map row_of_if rows.items) (contents ifreq.tree))
-        (λ rows sysmods. rows.items ≡ all_ifs sysmods) conn.old conn.new result }
-    ensures forms { IfOk result (λ rows. AllByRecursion HasIfRowForms rows.items) }
-{
-    load_sorted::<S, Ifs>(alloc, conn)
 }
 
 fn load_elems<S: Alter>(alloc: Global, conn: &mut Connection<S>) -> Result<Vec<ElemRow>, ReadError>
@@ -71,8 +54,8 @@ pub(crate) fn load_rows<S: Alter>(
     ensures forms { IfOk result (HaveForms release) }
 {
     let heads = load_heads(alloc, conn, release)?;
-    let vers = load_vers(alloc, conn)?;
-    let ifs = load_ifs(alloc, conn)?;
+    let vers = load_vers(alloc, conn, release)?;
+    let ifs = load_ifs(alloc, conn, release)?;
     let elems = load_elems(alloc, conn)?;
     Ok(FlatRows {
         heads,

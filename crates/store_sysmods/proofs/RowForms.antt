@@ -10,7 +10,8 @@ use Rattle.terms.specs.Spelling.{kind_text, type_text}
 use Rattle.store_rows.specs.Texts.{SuitColumns}
 use Rattle.store_rows.proofs.Values.{kept_optional, kept_whole, bound_optional}
 use Rattle.store_schema.specs.Rows.{flag, records, action_cells, sysmod_row, source_row, ver_row, ifreq_row, elem_row}
-use Rattle.store_schema.specs.Tables.{sysmod, ver, ifreq, elem, source}
+use Rattle.store_schema.specs.Rows.{morever_row, moreif_row}
+use Rattle.store_schema.specs.Tables.{sysmod, ver, ifreq, elem, source, morever, moreif}
 use Rattle.store_sysmods.specs.Actions.{is_update, distlib_of, syslib_of, lines_of}
 
 -- their columns keep them
@@ -19,6 +20,19 @@ kept_ver id v = (refl, (refl, (kept_optional v.fmid, (refl, (refl, (refl, (refl,
 
 pub kept_ifreq : (id : Id) (srel : Text) (i : ℕ × IfReq) → SuitColumns ifreq.columns (ifreq_row id srel i)
 kept_ifreq id srel i = (refl, (refl, (kept_whole (pos i.0), (refl, (refl, tt)))))
+
+pub kept_morever : (id : Id) (v : ℕ × Ver) → SuitColumns morever.columns (morever_row id v)
+kept_morever id v = (
+  refl,
+  (refl, (kept_whole (pos v.0), (kept_optional v.1.fmid, (refl, (refl, (refl, tt)))))),
+)
+
+pub kept_moreif : (id : Id) (srel : Text) (v : ℕ) (i : ℕ × IfReq)
+    → SuitColumns moreif.columns (moreif_row id srel v i)
+kept_moreif id srel v i = (
+  refl,
+  (refl, (kept_whole (pos v), (kept_whole (pos i.0), (refl, (refl, tt))))),
+)
 
 pub kept_source : (id : Id) (name : Text) → SuitColumns source.columns (source_row id name)
 kept_source id name = (refl, (refl, tt))
@@ -52,12 +66,30 @@ ver_bound id srel pre req sup npre del fmid x v is_id is_srel is_fmid is_pre is_
     in
     cc
 
+-- and so it is for a further one, with its number
+pub morever_bound : (id srel pre req sup : Text) (number : ℤ) (fmid : ValueRef) (x : Id) (n : ℕ) (v : Ver) → id ≡ x
+    → srel ≡ v.srel → number ≡ pos n → owned fmid ≡ or_null value.Text v.fmid → pre ≡ join_with_byte 44 v.pre
+    → req ≡ join_with_byte 44 v.req → sup ≡ join_with_byte 44 v.sup
+    → value.Text id ∷ value.Text srel ∷ value.Int number ∷ bound_value (owned fmid) ∷ value.Text pre ∷ value.Text req ∷
+    value.Text sup ∷ [] ≡ morever_row x (n, v)
+morever_bound id srel pre req sup number fmid x n v is_id is_srel is_number is_fmid is_pre is_req is_sup =
+    let function : bound_value (owned fmid) ≡ or_null value.Text v.fmid = ap bound_value is_fmid ∙ bound_optional v.fmid
+    in
+    cc
+
 -- and so it is for a ++IF
 pub ifreq_bound : (id srel function req : Text) (number : ℤ) (n : ℕ) (x : Id) (other : Text) (i : IfReq) → id ≡ x
     → srel ≡ other → number ≡ pos n → function ≡ i.function → req ≡ join_with_byte 44 i.req
     → value.Text id ∷ value.Text srel ∷ value.Int number ∷ value.Text function ∷ value.Text req ∷ [] ≡ ifreq_row x other
     (n, i)
 ifreq_bound id srel function req number n x other i is_id is_srel is_number is_function is_req = cc
+
+-- and for one of a further ++VER
+pub moreif_bound : (id srel function req : Text) (place number : ℤ) (k n : ℕ) (x : Id) (other : Text) (i : IfReq)
+    → id ≡ x → srel ≡ other → place ≡ pos k → number ≡ pos n → function ≡ i.function → req ≡ join_with_byte 44 i.req
+    → value.Text id ∷ value.Text srel ∷ value.Int place ∷ value.Int number ∷ value.Text function ∷ value.Text req ∷ []
+    ≡ moreif_row x other k (n, i)
+moreif_bound id srel function req place number k n x other i is_id is_srel is_place is_number is_function is_req = cc
 
 -- and for a source
 pub source_bound : (id name : Text) (x : Id) (source : Text) → id ≡ x → name ≡ source

@@ -1,5 +1,5 @@
 -- What the tables hold when a SYSMOD comes, goes, or has other sources.
-use Rattle.std.proofs.Common.{◌≡◌, inl, inr, arith, List, [], ◌∷◌, ◌++◌, append-nil, map, filter, length, Bool, true}
+use Rattle.std.proofs.Common.{◌≡◌, inl, inr, arith, ℕ, List, [], ◌∷◌, ◌++◌, append-nil, map, filter, length, Bool, true}
 use Rattle.std.proofs.Common.{false, not, if◌then◌else◌, IsPermutation, Ordering, Less, Equal, Greater, refl, sym, ap}
 use Rattle.std.proofs.Common.{ap₂, subst, ◌∙◌}
 use Rattle.std.specs.List.{AllByRecursion, flat_map, enumerate_from}
@@ -17,7 +17,7 @@ use Rattle.sqlite.specs.Order.{Row}
 use Rattle.sqlite.specs.Table.{Table}
 use Rattle.sqlite_rules.specs.Lists.{Has}
 use Rattle.sqlite_rules.proofs.ListLemmas.{has_left, has_kept}
-use Rattle.terms.specs.Types.{Text, Id, Sysmod}
+use Rattle.terms.specs.Types.{Text, Id, Ver, Sysmod}
 use Rattle.terms.specs.Global.{with_sysmod}
 use Rattle.terms.specs.Lookups.{is_received}
 use Rattle.lemmas.proofs.Texts.{same_from}
@@ -28,7 +28,8 @@ use Rattle.store_rows.proofs.ContentsLemmas.{permuted}
 use Rattle.store_rows.proofs.RowLemmas.{same_rows}
 use Rattle.store_schema.specs.Inventory.{Inventory}
 use Rattle.store_schema.specs.Rows.{sysmod_row, source_row, sources_of, ver_row, vers_of, ifreq_row, ifreqs_of}
-use Rattle.store_schema.specs.Rows.{elem_row, elems_of}
+use Rattle.store_schema.specs.Rows.{elem_row, elems_of, morever_row, morevers_of, moreif_row, moreifs_of}
+use Rattle.store_schema.specs.Rows.{first_vers, further_vers}
 use Rattle.store_schema.specs.Stands.{rows_of}
 use Rattle.store_schema.specs.Tables.{store_schema, meta, sysmod, ver, ifreq, hold, elem, zone, entry, zelem, source}
 use Rattle.store_schema.specs.Tables.{morever, moreif, chosen}
@@ -38,21 +39,20 @@ use Rattle.store_sysmods.proofs.Partings.{parted, between, all_map, all_flat, wi
 
 -- the tables that hold no rows of SYSMODs
 abbrev other_tables : List Table
-other_tables = meta ∷ hold ∷ zone ∷ entry ∷ zelem ∷ morever ∷ moreif ∷ chosen ∷ []
+other_tables = meta ∷ hold ∷ zone ∷ entry ∷ zelem ∷ chosen ∷ []
 
 -- The tables hold the rows of SYSMODs in another order, and in the other tables the same.
 permuted_sysmods : (c d : Contents) (db : Database) → AllByRecursion (λ t. d t.tree ≡ c t.tree) other_tables
     → IsPermutation (d sysmod.tree) (c sysmod.tree) → IsPermutation (d source.tree) (c source.tree)
     → IsPermutation (d ver.tree) (c ver.tree) → IsPermutation (d ifreq.tree) (c ifreq.tree)
-    → IsPermutation (d elem.tree) (c elem.tree) → HasContents store_schema c db → HasContents store_schema d db
-permuted_sysmods c d db others on_sysmod on_source on_ver on_ifreq on_elem =
+    → IsPermutation (d elem.tree) (c elem.tree) → IsPermutation (d morever.tree) (c morever.tree)
+    → IsPermutation (d moreif.tree) (c moreif.tree) → HasContents store_schema c db → HasContents store_schema d db
+permuted_sysmods c d db others on_sysmod on_source on_ver on_ifreq on_elem on_morever on_moreif =
     let at_hold = others.1 in
     let at_zone = at_hold.1 in
     let at_entry = at_zone.1 in
     let at_zelem = at_entry.1 in
-    let at_morever = at_zelem.1 in
-    let at_moreif = at_morever.1 in
-    let at_chosen = at_moreif.1 in
+    let at_chosen = at_zelem.1 in
     permuted store_schema c d db (
       same_rows others.0,
       (
@@ -73,7 +73,7 @@ permuted_sysmods c d db others on_sysmod on_source on_ver on_ifreq on_elem =
                       same_rows at_zelem.0,
                       (
                         on_source,
-                        (same_rows at_morever.0, (same_rows at_moreif.0, (same_rows at_chosen.0, tt))),
+                        (on_morever, (on_moreif, (same_rows at_chosen.0, tt))),
                       ),
                     ),
                   ),
@@ -138,8 +138,9 @@ module _ (i : Inventory) (s : Sysmod) where
       (rows_between own_row none)) in
       permuted_sysmods (with_sysmod_rows s (rows_of i))
       (rows_of (record i { global = with_sysmod i.global s })) db
-      (refl, (refl, (refl, (refl, (refl, (refl, (refl, (refl, tt)))))))) own (rows_between sources_of none)
+      (refl, (refl, (refl, (refl, (refl, (refl, tt)))))) own (rows_between sources_of none)
       (rows_between vers_of none) (rows_between ifreqs_of none) (rows_between elems_of none)
+      (rows_between morevers_of none) (rows_between moreifs_of none)
 
 -- ---- a SYSMOD goes
 
@@ -155,11 +156,20 @@ module _ (id : Id) where
   own_sources s = all_map (IsOf s) (source_row s.id) (λ name. begins id s.id []) s.sources
 
   own_vers : (s : Sysmod) → AllByRecursion (IsOf s) (vers_of s)
-  own_vers s = all_map (IsOf s) (ver_row s.id) (λ v. begins id s.id []) s.vers
+  own_vers s = all_map (IsOf s) (λ (v : ℕ × Ver). ver_row s.id v.1) (λ v. begins id s.id []) (first_vers s)
 
   own_ifreqs : (s : Sysmod) → AllByRecursion (IsOf s) (ifreqs_of s)
-  own_ifreqs s = all_flat (IsOf s) (λ v. map (ifreq_row s.id v.srel) (enumerate_from 1 v.ifs))
-      (λ v. all_map (IsOf s) (ifreq_row s.id v.srel) (λ j. begins id s.id []) (enumerate_from 1 v.ifs)) s.vers
+  own_ifreqs s = all_flat (IsOf s) (λ (v : ℕ × Ver). map (ifreq_row s.id v.1.srel) (enumerate_from 1 v.1.ifs))
+      (λ v. all_map (IsOf s) (ifreq_row s.id v.1.srel) (λ j. begins id s.id []) (enumerate_from 1 v.1.ifs))
+      (first_vers s)
+
+  own_morevers : (s : Sysmod) → AllByRecursion (IsOf s) (morevers_of s)
+  own_morevers s = all_map (IsOf s) (morever_row s.id) (λ v. begins id s.id []) (further_vers s)
+
+  own_moreifs : (s : Sysmod) → AllByRecursion (IsOf s) (moreifs_of s)
+  own_moreifs s = all_flat (IsOf s) (λ (v : ℕ × Ver). map (moreif_row s.id v.1.srel v.0) (enumerate_from 1 v.1.ifs))
+      (λ v. all_map (IsOf s) (moreif_row s.id v.1.srel v.0) (λ j. begins id s.id []) (enumerate_from 1 v.1.ifs))
+      (further_vers s)
 
   own_elems : (s : Sysmod) → AllByRecursion (IsOf s) (elems_of s)
   own_elems s = all_map (IsOf s) (elem_row s.id) (λ c. begins id s.id []) s.changes
@@ -177,9 +187,10 @@ module _ (id : Id) where
       sym (flat_map_single sysmod_row left) ∙ left_in own_row (λ s. (begins id s.id [], tt)) all
       ∙ ap (without (sysmod_key id)) (flat_map_single sysmod_row all) in
       permuted_sysmods (without_sysmod_rows id (rows_of i)) (rows_of (record i { global = less_sysmod id i.global })) db
-      (refl, (refl, (refl, (refl, (refl, (refl, (refl, (refl, tt)))))))) (same_rows own)
+      (refl, (refl, (refl, (refl, (refl, (refl, tt)))))) (same_rows own)
       (same_rows (left_in sources_of own_sources all)) (same_rows (left_in vers_of own_vers all))
       (same_rows (left_in ifreqs_of own_ifreqs all)) (same_rows (left_in elems_of own_elems all))
+      (same_rows (left_in morevers_of own_morevers all)) (same_rows (left_in moreifs_of own_moreifs all))
 
 -- ---- a SYSMOD has other sources
 
@@ -279,6 +290,7 @@ module _ (s : Sysmod) where
         ∙ flat_map_single sysmod_row all_of in
         permuted_sysmods (with_source_rows s (rows_of i))
         (rows_of (record i { global = with_sources s.id s.sources i.global })) db
-        (refl, (refl, (refl, (refl, (refl, (refl, (refl, (refl, tt)))))))) (same_rows own) sources
+        (refl, (refl, (refl, (refl, (refl, (refl, tt)))))) (same_rows own) sources
         (same_rows (kept_rows vers_of (λ r. refl) all_of)) (same_rows (kept_rows ifreqs_of (λ r. refl) all_of))
-        (same_rows (kept_rows elems_of (λ r. refl) all_of)) held
+        (same_rows (kept_rows elems_of (λ r. refl) all_of)) (same_rows (kept_rows morevers_of (λ r. refl) all_of))
+        (same_rows (kept_rows moreifs_of (λ r. refl) all_of)) held

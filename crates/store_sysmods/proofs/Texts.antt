@@ -9,6 +9,7 @@ use Rattle.store_rows.specs.Texts.{PutsIn, TakesOut, TakesOutParent, IsCascade}
 use Rattle.store_rows.proofs.Parents.{if_set_off}
 use Rattle.store_schema.specs.Tables.{store_schema, sysmod, ver, ifreq, elem, source, morever, moreif}
 use Rattle.store_sysmods.specs.Calls.{insert_source, insert_ver, insert_ifreq, insert_elem, insert_sysmod}
+use Rattle.store_sysmods.specs.Calls.{insert_morever, insert_moreif}
 use Rattle.store_sysmods.specs.Calls.{delete_vers, delete_ifreqs, delete_elems, delete_sources, delete_morevers}
 use Rattle.store_sysmods.specs.Calls.{delete_moreifs, delete_sysmod}
 use Rattle.store_sysmods.specs.Sysmods.{sysmod_children}
@@ -56,6 +57,26 @@ puts_sysmod = record {
 pub puts_source : PutsIn store_schema 9 source insert_source
 unfolding understood everything
 puts_source = record {
+  there = record { found = refl; alone = refl };
+  command = refl;
+  plain = (refl, refl);
+  uncounted = refl;
+  timeless = refl;
+}
+
+pub puts_morever : PutsIn store_schema 10 morever insert_morever
+unfolding understood everything
+puts_morever = record {
+  there = record { found = refl; alone = refl };
+  command = refl;
+  plain = (refl, refl);
+  uncounted = refl;
+  timeless = refl;
+}
+
+pub puts_moreif : PutsIn store_schema 11 moreif insert_moreif
+unfolding understood everything
+puts_moreif = record {
   there = record { found = refl; alone = refl };
   command = refl;
   plain = (refl, refl);

@@ -3,7 +3,7 @@ use Rattle.std.specs.Prelude.{ℕ, List, [], ◌∷◌, ◌++◌, map, codes}
 use Rattle.sqlite.specs.Order.{Row}
 use Rattle.terms.specs.Types.{Id, Sysmod}
 use Rattle.store_rows.specs.Calls.{Call}
-use Rattle.store_schema.specs.Rows.{sysmod_row, sources_of, vers_of, ifreqs_of, elems_of}
+use Rattle.store_schema.specs.Rows.{sysmod_row, sources_of, vers_of, ifreqs_of, elems_of, morevers_of, moreifs_of}
 use Rattle.store_sysmods.specs.Sysmods.{sysmod_key}
 
 abbrev pub insert_sysmod : List ℕ
@@ -20,6 +20,12 @@ insert_ifreq = codes "INSERT INTO ifreq (id, srel, n, fmid, req) VALUES (?1, ?2,
 
 abbrev pub insert_elem : List ℕ
 insert_elem = codes "INSERT INTO elem (id, type, name, upd, distlib, syslib, text) VALUES (?1, ?2, ?3, ?4, ?5, ?6, ?7)"
+
+abbrev pub insert_morever : List ℕ
+insert_morever = codes "INSERT INTO morever (id, srel, n, fmid, pre, req, sup) VALUES (?1, ?2, ?3, ?4, ?5, ?6, ?7)"
+
+abbrev pub insert_moreif : List ℕ
+insert_moreif = codes "INSERT INTO moreif (id, srel, v, n, fmid, req) VALUES (?1, ?2, ?3, ?4, ?5, ?6)"
 
 abbrev pub delete_vers : List ℕ
 delete_vers = codes "DELETE FROM ver WHERE id = ?1"
@@ -46,11 +52,13 @@ delete_sysmod = codes "DELETE FROM sysmod WHERE id = ?1"
 abbrev pub puts : List ℕ → List Row → List Call
 puts text rows = map (λ row. (text, row)) rows
 
--- its own row, and those of its sources, ++VERs, ++IFs and element statements
+-- its own row, and those of its sources, first ++VERs and their ++IFs, element statements, and further ++VERs and
+-- their ++IFs
 abbrev pub insert_sysmod_calls : Sysmod → List Call
 insert_sysmod_calls s =
     (insert_sysmod, sysmod_row s) ∷ (puts insert_source (sources_of s) ++ (puts insert_ver (vers_of s)
-    ++ (puts insert_ifreq (ifreqs_of s) ++ puts insert_elem (elems_of s))))
+    ++ (puts insert_ifreq (ifreqs_of s) ++ (puts insert_elem (elems_of s) ++ (puts insert_morever (morevers_of s)
+    ++ puts insert_moreif (moreifs_of s))))))
 
 -- the rows that refer to the SYSMOD, and its own one
 abbrev pub remove_sysmod_calls : Id → List Call

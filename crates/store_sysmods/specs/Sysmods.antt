@@ -12,7 +12,7 @@ use Rattle.sysmods_records.specs.Edited.{with_sources, less_sysmod}
 use Rattle.store_rows.specs.Inside.{Leads, Turns}
 use Rattle.store_rows.specs.Rows.{Contents, HasContents, in_table, with_row, without}
 use Rattle.store_schema.specs.Inventory.{Inventory}
-use Rattle.store_schema.specs.Rows.{sysmod_row, sources_of, vers_of, ifreqs_of, elems_of}
+use Rattle.store_schema.specs.Rows.{sysmod_row, sources_of, vers_of, ifreqs_of, elems_of, morevers_of, moreifs_of}
 use Rattle.store_schema.specs.Stands.{rows_of}
 use Rattle.store_schema.specs.Tables.{sysmod, ver, ifreq, elem, source, morever, moreif, store_schema}
 
@@ -27,9 +27,10 @@ Adds g old new table news = Turns g old new (HasContents store_schema) (in_table
 -- the tables hold the rows of the SYSMOD too
 abbrev pub with_sysmod_rows : Sysmod → Contents → Contents
 with_sysmod_rows s contents =
-    in_table elem (with_rows (elems_of s)) (in_table ifreq (with_rows (ifreqs_of s))
+    in_table moreif (with_rows (moreifs_of s)) (in_table morever (with_rows (morevers_of s))
+    (in_table elem (with_rows (elems_of s)) (in_table ifreq (with_rows (ifreqs_of s))
     (in_table ver (with_rows (vers_of s)) (in_table source (with_rows (sources_of s))
-    (in_table sysmod (with_row (sysmod_row s)) contents))))
+    (in_table sysmod (with_row (sysmod_row s)) contents))))))
 
 -- the first column of the SYSMOD's rows
 abbrev pub sysmod_key : Id → Row

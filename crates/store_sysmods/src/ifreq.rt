@@ -1,14 +1,15 @@
-//! The table of `++IF`s.
+//! The table of the `++IF`s of the `++VER`s that are the first of their SREL.
 
-ghost use Rattle.std.specs.Prelude.{◌≡◌, ◌<◌, ◌^◌, [], ◌∷◌, map, OnOk};
+ghost use Rattle.std.specs.Prelude.{◌≡◌, ◌==◌, ◌<◌, ◌^◌, [], ◌∷◌, map, filter, if◌then◌else◌, OnOk};
 ghost use Rattle.std.specs.List.{enumerate_from, flat_map, join_with_byte};
 ghost use Rattle.store_rows.specs.Calls.{RunsInside};
 ghost use Rattle.store_rows.specs.Inside.{StaysInside};
-ghost use Rattle.store_schema.specs.Rows.{ifreq_row};
+ghost use Rattle.store_schema.specs.Rows.{ifreq_row, is_first, numbered_behind};
 ghost use Rattle.store_schema.specs.Tables.{ifreq as ifreq_table};
 ghost use Rattle.store_sysmods.specs.Calls.{puts, insert_ifreq as into_ifreq};
 ghost use Rattle.store_sysmods.specs.Sysmods.{Adds};
 
+use crate::numbers::number_behind;
 use fields::{Id, Srel};
 use sqlite::{Alter, Error, Transaction};
 use sqlite_value::value::ValueRef;
@@ -88,7 +89,29 @@ fn insert_ifs<S: Alter>(
     Ok(())
 }
 
-/// Adds the rows of the `++IF`s of all the SYSMOD's `++VER`s.
+// Adds the rows of the `++IF`s of the `++VER` of this number, if it is the first of its SREL.
+fn insert_ifs_of_first<S: Alter>(
+    alloc: Global,
+    tx: &mut Transaction<'_, S>,
+    id: &Id,
+    number: usize,
+    ver: &Ver,
+) -> Result<(), Error>
+    ensures same_reference { tx.new.conn.ghost_name ≡ tx.old.conn.ghost_name }
+    ensures inside { StaysInside S.Store tx.old.conn.now tx.new.conn.now }
+    ensures calls { RunsInside S.Store (puts into_ifreq
+        (if number == 1 then map (ifreq_row id.now ver.now.srel) (enumerate_from 1 ver.now.ifs) else []))
+        tx.old.conn.now tx.new.conn.now result }
+    ensures ok { OnOk result (Adds S.Store tx.old.conn.now tx.new.conn.now ifreq_table
+        (if number == 1 then map (ifreq_row id.now ver.now.srel) (enumerate_from 1 ver.now.ifs) else [])) }
+{
+    if number != 1 {
+        return Ok(());
+    }
+    insert_ifs(alloc, tx, id, &ver.srel, ver.ifs.as_slice())
+}
+
+/// Adds the rows of the `++IF`s of the SYSMOD's first `++VER`s.
 pub(crate) fn insert_all_ifs<S: Alter>(
     alloc: Global,
     tx: &mut Transaction<'_, S>,
@@ -98,13 +121,16 @@ pub(crate) fn insert_all_ifs<S: Alter>(
     ensures same_reference { tx.new.conn.ghost_name ≡ tx.old.conn.ghost_name }
     ensures inside { StaysInside S.Store tx.old.conn.now tx.new.conn.now }
     ensures calls { RunsInside S.Store (puts into_ifreq
-        (flat_map (λ v. map (ifreq_row id.now v.srel) (enumerate_from 1 v.ifs)) vers.now))
+        (flat_map (λ v. map (ifreq_row id.now v.1.srel) (enumerate_from 1 v.1.ifs))
+        (filter is_first (numbered_behind [] vers.now))))
         tx.old.conn.now tx.new.conn.now result }
     ensures ok { OnOk result (Adds S.Store tx.old.conn.now tx.new.conn.now ifreq_table
-        (flat_map (λ v. map (ifreq_row id.now v.srel) (enumerate_from 1 v.ifs)) vers.now)) }
+        (flat_map (λ v. map (ifreq_row id.now v.1.srel) (enumerate_from 1 v.1.ifs))
+        (filter is_first (numbered_behind [] vers.now)))) }
 {
-    for ver in vers {
-        insert_ifs(alloc, tx, id, &ver.srel, ver.ifs.as_slice())?;
+    for (index, ver) in vers.iter().enumerate() {
+        let number = number_behind(&vers[..index], ver);
+        insert_ifs_of_first(alloc, tx, id, number, ver)?;
     }
     Ok(())
 }

@@ -6,6 +6,9 @@
 
 mod elem;
 mod ifreq;
+mod moreif;
+mod morever;
+mod numbers;
 mod source;
 mod sysmod;
 mod ver;

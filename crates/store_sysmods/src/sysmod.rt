@@ -13,6 +13,8 @@ ghost use Rattle.store_sysmods.specs.Sysmods.{with_source_rows, with_sysmod_rows
 
 use crate::elem::insert_changes;
 use crate::ifreq::insert_all_ifs;
+use crate::moreif::insert_moreifs;
+use crate::morever::insert_morevers;
 use crate::source::{insert_sources, remove_sources};
 use crate::ver::insert_vers;
 use fields::Id;
@@ -59,7 +61,9 @@ pub fn insert_sysmod<S: Alter>(
     insert_sources(tx, &sysmod.id, sysmod.sources.as_slice())?;
     insert_vers(alloc, tx, &sysmod.id, sysmod.vers.as_slice())?;
     insert_all_ifs(alloc, tx, &sysmod.id, sysmod.vers.as_slice())?;
-    insert_changes(alloc, tx, &sysmod.id, sysmod.changes.as_slice())
+    insert_changes(alloc, tx, &sysmod.id, sysmod.changes.as_slice())?;
+    insert_morevers(alloc, tx, &sysmod.id, sysmod.vers.as_slice())?;
+    insert_moreifs(alloc, tx, &sysmod.id, sysmod.vers.as_slice())
 }
 
 /// Puts the rows of the SYSMOD's sources in place of those that are there. Where it is not received and has a source,

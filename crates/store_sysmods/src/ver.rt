@@ -1,14 +1,15 @@
-//! The table of `++VER`s.
+//! The table of `++VER`s, of which a SYSMOD has one for each SREL here.
 
-ghost use Rattle.std.specs.Prelude.{◌≡◌, [], ◌∷◌, map, IfOk, OnOk};
+ghost use Rattle.std.specs.Prelude.{◌≡◌, ◌==◌, [], ◌∷◌, map, filter, if◌then◌else◌, IfOk, OnOk};
 ghost use Rattle.store_rows.specs.Calls.{RunsInside};
 ghost use Rattle.store_rows.specs.Inside.{StaysInside};
-ghost use Rattle.store_schema.specs.Rows.{ver_row};
+ghost use Rattle.store_schema.specs.Rows.{ver_row, is_first, numbered_behind};
 ghost use Rattle.store_schema.specs.Tables.{ver as ver_table};
 ghost use Rattle.store_sysmods.specs.Calls.{puts, insert_ver as into_ver};
 ghost use Rattle.store_sysmods.specs.Lists.{AreLists};
 ghost use Rattle.store_sysmods.specs.Sysmods.{Adds};
 
+use crate::numbers::number_behind;
 use fields::Id;
 use sqlite::{Alter, Error, Transaction};
 use sqlite_value::value::ValueRef;
@@ -19,15 +20,15 @@ use sysmods_records::Ver;
 
 /// The texts of a `++VER`'s lists.
 #[derive(Drop)]
-struct Lists {
-    pre: Vec<u8>,
-    req: Vec<u8>,
-    sup: Vec<u8>,
-    npre: Vec<u8>,
-    del: Vec<u8>,
+pub(crate) struct Lists {
+    pub pre: Vec<u8>,
+    pub req: Vec<u8>,
+    pub sup: Vec<u8>,
+    pub npre: Vec<u8>,
+    pub del: Vec<u8>,
 }
 
-fn lists_of(alloc: Global, ver: &Ver) -> Result<Lists, AllocError>
+pub(crate) fn lists_of(alloc: Global, ver: &Ver) -> Result<Lists, AllocError>
     ensures { IfOk result (λ lists. AreLists lists ver.now) }
 {
     Ok(Lists {
@@ -68,23 +69,29 @@ fn insert_row<S: Alter>(
     )
 }
 
-fn insert_ver<S: Alter>(
+// Adds the row of the `++VER` of this number, if it is the first of its SREL.
+fn insert_first<S: Alter>(
     alloc: Global,
     tx: &mut Transaction<'_, S>,
     id: &Id,
+    number: usize,
     ver: &Ver,
 ) -> Result<(), Error>
     ensures same_reference { tx.new.conn.ghost_name ≡ tx.old.conn.ghost_name }
     ensures inside { StaysInside S.Store tx.old.conn.now tx.new.conn.now }
-    ensures calls { RunsInside S.Store (puts into_ver (ver_row id.now ver.now ∷ []))
+    ensures calls { RunsInside S.Store (puts into_ver (if number == 1 then ver_row id.now ver.now ∷ [] else []))
         tx.old.conn.now tx.new.conn.now result }
-    ensures ok { OnOk result (Adds S.Store tx.old.conn.now tx.new.conn.now ver_table (ver_row id.now ver.now ∷ [])) }
+    ensures ok { OnOk result (Adds S.Store tx.old.conn.now tx.new.conn.now ver_table
+        (if number == 1 then ver_row id.now ver.now ∷ [] else [])) }
 {
+    if number != 1 {
+        return Ok(());
+    }
     let lists = lists_of(alloc, ver)?;
     insert_row(tx, id, ver, &lists)
 }
 
-/// Adds the rows of the SYSMOD's `++VER`s, without those of their `++IF`s.
+/// Adds the rows of the SYSMOD's first `++VER`s, without those of their `++IF`s.
 pub(crate) fn insert_vers<S: Alter>(
     alloc: Global,
     tx: &mut Transaction<'_, S>,
@@ -93,12 +100,15 @@ pub(crate) fn insert_vers<S: Alter>(
 ) -> Result<(), Error>
     ensures same_reference { tx.new.conn.ghost_name ≡ tx.old.conn.ghost_name }
     ensures inside { StaysInside S.Store tx.old.conn.now tx.new.conn.now }
-    ensures calls { RunsInside S.Store (puts into_ver (map (ver_row id.now) vers.now))
+    ensures calls { RunsInside S.Store (puts into_ver
+        (map (λ v. ver_row id.now v.1) (filter is_first (numbered_behind [] vers.now))))
         tx.old.conn.now tx.new.conn.now result }
-    ensures ok { OnOk result (Adds S.Store tx.old.conn.now tx.new.conn.now ver_table (map (ver_row id.now) vers.now)) }
+    ensures ok { OnOk result (Adds S.Store tx.old.conn.now tx.new.conn.now ver_table
+        (map (λ v. ver_row id.now v.1) (filter is_first (numbered_behind [] vers.now)))) }
 {
-    for ver in vers {
-        insert_ver(alloc, tx, id, ver)?;
+    for (index, ver) in vers.iter().enumerate() {
+        let number = number_behind(&vers[..index], ver);
+        insert_first(alloc, tx, id, number, ver)?;
     }
     Ok(())
 }

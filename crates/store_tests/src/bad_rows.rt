@@ -1,5 +1,5 @@
 //! Rows edited by hand that stand for no state.
-use crate::known::{doubled, filled, joined, opened, zone_name};
+use crate::known::{FURTHER, doubled, filled, joined, opened, run_all, zone_name};
 use sqlite::{Alter, Connection};
 use sqlite_value::value::ValueRef;
 use std::alloc::Global;
@@ -35,8 +35,6 @@ const SYSMODS: &[&str] = &[
     "UPDATE source SET name = '' WHERE id = 'UAA0001'",
     "UPDATE source SET name = 'PUT2401,PUT2402' WHERE id = 'UAA0001'",
     "UPDATE source SET name = 'PUT2401$RSU2404#PUT2401$RSU2404#PUT2401$RSU2404#PUT2401$RSU2404#A' WHERE id = 'UAA0001'",
-    "INSERT INTO morever (id, srel, n, fmid, pre, req, sup) VALUES ('UAA0001', 'Z038', 2, 'HAA1200', '', '', '')",
-    "INSERT INTO moreif (id, srel, v, n, fmid, req) VALUES ('UAA0001', 'Z038', 2, 1, 'HCC1100', 'UCC0001')",
     "DELETE FROM ver WHERE id = 'AAA0003'",
 ];
 
@@ -108,6 +106,89 @@ const IFS: &[&str] = &[
     "UPDATE ifreq SET req = 'UCC0001,UCC0001' WHERE srel = 'Z039'",
     "UPDATE ifreq SET req = 'UCC001' WHERE srel = 'Z039'",
     "UPDATE ifreq SET req = 'UCC0001,' WHERE srel = 'Z039'",
+];
+
+/// Edits of further `++VER`s that move only within what may stand: eight `++VER`s in all, a further one for each of two
+/// releases, and none.
+const GOOD_FURTHER: &[&str] = &[
+    "UPDATE morever SET pre = '', req = '', sup = ''",
+    "INSERT INTO morever (id, srel, n, fmid, pre, req, sup) VALUES ('LLL0001', 'Z038', 4, 'HDD1104', '', '', ''); INSERT INTO morever (id, srel, n, fmid, pre, req, sup) VALUES ('LLL0001', 'Z038', 5, 'HDD1105', '', '', ''); INSERT INTO morever (id, srel, n, fmid, pre, req, sup) VALUES ('LLL0001', 'Z038', 6, 'HDD1106', '', '', ''); INSERT INTO morever (id, srel, n, fmid, pre, req, sup) VALUES ('LLL0001', 'Z038', 7, 'HDD1107', '', '', ''); INSERT INTO morever (id, srel, n, fmid, pre, req, sup) VALUES ('LLL0001', 'Z038', 8, 'HDD1108', '', '', '')",
+    "INSERT INTO ver (id, srel, fmid, pre, req, sup, npre, del) VALUES ('LLL0001', 'Z039', 'HAA1200', '', '', '', '', ''); INSERT INTO morever (id, srel, n, fmid, pre, req, sup) VALUES ('LLL0001', 'Z039', 2, 'HAA1100', '', '', '')",
+    "DELETE FROM moreif",
+    "DELETE FROM moreif; DELETE FROM morever",
+];
+
+/// Further `++VER`s: their numbers and releases, by themselves, and beside others of their SYSMOD.
+const MOREVERS: &[&str] = &[
+    "UPDATE morever SET n = 0 WHERE n = 3; UPDATE moreif SET v = 0 WHERE v = 3",
+    "UPDATE morever SET n = 1 WHERE n = 3; UPDATE moreif SET v = 1 WHERE v = 3",
+    "UPDATE morever SET n = -1 WHERE n = 3; UPDATE moreif SET v = -1 WHERE v = 3",
+    "UPDATE morever SET n = 4 WHERE n = 3; UPDATE moreif SET v = 4 WHERE v = 3",
+    "UPDATE morever SET n = 9223372036854775807 WHERE n = 3; UPDATE moreif SET v = 9223372036854775807 WHERE v = 3",
+    "DELETE FROM morever WHERE n = 2; DELETE FROM moreif WHERE v = 2",
+    "DELETE FROM ver WHERE id = 'LLL0001'",
+    "DELETE FROM moreif; UPDATE morever SET srel = 'Z039' WHERE n = 3",
+    "DELETE FROM moreif; DELETE FROM morever WHERE n = 3; UPDATE morever SET srel = 'Z039'",
+    "DELETE FROM moreif; UPDATE morever SET srel = 'Z38' WHERE n = 3",
+    "DELETE FROM moreif; UPDATE morever SET srel = 'z038' WHERE n = 3",
+    "DELETE FROM moreif; UPDATE morever SET srel = '' WHERE n = 3",
+    "DELETE FROM moreif; UPDATE morever SET id = 'AAA0003' WHERE n = 3",
+    "UPDATE morever SET fmid = NULL WHERE n = 3",
+    "UPDATE morever SET fmid = '' WHERE n = 3",
+    "UPDATE morever SET fmid = 'HCC110' WHERE n = 3",
+    "UPDATE morever SET fmid = 'hcc1100' WHERE n = 3",
+    "UPDATE morever SET fmid = id WHERE n = 3",
+    "UPDATE morever SET fmid = 'HAA1100' WHERE n = 3",
+    "UPDATE morever SET fmid = 'HAA1200' WHERE n = 3",
+    "UPDATE morever SET pre = 'UZZ0002,UZZ0001' WHERE n = 3",
+    "UPDATE morever SET pre = 'UZZ0001,UZZ0001' WHERE n = 3",
+    "UPDATE morever SET pre = 'UZZ001' WHERE n = 3",
+    "UPDATE morever SET pre = 'UZZ0001,' WHERE n = 3",
+    "UPDATE morever SET pre = 'UZZ0001 UZZ0002' WHERE n = 3",
+    "UPDATE morever SET pre = id WHERE n = 3",
+    "UPDATE morever SET req = 'UZZ0002,UZZ0001' WHERE n = 3",
+    "UPDATE morever SET req = 'UZZ0001,UZZ0001' WHERE n = 3",
+    "UPDATE morever SET req = 'UZZ001' WHERE n = 3",
+    "UPDATE morever SET req = 'UZZ0001,' WHERE n = 3",
+    "UPDATE morever SET req = 'UZZ0001 UZZ0002' WHERE n = 3",
+    "UPDATE morever SET req = id WHERE n = 3",
+    "UPDATE morever SET sup = 'UZZ0002,UZZ0001' WHERE n = 3",
+    "UPDATE morever SET sup = 'UZZ0001,UZZ0001' WHERE n = 3",
+    "UPDATE morever SET sup = 'UZZ001' WHERE n = 3",
+    "UPDATE morever SET sup = 'UZZ0001,' WHERE n = 3",
+    "UPDATE morever SET sup = 'UZZ0001 UZZ0002' WHERE n = 3",
+    "UPDATE morever SET sup = id WHERE n = 3",
+    "INSERT INTO morever (id, srel, n, fmid, pre, req, sup) VALUES ('LLL0001', 'Z038', 4, 'HDD1104', '', '', ''); INSERT INTO morever (id, srel, n, fmid, pre, req, sup) VALUES ('LLL0001', 'Z038', 5, 'HDD1105', '', '', ''); INSERT INTO morever (id, srel, n, fmid, pre, req, sup) VALUES ('LLL0001', 'Z038', 6, 'HDD1106', '', '', ''); INSERT INTO morever (id, srel, n, fmid, pre, req, sup) VALUES ('LLL0001', 'Z038', 7, 'HDD1107', '', '', ''); INSERT INTO morever (id, srel, n, fmid, pre, req, sup) VALUES ('LLL0001', 'Z038', 8, 'HDD1108', '', '', ''); INSERT INTO morever (id, srel, n, fmid, pre, req, sup) VALUES ('LLL0001', 'Z038', 9, 'HDD1109', '', '', '')",
+    "INSERT INTO morever (id, srel, n, fmid, pre, req, sup) VALUES ('HAA1200', 'Z038', 2, 'HCC1100', '', '', '')",
+    "UPDATE sysmod SET kind = 'FUNCTION' WHERE id = 'LLL0001'",
+];
+
+/// The `++IF`s of further `++VER`s.
+const MOREIFS: &[&str] = &[
+    "DELETE FROM morever WHERE n = 3",
+    "UPDATE moreif SET v = 0 WHERE v = 3",
+    "UPDATE moreif SET v = 1 WHERE v = 3",
+    "UPDATE moreif SET v = -1 WHERE v = 3",
+    "UPDATE moreif SET v = 4 WHERE v = 3",
+    "UPDATE moreif SET srel = 'Z039' WHERE v = 3",
+    "UPDATE moreif SET srel = 'Z38' WHERE v = 3",
+    "UPDATE moreif SET id = 'AAA0003' WHERE v = 3",
+    "UPDATE moreif SET n = 0 WHERE v = 3",
+    "UPDATE moreif SET n = -1 WHERE v = 3",
+    "UPDATE moreif SET n = 2 WHERE v = 3",
+    "UPDATE moreif SET n = 9223372036854775807 WHERE v = 3",
+    "UPDATE moreif SET n = 3 WHERE n = 2",
+    "DELETE FROM moreif WHERE v = 2 AND n = 1",
+    "UPDATE moreif SET fmid = 'HBB110' WHERE v = 3",
+    "UPDATE moreif SET fmid = 'hbb1100' WHERE v = 3",
+    "UPDATE moreif SET fmid = '' WHERE v = 3",
+    "UPDATE moreif SET fmid = 'AAA0003' WHERE v = 3",
+    "UPDATE moreif SET req = '' WHERE v = 3",
+    "UPDATE moreif SET req = id WHERE v = 3",
+    "UPDATE moreif SET req = 'UBB0002,UBB0001' WHERE v = 3",
+    "UPDATE moreif SET req = 'UBB0001,UBB0001' WHERE v = 3",
+    "UPDATE moreif SET req = 'UBB001' WHERE v = 3",
+    "UPDATE moreif SET req = 'UBB0001,' WHERE v = 3",
 ];
 
 /// Element statements.
@@ -200,7 +281,6 @@ const BETWEEN: &[&str] = &[
 
 /// The zone TGT1, its entries and its elements.
 const ZONE: &[&str] = &[
-    "INSERT INTO chosen (zone, id, n) VALUES ('TGT1', 'UAA0001', 2)",
     "UPDATE zone SET kind = 'TARGET' WHERE name = 'TGT1'",
     "UPDATE zone SET kind = 'dlib' WHERE name = 'TGT1'",
     "UPDATE zone SET kind = '' WHERE name = 'TGT1'",
@@ -387,6 +467,14 @@ fn fault_after(alloc: Global, sql: &str, part: Part) -> Result<Option<StoreError
     fault(alloc, conn, part)
 }
 
+/// What is told of the global zone, once these statements have changed the known rows with further `++VER`s.
+fn fault_after_further(alloc: Global, sql: &str) -> Result<Option<StoreError>, Fail> {
+    let mut conn = filled(alloc, Connection::open_in_memory(alloc)?)?;
+    run_all(&mut conn, FURTHER)?;
+    conn.execute_batch(sql)?;
+    fault(alloc, conn, Part::Global)
+}
+
 /// The first of the edits after which something else is told of the part.
 fn first_other(
     alloc: Global,
@@ -434,6 +522,69 @@ fn other_rows_are_told(rt: HostRuntime) -> Result<(), Fail> {
         (NUMBERLESS, Part::Names, StoreError::Fault),
     ] {
         assert_eq!(rt; first_other(rt.alloc(), edits, part, Some(told))?, None);
+    }
+    Ok(())
+}
+
+/// The first of the edits of known rows with further `++VER`s after which something else is told of the global zone.
+fn first_other_further(
+    alloc: Global,
+    edits: &[&'static str],
+    wanted: Option<StoreError>,
+) -> Result<Option<&'static str>, Fail> {
+    for sql in edits {
+        if fault_after_further(alloc, sql)? != wanted {
+            return Ok(Some(sql));
+        }
+    }
+    Ok(None)
+}
+
+#[test]
+fn further_vers_are_told(rt: HostRuntime) -> Result<(), Fail> {
+    for (edits, told) in [
+        (GOOD_FURTHER, None),
+        (MOREVERS, Some(StoreError::NoState)),
+        (MOREIFS, Some(StoreError::NoState)),
+    ] {
+        assert_eq!(rt; first_other_further(rt.alloc(), edits, told)?, None);
+    }
+    Ok(())
+}
+
+/// Numbers of applied entries that are not 1.
+const GOOD_NUMBERS: &[&str] = &[
+    "INSERT INTO chosen (zone, id, n) VALUES ('TGT1', 'UAA0001', 2)",
+    "INSERT INTO chosen (zone, id, n) VALUES ('TGT1', 'UAA0001', 9223372036854775807)",
+    "INSERT INTO chosen (zone, id, n) VALUES ('TGT1', 'UAA0001', 3), ('TGT1', 'HAA1100', 2)",
+    "INSERT INTO chosen (zone, id, n) VALUES ('DLB1', 'HAA1100', 2)",
+];
+
+/// Numbers below 2, and numbers of what is not applied or has no entry.
+const BAD_NUMBERS: &[&str] = &[
+    "INSERT INTO chosen (zone, id, n) VALUES ('TGT1', 'UAA0001', 1)",
+    "INSERT INTO chosen (zone, id, n) VALUES ('TGT1', 'UAA0001', 0)",
+    "INSERT INTO chosen (zone, id, n) VALUES ('TGT1', 'UAA0001', -1)",
+    "INSERT INTO chosen (zone, id, n) VALUES ('TGT1', 'UAA0001', -9223372036854775807)",
+    "INSERT INTO chosen (zone, id, n) VALUES ('TGT1', 'AAA0001', 2)",
+    "INSERT INTO chosen (zone, id, n) VALUES ('TGT1', 'HAA1000', 2)",
+    "INSERT INTO chosen (zone, id, n) VALUES ('TGT1', 'AAA0000', 2)",
+    "INSERT INTO chosen (zone, id, n) VALUES ('TGT1', 'HAA1200', 2)",
+    "INSERT INTO chosen (zone, id, n) VALUES ('TGT1', 'UZZ9999', 2)",
+    "INSERT INTO chosen (zone, id, n) VALUES ('TGT1', 'UAA0001', 2), ('TGT1', 'HAA1200', 2)",
+    "INSERT INTO chosen (zone, id, n) VALUES ('TGT1', 'uaa0001', 2)",
+    "INSERT INTO chosen (zone, id, n) VALUES ('TGT1', 'UAA001', 2)",
+    "INSERT INTO chosen (zone, id, n) VALUES ('TGT1', '', 2)",
+    "INSERT INTO chosen (zone, id, n) VALUES ('TGT1', 'UAA0001', 2); DELETE FROM entry WHERE id = 'UAA0001'",
+];
+
+#[test]
+fn numbers_are_read(rt: HostRuntime) -> Result<(), Fail> {
+    for (edits, told) in [
+        (GOOD_NUMBERS, None),
+        (BAD_NUMBERS, Some(StoreError::NoState)),
+    ] {
+        assert_eq!(rt; first_other(rt.alloc(), edits, Part::Zone, told)?, None);
     }
     Ok(())
 }

@@ -160,6 +160,130 @@ fn other_rows_stay(rt: HostRuntime) -> Result<(), Fail> {
     Ok(())
 }
 
+/// The entry of DLB1, installed by the `++VER` of this number.
+fn numbered(alloc: Global, number: usize) -> Result<Change, Fail> {
+    let mut delta = ZoneDelta::new(alloc);
+    let date = YyDdd::read(b"23.001").ok_or("no date")?;
+    let entry = Entry {
+        id: id(b"HAA1100")?,
+        applied: Some(Applied { date, number }),
+        supby: IdList::new(alloc),
+        delby: None,
+        waived: IdList::new(alloc),
+    };
+    if entry.has_content() && entry.waives_applied() {
+        delta.put_entry(entry)?;
+    }
+    Ok(Change::Zone(zone_name(b"DLB1")?, delta))
+}
+
+/// That entry goes.
+fn removed(alloc: Global) -> Result<Change, Fail> {
+    let mut delta = ZoneDelta::new(alloc);
+    delta.remove_entry(id(b"HAA1100")?)?;
+    Ok(Change::Zone(zone_name(b"DLB1")?, delta))
+}
+
+/// Puts the entry with this number, or takes it out.
+fn commit_number<S: Alter>(
+    alloc: Global,
+    store: &mut Store<S>,
+    number: Option<usize>,
+) -> Result<(), Fail> {
+    let change = match number {
+        Some(number) => numbered(alloc, number)?,
+        None => removed(alloc)?,
+    };
+    committed(store.commit(&change))
+}
+
+/// The number of the entry that is loaded, if there is one.
+fn number_loaded<S: Alter>(store: &mut Store<S>) -> Result<Option<usize>, Fail> {
+    let Ok(Some(zone)) = store.load_zone(zone_name(b"DLB1")?) else {
+        return Err(Fail::from("zone"));
+    };
+    Ok(zone.applied(id(b"HAA1100")?).map(|applied| applied.number))
+}
+
+/// The same after these commits, one after the other.
+fn number_after<S: Alter>(
+    alloc: Global,
+    store: &mut Store<S>,
+    numbers: &[Option<usize>],
+) -> Result<Option<usize>, Fail> {
+    for number in numbers {
+        commit_number(alloc, store, *number)?;
+    }
+    number_loaded(store)
+}
+
+const NUMBERS: &str = "SELECT zone || ' ' || id || ' ' || n FROM chosen ORDER BY zone, id";
+
+/// The rows of numbers after these commits, and the number that is loaded.
+fn numbers_after(
+    alloc: Global,
+    numbers: &[Option<usize>],
+) -> Result<(String, Option<usize>), Fail> {
+    let conn = filled(alloc, Connection::open_in_memory(alloc)?)?;
+    let mut store = opened(alloc, conn)?;
+    let loaded = number_after(alloc, &mut store, numbers)?;
+    Ok((lines(alloc, &mut store.close(), NUMBERS)?, loaded))
+}
+
+/// Numbers of the entry, put one after the other or taken out, the rows that they leave, and what is loaded.
+const PUT_NUMBERS: &[(&[Option<usize>], &str, Option<usize>)] = &[
+    (&[Some(1)], "", Some(1)),
+    (&[Some(2)], "DLB1 HAA1100 2\n", Some(2)),
+    (&[Some(2), Some(7)], "DLB1 HAA1100 7\n", Some(7)),
+    (
+        &[Some(9_223_372_036_854_775_807)],
+        "DLB1 HAA1100 9223372036854775807\n",
+        Some(9_223_372_036_854_775_807),
+    ),
+    (&[Some(2), Some(1)], "", Some(1)),
+    (&[Some(2), None], "", None),
+    (&[Some(2), None, Some(1)], "", Some(1)),
+];
+
+#[test]
+fn numbers_are_put(rt: HostRuntime) -> Result<(), Fail> {
+    for (numbers, rows, loaded) in PUT_NUMBERS {
+        let got = numbers_after(rt.alloc(), numbers)?;
+        assert_eq!(rt; (got.0.as_str(), got.1), (*rows, *loaded));
+    }
+    Ok(())
+}
+
+/// What is told of a number.
+fn told_of_number<S: Alter>(
+    alloc: Global,
+    store: &mut Store<S>,
+    number: usize,
+) -> Result<Result<(), StoreError>, Fail> {
+    let change = numbered(alloc, number)?;
+    Ok(store.commit(&change))
+}
+
+/// What is told of a number that no column can hold, and the number that is loaded then.
+fn told_of_great(
+    alloc: Global,
+    number: usize,
+) -> Result<(Result<(), StoreError>, Option<usize>), Fail> {
+    let conn = filled(alloc, Connection::open_in_memory(alloc)?)?;
+    let mut store = opened(alloc, conn)?;
+    let told = told_of_number(alloc, &mut store, number)?;
+    Ok((told, number_loaded(&mut store)?))
+}
+
+#[test]
+fn a_number_that_no_column_holds(rt: HostRuntime) -> Result<(), Fail> {
+    for number in [9_223_372_036_854_775_808, usize::MAX] {
+        let told = told_of_great(rt.alloc(), number)?;
+        assert_eq!(rt; told, (Err(StoreError::Memory), Some(1)));
+    }
+    Ok(())
+}
+
 /// Edits of a row in each table, after which the rows stand for no state.
 const BAD: &[&str] = &[
     "UPDATE sysmod SET kind = 'ptf' WHERE id = 'UAA0001'",
@@ -172,6 +296,7 @@ const BAD: &[&str] = &[
     "UPDATE zone SET kind = 'dlib' WHERE name = 'TGT1'",
     "UPDATE entry SET date = '' WHERE zone = 'TGT1' AND id = 'HAA1100'",
     "UPDATE zelem SET fmid = '' WHERE zone = 'TGT1' AND name = 'MAC1'",
+    "INSERT INTO chosen (zone, id, n) VALUES ('TGT1', 'HAA1000', 2)",
 ];
 
 /// What the removals and the new sources do to the rows.

@@ -20,6 +20,11 @@ pub(crate) const SOURCES: &[&str] = &[
     "INSERT INTO source (id, name) VALUES ('UAA0001', 'PUT2401')",
 ];
 
+/// By which `++VER` an entry was installed, which no earlier schema tells.
+pub(crate) const CHOSEN: &[&str] = &[
+    "INSERT INTO chosen (zone, id, n) VALUES ('TGT1', 'UAA0001', 2)",
+];
+
 /// All other rows.
 const ROWS: &[&str] = &[
     "INSERT INTO sysmod (id, kind, sources) VALUES ('HAA1100', 'FUNCTION', '')",
@@ -67,6 +72,15 @@ const ROWS: &[&str] = &[
 /// The elements of the zone TGT1 are those of the function, and a macro whose text is empty.
 const ELEMENTS: &str =
     "INSERT INTO zelem (zone, type, name, fmid, rmid, umid, distlib, syslib, text) SELECT 'TGT1', type, name, id, id, '', distlib, syslib, text FROM elem WHERE id = 'HAA1100'";
+
+/// Two further `++VER`s of LLL0001 for the release of its first one, with their `++IF`s.
+pub(crate) const FURTHER: &[&str] = &[
+    "INSERT INTO morever (id, srel, n, fmid, pre, req, sup) VALUES ('LLL0001', 'Z038', 2, 'HAA1200', 'AAA0003', 'UAA0002,UAA0003', 'LLL0002')",
+    "INSERT INTO morever (id, srel, n, fmid, pre, req, sup) VALUES ('LLL0001', 'Z038', 3, 'HCC1100', '', '', '')",
+    "INSERT INTO moreif (id, srel, v, n, fmid, req) VALUES ('LLL0001', 'Z038', 2, 1, 'HBB1100', 'UBB0001')",
+    "INSERT INTO moreif (id, srel, v, n, fmid, req) VALUES ('LLL0001', 'Z038', 2, 2, 'HCC1100', 'UCC0001,UCC0002')",
+    "INSERT INTO moreif (id, srel, v, n, fmid, req) VALUES ('LLL0001', 'Z038', 3, 1, 'HBB1100', 'UBB0001')",
+];
 
 /// The texts of element statements: the statement that sets each, and its records with their numbers.
 const TEXTS: &[(&str, &[(&str, &str)])] = &[

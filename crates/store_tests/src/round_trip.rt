@@ -1,6 +1,6 @@
 //! What is committed is loaded again, in memory and over files.
-use crate::known::{again, committed, files, filled, lines, opened};
-use fields::ZoneName;
+use crate::known::{CHOSEN, FURTHER, again, committed, files, filled, lines, opened, run_all};
+use fields::{Id, ZoneName};
 use sqlite::{Alter, Connection, FileStore};
 use sqlite_disk::Memory;
 use std::alloc::Global;
@@ -11,7 +11,7 @@ use sysmods_records::Hold;
 use zones::{TryClone, Zone, ZoneDelta};
 
 /// All rows of all tables.
-const TABLES: [&str; 10] = [
+const TABLES: [&str; 11] = [
     "SELECT k || '/' || v FROM meta ORDER BY k",
     "SELECT id || '/' || kind || '/' || sources FROM sysmod ORDER BY id",
     "SELECT id || '/' || name FROM source ORDER BY id, name",
@@ -22,6 +22,7 @@ const TABLES: [&str; 10] = [
     "SELECT name || '/' || kind || '/' || srel || '/' || ifnull(related, '-') FROM zone ORDER BY name",
     "SELECT zone || '/' || id || '/' || ifnull(date, '-') || '/' || supby || '/' || ifnull(delby, '-') || '/' || waived FROM entry ORDER BY zone, id",
     "SELECT zone || '/' || type || '/' || name || '/' || fmid || '/' || rmid || '/' || umid || '/' || distlib || '/' || syslib || '/' || hex(text) FROM zelem ORDER BY zone, type, name",
+    "SELECT zone || '/' || id || '/' || n FROM chosen ORDER BY zone, id",
 ];
 
 /// All rows of all tables.
@@ -169,8 +170,56 @@ fn rows_of_copy<S: Alter + Drop>(alloc: Global, from: Connection<S>) -> Result<S
 fn all_is_loaded_again(rt: HostRuntime) -> Result<(), Fail> {
     let alloc = rt.alloc();
     let mut known = filled(alloc, Connection::open_in_memory(alloc)?)?;
+    run_all(&mut known, CHOSEN)?;
     let rows = all_lines(alloc, &mut known)?;
     let copy = rows_of_copy(alloc, in_files(alloc, known)?)?;
     assert_eq!(rt; copy.as_str(), rows.as_str());
+    Ok(())
+}
+
+/// The rows of further `++VER`s and of their `++IF`s.
+const FURTHER_LINES: &str =
+    "SELECT id || ' ' || srel || ' ' || n || ' ' || ifnull(fmid, '-') || ' ' || pre || '/' || req || '/' || sup FROM morever UNION ALL SELECT id || ' ' || srel || ' ' || v || '.' || n || ' ' || fmid || ' ' || req FROM moreif ORDER BY 1";
+
+/// All rows of a store with further `++VER`s, or of its copy.
+fn further_lines<S: Alter>(alloc: Global, conn: &mut Connection<S>) -> Result<String, Fail> {
+    let mut all = all_lines(alloc, conn)?;
+    all.push_str(lines(alloc, conn, FURTHER_LINES)?.as_str())?;
+    Ok(all)
+}
+
+fn further_copy<S: Alter + Drop>(alloc: Global, from: Connection<S>) -> Result<String, Fail> {
+    let mut conn = copied(alloc, from, Connection::open_in_memory(alloc)?)?;
+    further_lines(alloc, &mut conn)
+}
+
+#[test]
+fn further_vers_are_loaded_again(rt: HostRuntime) -> Result<(), Fail> {
+    let alloc = rt.alloc();
+    let mut known = filled(alloc, Connection::open_in_memory(alloc)?)?;
+    run_all(&mut known, FURTHER)?;
+    let rows = further_lines(alloc, &mut known)?;
+    let copy = further_copy(alloc, in_files(alloc, known)?)?;
+    assert_eq!(rt; copy.as_str(), rows.as_str());
+    Ok(())
+}
+
+fn rejection(alloc: Global) -> Result<Change, Fail> {
+    let id = Id::read(b"LLL0001").ok_or("no id")?;
+    Ok(Change::Global(vec![in alloc; GlobalEdit::RemoveSysmod(id)]?))
+}
+
+/// The rows of further `++VER`s that are left when their SYSMOD is removed.
+fn left_of_further(alloc: Global) -> Result<String, Fail> {
+    let mut known = filled(alloc, Connection::open_in_memory(alloc)?)?;
+    run_all(&mut known, FURTHER)?;
+    let mut store = opened(alloc, known)?;
+    committed(store.commit(&rejection(alloc)?))?;
+    lines(alloc, &mut store.close(), FURTHER_LINES)
+}
+
+#[test]
+fn further_vers_go_with_their_sysmod(rt: HostRuntime) -> Result<(), Fail> {
+    assert_eq!(rt; left_of_further(rt.alloc())?.as_str(), "");
     Ok(())
 }

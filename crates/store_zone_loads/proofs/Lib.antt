@@ -4,6 +4,7 @@ pub mod Zones
 pub mod InZone
 pub mod Heads
 pub mod Entries
+pub mod Numbers
 pub mod Elements
 pub mod Relations
 pub mod Standing

@@ -127,7 +127,7 @@ selects_elements = refl
 -- ---- a table of schema 3 alone
 
 abbrev pub select_chosen : List ℕ
-select_chosen = codes "SELECT zone, id, n FROM chosen WHERE zone = ?1"
+select_chosen = codes "SELECT zone, id, n FROM chosen WHERE zone = ?1 ORDER BY id"
 
 chosen_third : ReadsRows store_schema chosen 1 select_chosen
 unfolding understood everything

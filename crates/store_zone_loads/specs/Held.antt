@@ -1,5 +1,5 @@
 -- What the tables of a release hold of zones.
-use Rattle.std.specs.Prelude.{◌≡◌, List, [], ◌∷◌, map, IsPermutation, Option, None, Some, IfSome, ⊤}
+use Rattle.std.specs.Prelude.{◌≡◌, List, [], ◌∷◌, map, All, IsPermutation, Option, None, Some, IfSome}
 use Rattle.std.specs.List.{AllByRecursion}
 use Rattle.std.specs.Option.{option_to_list}
 use Rattle.std.specs.Ordering.{nat_cmp}
@@ -17,11 +17,14 @@ use Rattle.terms.specs.Types.{Text, Entry, Element, Zone, NamedZone}
 use Rattle.store_schema.specs.declared.release.Release.{Release}
 use Rattle.store_schema.specs.declared.release.Release.TheVariants.{First, Second, Third}
 use Rattle.store_schema.specs.Inventory.{IsZoneNamed}
-use Rattle.store_schema.specs.Rows.{zone_row, entry_row, entries_of, zelem_row, zelems_of}
+use Rattle.store_schema.specs.Rows.{zone_row, entry_row, entries_of, zelem_row, zelems_of, chosen_of}
 use Rattle.store_schema.specs.Tables as tables
+use Rattle.store_zone_loads.specs.declared.chosen.EntryNumber.{EntryNumber}
 use Rattle.store_zone_loads.specs.declared.head.ZoneHead.{ZoneHead}
 use Rattle.store_zone_loads.specs.declared.rows.ZoneRow.{ZoneRow}
-use Rattle.store_zone_loads.specs.Read.{head_row, HasHeadForms, HasEntryRowForms, HasElementRowForms}
+use Rattle.store_zone_loads.specs.Numbered.{as_first, numbers_of}
+use Rattle.store_zone_loads.specs.Read.{head_row, HasHeadForms, HasEntryRowForms, HasElementRowForms, IsFirst}
+use Rattle.store_zone_loads.specs.Read.{number_row, HasNumberForms}
 use Rattle.store_zone_loads.specs.Related.{AreRelated}
 
 -- the rows of a table that name the zone
@@ -41,20 +44,18 @@ pub record HoldsZone (contents : Contents) (z : NamedZone) : Type 0 where
   pub forms : IsZoneNamed z
   pub related : IfSome z.zone.related IsZoneName
 
--- so of a name, which may be no zone's
-abbrev pub HoldsAtName : Contents → Text → Option Zone → Type 0
-HoldsAtName contents name None = rows_named name tables.zone contents ≡ []
-HoldsAtName contents name (Some zone) = HoldsZone contents (record { name = name; zone = zone })
+-- By which ++VER each entry was installed. Under earlier schemas it was the first.
+abbrev pub HoldsNumbers : Release → Contents → NamedZone → Type 0
+HoldsNumbers First contents z = All IsFirst z.zone.entries
+HoldsNumbers Second contents z = All IsFirst z.zone.entries
+HoldsNumbers Third contents z = IsPermutation (chosen_of z) (rows_named z.name tables.chosen contents)
 
--- No row says by which ++VER an entry of the zone was installed. Earlier schemas have no table for that.
-abbrev pub ChoosesNone : Release → Contents → Text → Type 0
-ChoosesNone First contents name = ⊤
-ChoosesNone Second contents name = ⊤
-ChoosesNone Third contents name = rows_named name tables.chosen contents ≡ []
-
--- all that the tables of the release hold of a name
+-- all that the tables of the release hold of a name, which may be no zone's
 abbrev pub HoldsUnder : Release → Contents → Text → Option Zone → Type 0
-HoldsUnder r contents name zone = ChoosesNone r contents name × HoldsAtName contents name zone
+HoldsUnder r contents name None = rows_named name tables.zone contents ≡ []
+HoldsUnder r contents name (Some zone) =
+    HoldsNumbers r contents (record { name = name; zone = zone })
+    × HoldsZone contents (record { name = name; zone = zone })
 
 -- ---- its parts
 
@@ -72,6 +73,20 @@ pub record HoldsItems {X K : Type 0} (table : Table) (row : Text → X → Row) 
 
 abbrev pub HoldsEntries : Contents → Text → List Entry → Type 0
 HoldsEntries = HoldsItems tables.entry entry_row HasEntryRowForms (slice_cmp nat_cmp) (λ e. e.id)
+
+abbrev pub HoldsChosen : Contents → Text → List EntryNumber → Type 0
+HoldsChosen = HoldsItems tables.chosen number_row HasNumberForms (slice_cmp nat_cmp) (λ n. n.id)
+
+-- the numbers of the entries of a zone that are not 1
+abbrev pub HasNumbers : Release → Contents → Text → List EntryNumber → Type 0
+HasNumbers First contents name ns = ns ≡ []
+HasNumbers Second contents name ns = ns ≡ []
+HasNumbers Third contents name ns = HoldsChosen contents name ns
+
+-- the entries of a zone with their numbers
+pub record HoldsNumbered (r : Release) (contents : Contents) (name : Text) (entries : List Entry) : Type 0 where
+  pub firsts : HoldsEntries contents name (map as_first entries)
+  pub numbers : HasNumbers r contents name (numbers_of entries)
 
 abbrev pub HoldsElements : Contents → Text → List Element → Type 0
 HoldsElements = HoldsItems tables.zelem zelem_row HasElementRowForms element_cmp element_key

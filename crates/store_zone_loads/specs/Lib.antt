@@ -1,4 +1,5 @@
 pub mod Found
 pub mod Held
+pub mod Numbered
 pub mod Read
 pub mod Related

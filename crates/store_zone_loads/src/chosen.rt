@@ -1,16 +1,98 @@
 //! The table of `++VER`s by which entries were installed, where that was not the first of its SREL.
 
-use store_columns::{Query, Refused, Unread};
+ghost use Rattle.std.specs.Prelude.{◌≡◌, ◌≢◌, ◌≤◌, ◌<◌, ◌^◌, ℕ, List, pos, IfOk, IfSome, IfNone, IsErrOf};
+ghost use Rattle.sqlite.specs.declared.types.Value.TheVariants.{Int};
+ghost use Rattle.sqlite.specs.Held.{state};
+ghost use Rattle.sqlite.specs.Order.{column};
+ghost use Rattle.sqlite.specs.State.{HasCleanDisk};
+ghost use Rattle.store_rows.specs.Reads.{OnlyReads};
+ghost use Rattle.store_rows.specs.Rows.{Contents, HasContents};
+ghost use Rattle.store_schema.specs.Tables.{store_schema};
+ghost use Rattle.store_zone_loads.specs.declared.chosen.EntryNumber.{EntryNumber as ANumber};
+ghost use Rattle.store_zone_loads.specs.declared.rows.ZoneRow.{ZoneRow as AZoneRow};
+ghost use Rattle.store_zone_loads.specs.Held.{HoldsChosen};
 
-/// Its rows, none of which stands for anything.
-pub(crate) struct Chosen;
+use crate::rows::{ZoneRow, zone_table};
+use fields::{Id, ZoneName};
+use sqlite::{Alter, Connection, Row};
+use sqlite_value::value::ValueRef;
+use std::alloc::Global;
+use store_columns::{Query, id_in, load_listed, zone_name_in};
+use store_rows::{FromRow, ReadError, whole};
+use zones::{Keyed, Table};
 
-impl Query for Chosen {
+/// The id of an entry, and by which `++VER` it was installed, which was not the first.
+#[derive(Clone, Copy, Debug, PartialEq, Eq)]
+pub(crate) struct EntryNumber {
+    pub id: Id,
+    pub number: usize,
+}
+
+impl Keyed for EntryNumber {
+    type Key = Id;
+
+    ghost key_of = { λ n. n.id };
+
+    fn key(&self) -> Id {
+        self.id
+    }
+}
+
+// A number that is not 1. It counts from there.
+fn number_in(row: &Row, at: usize) -> Option<usize>
+    ensures some { IfSome result (λ n. (column row.now at ≡ Int (pos n)) × (2 ≤ n) × (n < 2 ^ 63)) }
+    ensures none { IfNone result ((n : ℕ) → 2 ≤ n → column row.now at ≢ Int (pos n)) }
+{
+    let number = whole(row, at)?;
+    if number < 2 {
+        return None;
+    }
+    Some(number as usize)
+}
+
+/// Reads the rows of numbers.
+struct Numbers;
+
+impl FromRow for Numbers {
+    ghost use Rattle.store_zone_loads.specs.Read.{row_of_number, HasNumberForms};
+
+    type Item = ZoneRow<EntryNumber>;
+
+    ghost row_of = { row_of_number };
+
+    ghost has_form = { HasNumberForms };
+
+    fn read(_alloc: Global, row: &Row) -> Result<ZoneRow<EntryNumber>, ReadError>
+        ensures read { IfOk result (λ item. (row.now ≡ row_of_number item) × HasNumberForms item) }
+        ensures none { IsErrOf result ReadError.BadRow → (item : AZoneRow ANumber) → HasNumberForms item
+            → row.now ≢ row_of_number item }
+        ensures fault { IsErrOf result ReadError.Fault → ⊥ }
+    {
+        if row.column_count() != 3 {
+            return Err(ReadError::BadRow);
+        }
+        let Some(zone) = zone_name_in(row, 0) else {
+            return Err(ReadError::BadRow);
+        };
+        let Some(id) = id_in(row, 1) else {
+            return Err(ReadError::BadRow);
+        };
+        let Some(number) = number_in(row, 2) else {
+            return Err(ReadError::BadRow);
+        };
+        Ok(ZoneRow {
+            zone,
+            item: EntryNumber { id, number },
+        })
+    }
+}
+
+impl Query for Numbers {
     ghost use Rattle.std.specs.Prelude.{◌≡◌};
     ghost use Rattle.store_schema.specs.declared.release.Release.TheVariants.{Third};
     ghost use Rattle.store_schema.specs.Tables.{chosen};
 
-    type Rows = Refused;
+    type Rows = Numbers;
 
     ghost table = { chosen };
 
@@ -21,10 +103,24 @@ impl Query for Chosen {
     ghost knows = { λ r. r ≡ Third };
 
     fn text() -> &'static str {
-        "SELECT zone, id, n FROM chosen WHERE zone = ?1"
+        "SELECT zone, id, n FROM chosen WHERE zone = ?1 ORDER BY id"
     }
 }
 
-impl Unread for Chosen {
-    ghost refused = { λ item form. form };
+/// The numbers of the entries of the zone of this name, where they are not 1.
+pub(crate) fn load_numbers<S: Alter>(
+    alloc: Global,
+    conn: &mut Connection<S>,
+    name: &ZoneName,
+) -> Result<Table<EntryNumber>, ReadError>
+    ensures found { HasCleanDisk (state S.Store conn.new) → (contents : Contents)
+        → HasContents store_schema contents (state S.Store conn.old).now
+        → IfOk result (HoldsChosen contents name.now) }
+    ensures none { HasCleanDisk (state S.Store conn.new) → IsErrOf result ReadError.BadRow → (contents : Contents)
+        → HasContents store_schema contents (state S.Store conn.old).now
+        → (numbers : List ANumber) → ¬ HoldsChosen contents name.now numbers }
+    ensures reads { OnlyReads S.Store store_schema ReadError.BadRow ReadError.Fault conn.old conn.new result }
+{
+    let rows = load_listed::<S, Numbers>(alloc, conn, &[ValueRef::Text(name.as_bytes())])?;
+    zone_table(alloc, rows)
 }

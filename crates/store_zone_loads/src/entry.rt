@@ -72,10 +72,10 @@ impl FromRow for Entries {
     }
 }
 
-// When it was applied, or NULL. The tables hold no number, since it is 1.
+// When it was applied, or NULL. The row has no number, which is 1 until that of another table is found.
 fn applied_in(row: &Row, at: usize) -> Option<Option<Applied>>
     ensures some { IfSome result (λ applied. (column row.now at ≡ or_null Text (option_map (λ a. a.date) applied))
-        × IfSome applied HasAppliedForms) }
+        × IfSome applied HasAppliedForms × IfSome applied (λ a. a.number ≡ 1)) }
     ensures none { IfNone result ((applied : Option AppliedTerm) → IfSome applied HasAppliedForms
         → column row.now at ≢ or_null Text (option_map (λ a. a.date) applied)) }
 {
@@ -104,7 +104,7 @@ impl Query for Entries {
     }
 }
 
-/// The entries of the zone of this name.
+/// The entries of the zone of this name, as if each was installed by the first `++VER`.
 pub(crate) fn load_entries<S: Alter>(
     alloc: Global,
     conn: &mut Connection<S>,

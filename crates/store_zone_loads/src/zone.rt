@@ -1,26 +1,24 @@
 //! A zone with all that it has.
 
-ghost use Rattle.std.specs.Prelude.{◌≡◌, Some, Option, IfOk, IsErrOf};
+ghost use Rattle.std.specs.Prelude.{◌≡◌, Some, List, Option, IfOk, IsErrOf};
 ghost use Rattle.sqlite.specs.Held.{state};
 ghost use Rattle.sqlite.specs.State.{HasCleanDisk};
 ghost use Rattle.store_rows.specs.Reads.{OnlyReads};
 ghost use Rattle.store_rows.specs.Rows.{Contents, HasContents};
-ghost use Rattle.terms.specs.Types.{Zone as ZoneTerm, a_zone};
-ghost use Rattle.store_schema.specs.declared.release.Release.{Release as ARelease};
+ghost use Rattle.terms.specs.Types.{Entry as EntryTerm, Zone as ZoneTerm, a_zone};
 ghost use Rattle.store_schema.specs.Earlier.{schema_under, StandsUnder};
 ghost use Rattle.store_schema.specs.Inventory.{Inventory};
 ghost use Rattle.store_zone_loads.specs.Found.{zone_in, MayBeZone};
-ghost use Rattle.store_zone_loads.specs.Held.{HoldsHead, HoldsZone, HoldsAtName, HoldsUnder};
+ghost use Rattle.store_zone_loads.specs.Held.{HoldsHead, HoldsNumbered, HoldsUnder};
 
-use crate::chosen::Chosen;
+use crate::chosen::load_numbers;
 use crate::element::load_elements;
 use crate::entry::load_entries;
 use crate::head::{ZoneHead, zone_head};
+use crate::numbering::numbered;
 use fields::ZoneName;
 use sqlite::{Alter, Connection};
-use sqlite_value::value::ValueRef;
 use std::alloc::Global;
-use store_columns::refuse_rows;
 use store_rows::ReadError;
 use store_schema::Release;
 use zones::{Element, Entry, Table, Zone};
@@ -38,49 +36,54 @@ fn join(head: ZoneHead, entries: Table<Entry>, elements: Table<Element>) -> Resu
     }
 }
 
+/// The entries of the zone of this name with their numbers, where the tables are those of this release.
+fn load_numbered<S: Alter>(
+    alloc: Global,
+    conn: &mut Connection<S>,
+    release: Release,
+    name: &ZoneName,
+) -> Result<Table<Entry>, ReadError>
+    ensures found { HasCleanDisk (state S.Store conn.new) → (contents : Contents)
+        → HasContents (schema_under release) contents (state S.Store conn.old).now
+        → IfOk result (HoldsNumbered release contents name.now) }
+    ensures none { HasCleanDisk (state S.Store conn.new) → IsErrOf result ReadError.BadRow → (contents : Contents)
+        → HasContents (schema_under release) contents (state S.Store conn.old).now
+        → (entries : List EntryTerm) → ¬ HoldsNumbered release contents name.now entries }
+    ensures reads { OnlyReads S.Store (schema_under release) ReadError.BadRow ReadError.Fault conn.old conn.new result }
+{
+    let entries = load_entries(alloc, conn, name)?;
+    match release {
+        Release::First | Release::Second => Ok(entries),
+        Release::Third => {
+            let numbers = load_numbers(alloc, conn, name)?;
+            numbered(alloc, entries, numbers)
+        }
+    }
+}
+
 /// The zone that has this head.
 fn load_rest<S: Alter>(
     alloc: Global,
     conn: &mut Connection<S>,
+    release: Release,
     head: ZoneHead,
 ) -> Result<Zone, ReadError>
-    ensures found { HasCleanDisk (state S.Store conn.new) → (r : ARelease) (contents : Contents)
-        → HasContents (schema_under r) contents (state S.Store conn.old).now → HoldsHead contents head.name (Some head)
-        → IfOk result (λ zone. HoldsZone contents (record { name = head.name; zone = zone })) }
-    ensures none { HasCleanDisk (state S.Store conn.new) → IsErrOf result ReadError.BadRow → (r : ARelease)
-        → (contents : Contents) → HasContents (schema_under r) contents (state S.Store conn.old).now
+    ensures found { HasCleanDisk (state S.Store conn.new) → (contents : Contents)
+        → HasContents (schema_under release) contents (state S.Store conn.old).now
+        → HoldsHead contents head.name (Some head)
+        → IfOk result (λ zone. HoldsUnder release contents head.name (Some zone)) }
+    ensures none { HasCleanDisk (state S.Store conn.new) → IsErrOf result ReadError.BadRow
+        → (contents : Contents) → HasContents (schema_under release) contents (state S.Store conn.old).now
         → HoldsHead contents head.name (Some head) → (zone : ZoneTerm)
-        → ¬ HoldsZone contents (record { name = head.name; zone = zone }) }
-    ensures reads { (r : ARelease) → OnlyReads S.Store (schema_under r) ReadError.BadRow ReadError.Fault conn.old
-        conn.new result }
+        → ¬ HoldsUnder release contents head.name (Some zone) }
+    ensures reads { OnlyReads S.Store (schema_under release) ReadError.BadRow ReadError.Fault conn.old conn.new result }
 {
-    let entries = load_entries(alloc, conn, &head.name)?;
+    let entries = load_numbered(alloc, conn, release, &head.name)?;
     let elements = load_elements(alloc, conn, &head.name)?;
     join(head, entries, elements)
 }
 
-/// The zone of this name, if there is one, by the tables of the first schema.
-fn load_named<S: Alter>(
-    alloc: Global,
-    conn: &mut Connection<S>,
-    name: &ZoneName,
-) -> Result<Option<Zone>, ReadError>
-    ensures found { HasCleanDisk (state S.Store conn.new) → (r : ARelease) (contents : Contents)
-        → HasContents (schema_under r) contents (state S.Store conn.old).now
-        → IfOk result (HoldsAtName contents name.now) }
-    ensures none { HasCleanDisk (state S.Store conn.new) → IsErrOf result ReadError.BadRow → (r : ARelease)
-        → (contents : Contents) → HasContents (schema_under r) contents (state S.Store conn.old).now
-        → (zone : Option ZoneTerm) → ¬ HoldsAtName contents name.now zone }
-    ensures reads { (r : ARelease) → OnlyReads S.Store (schema_under r) ReadError.BadRow ReadError.Fault conn.old
-        conn.new result }
-{
-    let Some(head) = zone_head(alloc, conn, name)? else {
-        return Ok(None);
-    };
-    Ok(Some(load_rest(alloc, conn, head)?))
-}
-
-/// The same, where the tables are those of this release.
+/// The same as `load_zone`, of what the tables hold.
 fn load_under<S: Alter>(
     alloc: Global,
     conn: &mut Connection<S>,
@@ -95,17 +98,14 @@ fn load_under<S: Alter>(
         → (zone : Option ZoneTerm) → ¬ HoldsUnder release contents name.now zone }
     ensures reads { OnlyReads S.Store (schema_under release) ReadError.BadRow ReadError.Fault conn.old conn.new result }
 {
-    match release {
-        Release::First | Release::Second => load_named(alloc, conn, name),
-        Release::Third => {
-            refuse_rows::<S, Chosen>(alloc, conn, &[ValueRef::Text(name.as_bytes())])?;
-            load_named(alloc, conn, name)
-        }
-    }
+    let Some(head) = zone_head(alloc, conn, name)? else {
+        return Ok(None);
+    };
+    Ok(Some(load_rest(alloc, conn, release, head)?))
 }
 
-/// The zone of this name, if there is one, where the tables are those of this release. A row that says by which `++VER`
-/// an entry was installed is bad.
+/// The zone of this name, if there is one, where the tables are those of this release. Under earlier schemas each entry
+/// was installed by the first `++VER` of the SREL.
 pub fn load_zone<S: Alter>(
     alloc: Global,
     conn: &mut Connection<S>,

@@ -1,3 +1,5 @@
 pub mod Texts
 pub mod RowForms
+pub mod Numbers
 pub mod ZoneLemmas
+pub mod ByNumber

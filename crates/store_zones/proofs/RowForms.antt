@@ -1,23 +1,26 @@
 -- The rows of zones.
-use Rattle.std.proofs.Common.{◌≡◌, [], ◌∷◌, refl, ap, ◌∙◌}
+use Rattle.std.proofs.Common.{◌≡◌, ℕ, ℤ, pos, [], ◌∷◌, refl, ap, ◌∙◌}
 use Rattle.std.specs.List.{join_with_byte, concat}
 use Rattle.sqlite.specs.declared.types.Value.TheVariants as value
 use Rattle.sqlite_value.specs.declared.value.ValueRef.{ValueRef}
 use Rattle.sqlite_value.specs.Value.{owned}
 use Rattle.sqlite.specs.Values.{or_null, bound_value}
 use Rattle.terms.specs.declared.kinds.ElemType.{ElemType}
-use Rattle.terms.specs.Types.{Text, Entry, Element, NamedZone}
+use Rattle.terms.specs.Types.{Text, Id, Entry, Element, NamedZone}
 use Rattle.terms.specs.Lookups.{date_of}
 use Rattle.terms.specs.Spelling.{type_text, zone_kind_text}
 use Rattle.store_rows.specs.Texts.{SuitColumns}
-use Rattle.store_rows.proofs.Values.{kept_optional, bound_optional}
-use Rattle.store_schema.specs.Rows.{entry_row, zelem_row, zone_row}
-use Rattle.store_schema.specs.Tables.{entry, zelem, zone}
+use Rattle.store_rows.proofs.Values.{kept_optional, kept_whole, bound_optional}
+use Rattle.store_schema.specs.Rows.{entry_row, chosen_row, zelem_row, zone_row}
+use Rattle.store_schema.specs.Tables.{entry, chosen, zelem, zone}
 use Rattle.store_zones.specs.Keys.{element_key}
 
 -- their columns keep them
 pub kept_entry : (name : Text) (e : Entry) → SuitColumns entry.columns (entry_row name e)
 kept_entry name e = (refl, (refl, (kept_optional (date_of e), (refl, (kept_optional e.delby, (refl, tt))))))
+
+pub kept_chosen : (name : Text) (id : Id) (n : ℕ) → SuitColumns chosen.columns (chosen_row name id n)
+kept_chosen name id n = (refl, (refl, (kept_whole (pos n), tt)))
 
 pub kept_element : (name : Text) (e : Element) → SuitColumns zelem.columns (zelem_row name e)
 kept_element name e = (refl, (refl, (refl, (refl, (refl, (refl, (refl, (refl, (refl, tt)))))))))
@@ -38,7 +41,12 @@ entry_bound zone id supby waived date delby name e is_zone is_id is_date is_supb
     ap bound_value is_delby ∙ bound_optional e.delby in
     cc
 
--- and so it is for a zone
+-- and so it is for its number
+pub chosen_bound : (zone id : Text) (number : ℤ) (name : Text) (x : Id) (n : ℕ) → zone ≡ name → id ≡ x
+    → number ≡ pos n → value.Text zone ∷ value.Text id ∷ value.Int number ∷ [] ≡ chosen_row name x n
+chosen_bound zone id number name x n is_zone is_id is_number = cc
+
+-- and for a zone
 pub zone_bound : (name kind srel : Text) (related : ValueRef) (z : NamedZone) → name ≡ z.name
     → kind ≡ zone_kind_text z.zone.kind → srel ≡ z.zone.srel → owned related ≡ or_null value.Text z.zone.related
     → value.Text name ∷ value.Text kind ∷ value.Text srel ∷ bound_value (owned related) ∷ [] ≡ zone_row z

@@ -5,8 +5,9 @@ use Rattle.sqlite_tied.specs.Compute.{everything}
 use Rattle.sqlite_schema.specs.Names.{same_name}
 use Rattle.sqlite_value.specs.Keys.{joined}
 use Rattle.store_rows.specs.Texts.{PutsIn, PutsByKey, TakesOut}
-use Rattle.store_schema.specs.Tables.{store_schema, zone, entry, zelem}
-use Rattle.store_zones.specs.Calls.{put_entry, delete_entry, put_element, delete_element, insert_zone}
+use Rattle.store_schema.specs.Tables.{store_schema, zone, entry, chosen, zelem}
+use Rattle.store_zones.specs.Calls.{put_entry, delete_entry, put_chosen, delete_chosen, put_element, delete_element}
+use Rattle.store_zones.specs.Calls.{insert_zone}
 
 pub puts_entry : PutsByKey store_schema 7 entry 2 put_entry
 unfolding understood everything
@@ -26,6 +27,31 @@ puts_entry = record {
 pub takes_entry : TakesOut store_schema 7 entry 2 delete_entry
 unfolding understood everything same_name joined
 takes_entry = record {
+  there = record { found = refl; alone = refl };
+  command = refl;
+  plain = (refl, refl);
+  narrow = omega arith;
+  free = λ olds. refl;
+}
+
+pub puts_chosen : PutsByKey store_schema 12 chosen 2 put_chosen
+unfolding understood everything
+puts_chosen = record {
+  there = record { found = refl; alone = refl };
+  command = refl;
+  plain = (refl, refl);
+  uncounted = refl;
+  timeless = refl;
+  unnamed = refl;
+  unique = refl;
+  texts = refl;
+  narrow = omega arith;
+  free = λ olds news. refl;
+}
+
+pub takes_chosen : TakesOut store_schema 12 chosen 2 delete_chosen
+unfolding understood everything same_name joined
+takes_chosen = record {
   there = record { found = refl; alone = refl };
   command = refl;
   plain = (refl, refl);

@@ -1,5 +1,5 @@
 -- What the tables hold when a zone's entries or elements change.
-use Rattle.std.proofs.Common.{◌≡◌, ◌≢◌, List, [], ◌∷◌, ◌++◌, map, filter, Bool, not, ◌&&◌, IsPermutation, sym, ap}
+use Rattle.std.proofs.Common.{◌≡◌, ◌≢◌, ℕ, List, [], ◌∷◌, ◌++◌, map, filter, Bool, not, ◌&&◌, IsPermutation, sym, ap}
 use Rattle.std.proofs.Common.{ap₂, subst, subst₂, ◌∙◌}
 use Rattle.std.specs.List.{AllByRecursion, flat_map}
 use Rattle.std.specs.Str.{bytes_eq}
@@ -19,19 +19,24 @@ use Rattle.store_rows.proofs.Keys.{equals, and_true}
 use Rattle.lemmas.proofs.Texts.{same_itself, other_text}
 use Rattle.store_rows.proofs.Parts.{map_same, flat_same, changed}
 use Rattle.store_schema.specs.Inventory.{Inventory}
-use Rattle.store_schema.specs.Rows.{zone_row, entry_row, zelem_row, entries_of, zelems_of}
+use Rattle.store_schema.specs.Rows.{zone_row, entry_row, zelem_row, entries_of, zelems_of, chosen_in, chosen_of}
 use Rattle.store_schema.specs.Stands.{rows_of}
-use Rattle.store_schema.specs.Tables.{store_schema, entry, zelem, zone as zone_table}
+use Rattle.store_schema.specs.Tables.{store_schema, entry, chosen, zelem, zone as zone_table}
 use Rattle.store_schema.proofs.Spelled.{types_alike}
 use Rattle.store_zones.specs.Keys.{entry_key, element_key}
 use Rattle.store_zones.specs.Zones.{IsZoneChange, is_element, HasPutEntry, HasRemovedEntry}
-use Rattle.store_zones.specs.Zones.{HasPutElement, HasRemovedElement}
+use Rattle.store_zones.specs.Zones.{HasPutElement, HasRemovedElement, with_entry, without_entry}
+use Rattle.store_zones.proofs.Numbers.{number_in, numbers, number_row, in_rows, chosen_are, numbers_put, numbers_left}
 
 -- ---- keys
 
 entry_meets : (other name : terms.Text) (id : terms.Id) (e : Entry)
     → has_key (entry_key name id) (entry_row other e) ≡ (bytes_eq other name && bytes_eq e.id id)
 entry_meets other name id e = ap₂ ◌&&◌ (equals other name) (and_true _ ∙ equals e.id id)
+
+number_meets : (other name : terms.Text) (id : terms.Id) (x : terms.Id × ℕ)
+    → has_key (entry_key name id) (number_row other x) ≡ (bytes_eq other name && bytes_eq x.0 id)
+number_meets other name id x = ap₂ ◌&&◌ (equals other name) (and_true _ ∙ equals x.0 id)
 
 element_meets : (other name : terms.Text) (type : ElemType) (x : terms.Text) (e : Element)
     → has_key (element_key name type x) (zelem_row other e) ≡ (bytes_eq other name && is_element type x e)
@@ -81,24 +86,40 @@ module _ {X : Type 0} (row : terms.Text → X → Row) (name : terms.Text) (key 
 
 -- ---- all tables
 
--- two inventories whose rows are those of the first in all tables but entry or zelem
+-- two inventories whose rows are those of the first in all tables but entry and chosen, or zelem
 module _ (i j : Inventory) (global : j.global ≡ i.global) (zones : map zone_row j.zones ≡ map zone_row i.zones) where
-  pub with_entries : (make : List Row → List Row) → flat_map zelems_of j.zones ≡ flat_map zelems_of i.zones
+  abbrev same : (rows : List Row) → IsPermutation rows rows
+  same = IsPermutation-refl
+
+  pub with_entries : (make choose : List Row → List Row) → flat_map zelems_of j.zones ≡ flat_map zelems_of i.zones
       → IsPermutation (flat_map entries_of j.zones) (make (flat_map entries_of i.zones))
-      → AllByRecursion (λ t. IsPermutation (rows_of j t.tree) (in_table entry make (rows_of i) t.tree))
-      store_schema.tables
-  with_entries make elements entries =
+      → IsPermutation (flat_map chosen_of j.zones) (choose (flat_map chosen_of i.zones))
+      → AllByRecursion (λ t. IsPermutation (rows_of j t.tree)
+      (in_table chosen choose (in_table entry make (rows_of i)) t.tree)) store_schema.tables
+  with_entries make choose elements entries numbered =
       rw (global, zones, elements) (
-        IsPermutation-refl _,
+        same _,
         (
-          IsPermutation-refl _,
+          same _,
           (
-            IsPermutation-refl _,
+            same _,
             (
-              IsPermutation-refl _,
+              same _,
               (
-                IsPermutation-refl _,
-                (IsPermutation-refl _, (IsPermutation-refl _, (entries, (IsPermutation-refl _, (IsPermutation-refl _, (IsPermutation-refl _, (IsPermutation-refl _, (IsPermutation-refl _, tt)))))))),
+                same _,
+                (
+                  same _,
+                  (
+                    same _,
+                    (
+                      entries,
+                      (
+                        same _,
+                        (same _, (same _, (same _, (numbered, tt)))),
+                      ),
+                    ),
+                  ),
+                ),
               ),
             ),
           ),
@@ -106,21 +127,31 @@ module _ (i j : Inventory) (global : j.global ≡ i.global) (zones : map zone_ro
       )
 
   pub with_elements : (make : List Row → List Row) → flat_map entries_of j.zones ≡ flat_map entries_of i.zones
+      → flat_map chosen_of j.zones ≡ flat_map chosen_of i.zones
       → IsPermutation (flat_map zelems_of j.zones) (make (flat_map zelems_of i.zones))
       → AllByRecursion (λ t. IsPermutation (rows_of j t.tree) (in_table zelem make (rows_of i) t.tree))
       store_schema.tables
-  with_elements make entries elements =
-      rw (global, zones, entries) (
-        IsPermutation-refl _,
+  with_elements make entries numbered elements =
+      rw (global, zones, entries, numbered) (
+        same _,
         (
-          IsPermutation-refl _,
+          same _,
           (
-            IsPermutation-refl _,
+            same _,
             (
-              IsPermutation-refl _,
+              same _,
               (
-                IsPermutation-refl _,
-                (IsPermutation-refl _, (IsPermutation-refl _, (IsPermutation-refl _, (elements, (IsPermutation-refl _, (IsPermutation-refl _, (IsPermutation-refl _, (IsPermutation-refl _, tt)))))))),
+                same _,
+                (
+                  same _,
+                  (
+                    same _,
+                    (
+                      same _,
+                      (elements, (same _, (same _, (same _, (same _, tt))))),
+                    ),
+                  ),
+                ),
               ),
             ),
           ),
@@ -153,14 +184,17 @@ module _ (i j : Inventory) (name : terms.Text) (was is : Zone) (c : IsZoneChange
   changed_in f make h = subst₂ IsPermutation (sym (ap (λ (k : Inventory). flat_map f k.zones) c.is))
       (ap (λ zs. make (flat_map f zs)) (sym c.was)) h
 
-  by_entries : (make : List Row → List Row) → is ≡ record was { entries = is.entries }
+  by_entries : (make choose : List Row → List Row) → is ≡ record was { entries = is.entries }
       → IsPermutation (flat_map entries_of (c.before ++ new_zone ∷ c.after))
       (make (flat_map entries_of (c.before ++ old_zone ∷ c.after)))
-      → AllByRecursion (λ t. IsPermutation (rows_of j t.tree) (in_table entry make (rows_of i) t.tree))
-      store_schema.tables
-  by_entries make rest h =
-      with_entries i j globals (same_zones (ap (λ z. zone_row (record { name = name; zone = z })) rest)) make
+      → IsPermutation (flat_map chosen_of (c.before ++ new_zone ∷ c.after))
+      (choose (flat_map chosen_of (c.before ++ old_zone ∷ c.after)))
+      → AllByRecursion (λ t. IsPermutation (rows_of j t.tree)
+      (in_table chosen choose (in_table entry make (rows_of i)) t.tree)) store_schema.tables
+  by_entries make choose rest h k =
+      with_entries i j globals (same_zones (ap (λ z. zone_row (record { name = name; zone = z })) rest)) make choose
       (same_in zelems_of (ap (λ z. zelems_of (record { name = name; zone = z })) rest)) (changed_in entries_of make h)
+      (changed_in chosen_of choose k)
 
   by_elements : (make : List Row → List Row) → is ≡ record was { elements = is.elements }
       → IsPermutation (flat_map zelems_of (c.before ++ new_zone ∷ c.after))
@@ -169,27 +203,42 @@ module _ (i j : Inventory) (name : terms.Text) (was is : Zone) (c : IsZoneChange
       store_schema.tables
   by_elements make rest h =
       with_elements i j globals (same_zones (ap (λ z. zone_row (record { name = name; zone = z })) rest)) make
-      (same_in entries_of (ap (λ z. entries_of (record { name = name; zone = z })) rest)) (changed_in zelems_of make h)
+      (same_in entries_of (ap (λ z. entries_of (record { name = name; zone = z })) rest))
+      (same_in chosen_of (ap (λ z. chosen_of (record { name = name; zone = z })) rest)) (changed_in zelems_of make h)
+
+  numbers_changed : (id : terms.Id) (news : List (terms.Id × ℕ))
+      → IsPermutation (numbers is.entries) (news ++ filter (λ x. not (bytes_eq x.0 id)) (numbers was.entries))
+      → IsPermutation (flat_map chosen_of (c.before ++ new_zone ∷ c.after))
+      (map (number_row name) news ++ without (entry_key name id) (flat_map chosen_of (c.before ++ old_zone ∷ c.after)))
+  numbers_changed id news same =
+      subst₂ IsPermutation (sym (chosen_are (c.before ++ new_zone ∷ c.after)))
+      (ap (λ rows. map (number_row name) news ++ without (entry_key name id) rows)
+      (sym (chosen_are (c.before ++ old_zone ∷ c.after))))
+      (rows_changed number_row name (entry_key name id) (λ x. bytes_eq x.0 id)
+      (λ other x. number_meets other name id x) (λ z. numbers z.entries) c.before c.after was is news c.others same)
 
   pub entry_put : (e : Entry) (db : Database) → HasPutEntry e was is
-      → HasContents store_schema (with_put entry (entry_key name e.id) (entry_row name e) (rows_of i)) db
-      → HasContents store_schema (rows_of j) db
+      → HasContents store_schema (with_entry name e (rows_of i)) db → HasContents store_schema (rows_of j) db
   entry_put e db p =
       let key = entry_key name e.id in
-      permuted store_schema (with_put entry key (entry_row name e) (rows_of i)) (rows_of j) db
-      (by_entries (λ rows. with_row (entry_row name e) (without key rows)) p.rest
+      permuted store_schema (with_entry name e (rows_of i)) (rows_of j) db
+      (by_entries (λ rows. with_row (entry_row name e) (without key rows))
+      (λ rows. chosen_in name e ++ without key rows) p.rest
       (rows_changed entry_row name key (λ x. bytes_eq x.id e.id) (λ other x. entry_meets other name e.id x)
-      (λ z. z.entries) c.before c.after was is (e ∷ []) c.others p.entries))
+      (λ z. z.entries) c.before c.after was is (e ∷ []) c.others p.entries)
+      (subst (λ news. IsPermutation (flat_map chosen_of (c.before ++ new_zone ∷ c.after))
+      (news ++ without key (flat_map chosen_of (c.before ++ old_zone ∷ c.after)))) (sym (in_rows name e))
+      (numbers_changed e.id (number_in e) (numbers_put e was.entries is.entries p.entries))))
 
   pub entry_removed : (id : terms.Id) (db : Database) → HasRemovedEntry id was is
-      → HasContents store_schema (in_table entry (without (entry_key name id)) (rows_of i)) db
-      → HasContents store_schema (rows_of j) db
+      → HasContents store_schema (without_entry name id (rows_of i)) db → HasContents store_schema (rows_of j) db
   entry_removed id db p =
       let key = entry_key name id in
-      permuted store_schema (in_table entry (without key) (rows_of i)) (rows_of j) db
-      (by_entries (without key) p.rest
+      permuted store_schema (without_entry name id (rows_of i)) (rows_of j) db
+      (by_entries (without key) (without key) p.rest
       (rows_changed entry_row name key (λ x. bytes_eq x.id id) (λ other x. entry_meets other name id x) (λ z. z.entries)
-      c.before c.after was is [] c.others p.entries))
+      c.before c.after was is [] c.others p.entries)
+      (numbers_changed id [] (numbers_left id was.entries is.entries p.entries)))
 
   pub element_put : (e : Element) (db : Database) → HasPutElement e was is
       → HasContents store_schema (with_put zelem (element_key name e.elem_type e.name) (zelem_row name e) (rows_of i))
@@ -225,28 +274,36 @@ module _ (global : terms.Global) (zone : NamedZone) where
   flat_none f e (z ∷ before) after = ap (λ rows. f z ++ rows) (flat_none f e before after)
 
   pub zone_added : (before after : List NamedZone) (db : Database) → entries_of zone ≡ [] → zelems_of zone ≡ []
-      → HasContents store_schema (in_table zone_table (with_row (zone_row zone))
+      → chosen_of zone ≡ [] → HasContents store_schema (in_table zone_table (with_row (zone_row zone))
       (rows_of (with_zones (before ++ after)))) db
       → HasContents store_schema (rows_of (with_zones (before ++ zone ∷ after))) db
-  zone_added before after db no_entries no_elements =
+  zone_added before after db no_entries no_elements no_numbers =
       let zones : IsPermutation (map zone_row (before ++ zone ∷ after)) (zone_row zone ∷ map zone_row (before ++ after))
       =
       IsPermutation-map zone_row _ _ (IsPermutation-middle before zone after) in
+      let same = λ (rows : List Row). IsPermutation-refl rows in
       permuted store_schema (in_table zone_table (with_row (zone_row zone)) (rows_of (with_zones (before ++ after))))
       (rows_of (with_zones (before ++ zone ∷ after))) db
-      (rw (flat_none entries_of no_entries before after, flat_none zelems_of no_elements before after) (
-        IsPermutation-refl _,
+      (rw (
+        flat_none entries_of no_entries before after,
+        flat_none zelems_of no_elements before after,
+        flat_none chosen_of no_numbers before after,
+      ) (
+        same _,
         (
-          IsPermutation-refl _,
+          same _,
           (
-            IsPermutation-refl _,
+            same _,
             (
-              IsPermutation-refl _,
+              same _,
               (
-                IsPermutation-refl _,
+                same _,
                 (
-                  IsPermutation-refl _,
-                  (zones, (IsPermutation-refl _, (IsPermutation-refl _, (IsPermutation-refl _, (IsPermutation-refl _, (IsPermutation-refl _, (IsPermutation-refl _, tt))))))),
+                  same _,
+                  (
+                    zones,
+                    (same _, (same _, (same _, (same _, (same _, (same _, tt)))))),
+                  ),
                 ),
               ),
             ),

@@ -1,9 +1,10 @@
 -- The statements that write zones, entries and elements.
-use Rattle.std.specs.Prelude.{ℕ, List, [], ◌∷◌, codes}
+use Rattle.std.specs.Prelude.{◌==◌, ℕ, List, [], ◌∷◌, codes, if◌then◌else◌}
+use Rattle.std.specs.Option.{option_map_or}
 use Rattle.terms.specs.declared.kinds.ElemType.{ElemType}
 use Rattle.terms.specs.Types.{Text, Id, Entry, Element, NamedZone}
 use Rattle.store_rows.specs.Calls.{Call}
-use Rattle.store_schema.specs.Rows.{zone_row, entry_row, zelem_row}
+use Rattle.store_schema.specs.Rows.{zone_row, entry_row, chosen_row, zelem_row}
 use Rattle.store_zones.specs.Keys.{entry_key, element_key}
 
 -- ---- their texts
@@ -17,6 +18,12 @@ put_entry = codes "INSERT INTO entry (zone, id, date, supby, delby, waived) VALU
 abbrev pub delete_entry : List ℕ
 delete_entry = codes "DELETE FROM entry WHERE zone = ?1 AND id = ?2"
 
+abbrev pub put_chosen : List ℕ
+put_chosen = codes "INSERT INTO chosen (zone, id, n) VALUES (?1, ?2, ?3) ON CONFLICT (zone, id) DO UPDATE SET n = excluded.n"
+
+abbrev pub delete_chosen : List ℕ
+delete_chosen = codes "DELETE FROM chosen WHERE zone = ?1 AND id = ?2"
+
 abbrev pub put_element : List ℕ
 put_element = codes "INSERT INTO zelem (zone, type, name, fmid, rmid, umid, distlib, syslib, text) VALUES (?1, ?2, ?3, ?4, ?5, ?6, ?7, ?8, ?9) ON CONFLICT (zone, type, name) DO UPDATE SET fmid = excluded.fmid, rmid = excluded.rmid, umid = excluded.umid, distlib = excluded.distlib, syslib = excluded.syslib, text = excluded.text"
 
@@ -29,12 +36,19 @@ delete_element = codes "DELETE FROM zelem WHERE zone = ?1 AND type = ?2 AND name
 abbrev pub zone_calls : NamedZone → List Call
 zone_calls zone = (insert_zone, zone_row zone) ∷ []
 
+-- its row of `chosen` is put, or the one that may be there is deleted
+abbrev pub chosen_call : Text → Entry → Call
+chosen_call zone e =
+    option_map_or (λ a.
+    if a.number == 1 then (delete_chosen, entry_key zone e.id) else (put_chosen, chosen_row zone e.id a.number))
+    e.applied (delete_chosen, entry_key zone e.id)
+
 -- an entry of the zone of this name is put in the place of the one of its id
 abbrev pub put_entry_calls : Text → Entry → List Call
-put_entry_calls zone e = (put_entry, entry_row zone e) ∷ []
+put_entry_calls zone e = (put_entry, entry_row zone e) ∷ chosen_call zone e ∷ []
 
 abbrev pub remove_entry_calls : Text → Id → List Call
-remove_entry_calls zone id = (delete_entry, entry_key zone id) ∷ []
+remove_entry_calls zone id = (delete_entry, entry_key zone id) ∷ (delete_chosen, entry_key zone id) ∷ []
 
 -- an element of the zone of this name is put in the place of the one of its type and name
 abbrev pub put_element_calls : Text → Element → List Call

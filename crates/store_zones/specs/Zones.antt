@@ -8,10 +8,25 @@ use Rattle.terms.specs.declared.kinds.ElemType.{ElemType}
 use Rattle.terms.specs.declared.kinds.ZoneKind.{ZoneKind}
 use Rattle.terms.specs.Types.{Text, Id, type_number, Entry, Element, Global, Zone, NamedZone}
 use Rattle.store_rows.specs.Inside.{Leads}
-use Rattle.store_rows.specs.Rows.{HasContents}
+use Rattle.store_rows.specs.Rows.{Contents, HasContents, in_table, without, with_put}
 use Rattle.store_schema.specs.Inventory.{Inventory}
+use Rattle.store_schema.specs.Rows.{entry_row, chosen_in}
 use Rattle.store_schema.specs.Stands.{rows_of}
-use Rattle.store_schema.specs.Tables.{store_schema}
+use Rattle.store_schema.specs.Tables.{entry, chosen, store_schema}
+use Rattle.store_zones.specs.Keys.{entry_key}
+
+-- `chosen` has the row of the entry, if it has one, in place of that of its id
+abbrev pub with_number : Text → Entry → Contents → Contents
+with_number zone e = in_table chosen (λ rows. chosen_in zone e ++ without (entry_key zone e.id) rows)
+
+-- and so has `entry`
+abbrev pub with_entry : Text → Entry → Contents → Contents
+with_entry zone e contents = with_number zone e (with_put entry (entry_key zone e.id) (entry_row zone e) contents)
+
+-- neither has a row of the id
+abbrev pub without_entry : Text → Id → Contents → Contents
+without_entry zone id contents =
+    in_table chosen (without (entry_key zone id)) (in_table entry (without (entry_key zone id)) contents)
 
 -- The zone of this name becomes another. No other zone has the name, and nothing else changes.
 pub record IsZoneChange (name : Text) (old new : Zone) (i j : Inventory) : Type 0 where
@@ -34,9 +49,9 @@ abbrev pub elements_but : ElemType → Text → List Element → List Element
 elements_but type name elements = filter (λ e. not (is_element type name e)) elements
 
 -- the entry in place of the one of its id; what order they are in is left open
-pub record HasPutEntry (entry : Entry) (old new : Zone) : Type 0 where
+pub record HasPutEntry (put : Entry) (old new : Zone) : Type 0 where
   pub rest : new ≡ record old { entries = new.entries }
-  pub entries : IsPermutation new.entries (entry ∷ entries_but entry.id old.entries)
+  pub entries : IsPermutation new.entries (put ∷ entries_but put.id old.entries)
 
 -- no entry of the id
 pub record HasRemovedEntry (id : Id) (old new : Zone) : Type 0 where

@@ -1,16 +1,18 @@
 //! The table of SYSMOD entries.
 
-ghost use Rattle.std.specs.Prelude.{◌≡◌, OnOk};
+ghost use Rattle.std.specs.Prelude.{◌≡◌, [], ◌∷◌, OnOk};
 ghost use Rattle.std.specs.List.{join_with_byte};
 ghost use Rattle.store_rows.specs.Calls.{RunsInside};
 ghost use Rattle.store_rows.specs.Inside.{StaysInside, Turns};
 ghost use Rattle.store_rows.specs.Rows.{HasContents, in_table, without, with_put};
 ghost use Rattle.store_schema.specs.Rows.{entry_row};
 ghost use Rattle.store_schema.specs.Tables.{entry as entry_table, store_schema};
+ghost use Rattle.store_zones.specs.Calls.{put_entry as into_entry, delete_entry};
 ghost use Rattle.store_zones.specs.Calls.{put_entry_calls, remove_entry_calls};
 ghost use Rattle.store_zones.specs.Keys.{entry_key};
-ghost use Rattle.store_zones.specs.Zones.{ChangesZone, HasPutEntry, HasRemovedEntry};
+ghost use Rattle.store_zones.specs.Zones.{ChangesZone, HasPutEntry, HasRemovedEntry, with_entry, without_entry};
 
+use crate::chosen::{put_number, remove_number};
 use crate::values::date_value;
 use fields::{Id, ZoneName};
 use sqlite::{Alter, Error, Transaction};
@@ -20,7 +22,8 @@ use store_columns::{id_value, joined_ids};
 use store_rows::{put, remove};
 use zones::Entry;
 
-/// Puts the entry into the zone, in place of the one of its id, if there is one.
+/// Puts the entry into the zone, in place of the one of its id, if there is one. A number that no column can hold is
+/// told as memory that is short.
 pub fn put_entry<S: Alter>(
     alloc: Global,
     tx: &mut Transaction<'_, S>,
@@ -31,12 +34,13 @@ pub fn put_entry<S: Alter>(
     ensures inside { StaysInside S.Store tx.old.conn.now tx.new.conn.now }
     ensures calls { RunsInside S.Store (put_entry_calls zone entry.now) tx.old.conn.now tx.new.conn.now result }
     ensures ok { OnOk result (Turns S.Store tx.old.conn.now tx.new.conn.now (HasContents store_schema)
-        (with_put entry_table (entry_key zone entry.now.id) (entry_row zone entry.now))) }
+        (with_entry zone entry.now)) }
     ensures stands { OnOk result (ChangesZone S.Store tx.old.conn.now tx.new.conn.now zone (HasPutEntry entry.now)) }
 {
     let supby = joined_ids(alloc, entry.supby.as_slice())?;
     let waived = joined_ids(alloc, entry.waived.as_slice())?;
-    put_row(tx, &zone, entry, supby.as_slice(), waived.as_slice())
+    put_row(tx, &zone, entry, supby.as_slice(), waived.as_slice())?;
+    put_number(tx, &zone, entry)
 }
 
 // Puts the entry's row, of whose lists these are the texts.
@@ -51,7 +55,8 @@ fn put_row<S: Alter>(
     requires waived { waived.now ≡ join_with_byte 44 entry.now.waived }
     ensures same_reference { tx.new.conn.ghost_name ≡ tx.old.conn.ghost_name }
     ensures inside { StaysInside S.Store tx.old.conn.now tx.new.conn.now }
-    ensures calls { RunsInside S.Store (put_entry_calls zone.now entry.now) tx.old.conn.now tx.new.conn.now result }
+    ensures calls { RunsInside S.Store ((into_entry, entry_row zone.now entry.now) ∷ [])
+        tx.old.conn.now tx.new.conn.now result }
     ensures ok { OnOk result (Turns S.Store tx.old.conn.now tx.new.conn.now (HasContents store_schema)
         (with_put entry_table (entry_key zone.now entry.now.id) (entry_row zone.now entry.now))) }
 {
@@ -68,6 +73,22 @@ fn put_row<S: Alter>(
     )
 }
 
+// Takes out the entry's row, if there is one.
+fn remove_row<S: Alter>(tx: &mut Transaction<'_, S>, zone: &ZoneName, id: &Id) -> Result<(), Error>
+    ensures same_reference { tx.new.conn.ghost_name ≡ tx.old.conn.ghost_name }
+    ensures inside { StaysInside S.Store tx.old.conn.now tx.new.conn.now }
+    ensures calls { RunsInside S.Store ((delete_entry, entry_key zone.now id.now) ∷ [])
+        tx.old.conn.now tx.new.conn.now result }
+    ensures ok { OnOk result (Turns S.Store tx.old.conn.now tx.new.conn.now (HasContents store_schema)
+        (in_table entry_table (without (entry_key zone.now id.now)))) }
+{
+    let key = [
+        ValueRef::Text(zone.as_bytes()),
+        ValueRef::Text(id.as_bytes()),
+    ];
+    remove(tx, "DELETE FROM entry WHERE zone = ?1 AND id = ?2", &key)
+}
+
 /// Takes the entry of the id out of the zone, if there is one.
 pub fn remove_entry<S: Alter>(
     tx: &mut Transaction<'_, S>,
@@ -78,12 +99,9 @@ pub fn remove_entry<S: Alter>(
     ensures inside { StaysInside S.Store tx.old.conn.now tx.new.conn.now }
     ensures calls { RunsInside S.Store (remove_entry_calls zone id) tx.old.conn.now tx.new.conn.now result }
     ensures ok { OnOk result (Turns S.Store tx.old.conn.now tx.new.conn.now (HasContents store_schema)
-        (in_table entry_table (without (entry_key zone id)))) }
+        (without_entry zone id)) }
     ensures stands { OnOk result (ChangesZone S.Store tx.old.conn.now tx.new.conn.now zone (HasRemovedEntry id)) }
 {
-    let key = [
-        ValueRef::Text(zone.as_bytes()),
-        ValueRef::Text(id.as_bytes()),
-    ];
-    remove(tx, "DELETE FROM entry WHERE zone = ?1 AND id = ?2", &key)
+    remove_row(tx, &zone, &id)?;
+    remove_number(tx, &zone, &id)
 }

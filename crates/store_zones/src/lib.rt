@@ -3,6 +3,7 @@
 //! tables stand for so, and nothing else.
 #![tactic(auto)]
 
+mod chosen;
 mod element;
 mod entry;
 mod values;

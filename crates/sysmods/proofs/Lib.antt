@@ -1,8 +1,8 @@
 pub mod Chains
-pub mod Counting
 pub mod Empty
 pub mod First
 pub mod Fronts
 pub mod Kept
+pub mod OneVer
 pub mod Receiving
 pub mod Taken

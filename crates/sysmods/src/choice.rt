@@ -1,33 +1,60 @@
 //! Which `++VER` of a SYSMOD counts.
-ghost use Rattle.std.specs.Prelude.{◌≡◌, ◌↔◌, ◌<◌, List, ℕ, length, position, Contains, IsTrue, IfOk, IfSome};
-ghost use Rattle.std.specs.Prelude.{filter, slice_get, option_copied};
+ghost use Rattle.std.specs.Prelude.{◌≡◌, ◌↔◌, ◌-◌, List, ℕ, Contains, IsTrue, IfOk, filter, option_copied, slice_get};
 ghost use Rattle.std.specs.Str.{bytes_eq};
-ghost use Rattle.terms.specs.Choice.{fmid_of, first_ver};
+ghost use Rattle.terms.specs.Choice.{fmid_of, vers_of};
 ghost use Rattle.terms.specs.Lookups.{is_in, meets};
 ghost use Rattle.terms.specs.Over.{IsOver, Supersedes, chain, owner};
-ghost use Rattle.sysmods.specs.Choices.{choice};
+ghost use Rattle.sysmods.specs.Choices.{has_ver, picked, number_in, choice};
 
 use crate::chain::Chain;
 use crate::zone::GlobalZone;
 use fields::{Id, IdList, Srel};
+use sorted::{Keyed, Table};
 use std::alloc::{AllocError, Global};
 use sysmods_paths::{Names, ends, leads};
 use sysmods_records::Ver;
 
-/// Gives each received id its `++VER` that counts for a zone: the one of the zone's SREL.
-#[derive(Clone, Copy)]
+/// The number of an id's `++VER` among those for an SREL, counted from 1.
+#[derive(Clone, Copy, Debug)]
+pub struct Pick {
+    pub id: Id,
+    pub number: usize,
+}
+
+impl Keyed for Pick {
+    type Key = Id;
+
+    ghost key_of = { λ pick. pick.id };
+
+    fn key(&self) -> Id {
+        self.id
+    }
+}
+
+/// Gives each id its `++VER` that counts for a zone, of those for the zone's SREL: the one that it was installed by,
+/// or else one that fits. Where no number is picked it is the first.
+#[derive(Drop)]
 pub struct VerChoice<'a> {
     global: &'a GlobalZone,
     srel: Srel,
+    kept: Table<Pick>,
+    fitting: Table<Pick>,
 }
 
 impl<'a> VerChoice<'a> {
-    /// The choice of the `++VER`s for one SREL.
-    pub fn new(global: &'a GlobalZone, srel: Srel) -> Self
+    /// The choice of the `++VER`s for one SREL by these numbers, of which the kept ones come first.
+    pub fn new(global: &'a GlobalZone, srel: Srel, kept: Table<Pick>, fitting: Table<Pick>) -> Self
         ensures global { result.global.now ≡ global.now }
         ensures srel { result.srel ≡ srel }
+        ensures kept { result.kept ≡ kept }
+        ensures fitting { result.fitting ≡ fitting }
     {
-        VerChoice { global, srel }
+        VerChoice {
+            global,
+            srel,
+            kept,
+            fitting,
+        }
     }
 
     /// The global zone that it looks into.
@@ -37,11 +64,28 @@ impl<'a> VerChoice<'a> {
         self.global
     }
 
+    /// Whether a SYSMOD of this id is received with a `++VER` for the SREL.
+    pub fn has_ver(&self, id: Id) -> bool
+        ensures { result ≡ has_ver self.now.global.now self.now.srel id }
+    {
+        has_ver(self.global, self.srel, id)
+    }
+
+    /// The number of the `++VER` that counts.
+    pub fn number(&self, id: Id) -> usize
+        ensures { result ≡ number_in self.now id }
+    {
+        match picked(&self.kept, id) {
+            Some(number) => number,
+            None => picked(&self.fitting, id).unwrap_or(1),
+        }
+    }
+
     /// The `++VER` that counts, if one does.
     pub fn ver(&self, id: Id) -> Option<&'a Ver>
         ensures { option_copied result ≡ choice self.now id }
     {
-        first_ver(self.global, self.srel, id)
+        numbered_ver(self.global, self.srel, id, self.number(id))
     }
 
     /// The FMID of the `++VER` that counts.
@@ -96,30 +140,34 @@ fn is_in(ids: &[Id], id: Id) -> bool
     ids.contains(&id)
 }
 
-/// The first `++VER` of the SYSMOD for the SREL.
-pub fn first_ver(global: &GlobalZone, srel: Srel, id: Id) -> Option<&Ver>
-    ensures { option_copied result ≡ first_ver global.now srel id }
+// The number that is picked for the id.
+fn picked(picks: &Table<Pick>, id: Id) -> Option<usize>
+    ensures { result ≡ picked picks.now id }
+{
+    let pick = picks.get(id)?;
+    Some(pick.number)
+}
+
+/// Whether a SYSMOD of this id is received with a `++VER` for the SREL.
+pub fn has_ver(global: &GlobalZone, srel: Srel, id: Id) -> bool
+    ensures { result ≡ has_ver global.now srel id }
+{
+    numbered_ver(global, srel, id, 1).is_some()
+}
+
+/// The `++VER` of this number among those of the SYSMOD for the SREL.
+pub fn numbered_ver(global: &GlobalZone, srel: Srel, id: Id, number: usize) -> Option<&Ver>
+    ensures { option_copied result ≡ slice_get (vers_of global.now srel id) (number - 1) }
 {
     let sysmod = global.get(id)?;
-    of_srel(sysmod.vers.as_slice(), srel)
+    of_srel(sysmod.vers.as_slice(), srel, number.saturating_sub(1))
 }
 
-// The first of the `++VER`s for the SREL.
-fn of_srel<'a>(vers: &'a [Ver], srel: Srel) -> Option<&'a Ver>
-    ensures { option_copied result ≡ slice_get (filter (λ v. bytes_eq v.srel srel) vers.now) 0 }
+// The one at this place among those for the SREL.
+fn of_srel<'a>(vers: &'a [Ver], srel: Srel, place: usize) -> Option<&'a Ver>
+    ensures { option_copied result ≡ slice_get (filter (λ v. bytes_eq v.srel srel) vers.now) place }
 {
-    match find_srel(vers, srel) {
-        Some(place) => Some(&vers[place]),
-        None => None,
-    }
-}
-
-// Where the first of them stands.
-fn find_srel(vers: &[Ver], srel: Srel) -> Option<usize>
-    ensures place { result ≡ position (λ v. bytes_eq v.srel srel) vers.now }
-    ensures within { IfSome result (λ i. i < length vers.now) }
-{
-    vers.iter().position(|ver| ver.srel == srel)
+    vers.iter().filter(|ver| ver.srel == srel).nth(place)
 }
 
 // What the `++VER` that counts names in PRE, SUP and FMID.

@@ -12,7 +12,7 @@ mod receive;
 mod zone;
 
 pub use chain::Chain;
-pub use choice::{VerChoice, first_ver};
+pub use choice::{Pick, VerChoice, has_ver, numbered_ver};
 pub use edit::GlobalEdit;
 pub use fields::{
     Class, HoldDate, Id, IdList, Name, Reason, Rising, Source, SourceList, Srel, ZoneName,

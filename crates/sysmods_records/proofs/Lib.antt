@@ -1,3 +1,3 @@
 pub mod Naming
-pub mod Conditions
 pub mod KeyOrders
+pub mod Places

@@ -1,19 +1,19 @@
 //! A SYSMOD grows by the statements behind its header.
-ghost use Rattle.std.specs.Prelude.{◌≡◌, ◌≤◌, ◌<◌, ◌&&◌, ◌==◌, ◌++◌, [], ◌∷◌, length, map, take, drop};
-ghost use Rattle.std.specs.Prelude.{if◌then◌else◌, IsTrue, IfOk, IfErr, OnOk, OnErr};
+ghost use Rattle.std.specs.Prelude.{◌≡◌, ◌≤◌, ◌<◌, ◌&&◌, ◌==◌, ◌++◌, [], ◌∷◌, length, take, drop, position};
+ghost use Rattle.std.specs.Prelude.{IsTrue, IfOk, IfErr, OnOk, OnErr};
 ghost use Rattle.std.specs.List.{list_any};
 ghost use Rattle.std.specs.Str.{bytes_eq};
 ghost use Rattle.std.specs.Ordering.{nat_cmp};
 ghost use Rattle.std.specs.Cmp.Lexicographic.{slice_cmp};
-ghost use Rattle.terms.specs.Types.{Ver as AnyVer, Change as AnyChange, type_number};
+ghost use Rattle.terms.specs.Types.{Change as AnyChange, type_number};
 ghost use Rattle.terms.specs.declared.kinds.HoldKind.TheVariants.{System};
 ghost use Rattle.terms.specs.Rising.{Rises, Splits, StandsAt, with_item};
+ghost use Rattle.terms.specs.Lookups.{is_before};
 ghost use Rattle.terms.specs.Global.{change_cmp};
-ghost use Rattle.terms.specs.Ptfin.{begun};
+ghost use Rattle.terms.specs.Ptfin.{begun, place_of, with_ver_at, with_if_at};
 
 use crate::{ElemChange, Hold, IfReq, Sysmod, Ver};
 use fields::{Id, Name, SourceList, Srel};
-use sorted::place;
 use std::alloc::{AllocError, Global};
 use terms::{ElemType, Kind};
 
@@ -47,33 +47,23 @@ impl Sysmod {
         self.changes.iter().any(|change| change.elem_type == elem_type && change.name == name)
     }
 
-    /// The `++VER` comes in at its place, where it takes the place of one of its SREL.
-    pub fn add_ver(&mut self, ver: Ver) -> Result<(), AllocError>
-        ensures ok { OnOk result (self.new ≡ record self.old {
-          vers = with_item (slice_cmp nat_cmp)
-              (λ v. v.srel) self.old.vers ver;
-        }) }
-        ensures err { OnErr result (self.new ≡ self.old) }
+    /// The `++VER` comes in behind those of its release and of earlier ones. The answer is its place.
+    pub fn add_ver(&mut self, ver: Ver) -> Result<usize, AllocError>
+        ensures ok { IfOk result (λ n. (n ≡ place_of ver self.old.vers)
+            × (self.new ≡ record self.old { vers = with_ver_at n ver self.old.vers })) }
     {
-        match place(&self.vers, ver.srel) {
-            Ok(place) => self.vers[place] = ver,
-            Err(place) => self.vers.insert(place, ver)?,
-        }
-        Ok(())
+        let place = ver_place(&self.vers, &ver);
+        self.vers.insert(place, ver)?;
+        Ok(place)
     }
 
-    /// The `++IF` comes in behind those of the `++VER` of the SREL, where there is one.
-    pub fn add_if(&mut self, srel: Srel, condition: IfReq) -> Result<(), AllocError>
-        ensures ok { OnOk result (self.new ≡ record self.old {
-          vers = map (λ (v : AnyVer). if bytes_eq v.srel srel then record v {
-            ifs
-                = v.ifs ++ condition ∷ [];
-          } else v) self.old.vers;
-        }) }
-        ensures err { OnErr result (self.new ≡ self.old) }
+    /// The `++IF` comes in behind those of the `++VER` at the place, where there is one.
+    pub fn add_if(&mut self, place: usize, condition: IfReq) -> Result<(), AllocError>
+        ensures ok { IfOk result (λ u. self.new
+            ≡ record self.old { vers = with_if_at condition self.old.vers place }) }
     {
-        if let Ok(place) = place(&self.vers, srel) {
-            self.vers[place].add_if(condition)?;
+        if let Some(ver) = self.vers.get_mut(place) {
+            ver.add_if(condition)?;
         }
         Ok(())
     }
@@ -101,6 +91,23 @@ impl Sysmod {
             Err(place) => self.changes.insert(place, change)?,
         }
         Ok(())
+    }
+}
+
+/// The first `++VER` for a later release.
+fn first_later(vers: &[Ver], srel: Srel) -> Option<usize>
+    ensures { result ≡ position (λ v. is_before srel v.srel) vers.now }
+{
+    vers.iter().position(|ver| srel < ver.srel)
+}
+
+/// The place behind the `++VER`s of its release and of earlier ones.
+fn ver_place(vers: &[Ver], ver: &Ver) -> usize
+    ensures { result ≡ place_of ver.now vers.now }
+{
+    match first_later(vers, ver.srel) {
+        Some(place) => place,
+        None => vers.len(),
     }
 }
 

@@ -12,7 +12,7 @@ use std::marker::Model;
 use std::mem;
 use terms::Kind;
 
-/// A SYSMOD with its sources, its `++VER`s by SREL, its element statements by type and name, and,
+/// A SYSMOD with its sources, its `++VER`s, its element statements by type and name, and,
 /// until it is received, the holds that came inside it.
 #[derive(Drop)]
 pub struct Sysmod {

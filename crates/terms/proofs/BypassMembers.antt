@@ -14,7 +14,8 @@ use Rattle.terms.specs.Statement.{Piece, BeginsNoWord}
 use Rattle.terms.specs.Words.{Word, word_pieces, list_pieces, is_member_byte, is_inner_byte, Stops, TakesInner}
 use Rattle.terms.specs.Words.{TakesMember, IsSeparator, TakesNext, HasMore, HasMembers}
 use Rattle.terms.specs.Operands.{operand}
-use Rattle.terms.specs.Commands.{leading_list, list_behind, runs_from}
+use Rattle.terms.specs.Commands.{runs_from}
+use Rattle.terms.specs.Operands.{leading_list, list_behind}
 use Rattle.terms.proofs.OperandWords.{count, one_if, count_cons}
 
 other_byte : (b c : ℕ) → is_word_byte b ≡ true → is_word_byte c ≡ false → (b == c) ≡ false

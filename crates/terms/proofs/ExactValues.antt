@@ -20,7 +20,8 @@ use Rattle.terms.specs.Operands.{operand, HasSorted}
 use Rattle.terms.specs.CommandForms.{operands_of, members_of, command_word, HasSome, HasReceive, HasSelection}
 use Rattle.terms.specs.CommandForms.{HasInstall}
 use Rattle.terms.specs.CommandForms.{HasRestoreList, HasOperands, IsCommand}
-use Rattle.terms.specs.Commands.{words_in, runs_in, list_behind, is_often, has_double, is_unchosen, BeginsWith}
+use Rattle.terms.specs.Commands.{runs_in, has_double, is_unchosen, BeginsWith}
+use Rattle.terms.specs.Operands.{words_in, list_behind, is_often}
 use Rattle.terms.specs.Commands.{IsCommandFault}
 use Rattle.lemmas.proofs.Pairs.{pairs_map}
 use Rattle.terms.proofs.ExactWords.{words_only}

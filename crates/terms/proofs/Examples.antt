@@ -1,5 +1,5 @@
 -- Small zones that show the definitions at work. Ids are single numbers here.
-use Rattle.std.specs.Prelude.{◌≡◌, ◌≢◌, true, false, List, [], ◌∷◌, None, Some, Contains, refl, map}
+use Rattle.std.specs.Prelude.{◌≡◌, ◌≢◌, ◌+◌, true, false, List, [], ◌∷◌, None, Some, Contains, refl, map}
 use Rattle.std.proofs.Common.{inl, inr, arith, sym, subst}
 use Rattle.terms.specs.declared.kinds.Kind.{Kind}
 use Rattle.terms.specs.declared.kinds.Kind.TheVariants.{Function, Ptf}
@@ -12,11 +12,11 @@ use Rattle.lemmas.proofs.Members.{here_or, none_in}
 use Rattle.terms.specs.Types.{Text, Id, Ver, Change, Replaces, Sysmod, Global, Entry, Zone, NoReason, AnyReason, Bypass}
 use Rattle.terms.specs.Types.{Selection, an_applied}
 use Rattle.terms.specs.Lookups.{is_applied}
-use Rattle.terms.specs.Choice.{counting, del_of}
+use Rattle.terms.specs.Choice.{place, counting, del_of}
 use Rattle.terms.specs.Over.{Leads, Reaches, Supersedes, names, chain}
 use Rattle.terms.specs.Deleted.{is_deleted, zone_less}
 use Rattle.terms.specs.Candidates.{IsCandidate, is_start, needed_ids, not_chosen}
-use Rattle.terms.specs.Tests.{Setting, Clash, FailsJ2, standing_holds}
+use Rattle.terms.specs.Tests.{Setting, Clash, FailsJ2, FailsJ13, standing_holds}
 use Rattle.terms.specs.Needs.{asked, orphans, binding_ids, Needs, Serves}
 use Rattle.terms.specs.Judged.{setting}
 use Rattle.terms.specs.Install.{Installation, TakesEffect, delby_after}
@@ -130,6 +130,7 @@ abbrev installing : Installation
 installing = record {
   global = deleting;
   choice = counting deleting full (hcc ∷ []);
+  number = λ x. place deleting full (hcc ∷ []) x + 1;
   zone = full;
   kept = hcc ∷ [];
   bypassed = [];
@@ -371,3 +372,57 @@ zone_less_superseded : zone_less deleting (counting deleting full []) (haa ∷ [
     }
 unfolding zone_less
 zone_less_superseded = refl
+
+-- UA00040 is service for HAA1100, and for HDD1100 with PRE(UA00041), which is not received.
+abbrev ua40 : Id
+ua40 = 40 ∷ []
+
+abbrev ua41 : Id
+ua41 = 41 ∷ []
+
+abbrev serving : Global
+serving = record {
+  holds = [];
+  sysmods =
+      sysmod haa Function plain []
+      ∷ sysmod hdd Function plain []
+      ∷ record (sysmod ua40 Ptf plain []) {
+        vers =
+            record plain { fmid = Some haa } ∷ record plain { fmid = Some hdd; pre = ua41 ∷ [] } ∷ [];
+      }
+      ∷ [];
+}
+
+-- a zone that has applied these alone
+abbrev with_entries : List Entry → Zone
+with_entries entries = record full { entries = entries; elements = [] }
+
+-- the first fits where HAA1100 is applied, the second where HDD1100 is; and none, or both, is the first
+places_fitting : map (λ zone. place serving zone [] ua40)
+    (base ∷ with_entries (applied hdd ∷ []) ∷ with_entries [] ∷ with_entries (applied haa ∷ applied hdd ∷ []) ∷ [])
+    ≡ 0 ∷ 1 ∷ 0 ∷ 0 ∷ []
+places_fitting = refl
+
+-- one that a candidate fits
+place_candidate : place serving (with_entries []) (hdd ∷ ua40 ∷ []) ua40 ≡ 1
+place_candidate = refl
+
+-- installed by the second, it stays so
+place_kept : place serving (with_entries (applied haa ∷ applied hdd
+    ∷ record (applied ua40) { applied = Some (an_applied (1 ∷ []) 2) } ∷ [])) [] ua40
+    ≡ 1
+place_kept = refl
+
+-- requisites of one that does not fit are not needed
+needed_ids_fitting : map (λ zone. needed_ids serving zone (λ x. false) ua40)
+    (base ∷ with_entries (applied hdd ∷ []) ∷ with_entries [] ∷ [])
+    ≡ [] ∷ (ua41 ∷ []) ∷ (haa ∷ hdd ∷ []) ∷ []
+unfolding needed_ids
+needed_ids_fitting = refl
+
+-- where both fit it fails
+fails_both : FailsJ13 (setting serving base None (hdd ∷ ua40 ∷ []) no_bypass) ua40
+fails_both = omega arith
+
+passes_one : ¬ FailsJ13 (setting serving base None (ua40 ∷ []) no_bypass) ua40
+passes_one = omega arith

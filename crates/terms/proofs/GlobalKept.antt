@@ -189,7 +189,6 @@ module _ (g : Global) (source : Text) (x : Id) where
       by : (b : Bool) → bytes_eq s.id x ≡ b → IsSysmod (assigned source x s)
       by true e = rw e (record {
         sources = Rises_with_item nat_list_cmp_total (λ t. t) s.sources source formed.sources;
-        vers = formed.vers;
         changes = formed.changes;
         holds = formed.holds;
       })
@@ -329,7 +328,6 @@ module _ (g : Global) (s : Sysmod) (new : is_received g s.id ≡ false) where
     formed = All_with_item (slice_cmp nat_cmp) (λ r. r.id) IsSysmod g.sysmods (record s { holds = [] }) k.formed
         (record {
           sources = formed.sources;
-          vers = formed.vers;
           changes = formed.changes;
           holds = All-nil (λ h. IsTrue h.internal × (h.kind ≡ System) × (h.id ≡ s.id));
         });

@@ -20,7 +20,8 @@ use Rattle.terms.specs.Statement.{Piece, TheWord, TheList, Blank, Comment, Stray
 use Rattle.terms.specs.Words.{Word, HasWords, TakesWord, word_pieces, list_pieces}
 use Rattle.terms.specs.Operands.{AreOperands}
 use Rattle.terms.specs.CommandForms.{operands_of}
-use Rattle.terms.specs.Commands.{words_in, is_often, has_double}
+use Rattle.terms.specs.Commands.{has_double}
+use Rattle.terms.specs.Operands.{words_in, is_often}
 use Rattle.lemmas.proofs.Pairs.{pairs_unmap, AllPairs_first, AllPairs_rest}
 use Rattle.lemmas.proofs.Members.{here, here_or, there}
 use Rattle.terms.proofs.Ids.{Contains_from_is_in}

@@ -13,7 +13,7 @@ use Rattle.terms.specs.declared.not_chosen.NotChosen.TheVariants.{Already, Delet
 use Rattle.terms.specs.Types.{Text, Id, Ver, Sysmod, Global, Zone, Selection}
 use Rattle.terms.specs.Lookups.{IsRising, is_nil, at_most_one, is_in, meets, sysmod_of, is_received, is_function}
 use Rattle.terms.specs.Lookups.{holds_of, applied_ids, is_applied, is_supplied, delby_of}
-use Rattle.terms.specs.Choice.{vers_of, counting}
+use Rattle.terms.specs.Choice.{vers_of, fits, counting}
 use Rattle.terms.specs.Conditions.{reqs_where, stated_for}
 use Rattle.terms.specs.Over.{Reaches}
 
@@ -73,12 +73,13 @@ is_growing_start g zone sel x = is_start g zone sel x && (sel.groupextend || is_
 abbrev pub required_by : Zone → (Id → Bool) → Ver → List Id
 required_by zone cands v = v.pre ++ v.req ++ reqs_where (λ f. is_applied zone f || cands f) v.ifs
 
--- Its needed ids: its FMIDs unless one is applied, and less what the zone supplies the requisites of its ++VERs for the
--- zone's SREL and, of a function, those that applied SYSMODs state for it by ++IF.
+-- Its needed ids: its FMIDs unless one is applied, and less what the zone supplies the requisites of those of its ++VERs
+-- for the zone's SREL that fit and, of a function, those that applied SYSMODs state for it by ++IF.
 unfoldable pub needed_ids : Global → Zone → (Id → Bool) → Id → List Id
 needed_ids g zone cands x =
     (if list_any (is_applied zone) (fmids_for g zone.srel x) then [] else fmids_for g zone.srel x)
-    ++ filter (λ z. not (is_supplied zone z)) (flat_map (required_by zone cands) (vers_of g zone.srel x)
+    ++ filter (λ z. not (is_supplied zone z))
+    (flat_map (required_by zone cands) (filter (fits zone cands) (vers_of g zone.srel x))
     ++ (if is_function g x then stated_for (counting g zone []) (applied_ids zone) x else []))
 
 -- the reasons of its ERROR holds that the zone does not supply: the APARs that would resolve them

@@ -1,6 +1,6 @@
 -- The commands of a command file, and its first fault.
 use Rattle.std.specs.Prelude.{◌≡◌, ◌==◌, ◌||◌, ℕ, Bool, true, false, List, [], ◌∷◌, ◌++◌, Option, Some, None, not}
-use Rattle.std.specs.Prelude.{◌⊎◌, if◌then◌else◌, codes, count_by, nat_le}
+use Rattle.std.specs.Prelude.{◌⊎◌, if◌then◌else◌, codes}
 use Rattle.std.specs.List.{list_any}
 use Rattle.std.specs.Str.{bytes_eq}
 use Rattle.terms.specs.declared.codes.CommandWord.{CommandWord}
@@ -11,7 +11,8 @@ use Rattle.terms.specs.Types.{Text, Command}
 use Rattle.terms.specs.Spelling.{word_text}
 use Rattle.terms.specs.Forms.{is_word_byte}
 use Rattle.terms.specs.Records.{HasRecords, IsRecFault, RecFault, rec_fault_record}
-use Rattle.terms.specs.Statement.{Piece, TheWord, TheList, joined, IsIdle, StFault}
+use Rattle.terms.specs.Statement.{Piece, TheWord, joined, IsIdle, StFault}
+use Rattle.terms.specs.Operands.{words_in, list_behind, is_often}
 use Rattle.terms.specs.CommandCuts.{TakesCommand, IsCutFault}
 use Rattle.terms.specs.CommandForms.{operands_of, members_of, IsCommand}
 
@@ -32,23 +33,6 @@ abbrev pub IsCommandFile : List ℕ → List Command → Type 0
 IsCommandFile bytes cs = (records rest : List (List ℕ)) × (m : ℕ)
     × HasRecords bytes records × BeginsWithCommands 1 records cs m rest × IsIdle (joined rest)
 
--- the words outside parentheses
-abbrev pub words_in : List Piece → List Text
-words_in [] = []
-words_in (TheWord text ∷ ps) = text ∷ words_in ps
-words_in (_ ∷ ps) = words_in ps
-
--- the list that comes first, if one does
-abbrev pub leading_list : List Piece → Option Text
-leading_list (TheList list ∷ ps) = Some list
-leading_list _ = None
-
--- the list right behind the first word of that name, if there is one
-abbrev pub list_behind : Text → List Piece → Option Text
-list_behind name [] = None
-list_behind name (TheWord text ∷ ps) = if bytes_eq name text then leading_list ps else list_behind name ps
-list_behind name (_ ∷ ps) = list_behind name ps
-
 -- The runs of word characters outside inner lists, empty ones among them. The first one goes on from `run`.
 abbrev pub runs_from : Bool → Text → Text → List Text
 runs_from inner run [] = run ∷ []
@@ -60,10 +44,6 @@ runs_from false run (b ∷ bs) =
 abbrev pub runs_in : Option Text → List Text
 runs_in None = []
 runs_in (Some list) = runs_from false [] list
-
--- whether the text is there so often, or more often
-abbrev pub is_often : ℕ → List Text → Text → Bool
-is_often n texts name = nat_le n (count_by (bytes_eq name) texts)
 
 -- whether a known operand of the command is there twice, or a member that its BYPASS may have
 abbrev pub has_double : CommandWord → List Piece → Bool

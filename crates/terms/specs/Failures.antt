@@ -12,7 +12,7 @@ use Rattle.terms.specs.Types.{Id}
 abbrev pub all_tests : List Test
 all_tests =
     test.J1 ∷ test.J2 ∷ test.J3 ∷ test.J4 ∷ test.J5 ∷ test.J6 ∷ test.J7 ∷ test.J8 ∷ test.J9 ∷ test.J10 ∷ test.J11 ∷
-    test.J12 ∷ []
+    test.J12 ∷ test.J13 ∷ []
 
 abbrev pub all_needs : List NeedKind
 all_needs = need.Fmid ∷ need.Pre ∷ need.Req ∷ need.Ifreq ∷ need.HoldError ∷ need.Orphan ∷ need.Elem ∷ need.Dep ∷ []

@@ -59,11 +59,10 @@ abbrev pub change_cmp : Change → Change → Ordering
 change_cmp a b = ordering_then (nat_cmp (type_number a.elem_type) (type_number b.elem_type))
     (slice_cmp nat_cmp a.name b.name)
 
--- Sources rise, ++VERs rise by SREL, and element statements by type and name, none twice.
--- The holds that it carries are internal ones of its own.
+-- Sources rise, and element statements rise by type and name, none twice. The holds that it carries are internal ones
+-- of its own.
 pub record IsSysmod (s : Sysmod) : Type 0 where
   pub sources : Rises (slice_cmp nat_cmp) (λ t. t) s.sources
-  pub vers : Rises (slice_cmp nat_cmp) (λ v. v.srel) s.vers
   pub changes : Rises change_cmp (λ c. c) s.changes
   pub holds : All (λ h. IsTrue h.internal × (h.kind ≡ System) × (h.id ≡ s.id)) s.holds
 

@@ -13,10 +13,12 @@ use Rattle.terms.specs.Changes.{has_replacement}
 use Rattle.terms.specs.Deleted.{deletions, is_deleted, is_taken_out, zone_less}
 use Rattle.terms.specs.Texts.{IsNumbered, line_at, given, Touches}
 
--- what an APPLY or ACCEPT installs: the kept ids, rising, pairs of an id and a bypassed requisite of it, and the date
+-- what an APPLY or ACCEPT installs: the number of each id's ++VER that counts, the kept ids, rising, pairs of an id and a
+-- bypassed requisite of it, and the date
 pub record Installation : Type 0 where
   pub global : Global
   pub choice : Choice
+  pub number : Id → ℕ
   pub zone : Zone
   pub kept : List Id
   pub bypassed : List (Id × Id)
@@ -27,9 +29,9 @@ pub record TakesEffect (i : Installation) (x : Id) : Type 0 where
   pub kept : Contains i.kept x
   pub first : (y : Id) → Contains i.kept y → y ≢ x → ¬ Supersedes i.choice y x
 
--- what the entry of x says once x takes effect: the ++VER that counts is the only one of its SREL
+-- what the entry of x says once x takes effect
 abbrev pub applied_with : Installation → Id → Applied
-applied_with i x = an_applied i.date 1
+applied_with i x = an_applied i.date (i.number x)
 
 -- the zone less all deletions of the kept set
 abbrev pub cleared : Installation → Zone

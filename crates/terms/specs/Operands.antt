@@ -1,9 +1,10 @@
 -- Operands of statements and commands: each a word, most with a list (SMP/E Reference and Commands: syntax of MCS and
 -- commands).
-use Rattle.std.specs.Prelude.{◌≡◌, ◌≢◌, ◌↔◌, Bool, true, false, List, [], All, AllPairs, Contains, Option, Some, None}
-use Rattle.std.specs.Prelude.{IsSomeAnd, IsTrue, find}
+use Rattle.std.specs.Prelude.{◌≡◌, ◌≢◌, ◌↔◌, ℕ, Bool, true, false, List, [], ◌∷◌, All, AllPairs, Contains, Option, Some}
+use Rattle.std.specs.Prelude.{None, IsSomeAnd, IsTrue, find, if◌then◌else◌, count_by, nat_le}
 use Rattle.std.specs.Str.{bytes_eq}
 use Rattle.terms.specs.Types.{Text}
+use Rattle.terms.specs.Statement.{Piece, TheWord, TheList}
 use Rattle.terms.specs.Lookups.{is_in, IsRising}
 use Rattle.terms.specs.Words.{Word, IsListOf, IsOneOf}
 
@@ -55,3 +56,24 @@ HasTexts form (Some w) values = HasSorted form w values
 abbrev pub HasFlag : Option Word → Bool → Type 0
 HasFlag None flag = flag ≡ false
 HasFlag (Some w) flag = (flag ≡ true) × (w.list ≡ None)
+
+-- the words outside parentheses, whatever else stands among the pieces
+abbrev pub words_in : List Piece → List Text
+words_in [] = []
+words_in (TheWord text ∷ ps) = text ∷ words_in ps
+words_in (_ ∷ ps) = words_in ps
+
+-- the list that comes first, if one does
+abbrev pub leading_list : List Piece → Option Text
+leading_list (TheList list ∷ ps) = Some list
+leading_list _ = None
+
+-- the list right behind the first word of that name, if there is one
+abbrev pub list_behind : Text → List Piece → Option Text
+list_behind name [] = None
+list_behind name (TheWord text ∷ ps) = if bytes_eq name text then leading_list ps else list_behind name ps
+list_behind name (_ ∷ ps) = list_behind name ps
+
+-- whether the text is there so often, or more often
+abbrev pub is_often : ℕ → List Text → Text → Bool
+is_often n texts name = nat_le n (count_by (bytes_eq name) texts)

@@ -2,11 +2,10 @@
 -- Reference, MCS: a SYSMOD is a header, then ++VERs with their ++IFs, then holds, then elements; ++ASSIGN stands
 -- between SYSMODs.)
 use Rattle.std.specs.Prelude.{◌≡◌, ◌≢◌, ◌≤◌, ◌<◌, ℕ, Bool, false, List, [], ◌∷◌, ◌++◌, length, map, All, Any, Option}
-use Rattle.std.specs.Prelude.{Some, None, IsSomeAnd, IfSome, option_map, ◌⊎◌, IsTrue, if◌then◌else◌}
-use Rattle.std.specs.Option.{option_map_or}
-use Rattle.std.specs.Ordering.{nat_cmp}
-use Rattle.std.specs.Str.{bytes_eq}
-use Rattle.std.specs.Cmp.Lexicographic.{slice_cmp}
+use Rattle.std.specs.Prelude.{Some, None, IsSomeAnd, IfSome, option_map, ◌⊎◌, IsTrue, take, drop, slice_get, set}
+use Rattle.std.specs.Prelude.{codes}
+use Rattle.std.specs.List.{position_or_len}
+use Rattle.std.specs.Option.{option_map_or, option_and_then}
 use Rattle.terms.specs.declared.codes.McCode.{McCode}
 use Rattle.terms.specs.declared.codes.McCode.TheVariants.{Mc1, Mc2, Mc3, Mc4, Mc5, Mc6}
 use Rattle.terms.specs.declared.kinds.Kind.{Kind}
@@ -15,23 +14,23 @@ use Rattle.terms.specs.declared.statement_words.StatementWord.{StatementWord}
 use Rattle.terms.specs.declared.statement_words.StatementWord.TheVariants as word
 use Rattle.terms.specs.Types.{Text, Id, Lines, IfReq, Ver, Hold, Change, Sysmod, Item, ASysmod, AnAssign}
 use Rattle.terms.specs.Rising.{with_item}
-use Rattle.terms.specs.Lookups.{at_most_one}
+use Rattle.terms.specs.Lookups.{at_most_one, is_before}
 use Rattle.terms.specs.Global.{change_cmp}
-use Rattle.terms.specs.Forms.{IsSrel, IsName}
+use Rattle.terms.specs.Forms.{IsId, IsSrel, IsName}
 use Rattle.terms.specs.Records.{HasRecords, RecFault, IsRecFault, rec_fault_record}
 use Rattle.terms.specs.Groups.{starts_outside, Group, TakesGroup}
 use Rattle.terms.specs.Statement.{Piece, IsStatement, StFault, IsStFault}
 use Rattle.terms.specs.Words.{Word, HasWords, TakesWord, IsShort}
-use Rattle.terms.specs.Operands.{HasOwn}
+use Rattle.terms.specs.Operands.{HasOwn, words_in, list_behind, is_often}
 use Rattle.terms.specs.Texts.{IsActionOf}
 use Rattle.terms.specs.HoldStatements.{HasShortComment}
 use Rattle.terms.specs.Statements.{statement_text, changed_type, Statement, SaysHeader, SaysVer, SaysIf, SaysHold}
 use Rattle.terms.specs.Statements.{SaysAssign, SaysChange, lists_of, Says}
 
--- A SYSMOD to which the next statement may belong, and the SREL of its last ++VER, to which an ++IF belongs.
+-- A SYSMOD to which the next statement may belong, and the place of its last ++VER, to which an ++IF belongs.
 pub record Begun : Type 0 where
   pub sysmod : Sysmod
-  pub srel : Option Text
+  pub last : Option ℕ
 
 -- What the statements so far make: items that are whole, and the SYSMOD that is begun.
 pub record SoFar : Type 0 where
@@ -47,31 +46,40 @@ items_of c = c.whole ++ at_most_one (option_map (λ b. ASysmod b.sysmod) c.curre
 abbrev pub begun : Kind → Id → Begun
 begun kind id = record {
   sysmod = record { id = id; kind = kind; sources = []; vers = []; changes = []; holds = [] };
-  srel = None;
+  last = None;
 }
 
--- ++VERs are kept by SREL, and element statements by type and name.
+-- the place of a ++VER among others: in front of the first of a later SREL, or behind all
+abbrev pub place_of : Ver → List Ver → ℕ
+place_of v vs = position_or_len (λ w. is_before v.srel w.srel) vs
+
+-- the ++VERs with one more at this place
+abbrev pub with_ver_at : ℕ → Ver → List Ver → List Ver
+with_ver_at n v vs = take n vs ++ v ∷ drop n vs
+
+-- ++VERs are kept by SREL, those of one SREL in the order of the statements, and element statements by type and name.
 abbrev pub with_ver : Ver → Begun → Begun
 with_ver v b = record {
-  sysmod = record b.sysmod { vers = with_item (slice_cmp nat_cmp) (λ w. w.srel) b.sysmod.vers v };
-  srel = Some v.srel;
+  sysmod = record b.sysmod { vers = with_ver_at (place_of v b.sysmod.vers) v b.sysmod.vers };
+  last = Some (place_of v b.sysmod.vers);
 }
 
 abbrev pub with_change : Change → Begun → Begun
 with_change c b = record b { sysmod = record b.sysmod { changes = with_item change_cmp (λ x. x) b.sysmod.changes c } }
 
--- whether the ++VER is the last one
-abbrev pub is_last : Begun → Ver → Bool
-is_last b v = option_map_or (bytes_eq v.srel) b.srel false
+-- the ++VERs where the one at this place has an ++IF more, behind those that it has
+abbrev pub with_if_at : IfReq → List Ver → ℕ → List Ver
+with_if_at i vs n = option_map_or (λ v. set vs n (record v { ifs = v.ifs ++ i ∷ [] })) (slice_get vs n) vs
 
--- An ++IF stands behind those of the last ++VER, and a hold behind those that the SYSMOD has.
+-- An ++IF belongs to the last ++VER, and a hold stands behind those that the SYSMOD has.
 abbrev pub with_if : IfReq → Begun → Begun
 with_if i b = record b {
-  sysmod = record b.sysmod {
-    vers = map (λ v. if is_last b v then record v { ifs = v.ifs ++ i ∷ [] } else v)
-        b.sysmod.vers;
-  };
+  sysmod = record b.sysmod { vers = option_map_or (with_if_at i b.sysmod.vers) b.last b.sysmod.vers };
 }
+
+-- the last ++VER
+abbrev pub last_of : Begun → Option Ver
+last_of b = option_and_then (slice_get b.sysmod.vers) b.last
 
 abbrev pub with_hold : Hold → Begun → Begun
 with_hold h b = record b { sysmod = record b.sysmod { holds = b.sysmod.holds ++ h ∷ [] } }
@@ -104,11 +112,21 @@ MayStand (Some s) (word.Replace type) = s.vers ≢ []
 MayStand (Some s) word.UpdateMac = s.vers ≢ []
 MayStand (Some s) word.UpdateSrc = s.vers ≢ []
 
--- A second ++VER of one SREL, or a second change of one element, be it replaced or updated. The statement word's own
--- list says so, whatever follows.
-abbrev pub IsSecond : Sysmod → StatementWord → Option Text → Type 0
-IsSecond s word.Ver own = (srel : Text) × HasOwn IsSrel own srel × Any (λ v. v.srel ≡ srel) s.vers
-IsSecond s w own = (name : Text) × HasOwn IsName own name × Any
+-- FMID stands among the pieces once, whatever else does, and its list is this one id.
+abbrev pub NamesFmid : List Piece → Id → Type 0
+NamesFmid rest f = (is_often 2 (words_in rest) (codes "FMID") ≡ false)
+    × HasOwn IsId (list_behind (codes "FMID") rest) f
+
+-- The SYSMOD has a ++VER of the SREL: in a function any, else one of the FMID that the pieces name.
+abbrev pub HasVerLike : Sysmod → Text → List Piece → Type 0
+HasVerLike s srel rest = Any (λ v. (v.srel ≡ srel)
+    × ((s.kind ≡ Function) ⊎ IsSomeAnd v.fmid (NamesFmid rest))) s.vers
+
+-- A second ++VER of one SREL in a function, one of the same SREL and FMID in another SYSMOD, or a second change of one
+-- element, be it replaced or updated. The statement word's own list and its FMID say so, whatever else stands there.
+abbrev pub IsSecond : Sysmod → StatementWord → Option Text → List Piece → Type 0
+IsSecond s word.Ver own rest = (srel : Text) × HasOwn IsSrel own srel × HasVerLike s srel rest
+IsSecond s w own rest = (name : Text) × HasOwn IsName own name × Any
     (λ c. (changed_type w ≡ Some c.elem_type) × (c.name ≡ name)) s.changes
 
 abbrev pub IsHeader : StatementWord → Type 0
@@ -129,15 +147,15 @@ pub data Disorder : Type 0 where
   UpdateInFunction : Disorder
 
 -- A statement behind which `later` records follow is out of order behind the statements so far.
-abbrev pub IsMisplaced : Option Sysmod → Lines → StatementWord → Option Text → Lines → Disorder → Type 0
-IsMisplaced current later w own inline CannotStand = ¬ MayStand current w
-IsMisplaced current later w own inline LastHeader = IsHeader w × (later ≡ [])
-IsMisplaced current later w own inline TextBehind = (changed_type w ≡ None) × (inline ≢ [])
-IsMisplaced current later w own inline Second = IsSomeAnd current (λ s. IsSecond s w own)
-IsMisplaced current later w own inline UpdateInFunction = IsUpdateWord w × IsSomeAnd current (λ s. s.kind ≡ Function)
+abbrev pub IsMisplaced : Option Sysmod → Lines → StatementWord → Option Text → List Piece → Lines → Disorder → Type 0
+IsMisplaced current later w own rest inline CannotStand = ¬ MayStand current w
+IsMisplaced current later w own rest inline LastHeader = IsHeader w × (later ≡ [])
+IsMisplaced current later w own rest inline TextBehind = (changed_type w ≡ None) × (inline ≢ [])
+IsMisplaced current later w own rest inline Second = IsSomeAnd current (λ s. IsSecond s w own rest)
+IsMisplaced current later w own rest inline UpdateInFunction = IsUpdateWord w × IsSomeAnd current (λ s. s.kind ≡ Function)
 
-abbrev pub IsPlaced : Option Sysmod → Lines → StatementWord → Option Text → Lines → Type 0
-IsPlaced current later w own inline = (why : Disorder) → ¬ IsMisplaced current later w own inline why
+abbrev pub IsPlaced : Option Sysmod → Lines → StatementWord → Option Text → List Piece → Lines → Type 0
+IsPlaced current later w own rest inline = (why : Disorder) → ¬ IsMisplaced current later w own rest inline why
 
 -- the statement's words, and what they say
 abbrev pub HasValue : Option Sysmod → StatementWord → Option Text → List Piece → Lines → Statement → Type 0
@@ -149,7 +167,7 @@ abbrev pub IsWithin : Option Begun → Statement → Lines → Type 0
 IsWithin current (SaysHeader kind id) inline = Unit {0}
 IsWithin current (SaysVer v) inline = IfSome current (λ b. length b.sysmod.vers < 8) × All IsShort (lists_of v)
 IsWithin current (SaysIf i) inline =
-    IfSome current (λ b. All (λ v. IsTrue (is_last b v) → length v.ifs < 100) b.sysmod.vers) × IsShort i.req
+    IfSome current (λ b. IfSome (last_of b) (λ v. length v.ifs < 100)) × IsShort i.req
 IsWithin current (SaysHold h) inline = HasShortComment h
 IsWithin current (SaysAssign a) inline = IsShort a.to
 IsWithin current (SaysChange c) inline = IfSome current (λ b. length b.sysmod.changes < 999) × (length inline ≤ 99999)
@@ -161,22 +179,22 @@ HasGoodText _ = Unit {0}
 -- The statement of this word, its own list and its rest says so, and nothing is at fault.
 pub record IsGood (current : Option Begun) (later : Lines) (w : StatementWord) (own : Option Text) (rest : List Piece)
     (inline : Lines) (s : Statement) : Type 0 where
-  pub placed : IsPlaced (sysmod_in current) later w own inline
+  pub placed : IsPlaced (sysmod_in current) later w own rest inline
   pub value : HasValue (sysmod_in current) w own rest inline s
   pub within : IsWithin current s inline
   pub text : HasGoodText s
 
 -- What is at fault with a statement of a known word. The first of Mc4, Mc3, Mc6 and Mc5 is answered.
 abbrev pub IsFault : Option Begun → Lines → StatementWord → Option Text → List Piece → Lines → McCode → Type 0
-IsFault current later w own rest inline Mc4 = (why : Disorder) × IsMisplaced (sysmod_in current) later w own inline why
+IsFault current later w own rest inline Mc4 = (why : Disorder) × IsMisplaced (sysmod_in current) later w own rest inline why
 IsFault current later w own rest inline Mc3 =
-    IsPlaced (sysmod_in current) later w own inline × ((s : Statement)
+    IsPlaced (sysmod_in current) later w own rest inline × ((s : Statement)
     → ¬ HasValue (sysmod_in current) w own rest inline s)
 IsFault current later w own rest inline Mc6 = (s : Statement)
-    × IsPlaced (sysmod_in current) later w own inline × HasValue (sysmod_in current) w own rest inline s
+    × IsPlaced (sysmod_in current) later w own rest inline × HasValue (sysmod_in current) w own rest inline s
     × (¬ IsWithin current s inline)
 IsFault current later w own rest inline Mc5 = (s : Statement)
-    × IsPlaced (sysmod_in current) later w own inline × HasValue (sysmod_in current) w own rest inline s
+    × IsPlaced (sysmod_in current) later w own rest inline × HasValue (sysmod_in current) w own rest inline s
     × IsWithin current s inline × (¬ HasGoodText s)
 IsFault current later w own rest inline _ = ⊥
 

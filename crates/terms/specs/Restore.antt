@@ -1,6 +1,6 @@
 -- RESTORE: its list, its tests, its needs, and the target zone afterwards.
 -- (IBM z/OS SMP/E Commands, the RESTORE command. Its candidates, tests, needs and effect are this project's profile.)
-use Rattle.std.specs.Prelude.{◌≡◌, ◌≢◌, ◌⊎◌, ◌↔◌, ◌&&◌, Bool, true, not, List, [], ◌∷◌, Some, filter, IsTrue, IsFalse}
+use Rattle.std.specs.Prelude.{◌≡◌, ◌≢◌, ◌⊎◌, ◌↔◌, ◌&&◌, ◌==◌, Bool, true, false, not, List, [], ◌∷◌, Some, filter, IsTrue, IsFalse}
 use Rattle.std.specs.Prelude.{Contains, Any, All}
 use Rattle.std.specs.List.{list_any}
 use Rattle.std.specs.Option.{option_map_or}
@@ -11,7 +11,7 @@ use Rattle.terms.specs.declared.codes.NeedKind.{NeedKind}
 use Rattle.terms.specs.declared.codes.NeedKind.TheVariants.{Elem, Dep}
 use Rattle.terms.specs.Types.{Text, Id, Global, Element, Zone, RestoreList, RestoreSelect, RestoreGroup}
 use Rattle.terms.specs.Lookups.{IsRising, IsZone, is_in, changes_of, has_change, element_of, is_applied, is_supplied}
-use Rattle.terms.specs.Lookups.{supplies, applied_ids}
+use Rattle.terms.specs.Lookups.{applied_of, supplies, applied_ids}
 use Rattle.terms.specs.Choice.{Choice, fmid_of, del_of}
 use Rattle.terms.specs.Deleted.{entries_less}
 use Rattle.terms.specs.Needs.{Serves, binding_ids}
@@ -80,10 +80,23 @@ FailsJ11 r x = del_of r.choice x ≢ []
 abbrev pub are_applied : Zone → Element → Bool
 are_applied zone e = not (list_any (λ y. not (is_applied zone y)) (e.fmid ∷ e.rmid ∷ e.umids))
 
--- J12: the distribution zone has an element of it under an FMID, an RMID or a UMID that the target zone has not applied
+-- whether both zones have applied it, by the ++VER of one number
+abbrev pub is_alike : Zone → Zone → Id → Bool
+is_alike a b x = option_map_or (λ n. option_map_or (λ m. n.number == m.number) (applied_of b x) false) (applied_of a x) false
+
+-- whether RMID and each UMID of an element are alike in two zones
+abbrev pub are_alike : Zone → Zone → Element → Bool
+are_alike a b e = not (list_any (λ y. not (is_alike a b y)) (e.rmid ∷ e.umids))
+
+-- whether the target zone can take in an element of the distribution zone
+abbrev pub may_return : Restoring → Element → Bool
+may_return r e = are_applied r.zone e && are_alike r.zone r.accepted e
+
+-- J12: the distribution zone has an element of it under an FMID, an RMID or a UMID that the target zone has not applied,
+-- or under an RMID or a UMID that the zones have applied by two ++VERs
 abbrev pub FailsJ12 : Restoring → Id → Type 0
 FailsJ12 r x =
-    Any (λ h. IsFalse (option_map_or (are_applied r.zone) (element_of r.accepted h.elem_type h.name) true))
+    Any (λ h. IsFalse (option_map_or (may_return r) (element_of r.accepted h.elem_type h.name) true))
     (changes_of r.global x)
 
 -- a candidate of RESTORE fails the test

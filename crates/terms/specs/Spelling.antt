@@ -13,7 +13,7 @@ use Rattle.terms.specs.declared.codes.McCode.TheVariants.{Mc1, Mc2, Mc3, Mc4, Mc
 use Rattle.terms.specs.declared.codes.CnCode.{CnCode}
 use Rattle.terms.specs.declared.codes.CnCode.TheVariants.{Cn1, Cn2, Cn3, Cn4, Cn5}
 use Rattle.terms.specs.declared.codes.Test.{Test}
-use Rattle.terms.specs.declared.codes.Test.TheVariants.{J1, J2, J3, J4, J5, J6, J7, J8, J9, J10, J11, J12}
+use Rattle.terms.specs.declared.codes.Test.TheVariants.{J1, J2, J3, J4, J5, J6, J7, J8, J9, J10, J11, J12, J13}
 use Rattle.terms.specs.declared.codes.CommandWord.{CommandWord}
 use Rattle.terms.specs.declared.codes.CommandWord.TheVariants as word
 use Rattle.terms.specs.declared.codes.NeedKind.{NeedKind}
@@ -84,6 +84,7 @@ test_text J9 = codes "J9"
 test_text J10 = codes "J10"
 test_text J11 = codes "J11"
 test_text J12 = codes "J12"
+test_text J13 = codes "J13"
 
 abbrev pub need_text : NeedKind → Text
 need_text need.Fmid = codes "FMID"

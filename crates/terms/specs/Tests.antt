@@ -1,18 +1,18 @@
 -- The tests that a candidate of APPLY or ACCEPT passes or fails before any need of it is looked at.
 -- (IBM z/OS SMP/E Commands, APPLY and ACCEPT processing, and BYPASS; Reference, ++HOLD, NPRE and DELETE of ++VER.
 -- Their order and numbers are this project's profile.)
-use Rattle.std.specs.Prelude.{◌≡◌, ◌≢◌, ◌⊎◌, ◌↔◌, ◌&&◌, ◌||◌, Bool, true, false, not, List, [], ◌∷◌, Option, None, Some}
-use Rattle.std.specs.Prelude.{filter, IsTrue, IsFalse, Contains}
+use Rattle.std.specs.Prelude.{◌≡◌, ◌≢◌, ◌⊎◌, ◌↔◌, ◌≤◌, ◌&&◌, ◌||◌, Bool, true, false, not, List, [], ◌∷◌, Option, None}
+use Rattle.std.specs.Prelude.{Some, filter, length, IsTrue, IsFalse, Contains}
 use Rattle.std.specs.Option.{option_map_or}
 use Rattle.terms.specs.declared.kinds.HoldKind.{HoldKind}
 use Rattle.terms.specs.declared.kinds.HoldKind.TheVariants.{Error, System, User}
 use Rattle.terms.specs.declared.kinds.ElemType.{ElemType}
 use Rattle.terms.specs.declared.kinds.ZoneKind.TheVariants.{Distribution}
 use Rattle.terms.specs.declared.codes.Test.{Test}
-use Rattle.terms.specs.declared.codes.Test.TheVariants.{J1, J2, J3, J4, J5, J6, J7, J8, J9}
+use Rattle.terms.specs.declared.codes.Test.TheVariants.{J1, J2, J3, J4, J5, J6, J7, J8, J9, J13}
 use Rattle.terms.specs.Types.{Text, Id, Hold, Global, Element, Zone, Reasons, NoReason, AnyReason, TheseReasons, Bypass}
 use Rattle.terms.specs.Lookups.{IsRising, is_in, has_change, holds_of, element_of, is_applied, is_function}
-use Rattle.terms.specs.Choice.{Choice, fmid_of, npre_of, del_of}
+use Rattle.terms.specs.Choice.{Choice, vers_of, fits, fmid_of, npre_of, del_of}
 use Rattle.terms.specs.Over.{IsOver, owner}
 use Rattle.terms.specs.Changes.{has_replacement, has_update}
 use Rattle.terms.specs.Deleted.{is_deleted, view}
@@ -96,7 +96,11 @@ FailsJ7 s x =
     × IsFalse s.bypass.applycheck
     × IsFalse (option_map_or (λ target. is_applied target x) s.related false)
 
--- It fails a test that looks at it alone: one of J1 to J7.
+-- J13: two or more of its ++VERs for the zone's SREL fit
+abbrev pub FailsJ13 : Setting → Id → Type 0
+FailsJ13 s x = 2 ≤ length (filter (fits s.zone (is_in s.cands)) (vers_of s.global s.zone.srel x))
+
+-- It fails a test that looks at it alone: one of J1 to J7, or J13.
 abbrev pub FailsAlone : Setting → Id → Test → Type 0
 FailsAlone s x J1 = FailsJ1 s x
 FailsAlone s x J2 = FailsJ2 s x
@@ -105,6 +109,7 @@ FailsAlone s x J4 = FailsJ4 s x
 FailsAlone s x J5 = FailsJ5 s x
 FailsAlone s x J6 = FailsJ6 s x
 FailsAlone s x J7 = FailsJ7 s x
+FailsAlone s x J13 = FailsJ13 s x
 FailsAlone s x _ = ⊥
 
 -- a candidate that passes these
@@ -116,7 +121,7 @@ abbrev pub FailsJ8 : Setting → Id → Type 0
 FailsJ8 s x = PassesAlone s x
     × ((y : Id) × PassesAlone s y × IsTrue (is_deleted s.global s.choice (del_of s.choice y) x))
 
--- a survivor: it passes J1 to J8
+-- a survivor: it passes these and J8
 abbrev pub Survives : Setting → Id → Type 0
 Survives s x = PassesAlone s x × ¬ FailsJ8 s x
 

@@ -36,7 +36,7 @@ pub enum CnCode {
     Cn5,
 }
 
-/// The tests that a candidate passes or fails: `J1` to `J9` of APPLY and ACCEPT, the others of RESTORE.
+/// The tests that a candidate passes or fails: `J1` to `J9` and `J13` of APPLY and ACCEPT, the others of RESTORE.
 #[derive(Clone, Copy, Debug, PartialEq, Eq, PartialOrd, Ord, Hash)]
 pub enum Test {
     J1,
@@ -51,6 +51,7 @@ pub enum Test {
     J10,
     J11,
     J12,
+    J13,
 }
 
 /// What a candidate needs an id for, in the order of reports. ELEM and DEP are RESTORE's.

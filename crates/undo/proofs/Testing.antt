@@ -10,23 +10,23 @@ use Rattle.std.proofs.lemmas.Option.{slice_get-map, get_or_from_slice_get}
 use Rattle.lemmas.proofs.Members.{filter_in, in_filter, none_in}
 use Rattle.lemmas.proofs.Places.{contains_at}
 use Rattle.terms.specs.declared.codes.Test.{Test}
-use Rattle.terms.specs.declared.codes.Test.TheVariants.{J1, J2, J3, J4, J5, J6, J7, J8, J9, J10, J11, J12}
+use Rattle.terms.specs.declared.codes.Test.TheVariants.{J1, J2, J3, J4, J5, J6, J7, J8, J9, J10, J11, J12, J13}
 use Rattle.terms.specs.Types.{Id, Element, Change}
 use Rattle.terms.specs.Lookups.{is_nil, element_of, changes_of}
 use Rattle.terms.specs.Choice.{del_of}
-use Rattle.terms.specs.Restore.{Restoring, FailsRestore, MayBeRestored, are_applied, restore_candidates}
+use Rattle.terms.specs.Restore.{Restoring, FailsRestore, MayBeRestored, may_return, restore_candidates}
 use Rattle.terms.specs.Failures.{all_tests}
 use Rattle.solve.specs.Problem.{holds}
 use Rattle.undo.specs.Tests.{is_behind, fails_test, AreFailedTests}
 
 behind_is : (r : Restoring) (h : Change) → is_behind r h ≡ true
-    ↔ IsFalse (option_map_or (are_applied r.zone) (element_of r.accepted h.elem_type h.name) true)
+    ↔ IsFalse (option_map_or (may_return r) (element_of r.accepted h.elem_type h.name) true)
 behind_is r h = by (element_of r.accepted h.elem_type h.name)
   where
-    by : (o : Option Element) → option_map_or (λ e. not (are_applied r.zone e)) o false ≡ true
-        ↔ IsFalse (option_map_or (are_applied r.zone) o true)
+    by : (o : Option Element) → option_map_or (λ e. not (may_return r e)) o false ≡ true
+        ↔ IsFalse (option_map_or (may_return r) o true)
     by None = (λ e. absurd (cc e), λ e. absurd (cc e))
-    by (Some e) = (λ on. not-true (are_applied r.zone e) on, λ off. ap not off)
+    by (Some e) = (λ on. not-true (may_return r e) on, λ off. ap not off)
 
 nil_is : (xs : List Id) → not (is_nil xs) ≡ true ↔ (xs ≢ [])
 nil_is [] = (λ e. absurd (cc e), λ apart. absurd (apart refl))
@@ -50,6 +50,7 @@ fails_is r x J6 = (λ e. absurd (cc e), λ e. absurd e)
 fails_is r x J7 = (λ e. absurd (cc e), λ e. absurd e)
 fails_is r x J8 = (λ e. absurd (cc e), λ e. absurd e)
 fails_is r x J9 = (λ e. absurd (cc e), λ e. absurd e)
+fails_is r x J13 = (λ e. absurd (cc e), λ e. absurd e)
 
 all_there : (t : Test) → Contains all_tests t
 all_there J1 = (0, omega arith, refl)
@@ -64,6 +65,7 @@ all_there J9 = (8, omega arith, refl)
 all_there J10 = (9, omega arith, refl)
 all_there J11 = (10, omega arith, refl)
 all_there J12 = (11, omega arith, refl)
+all_there J13 = (12, omega arith, refl)
 
 pub map_through : {X Y Z : Type 0} (f : X → Y) (g : Y → Z) (xs : List X) → map (λ x. g (f x)) xs ≡ map g (map f xs)
 map_through f g [] = refl

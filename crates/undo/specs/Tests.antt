@@ -7,12 +7,12 @@ use Rattle.terms.specs.declared.codes.Test.TheVariants.{J10, J11, J12}
 use Rattle.terms.specs.Types.{Id, Change}
 use Rattle.terms.specs.Lookups.{is_nil, changes_of, element_of, is_supplied}
 use Rattle.terms.specs.Choice.{del_of}
-use Rattle.terms.specs.Restore.{Restoring, are_applied, FailsRestore}
+use Rattle.terms.specs.Restore.{Restoring, may_return, FailsRestore}
 use Rattle.terms.specs.Failures.{all_tests}
 
--- whether the distribution zone has the element under an FMID, an RMID or a UMID that the target zone has not applied
+-- whether the distribution zone has the element, and the target zone can't take it in
 abbrev pub is_behind : Restoring → Change → Bool
-is_behind r h = option_map_or (λ e. not (are_applied r.zone e)) (element_of r.accepted h.elem_type h.name) false
+is_behind r h = option_map_or (λ e. not (may_return r e)) (element_of r.accepted h.elem_type h.name) false
 
 abbrev pub fails_test : Restoring → Id → Test → Bool
 fails_test r x J10 = is_supplied r.accepted x

@@ -1,9 +1,10 @@
 //! The tests of RESTORE.
-ghost use Rattle.std.specs.Prelude.{◌≡◌, ◌++◌, [], ◌∷◌, not, filter, map, IfOk, OnOk, if◌then◌else◌};
+ghost use Rattle.std.specs.Prelude.{◌≡◌, ◌++◌, ◌==◌, [], ◌∷◌, false, not, filter, map, IfOk, OnOk, if◌then◌else◌};
 ghost use Rattle.std.specs.List.{list_any};
-ghost use Rattle.terms.specs.Lookups.{is_nil, is_applied};
+ghost use Rattle.std.specs.Option.{option_map_or};
+ghost use Rattle.terms.specs.Lookups.{is_nil, applied_of, is_applied};
 ghost use Rattle.terms.specs.Choice.{del_of};
-ghost use Rattle.terms.specs.Restore.{are_applied};
+ghost use Rattle.terms.specs.Restore.{are_applied, is_alike, are_alike, may_return};
 ghost use Rattle.sysmods.specs.Choices.{choice};
 ghost use Rattle.terms.specs.Failures.{all_tests};
 ghost use Rattle.undo_list.specs.Restoring.{restoring_of};
@@ -42,12 +43,52 @@ fn are_applied(zone: &Zone, element: &Element) -> bool
         && !any_missing(zone, element.umids.as_slice())
 }
 
-// Whether the distribution zone has the element of the statement under a SYSMOD that the target zone lacks.
+// Whether the zone has it applied by the `++VER` of this number.
+fn has_number(zone: &Zone, id: Id, number: usize) -> bool
+    ensures { result ≡ option_map_or (λ m. number == m.number) (applied_of zone.now id) false }
+{
+    match zone.applied(id) {
+        Some(applied) => number == applied.number,
+        None => false,
+    }
+}
+
+// Whether both zones have it applied, by the `++VER` of one number.
+fn is_alike(zone: &Zone, other: &Zone, id: Id) -> bool
+    ensures { result ≡ is_alike zone.now other.now id }
+{
+    match zone.applied(id) {
+        Some(applied) => has_number(other, id, applied.number),
+        None => false,
+    }
+}
+
+fn any_unlike(zone: &Zone, other: &Zone, ids: &[Id]) -> bool
+    ensures { result ≡ list_any (λ y. not (is_alike zone.now other.now y)) ids.now }
+{
+    ids.iter().any(|id| !is_alike(zone, other, *id))
+}
+
+// Whether the RMID and each UMID of the element are alike in the two zones.
+fn are_alike(zone: &Zone, other: &Zone, element: &Element) -> bool
+    ensures { result ≡ are_alike zone.now other.now element.now }
+{
+    is_alike(zone, other, element.rmid) && !any_unlike(zone, other, element.umids.as_slice())
+}
+
+// Whether the target zone can take in the element of the distribution zone.
+fn may_return(scope: &Scope<'_, '_>, element: &Element) -> bool
+    ensures { result ≡ may_return (restoring_of scope.now) element.now }
+{
+    are_applied(scope.zone, element) && are_alike(scope.zone, scope.accepted, element)
+}
+
+// Whether the distribution zone has the element of the statement, and the target zone can't take it in.
 fn is_behind(scope: &Scope<'_, '_>, change: &ElemChange) -> bool
     ensures { result ≡ is_behind (restoring_of scope.now) change.now }
 {
     match scope.accepted.element(change.elem_type, change.name) {
-        Some(element) => !are_applied(scope.zone, element),
+        Some(element) => !may_return(scope, element),
         None => false,
     }
 }

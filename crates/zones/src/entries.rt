@@ -14,7 +14,7 @@ use text80::Line;
 #[derive(Clone, Copy, Debug, PartialEq, Eq)]
 pub struct Applied {
     pub date: YyDdd,
-    pub number: u32,
+    pub number: usize,
 }
 
 impl Model for Applied {

@@ -2,11 +2,11 @@
 ghost use Rattle.std.specs.Prelude.{◌≡◌, ◌==◌, ◌↔◌, [], All, IsTrue, IsSome, IfSome, IfOk, is_some, option_copied};
 ghost use Rattle.zones.specs.Delta.{IsChanged};
 ghost use Rattle.terms.specs.Types.{zone_number, a_zone};
-ghost use Rattle.terms.specs.Lookups.{IsRising, IsZone, entry_of, element_of, is_applied, is_supplied, has_content};
-ghost use Rattle.terms.specs.Lookups.{waives_applied};
+ghost use Rattle.terms.specs.Lookups.{IsRising, IsZone, entry_of, element_of, applied_of, is_applied, is_supplied};
+ghost use Rattle.terms.specs.Lookups.{has_content, waives_applied};
 
 use crate::delta::ZoneDelta;
-use crate::entries::{Element, Entry};
+use crate::entries::{Applied, Element, Entry};
 use fields::{Id, Name, Srel, ZoneName};
 use sorted::Table;
 use std::alloc::{AllocError, Global};
@@ -147,6 +147,13 @@ impl Zone {
         ensures { option_copied result ≡ element_of self.now elem_type name }
     {
         self.elements.get((elem_type, name))
+    }
+
+    /// When the id was applied, and by which `++VER`.
+    pub fn applied(&self, id: Id) -> Option<Applied>
+        ensures { result ≡ applied_of self.now id }
+    {
+        self.entry(id)?.applied
     }
 
     /// Whether the id is applied, in a distribution zone accepted. Nothing else supplies an FMID.

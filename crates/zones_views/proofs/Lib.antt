@@ -7,3 +7,4 @@ pub mod Views
 pub mod Flats
 pub mod Requisites
 pub mod Lost
+pub mod Picking

@@ -12,7 +12,7 @@ use Rattle.std.proofs.lemmas.Cmp.{nat_list_eq_equiv}
 use Rattle.std.proofs.lemmas.Slice.Eq.{bytes_eq-Decides}
 use Rattle.lemmas.proofs.Members.{in_filter, in_map}
 use Rattle.lemmas.proofs.Searches.{find_gives, filter_none}
-use Rattle.terms.specs.Types.{Text, Id, Global, Entry, Zone, Applied}
+use Rattle.terms.specs.Types.{Id, Global, Entry, Zone, Applied}
 use Rattle.terms.specs.Lookups.{is_in, has_content, is_applied, entry_of, supby_of, applied_ids, supplies}
 use Rattle.terms.specs.Choice.{Choice, del_of}
 use Rattle.terms.specs.Deleted.{is_deleted, is_taken_out, entry_less, zone_less}

@@ -36,8 +36,8 @@ pub fn zone_less(
     Ok(less.unwrap())
 }
 
-// The table of items that rise.
-fn table_of<T: Keyed + Drop>(items: Vec<T>) -> Table<T>
+/// The table of items that rise.
+pub(crate) fn table_of<T: Keyed + Drop>(items: Vec<T>) -> Table<T>
     requires { Rises T.Key.cmp T.key_of items.items }
     ensures { result ≡ items.items }
 {

@@ -17,7 +17,7 @@ mod taking;
 
 pub use binding::requisites_held;
 pub use bypassing::is_bypassed_hold;
-pub use choosing::choose;
+pub use choosing::{choose, fits};
 pub use deleting::{deletions, view, view_deletions};
 pub use entry::{TakesOut, entry_less};
 pub use left::{element_left, is_left, supplies_left};

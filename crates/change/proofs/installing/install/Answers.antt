@@ -2,7 +2,7 @@ use Rattle.std.proofs.Common.{◌≡◌, ◌⊎◌, ◌∙◌, Any, IsTrue, IsSo
 use Rattle.terms.specs.Types.{Id, Zone}
 use Rattle.terms.specs.Changes.{has_replacement}
 use Rattle.terms.specs.Lookups.{element_of}
-use Rattle.sysmods.specs.Choices.{choice}
+use Rattle.sysmods.specs.Choices.{number_in, choice}
 use Rattle.terms.specs.Deleted.{deletions, zone_less}
 use Rattle.zones.specs.Delta.{IsChanged}
 use Rattle.terms.specs.Install.{Installation, HasInstalled}
@@ -22,7 +22,8 @@ pub elements_after-requires-clause-order : goal.elements_after-requires-clause-o
 elements_after-requires-clause-order c =
     let vers = c.args.vers.now in
     let zone = c.args.zone.now in
-    let i = installation vers.global.now (choice vers) zone c.args.kept.now c.args.bypassed.now c.args.date in
+    let i = installation vers.global.now (choice vers) (number_in vers) zone c.args.kept.now c.args.bypassed.now
+    c.args.date in
     effective_ordered i c.as_slice-6.result.now
     (members_are i c.as_slice-2.result.now c.in_ok-plan.plan c.as_slice-6.result.now c.in_ok-plan.ensures
     c.as_slice-6.ensures.items)
@@ -33,7 +34,7 @@ elements_after-requires-clause-some c = λ type name changed.
     let g = c.args.vers.now.global.now in
     let by = choice c.args.vers.now in
     let zone = c.args.zone.now in
-    let i = installation g by zone c.args.kept.now c.args.bypassed.now c.args.date in
+    let i = installation g by (number_in c.args.vers.now) zone c.args.kept.now c.args.bypassed.now c.args.date in
     let ids = c.as_slice-6.result.now in
     let dels : c.as_slice-5.result.now ≡ deletions by c.args.kept.now =
     c.as_slice-5.ensures.value ∙ c.in_ok-dels.ensures ∙ ap (deletions by) c.as_slice.ensures.items in
@@ -55,7 +56,8 @@ returns-clause-installs c =
       kept = c.as_slice-3.result;
       dels = c.as_slice-4.result;
     } in
-    let i : List Id → Installation = λ ids. installation g by zone ids c.args.bypassed.now c.args.date in
+    let i : List Id → Installation =
+    λ ids. installation g by (number_in c.args.vers.now) zone ids c.args.bypassed.now c.args.date in
     let dels : c.in_ok-dels.dels.items ≡ deletions by d.kept.now =
     c.in_ok-dels.ensures ∙ ap (deletions by) (c.as_slice.ensures.items ∙ sym c.as_slice-3.ensures.items) in
     let planned : IsPlan (i d.kept.now) d.dels.now plan =

@@ -4,7 +4,8 @@ use Rattle.std.specs.List.{list_any}
 use Rattle.std.proofs.lemmas.Result.{IfOk-weaker}
 use Rattle.terms.specs.Operands.{operand}
 use Rattle.terms.specs.CommandForms.{members_of, HasBypass}
-use Rattle.terms.specs.Commands.{runs_in, is_often}
+use Rattle.terms.specs.Commands.{runs_in}
+use Rattle.terms.specs.Operands.{is_often}
 use Rattle.terms.proofs.BypassMembers.{list_of}
 use Rattle.rec80.specs.Cursors.{text_of}
 use Rattle.rec80.specs.Views.{word_of}

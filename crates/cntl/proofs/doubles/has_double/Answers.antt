@@ -2,7 +2,8 @@ use Rattle.std.proofs.Common.{◌∙◌, sym, ap}
 use Rattle.std.specs.Prelude.{◌||◌, codes}
 use Rattle.std.specs.List.{list_any}
 use Rattle.terms.specs.CommandForms.{members_of}
-use Rattle.terms.specs.Commands.{runs_in, list_behind, is_often}
+use Rattle.terms.specs.Commands.{runs_in}
+use Rattle.terms.specs.Operands.{list_behind, is_often}
 use Rattle.cntl.proofs.doubles.has_double.Goals as goal
 
 pub returns-then-has_operand_twice : goal.returns-then-has_operand_twice

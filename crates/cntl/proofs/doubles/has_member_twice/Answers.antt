@@ -2,7 +2,8 @@ use Rattle.std.proofs.Common.{◌<◌, ◌∙◌, false, [], length, sym, ap, su
 use Rattle.std.specs.List.{list_any}
 use Rattle.std.specs.Prelude.{All}
 use Rattle.terms.specs.CommandForms.{members_of}
-use Rattle.terms.specs.Commands.{runs_from, runs_in, is_often}
+use Rattle.terms.specs.Commands.{runs_from, runs_in}
+use Rattle.terms.specs.Operands.{is_often}
 use Rattle.terms.proofs.ExactBypass.{none_single, names_some}
 use Rattle.lemmas.proofs.Each.{All_unmap}
 use Rattle.lemmas.proofs.Searches.{list_any_map}

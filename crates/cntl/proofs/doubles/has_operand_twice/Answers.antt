@@ -1,6 +1,6 @@
 use Rattle.std.proofs.Common.{◌∙◌, sym, ap}
 use Rattle.std.specs.List.{list_any}
-use Rattle.terms.specs.Commands.{words_in, is_often}
+use Rattle.terms.specs.Operands.{words_in, is_often}
 use Rattle.lemmas.proofs.Searches.{list_any_map}
 use Rattle.cntl.proofs.doubles.has_operand_twice.Goals as goal
 

@@ -2,7 +2,8 @@ use Rattle.std.proofs.Common.{◌≡◌, ◌∙◌, false, [], sym, take, arith}
 use Rattle.std.proofs.lemmas.List.{take_all}
 use Rattle.std.proofs.lemmas.List.Elements.{All-more, All-same}
 use Rattle.std.proofs.lemmas.List.Folds.{list_any_none}
-use Rattle.terms.specs.Commands.{runs_from, is_often}
+use Rattle.terms.specs.Commands.{runs_from}
+use Rattle.terms.specs.Operands.{is_often}
 use Rattle.rec80.specs.Cursors.{text_of}
 use Rattle.cntl.proofs.runs.any_run_twice.Goals as goal
 

@@ -1,6 +1,7 @@
 use Rattle.std.proofs.Common.{◌≡◌, ◌<◌, false, [], length, take}
 use Rattle.std.specs.Prelude.{All}
-use Rattle.terms.specs.Commands.{runs_from, is_often}
+use Rattle.terms.specs.Commands.{runs_from}
+use Rattle.terms.specs.Operands.{is_often}
 use Rattle.rec80.specs.Cursors.{text_of}
 use Rattle.cntl.proofs.runs.any_run_twice.Given as goal
 

@@ -12,22 +12,22 @@ use Rattle.judge.proofs.judging.install_system.Goals as goal
 pub judge_by-requires : goal.judge_by-requires
 judge_by-requires c =
     subst (λ g. All (λ x. IsTrue (is_installable g c.args.zone.now x)) c.args.ids.now)
-    (sym c.choose-vers.ensures.global) c.requires
+    (sym c.in_ok-vers.ensures.global) c.requires
 
 pub returns-clause-problem : goal.returns-clause-problem
 returns-clause-problem c =
     subst (λ s. IfOk c.judge_by.result (λ j. IsInstallProblem s j.system (map (λ n. (n.0, n.1)) j.needed.items)))
     (same_setting c.args.zone.now (option_copied c.args.related) c.args.ids.now c.args.bypass.now c.args.global.now
-    c.choose-vers.result.global.now (choice c.choose-vers.result) c.choose-vers.ensures.global
-    c.choose-vers.ensures.counting)
+    c.in_ok-vers.vers.global.now (choice c.in_ok-vers.vers) c.in_ok-vers.ensures.global
+    c.in_ok-vers.ensures.counting)
     c.judge_by.ensures.problem
 
 pub returns-clause-tests : goal.returns-clause-tests
 returns-clause-tests c =
     subst (λ s. IfOk c.judge_by.result (λ j. AreFailedTests s (map (λ row. row.items) j.tests.items)))
     (same_setting c.args.zone.now (option_copied c.args.related) c.args.ids.now c.args.bypass.now c.args.global.now
-    c.choose-vers.result.global.now (choice c.choose-vers.result) c.choose-vers.ensures.global
-    c.choose-vers.ensures.counting)
+    c.in_ok-vers.vers.global.now (choice c.in_ok-vers.vers) c.in_ok-vers.ensures.global
+    c.in_ok-vers.ensures.counting)
     c.judge_by.ensures.tests
 
 pub returns-clause-bypassed : goal.returns-clause-bypassed
@@ -35,6 +35,6 @@ returns-clause-bypassed c =
     subst (λ s. IfOk c.judge_by.result (λ j. (x z : Id) → Contains {X = Id × Id} j.bypassed.items (x, z)
     ↔ (Contains c.args.ids.now x × Contains (bypassed_ids s x) z)))
     (same_setting c.args.zone.now (option_copied c.args.related) c.args.ids.now c.args.bypass.now c.args.global.now
-    c.choose-vers.result.global.now (choice c.choose-vers.result) c.choose-vers.ensures.global
-    c.choose-vers.ensures.counting)
+    c.in_ok-vers.vers.global.now (choice c.in_ok-vers.vers) c.in_ok-vers.ensures.global
+    c.in_ok-vers.ensures.counting)
     c.judge_by.ensures.bypassed

@@ -19,4 +19,5 @@ returns-clause-faults c =
       lower = c.in_ok-lower.ensures.lower;
       bare = rw c.global-global.ensures at c.has_bare_update.ensures;
       unapplied = c.is_unapplied.ensures;
+      ambiguous = c.is_ambiguous.ensures;
     })

@@ -11,7 +11,7 @@ at : (c : Else-is_misplaced)
 at c =
     stands (begun_in c.args.current.now) c.args.later.now c.args.group.now.records.now c.in-Ok.known.word
     (own_list c.in-Ok.known) c.in-Ok.ensures.ok.0 c.in-Ok.known.rest.inline.now c.is_misplaced.result
-    c.in-Ok.ensures.ok.1 c.is_misplaced.ensures c.if-is_misplaced.false
+    c.in-Ok.ensures.ok.1 (c.is_misplaced.ensures c.in-Ok.ensures.ok.0 c.in-Ok.ensures.ok.2) c.if-is_misplaced.false
 
 pub said_by-requires : goal.said_by-requires
 said_by-requires c =
@@ -34,3 +34,14 @@ returns-clause-fault c = λ each.
     bad_statement (begun_in c.args.current.now) c.args.later.now c.args.group.now.records.now c.in-Ok.known.word
     (own_list c.in-Ok.known) k.0 c.in-Ok.known.rest.inline.now c.said_by.result
     (at (goal.at.returns-clause-fault c).Else-is_misplaced) (c.said_by.ensures.fault k.0 k.2 printable)
+
+pub returns-then-is_misplaced-clause-fault : goal.returns-then-is_misplaced-clause-fault
+returns-then-is_misplaced-clause-fault c = λ each.
+    let k = c.in-Ok.ensures.ok in (
+      c.in-Ok.known.word,
+      own_list c.in-Ok.known,
+      k.0,
+      c.in-Ok.known.rest.inline.now,
+      k.1,
+      (c.is_misplaced.ensures k.0 k.2).0 c.if-is_misplaced.true,
+    )

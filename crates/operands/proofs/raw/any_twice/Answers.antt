@@ -2,7 +2,7 @@ use Rattle.std.proofs.Common.{◌≡◌, ◌∙◌, false, sym, take, arith}
 use Rattle.std.proofs.lemmas.List.{take_all}
 use Rattle.std.proofs.lemmas.List.Elements.{All-more, All-same}
 use Rattle.std.proofs.lemmas.List.Folds.{list_any_none}
-use Rattle.terms.specs.Commands.{words_in, is_often}
+use Rattle.terms.specs.Operands.{words_in, is_often}
 use Rattle.operands.proofs.raw.any_twice.Goals as goal
 
 pub loop-name-preserved : goal.loop-name-preserved

@@ -1,7 +1,7 @@
 use Rattle.std.proofs.Common.{◌≡◌, false, List, take}
 use Rattle.std.specs.Prelude.{All}
 use Rattle.terms.specs.Statement.{Piece}
-use Rattle.terms.specs.Commands.{words_in, is_often}
+use Rattle.terms.specs.Operands.{words_in, is_often}
 use Rattle.operands.specs.Left.{LeavesPieces}
 use Rattle.operands.proofs.raw.any_twice.Given as goal
 

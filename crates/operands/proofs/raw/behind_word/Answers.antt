@@ -1,5 +1,5 @@
 use Rattle.std.proofs.Common.{◌∙◌, sym, ap}
-use Rattle.terms.specs.Commands.{words_in, list_behind}
+use Rattle.terms.specs.Operands.{words_in, list_behind}
 use Rattle.terms.proofs.OperandWords.{count, named, not_named}
 use Rattle.rec80.specs.Pieces.{piece_of}
 use Rattle.operands.proofs.Doubling.{list_here, list_later}

@@ -1,6 +1,6 @@
 use Rattle.std.proofs.Common.{◌≡◌, List, length}
 use Rattle.terms.specs.Statement.{Piece}
-use Rattle.terms.specs.Commands.{words_in, list_behind}
+use Rattle.terms.specs.Operands.{words_in, list_behind}
 use Rattle.terms.proofs.OperandWords.{count}
 use Rattle.rec80.specs.Views.{left_of}
 use Rattle.operands.specs.Left.{LeavesPieces}

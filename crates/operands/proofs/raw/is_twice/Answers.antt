@@ -1,5 +1,5 @@
 use Rattle.std.proofs.Common.{◌∙◌}
-use Rattle.terms.specs.Commands.{words_in}
+use Rattle.terms.specs.Operands.{words_in}
 use Rattle.terms.proofs.OperandWords.{again}
 use Rattle.rec80.specs.Views.{left_of}
 use Rattle.operands.proofs.Doubling.{there_is}

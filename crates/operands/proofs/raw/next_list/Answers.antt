@@ -1,5 +1,5 @@
 use Rattle.std.proofs.Common.{◌∙◌, sym, ap}
-use Rattle.terms.specs.Commands.{leading_list}
+use Rattle.terms.specs.Operands.{leading_list}
 use Rattle.operands.proofs.raw.next_list.Goals as goal
 
 pub returns-in_default : goal.returns-in_default

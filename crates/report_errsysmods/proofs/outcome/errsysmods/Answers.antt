@@ -1,5 +1,6 @@
 use Rattle.std.proofs.Common.{[], refl, map, subst}
 use Rattle.terms.specs.Choice.{counting}
+use Rattle.sysmods.specs.Choices.{has_ver}
 use Rattle.report_errsysmods.specs.Lines.{AreLinesOf}
 use Rattle.report_errsysmods.specs.Resolvers.{AreResolvers}
 use Rattle.report.specs.Views.{line_view}
@@ -13,7 +14,8 @@ returns c = record {
   lines_are =
       are_errsysmods c.args.global.now c.args.zone.now c.len.ensures.form c.in_ok-errors.errors.items c.in_ok-all.all
       c.in_ok-lines.lines.items c.in_ok-errors.ensures
-      (subst (λ l. AreResolvers c.args.global.now (counting c.args.global.now c.args.zone.now []) l c.in_ok-all.all)
+      (subst (λ l. AreResolvers c.args.global.now (has_ver c.args.global.now c.args.zone.now.srel)
+      (counting c.args.global.now c.args.zone.now []) l c.in_ok-all.all)
       c.deref.ensures.value c.in_ok-all.ensures)
       (subst (λ l. AreLinesOf c.in_ok-all.all l c.in_ok-lines.lines.items) c.deref-2.ensures.value
       c.in_ok-lines.ensures);

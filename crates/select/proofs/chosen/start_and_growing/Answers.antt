@@ -6,7 +6,6 @@ use Rattle.select.proofs.chosen.start_and_growing.Goals as goal
 pub returns-clause-members : goal.returns-clause-members
 returns-clause-members c =
     candidates_from c.args.scope.now.global.now c.args.scope.now.zone.now c.args.scope.now.selection.now
-    c.attest.ensures
     c.in_ok-ids.ids.items c.in_ok-asked.asked.keys c.in_ok-brought_in.brought_in.items c.from_vec-candidates.result
     c.in_ok-ids.ensures c.in_ok-asked.ensures
     (kept_of _ _ _ _ c.in_ok-brought_in.ensures c.as_slice-2.ensures.keys)
@@ -16,7 +15,6 @@ returns-clause-members c =
 pub returns-clause-installable : goal.returns-clause-installable
 returns-clause-installable c =
     candidates_installable c.args.scope.now.global.now c.args.scope.now.zone.now c.args.scope.now.selection.now
-    c.attest.ensures
     c.in_ok-ids.ids.items c.in_ok-asked.asked.keys c.in_ok-brought_in.brought_in.items c.from_vec-candidates.result
     c.in_ok-ids.ensures c.in_ok-asked.ensures
     (kept_of _ _ _ _ c.in_ok-brought_in.ensures c.as_slice-2.ensures.keys)

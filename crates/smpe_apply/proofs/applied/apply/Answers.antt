@@ -1,8 +1,9 @@
-use Rattle.std.proofs.Common.{◌≡◌, ◌≢◌, ◌⊎◌, Contains, map, refl, sym, ap, ◌∙◌, subst, subst₂}
+use Rattle.std.proofs.Common.{◌≡◌, ◌≢◌, ◌⊎◌, ◌+◌, Contains, map, refl, sym, ap, ◌∙◌, subst, subst₂}
 use Rattle.std.specs.Prelude.{option_copied}
 use Rattle.zones.specs.Delta.{IsChanged}
 use Rattle.terms.specs.Types.{Id}
-use Rattle.sysmods.specs.Choices.{choice}
+use Rattle.sysmods.specs.Choices.{number_in, choice}
+use Rattle.terms.specs.Choice.{place}
 use Rattle.terms.specs.Over.{IsOver}
 use Rattle.terms.specs.Tests.{ShareElement}
 use Rattle.terms.specs.Install.{HasInstalled}
@@ -23,7 +24,7 @@ pub install-requires-clause-order : goal.install-requires-clause-order
 install-requires-clause-order c =
     let kept = c.in_ok-kept.field-0.kept in
     subst₂ (λ g chosen. (x y : Id) → Contains kept x → Contains kept y → x ≢ y → ShareElement g x y
-    → IsOver chosen x y ⊎ IsOver chosen y x) (sym c.choose-vers.ensures.global) (sym c.choose-vers.ensures.counting)
+    → IsOver chosen x y ⊎ IsOver chosen y x) (sym c.in_ok-vers.ensures.global) (sym c.in_ok-vers.ensures.counting)
     (kept_order c.args.global.now c.args.zone.now (option_copied c.args.related) c.args.selection.now c.args.bypass.now
     c.args.date c.in_ok-ids.ids kept (map why_failed c.in_ok-kept.field-0.failed.items)
     c.in_ok-ids.ensures.members c.in_ok-ids.ensures.installable c.in_ok-kept.ensures.decided c.attest.ensures
@@ -32,19 +33,25 @@ install-requires-clause-order c =
 pub install-requires-clause-base : goal.install-requires-clause-base
 install-requires-clause-base c =
     let kept = c.in_ok-kept.field-0.kept in
-    let vers = c.choose-vers.result in
-    subst (λ pairs. HasBases (installation vers.global.now (choice vers) c.args.zone.now kept pairs c.args.date))
+    let vers = c.in_ok-vers.vers in
+    let pairs = c.in_ok-kept.field-0.bypassed.items in
+    subst (λ all. HasBases (installation vers.global.now (choice vers) (number_in vers) c.args.zone.now kept all
+    c.args.date))
     (sym c.as_slice.ensures.value)
-    (subst₂ (λ g chosen. HasBases (installation g chosen c.args.zone.now kept c.in_ok-kept.field-0.bypassed.items
-    c.args.date)) (sym c.choose-vers.ensures.global) (sym c.choose-vers.ensures.counting)
+    (subst (λ numbers. HasBases (installation vers.global.now (choice vers) numbers c.args.zone.now kept pairs
+    c.args.date)) (sym c.in_ok-vers.ensures.numbers)
+    (subst₂ (λ g chosen. HasBases (installation g chosen (λ x. place c.args.global.now c.args.zone.now
+    c.in_ok-ids.ids x + 1) c.args.zone.now kept pairs c.args.date))
+    (sym c.in_ok-vers.ensures.global) (sym c.in_ok-vers.ensures.counting)
     (kept_bases c.args.global.now c.args.zone.now (option_copied c.args.related) c.args.selection.now c.args.bypass.now
     c.args.date c.in_ok-ids.ids kept (map why_failed c.in_ok-kept.field-0.failed.items)
     c.in_ok-ids.ensures.members c.in_ok-ids.ensures.installable c.in_ok-kept.ensures.decided c.attest.ensures
-    c.len.ensures.form c.in_ok-kept.field-0.bypassed.items))
+    c.len.ensures.form pairs)))
 
 pub returns-clause-installs : goal.returns-clause-installs
 returns-clause-installs c new changed =
     let g = c.args.global.now in
+    let vers = c.in_ok-vers.vers in
     let zone = c.args.zone.now in
     let related = option_copied c.args.related in
     let sel = c.args.selection.now in
@@ -66,7 +73,7 @@ returns-clause-installs c new changed =
     let ok = c.in_ok-ids.ensures.installable in
     let decided = c.in_ok-kept.ensures.decided in
     let d = decision g zone related sel bypass c.args.date c.in_ok-ids.ids kept failed are ok decided bypassed in
-    let in_effect = c.in_ok-effective.ensures d.installing refl (sym c.choose-vers.ensures.counting) in
+    let in_effect = c.in_ok-effective.ensures d.installing refl (sym c.in_ok-vers.ensures.counting) in
     let installed = c.in_ok-delta.ensures.installs new
     (subst (λ delta. IsChanged delta zone new) c.delta.view_is changed) in
     record {
@@ -81,5 +88,11 @@ returns-clause-installs c new changed =
             global = global;
             choice = chosen;
             bypassed = c.as_slice.result.now;
-          }) new) c.choose-vers.ensures.global c.choose-vers.ensures.counting installed);
+          }) new) c.in_ok-vers.ensures.global c.in_ok-vers.ensures.counting
+          (subst (λ numbers. HasInstalled (record d.installing {
+            global = vers.global.now;
+            choice = choice vers;
+            number = numbers;
+            bypassed = c.as_slice.result.now;
+          }) new) c.in_ok-vers.ensures.numbers installed));
     }

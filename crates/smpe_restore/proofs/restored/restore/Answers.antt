@@ -18,8 +18,8 @@ returns c = λ new changed.
     let g = c.args.global.now in
     let zone = c.args.zone.now in
     let accepted = c.args.accepted.now in
-    let r = restoring c.choose-vers.result zone accepted in
-    let global : r.global ≡ g = c.choose-vers.ensures.global in
+    let r = restoring c.in_ok-vers.vers zone accepted in
+    let global : r.global ≡ g = c.in_ok-vers.ensures.global in
     let tested = c.in_ok-cands.ensures.tests in
     let lines = c.in_ok-kept.ensures r global (record {
       cands_are = c.in_ok-cands.ensures.cands;
@@ -43,7 +43,7 @@ returns c = λ new changed.
         zone = zone;
         accepted = accepted;
       })
-          global (c.choose-vers.ensures.counting ∙ ap (counting g zone) c.new-none.ensures);
+          global (c.in_ok-vers.ensures.counting ∙ ap (counting g zone) c.new-none.ensures);
       ids = _;
       listed = c.in_ok-ids.ensures;
       kept = _;

@@ -1,11 +1,11 @@
-use Rattle.std.proofs.Common.{Ok, rules, arith, sym, subst}
+use Rattle.std.proofs.Common.{Ok, arith, sym, subst}
 use Rattle.sqlite.specs.Effect.{Database}
 use Rattle.sqlite.specs.Held.{state}
 use Rattle.sqlite.specs.State.{HasCleanDisk}
 use Rattle.store_rows.specs.declared.error.ReadError.TheVariants.{BadRow, Fault}
 use Rattle.store_rows.specs.Rows.{HasContents}
-use Rattle.store_rows.proofs.Queries.{reads_err, reads_more, reads_then}
-use Rattle.store_schema.specs.Earlier.{schema_under, StandsUnder}
+use Rattle.store_rows.proofs.Queries.{reads_more, reads_then}
+use Rattle.store_schema.specs.Earlier.{schema_under}
 use Rattle.store_migration.proofs.Standing.{stands_from}
 use Rattle.store_migration.proofs.check.check_all.Goals as goal
 

@@ -1,8 +1,4 @@
-use Rattle.std.proofs.Common.{◌≡◌, false, arith, refl, sym, subst, ◌∙◌}
-use Rattle.sqlite.specs.Held.{Held, state}
-use Rattle.sqlite.specs.State.{HasCleanDisk}
-use Rattle.store_schema.specs.Known.{HasTablesUnder}
-use Rattle.store_migration.specs.Migrated.{Migrates}
+use Rattle.std.proofs.Common.{◌≡◌, arith, refl, sym, ◌∙◌}
 use Rattle.store_migration.proofs.Ending.{no_release, tables_made, checks_then, not_checked, has_read, own_kept, all_taken}
 use Rattle.store_migration.proofs.Ending.{not_taken}
 use Rattle.store_migration.proofs.migration.migrated.Goals as goal

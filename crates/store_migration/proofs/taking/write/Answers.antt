@@ -4,7 +4,7 @@ use Rattle.sqlite.specs.State.{HasCleanDisk}
 use Rattle.store_rows.proofs.InsideLemmas.{on_ok}
 use Rattle.store_migration.specs.Moved.{with_moved}
 use Rattle.store_columns.proofs.Releases.{rows_under, stands_rows, stands_inventory}
-use Rattle.store_migration.proofs.Taken.{made_under, all_taken}
+use Rattle.store_migration.proofs.Taken.{made_under, stands_own, all_taken}
 use Rattle.store_migration.proofs.taking.write.Goals as goal
 
 pub returns-clause-ok : goal.returns-clause-ok
@@ -20,5 +20,5 @@ returns-clause-ok g c clean =
     let made = c.in_ok-add_tables.ensures.ok (rows_under r i) first (stands_rows r i db stands) in
     let moved = c.in_ok-move_sources.ensures.ok before (made_under r i) made in
     all_taken r i c.args.heads.now (state s c.write_number.new.tx.conn.now).now are (stands_inventory r i db stands)
-    (numbered clean (fold with_moved (made_under r i) c.args.heads.now) moved))
+    (stands_own r i db stands) (numbered clean (fold with_moved (made_under r i) c.args.heads.now) moved))
     c.write_number.ensures.ok

@@ -1,6 +1,12 @@
-use Rattle.std.proofs.Common.{◌≡◌, ap₂, subst, ◌∙◌}
+use Rattle.std.proofs.Common.{◌≡◌, IsErrOf, rules, ap₂, subst, ◌∙◌}
+use Rattle.store_rows.specs.declared.error.ReadError.TheVariants.{BadRow}
 use Rattle.store_sysmod_loads.specs.Built.{IsBuilt, sysmod_from}
 use Rattle.store_sysmod_loads.proofs.building.take_sysmod.Goals as goal
+
+pub returns-in_err-found-clause-none : goal.returns-in_err-found-clause-none
+returns-in_err-found-clause-none c bad other vs is es h =
+    let failed : IsErrOf c.take_vers.result BadRow = search rules in
+    c.take_vers.ensures.none failed other.vers vs is h.built.most h.vers_are
 
 pub returns-clause-none : goal.returns-clause-none
 returns-clause-none c bad other vs is es h =

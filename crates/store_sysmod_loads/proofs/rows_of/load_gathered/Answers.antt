@@ -1,14 +1,19 @@
-use Rattle.std.proofs.Common.{◌≡◌, [], List, IsPermutation, map, rules, ap, subst, ◌∙◌}
+use Rattle.std.proofs.Common.{◌≡◌, [], List, IsPermutation, map, filter, rules, ap, subst, ◌∙◌}
 use Rattle.std.specs.List.{AllByRecursion}
 use Rattle.lemmas.proofs.Each.{recursion_weaker}
 use Rattle.store_rows.proofs.InsideLemmas.{if_ok}
 use Rattle.store_schema.specs.Tables.{ver, ifreq, elem}
 use Rattle.store_sysmod_loads.specs.declared.flat.HeadRow.{HeadRow}
+use Rattle.store_sysmod_loads.specs.declared.flat.VerRow.{VerRow}
+use Rattle.store_sysmod_loads.specs.declared.flat.IfRow.{IfRow}
+use Rattle.store_sysmod_loads.specs.Flat.{is_first_row, is_first_if}
 use Rattle.store_sysmod_loads.specs.Flat.{row_of_ver, row_of_if, row_of_elem, HasFormsUnder, HasVerRowForms}
 use Rattle.store_sysmod_loads.specs.Flat.{HasIfRowForms, HasElemRowForms}
-use Rattle.store_sysmod_loads.specs.Gathered.{HoldHeads}
+use Rattle.store_sysmod_loads.specs.Gathered.{HoldHeads, HoldMoreVers, HoldMoreIfs}
 use Rattle.store_sysmod_loads.proofs.FlatLemmas.{rows_of_vers, rows_of_ifs, rows_of_elems}
+use Rattle.store_sysmod_loads.proofs.Further.{more_held}
 use Rattle.store_sysmod_loads.proofs.Later.{heads_held}
+use Rattle.store_sysmod_loads.proofs.Parted.{others}
 use Rattle.store_sysmod_loads.proofs.PartLemmas.{part_err, part_more}
 use Rattle.store_sysmod_loads.proofs.rows_of.load_gathered.Goals as goal
 
@@ -30,12 +35,18 @@ returns-clause-part g c =
       heads = heads_held r ss contents (subst (λ (heads : List HeadRow). HoldHeads r heads contents) told.rows_are.heads
           held.heads);
       vers = subst (λ rows. IsPermutation rows (contents ver.tree))
-          (ap (map row_of_ver) told.rows_are.vers ∙ rows_of_vers ss) held.vers;
+          (ap (λ (rows : List VerRow). map row_of_ver (filter is_first_row rows)) told.rows_are.vers ∙ rows_of_vers ss)
+          held.vers.firsts;
       ifs = subst (λ rows. IsPermutation rows (contents ifreq.tree))
-          (ap (map row_of_if) told.rows_are.ifs ∙ rows_of_ifs ss) held.ifs;
+          (ap (λ (rows : List IfRow). map row_of_if (filter is_first_if rows)) told.rows_are.ifs ∙ rows_of_ifs ss)
+          held.ifs.firsts;
       elems = subst (λ rows. IsPermutation rows (contents elem.tree))
           (ap (map row_of_elem) told.rows_are.elems ∙ rows_of_elems ss) held.elems;
-      no_more = held.no_more;
+      more = more_held r ss contents told.whole
+          (subst (λ (rows : List VerRow). HoldMoreVers r (others is_first_row rows) contents) told.rows_are.vers
+          held.vers.more)
+          (subst (λ (rows : List IfRow). HoldMoreIfs r (others is_first_if rows) contents) told.rows_are.ifs
+          held.ifs.more);
     }) c.gathered.ensures.taken)
     (if_ok c.gathered.result _ _ (λ sysmods only ss formed has. only ss formed.whole has) c.gathered.ensures.only)
     (λ bad ss formed has. c.gathered.ensures.none bad ss formed.whole has)

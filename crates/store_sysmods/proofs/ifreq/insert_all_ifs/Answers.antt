@@ -1,61 +1,75 @@
-use Rattle.std.proofs.Common.{Ok, map, ◌∙◌, ap, ap₂, arith}
-use Rattle.std.specs.List.{flat_map, enumerate_from}
-use Rattle.std.proofs.lemmas.List.{take_all}
-use Rattle.terms.specs.Types.{Ver}
+use Rattle.std.proofs.Common.{Ok, ℕ, List, [], map, if◌then◌else◌, ap, ◌∙◌}
+use Rattle.std.specs.List.{enumerate_from}
+use Rattle.sqlite.specs.Order.{Row}
+use Rattle.terms.specs.Types.{Id, Ver}
 use Rattle.store_rows.proofs.InsideLemmas.{stays_then}
-use Rattle.store_schema.specs.Rows.{ifreq_row}
+use Rattle.store_schema.specs.Rows.{ifreq_row, is_first, numbered_behind}
 use Rattle.store_schema.specs.Tables.{ifreq}
-use Rattle.store_sysmods.proofs.Adding.{adds_more, adds_as}
-use Rattle.store_sysmods.specs.Calls.{insert_ifreq, puts}
-use Rattle.store_sysmods.proofs.Calling.{runs_more, runs_stop, runs_all, runs_as}
+use Rattle.store_sysmods.proofs.Adding.{adds_more, adds_all, flat_if}
+use Rattle.store_sysmods.specs.Calls.{puts, insert_ifreq}
+use Rattle.store_sysmods.proofs.Calling.{runs_as, runs_more, runs_stop, runs_all}
+use Rattle.store_sysmods.proofs.Numbering.{numbered_item, numbered_within, numbered_end}
 use Rattle.store_sysmods.proofs.ifreq.insert_all_ifs.Goals as goal
 
-pub loop-ver-preserved : goal.loop-ver-preserved
-loop-ver-preserved g c =
+-- the row or rows of a ++VER, if it is one of these
+abbrev rows : Id → ℕ × Ver → List Row
+rows x v = if is_first v then map (ifreq_row x v.1.srel) (enumerate_from 1 v.1.ifs) else []
+
+pub loop-index-preserved : goal.loop-index-preserved
+loop-index-preserved g c =
     let old = c.args.tx.now.conn.now in
-    let mid = c.loop-ver.tx.conn.now in
-    let new = c.insert_ifs.new.tx.conn.now in
-    let rows = ap₂ (λ srel ifs. map (ifreq_row c.args.id.now srel) (enumerate_from 1 ifs))
-    (ap (λ (v : Ver). v.srel) c.ver.view_is) (c.as_slice.ensures.value ∙ ap (λ (v : Ver). v.ifs) c.ver.view_is)
-    in
-    let added = adds_as g.S.Store ifreq mid new _ _ rows c.in_ok-insert_ifs.ensures.ok in
+    let mid = c.loop-index.tx.conn.now in
+    let new = c.insert_ifs_of_first.new.tx.conn.now in
+    let vs = c.args.vers.now in
+    let index = c.loop-index.index in
+    let item = c.index-vers-index.result in
+    let number = c.number_behind-number.result in
+    let within = numbered_within vs index c.loop-index-test.true in
+    let is = numbered_item vs index number item c.number_behind-number.ensures.same c.loop-index-test.true
+    c.index-vers-index.is in
     record {
-      same_reference = c.insert_ifs.ensures.same_reference ∙ c.loop-ver.invariant.same_reference;
-      inside = stays_then g.S.Store old mid new c.loop-ver.invariant.inside c.insert_ifs.ensures.inside;
-      adds = adds_more g.S.Store ifreq (λ (v : Ver). map (ifreq_row c.args.id.now v.srel) (enumerate_from 1 v.ifs))
-          c.args.vers.now c.loop-ver.ver-index c.ver-item.result old mid new (omega arith) c.ver-item.is
-          c.insert_ifs.ensures.inside
-          c.loop-ver.invariant.adds added;
-      calls = runs_more g.S.Store insert_ifreq
-          (λ (v : Ver). map (ifreq_row c.args.id.now v.srel) (enumerate_from 1 v.ifs)) c.args.vers.now
-          c.loop-ver.ver-index c.ver-item.result old mid new (Ok (tt {0}))
-          (omega arith) c.ver-item.is c.loop-ver.invariant.inside c.insert_ifs.ensures.inside c.loop-ver.invariant.calls
-          (runs_as g.S.Store _ _ mid new (Ok (tt {0})) (ap (puts insert_ifreq) rows) c.in_ok-insert_ifs.ensures.calls);
+      same_reference = c.insert_ifs_of_first.ensures.same_reference ∙ c.loop-index.invariant.same_reference;
+      inside = stays_then g.S.Store old mid new c.loop-index.invariant.inside c.insert_ifs_of_first.ensures.inside;
+      adds = adds_more g.S.Store ifreq (rows c.args.id.now) (numbered_behind [] vs) index (number, item) old mid new
+          within is c.insert_ifs_of_first.ensures.inside c.loop-index.invariant.adds c.in_ok-insert_ifs_of_first.ensures.ok;
+      calls = runs_more g.S.Store insert_ifreq (rows c.args.id.now) (numbered_behind [] vs) index (number, item) old mid new
+          (Ok (tt {0})) within is c.loop-index.invariant.inside c.insert_ifs_of_first.ensures.inside
+          c.loop-index.invariant.calls c.in_ok-insert_ifs_of_first.ensures.calls;
     }
 
 pub returns-clause-ok : goal.returns-clause-ok
 returns-clause-ok g c =
-    adds_as g.S.Store ifreq c.args.tx.now.conn.now c.loop-ver.tx.conn.now _ _
-    (ap (flat_map (λ (v : Ver). map (ifreq_row c.args.id.now v.srel) (enumerate_from 1 v.ifs)))
-    (take_all c.loop-ver.ver-index c.args.vers.now (omega (arith, c.loop-ver-test.false))))
-    c.loop-ver.invariant.adds
+    let x = c.args.id.now in
+    let vs = c.args.vers.now in
+    adds_all g.S.Store ifreq (rows x) (numbered_behind [] vs) _ c.loop-index.index c.args.tx.now.conn.now
+    c.loop-index.tx.conn.now (numbered_end vs c.loop-index.index c.loop-index-test.false)
+    (flat_if is_first (λ (v : ℕ × Ver). map (ifreq_row x v.1.srel) (enumerate_from 1 v.1.ifs)) (numbered_behind [] vs)) c.loop-index.invariant.adds
 
 pub returns-clause-calls : goal.returns-clause-calls
 returns-clause-calls g c =
-    runs_all g.S.Store insert_ifreq (λ (v : Ver). map (ifreq_row c.args.id.now v.srel) (enumerate_from 1 v.ifs))
-    c.args.vers.now c.loop-ver.ver-index c.args.tx.now.conn.now c.loop-ver.tx.conn.now
-    (omega (arith, c.loop-ver-test.false)) c.loop-ver.invariant.calls
+    let x = c.args.id.now in
+    let vs = c.args.vers.now in
+    runs_as g.S.Store _ _ c.args.tx.now.conn.now c.loop-index.tx.conn.now (Ok (tt {0}))
+    (ap (puts insert_ifreq) (flat_if is_first (λ (v : ℕ × Ver). map (ifreq_row x v.1.srel) (enumerate_from 1 v.1.ifs)) (numbered_behind [] vs)))
+    (runs_all g.S.Store insert_ifreq (rows x) (numbered_behind [] vs) c.loop-index.index c.args.tx.now.conn.now
+    c.loop-index.tx.conn.now (numbered_end vs c.loop-index.index c.loop-index-test.false)
+    c.loop-index.invariant.calls)
 
-pub returns-in_err-insert_ifs-clause-calls : goal.returns-in_err-insert_ifs-clause-calls
-returns-in_err-insert_ifs-clause-calls g c =
+pub returns-in_err-insert_ifs_of_first-clause-calls : goal.returns-in_err-insert_ifs_of_first-clause-calls
+returns-in_err-insert_ifs_of_first-clause-calls g c =
     let old = c.args.tx.now.conn.now in
-    let mid = c.loop-ver.tx.conn.now in
-    let new = c.insert_ifs.new.tx.conn.now in
-    let rows = ap₂ (λ srel ifs. map (ifreq_row c.args.id.now srel) (enumerate_from 1 ifs))
-    (ap (λ (v : Ver). v.srel) c.ver.view_is) (c.as_slice.ensures.value ∙ ap (λ (v : Ver). v.ifs) c.ver.view_is)
-    in
-    runs_stop g.S.Store insert_ifreq (λ (v : Ver). map (ifreq_row c.args.id.now v.srel) (enumerate_from 1 v.ifs))
-    c.args.vers.now c.loop-ver.ver-index c.ver-item.result old mid new c.insert_ifs.result _ c.from_residual.result
-    (omega arith) c.ver-item.is c.loop-ver.invariant.inside c.insert_ifs.ensures.inside c.loop-ver.invariant.calls
-    (runs_as g.S.Store _ _ mid new c.insert_ifs.result (ap (puts insert_ifreq) rows) c.insert_ifs.ensures.calls)
-    c.in_err-insert_ifs.was c.from_residual.ensures.1
+    let mid = c.loop-index.tx.conn.now in
+    let new = c.insert_ifs_of_first.new.tx.conn.now in
+    let x = c.args.id.now in
+    let vs = c.args.vers.now in
+    let index = c.loop-index.index in
+    let item = c.index-vers-index.result in
+    let number = c.number_behind-number.result in
+    let within = numbered_within vs index c.loop-index-test.true in
+    let is = numbered_item vs index number item c.number_behind-number.ensures.same c.loop-index-test.true
+    c.index-vers-index.is in
+    runs_as g.S.Store _ _ old new c.from_residual.result (ap (puts insert_ifreq) (flat_if is_first (λ (v : ℕ × Ver). map (ifreq_row x v.1.srel) (enumerate_from 1 v.1.ifs)) (numbered_behind [] vs)))
+    (runs_stop g.S.Store insert_ifreq (rows x) (numbered_behind [] vs) index (number, item) old mid new
+    c.insert_ifs_of_first.result _ c.from_residual.result within is c.loop-index.invariant.inside
+    c.insert_ifs_of_first.ensures.inside c.loop-index.invariant.calls c.insert_ifs_of_first.ensures.calls
+    c.in_err-insert_ifs_of_first.was c.from_residual.ensures.1)

@@ -1,66 +1,75 @@
-use Rattle.std.proofs.Common.{◌≡◌, [], refl, rules, sym, subst, arith}
+use Rattle.std.proofs.Common.{Some, rules, sym, subst, arith}
 use Rattle.sqlite.specs.Held.{state}
 use Rattle.sqlite.specs.State.{HasCleanDisk}
-use Rattle.store_rows.proofs.InsideLemmas.{if_ok}
-use Rattle.store_rows.proofs.Queries.{reads_err, reads_then}
 use Rattle.store_rows.specs.Rows.{HasContents}
-use Rattle.store_columns.specs.Asked.{asked}
 use Rattle.store_schema.specs.Earlier.{schema_under}
-use Rattle.store_schema.specs.Tables.{chosen}
-use Rattle.store_zone_loads.specs.Held.{name_key}
-use Rattle.store_zone_loads.proofs.ByRelease.{earlier_none, third_none, none_third}
+use Rattle.store_zone_loads.specs.Held.{HoldsHead, HoldsUnder}
+use Rattle.store_rows.proofs.Queries.{reads_err, reads_more, reads_then}
+use Rattle.store_zone_loads.proofs.Zones.{head_at, is_zone}
+use Rattle.store_zone_loads.proofs.Heads.{head_named}
 use Rattle.store_zone_loads.proofs.zone.load_under.Goals as goal
 
-pub returns-in-First : goal.returns-in-First
-returns-in-First g c =
-    let release = c.args.release in
-    let name = c.args.name.now in
-    record {
-      found = λ clean contents was. if_ok c.load_named.result _ _
-          (λ zone held. (earlier_none contents name release c.in-First.is, held))
-          (c.load_named.ensures.found clean release contents was);
-      none = λ clean bad contents was zone held. c.load_named.ensures.none clean bad release contents was zone held.1;
-      reads = c.load_named.ensures.reads release;
-    }
-
-pub returns-in_err-refuse_rows-in-Third-clause-none : goal.returns-in_err-refuse_rows-in-Third-clause-none
-returns-in_err-refuse_rows-in-Third-clause-none g c clean bad contents was it held =
-    let none = none_third contents c.args.name.now c.args.release c.in-Third.is held.0 in
-    c.refuse_rows.ensures.none clean (search rules) refl c.args.release c.in-Third.is contents was
-    (subst (λ b. asked (name_key b) (contents chosen.tree) ≡ []) (sym c.as_bytes.ensures.same) none)
-
-pub returns-in_ok-refuse_rows-in-Third-clause-found : goal.returns-in_ok-refuse_rows-in-Third-clause-found
-returns-in_ok-refuse_rows-in-Third-clause-found g c clean contents was =
-    let release = c.args.release in
-    let refused = c.refuse_rows.ensures.reads refl ((_, refl), tt) release c.in-Third.is in
-    let before : HasCleanDisk (state g.S.Store c.refuse_rows.new.conn) =
-    omega (arith, clean, (c.load_named-in-Third.ensures.reads release).crash.clean) in
-    let none = subst (λ b. asked (name_key b) (contents chosen.tree) ≡ []) c.as_bytes.ensures.same
-    (c.in_ok-refuse_rows-in-Third.ensures.found before refl release c.in-Third.is contents was) in
-    let same = (c.in_ok-refuse_rows-in-Third.ensures.reads refl ((_, refl), tt) release c.in-Third.is).same before in
-    let later = subst (HasContents (schema_under release) contents) (sym same.0.now_is) was in
-    if_ok c.load_named-in-Third.result _ _
-    (λ zone held. (third_none contents c.args.name.now release c.in-Third.is none, held))
-    (c.load_named-in-Third.ensures.found clean release contents later)
-
-pub returns-in_ok-refuse_rows-in-Third-clause-none : goal.returns-in_ok-refuse_rows-in-Third-clause-none
-returns-in_ok-refuse_rows-in-Third-clause-none g c clean bad contents was zone held =
-    let release = c.args.release in
-    let before : HasCleanDisk (state g.S.Store c.refuse_rows.new.conn) =
-    omega (arith, clean, (c.load_named-in-Third.ensures.reads release).crash.clean) in
-    let same = (c.in_ok-refuse_rows-in-Third.ensures.reads refl ((_, refl), tt) release c.in-Third.is).same before in
-    let later = subst (HasContents (schema_under release) contents) (sym same.0.now_is) was in
-    c.load_named-in-Third.ensures.none clean bad release contents later zone held.1
-
-pub returns-in_err-refuse_rows-in-Third-clause-reads : goal.returns-in_err-refuse_rows-in-Third-clause-reads
-returns-in_err-refuse_rows-in-Third-clause-reads g c =
-    reads_err g.S.Store _ _ _ c.args.conn.now c.refuse_rows.new.conn c.refuse_rows.result _ (search rules)
+pub returns-in_err-head-clause-reads : goal.returns-in_err-head-clause-reads
+returns-in_err-head-clause-reads g c =
+    reads_err g.S.Store _ _ _ c.args.conn.now c.zone_head.new.conn c.zone_head.result _ (search rules)
     (λ bad. search rules) (λ failed. search rules)
-    (c.refuse_rows.ensures.reads refl ((_, refl), tt) c.args.release c.in-Third.is)
+    (c.zone_head.ensures.reads c.args.release)
 
-pub returns-in_ok-refuse_rows-in-Third-clause-reads : goal.returns-in_ok-refuse_rows-in-Third-clause-reads
-returns-in_ok-refuse_rows-in-Third-clause-reads g c =
-    reads_then g.S.Store _ _ _ c.args.conn.now c.refuse_rows.new.conn c.load_named-in-Third.new.conn
-    c.refuse_rows.result c.in_ok-refuse_rows-in-Third.field-0 _ c.in_ok-refuse_rows-in-Third.was
-    (c.refuse_rows.ensures.reads refl ((_, refl), tt) c.args.release c.in-Third.is)
-    (c.load_named-in-Third.ensures.reads c.args.release)
+pub returns-in_err-load_rest-clause-reads : goal.returns-in_err-load_rest-clause-reads
+returns-in_err-load_rest-clause-reads g c =
+    reads_then g.S.Store _ _ _ c.args.conn.now c.zone_head.new.conn c.load_rest.new.conn c.zone_head.result
+    c.in_ok-head.field-0 _ c.in_ok-head.was (c.zone_head.ensures.reads c.args.release)
+    (reads_err g.S.Store _ _ _ c.zone_head.new.conn c.load_rest.new.conn c.load_rest.result _ (search rules)
+    (λ bad. search rules) (λ failed. search rules) c.load_rest.ensures.reads)
+
+pub returns-clause-reads : goal.returns-clause-reads
+returns-clause-reads g c =
+    reads_then g.S.Store _ _ _ c.args.conn.now c.zone_head.new.conn c.load_rest.new.conn c.zone_head.result
+    c.in_ok-head.field-0 _ c.in_ok-head.was (c.zone_head.ensures.reads c.args.release)
+    (reads_more g.S.Store _ _ _ c.zone_head.new.conn c.load_rest.new.conn c.load_rest.result c.in_ok-load_rest.field-0 _
+    c.in_ok-load_rest.was (λ failed. search rules) c.load_rest.ensures.reads)
+
+pub returns-in_default-clause-reads : goal.returns-in_default-clause-reads
+returns-in_default-clause-reads g c =
+    reads_more g.S.Store _ _ _ c.args.conn.now c.zone_head.new.conn c.zone_head.result c.in_ok-head.field-0 _
+    c.in_ok-head.was (λ failed. search rules) (c.zone_head.ensures.reads c.args.release)
+
+pub returns-in_err-head-clause-none : goal.returns-in_err-head-clause-none
+returns-in_err-head-clause-none g c clean bad contents was zone held =
+    let r = c.args.release in
+    c.zone_head.ensures.none clean (search rules) r contents was _ (head_at contents c.args.name.now r zone held)
+
+pub returns-in_default-clause-found : goal.returns-in_default-clause-found
+returns-in_default-clause-found g c clean contents was =
+    (subst (HoldsHead contents c.args.name.now) c.in_default.is
+    (c.in_ok-head.ensures.found clean c.args.release contents was)).rows
+
+pub returns-clause-found : goal.returns-clause-found
+returns-clause-found g c clean contents was =
+    let r = c.args.release in
+    let name = c.args.name.now in
+    let head = c.in-Some.head in
+    let before : HasCleanDisk (state g.S.Store c.zone_head.new.conn) =
+    omega (arith, clean, c.load_rest.ensures.reads.crash.clean) in
+    let same = (c.in_ok-head.ensures.reads r).same before in
+    let later = subst (HasContents (schema_under r) contents) (sym same.0.now_is) was in
+    let there = subst (HoldsHead contents name) c.in-Some.is (c.in_ok-head.ensures.found before r contents was) in
+    let named = head_named contents name head there in
+    subst (λ n. HoldsUnder r contents n (Some c.in_ok-load_rest.field-0)) named
+    (c.in_ok-load_rest.ensures.found clean contents later
+    (subst (λ n. HoldsHead contents n (Some head)) (sym named) there))
+
+pub returns-in_err-load_rest-clause-none : goal.returns-in_err-load_rest-clause-none
+returns-in_err-load_rest-clause-none g c clean bad contents was zone held =
+    let r = c.args.release in
+    let name = c.args.name.now in
+    let head = c.in-Some.head in
+    let before : HasCleanDisk (state g.S.Store c.zone_head.new.conn) =
+    omega (arith, clean, c.load_rest.ensures.reads.crash.clean) in
+    let same = (c.in_ok-head.ensures.reads r).same before in
+    let later = subst (HasContents (schema_under r) contents) (sym same.0.now_is) was in
+    let there = subst (HoldsHead contents name) c.in-Some.is (c.in_ok-head.ensures.found before r contents was) in
+    let named = head_named contents name head there in
+    let own = is_zone r contents name head there zone held in
+    c.load_rest.ensures.none clean (search rules) contents later
+    (subst (λ n. HoldsHead contents n (Some head)) (sym named) there) own.0 own.1

@@ -7,7 +7,7 @@ use Rattle.store_rows.specs.Rows.{HasContents, with_put}
 use Rattle.store_rows.proofs.InsideLemmas.{on_ok}
 use Rattle.store_schema.specs.Rows.{entry_row}
 use Rattle.store_schema.specs.Tables.{store_schema, entry}
-use Rattle.store_zones.specs.Calls.{put_entry_calls, put_entry}
+use Rattle.store_zones.specs.Calls.{put_entry}
 use Rattle.store_zones.specs.Keys.{entry_key}
 use Rattle.zones.specs.contracts.entries.Entry.{the_view}
 use Rattle.store_zones.proofs.Texts.{puts_entry}
@@ -40,7 +40,7 @@ returns-clause-calls g c =
     c.date_value-date.result c.id_value-delby.result zone e c.as_bytes.ensures.same c.as_bytes-2.ensures.same
     c.date_value-date.ensures (c.requires.supby ∙ sym (ap (λ (x : Entry). join_with_byte 44 x.supby) view))
     c.id_value-delby.ensures (c.requires.waived ∙ sym (ap (λ (x : Entry). join_with_byte 44 x.waived) view)) in
-    subst (λ (x : Entry). RunsInside g.S.Store (put_entry_calls zone x) c.args.tx.now.conn.now c.put.new.tx.conn.now
-    c.put.result) view
+    subst (λ (x : Entry). RunsInside g.S.Store ((put_entry, entry_row zone x) ∷ []) c.args.tx.now.conn.now
+    c.put.new.tx.conn.now c.put.result) view
     (subst (λ r. RunsInside g.S.Store ((put_entry, r) ∷ []) c.args.tx.now.conn.now c.put.new.tx.conn.now c.put.result)
     row c.put.ensures.calls)

@@ -27,7 +27,7 @@ pub returns-clause-stands : goal.returns-clause-stands
 returns-clause-stands g c =
     let made = empty_zone c.args.name c.args.kind c.args.srel c.args.related in
     on_ok c.insert.result _ _ (λ turned global before after clean held.
-    zone_added global made before after _ refl refl (turned clean
+    zone_added global made before after _ refl refl refl (turned clean
     (rows_of (record { global = global; zones = before ++ after })) held)) (returns-clause-ok g c)
 
 pub returns-clause-calls : goal.returns-clause-calls

@@ -1,4 +1,4 @@
-use Rattle.std.proofs.Common.{◌≡◌, length, arith, sym, ◌∙◌}
+use Rattle.std.proofs.Common.{◌≡◌, length, arith, refl, sym, ◌∙◌}
 use Rattle.store_sysmod_loads.proofs.CellLemmas.{whole_ver}
 use Rattle.store_sysmod_loads.proofs.reading.VersFromRow.read.Goals as goal
 
@@ -11,18 +11,21 @@ returns-clause-read c =
           c.in_ok-pre.ensures.some.0 c.in_ok-req.ensures.some.0 c.in_ok-sup.ensures.some.0
           c.in_ok-npre.ensures.some.0 c.in_ok-del.ensures.some.0,
       (
-        c.in-Some.ensures.some.1,
-        record {
-          srel = c.in-Some-srel_in.ensures.some.1;
-          fmid = c.in-Some-other_in.ensures.some.1;
-          pre = c.in_ok-pre.ensures.some.1;
-          req = c.in_ok-req.ensures.some.1;
-          sup = c.in_ok-sup.ensures.some.1;
-          npre = c.in_ok-npre.ensures.some.1;
-          del = c.in_ok-del.ensures.some.1;
-          ifs = λ k d within. absurd (omega arith);
-          suits = tt;
-        },
-        c.new-ifs.ensures.items,
+        (
+          c.in-Some.ensures.some.1,
+          record {
+            srel = c.in-Some-srel_in.ensures.some.1;
+            fmid = c.in-Some-other_in.ensures.some.1;
+            pre = c.in_ok-pre.ensures.some.1;
+            req = c.in_ok-req.ensures.some.1;
+            sup = c.in_ok-sup.ensures.some.1;
+            npre = c.in_ok-npre.ensures.some.1;
+            del = c.in_ok-del.ensures.some.1;
+            ifs = λ k d within. absurd (omega arith);
+            suits = tt;
+          },
+          c.new-ifs.ensures.items,
+        ),
+        refl,
       ),
     )

@@ -20,6 +20,7 @@ returns-clause-read c =
         zone = c.in-Some.ensures.some.1;
         id = c.in-Some-id_in.ensures.some.1;
         applied = c.in-Some-applied_in.ensures.some.1;
+        first = c.in-Some-applied_in.ensures.some.2;
         supby = c.in_ok-supby.ensures.some.1;
         delby = c.in-Some-optional_id_in.ensures.some.1;
         waived = c.in_ok-waived.ensures.some.1;

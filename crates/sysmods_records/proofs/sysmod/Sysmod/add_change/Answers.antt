@@ -11,7 +11,6 @@ invariant_of-self c =
     let k = c.self.invariant in
     record {
       sources = k.sources;
-      vers = k.vers;
       changes = Rises_set change_cmp_total (λ (x : Change). x) c.self.inside.changes.items c.in-Ok.place found.1.0
           c.args.change k.changes found.0 found.1.1;
       holds = k.holds;
@@ -23,7 +22,6 @@ invariant_of-self-in-Ok-2 c =
     let k = c.self.invariant in
     record {
       sources = k.sources;
-      vers = k.vers;
       changes = Rises_set change_cmp_total (λ (x : Change). x) c.self.inside.changes.items c.in-Ok.place found.1.0
           c.args.change k.changes found.0 found.1.1;
       holds = k.holds;
@@ -35,7 +33,6 @@ invariant_of-self-in-Continue-1 c =
     let k = c.self.invariant in
     record {
       sources = k.sources;
-      vers = k.vers;
       changes = rw c.in_ok-insert-in-Err.ensures.items (Rises_parted change_cmp_total (λ (x : Change). x)
           c.self.inside.changes.items c.in-Err.place c.args.change k.changes missing.1);
       holds = k.holds;

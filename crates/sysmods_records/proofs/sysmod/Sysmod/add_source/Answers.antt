@@ -9,7 +9,6 @@ invariant_of-self-2 c =
     record {
       sources = rw c.in_ok-insert.ensures.ok (Rises_with_item nat_list_cmp_total (λ t. t) c.self.inside.sources
           c.args.source k.sources);
-      vers = k.vers;
       changes = k.changes;
       holds = k.holds;
     }

@@ -1,0 +1,21 @@
+use Rattle.std.proofs.Common.{◌≡◌, ◌++◌, ◌∙◌, Bool, filter, ap, subst}
+use Rattle.std.specs.Prelude.{OnOk}
+use Rattle.std.specs.List.{flat_map}
+use Rattle.std.specs.Str.{bytes_eq}
+use Rattle.terms.specs.Types.{Id}
+use Rattle.terms.specs.Choice.{fits}
+use Rattle.select.specs.Growing.{taken_up, required_through}
+use Rattle.select.proofs.Kept.{filter_both}
+use Rattle.select.proofs.bringing.append_asked_through.Goals as goal
+
+pub returns : goal.returns
+returns c =
+    let zone = c.args.scope.now.zone.now in
+    let cands : Id → Bool = taken_up c.args.scope.now.global.now zone c.args.scope.now.selection.now c.args.seen.now.keys
+    in
+    subst (λ l. OnOk c.append_all_through.result
+    (c.append_all_through.new.found.items ≡ c.args.found.now.items
+    ++ flat_map (required_through zone cands c.args.function) l))
+    (filter_both (λ v. bytes_eq v.srel zone.srel) (fits zone cands) c.vers.result.now
+    ∙ ap (filter (fits zone cands)) c.vers.ensures)
+    c.append_all_through.ensures

@@ -1,0 +1,23 @@
+//! The numbers of `++VER`s.
+
+ghost use Rattle.std.specs.Prelude.{◌≡◌, ◌≤◌, ◌+◌, length, filter};
+ghost use Rattle.std.specs.Str.{bytes_eq};
+ghost use Rattle.store_schema.specs.Rows.{number_behind};
+
+use fields::Srel;
+use sysmods_records::Ver;
+
+fn count_of(vers: &[Ver], srel: Srel) -> usize
+    ensures same { result ≡ length (filter (λ ver. bytes_eq ver.srel srel) vers.now) }
+    ensures most { result ≤ length vers.now }
+{
+    vers.iter().filter(|ver| ver.srel == srel).count()
+}
+
+/// The number of the `++VER` behind these others, among those of its SREL.
+pub(crate) fn number_behind(front: &[Ver], ver: &Ver) -> usize
+    ensures same { result ≡ number_behind front.now ver.now }
+    ensures most { result ≤ length front.now + 1 }
+{
+    count_of(front, ver.srel) + 1
+}
