@@ -18,7 +18,8 @@ use Rattle.lemmas.proofs.Members.{in_map, map_in}
 use Rattle.zones.specs.Differing.{ElementEdit, element_after}
 use Rattle.change.specs.Elements.{AreElementsAfter}
 use Rattle.change.specs.Puts.{with_element, with_elements}
-use Rattle.change.proofs.Grouped.{Key, same_key}
+use Rattle.change.specs.Grouping.{Key}
+use Rattle.change.proofs.Grouped.{same_key}
 use Rattle.sorted.proofs.InTurn.{find_member, in_turn_none, in_turn_some}
 use Rattle.change.proofs.Ordered.{all_in}
 

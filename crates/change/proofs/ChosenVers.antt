@@ -8,7 +8,7 @@ use Rattle.std.specs.Str.{bytes_eq}
 use Rattle.std.proofs.lemmas.List.Elements.{Contains-append_left, Contains-append_right}
 use Rattle.std.proofs.lemmas.List.Elements.{All-contains}
 use Rattle.lemmas.proofs.Booleans.{neither}
-use Rattle.lemmas.proofs.Members.{here, none_in, in_map, in_filter, filter_in, in_flat}
+use Rattle.lemmas.proofs.Members.{here, none_in, in_map, filter_in, in_flat}
 use Rattle.lemmas.proofs.Places.{contains_at}
 use Rattle.lemmas.proofs.Searches.{find_gives, All_find, All_from_no_list_any}
 use Rattle.lemmas.proofs.Texts.{same_from}

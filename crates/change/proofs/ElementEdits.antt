@@ -17,7 +17,8 @@ use Rattle.terms.proofs.ElementOrder.{element_cmp_total, element_ties}
 use Rattle.zones.specs.Delta.{ZoneDelta}
 use Rattle.zones.specs.Differing.{ElementEdit, AddsElementEdit, HasEditedElements, element_after}
 use Rattle.sorted.specs.Turned.{TurnsAt, AreTurned}
-use Rattle.change.proofs.Grouped.{Key, same_key}
+use Rattle.change.specs.Grouping.{Key}
+use Rattle.change.proofs.Grouped.{same_key}
 use Rattle.sorted.proofs.InTurn.{find_member}
 use Rattle.zones_views.proofs.Filtered.{any_filter}
 use Rattle.terms.proofs.Nil.{is_some_find}

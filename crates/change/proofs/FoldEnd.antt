@@ -1,8 +1,9 @@
 -- What the fold makes of an element is the element after the installed SYSMODs that change it.
 use Rattle.std.proofs.Common.{◌≡◌, ◌⊎◌, inl, inr, Bool, true, false, List, [], ◌∷◌, ◌++◌, Option, Some, None, refl, sym}
-use Rattle.std.proofs.Common.{ap, ◌∙◌, subst, true≢false, IsTrue, AllPairs, All, Contains}
+use Rattle.std.proofs.Common.{ap, ◌∙◌, subst, true≢false, IsTrue, AllPairs, All, Contains, ℕ, drop, take, append_assoc}
 use Rattle.std.specs.Prelude.{◌↔◌, is_some, IsFalse, IfSome, Any}
 use Rattle.std.specs.Option.{IsSome, option_map_or}
+use Rattle.std.proofs.lemmas.List.{take-append-drop}
 use Rattle.std.proofs.lemmas.List.Elements.{Contains-append_right, Contains-append_cases}
 use Rattle.lemmas.proofs.Members.{there, here_or, none_in, in_middle}
 use Rattle.lemmas.proofs.Pairs.{AllPairs_parts}
@@ -206,3 +207,22 @@ folded_some g c type name xs None new (inr f) (inl some) = absurd (true≢false 
 folded_some g c type name xs None new (inr f) (inr any) =
     let u = f.updates any.1 (any.0, any.2, any.3) in
     absurd (update_replaces_not g c any.1 type name u.0 u.1 any.4)
+
+-- what is folded behind a front of them, from no element
+pub folded_behind : (g : Global) (c : Choice) (type : ElemType) (name : Text) (xs : List Id) (p : ℕ)
+    (start : Option Element) (e : Element) → IsFolded g c type name (drop p xs) None (Some e)
+    → IsFolded g c type name xs start (Some e)
+folded_behind g c type name xs p start e (inl f) = inl (record {
+  front = take p xs ++ f.front;
+  replacer = f.replacer;
+  back = f.back;
+  base = f.base;
+  e = f.e;
+  parts = sym (take-append-drop p xs) ∙ ap (λ l. take p xs ++ l) f.parts
+      ∙ sym (append_assoc (take p xs) f.front (f.replacer ∷ f.back));
+  replaces = f.replaces;
+  updates = f.updates;
+  updated = f.updated;
+  new_is = f.new_is;
+})
+folded_behind g c type name xs p start e (inr f) = let none : Some e ≡ None = f.updated in absurd (cc none)

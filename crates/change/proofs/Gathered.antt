@@ -1,11 +1,13 @@
 -- What lists have after one more: pairs of ids, and the groups of them.
 use Rattle.std.proofs.Common.{◌≡◌, ◌⊎◌, inl, inr, Bool, true, false, ℕ, ◌+◌, ◌<◌, List, [], ◌∷◌, ◌++◌, length}
 use Rattle.std.proofs.Common.{refl, sym, ap, ap₂, ◌∙◌, subst, cond, true≢false, map, get_or, take}
-use Rattle.std.specs.Prelude.{◌↔◌, Contains, Some, find}
+use Rattle.std.specs.Prelude.{◌↔◌, Contains}
 use Rattle.std.specs.Option.{option_map_or}
 use Rattle.std.specs.declared.cmp.Ordering.{Ordering}
 use Rattle.std.specs.declared.cmp.Ordering.TheVariants.{Less, Equal, Greater}
 use Rattle.std.specs.Ordering.{nat_cmp, is_lt, is_eq, ordering_reverse}
+use Rattle.std.specs.BTreeMap.{is_at}
+use Rattle.std.specs.Map.{lookup}
 use Rattle.std.specs.Cmp.Lexicographic.{slice_cmp, texts_ties}
 use Rattle.std.specs.Str.{bytes_eq}
 use Rattle.std.proofs.lemmas.Cmp.{nat_list_cmp_total}
@@ -17,10 +19,9 @@ use Rattle.terms.specs.Types.{Id}
 use Rattle.terms.specs.Choice.{Choice}
 use Rattle.terms.specs.Over.{Supersedes}
 use Rattle.terms.specs.Rising.{with_item, before, behind}
-use Rattle.change.specs.declared.pairs.Group.{Group}
-use Rattle.change.specs.Pairs.{others_of, AddsPair, AreGrouped}
+use Rattle.change.specs.Lists.{Lists, Adds}
+use Rattle.change.specs.Pairs.{others_of, AreGrouped}
 use Rattle.change.specs.Superseded.{AddsSuperseded, AreSuperseded}
-use Rattle.sorted.proofs.InTurn.{find_with_item}
 
 abbrev Has : List (Id × Id) → Id → Id → Type 0
 Has pairs a b = Contains {X = Id × Id} pairs (a, b)
@@ -77,62 +78,50 @@ in_with_item xs z y = (
         (in_filter (λ x. is_lt (slice_cmp nat_cmp z x)) xs y old
         (ap is_lt (nat_list_cmp_total.antisymm z y ∙ ap ordering_reverse e)))
 
-pub adds_pair : (groups new : List Group) (x z : Id) (added : List Id)
-    → added ≡ with_item (slice_cmp nat_cmp) (λ v. v) (others_of groups x) z
-    → new ≡ with_item (slice_cmp nat_cmp) (λ g. g.id) groups (record { id = x; others = added })
-    → AddsPair x z groups new
-adds_pair groups new x z added has is y w = by (bytes_eq x y) refl
+abbrev order : Id → Id → Ordering
+order = slice_cmp nat_cmp
+
+pub grouped_next : (pairs : List (Id × Id)) (k : ℕ) (p : Id × Id) (old new : Lists Id) → k < length pairs
+    → p ≡ get_or pairs k p → Adds order p.0 p.1 old new → AreGrouped (take k pairs) old
+    → AreGrouped (take (k + 1) pairs) new
+grouped_next pairs k p old new below is adds are x z = by (is_eq (order p.0 x)) refl
   where
-    group : Group
-    group = record { id = x; others = added }
+    now : (b : Bool) → is_eq (order p.0 x) ≡ b
+        → others_of new x ≡ cond b (others_of old p.0 ++ p.1 ∷ []) (others_of old x)
+    now b e = adds.list x ∙ ap (λ c. cond c (others_of old p.0 ++ p.1 ∷ []) (others_of old x)) e
 
-    at : (b : Bool) → bytes_eq x y ≡ b
-        → others_of new y ≡ option_map_or (λ g. g.others) (cond b (Some group) (find (λ g. bytes_eq g.id y) groups)) []
-    at b e = ap (λ gs. others_of gs y) is
-        ∙ ap (λ o. option_map_or (λ g. g.others) o [])
-        (find_with_item nat_list_cmp_total (λ (g : Group). g.id) bytes_eq texts_ties groups group y)
-        ∙ ap (λ c. option_map_or (λ g. g.others) (cond c (Some group) (find (λ g. bytes_eq g.id y) groups)) []) e
-
-    by : (b : Bool) → bytes_eq x y ≡ b
-        → Contains (others_of new y) w ↔ (Contains (others_of groups y) w ⊎ ((y ≡ x) × (w ≡ z)))
+    by : (b : Bool) → is_eq (order p.0 x) ≡ b
+        → Contains (others_of new x) z ↔ Contains {X = Id × Id} (take (k + 1) pairs) (x, z)
     by true e =
-        let same : x ≡ y = same_from x y e in
-        let all : others_of new y ≡ with_item (slice_cmp nat_cmp) (λ v. v) (others_of groups y) z = at true e ∙ has
-        ∙ ap (λ v. with_item (slice_cmp nat_cmp) (λ v. v) (others_of groups v) z) same in
-        let within = in_with_item (others_of groups y) z w in (
-          λ h. elim (within.0 (subst (λ ys. Contains ys w) all h)) [
-            | inl old ↦ inl old
-            | inr other ↦ inr (sym same, sym other)
-          ],
-          λ h. subst (λ ys. Contains ys w) (sym all) (within.1 (elim h [
-            | inl old ↦ inl old
-            | inr new ↦ inr (sym new.1)
-          ])),
+        let same : p.0 ≡ x = same_from p.0 x (texts_ties p.0 x ∙ e) in
+        let all : others_of new x ≡ others_of old x ++ p.1 ∷ [] =
+        now true e ∙ ap (λ v. others_of old v ++ p.1 ∷ []) same in (
+          λ h. (in_more pairs k p below is (x, z)).1
+              (elim ((in_push (others_of old x) p.1 z).0 (subst (λ l. Contains l z) all h)) [
+                | inl was ↦ inl ((are x z).0 was)
+                | inr last ↦ inr (ap₂ (λ a b. (a, b)) same last)
+              ]),
+          λ h. subst (λ l. Contains l z) (sym all) ((in_push (others_of old x) p.1 z).1
+              (elim ((in_more pairs k p below is (x, z)).0 h) [
+                | inl was ↦ inl ((are x z).1 was)
+                | inr last ↦ inr (ap (λ q. q.1) last)
+              ])),
         )
     by false e = (
-      λ h. inl (subst (λ ys. Contains ys w) (at false e) h),
-      λ h. elim h [
-        | inl old ↦ subst (λ ys. Contains ys w) (sym (at false e)) old
-        | inr new ↦ absurd (true≢false (sym (same_itself x) ∙ ap (bytes_eq x) (sym new.0) ∙ e))
-      ],
+      λ h. (in_more pairs k p below is (x, z)).1 (inl ((are x z).0 (subst (λ l. Contains l z) (now false e) h))),
+      λ h. subst (λ l. Contains l z) (sym (now false e)) (elim ((in_more pairs k p below is (x, z)).0 h) [
+        | inl was ↦ (are x z).1 was
+        | inr last ↦ absurd (true≢false (sym (sym (texts_ties p.0 x)
+            ∙ subst (λ v. bytes_eq p.0 v ≡ true) (ap (λ q. q.0) last) (same_itself p.0)) ∙ e))
+      ]),
     )
 
-pub grouped_next : (pairs : List (Id × Id)) (k : ℕ) (p : Id × Id) (old new : List Group) → k < length pairs
-    → p ≡ get_or pairs k p → AddsPair p.0 p.1 old new → AreGrouped (take k pairs) old
-    → AreGrouped (take (k + 1) pairs) new
-grouped_next pairs k p old new below is adds are x z = (
-  λ h. (in_more pairs k p below is (x, z)).1 (elim ((adds x z).0 h) [
-    | inl was ↦ inl ((are x z).0 was)
-    | inr last ↦ inr (ap₂ (λ a b. (a, b)) (sym last.0) (sym last.1))
-  ]),
-  λ h. (adds x z).1 (elim ((in_more pairs k p below is (x, z)).0 h) [
-    | inl was ↦ inl ((are x z).1 was)
-    | inr last ↦ inr (sym (ap (λ q. q.0) last), sym (ap (λ q. q.1) last))
-  ]),
+pub grouped_none : (groups : Lists Id) → groups.entries ≡ [] → AreGrouped [] groups
+grouped_none groups empty x z = (
+  λ h. absurd (none_in z (subst (λ es. Contains (option_map_or (λ v. v.items) (lookup (is_at (order x)) es) []) z)
+      empty h)),
+  λ h. absurd (none_in {X = Id × Id} (x, z) h),
 )
-
-pub grouped_none : AreGrouped [] []
-grouped_none x z = (λ h. absurd (none_in z h), λ h. absurd (none_in {X = Id × Id} (x, z) h))
 
 pub adds_superseded : (c : Choice) (x : Id) (sup : List Id) (old new : List (Id × Id))
     → ((z : Id) → Contains sup z ↔ Supersedes c x z) → new ≡ old ++ map (λ z. (z, x)) sup → AddsSuperseded c x old new
@@ -170,9 +159,3 @@ superseded_next c xs k x old new below is adds are z y = (
 
 pub superseded_none : (c : Choice) → AreSuperseded c [] []
 superseded_none c z y = (λ h. absurd (none_in {X = Id × Id} (z, y) h), λ h. absurd (none_in y h.0))
-
--- the same pairs in another order
-pub superseded_same : (c : Choice) (xs : List Id) (old new : List (Id × Id))
-    → ((z y : Id) → Has new z y ↔ Has old z y) → AreSuperseded c xs old → AreSuperseded c xs new
-superseded_same c xs old new same are z y =
-    (λ h. (are z y).0 ((same z y).0 h), λ h. (same z y).1 ((are z y).1 h))

@@ -1,6 +1,6 @@
 -- Lists in the order of over, each later id over each earlier one.
-use Rattle.std.proofs.Common.{◌≡◌, ◌<◌, ◌≤◌, ◌-◌, ◌+◌, ◌⊎◌, inl, inr, ℕ, suc, List, [], ◌∷◌, ◌++◌, length, take, drop}
-use Rattle.std.proofs.Common.{get_or}
+use Rattle.std.proofs.Common.{◌≡◌, ◌<◌, ◌≤◌, ◌-◌, ◌+◌, ◌⊎◌, inl, inr, ℕ, zero, suc, List, [], ◌∷◌, ◌++◌, length, take}
+use Rattle.std.proofs.Common.{get_or, drop}
 use Rattle.std.proofs.Common.{IsPermutation, Contains, AllPairs, All, sym, ap, ◌∙◌, subst, arith}
 use Rattle.std.specs.List.{insert}
 use Rattle.std.proofs.Math.Seq.{drop-cons}
@@ -9,7 +9,7 @@ use Rattle.std.proofs.lemmas.List.{take-append-drop, take_more, get_or-take, len
 use Rattle.std.proofs.lemmas.List.Elements.{Contains-append_right, Contains-get_or, All-cons}
 use Rattle.std.proofs.lemmas.List.Sorted.{Contains-permutation, IsPermutation-sym, IsPermutation-insert}
 use Rattle.std.proofs.lemmas.List.Sorted.{IsPermutation-push_more}
-use Rattle.lemmas.proofs.Pairs.{AllPairs_between, AllPairs_parts}
+use Rattle.lemmas.proofs.Pairs.{AllPairs_between, AllPairs_parts, AllPairs_rest}
 use Rattle.terms.specs.Types.{Id}
 use Rattle.terms.specs.Choice.{Choice}
 use Rattle.terms.specs.Over.{IsOver, names}
@@ -35,6 +35,12 @@ one_before P xs p x some within is one all =
     subst (All P) (sym (drop-cons xs (p - 1) x (omega (arith, some, within))))
     (All-cons P (get_or xs (p - 1) x) (drop (suc (p - 1)) xs) (subst P is one)
     (subst (λ k. All P (drop k xs)) next all))
+
+-- a back of a list in order
+pub pairs_drop : {X : Type 0} (R : X → X → Type 0) (n : ℕ) (xs : List X) → AllPairs R xs → AllPairs R (drop n xs)
+pairs_drop R zero xs pairs = pairs
+pairs_drop R (suc n) [] pairs = pairs
+pairs_drop R (suc n) (x ∷ xs) pairs = pairs_drop R n xs (AllPairs_rest R x xs pairs)
 
 module _ (c : Choice) where
   -- what is over the last id of a front is over all of it

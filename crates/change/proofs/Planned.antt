@@ -6,8 +6,8 @@ use Rattle.lemmas.proofs.Members.{in_map}
 use Rattle.terms.specs.Types.{Text, Id, Global, Zone}
 use Rattle.terms.specs.Choice.{Choice}
 use Rattle.terms.specs.Install.{Installation, TakesEffect}
-use Rattle.change.specs.declared.pairs.Group.{Group}
 use Rattle.change.specs.Deleting.{at_stake}
+use Rattle.change.specs.Lists.{Lists}
 use Rattle.change.specs.Pairs.{AreGrouped}
 use Rattle.change.specs.Superseded.{AreSuperseded}
 use Rattle.change.specs.Plans.{installation, IsPlan}
@@ -16,7 +16,7 @@ abbrev first : Id × Id → Id
 first p = p.0
 
 pub is_plan : (g : Global) (c : Choice) (number : Id → ℕ) (zone : Zone) (kept : List Id) (bypassed : List (Id × Id))
-    (date : Text) (dels effective touched : List Id) (pairs : List (Id × Id)) (superseders by_id : List Group)
+    (date : Text) (dels effective touched : List Id) (pairs : List (Id × Id)) (superseders by_id : Lists Id)
     → ((i : Installation) → i.kept ≡ kept → i.choice ≡ c
     → (x : Id) → Contains effective x ↔ TakesEffect i x)
     → AreSuperseded c effective pairs

@@ -1,41 +1,37 @@
 -- Elements, and for each of them the SYSMODs that change it.
-use Rattle.std.specs.Prelude.{◌≡◌, ◌≢◌, ◌++◌, List, [], ◌∷◌, All, Contains, IsTrue, filter, find, fold}
-use Rattle.std.specs.Option.{option_map_or}
+use Rattle.std.specs.Prelude.{◌≡◌, ◌++◌, List, [], ◌∷◌, filter, if◌then◌else◌}
+use Rattle.std.specs.declared.cmp.Ordering.{Ordering}
+use Rattle.std.specs.List.{flat_map}
+use Rattle.std.specs.Ordering.{nat_cmp, ordering_then}
+use Rattle.std.specs.Cmp.Lexicographic.{slice_cmp}
 use Rattle.terms.specs.declared.kinds.ElemType.{ElemType}
+use Rattle.terms.specs.contracts.kinds.ElemTypeOrd.TheImpl as type_order
 use Rattle.terms.specs.Types.{Text, Id, Change, Global}
-use Rattle.terms.specs.Lookups.{element_cmp, changes_of, has_change}
-use Rattle.terms.specs.Rising.{Rises, with_item}
-use Rattle.terms.specs.Lookups.{element_eq}
+use Rattle.terms.specs.Lookups.{element_eq, has_change}
+use Rattle.change.specs.Lists.{Lists, listed, AreSome}
 
--- an element, by type and name, and SYSMODs that change it
-pub record ChangedElement : Type 0 where
-  pub elem_type : ElemType
-  pub name : Text
-  pub changers : List Id
+-- the type and the name of an element
+abbrev pub Key : Type 0
+Key = ElemType × Text
 
-abbrev pub changed_key : ChangedElement → ElemType × Text
-changed_key e = (e.elem_type, e.name)
+-- those of the element that a statement is about
+abbrev pub change_key : Change → Key
+change_key h = (h.elem_type, h.name)
 
--- Each element that some of these SYSMODs change stands there once, with all of them that change it, in their order.
-pub record AreByElement (g : Global) (ids : List Id) (es : List ChangedElement) : Type 0 where
-  pub rising : Rises element_cmp changed_key es
-  pub changers : All (λ e. e.changers ≡ filter (λ x. has_change g x e.elem_type e.name) ids) es
-  pub some : All (λ e. e.changers ≢ []) es
-  pub all : (x : Id) (type : ElemType) (name : Text) → Contains ids x → IsTrue (has_change g x type name)
-      → (e : ChangedElement) × Contains es e × (changed_key e ≡ (type, name))
+-- the order of the lists
+abbrev pub key_cmp : Key → Key → Ordering
+key_cmp a b = ordering_then (type_order.ghosts.cmp a.0 b.0) (slice_cmp nat_cmp a.1 b.1)
 
--- the SYSMODs that stand there for an element
-abbrev pub changers_in : List ChangedElement → ElemType × Text → List Id
-changers_in es key = option_map_or (λ e. e.changers) (find (λ e. element_eq (changed_key e) key) es) []
+-- x, once for each of these statements that is for the element
+abbrev pub once_each : Id → List Change → Key → List Id
+once_each x hs k = flat_map (λ h. if element_eq (change_key h) k then x ∷ [] else []) hs
 
--- with x as one more that changes the element of the statement
-abbrev pub with_changer : Id → List ChangedElement → Change → List ChangedElement
-with_changer x es h = with_item element_cmp changed_key es (record {
-  elem_type = h.elem_type;
-  name = h.name;
-  changers = changers_in es (h.elem_type, h.name) ++ x ∷ [];
-})
+-- each element has x more, once for each of these statements that is for it
+pub record AddsBy (x : Id) (hs : List Change) (old new : Lists Key) : Type 0 where
+  pub list : (k : Key) → listed key_cmp new k ≡ listed key_cmp old k ++ once_each x hs k
+  pub some : AreSome key_cmp old → AreSome key_cmp new
 
--- with x for each element that it changes
-abbrev pub with_changes : Global → List ChangedElement → Id → List ChangedElement
-with_changes g es x = fold (with_changer x) es (changes_of g x)
+-- Each element that some of these SYSMODs change is there, with all of them that change it, in their order.
+pub record AreByElement (g : Global) (ids : List Id) (all : Lists Key) : Type 0 where
+  pub list : (k : Key) → listed key_cmp all k ≡ filter (λ x. has_change g x k.0 k.1) ids
+  pub some : AreSome key_cmp all

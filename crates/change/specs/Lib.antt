@@ -1,4 +1,5 @@
 pub mod Entries
+pub mod Lists
 pub mod Pairs
 pub mod Plans
 pub mod Puts

@@ -13,7 +13,7 @@ ghost use Rattle.change.specs.Elements.{AreElementsAfter, IsInstallOf};
 ghost use Rattle.change.specs.Folding.{AreChangers};
 
 use crate::folding::element_after;
-use crate::grouping::{Changed, changes_by_element};
+use crate::grouping::changes_by_element;
 use crate::ordering::in_order;
 use fields::{Id, Name};
 use std::alloc::{AllocError, Global};
@@ -42,11 +42,10 @@ pub(crate) fn elements_after(
         → IsInstallOf i vers.now.global.now (choice vers.now) zone.now deletions.now effective.now
         → AreElementsAfter i es.items) }
 {
-    let table = changes_by_element(alloc, vers.global(), effective)?;
+    let changes = changes_by_element(alloc, vers.global(), effective)?;
     let mut elements = Vec::new(alloc);
-    let changes = table.as_slice();
-    for changed in changes {
-        elements.push(changed_element(alloc, vers, zone, deletions, changed)?)?;
+    for (element, changers) in &changes {
+        elements.push(changed_element(alloc, vers, zone, deletions, *element, changers)?)?;
     }
     Ok(elements)
 }
@@ -57,32 +56,23 @@ fn changed_element(
     vers: &VerChoice<'_>,
     zone: &Zone,
     deletions: &[Id],
-    changed: &Changed,
+    element: (ElemType, Name),
+    changers: &[Id],
 ) -> Result<Element, AllocError>
-    requires changers { All (λ x. IsTrue (has_change vers.now.global.now x changed.now.elem_type changed.now.name))
-        changed.now.changers }
-    requires order { AllPairs (λ x y. IsOver (choice vers.now) x y
-        ⊎ IsOver (choice vers.now) y x) changed.now.changers }
+    requires changers { All (λ x. IsTrue (has_change vers.now.global.now x element.0 element.1)) changers.now }
+    requires order { AllPairs (λ x y. IsOver (choice vers.now) x y ⊎ IsOver (choice vers.now) y x) changers.now }
     requires some { IsSome (element_of (zone_less vers.now.global.now (choice vers.now) deletions.now zone.now)
-        changed.now.elem_type changed.now.name)
-        ⊎ Any (λ x. IsTrue (has_replacement vers.now.global.now x changed.now.elem_type changed.now.name))
-        changed.now.changers }
-    ensures key { IfOk result (λ e. (e.elem_type ≡ changed.now.elem_type) × (e.name ≡ changed.now.name)) }
+        element.0 element.1)
+        ⊎ Any (λ x. IsTrue (has_replacement vers.now.global.now x element.0 element.1)) changers.now }
+    ensures key { IfOk result (λ e. (e.elem_type ≡ element.0) × (e.name ≡ element.1)) }
     ensures element { IfOk result (λ e. (i : Installation)
-        → AreChangers i vers.now.global.now (choice vers.now) changed.now.elem_type changed.now.name
-        (element_of (zone_less vers.now.global.now (choice vers.now) deletions.now zone.now)
-        changed.now.elem_type changed.now.name) changed.now.changers
-        → HasElementAfter i changed.now.elem_type changed.now.name e) }
+        → AreChangers i vers.now.global.now (choice vers.now) element.0 element.1
+        (element_of (zone_less vers.now.global.now (choice vers.now) deletions.now zone.now) element.0 element.1)
+        changers.now
+        → HasElementAfter i element.0 element.1 e) }
 {
-    let base = left_of(vers, zone, deletions, changed.elem_type, changed.name);
-    after_all(
-        alloc,
-        vers,
-        base,
-        changed.elem_type,
-        changed.name,
-        &changed.changers,
-    )
+    let base = left_of(vers, zone, deletions, element.0, element.1);
+    after_all(alloc, vers, base, element.0, element.1, changers)
 }
 
 /// The element after these SYSMODs, in the order that over gives them.

@@ -1,19 +1,18 @@
 //! The entries that an install makes.
 ghost use Rattle.std.specs.Prelude.{◌≡◌, ◌↔◌, ◌++◌, [], Some, Contains, IfOk, OnOk, filter, not};
 ghost use Rattle.terms.specs.Types.{Id as AnId};
-ghost use Rattle.terms.specs.Lookups.{IsRising, is_nil};
+ghost use Rattle.terms.specs.Lookups.{IsRising};
 ghost use Rattle.change.specs.Deleting.{AreDeletions, left};
-ghost use Rattle.change.specs.Pairs.{others_of};
 ghost use Rattle.change.specs.Entries.{is_open, IsWaived, IsAppliedEntry, IsOtherEntry, IsEntryAfter};
 ghost use Rattle.change.specs.Entries.{IsMadeEntry, PutsEntry, HasPutEntries};
 
 use crate::deleting::{Deleting, left_entry};
 use crate::differing::{put_entry, remove_entry};
-use crate::pairs::{Group, others};
+use crate::lists::listed;
 use crate::plan::Plan;
 use fields::{Id, IdList};
 use std::alloc::{AllocError, Global};
-use zones::{Applied, Entry, Table, Zone, ZoneDelta};
+use zones::{Applied, Entry, Zone, ZoneDelta};
 
 /// Puts the entries that change.
 pub(crate) fn put_entries(
@@ -96,8 +95,8 @@ fn applied_entry(
 fn waived(alloc: Global, deleting: &Deleting, plan: &Plan, id: Id) -> Result<IdList, AllocError>
     ensures { IfOk result (IsWaived deleting.now plan.now id) }
 {
-    let bypassed = others(alloc, &plan.bypassed, id)?;
-    let open = open_among(alloc, deleting, plan, bypassed.as_slice())?;
+    let bypassed = listed(&plan.bypassed, id);
+    let open = open_among(alloc, deleting, plan, bypassed)?;
     let ids = IdList::from_vec(open);
     let _ = ids.as_slice();
     Ok(ids)
@@ -121,17 +120,9 @@ fn open_among(
 fn is_open(deleting: &Deleting, plan: &Plan, id: Id) -> bool
     ensures { result ≡ is_open deleting.now plan.now id }
 {
-    !plan.effective.contains(id) && has_none(&plan.superseders, id) && !deleting.supplies(id)
-}
-
-// Whether the id is paired with nothing.
-fn has_none(groups: &Table<Group>, id: Id) -> bool
-    ensures { result ≡ is_nil (others_of groups.now id) }
-{
-    match groups.get(id) {
-        Some(group) => group.others.is_empty(),
-        None => true,
-    }
+    !plan.effective.contains(id)
+        && listed(&plan.superseders, id).is_empty()
+        && !deleting.supplies(id)
 }
 
 // The entry of any other id: what is left of it, with more in SUPBY.
@@ -140,8 +131,8 @@ fn other_entry(alloc: Global, deleting: &Deleting, plan: &Plan, id: Id) -> Resul
     ensures { IfOk result (IsOtherEntry deleting.now plan.now id) }
 {
     let old = left_entry(alloc, deleting, id)?;
-    let more = others(alloc, &plan.superseders, id)?;
-    let supby = joined(alloc, old.supby.as_slice(), more.as_slice())?;
+    let more = listed(&plan.superseders, id);
+    let supby = joined(alloc, old.supby.as_slice(), more)?;
     let delby = deleting.delby(id);
     Ok(Entry {
         supby,

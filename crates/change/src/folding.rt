@@ -1,14 +1,13 @@
 //! What the SYSMODs that change one element make of it, one after the other in the order of over.
-ghost use Rattle.std.specs.Prelude.{◌≡◌, ◌<◌, ◌⊎◌, All, AllPairs, Any, IsTrue, IsSome, IfOk, IfSome, Some, length};
-ghost use Rattle.std.specs.Prelude.{position};
-ghost use Rattle.std.specs.Prelude.{option_copied};
+ghost use Rattle.std.specs.Prelude.{◌≡◌, ◌<◌, ◌+◌, ◌⊎◌, All, AllPairs, Any, IsTrue, IsFalse, IsSome, IfOk, IfSome};
+ghost use Rattle.std.specs.Prelude.{IfNone, Some, drop, length, option_copied, position};
 ghost use Rattle.sysmods.specs.Choices.{choice};
 ghost use Rattle.terms.specs.Changes.{has_replacement};
 ghost use Rattle.terms.specs.Install.{Installation, HasElementAfter};
 ghost use Rattle.terms.specs.Lookups.{IsRising, change_of, has_change};
 ghost use Rattle.terms.specs.Over.{IsOver};
 ghost use Rattle.terms.specs.Texts.{IsMerge, IsNumbered, IsUpdate};
-ghost use Rattle.change.specs.Folding.{AreChangers, IsMadeBy, IsStep, IsUpdateOf, is_for};
+ghost use Rattle.change.specs.Folding.{AreChangers, IsFolded, IsMadeBy, IsStep, IsUpdateOf, is_for};
 
 use fields::{Id, IdList, Name};
 use std::alloc::{AllocError, Global};
@@ -39,7 +38,83 @@ pub(crate) fn element_after(
         → HasElementAfter i elem_type name e) }
 {
     prove!(vers.global().len() < 65_536);
-    let mut element = copy_of(alloc, base)?;
+    match last_replacement(vers.global(), elem_type, name, changers) {
+        Some(place) => folded(alloc, vers, None, elem_type, name, from(changers, place)),
+        None => folded(
+            alloc,
+            vers,
+            copy_of(alloc, base)?,
+            elem_type,
+            name,
+            changers,
+        ),
+    }
+}
+
+/// Where the last of these SYSMODs that replaces the element stands.
+fn last_replacement(
+    global: &GlobalZone,
+    elem_type: ElemType,
+    name: Name,
+    changers: &[Id],
+) -> Option<usize>
+    requires { All (λ x. IsTrue (has_change global.now x elem_type name)) changers.now }
+    ensures within { IfSome result (λ place. place < length changers.now) }
+    ensures replaces { IfSome result
+        (λ place. Any (λ x. IsTrue (has_replacement global.now x elem_type name)) (drop place changers.now)) }
+    ensures last { IfSome result
+        (λ place. All (λ x. IsFalse (has_replacement global.now x elem_type name)) (drop (place + 1) changers.now)) }
+    ensures none { IfNone result (All (λ x. IsFalse (has_replacement global.now x elem_type name)) changers.now) }
+{
+    let mut place = changers.len();
+    while place > 0 {
+        if replaces(global, changers[place - 1], elem_type, name) {
+            return Some(place - 1);
+        }
+        place -= 1;
+    }
+    None
+}
+
+/// Those from this place on.
+fn from(ids: &[Id], place: usize) -> &[Id]
+    requires { place < length ids.now }
+    ensures { result.now ≡ drop place ids.now }
+{
+    &ids[place..]
+}
+
+/// Whether the SYSMOD, which changes the element, replaces it.
+fn replaces(global: &GlobalZone, id: Id, elem_type: ElemType, name: Name) -> bool
+    requires { IsTrue (has_change global.now id elem_type name) }
+    ensures { result ≡ has_replacement global.now id elem_type name }
+{
+    match change_of(global, id, elem_type, name).action {
+        Action::Replaces { .. } => true,
+        Action::Updates { .. } => false,
+    }
+}
+
+/// What these SYSMODs make of the element that is there, if one is.
+fn folded(
+    alloc: Global,
+    vers: &VerChoice<'_>,
+    start: Option<Element>,
+    elem_type: ElemType,
+    name: Name,
+    changers: &[Id],
+) -> Result<Element, AllocError>
+    requires start { IfSome start (λ e. (e.elem_type ≡ elem_type) × (e.name ≡ name)) }
+    requires rising { IfSome start (λ e. IsRising e.umids) }
+    requires changers { All (λ x. IsTrue (has_change vers.now.global.now x elem_type name)) changers.now }
+    requires order { AllPairs (λ x y. IsOver (choice vers.now) y x) changers.now }
+    requires some { IsSome start ⊎ Any (λ x. IsTrue (has_replacement vers.now.global.now x elem_type name)) changers.now }
+    ensures key { IfOk result (λ e. (e.elem_type ≡ elem_type) × (e.name ≡ name)) }
+    ensures folded { IfOk result
+        (λ e. IsFolded vers.now.global.now (choice vers.now) elem_type name changers.now start (Some e)) }
+{
+    prove!(vers.global().len() < 65_536);
+    let mut element = start;
     for id in changers {
         element = after_one(alloc, vers, element, elem_type, name, *id)?;
     }

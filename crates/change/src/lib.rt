@@ -14,6 +14,7 @@ mod entries;
 mod folding;
 mod grouping;
 mod installing;
+mod lists;
 mod ordering;
 mod pairs;
 mod plan;

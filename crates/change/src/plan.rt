@@ -6,18 +6,19 @@ ghost use Rattle.change.specs.Deleting.{at_stake};
 ghost use Rattle.change.specs.Plans.{IsPlan, installation};
 
 use crate::effective::{superseded_pairs, taking_effect};
-use crate::pairs::{Group, firsts, grouped, sorted};
+use crate::lists::Lists;
+use crate::pairs::{firsts, grouped};
 use fields::{Id, IdList, YyDdd};
 use std::alloc::{AllocError, Global};
 use sysmods::VerChoice;
-use zones::{Entry, Table, Zone};
+use zones::{Entry, Zone};
 
 /// Who takes effect, who supersedes an id, what was bypassed of an id, and whose entries change.
 #[derive(Drop)]
 pub(crate) struct Plan {
     pub(crate) effective: IdList,
-    pub(crate) superseders: Table<Group>,
-    pub(crate) bypassed: Table<Group>,
+    pub(crate) superseders: Lists<Id>,
+    pub(crate) bypassed: Lists<Id>,
     pub(crate) touched: IdList,
     pub(crate) date: YyDdd,
 }
@@ -37,7 +38,7 @@ pub(crate) fn planned(
         date) dels.now) }
 {
     let effective = taking_effect(alloc, vers, kept)?;
-    let pairs = sorted(superseded_pairs(alloc, vers, effective.as_slice())?);
+    let pairs = superseded_pairs(alloc, vers, effective.as_slice())?;
     let at_stake = at_stake(alloc, zone, dels)?;
     let touched = touched(alloc, effective.as_slice(), pairs.as_slice(), &at_stake)?;
     Ok(Plan {

@@ -1,4 +1,4 @@
 pub mod Survivors
 pub mod Needed
-pub mod Numbering
+pub mod SaidOf
 pub mod Chosen

@@ -1,2 +1,2 @@
 pub mod Surviving
-pub mod InstallProblem
+pub mod InstallJudged

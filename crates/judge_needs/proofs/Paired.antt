@@ -4,11 +4,9 @@ use Rattle.std.proofs.Common.{sym, ap, subst}
 use Rattle.std.specs.Prelude.{◌↔◌}
 use Rattle.std.proofs.lemmas.List.Elements.{Contains-append_left, Contains-append_right, Contains-append_cases}
 use Rattle.terms.specs.Types.{Id}
-use Rattle.terms.specs.Tests.{Setting}
-use Rattle.terms.specs.Needs.{bypassed_ids}
 use Rattle.lemmas.proofs.Members.{here, here_or, none_in, in_map, map_in}
 use Rattle.lemmas.proofs.Lists.{front_more}
-use Rattle.judge_needs.specs.Bypassed.{AddsPairs, AreBypassed}
+use Rattle.judge_needs.specs.Pairs.{AddsBy, AddsPairs, ArePairs}
 
 pub pairs_map : (x : Id) (more : List Id) (old new : List (Id × Id)) → new ≡ old ++ map (λ z. (x, z)) more
     → AddsPairs x more old new
@@ -58,43 +56,37 @@ pairs_then x p q a b c first second y z = (up, down)
       | inr in_q ↦ (second y z).1 (inr (added.0, in_q))
     ]
 
--- the same ids, in another list
-pub pairs_alike : (x : Id) (xs ys : List Id) (old new : List (Id × Id)) → ((z : Id) → Contains xs z ↔ Contains ys z)
-    → AddsPairs x xs old new → AddsPairs x ys old new
-pairs_alike x xs ys old new same adds y z = (
+-- the same ids, said in another way
+pub pairs_alike : (x : Id) (Some Same : Id → Type 0) (old new : List (Id × Id)) → ((z : Id) → Some z ↔ Same z)
+    → AddsBy x Some old new → AddsBy x Same old new
+pairs_alike x Some Same old new same adds y z = (
   λ h. elim ((adds y z).0 h) [ inl was ↦ inl was | inr added ↦ inr (added.0, (same z).0 added.1) ],
   λ h. (adds y z).1 (elim h [ inl was ↦ inl was | inr added ↦ inr (added.0, (same z).1 added.1) ]),
 )
 
-module _ (s : Setting) where
+module _ (Of : Id → Id → Type 0) where
   -- the next candidate
-  pub bypassed_next : (xs : List Id) (k : ℕ) (x : Id) (old new : List (Id × Id)) → k < length xs → x ≡ get_or xs k x
-      → AddsPairs x (bypassed_ids s x) old new → AreBypassed s (take k xs) old
-      → AreBypassed s (take (k + 1) xs) new
-  bypassed_next xs k x old new below at adds was =
-      subst (λ l. AreBypassed s l new) (sym (front_more xs k x below at)) (λ y z. (up y z, down y z))
+  pub pairs_next : (xs : List Id) (k : ℕ) (x : Id) (old new : List (Id × Id)) → k < length xs → x ≡ get_or xs k x
+      → AddsBy x (Of x) old new → ArePairs Of (take k xs) old → ArePairs Of (take (k + 1) xs) new
+  pairs_next xs k x old new below at adds was =
+      subst (λ l. ArePairs Of l new) (sym (front_more xs k x below at)) (λ y z. (up y z, down y z))
     where
-      up : (y z : Id) → Contains new (y, z)
-          → Contains (take k xs ++ x ∷ []) y × Contains (bypassed_ids s y) z
+      up : (y z : Id) → Contains new (y, z) → Contains (take k xs ++ x ∷ []) y × Of y z
       up y z h = elim ((adds y z).0 h) [
         | inl before ↦
             let both = (was y z).0 before in
             (Contains-append_left (take k xs) (x ∷ []) y both.0, both.1)
         | inr added ↦ (
           Contains-append_right (take k xs) (x ∷ []) y (subst (Contains (x ∷ [])) (sym added.0) (here x [])),
-          subst (λ w. Contains (bypassed_ids s w) z) (sym added.0) added.1,
+          subst (λ w. Of w z) (sym added.0) added.1,
         )
       ]
 
-      down : (y z : Id) → Contains (take k xs ++ x ∷ []) y × Contains (bypassed_ids s y) z
-          → Contains new (y, z)
+      down : (y z : Id) → Contains (take k xs ++ x ∷ []) y × Of y z → Contains new (y, z)
       down y z h = elim (Contains-append_cases (take k xs) (x ∷ []) y h.0) [
         | inl before ↦ (adds y z).1 (inl ((was y z).1 (before, h.1)))
         | inr last ↦ elim (here_or x [] y last) [
-          | inl same ↦ (adds y z).1 (inr (
-            sym same,
-            subst (λ w. Contains (bypassed_ids s w) z) (sym same) h.1,
-          ))
+          | inl same ↦ (adds y z).1 (inr (sym same, subst (λ w. Of w z) (sym same) h.1))
           | inr none ↦ absurd (none_in y none)
         ]
       ]

@@ -1,10 +1,10 @@
 -- The needs of candidates, each once, as they come in.
 use Rattle.std.proofs.Common.{◌≡◌, ◌≢◌, ◌⊎◌, inl, inr, ℕ, zero, suc, ◌<◌, ◌+◌, Bool, true, List, [], ◌++◌}
 use Rattle.std.proofs.Common.{Some, IsTrue, refl, sym, ap, append-nil, ◌∙◌, subst, filter, map, Contains, arith}
-use Rattle.std.proofs.Common.{slice_get}
-use Rattle.std.specs.Prelude.{All, ◌↔◌, get_or}
+use Rattle.std.proofs.Common.{length, slice_get}
+use Rattle.std.specs.Prelude.{◌↔◌, get_or}
 use Rattle.std.proofs.lemmas.Bool.{cases_eq}
-use Rattle.std.proofs.lemmas.Option.{same_Some}
+use Rattle.std.proofs.lemmas.Option.{same_Some, slice_get_within}
 use Rattle.std.proofs.lemmas.List.{append_assoc}
 use Rattle.std.proofs.lemmas.List.Elements.{Contains-append_left, Contains-append_right, Contains-append_cases}
 use Rattle.std.proofs.lemmas.List.Elements.{Contains-get_or}
@@ -14,25 +14,27 @@ use Rattle.terms.specs.declared.codes.NeedKind.TheVariants.{Fmid, Pre, Req, Ifre
 use Rattle.terms.specs.Types.{Id, Zone, Bypass}
 use Rattle.terms.specs.Lookups.{IsRising, is_before}
 use Rattle.terms.specs.Tests.{Setting}
-use Rattle.terms.specs.Needs.{asked}
+use Rattle.terms.specs.Needs.{asked, zone_left}
 use Rattle.lemmas.proofs.Members.{map_in, in_map, filter_in, in_filter, none_in}
+use Rattle.lemmas.proofs.Places.{contains_at, found_at}
 use Rattle.lemmas.proofs.Pairs.{AllPairs_join, pairs_map}
-use Rattle.judge_needs.specs.declared.wanted.Want.{Want}
-use Rattle.judge_needs.specs.Wanted.{a_want, is_open, IsOpen, AreWants, AddsPart, IsOfKind, IsOpenAt}
-use Rattle.terms.proofs.IdPlaces.{before_apart}
+use Rattle.decide.specs.declared.wants.Want.{Want}
+use Rattle.decide.specs.Said.{a_want}
+use Rattle.judge_needs.specs.Wanted.{is_open, IsOpen, AreWants, AddsPart, IsOfKind, IsOpenAt, AreNeeds}
+use Rattle.terms.proofs.IdPlaces.{before_apart, two_places}
 
-pub join : (D E : ℕ → NeedKind → Id → Type 0) (xs ys : List Want) → AreWants D xs → AreWants E ys
-    → ((n : ℕ) (kind : NeedKind) (z : Id) → D n kind z → ¬ E n kind z)
-    → AreWants (λ n kind z. D n kind z ⊎ E n kind z) (xs ++ ys)
+pub join : (D E : Id → NeedKind → Id → Type 0) (xs ys : List Want) → AreWants D xs → AreWants E ys
+    → ((x : Id) (kind : NeedKind) (z : Id) → D x kind z → ¬ E x kind z)
+    → AreWants (λ x kind z. D x kind z ⊎ E x kind z) (xs ++ ys)
 join D E xs ys v w apart = record {
-  members = λ n kind z. (
-    λ h. elim (Contains-append_cases xs ys (a_want n kind z) h) [
-      | inl front ↦ inl ((v.members n kind z).0 front)
-      | inr back ↦ inr ((w.members n kind z).0 back)
+  members = λ x kind z. (
+    λ h. elim (Contains-append_cases xs ys (a_want x kind z) h) [
+      | inl front ↦ inl ((v.members x kind z).0 front)
+      | inr back ↦ inr ((w.members x kind z).0 back)
     ],
     λ h. elim h [
-      | inl d ↦ Contains-append_left xs ys (a_want n kind z) ((v.members n kind z).1 d)
-      | inr e ↦ Contains-append_right xs ys (a_want n kind z) ((w.members n kind z).1 e)
+      | inl d ↦ Contains-append_left xs ys (a_want x kind z) ((v.members x kind z).1 d)
+      | inr e ↦ Contains-append_right xs ys (a_want x kind z) ((w.members x kind z).1 e)
     ],
   );
   once = AllPairs_join (λ v w. v ≢ w) xs ys v.once w.once (λ i a below j b within.
@@ -43,12 +45,12 @@ join D E xs ys v w apart = record {
     differ a b in_xs in_ys same = apart a.of a.kind a.id ((v.members a.of a.kind a.id).0 in_xs)
         ((w.members a.of a.kind a.id).0 (subst (Contains ys) (sym same) in_ys))
 
-pub alike : (D E : ℕ → NeedKind → Id → Type 0) (xs : List Want)
-    → ((n : ℕ) (kind : NeedKind) (z : Id) → D n kind z ↔ E n kind z) → AreWants D xs → AreWants E xs
+pub alike : (D E : Id → NeedKind → Id → Type 0) (xs : List Want)
+    → ((x : Id) (kind : NeedKind) (z : Id) → D x kind z ↔ E x kind z) → AreWants D xs → AreWants E xs
 alike D E xs both w = record {
-  members = λ n kind z. (
-    λ h. (both n kind z).0 ((w.members n kind z).0 h),
-    λ e. (w.members n kind z).1 ((both n kind z).1 e),
+  members = λ x kind z. (
+    λ h. (both x kind z).0 ((w.members x kind z).0 h),
+    λ e. (w.members x kind z).1 ((both x kind z).1 e),
   );
   once = w.once;
 }
@@ -58,16 +60,16 @@ module _ (zone : Zone) (b : Bypass) (kind : NeedKind) where
   abbrev is_left : Id → Bool
   is_left = is_open zone b kind
 
-  pub of_kind_holds : (of : ℕ) (asked : List Id) (old new : List Want) → IsRising asked
+  pub of_kind_holds : (of : Id) (asked : List Id) (old new : List Want) → IsRising asked
       → new ≡ old ++ map (a_want of kind) (filter (is_open zone b kind) asked)
       → AddsPart of (IsOfKind zone b kind asked) old new
   of_kind_holds of asked old new rising are = record {
     more = map (a_want of kind) (filter is_left asked);
     are = are;
     wants = record {
-      members = λ n k z. (
+      members = λ x k z. (
         λ h.
-            let m = map_in (a_want of kind) (filter is_left asked) (a_want n k z) h in
+            let m = map_in (a_want of kind) (filter is_left asked) (a_want x k z) h in
             let f = filter_in is_left asked m.0 m.1 in
             let same : m.0 ≡ z = ap (λ (w : Want). w.id) m.2 in (
               sym (ap (λ (w : Want). w.of) m.2),
@@ -89,26 +91,26 @@ module _ (zone : Zone) (b : Bypass) (kind : NeedKind) where
   }
 
 -- two parts, one behind the other
-pub both_parts : (of : ℕ) (P Q : NeedKind → Id → Type 0) (a b c : List Want) → AddsPart of P a b → AddsPart of Q b c
+pub both_parts : (of : Id) (P Q : NeedKind → Id → Type 0) (a b c : List Want) → AddsPart of P a b → AddsPart of Q b c
     → ((kind : NeedKind) (z : Id) → P kind z → ¬ Q kind z)
     → AddsPart of (λ kind z. P kind z ⊎ Q kind z) a c
 both_parts of P Q a b c p q apart = record {
   more = p.more ++ q.more;
   are = q.are ∙ ap (λ l. l ++ q.more) p.are ∙ append_assoc a p.more q.more;
-  wants = alike _ _ (p.more ++ q.more) (λ n kind z. (
+  wants = alike _ _ (p.more ++ q.more) (λ x kind z. (
     λ h. elim h [ inl l ↦ (l.0, inl l.1) | inr r ↦ (r.0, inr r.1) ],
     λ h. elim h.1 [ inl l ↦ inl (h.0, l) | inr r ↦ inr (h.0, r) ],
   ))
-      (join (λ n kind z. (n ≡ of) × P kind z) (λ n kind z. (n ≡ of) × Q kind z) p.more q.more p.wants q.wants
-      (λ n kind z l r. apart kind z l.1 r.1));
+      (join (λ x kind z. (x ≡ of) × P kind z) (λ x kind z. (x ≡ of) × Q kind z) p.more q.more p.wants q.wants
+      (λ x kind z l r. apart kind z l.1 r.1));
 }
 
-pub same_part : (of : ℕ) (P Q : NeedKind → Id → Type 0) (a b : List Want)
+pub same_part : (of : Id) (P Q : NeedKind → Id → Type 0) (a b : List Want)
     → ((kind : NeedKind) (z : Id) → P kind z ↔ Q kind z) → AddsPart of P a b → AddsPart of Q a b
 same_part of P Q a b both p = record {
   more = p.more;
   are = p.are;
-  wants = alike _ _ p.more (λ n kind z. (
+  wants = alike _ _ p.more (λ x kind z. (
     λ h. (h.0, (both kind z).0 h.1),
     λ h. (h.0, (both kind z).1 h.1),
   )) p.wants;
@@ -150,29 +152,29 @@ same_rank : (j k : NeedKind) → rank j ≡ rank k → j ≡ k
 same_rank j k e = sym (ranked_rank j) ∙ ap ranked e ∙ ranked_rank k
 
 -- the needs of a candidate, kind by kind
-module _ (s : Setting) (survivors : List Id) (left : Zone) (of : ℕ) (x : Id) where
+module _ (s : Setting) (survivors : List Id) (left : Zone) (x : Id) where
   abbrev Of : NeedKind → NeedKind → Id → Type 0
   Of kind = IsOfKind left s.bypass kind (asked s survivors x kind)
 
-  -- those of the kinds in front of a number
+  -- those x the kinds in front x a number
   abbrev UpTo : ℕ → NeedKind → Id → Type 0
   UpTo n kind z = (rank kind < n) × IsOpen s survivors left x kind z
 
-  no_kind : (l : List Want) → AddsPart of (UpTo 0) l l
+  no_kind : (l : List Want) → AddsPart x (UpTo 0) l l
   no_kind l = record {
     more = [];
     are = sym (append-nil l);
     wants = record {
-      members = λ n kind z. (λ h. absurd (none_in (a_want n kind z) h), λ h. absurd (omega (arith, h.1.0)));
+      members = λ y kind z. (λ h. absurd (none_in (a_want y kind z) h), λ h. absurd (omega (arith, h.1.0)));
       once = λ i j d less below. absurd (omega (arith, below));
     };
   }
 
-  next_kind : (kind : NeedKind) (a b c : List Want) → AddsPart of (UpTo (rank kind)) a b → AddsPart of (Of kind) b c
-      → AddsPart of (UpTo (rank kind + 1)) a c
+  next_kind : (kind : NeedKind) (a b c : List Want) → AddsPart x (UpTo (rank kind)) a b → AddsPart x (Of kind) b c
+      → AddsPart x (UpTo (rank kind + 1)) a c
   next_kind kind a b c front next =
-      same_part of (λ k z. UpTo (rank kind) k z ⊎ Of kind k z) (UpTo (rank kind + 1)) a c (λ k z. (up k z, down k z))
-      (both_parts of (UpTo (rank kind)) (Of kind) a b c front next (λ k z h o. omega (arith, h.0, ap rank o.0)))
+      same_part x (λ k z. UpTo (rank kind) k z ⊎ Of kind k z) (UpTo (rank kind + 1)) a c (λ k z. (up k z, down k z))
+      (both_parts x (UpTo (rank kind)) (Of kind) a b c front next (λ k z h o. omega (arith, h.0, ap rank o.0)))
     where
       up : (k : NeedKind) (z : Id) → UpTo (rank kind) k z ⊎ Of kind k z → UpTo (rank kind + 1) k z
       up k z (inl h) = (omega (arith, h.0), h.1)
@@ -201,12 +203,12 @@ module _ (s : Setting) (survivors : List Id) (left : Zone) (of : ℕ) (x : Id) w
   asked_below Elem z h = absurd (none_in z h.0)
   asked_below Dep z h = absurd (none_in z h.0)
 
-  pub all_parts : (l0 l1 l2 l3 l4 l5 l6 : List Want) → AddsPart of (Of Fmid) l0 l1 → AddsPart of (Of Pre) l1 l2
-      → AddsPart of (Of Req) l2 l3 → AddsPart of (Of Ifreq) l3 l4 → AddsPart of (Of HoldError) l4 l5
-      → AddsPart of (Of Orphan) l5 l6 → AddsPart of (IsOpen s survivors left x) l0 l6
+  pub all_parts : (l0 l1 l2 l3 l4 l5 l6 : List Want) → AddsPart x (Of Fmid) l0 l1 → AddsPart x (Of Pre) l1 l2
+      → AddsPart x (Of Req) l2 l3 → AddsPart x (Of Ifreq) l3 l4 → AddsPart x (Of HoldError) l4 l5
+      → AddsPart x (Of Orphan) l5 l6 → AddsPart x (IsOpen s survivors left x) l0 l6
   unfolding rank
   all_parts l0 l1 l2 l3 l4 l5 l6 fmid pre req ifreq hold orphan =
-      same_part of (UpTo 6) (IsOpen s survivors left x) l0 l6
+      same_part x (UpTo 6) (IsOpen s survivors left x) l0 l6
       (λ kind z. (λ h. h.1, λ h. (asked_below kind z h, h)))
       (next_kind Orphan l0 l5 l6
       (next_kind HoldError l0 l4 l5
@@ -217,50 +219,75 @@ module _ (s : Setting) (survivors : List Id) (left : Zone) (of : ℕ) (x : Id) w
 
 module _ (s : Setting) (survivors : List Id) (left : Zone) where
   -- the next candidate
-  pub wants_next : (k : ℕ) (x : Id) (old new : List Want) → slice_get s.cands k ≡ Some x
-      → AddsPart k (IsOpen s survivors left x) old new
+  pub wants_next : (k : ℕ) (x : Id) (old new : List Want) → IsRising s.cands → slice_get s.cands k ≡ Some x
+      → AddsPart x (IsOpen s survivors left x) old new
       → AreWants (IsOpenAt s survivors left k) old → AreWants (IsOpenAt s survivors left (k + 1)) new
-  wants_next k x old new at p w =
+  wants_next k x old new rising at p w =
       subst (AreWants (IsOpenAt s survivors left (k + 1))) (sym p.are)
-      (alike _ _ (old ++ p.more) (λ n kind z. (up n kind z, down n kind z))
-      (join (IsOpenAt s survivors left k) (λ n kind z. (n ≡ k) × IsOpen s survivors left x kind z) old p.more w p.wants
-      (λ n kind z l r. omega (arith, l.below, r.0))))
+      (alike _ _ (old ++ p.more) (λ y kind z. (up y kind z, down y kind z))
+      (join (IsOpenAt s survivors left k) (λ y kind z. (y ≡ x) × IsOpen s survivors left x kind z) old p.more w p.wants
+      (λ y kind z l r. two_places s.cands rising l.place k y x l.at at (λ same. omega (arith, l.below, same)) r.0)))
     where
-      up : (n : ℕ) (kind : NeedKind) (z : Id)
-          → IsOpenAt s survivors left k n kind z ⊎ ((n ≡ k) × IsOpen s survivors left x kind z)
-          → IsOpenAt s survivors left (k + 1) n kind z
-      up n kind z (inl l) = record { below = omega (arith, l.below); x = l.x; at = l.at; is_open = l.is_open }
-      up n kind z (inr r) = record {
-        below = omega (arith, r.0);
-        x = x;
-        at = subst (λ m. slice_get s.cands m ≡ Some x) (sym r.0) at;
-        is_open = r.1;
+      up : (y : Id) (kind : NeedKind) (z : Id)
+          → IsOpenAt s survivors left k y kind z ⊎ ((y ≡ x) × IsOpen s survivors left x kind z)
+          → IsOpenAt s survivors left (k + 1) y kind z
+      up y kind z (inl l) = record {
+        place = l.place;
+        below = omega (arith, l.below);
+        at = l.at;
+        is_open = l.is_open;
+      }
+      up y kind z (inr r) = record {
+        place = k;
+        below = omega arith;
+        at = at ∙ ap (λ v. Some v) (sym r.0);
+        is_open = subst (λ v. IsOpen s survivors left v kind z) (sym r.0) r.1;
       }
 
-      down : (n : ℕ) (kind : NeedKind) (z : Id) → IsOpenAt s survivors left (k + 1) n kind z
-          → IsOpenAt s survivors left k n kind z ⊎ ((n ≡ k) × IsOpen s survivors left x kind z)
-      down n kind z h = elim (cases_eq n k) [
+      down : (y : Id) (kind : NeedKind) (z : Id) → IsOpenAt s survivors left (k + 1) y kind z
+          → IsOpenAt s survivors left k y kind z ⊎ ((y ≡ x) × IsOpen s survivors left x kind z)
+      down y kind z h = elim (cases_eq h.place k) [
         | inl this ↦
-            let same : h.x ≡ x = same_Some h.x x (sym h.at ∙ subst (λ m. slice_get s.cands m ≡ Some x) (sym this) at) in
-            inr (this, subst (λ y. IsOpen s survivors left y kind z) same h.is_open)
-        | inr other ↦ inl (record { below = omega (arith, h.below, other); x = h.x; at = h.at; is_open = h.is_open })
+            let same : y ≡ x = same_Some y x (sym h.at ∙ subst (λ m. slice_get s.cands m ≡ Some x) (sym this) at) in
+            inr (same, subst (λ v. IsOpen s survivors left v kind z) same h.is_open)
+        | inr other ↦ inl (record {
+          place = h.place;
+          below = omega (arith, h.below, other);
+          at = h.at;
+          is_open = h.is_open;
+        })
       ]
 
   pub wants_none : AreWants (IsOpenAt s survivors left 0) []
   wants_none = record {
-    members = λ n kind z. (λ h. absurd (none_in (a_want n kind z) h), λ h. absurd (omega (arith, h.below)));
+    members = λ x kind z. (λ h. absurd (none_in (a_want x kind z) h), λ h. absurd (omega (arith, h.below)));
     once = λ i j d less below. absurd (omega (arith, below));
   }
 
-  -- each is of a candidate
-  pub wants_within : (end : ℕ) (wants : List Want) → AreWants (IsOpenAt s survivors left end) wants
-      → All (λ w. w.of < end) wants
-  wants_within end wants w = λ k d below.
-      let v : Want = get_or wants k d in
-      ((w.members v.of v.kind v.id).0 (Contains-get_or wants k d below)).below
+-- those of all candidates
+pub all_needs : (s : Setting) (survivors : List Id) (left : Zone) (wants : List Want) → left ≡ zone_left s survivors
+    → AreWants (IsOpenAt s survivors left (length s.cands)) wants → AreNeeds s survivors wants
+all_needs s survivors left wants is w = record {
+  members = λ x kind z. (
+    λ h.
+        let own = (w.members x kind z).0 h in (
+          contains_at s.cands own.place x own.at,
+          subst (λ zone. IsOpen s survivors zone x kind z) is own.is_open,
+        ),
+    λ h.
+        let at = found_at s.cands x h.0 in
+        (w.members x kind z).1 (record {
+          place = at.0;
+          below = slice_get_within s.cands at.0 x at.1;
+          at = at.1;
+          is_open = subst (λ zone. IsOpen s survivors zone x kind z) (sym is) h.1;
+        }),
+  );
+  once = w.once;
+}
 
 -- the same ids, in another list
-pub same_asked : (zone : Zone) (b : Bypass) (kind : NeedKind) (of : ℕ) (xs ys : List Id) (old new : List Want)
+pub same_asked : (zone : Zone) (b : Bypass) (kind : NeedKind) (of : Id) (xs ys : List Id) (old new : List Want)
     → ((z : Id) → Contains xs z ↔ Contains ys z) → AddsPart of (IsOfKind zone b kind xs) old new
     → AddsPart of (IsOfKind zone b kind ys) old new
 same_asked zone b kind of xs ys old new same part =

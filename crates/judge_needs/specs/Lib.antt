@@ -1,6 +1,4 @@
 pub mod Left
 pub mod Conditions
 pub mod Wanted
-pub mod Serving
-pub mod Numbered
-pub mod Bypassed
+pub mod Pairs

@@ -4,12 +4,9 @@ use Rattle.std.specs.Prelude.{slice_get}
 use Rattle.terms.specs.declared.codes.NeedKind.{NeedKind}
 use Rattle.terms.specs.Types.{Id, Zone, Bypass}
 use Rattle.terms.specs.Tests.{Setting}
-use Rattle.terms.specs.Needs.{asked, is_bypassed, is_met}
-use Rattle.judge_needs.specs.declared.wanted.Want.{Want}
-
--- a candidate, by its place, needs this id
-abbrev pub a_want : ℕ → NeedKind → Id → Want
-a_want n kind z = record { of = n; kind = kind; id = z }
+use Rattle.terms.specs.Needs.{asked, is_bypassed, is_met, zone_left}
+use Rattle.decide.specs.declared.wants.Want.{Want}
+use Rattle.decide.specs.Said.{a_want}
 
 -- whether neither BYPASS nor the zone meets a need
 abbrev pub is_open : Zone → Bypass → NeedKind → Id → Bool
@@ -20,24 +17,29 @@ abbrev pub IsOpen : Setting → List Id → Zone → Id → NeedKind → Id → 
 IsOpen s survivors left x kind z = Contains (asked s survivors x kind) z × IsTrue (is_open left s.bypass kind z)
 
 -- the list has these needs, each once
-pub record AreWants (Done : ℕ → NeedKind → Id → Type 0) (wants : List Want) : Type 0 where
-  pub members : (n : ℕ) (kind : NeedKind) (z : Id) → Contains wants (a_want n kind z) ↔ Done n kind z
+pub record AreWants (Done : Id → NeedKind → Id → Type 0) (wants : List Want) : Type 0 where
+  pub members : (x : Id) (kind : NeedKind) (z : Id) → Contains wants (a_want x kind z) ↔ Done x kind z
   pub once : AllPairs (λ v w. v ≢ w) wants
 
 -- some needs of one more candidate come in, each once
-pub record AddsPart (of : ℕ) (Part : NeedKind → Id → Type 0) (old new : List Want) : Type 0 where
+pub record AddsPart (of : Id) (Part : NeedKind → Id → Type 0) (old new : List Want) : Type 0 where
   pub more : List Want
   pub are : new ≡ old ++ more
-  pub wants : AreWants (λ n kind z. (n ≡ of) × Part kind z) more
+  pub wants : AreWants (λ x kind z. (x ≡ of) × Part kind z) more
 
 -- those of one kind: the ids of the list that neither BYPASS nor the zone meets
 abbrev pub IsOfKind : Zone → Bypass → NeedKind → List Id → NeedKind → Id → Type 0
 IsOfKind zone b kind asked k z = (k ≡ kind) × Contains asked z × IsTrue (is_open zone b kind z)
 
 -- the needs of the candidates in front of a place
-pub record IsOpenAt (s : Setting) (survivors : List Id) (left : Zone) (end : ℕ) (n : ℕ) (kind : NeedKind) (z : Id) :
+pub record IsOpenAt (s : Setting) (survivors : List Id) (left : Zone) (end : ℕ) (x : Id) (kind : NeedKind) (z : Id) :
     Type 0 where
-  pub below : n < end
-  pub x : Id
-  pub at : slice_get s.cands n ≡ Some x
+  pub place : ℕ
+  pub below : place < end
+  pub at : slice_get s.cands place ≡ Some x
   pub is_open : IsOpen s survivors left x kind z
+
+-- those of all candidates, each once
+abbrev pub AreNeeds : Setting → List Id → List Want → Type 0
+AreNeeds s survivors wants =
+    AreWants (λ x kind z. Contains s.cands x × IsOpen s survivors (zone_left s survivors) x kind z) wants

@@ -4,7 +4,7 @@ ghost use Rattle.terms.specs.declared.codes.NeedKind.TheVariants.{Ifreq};
 ghost use Rattle.terms.specs.Needs.{asked, bypassed_ids};
 ghost use Rattle.judge_needs.specs.Conditions.{AreStated};
 ghost use Rattle.zones_views.specs.Scopes.{choice_of, setting_of};
-ghost use Rattle.judge_needs.specs.Bypassed.{AddsPairs, AreBypassed};
+ghost use Rattle.judge_needs.specs.Pairs.{AddsPairs, AreBypassed};
 
 use crate::conditions::if_needed;
 use crate::stated::{Stated, all_stated};
@@ -13,7 +13,12 @@ use std::alloc::{AllocError, Global};
 use terms::NeedKind;
 use zones_views::Scope;
 
-fn add_pairs(pairs: &mut Vec<(Id, Id)>, id: Id, requisites: &[Id]) -> Result<(), AllocError>
+/// Adds the pairs of an id with these.
+pub(crate) fn add_pairs(
+    pairs: &mut Vec<(Id, Id)>,
+    id: Id,
+    requisites: &[Id],
+) -> Result<(), AllocError>
     ensures { OnOk result (pairs.new.items ≡ pairs.old.items ++ map (λ z. (id, z)) requisites.now) }
 {
     for requisite in requisites {

@@ -1,31 +1,25 @@
 //! What each candidate needs: its function, what it names in PRE and REQ, the requisites by `++IF`, the reasons of
 //! ERROR holds on it, and what its DELETE orphans, as far as neither BYPASS nor what is left of the zone meets that.
-ghost use Rattle.std.specs.Prelude.{◌≡◌, ◌↔◌, ◌<◌, ◌^◌, ◌++◌, [], filter, map, length, slice_get, Some, Contains};
+ghost use Rattle.std.specs.Prelude.{◌≡◌, ◌↔◌, ◌++◌, [], filter, map, length, Contains};
 ghost use Rattle.std.specs.Prelude.{OnOk, IfOk, if◌then◌else◌};
 ghost use Rattle.terms.specs.Types.{Id as AnId};
 ghost use Rattle.terms.specs.Lookups.{IsRising, at_most_one, is_in};
 ghost use Rattle.terms.specs.Needs.{orphans};
+ghost use Rattle.decide.specs.Said.{a_want};
 ghost use Rattle.judge_needs.specs.Conditions.{AreStated};
 ghost use Rattle.zones_views.specs.Scopes.{choice_of, setting_of};
 ghost use Rattle.judge_needs.specs.Left.{left_of};
-ghost use Rattle.judge_needs.specs.Wanted.{a_want, is_open, IsOpen, IsOpenAt, IsOfKind, AreWants, AddsPart};
+ghost use Rattle.judge_needs.specs.Wanted.{is_open, IsOpen, IsOpenAt, IsOfKind, AreWants, AreNeeds, AddsPart};
 
 use crate::conditions::if_needed;
 use crate::left::Left;
 use crate::reasons::open_reasons;
 use crate::stated::{Stated, all_stated};
+use decide::Want;
 use fields::{Id, IdList};
 use std::alloc::{AllocError, Global};
 use terms::NeedKind;
-use zones_views::{Scope, orphans};
-
-/// A candidate, by its place, needs this id.
-#[derive(Clone, Copy)]
-pub(crate) struct Want {
-    pub(crate) of: u32,
-    pub(crate) kind: NeedKind,
-    pub(crate) id: Id,
-}
+use zones_views::{Scope, deletions, orphans};
 
 // The ids that neither BYPASS nor what is left of the zone meets.
 fn unmet(
@@ -43,7 +37,7 @@ fn unmet(
         .collect(alloc)
 }
 
-fn add_each(wants: &mut Vec<Want>, of: u32, kind: NeedKind, ids: &[Id]) -> Result<(), AllocError>
+fn add_each(wants: &mut Vec<Want>, of: Id, kind: NeedKind, ids: &[Id]) -> Result<(), AllocError>
     ensures { OnOk result (wants.new.items ≡ wants.old.items ++ map (a_want of kind) ids.now) }
 {
     for id in ids {
@@ -56,7 +50,7 @@ fn add_each(wants: &mut Vec<Want>, of: u32, kind: NeedKind, ids: &[Id]) -> Resul
 fn add_asked(
     alloc: Global,
     left: &Left<'_, '_>,
-    of: u32,
+    of: Id,
     kind: NeedKind,
     asked: &[Id],
     wants: &mut Vec<Want>,
@@ -74,7 +68,7 @@ fn add_asked(
 fn add_function(
     alloc: Global,
     left: &Left<'_, '_>,
-    of: u32,
+    of: Id,
     fmid: Option<Id>,
     wants: &mut Vec<Want>,
 ) -> Result<(), AllocError>
@@ -110,41 +104,39 @@ fn add_open(
     left: &Left<'_, '_>,
     survivors: &IdList,
     stated: &Stated,
-    of: u32,
     id: Id,
     wants: &mut Vec<Want>,
 ) -> Result<(), AllocError>
     requires { AreStated (choice_of left.now.scope) left.now.scope.zone.now stated.now }
-    ensures { OnOk result (AddsPart of (IsOpen (setting_of left.now.scope) survivors.now (left_of left.now) id)
+    ensures { OnOk result (AddsPart id (IsOpen (setting_of left.now.scope) survivors.now (left_of left.now) id)
         wants.old.items wants.new.items) }
 {
     let scope = &left.scope;
-    add_function(alloc, left, of, scope.fmid(id), wants)?;
-    add_asked(alloc, left, of, NeedKind::Pre, scope.pre(id), wants)?;
-    add_asked(alloc, left, of, NeedKind::Req, scope.req(id), wants)?;
+    add_function(alloc, left, id, scope.fmid(id), wants)?;
+    add_asked(alloc, left, id, NeedKind::Pre, scope.pre(id), wants)?;
+    add_asked(alloc, left, id, NeedKind::Req, scope.req(id), wants)?;
     let by_ifs = if_needed(alloc, scope, stated, id)?;
-    add_asked(alloc, left, of, NeedKind::Ifreq, by_ifs.as_slice(), wants)?;
+    add_asked(alloc, left, id, NeedKind::Ifreq, by_ifs.as_slice(), wants)?;
     let reasons = open_reasons(alloc, scope, id)?;
     add_asked(
         alloc,
         left,
-        of,
+        id,
         NeedKind::HoldError,
         reasons.as_slice(),
         wants,
     )?;
     let lost = orphaned(alloc, scope, survivors, id)?;
-    add_asked(alloc, left, of, NeedKind::Orphan, lost.as_slice(), wants)?;
+    add_asked(alloc, left, id, NeedKind::Orphan, lost.as_slice(), wants)?;
     Ok(())
 }
 
-/// The needs of all candidates, where these survive and these are the deletions.
-pub(crate) fn all_wants(
+// The needs of all candidates, where these survive and these are the deletions.
+fn all_wants(
     alloc: Global,
     left: &Left<'_, '_>,
     survivors: &IdList,
 ) -> Result<Vec<Want>, AllocError>
-    requires { length left.now.scope.ids.now < 2 ^ 32 }
     ensures { IfOk result (λ wants. AreWants (IsOpenAt (setting_of left.now.scope) survivors.now (left_of left.now)
         (length left.now.scope.ids.now)) wants.items) }
 {
@@ -153,15 +145,24 @@ pub(crate) fn all_wants(
     let mut wants = Vec::new(alloc);
     for i in 0..ids.len() {
         let id = ids.as_slice()[i];
-        add_open(alloc, left, survivors, &stated, i as u32, id, &mut wants)?;
+        add_open(alloc, left, survivors, &stated, id, &mut wants)?;
     }
     Ok(wants)
 }
 
-/// The need at a place.
-pub(crate) fn want_at(wants: &[Want], place: usize) -> Want
-    requires { place < length wants.now }
-    ensures { slice_get wants.now place ≡ Some result }
+/// What candidates need of which these survive: each need once.
+pub fn wants_of(
+    alloc: Global,
+    scope: &Scope<'_, '_>,
+    survivors: &IdList,
+) -> Result<Vec<Want>, AllocError>
+    ensures { IfOk result (λ wants. AreNeeds (setting_of scope.now) survivors.now wants.items) }
 {
-    wants[place]
+    let dels = deletions(alloc, scope.vers, survivors.as_slice())?;
+    let left = Left {
+        scope: *scope,
+        dels: dels.as_slice(),
+    };
+    let wants = all_wants(alloc, &left, survivors)?;
+    Ok(wants)
 }

@@ -3,13 +3,12 @@ use Rattle.std.specs.Prelude.{List, ℕ, codes, map}
 use Rattle.terms.specs.declared.kinds.ZoneKind.{ZoneKind}
 use Rattle.terms.specs.declared.kinds.ZoneKind.TheVariants.{Target, Distribution}
 use Rattle.machine.specs.Outcome as machine
+use Rattle.decide.specs.Views.{failure_view}
 use Rattle.report.specs.declared.outcome.Header.{Header}
 use Rattle.report.specs.declared.outcome.Refusal.{Refusal}
 use Rattle.report.specs.declared.outcome.Refusal.TheVariants as refusal
 use Rattle.report.specs.declared.outcome.Place.{Place}
 use Rattle.report.specs.declared.outcome.Place.TheVariants as place
-use Rattle.report.specs.declared.outcome.OpenNeed.{OpenNeed}
-use Rattle.report.specs.declared.outcome.Failure.{Failure}
 use Rattle.report.specs.declared.outcome.Status.{Status}
 use Rattle.report.specs.declared.outcome.Status.TheVariants as status
 use Rattle.report.specs.declared.outcome.Line.{Line}
@@ -31,12 +30,6 @@ abbrev pub place_view : Place → machine.Place
 place_view (place.Kind kind) = machine.OfKind kind
 place_view (place.Hold kind) = machine.OfHold kind
 place_view place.NotReceived = machine.NotReceived
-
-abbrev pub need_view : OpenNeed → machine.OpenNeed
-need_view n = record { kind = n.kind; id = n.id }
-
-abbrev pub failure_view : Failure → machine.Failure
-failure_view f = record { tests = f.tests.items; needs = map need_view f.needs.items; causers = f.causers.items }
 
 abbrev pub status_view : Status → machine.Status
 status_view status.Received = machine.Received

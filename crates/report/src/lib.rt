@@ -14,7 +14,7 @@ mod sink;
 mod write;
 mod zone_lines;
 
-pub use outcome::{Failure, Header, Line, OpenNeed, Outcome, Place, Refusal, Status};
+pub use outcome::{Header, Line, Outcome, Place, Refusal, Status};
 pub use pieces::{put, write_all};
 pub use places::place_of;
 pub use sink::{Out, Sink, WriteFault};

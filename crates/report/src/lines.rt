@@ -7,13 +7,15 @@ ghost use Rattle.machine.specs.Report.{words_line, optional_text, header_text, r
 ghost use Rattle.machine.specs.Report.{status_detail, failure_text, details, line_text, detail_line};
 ghost use Rattle.terms.specs.Lookups.{at_most_one};
 ghost use Rattle.report.specs.Paged.{Paged};
-ghost use Rattle.report.specs.Views.{header_view, refusal_view, place_view, status_view, failure_view, line_view};
+ghost use Rattle.decide.specs.Views.{failure_view};
+ghost use Rattle.report.specs.Views.{header_view, refusal_view, place_view, status_view, line_view};
 
 use crate::errsysmod::put_errsysmod;
-use crate::outcome::{Failure, Header, Line, OpenNeed, Place, Refusal, Status};
+use crate::outcome::{Header, Line, Place, Refusal, Status};
 use crate::page::Page;
 use crate::pieces::{put_left, put_number};
 use crate::sink::Sink;
+use decide::{Failure, OpenNeed};
 use fields::spelling::{
     hold_text, kind_text, mc_text, need_text, refusal_text, test_text, word_text,
 };

@@ -1,8 +1,9 @@
 //! What commands print, before it is text.
 
+use decide::Failure;
 use fields::{Id, Reason, Source, ZoneName};
 use sysmods::GlobalZone;
-use terms::{CnCode, CommandWord, HoldKind, IdRefusal, Kind, McCode, NeedKind, Test};
+use terms::{CnCode, CommandWord, HoldKind, IdRefusal, Kind, McCode};
 use zones::Zone;
 
 /// The first line of a report. Of SET the boundary is the zone that it names.
@@ -34,21 +35,6 @@ pub enum Place {
     Kind(Kind),
     Hold(HoldKind),
     NotReceived,
-}
-
-/// A need that no kept candidate serves.
-#[derive(Clone, Copy, Debug)]
-pub struct OpenNeed {
-    pub kind: NeedKind,
-    pub id: Id,
-}
-
-/// Why a candidate failed: each list in print order.
-#[derive(Drop)]
-pub struct Failure {
-    pub tests: Vec<Test>,
-    pub needs: Vec<OpenNeed>,
-    pub causers: Vec<Id>,
 }
 
 /// What became of an id.

@@ -11,16 +11,11 @@ use Rattle.machine.specs.Outcome.{Status, Superseded, Failure, Failed, Line, Sta
 use Rattle.machine.specs.Receiving.{place_of}
 use Rattle.machine.specs.Installing.{installed_status, not_chosen_status}
 use Rattle.report.specs.declared.outcome.Status as reported
-use Rattle.report.specs.declared.outcome.Failure as reported_failure
-use Rattle.report.specs.Views.{status_view, failure_view}
+use Rattle.report.specs.Views.{status_view}
 
 -- an id with its status, as contracts see it
 abbrev pub said : Id × reported.Status → Id × Status
 said p = (p.0, status_view p.1)
-
--- an id with why it failed, as contracts see it
-abbrev pub why_failed : Id × reported_failure.Failure → Id × Failure
-why_failed f = (f.0, failure_view f.1)
 
 -- the status of a kept id: installed in this kind of zone where it takes effect, else superseded
 abbrev pub kept_status : ZoneKind → List Id → Id → Status

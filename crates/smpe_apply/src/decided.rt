@@ -6,12 +6,12 @@ ghost use Rattle.terms.specs.Candidates.{is_installable};
 ghost use Rattle.terms.specs.Needs.{bypassed_ids};
 ghost use Rattle.terms.specs.Judged.{setting};
 ghost use Rattle.smpe_apply.specs.Decided.{IsDecided};
-ghost use Rattle.smpe_apply.specs.Statuses.{why_failed};
+ghost use Rattle.decide.specs.Views.{why_failed};
 
 use cntl::Bypass;
+use decide::Failure;
 use fields::{Id, IdList};
-use judge::{Judged, install_system};
-use report::Failure;
+use judge::{Judged, judge_install};
 use std::alloc::{AllocError, Global};
 use sysmods::GlobalZone;
 use zones::Zone;
@@ -54,13 +54,12 @@ pub fn decide(
         (setting global.now zone.now (option_copied related.entry) ids.now bypass.now) x) z)) }
 {
     let Judged {
-        system,
-        needed,
         tests,
+        wants,
+        superseded,
         bypassed,
-    } = install_system(alloc, global, zone, related, ids, bypass)?;
-    let _ = ids.as_slice();
-    let decided = smpe_failures::decide(alloc, ids, &system, &needed, tests)?;
+    } = judge_install(alloc, global, zone, related, ids, bypass)?;
+    let decided = decide::decide(alloc, ids, tests, wants.as_slice(), superseded.as_slice())?;
     let bypassed = of_kept(alloc, &decided.kept, bypassed.as_slice())?;
     Ok(Decided {
         kept: decided.kept,

@@ -2,11 +2,13 @@
 ghost use Rattle.std.specs.Prelude.{◌≡◌, ◌++◌, map, IfOk, OnOk};
 ghost use Rattle.machine.specs.Installing.{installed_status, not_chosen_status};
 ghost use Rattle.report.specs.Views.{status_view};
-ghost use Rattle.smpe_apply.specs.Statuses.{said, why_failed, kept_status, kept_statuses, failed_statuses};
+ghost use Rattle.decide.specs.Views.{why_failed};
+ghost use Rattle.smpe_apply.specs.Statuses.{said, kept_status, kept_statuses, failed_statuses};
 ghost use Rattle.smpe_apply.specs.Statuses.{left_out_statuses, all_statuses};
 
+use decide::Failure;
 use fields::{Id, IdList};
-use report::{Failure, Status};
+use report::Status;
 use std::alloc::{AllocError, Global};
 use terms::{NotChosen, ZoneKind};
 

@@ -3,7 +3,6 @@
 //! are those of the ids of the list, by id.
 #![tactic(auto)]
 
-mod deciding;
 mod lines;
 mod restored;
 

@@ -4,11 +4,13 @@ ghost use Rattle.std.specs.Ordering.{nat_cmp};
 ghost use Rattle.std.specs.Cmp.Lexicographic.{slice_cmp};
 ghost use Rattle.std.specs.Str.{bytes_eq};
 ghost use Rattle.terms.specs.Rising.{Rises};
-ghost use Rattle.report.specs.Views.{failure_view, line_view, status_view};
+ghost use Rattle.decide.specs.Views.{failure_view};
+ghost use Rattle.report.specs.Views.{line_view, status_view};
 ghost use Rattle.smpe_restore.specs.Lines.{status_in, line_in};
 
+use decide::Failure;
 use fields::{Id, IdList};
-use report::{Failure, Line, Status, place_of};
+use report::{Line, Status, place_of};
 use std::alloc::{AllocError, Global};
 use sysmods::GlobalZone;
 

@@ -6,13 +6,14 @@ ghost use Rattle.machine.specs.Restoring.{RestoresListed};
 ghost use Rattle.cntl.specs.Views.{restore_list_of};
 ghost use Rattle.report.specs.Views.{line_view};
 
-use crate::deciding::{TakenOff, decide_restore};
+use crate::lines::lines_of;
 use cntl::RestoreList;
+use decide::{Decided, decide};
 use fields::IdList;
 use report::Line;
 use std::alloc::{AllocError, Global};
 use sysmods::GlobalZone;
-use undo::{Judged, restore_list, restore_system};
+use undo::{Judged, judge_restore, restore_list};
 use zones::{Zone, ZoneDelta};
 use zones_views::choose;
 
@@ -41,19 +42,12 @@ pub fn restore(
     let ids = restore_list(alloc, &vers, zone, accepted, list)?;
     let Judged {
         cands,
-        system,
-        needed,
         tests,
-    } = restore_system(alloc, &vers, zone, accepted, &ids)?;
-    let TakenOff { kept, lines } = decide_restore(
-        alloc,
-        global,
-        &ids,
-        &cands,
-        &system,
-        needed.as_slice(),
-        tests,
-    )?;
+        wants,
+    } = judge_restore(alloc, &vers, zone, accepted, &ids)?;
+    let _ = cands.as_slice();
+    let Decided { kept, failed } = decide(alloc, &cands, tests, wants.as_slice(), &[])?;
+    let lines = lines_of(alloc, global, ids.as_slice(), &kept, failed.as_slice())?;
     let delta = undo::restore(alloc, global, zone, accepted, &kept)?;
     Ok(Restored { delta, lines })
 }

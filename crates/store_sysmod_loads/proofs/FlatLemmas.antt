@@ -14,7 +14,8 @@ use Rattle.store_schema.proofs.Numbered.{numbered, IsVerBefore, numbers_ascend}
 use Rattle.store_schema.proofs.Spelled.{not_before_same}
 use Rattle.store_schema.specs.Forms.{AreVersApart}
 use Rattle.store_schema.specs.Rows.{sysmod_row, source_row, sources_of, ver_row, vers_of, ifreq_row, ifreqs_of}
-use Rattle.store_schema.specs.Rows.{elems_of, morever_row, morevers_of, moreif_row, moreifs_of, first_vers, further_vers}
+use Rattle.store_schema.specs.Rows.{elems_of, morever_row, morevers_of, moreif_row, moreifs_of, first_vers}
+use Rattle.store_schema.specs.Rows.{further_vers}
 use Rattle.store_schema.specs.Earlier.{first_sysmod_row}
 use Rattle.store_sysmod_loads.specs.declared.flat.HeadRow.{HeadRow}
 use Rattle.store_sysmod_loads.specs.declared.flat.VerRow.{VerRow}

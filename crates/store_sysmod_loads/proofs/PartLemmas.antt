@@ -43,18 +43,6 @@ module _ {S : Type 0} {g : Ghosts S} {r : Release} where
   }
   part_err {p = Ok y} failed told blamed h = absurd (search rules)
 
-  pub part_as : {X : Type 0} {H K : X → Contents → Type 0} {W V : X → List Sysmod → Type 0} {a b : Held S}
-      {q : Result X ReadError} → ((x : X) (contents : Contents) → H x contents → K x contents)
-      → ((x : X) (sysmods : List Sysmod) → W x sysmods → V x sysmods) → LoadsPart g r H W a b q
-      → LoadsPart g r K V a b q
-  part_as {q = q} holds has h = record {
-    found = λ clean contents was. if_ok q _ _ (λ x. holds x contents) (h.found clean contents was);
-    only = λ clean contents was sysmods formed rows.
-        if_ok q _ _ (λ x. has x sysmods) (h.only clean contents was sysmods formed rows);
-    none = h.none;
-    reads = h.reads;
-  }
-
   -- what was read is put to use, which meets no fault
   pub part_more : {X Y : Type 0} {H : X → Contents → Type 0} {W : X → List Sysmod → Type 0}
       {K : Y → Contents → Type 0} {V : Y → List Sysmod → Type 0} {a b : Held S} {q : Result X ReadError} {x : X}

@@ -1,6 +1,8 @@
 -- Rows that are added to one table, one after the other.
-use Rattle.std.proofs.Common.{◌≡◌, ◌≢◌, not, ℕ, ◌+◌, ◌<◌, ◌≤◌, ◌==◌, arith, append-nil, Bool, true, false, filter, length, take}
-use Rattle.std.proofs.Common.{Result, OnOk, get_or, if◌then◌else◌, List, [], ◌∷◌, ◌++◌, map, IsPermutation, refl, sym, ap, subst, ◌∙◌}
+use Rattle.std.proofs.Common.{◌≡◌, ◌≢◌, not, ℕ, ◌+◌, ◌<◌, ◌≤◌, ◌==◌, arith, append-nil, Bool, true, false, filter}
+use Rattle.std.proofs.Common.{length, take}
+use Rattle.std.proofs.Common.{Result, OnOk, get_or, if◌then◌else◌, List, [], ◌∷◌, ◌++◌, map, IsPermutation, refl, sym}
+use Rattle.std.proofs.Common.{ap, subst, ◌∙◌}
 use Rattle.std.specs.List.{AllByRecursion, flat_map, enumerate_from}
 use Rattle.std.proofs.lemmas.List.{append_assoc, take_more, take_all}
 use Rattle.std.proofs.lemmas.List.Sorted.{IsPermutation-refl, IsPermutation-append_left, IsPermutation-append_comm}

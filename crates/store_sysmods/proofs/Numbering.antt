@@ -1,5 +1,6 @@
 -- The ++VERs of a SYSMOD with their numbers, one after the other.
-use Rattle.std.proofs.Common.{◌≡◌, ℕ, zero, suc, ◌<◌, ◌≤◌, List, [], ◌∷◌, ◌++◌, length, take, get_or, append_assoc, arith}
+use Rattle.std.proofs.Common.{◌≡◌, ℕ, zero, suc, ◌<◌, ◌≤◌, List, [], ◌∷◌, ◌++◌, length, take, get_or, append_assoc}
+use Rattle.std.proofs.Common.{arith}
 use Rattle.std.proofs.Common.{append-nil, refl, sym, ap, subst, ◌∙◌}
 use Rattle.terms.specs.Types.{Ver}
 use Rattle.store_schema.specs.Rows.{number_behind, numbered_behind}

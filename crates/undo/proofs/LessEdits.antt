@@ -22,7 +22,7 @@ use Rattle.lemmas.proofs.Texts.{same_from, same_itself}
 use Rattle.sorted.specs.declared.edits.Edit.{Edit}
 use Rattle.sorted.specs.declared.edits.Edit.TheVariants.{Put, Remove}
 use Rattle.sorted.specs.Edits.{edit_key, edit_put, after_edits}
-use Rattle.terms.specs.Types.{Id, Text, Entry, Zone, Applied}
+use Rattle.terms.specs.Types.{Id, Entry, Zone, Applied}
 use Rattle.terms.specs.Lookups.{IsZone, is_nil, has_content, is_before, waives_applied, entry_of}
 use Rattle.terms.specs.Rising.{with_item}
 use Rattle.terms.specs.Deleted.{entry_less, entries_less}

@@ -3,7 +3,7 @@ pub mod PairOrder
 pub mod Changed
 pub mod Needing
 pub mod Wanting
-pub mod Numbering
+pub mod Candidates
 pub mod Testing
 pub mod LessEdits
 pub mod Reverted

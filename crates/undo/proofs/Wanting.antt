@@ -17,11 +17,11 @@ use Rattle.terms.specs.Lookups.{IsZone, is_in, is_applied, is_supplied, applied_
 use Rattle.terms.specs.Restore.{Restoring, NeedsDep, NeedsInRestore, restore_candidates}
 use Rattle.terms.proofs.Ids.{is_in_from_Contains, Contains_from_is_in}
 use Rattle.terms.proofs.Applied.{applied_are}
-use Rattle.undo.specs.declared.wanted.Want.{Want}
+use Rattle.decide.specs.declared.wants.Want.{Want}
 use Rattle.undo.specs.Dependences.{dependences_of}
 use Rattle.undo.specs.Elements.{Changers, changers_of, change_key, AreChangers, beside_at, beside}
 use Rattle.undo.specs.Pairs.{is_own, AreOwn}
-use Rattle.undo.specs.Wants.{a_want, HaveElem, HaveDep, AreWants}
+use Rattle.undo.specs.Wants.{pair_want, HaveElem, HaveDep, AreWants}
 use Rattle.undo.proofs.Changed.{changes_from, changes_to}
 use Rattle.undo.proofs.Needing.{dependences_are}
 
@@ -141,32 +141,33 @@ module _ (r : Restoring) (ids cands : List Id) (are : cands ≡ restore_candidat
   )
 
   abbrev both : List Want
-  both = map (a_want Elem) own_elem ++ map (a_want Dep) own_dep
+  both = map (pair_want Elem) own_elem ++ map (pair_want Dep) own_dep
 
-  wants_from : (x : Id) (kind : NeedKind) (y : Id) → Contains both (a_want kind (x, y))
+  wants_from : (x : Id) (kind : NeedKind) (y : Id) → Contains both (pair_want kind (x, y))
       → Contains cands x × NeedsInRestore r (is_in ids) x kind y
   wants_from x kind y h =
-      elim (Contains-append_cases (map (a_want Elem) own_elem) (map (a_want Dep) own_dep) (a_want kind (x, y)) h) [
+      elim (Contains-append_cases (map (pair_want Elem) own_elem) (map (pair_want Dep) own_dep) (pair_want kind (x, y))
+      h) [
         | inl front ↦
-            let m = map_in (a_want Elem) own_elem (a_want kind (x, y)) front in
+            let m = map_in (pair_want Elem) own_elem (pair_want kind (x, y)) front in
             let pair : m.0 ≡ (x, y) = ap (λ (w : Want). (w.of, w.id)) m.2 in
             subst (λ k. Contains cands x × NeedsInRestore r (is_in ids) x k y) (ap (λ (w : Want). w.kind) m.2)
             ((elem_is x y).0 (subst (Contains own_elem) pair m.1))
         | inr back ↦
-            let m = map_in (a_want Dep) own_dep (a_want kind (x, y)) back in
+            let m = map_in (pair_want Dep) own_dep (pair_want kind (x, y)) back in
             let pair : m.0 ≡ (x, y) = ap (λ (w : Want). (w.of, w.id)) m.2 in
             subst (λ k. Contains cands x × NeedsInRestore r (is_in ids) x k y) (ap (λ (w : Want). w.kind) m.2)
             ((dep_is x y).0 (subst (Contains own_dep) pair m.1))
       ]
 
   wants_to : (x : Id) (kind : NeedKind) (y : Id) → Contains cands x → NeedsInRestore r (is_in ids) x kind y
-      → Contains both (a_want kind (x, y))
+      → Contains both (pair_want kind (x, y))
   wants_to x Elem y there n =
-      Contains-append_left (map (a_want Elem) own_elem) (map (a_want Dep) own_dep) (a_want Elem (x, y))
-      (in_map (a_want Elem) own_elem (x, y) ((elem_is x y).1 (there, n)))
+      Contains-append_left (map (pair_want Elem) own_elem) (map (pair_want Dep) own_dep) (pair_want Elem (x, y))
+      (in_map (pair_want Elem) own_elem (x, y) ((elem_is x y).1 (there, n)))
   wants_to x Dep y there n =
-      Contains-append_right (map (a_want Elem) own_elem) (map (a_want Dep) own_dep) (a_want Dep (x, y))
-      (in_map (a_want Dep) own_dep (x, y) ((dep_is x y).1 (there, n)))
+      Contains-append_right (map (pair_want Elem) own_elem) (map (pair_want Dep) own_dep) (pair_want Dep (x, y))
+      (in_map (pair_want Dep) own_dep (x, y) ((dep_is x y).1 (there, n)))
   wants_to x Fmid y there n = absurd n
   wants_to x Pre y there n = absurd n
   wants_to x Req y there n = absurd n
@@ -175,18 +176,18 @@ module _ (r : Restoring) (ids cands : List Id) (are : cands ≡ restore_candidat
   wants_to x Orphan y there n = absurd n
 
   once_each : (kind : NeedKind) (pairs : List Pair) → AllPairs (λ p q. p ≢ q) pairs
-      → AllPairs (λ v w. v ≢ w) (map (a_want kind) pairs)
+      → AllPairs (λ v w. v ≢ w) (map (pair_want kind) pairs)
   once_each kind pairs once =
-      pairs_map (λ p q. p ≢ q) (λ v w. v ≢ w) (a_want kind)
+      pairs_map (λ p q. p ≢ q) (λ v w. v ≢ w) (pair_want kind)
       (λ p q apart same. apart (ap (λ (w : Want). (w.of, w.id)) same)) pairs once
 
   pub are_wants : (wants : List Want) → wants ≡ both → AreWants r ids cands wants
   are_wants wants made = subst (AreWants r ids cands) (sym made) (record {
     members = λ x kind y. (wants_from x kind y, λ n. wants_to x kind y n.0 n.1);
-    once = AllPairs_join (λ v w. v ≢ w) (map (a_want Elem) own_elem) (map (a_want Dep) own_dep)
+    once = AllPairs_join (λ v w. v ≢ w) (map (pair_want Elem) own_elem) (map (pair_want Dep) own_dep)
         (once_each Elem own_elem of_elem.once) (once_each Dep own_dep of_dep.once)
-        (All-map (λ v. All (λ w. v ≢ w) (map (a_want Dep) own_dep)) (a_want Elem) own_elem
-        (λ i d below. All-map (λ w. a_want Elem (get_or own_elem i d) ≢ w) (a_want Dep) own_dep
+        (All-map (λ v. All (λ w. v ≢ w) (map (pair_want Dep) own_dep)) (pair_want Elem) own_elem
+        (λ i d below. All-map (λ w. pair_want Elem (get_or own_elem i d) ≢ w) (pair_want Dep) own_dep
         (λ j e within. apart (get_or own_elem i d) (get_or own_dep j e))));
   })
     where
@@ -194,5 +195,5 @@ module _ (r : Restoring) (ids cands : List Id) (are : cands ≡ restore_candidat
       number Elem = true
       number _ = false
 
-      apart : (p q : Pair) → a_want Elem p ≢ a_want Dep q
+      apart : (p q : Pair) → pair_want Elem p ≢ pair_want Dep q
       apart p q same = absurd (true≢false (ap (λ (w : Want). number w.kind) same))

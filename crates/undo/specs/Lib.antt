@@ -3,5 +3,4 @@ pub mod Elements
 pub mod Tests
 pub mod Pairs
 pub mod Wants
-pub mod Numbered
 pub mod Restoring

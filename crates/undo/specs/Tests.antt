@@ -1,5 +1,5 @@
 -- The tests of RESTORE, as the code tries them.
-use Rattle.std.specs.Prelude.{◌≡◌, ◌↔◌, ℕ, Bool, false, not, List, Some, length, filter, IsTrue, slice_get}
+use Rattle.std.specs.Prelude.{Bool, false, not}
 use Rattle.std.specs.List.{list_any}
 use Rattle.std.specs.Option.{option_map_or}
 use Rattle.terms.specs.declared.codes.Test.{Test}
@@ -7,8 +7,7 @@ use Rattle.terms.specs.declared.codes.Test.TheVariants.{J10, J11, J12}
 use Rattle.terms.specs.Types.{Id, Change}
 use Rattle.terms.specs.Lookups.{is_nil, changes_of, element_of, is_supplied}
 use Rattle.terms.specs.Choice.{del_of}
-use Rattle.terms.specs.Restore.{Restoring, may_return, FailsRestore}
-use Rattle.terms.specs.Failures.{all_tests}
+use Rattle.terms.specs.Restore.{Restoring, may_return}
 
 -- whether the distribution zone has the element, and the target zone can't take it in
 abbrev pub is_behind : Restoring → Change → Bool
@@ -19,10 +18,3 @@ fails_test r x J10 = is_supplied r.accepted x
 fails_test r x J11 = not (is_nil (del_of r.choice x))
 fails_test r x J12 = list_any (is_behind r) (changes_of r.global x)
 fails_test r x _ = false
-
--- there is a row for each candidate, and it has the tests that the candidate fails
-pub record AreFailedTests (r : Restoring) (cands : List Id) (rows : List (List Test)) : Type 0 where
-  pub lengths : length rows ≡ length cands
-  pub fails : Id → Test → Bool
-  pub rows_are : (n : ℕ) (x : Id) → slice_get cands n ≡ Some x → slice_get rows n ≡ Some (filter (fails x) all_tests)
-  pub failed : (n : ℕ) (x : Id) → slice_get cands n ≡ Some x → (t : Test) → IsTrue (fails x t) ↔ FailsRestore r x t

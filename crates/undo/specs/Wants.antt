@@ -4,11 +4,12 @@ use Rattle.terms.specs.declared.codes.NeedKind.{NeedKind}
 use Rattle.terms.specs.Types.{Id}
 use Rattle.terms.specs.Lookups.{is_in}
 use Rattle.terms.specs.Restore.{Restoring, NeedsElem, NeedsDep, NeedsInRestore}
-use Rattle.undo.specs.declared.wanted.Want.{Want}
+use Rattle.decide.specs.declared.wants.Want.{Want}
+use Rattle.decide.specs.Said.{a_want}
 
--- a candidate needs this id
-abbrev pub a_want : NeedKind → Id × Id → Want
-a_want kind p = record { of = p.0; kind = kind; id = p.1 }
+-- the first needs the second
+abbrev pub pair_want : NeedKind → Id × Id → Want
+pair_want kind p = a_want p.0 kind p.1
 
 -- the pairs have what candidates share an element with
 abbrev pub HaveElem : Restoring → List Id → List (Id × Id) → Type 0
@@ -23,5 +24,5 @@ HaveDep r ids cands pairs =
 -- the list has the needs of the candidates, each once
 pub record AreWants (r : Restoring) (ids cands : List Id) (wants : List Want) : Type 0 where
   pub members : (x : Id) (kind : NeedKind) (y : Id)
-      → Contains wants (a_want kind (x, y)) ↔ (Contains cands x × NeedsInRestore r (is_in ids) x kind y)
+      → Contains wants (a_want x kind y) ↔ (Contains cands x × NeedsInRestore r (is_in ids) x kind y)
   pub once : AllPairs (λ v w. v ≢ w) wants

@@ -1,8 +1,8 @@
 //! What RESTORE decides, and how it changes its zone: which SYSMODs GROUP leads to, which tests each candidate fails,
 //! what each one needs, and the target zone without those that are taken off.
-//! `restore_list` answers SELECT's ids, or the least closed list with GROUP's; `restore_system` the tests and the
-//! numbered problem, for any list and any two zones. One pass over the applied SYSMODs notes who changes which element
-//! and who depends on whom. The delta of `restore` makes of a target zone the one that the definition of a restore asks
+//! `restore_list` answers SELECT's ids, or the least closed list with GROUP's; `judge_restore` the tests and the needs,
+//! for any list and any two zones. One pass over the applied SYSMODs notes who changes which element and who depends on
+//! whom. The delta of `restore` makes of a target zone the one that the definition of a restore asks
 //! for (`Restores`), whatever is kept, and each edit of it changes something. Seen in the code alone: it is one pass
 //! over the entries, and one over what is changed.
 #![tactic(auto)]
@@ -10,13 +10,12 @@
 mod dependences;
 mod elements;
 mod judging;
-mod numbered;
 mod pairs;
 mod restoring;
 mod reverting;
 mod tests;
 mod wanted;
 
-pub use judging::{Judged, restore_system};
+pub use judging::{Judged, judge_restore};
 pub use restoring::restore;
 pub use undo_list::restore_list;

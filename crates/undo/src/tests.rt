@@ -8,6 +8,7 @@ ghost use Rattle.terms.specs.Restore.{are_applied, is_alike, are_alike, may_retu
 ghost use Rattle.sysmods.specs.Choices.{choice};
 ghost use Rattle.terms.specs.Failures.{all_tests};
 ghost use Rattle.undo_list.specs.Restoring.{restoring_of};
+ghost use Rattle.decide.specs.Said.{AreTests};
 ghost use Rattle.undo.specs.Tests.{is_behind, fails_test};
 
 use fields::Id;
@@ -129,23 +130,12 @@ pub(crate) fn all_rows(
     scope: &Scope<'_, '_>,
     ids: &[Id],
 ) -> Result<Vec<Vec<Test>>, AllocError>
-    ensures { IfOk result (λ rows. map (λ row. row.items) rows.items
-        ≡ map (λ x. filter (fails_test (restoring_of scope.now) x) all_tests) ids.now) }
+    ensures { IfOk result (λ rows. AreTests (fails_test (restoring_of scope.now)) ids.now
+        (map (λ row. row.items) rows.items)) }
 {
     let mut rows = Vec::new(alloc);
     for id in ids {
         rows.push(row_of(alloc, scope, *id)?)?;
     }
     Ok(rows)
-}
-
-/// Whether each candidate fails none.
-pub(crate) fn all_eligible(alloc: Global, rows: &[Vec<Test>]) -> Result<Vec<bool>, AllocError>
-    ensures { IfOk result (λ flags. flags.items ≡ map (λ row. is_nil row.items) rows.now) }
-{
-    let mut flags = Vec::new(alloc);
-    for row in rows {
-        flags.push(row.is_empty())?;
-    }
-    Ok(flags)
 }

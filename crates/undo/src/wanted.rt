@@ -1,24 +1,17 @@
 //! What each candidate needs.
-ghost use Rattle.std.specs.Prelude.{◌≡◌, ◌<◌, ◌++◌, map, length, slice_get, Some, IfOk, OnOk};
+ghost use Rattle.std.specs.Prelude.{◌≡◌, ◌++◌, map, IfOk, OnOk};
 ghost use Rattle.terms.specs.Restore.{restore_candidates};
 ghost use Rattle.undo_list.specs.Restoring.{restoring_of};
-ghost use Rattle.undo.specs.Wants.{a_want, AreWants, HaveDep, HaveElem};
+ghost use Rattle.undo.specs.Wants.{pair_want, AreWants, HaveDep, HaveElem};
 
 use crate::dependences::dependences;
 use crate::elements::{all_beside, changers};
 use crate::pairs::all_own;
+use decide::Want;
 use fields::{Id, IdList};
 use std::alloc::{AllocError, Global};
 use terms::NeedKind;
 use undo_list::{Scope, applied_ids, unaccepted};
-
-/// A candidate needs this id.
-#[derive(Clone, Copy)]
-pub(crate) struct Want {
-    pub(crate) of: Id,
-    pub(crate) kind: NeedKind,
-    pub(crate) id: Id,
-}
 
 // The candidates with those that share an element with them.
 fn elem_pairs(
@@ -52,7 +45,7 @@ fn dep_pairs(
 }
 
 fn add_wants(wants: &mut Vec<Want>, kind: NeedKind, pairs: &[(Id, Id)]) -> Result<(), AllocError>
-    ensures { OnOk result (wants.new.items ≡ wants.old.items ++ map (a_want kind) pairs.now) }
+    ensures { OnOk result (wants.new.items ≡ wants.old.items ++ map (pair_want kind) pairs.now) }
 {
     for pair in pairs {
         wants.push(Want {
@@ -82,12 +75,4 @@ pub(crate) fn all_wants(
     add_wants(&mut wants, NeedKind::Elem, own_elem.as_slice())?;
     add_wants(&mut wants, NeedKind::Dep, own_dep.as_slice())?;
     Ok(wants)
-}
-
-/// The need at a place.
-pub(crate) fn want_at(wants: &[Want], place: usize) -> Want
-    requires { place < length wants.now }
-    ensures { slice_get wants.now place ≡ Some result }
-{
-    wants[place]
 }

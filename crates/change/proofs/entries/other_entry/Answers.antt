@@ -1,4 +1,4 @@
-use Rattle.std.proofs.Common.{◌∙◌, ◌++◌, ap, ap₂, sym, subst}
+use Rattle.std.proofs.Common.{◌∙◌, ◌++◌, ap, sym, subst}
 use Rattle.std.specs.Prelude.{◌↔◌, Contains}
 use Rattle.terms.specs.Types.{Id, Entry}
 use Rattle.change.specs.Entries.{IsOtherEntry}
@@ -12,9 +12,9 @@ returns c =
     let delby = c.delby-delby.result in
     subst (IsOtherEntry c.args.deleting.now c.args.plan.now c.args.id)
     (ap {A = Entry} {B = Entry} (λ e. record e { supby = supby; delby = delby }) (sym c.old.view_is))
-    (other_from c.args.deleting.now c.args.plan.now c.args.id old c.in_ok-more.more supby delby c.in_ok-old.ensures
-    c.in_ok-more.ensures
+    (other_from c.args.deleting.now c.args.plan.now c.args.id old c.listed-more.result.now supby delby c.in_ok-old.ensures
+    c.listed-more.ensures
     (subst (λ ids. (x : Id) → Contains supby x ↔ Contains ids x)
-    (ap₂ (λ xs ys. xs ++ ys) (c.as_slice.ensures.items ∙ ap (λ (e : Entry). e.supby) c.old.view_is)
-    c.as_slice-2.ensures.items) c.in_ok-supby.ensures.members)
+    (ap (λ xs. xs ++ c.listed-more.result.now)
+    (c.as_slice.ensures.items ∙ ap (λ (e : Entry). e.supby) c.old.view_is)) c.in_ok-supby.ensures.members)
     c.delby-delby.ensures)

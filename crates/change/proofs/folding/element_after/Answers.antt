@@ -1,73 +1,61 @@
-use Rattle.std.proofs.Common.{◌≡◌, ◌∙◌, ◌⊎◌, [], ◌∷◌, ◌++◌, Any, sym, ap, subst, take, IfSome, IsSome, IsTrue}
-use Rattle.std.proofs.lemmas.List.{take_more, take_all}
-use Rattle.terms.specs.Changes.{has_replacement}
-use Rattle.sysmods.specs.declared.choice.VerChoice.{VerChoice}
+use Rattle.std.proofs.Common.{inr, All, AllPairs, Any, IsTrue, subst, sym, None, Some}
+use Rattle.std.specs.Option.{option_copied}
+use Rattle.std.proofs.lemmas.List.Elements.{All-drop}
+use Rattle.std.proofs.lemmas.Result.{IfOk-weaker}
 use Rattle.sysmods.specs.Choices.{choice}
+use Rattle.sysmods.specs.declared.choice.VerChoice.{VerChoice}
+use Rattle.terms.specs.Changes.{has_replacement}
 use Rattle.terms.specs.Global.{IsGlobal}
-use Rattle.terms.specs.Types.{Id}
-use Rattle.terms.specs.Lookups.{IsRising}
+use Rattle.terms.specs.Lookups.{has_change}
 use Rattle.terms.specs.Over.{IsOver}
-use Rattle.change.specs.Folding.{IsFolded, AreChangers}
+use Rattle.terms.specs.Types.{Id}
+use Rattle.change.specs.Folding.{IsFolded}
 use Rattle.change.proofs.ChosenVers.{looked_up, names_no_loop}
-use Rattle.change.proofs.FoldEnd.{folded_none, folded_some, folded_after}
-use Rattle.change.proofs.FoldSteps.{fold_more}
-use Rattle.change.proofs.Ordered.{newest}
+use Rattle.change.proofs.FoldEnd.{folded_after, folded_behind}
+use Rattle.change.proofs.Ordered.{pairs_drop}
 use Rattle.change.proofs.folding.element_after.Goals as goal
 
 -- nothing is over itself
 itself : (vers : VerChoice) → IsGlobal vers.global.now → (x : Id) → ¬ IsOver (choice vers) x x
 itself vers is = names_no_loop vers.global.now vers.srel (choice vers) (looked_up vers) is.no_loop
 
-pub loop-id-init : goal.loop-id-init
-loop-id-init c =
-    let same = sym c.in_ok-element.ensures.same in
-    record {
-      folded = folded_none c.args.vers.now.global.now (choice c.args.vers.now) c.args.elem_type c.args.name
-          c.in_ok-element.element
-          (subst (λ o. IfSome o (λ e. IsRising e.umids)) same c.in_ok-element.ensures.rising);
-      keyed = subst (λ o. IfSome o (λ e. (e.elem_type ≡ c.args.elem_type) × (e.name ≡ c.args.name))) same
-          c.requires.base;
-    }
+pub folded-requires-clause-changers : goal.folded-requires-clause-changers
+folded-requires-clause-changers c =
+    let P : Id → Type 0 = λ x. IsTrue (has_change c.args.vers.now.global.now x c.args.elem_type c.args.name) in
+    subst (All P) (sym c.from.ensures) (All-drop P c.in-Some.place c.args.changers.now c.requires.changers)
 
-pub loop-id-preserved : goal.loop-id-preserved
-loop-id-preserved c =
+pub folded-requires-clause-order : goal.folded-requires-clause-order
+folded-requires-clause-order c =
+    let R : Id → Id → Type 0 = λ x y. IsOver (choice c.args.vers.now) y x in
+    subst (AllPairs R) (sym c.from.ensures) (pairs_drop R c.in-Some.place c.args.changers.now c.requires.order)
+
+pub folded-requires-clause-some : goal.folded-requires-clause-some
+folded-requires-clause-some c =
+    inr (subst (Any (λ x. IsTrue (has_replacement c.args.vers.now.global.now x c.args.elem_type c.args.name)))
+    (sym c.from.ensures) (rw c.global-2.ensures at c.in-Some.ensures.replaces))
+
+pub returns-in-Some-clause-element : goal.returns-in-Some-clause-element
+returns-in-Some-clause-element c =
     let g = c.args.vers.now.global.now in
     let chosen = choice c.args.vers.now in
     let xs = c.args.changers.now in
-    let k = c.loop-id.id-index in
-    let x = c.id-item.result in
-    let below = c.loop-id-test.true in
-    record {
-      folded = subst
-          (λ l. IsFolded g chosen c.args.elem_type c.args.name l c.in_ok-element.element c.in_ok-element-2.element)
-          (ap (λ v. take k xs ++ v ∷ []) c.id-item.is ∙ sym (take_more xs k x below))
-          (fold_more g chosen c.args.elem_type c.args.name (take k xs) x c.in_ok-element.element c.loop-id.element
-          c.in_ok-element-2.element
-          (newest (λ v w. IsOver chosen w v) xs k x c.requires.order below c.id-item.is)
-          (itself c.args.vers.now (rw c.global.ensures at c.len.ensures.form) x) c.loop-id.invariant.folded
-          c.in_ok-element-2.ensures.step);
-      keyed = c.in_ok-element-2.ensures.new;
-    }
-
-pub unwrap-requires : goal.unwrap-requires
-unwrap-requires c =
-    let g = c.args.vers.now.global.now in
-    let chosen = choice c.args.vers.now in
-    folded_some g chosen c.args.elem_type c.args.name c.args.changers.now c.in_ok-element.element c.loop-id.element
-    (subst (λ l. IsFolded g chosen c.args.elem_type c.args.name l c.in_ok-element.element c.loop-id.element)
-    (take_all c.loop-id.id-index c.args.changers.now c.loop-id-test.false) c.loop-id.invariant.folded)
-    (subst (λ o. IsSome o ⊎ Any (λ x. IsTrue (has_replacement g x c.args.elem_type c.args.name)) c.args.changers.now)
-    (sym c.in_ok-element.ensures.same) c.requires.some)
-
-pub returns-clause-element : goal.returns-clause-element
-returns-clause-element c i are =
-    let g = c.args.vers.now.global.now in
-    let chosen = choice c.args.vers.now in
-    let xs = c.args.changers.now in
-    folded_after g chosen c.args.elem_type c.args.name xs c.in_ok-element.element c.unwrap.result c.requires.order
+    let base = option_copied c.args.base in
+    IfOk-weaker c.folded.result _ _
+    (λ e fold. λ i are. folded_after g chosen c.args.elem_type c.args.name xs base e c.requires.order
     (itself c.args.vers.now (rw c.global.ensures at c.len.ensures.form))
-    (subst (λ o. IsFolded g chosen c.args.elem_type c.args.name xs c.in_ok-element.element o) c.unwrap.ensures
-    (subst (λ l. IsFolded g chosen c.args.elem_type c.args.name l c.in_ok-element.element c.loop-id.element)
-    (take_all c.loop-id.id-index xs c.loop-id-test.false) c.loop-id.invariant.folded))
-    i
-    (subst (λ o. AreChangers i g chosen c.args.elem_type c.args.name o xs) (sym c.in_ok-element.ensures.same) are)
+    (folded_behind g chosen c.args.elem_type c.args.name xs c.in-Some.place base e
+    (subst (λ l. IsFolded g chosen c.args.elem_type c.args.name l None (Some e)) c.from.ensures fold)) i are)
+    c.folded.ensures.folded
+
+pub returns-in_ok-copy_of-in-None-clause-element : goal.returns-in_ok-copy_of-in-None-clause-element
+returns-in_ok-copy_of-in-None-clause-element c =
+    let g = c.args.vers.now.global.now in
+    let chosen = choice c.args.vers.now in
+    let xs = c.args.changers.now in
+    let base = option_copied c.args.base in
+    IfOk-weaker c.folded-in-None.result _ _
+    (λ e fold. λ i are. folded_after g chosen c.args.elem_type c.args.name xs base e c.requires.order
+    (itself c.args.vers.now (rw c.global.ensures at c.len.ensures.form))
+    (subst (λ o. IsFolded g chosen c.args.elem_type c.args.name xs o (Some e)) c.in_ok-copy_of-in-None.ensures.same
+    fold) i are)
+    c.folded-in-None.ensures.folded

@@ -1,14 +1,18 @@
-use Rattle.std.proofs.Common.{◌∙◌, [], ap, subst, sym}
-use Rattle.std.specs.Prelude.{fold}
-use Rattle.std.proofs.lemmas.List.{take_all}
-use Rattle.change.specs.Grouping.{AreByElement, with_changes}
-use Rattle.change.proofs.Grouped.{by_element}
+use Rattle.std.proofs.Common.{subst, take_all, arith}
+use Rattle.change.specs.Grouping.{AreByElement}
+use Rattle.change.proofs.Grouped.{changers_none, changers_next}
 use Rattle.change.proofs.grouping.changes_by_element.Goals as goal
+
+pub loop-id-init : goal.loop-id-init
+loop-id-init c = changers_none c.args.global.now c.new-changers.result c.new-changers.ensures.empty
+
+pub loop-id-preserved : goal.loop-id-preserved
+loop-id-preserved c =
+    changers_next c.args.global.now c.args.ids.now c.loop-id.id-index c.id-item.result c.loop-id.changers
+    c.add_changes.new.changers c.len.ensures.form (omega arith) c.id-item.is c.loop-id.invariant
+    c.in_ok-add_changes.ensures
 
 pub returns : goal.returns
 returns c =
-    let g = c.args.global.now in
-    let ids = c.args.ids.now in
-    subst (AreByElement g ids)
-    (sym (c.loop-id.invariant ∙ ap (fold (with_changes g) []) (take_all c.loop-id.id-index ids c.loop-id-test.false)))
-    (by_element g ids c.len.ensures.form)
+    subst (λ l. AreByElement c.args.global.now l c.loop-id.changers)
+    (take_all c.loop-id.id-index c.args.ids.now (omega arith)) c.loop-id.invariant

@@ -1,16 +1,16 @@
-use Rattle.std.proofs.Common.{[], subst, sym, arith}
+use Rattle.std.proofs.Common.{subst, arith}
 use Rattle.std.proofs.lemmas.List.{take_all}
 use Rattle.change.specs.Pairs.{AreGrouped}
 use Rattle.change.proofs.Gathered.{grouped_next, grouped_none}
 use Rattle.change.proofs.pairs.grouped.Goals as goal
 
 pub loop-pair-init : goal.loop-pair-init
-loop-pair-init c = subst (AreGrouped []) (sym c.new-groups.ensures) grouped_none
+loop-pair-init c = grouped_none c.new-groups.result c.new-groups.ensures.empty
 
 pub loop-pair-preserved : goal.loop-pair-preserved
 loop-pair-preserved c =
-    grouped_next c.args.pairs.now c.loop-pair.pair-index c.pair-item.result c.loop-pair.groups c.add_pair.new.groups
-    (omega arith) c.pair-item.is c.in_ok-add_pair.ensures c.loop-pair.invariant
+    grouped_next c.args.pairs.now c.loop-pair.pair-index c.pair-item.result c.loop-pair.groups c.add.new.lists
+    (omega arith) c.pair-item.is c.in_ok-add.ensures c.loop-pair.invariant
 
 pub returns : goal.returns
 returns c =

@@ -6,7 +6,6 @@ use Rattle.terms.specs.Install.{Installation, TakesEffect}
 use Rattle.change.specs.Pairs.{AreGrouped}
 use Rattle.change.specs.Superseded.{AreSuperseded}
 use Rattle.change.specs.Plans.{installation, IsPlan}
-use Rattle.change.proofs.Gathered.{superseded_same}
 use Rattle.change.proofs.Planned.{is_plan}
 use Rattle.change.proofs.plan.planned.Goals as goal
 
@@ -18,14 +17,12 @@ returns c =
     let zone = c.args.zone.now in
     let kept = c.args.kept.now in
     let effective = c.in_ok-effective.effective in
-    let pairs = c.sorted-pairs.result.items in
+    let pairs = c.in_ok-pairs.pairs.items in
     let takes : (i : Installation) → i.kept ≡ kept → i.choice ≡ by
     → (x : Id) → Contains effective x ↔ TakesEffect i x =
     c.in_ok-effective.ensures in
     let are : AreSuperseded by effective pairs =
-    superseded_same by effective c.in_ok-superseded_pairs.field-0.items pairs
-    c.sorted-pairs.ensures
-    (rw (← c.as_slice.ensures.items) c.in_ok-superseded_pairs.ensures) in
+    rw (← c.as_slice.ensures.items) c.in_ok-pairs.ensures in
     let dels = c.args.dels.now in
     subst (λ xs. IsPlan (installation g by numbers zone kept c.args.bypassed.now c.args.date) dels (record {
       effective = xs;

@@ -1,5 +1,5 @@
 use Rattle.std.proofs.Common.{[], subst, sym, cond}
-use Rattle.judge_needs.specs.Bypassed.{AddsPairs}
+use Rattle.judge_needs.specs.Pairs.{AddsPairs}
 use Rattle.judge_needs.proofs.Paired.{pairs_map}
 use Rattle.judge_needs.proofs.bypassed.add_if.Goals as goal
 

@@ -1,12 +1,13 @@
-use Rattle.std.proofs.Common.{◌≤◌, ◌∙◌, length, take_all, arith, subst}
-use Rattle.judge_needs.specs.Bypassed.{AreBypassed}
+use Rattle.std.proofs.Common.{◌≤◌, ◌∙◌, length, take_all, arith, subst, Contains}
+use Rattle.terms.specs.Needs.{bypassed_ids}
+use Rattle.judge_needs.specs.Pairs.{AreBypassed}
 use Rattle.zones_views.specs.Scopes.{setting_of}
-use Rattle.judge_needs.proofs.Paired.{bypassed_next}
+use Rattle.judge_needs.proofs.Paired.{pairs_next}
 use Rattle.judge_needs.proofs.bypassed.bypassed_pairs.Goals as goal
 
 pub loop-id-preserved : goal.loop-id-preserved
 loop-id-preserved c =
-    bypassed_next (setting_of c.args.scope.now) c.as_slice-id-items.result.now
+    pairs_next (λ x. Contains (bypassed_ids (setting_of c.args.scope.now) x)) c.as_slice-id-items.result.now
     c.loop-id.id-index c.id-item.result c.loop-id.pairs.items c.add_bypassed.new.pairs.items (omega arith) c.id-item.is
     c.in_ok-add_bypassed.ensures c.loop-id.invariant
 

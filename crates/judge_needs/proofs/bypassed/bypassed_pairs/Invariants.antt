@@ -1,5 +1,5 @@
 use Rattle.std.proofs.Common.{take}
-use Rattle.judge_needs.specs.Bypassed.{AreBypassed}
+use Rattle.judge_needs.specs.Pairs.{AreBypassed}
 use Rattle.zones_views.specs.Scopes.{setting_of}
 use Rattle.judge_needs.proofs.bypassed.bypassed_pairs.Given as goal
 

@@ -1,6 +1,6 @@
 use Rattle.std.proofs.Common.{◌∙◌, ◌++◌, ap, map}
 use Rattle.judge_needs.specs.Left.{left_of}
-use Rattle.judge_needs.specs.Wanted.{a_want}
+use Rattle.decide.specs.Said.{a_want}
 use Rattle.judge_needs.proofs.Wants.{of_kind_holds}
 use Rattle.judge_needs.proofs.wanted.add_asked.Goals as goal
 

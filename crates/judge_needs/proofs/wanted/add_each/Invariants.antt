@@ -1,5 +1,5 @@
 use Rattle.std.proofs.Common.{◌≡◌, ◌++◌, map, take}
-use Rattle.judge_needs.specs.Wanted.{a_want}
+use Rattle.decide.specs.Said.{a_want}
 use Rattle.judge_needs.proofs.wanted.add_each.Given as goal
 
 abbrev pub invariant-loop-id : goal.invariant-loop-id

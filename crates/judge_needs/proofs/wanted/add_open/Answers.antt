@@ -10,21 +10,21 @@ use Rattle.judge_needs.proofs.wanted.add_open.Goals as goal
 pub returns : goal.returns
 returns c =
     let s = setting_of c.args.left.now.scope in
-    let of = c.args.of in
+    let x = c.args.id in
     let left = left_of c.args.left.now in
     let b = c.args.left.now.scope.bypass.now in
-    all_parts s c.args.survivors.now left of c.args.id c.args.wants.now.items c.add_function.new.wants.items
+    all_parts s c.args.survivors.now left x c.args.wants.now.items c.add_function.new.wants.items
     c.add_asked.new.wants.items c.add_asked-2.new.wants.items c.add_asked-3.new.wants.items
     c.add_asked-4.new.wants.items c.add_asked-5.new.wants.items
-    (subst (λ f. AddsPart of (IsOfKind left b Fmid (at_most_one f)) c.args.wants.now.items
+    (subst (λ f. AddsPart x (IsOfKind left b Fmid (at_most_one f)) c.args.wants.now.items
     c.add_function.new.wants.items) c.fmid.ensures c.in_ok-add_function.ensures)
-    (subst (λ l. AddsPart of (IsOfKind left b Pre l) c.add_function.new.wants.items c.add_asked.new.wants.items)
+    (subst (λ l. AddsPart x (IsOfKind left b Pre l) c.add_function.new.wants.items c.add_asked.new.wants.items)
     c.pre.ensures.items c.in_ok-add_asked.ensures)
-    (subst (λ l. AddsPart of (IsOfKind left b Req l) c.add_asked.new.wants.items c.add_asked-2.new.wants.items)
+    (subst (λ l. AddsPart x (IsOfKind left b Req l) c.add_asked.new.wants.items c.add_asked-2.new.wants.items)
     c.req.ensures.items c.in_ok-add_asked-2.ensures)
-    (same_asked left b Ifreq of _ _ _ _ (rw c.as_slice.ensures.items c.in_ok-by_ifs.ensures)
+    (same_asked left b Ifreq x _ _ _ _ (rw c.as_slice.ensures.items c.in_ok-by_ifs.ensures)
     c.in_ok-add_asked-3.ensures)
-    (same_asked left b HoldError of _ _ _ _ (rw c.as_slice-2.ensures.items c.in_ok-reasons.ensures)
+    (same_asked left b HoldError x _ _ _ _ (rw c.as_slice-2.ensures.items c.in_ok-reasons.ensures)
     c.in_ok-add_asked-4.ensures)
-    (same_asked left b Orphan of _ _ _ _ (rw c.as_slice-3.ensures.items c.in_ok-lost.ensures)
+    (same_asked left b Orphan x _ _ _ _ (rw c.as_slice-3.ensures.items c.in_ok-lost.ensures)
     c.in_ok-add_asked-5.ensures)

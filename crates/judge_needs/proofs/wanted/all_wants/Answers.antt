@@ -1,5 +1,6 @@
 use Rattle.std.proofs.Common.{◌≡◌, length, refl, arith, subst}
 use Rattle.std.proofs.lemmas.Option.{slice_get_read}
+use Rattle.terms.specs.Lookups.{IsRising}
 use Rattle.zones_views.specs.Scopes.{setting_of}
 use Rattle.judge_needs.specs.Left.{left_of}
 use Rattle.judge_needs.specs.Wanted.{AreWants, IsOpenAt}
@@ -11,7 +12,7 @@ loop-i-preserved c =
     let left = c.args.left.now in
     let ids = left.scope.ids.now in
     wants_next (setting_of left.scope) c.args.survivors.now (left_of left) c.loop-i.i c.index-as_slice-i.result
-    c.loop-i.wants.items c.add_open.new.wants.items
+    c.loop-i.wants.items c.add_open.new.wants.items (subst IsRising c.as_slice.ensures.items c.as_slice.ensures.rising)
     (slice_get_read ids (length ids) c.loop-i.i c.index-as_slice-i.result refl (omega arith)
     (rw c.as_slice.ensures.items at c.index-as_slice-i.is))
     c.in_ok-add_open.ensures c.loop-i.invariant

@@ -10,7 +10,8 @@ use Rattle.terms.specs.Install.{HasInstalled}
 use Rattle.report.specs.Views.{line_view}
 use Rattle.change.specs.Elements.{HasBases}
 use Rattle.change.specs.Plans.{installation}
-use Rattle.smpe_apply.specs.Statuses.{said, why_failed, all_statuses, AreById}
+use Rattle.decide.specs.Views.{why_failed}
+use Rattle.smpe_apply.specs.Statuses.{said, all_statuses, AreById}
 use Rattle.smpe_apply.proofs.Decisions.{kept_fresh, kept_order, kept_bases, decision, decides, install_lines}
 use Rattle.smpe_apply.proofs.applied.apply.Goals as goal
 

@@ -1,35 +1,33 @@
-use Rattle.std.proofs.Common.{◌∙◌, List, ap, filter, map, subst}
+use Rattle.std.proofs.Common.{◌∙◌, sym, ap, filter, map}
 use Rattle.std.specs.Prelude.{option_copied}
-use Rattle.lemmas.proofs.Lists.{same_pairs}
-use Rattle.terms.specs.declared.codes.Test.{Test}
+use Rattle.std.proofs.lemmas.List.{length-map}
 use Rattle.terms.specs.Types.{Id}
-use Rattle.terms.specs.Lookups.{IsRising, is_in}
+use Rattle.terms.specs.Lookups.{is_in}
 use Rattle.terms.specs.Judged.{setting}
-use Rattle.judge.specs.InstallProblem.{IsInstallProblem}
-use Rattle.smpe_failures.specs.Decided.{IsDecidedBy}
-use Rattle.smpe_apply.specs.Statuses.{why_failed}
+use Rattle.decide.specs.Views.{why_failed}
+use Rattle.decide.proofs.Judging.{rows_of}
 use Rattle.smpe_apply.proofs.Bypassed.{bypassed_kept}
 use Rattle.smpe_apply.proofs.Deciding.{is_decided}
 use Rattle.smpe_apply.proofs.decided.decide.Goals as goal
 
+pub decide-requires-clause-rows : goal.decide-requires-clause-rows
+decide-requires-clause-rows c =
+    sym (length-map c.in_ok-tests.field-0.tests.items (λ row. row.items))
+    ∙ rows_of _ _ _ _ _ _ _ _ c.in_ok-tests.ensures.judged.are_judged
+
 pub returns-clause-decided : goal.returns-clause-decided
 returns-clause-decided c =
-    let ids = c.args.ids.now in
-    let s = setting c.args.global.now c.args.zone.now (option_copied c.args.related) ids c.args.bypass.now in
-    let judged = c.in_ok-system.field-0 in
-    let needed = judged.needed.items in
-    let tests : List (List Test) = map (λ row. row.items) judged.tests.items in
+    let s = setting c.args.global.now c.args.zone.now (option_copied c.args.related) c.args.ids.now c.args.bypass.now in
+    let judged = c.in_ok-tests.field-0 in
     let d = c.in_ok-decided.decided in
-    let rising = subst IsRising c.as_slice.ensures.items c.as_slice.ensures.rising in
-    let problem = subst (IsInstallProblem s judged.system) (same_pairs needed) c.in_ok-system.ensures.problem in
-    is_decided s rising judged.system needed tests problem c.in_ok-system.ensures.tests d.kept d.failed.items
-    (subst (λ ns. IsDecidedBy ids judged.system ns tests d.kept d.failed.items) c.deref.ensures.value
-    c.in_ok-decided.ensures)
+    is_decided s (map (λ row. row.items) judged.tests.items) judged.wants.items judged.superseded.items
+    c.in_ok-tests.ensures.judged d.kept (map why_failed d.failed.items)
+    (rw (c.as_slice.ensures.value, c.as_slice-2.ensures.value) at c.in_ok-decided.ensures)
 
 pub returns-clause-bypassed : goal.returns-clause-bypassed
 returns-clause-bypassed c =
     let s = setting c.args.global.now c.args.zone.now (option_copied c.args.related) c.args.ids.now c.args.bypass.now in
     let d = c.in_ok-decided.decided in
     bypassed_kept s d.kept (map why_failed d.failed.items) (returns-clause-decided c)
-    c.in_ok-system.field-0.bypassed.items c.in_ok-system.ensures.bypassed c.in_ok-bypassed.bypassed.items
-    (c.in_ok-bypassed.ensures ∙ ap (filter (λ (p : Id × Id). is_in d.kept p.0)) c.as_slice-2.ensures.value)
+    c.in_ok-tests.field-0.bypassed.items c.in_ok-tests.ensures.bypassed c.in_ok-bypassed.bypassed.items
+    (c.in_ok-bypassed.ensures ∙ ap (filter (λ (p : Id × Id). is_in d.kept p.0)) c.as_slice-3.ensures.value)

@@ -1,6 +1,7 @@
 use Rattle.std.proofs.Common.{◌≡◌, ◌++◌, length, map}
 use Rattle.std.specs.Vec.Iter.{into_iter_items, into_iter_len}
-use Rattle.smpe_apply.specs.Statuses.{said, why_failed, failed_statuses}
+use Rattle.decide.specs.Views.{why_failed}
+use Rattle.smpe_apply.specs.Statuses.{said, failed_statuses}
 use Rattle.smpe_apply.proofs.statuses.push_failed.Given as goal
 
 -- the failed ones so far

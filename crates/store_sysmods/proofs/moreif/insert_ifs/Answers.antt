@@ -23,11 +23,13 @@ loop-index-preserved g c =
     record {
       same_reference = c.insert_if.ensures.same_reference ∙ c.loop-index.invariant.same_reference;
       inside = stays_then g.S.Store old mid new c.loop-index.invariant.inside c.insert_if.ensures.inside;
-      adds = adds_more g.S.Store moreif (λ (i : ℕ × IfReq). moreif_row c.args.id.now c.args.srel.now c.args.place i ∷ [])
+      adds = adds_more g.S.Store moreif (λ (i : ℕ × IfReq). moreif_row c.args.id.now c.args.srel.now c.args.place i ∷
+          [])
           (enumerate_from 1 ifs) index (index + 1, item) old mid new within
           (numbered_item ifs index item c.loop-index-test.true c.index-ifs-index.is) c.insert_if.ensures.inside
           c.loop-index.invariant.adds c.in_ok-insert_if.ensures.ok;
-      calls = runs_more g.S.Store insert_moreif (λ (i : ℕ × IfReq). moreif_row c.args.id.now c.args.srel.now c.args.place i ∷ [])
+      calls = runs_more g.S.Store insert_moreif (λ (i : ℕ × IfReq). moreif_row c.args.id.now c.args.srel.now
+          c.args.place i ∷ [])
           (enumerate_from 1 c.args.ifs.now) c.loop-index.index (c.loop-index.index + 1, c.index-ifs-index.result) old
           mid new (Ok (tt {0}))
           within (numbered_item ifs index item c.loop-index-test.true c.index-ifs-index.is)
@@ -38,13 +40,15 @@ loop-index-preserved g c =
 pub returns-clause-ok : goal.returns-clause-ok
 returns-clause-ok g c =
     let ifs = c.args.ifs.now in
-    adds_items g.S.Store moreif (moreif_row c.args.id.now c.args.srel.now c.args.place) (enumerate_from 1 ifs) c.loop-index.index
+    adds_items g.S.Store moreif (moreif_row c.args.id.now c.args.srel.now c.args.place) (enumerate_from 1 ifs)
+    c.loop-index.index
     c.args.tx.now.conn.now c.loop-index.tx.conn.now (omega
     (arith, c.loop-index-test.false, length-enumerate_from 1 ifs)) c.loop-index.invariant.adds
 
 pub returns-clause-calls : goal.returns-clause-calls
 returns-clause-calls g c =
-    runs_items g.S.Store insert_moreif (moreif_row c.args.id.now c.args.srel.now c.args.place) (enumerate_from 1 c.args.ifs.now)
+    runs_items g.S.Store insert_moreif (moreif_row c.args.id.now c.args.srel.now c.args.place) (enumerate_from 1
+    c.args.ifs.now)
     c.args.tx.now.conn.now c.loop-index.tx.conn.now (Ok (tt {0}))
     (runs_all g.S.Store insert_moreif (λ (i : ℕ × IfReq). moreif_row c.args.id.now c.args.srel.now c.args.place i ∷ [])
     (enumerate_from 1 c.args.ifs.now) c.loop-index.index c.args.tx.now.conn.now c.loop-index.tx.conn.now
@@ -60,7 +64,8 @@ returns-in_err-insert_if-clause-calls g c =
     let ifs = c.args.ifs.now in
     let within : index < length (enumerate_from 1 ifs) = omega
     (arith, c.loop-index-test.true, length-enumerate_from 1 ifs) in
-    runs_items g.S.Store insert_moreif (moreif_row c.args.id.now c.args.srel.now c.args.place) (enumerate_from 1 c.args.ifs.now) old
+    runs_items g.S.Store insert_moreif (moreif_row c.args.id.now c.args.srel.now c.args.place) (enumerate_from 1
+    c.args.ifs.now) old
     new c.from_residual.result
     (runs_stop g.S.Store insert_moreif (λ (i : ℕ × IfReq). moreif_row c.args.id.now c.args.srel.now c.args.place i ∷ [])
     (enumerate_from 1 c.args.ifs.now) c.loop-index.index (c.loop-index.index + 1, c.index-ifs-index.result) old mid

@@ -10,7 +10,8 @@ pub returns-then-number-eq1-clause-ok : goal.returns-then-number-eq1-clause-ok
 returns-then-number-eq1-clause-ok g c =
     let v = c.args.ver.now in
     adds_as g.S.Store moreif c.args.tx.now.conn.now c.args.tx.now.conn.now _ _
-    (none_further c.args.number (map (moreif_row c.args.id.now v.srel c.args.number) (enumerate_from 1 v.ifs)) c.if-number-eq1.true)
+    (none_further c.args.number (map (moreif_row c.args.id.now v.srel c.args.number) (enumerate_from 1 v.ifs))
+    c.if-number-eq1.true)
     (adds_none g.S.Store moreif c.args.tx.now.conn.now)
 
 pub returns-clause-ok : goal.returns-clause-ok
@@ -19,5 +20,6 @@ returns-clause-ok g c =
     let rows = ap₂ (λ srel ifs. map (moreif_row c.args.id.now srel c.args.number) (enumerate_from 1 ifs))
     (ap (λ (w : Ver). w.srel) c.ver.view_is) (c.as_slice.ensures.value ∙ ap (λ (w : Ver). w.ifs) c.ver.view_is) in
     ok_as g.S.Store moreif c.insert_ifs.result c.args.tx.now.conn.now c.insert_ifs.new.tx.conn.now _ _ (rows ∙
-    some_further c.args.number (map (moreif_row c.args.id.now v.srel c.args.number) (enumerate_from 1 v.ifs)) c.if-number-eq1.false)
+    some_further c.args.number (map (moreif_row c.args.id.now v.srel c.args.number) (enumerate_from 1 v.ifs))
+    c.if-number-eq1.false)
     c.insert_ifs.ensures.ok

@@ -18,12 +18,14 @@ returns-clause-ok g c =
     let k = c.args.place in
     let n = c.args.number in
     let is = moreif_row x srel k (n, i) in
-    let row = moreif_bound c.as_bytes.result.now c.as_bytes-2.result.now c.as_bytes-3.result.now c.args.req.now _ _ k n x
+    let row = moreif_bound c.as_bytes.result.now c.as_bytes-2.result.now c.as_bytes-3.result.now c.args.req.now _ _ k
+    n x
     srel i c.as_bytes.ensures.same c.as_bytes-2.ensures.same (search rules) (search rules)
     (c.as_bytes-3.ensures.same ∙ ap (λ (j : IfReq). j.function) c.ifreq.view_is) c.requires.req in
     on_ok c.insert.result _ _ (λ ran.
     as_inserted g.S.Store c.args.tx.now.conn.now c.insert.new.tx.conn.now store_schema moreif is _ row
-    (ran store_schema 11 moreif puts_moreif (kept_as moreif is _ row (kept_moreif x srel k (n, i))))) c.insert.ensures.ok
+    (ran store_schema 11 moreif puts_moreif (kept_as moreif is _ row (kept_moreif x srel k (n, i)))))
+    c.insert.ensures.ok
 
 pub returns-clause-calls : goal.returns-clause-calls
 returns-clause-calls g c =
@@ -33,7 +35,8 @@ returns-clause-calls g c =
     let k = c.args.place in
     let n = c.args.number in
     let is = moreif_row x srel k (n, i) in
-    let row = moreif_bound c.as_bytes.result.now c.as_bytes-2.result.now c.as_bytes-3.result.now c.args.req.now _ _ k n x
+    let row = moreif_bound c.as_bytes.result.now c.as_bytes-2.result.now c.as_bytes-3.result.now c.args.req.now _ _ k
+    n x
     srel i c.as_bytes.ensures.same c.as_bytes-2.ensures.same (search rules) (search rules)
     (c.as_bytes-3.ensures.same ∙ ap (λ (j : IfReq). j.function) c.ifreq.view_is) c.requires.req in
     runs_key g.S.Store insert_moreif (is) _ c.args.tx.now.conn.now c.insert.new.tx.conn.now c.insert.result row

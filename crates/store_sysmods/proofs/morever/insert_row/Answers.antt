@@ -24,8 +24,10 @@ returns-clause-ok g c =
     (c.as_slice.ensures.value ∙ c.requires.lists.pre) (c.as_slice-2.ensures.value ∙ c.requires.lists.req)
     (c.as_slice-3.ensures.value ∙ c.requires.lists.sup) in
     on_ok c.insert.result _ _ (λ ran.
-    as_inserted g.S.Store c.args.tx.now.conn.now c.insert.new.tx.conn.now store_schema morever (morever_row x (n, v)) _ row
-    (ran store_schema 10 morever puts_morever (kept_as morever (morever_row x (n, v)) _ row (kept_morever x (n, v))))) c.insert.ensures.ok
+    as_inserted g.S.Store c.args.tx.now.conn.now c.insert.new.tx.conn.now store_schema morever (morever_row x (n, v))
+    _ row
+    (ran store_schema 10 morever puts_morever (kept_as morever (morever_row x (n, v)) _ row (kept_morever x (n, v)))))
+    c.insert.ensures.ok
 
 pub returns-clause-calls : goal.returns-clause-calls
 returns-clause-calls g c =
@@ -40,5 +42,6 @@ returns-clause-calls g c =
     Rattle.sqlite.specs.declared.types.Value.TheVariants.Text u.fmid) view)
     (c.as_slice.ensures.value ∙ c.requires.lists.pre) (c.as_slice-2.ensures.value ∙ c.requires.lists.req)
     (c.as_slice-3.ensures.value ∙ c.requires.lists.sup) in
-    runs_key g.S.Store insert_morever (morever_row x (n, v)) _ c.args.tx.now.conn.now c.insert.new.tx.conn.now c.insert.result row
+    runs_key g.S.Store insert_morever (morever_row x (n, v)) _ c.args.tx.now.conn.now c.insert.new.tx.conn.now
+    c.insert.result row
     c.insert.ensures.calls

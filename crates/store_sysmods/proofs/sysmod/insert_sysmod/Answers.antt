@@ -188,7 +188,8 @@ returns-in_err-insert_morevers-clause-calls g c =
     let s = c.args.sysmod.now in
     let S = g.S.Store in
     let stops = step_stops S (puts insert_moreif (moreifs_of s)) c.from_residual-in_err-insert_morevers.result
-    c.in_err-insert_morevers.was c.from_residual-in_err-insert_morevers.ensures.1 (morevers g p.After-insert_morevers) in
+    c.in_err-insert_morevers.was c.from_residual-in_err-insert_morevers.ensures.1 (morevers g p.After-insert_morevers)
+    in
     (step_then S (step_ok S c.in_ok-insert_row.was (own g p.After-insert_row))
     (step_then S (step_ok S c.in_ok-insert_sources.was (sources g p.After-insert_sources))
     (step_then S (step_ok S c.in_ok-insert_vers.was (vers g p.After-insert_vers))

@@ -1,4 +1,5 @@
-use Rattle.std.proofs.Common.{Ok, ℕ, List, [], ◌∷◌, if◌then◌else◌, ap, ◌∙◌}
+use Rattle.std.proofs.Common.{◌≡◌, Ok, ℕ, List, [], ◌∷◌, map, filter, if◌then◌else◌, ap, ◌∙◌}
+use Rattle.std.specs.List.{flat_map}
 use Rattle.sqlite.specs.Order.{Row}
 use Rattle.terms.specs.Types.{Id, Ver}
 use Rattle.store_rows.proofs.InsideLemmas.{stays_then}
@@ -13,6 +14,10 @@ use Rattle.store_sysmods.proofs.ver.insert_vers.Goals as goal
 -- the row or rows of a ++VER, if it is one of these
 abbrev rows : Id → ℕ × Ver → List Row
 rows x v = if is_first v then ver_row x v.1 ∷ [] else []
+
+all_rows : (x : Id) (vs : List Ver) → flat_map (rows x) (numbered_behind [] vs)
+    ≡ map (λ (v : ℕ × Ver). ver_row x v.1) (filter is_first (numbered_behind [] vs))
+all_rows x vs = flat_if_single is_first (λ (v : ℕ × Ver). ver_row x v.1) (numbered_behind [] vs)
 
 pub loop-index-preserved : goal.loop-index-preserved
 loop-index-preserved g c =
@@ -30,9 +35,10 @@ loop-index-preserved g c =
       same_reference = c.insert_first.ensures.same_reference ∙ c.loop-index.invariant.same_reference;
       inside = stays_then g.S.Store old mid new c.loop-index.invariant.inside c.insert_first.ensures.inside;
       adds = adds_more g.S.Store ver (rows c.args.id.now) (numbered_behind [] vs) index (number, item) old mid new
-          within is c.insert_first.ensures.inside c.loop-index.invariant.adds c.in_ok-insert_first.ensures.ok;
-      calls = runs_more g.S.Store insert_ver (rows c.args.id.now) (numbered_behind [] vs) index (number, item) old mid new
-          (Ok (tt {0})) within is c.loop-index.invariant.inside c.insert_first.ensures.inside
+          within is c.insert_first.ensures.inside c.loop-index.invariant.adds
+          c.in_ok-insert_first.ensures.ok;
+      calls = runs_more g.S.Store insert_ver (rows c.args.id.now) (numbered_behind [] vs) index (number, item) old
+          mid new (Ok (tt {0})) within is c.loop-index.invariant.inside c.insert_first.ensures.inside
           c.loop-index.invariant.calls c.in_ok-insert_first.ensures.calls;
     }
 
@@ -41,15 +47,15 @@ returns-clause-ok g c =
     let x = c.args.id.now in
     let vs = c.args.vers.now in
     adds_all g.S.Store ver (rows x) (numbered_behind [] vs) _ c.loop-index.index c.args.tx.now.conn.now
-    c.loop-index.tx.conn.now (numbered_end vs c.loop-index.index c.loop-index-test.false)
-    (flat_if_single is_first (λ (v : ℕ × Ver). ver_row x v.1) (numbered_behind [] vs)) c.loop-index.invariant.adds
+    c.loop-index.tx.conn.now (numbered_end vs c.loop-index.index c.loop-index-test.false) (all_rows x vs)
+    c.loop-index.invariant.adds
 
 pub returns-clause-calls : goal.returns-clause-calls
 returns-clause-calls g c =
     let x = c.args.id.now in
     let vs = c.args.vers.now in
     runs_as g.S.Store _ _ c.args.tx.now.conn.now c.loop-index.tx.conn.now (Ok (tt {0}))
-    (ap (puts insert_ver) (flat_if_single is_first (λ (v : ℕ × Ver). ver_row x v.1) (numbered_behind [] vs)))
+    (ap (puts insert_ver) (all_rows x vs))
     (runs_all g.S.Store insert_ver (rows x) (numbered_behind [] vs) c.loop-index.index c.args.tx.now.conn.now
     c.loop-index.tx.conn.now (numbered_end vs c.loop-index.index c.loop-index-test.false)
     c.loop-index.invariant.calls)
@@ -67,7 +73,7 @@ returns-in_err-insert_first-clause-calls g c =
     let within = numbered_within vs index c.loop-index-test.true in
     let is = numbered_item vs index number item c.number_behind-number.ensures.same c.loop-index-test.true
     c.index-vers-index.is in
-    runs_as g.S.Store _ _ old new c.from_residual.result (ap (puts insert_ver) (flat_if_single is_first (λ (v : ℕ × Ver). ver_row x v.1) (numbered_behind [] vs)))
+    runs_as g.S.Store _ _ old new c.from_residual.result (ap (puts insert_ver) (all_rows x vs))
     (runs_stop g.S.Store insert_ver (rows x) (numbered_behind [] vs) index (number, item) old mid new
     c.insert_first.result _ c.from_residual.result within is c.loop-index.invariant.inside
     c.insert_first.ensures.inside c.loop-index.invariant.calls c.insert_first.ensures.calls

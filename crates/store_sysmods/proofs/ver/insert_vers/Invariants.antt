@@ -13,10 +13,11 @@ abbrev pub invariant-loop-index : goal.invariant-loop-index
 invariant-loop-index g l = record {
   same_reference : l.tx.conn.ghost_name ≡ l.fn.tx.conn.ghost_name;
   inside : StaysInside g.S.Store l.fn.tx.conn.now l.tx.conn.now;
-  adds : Adds g.S.Store l.fn.tx.conn.now l.tx.conn.now ver_table
-      (flat_map (λ (v : ℕ × Ver). if is_first v then ver_row l.id v.1 ∷ [] else [])
+  adds : Adds g.S.Store l.fn.tx.conn.now l.tx.conn.now ver_table (flat_map (λ (v : ℕ × Ver).
+      if is_first v then ver_row l.id v.1 ∷ [] else [])
       (take l.index (numbered_behind [] l.vers)));
   calls : RunsInside g.S.Store (puts insert_ver (flat_map (λ (v : ℕ × Ver).
-      if is_first v then ver_row l.id v.1 ∷ [] else []) (take l.index (numbered_behind [] l.vers))))
+      if is_first v then ver_row l.id v.1 ∷ [] else [])
+      (take l.index (numbered_behind [] l.vers))))
       l.fn.tx.conn.now l.tx.conn.now {X = Unit} (Ok (tt {0}));
 }

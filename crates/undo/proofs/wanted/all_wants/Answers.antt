@@ -1,7 +1,7 @@
 use Rattle.std.proofs.Common.{◌∙◌, ◌++◌, ap, map}
 use Rattle.terms.specs.declared.codes.NeedKind.TheVariants.{Dep}
 use Rattle.undo_list.specs.Restoring.{restoring_of}
-use Rattle.undo.specs.Wants.{a_want}
+use Rattle.undo.specs.Wants.{pair_want}
 use Rattle.undo.proofs.Wanting.{are_wants}
 use Rattle.undo.proofs.wanted.all_wants.Goals as goal
 
@@ -12,4 +12,5 @@ returns c =
     c.in_ok-dep.ensures (rw c.as_slice.ensures.value at c.in_ok-own_elem.ensures)
     (rw c.as_slice-2.ensures.value at c.in_ok-own_dep.ensures) c.add_wants-2.new.wants.items
     (rw (c.as_slice-3.ensures.value, c.as_slice-4.ensures.value, c.new-wants.ensures.items) at
-    (c.in_ok-add_wants-2.ensures ∙ ap (λ l. l ++ map (a_want Dep) c.as_slice-4.result.now) c.in_ok-add_wants.ensures))
+    (c.in_ok-add_wants-2.ensures
+    ∙ ap (λ l. l ++ map (pair_want Dep) c.as_slice-4.result.now) c.in_ok-add_wants.ensures))

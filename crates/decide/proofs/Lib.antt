@@ -1,0 +1,12 @@
+pub mod Alike
+pub mod CandidateIds
+pub mod Choosing
+pub mod Demands
+pub mod EachKind
+pub mod Failing
+pub mod Greatest
+pub mod Judging
+pub mod Opened
+pub mod OwnPlaces
+pub mod Passing
+pub mod Standing

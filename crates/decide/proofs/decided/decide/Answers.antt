@@ -1,0 +1,25 @@
+use Rattle.std.proofs.Common.{◌∙◌, map, subst}
+use Rattle.terms.specs.Lookups.{IsRising, is_nil}
+use Rattle.decide.specs.Said.{Said}
+use Rattle.decide.proofs.CandidateIds.{decided}
+use Rattle.decide.proofs.Demands.{said_problem}
+use Rattle.decide.proofs.Passing.{eligible_is, map_through}
+use Rattle.decide.proofs.decided.decide.Goals as goal
+
+pub returns : goal.returns
+returns c fails tested =
+    let s : Said = record {
+      cands = c.args.ids.now;
+      fails = fails;
+      wants = c.args.wants.now;
+      superseded = c.args.superseded.now;
+    } in
+    let rows = map (λ row. row.items) c.args.tests.items in
+    let rising = subst IsRising c.as_slice.ensures.items c.as_slice.ensures.rising in
+    let flagged = (rw c.as_slice-2.ensures.value at c.in_ok-eligible.ensures)
+    ∙ map_through (λ row. row.items) is_nil c.args.tests.items in
+    let problem = said_problem s c.in_ok-eligible.eligible.items c.in_ok-system.system rising c.requires.once
+    (eligible_is s rows tested c.in_ok-eligible.eligible.items flagged) c.in_ok-system.ensures.valid
+    c.in_ok-system.ensures.problem in
+    decided s rising c.in_ok-system.system problem rows tested c.in_ok-decided.decided.kept
+    c.in_ok-decided.decided.failed.items c.in_ok-decided.ensures

@@ -1,0 +1,26 @@
+-- Pairs of a candidate and an id: its bypassed requisites, and whom it supersedes.
+use Rattle.std.specs.Prelude.{◌≡◌, ◌↔◌, ◌⊎◌, List, Contains}
+use Rattle.terms.specs.Types.{Id}
+use Rattle.terms.specs.Choice.{Choice}
+use Rattle.terms.specs.Over.{Supersedes}
+use Rattle.terms.specs.Tests.{Setting}
+use Rattle.terms.specs.Needs.{bypassed_ids}
+
+-- the pairs of an id with these come in
+abbrev pub AddsBy : Id → (Id → Type 0) → List (Id × Id) → List (Id × Id) → Type 0
+AddsBy x Of old new = (y z : Id) → Contains new (y, z) ↔ (Contains old (y, z) ⊎ ((y ≡ x) × Of z))
+
+abbrev pub AddsPairs : Id → List Id → List (Id × Id) → List (Id × Id) → Type 0
+AddsPairs x more old new = AddsBy x (Contains more) old new
+
+-- the pairs are those of these candidates
+abbrev pub ArePairs : (Id → Id → Type 0) → List Id → List (Id × Id) → Type 0
+ArePairs Of xs pairs = (x z : Id) → Contains pairs (x, z) ↔ (Contains xs x × Of x z)
+
+-- with their bypassed requisites
+abbrev pub AreBypassed : Setting → List Id → List (Id × Id) → Type 0
+AreBypassed s xs pairs = ArePairs (λ x. Contains (bypassed_ids s x)) xs pairs
+
+-- with whom they supersede
+abbrev pub AreSuperseded : Choice → List Id → List (Id × Id) → Type 0
+AreSuperseded c xs pairs = ArePairs (Supersedes c) xs pairs
