@@ -1,7 +1,7 @@
 -- PTFIN: the order of its statements, the SYSMODs and assignments that they make, and its first fault. (IBM z/OS SMP/E
 -- Reference, MCS: a SYSMOD is a header, then ++VERs with their ++IFs, then holds, then elements; ++ASSIGN stands
 -- between SYSMODs.)
-use Rattle.std.specs.Prelude.{◌≡◌, ◌≢◌, ◌≤◌, ◌<◌, ℕ, Bool, false, List, [], ◌∷◌, ◌++◌, length, map, All, Any, Option}
+use Rattle.std.specs.Prelude.{◌≡◌, ◌≢◌, ◌≤◌, ◌<◌, ℕ, false, List, [], ◌∷◌, ◌++◌, length, All, Any, Option}
 use Rattle.std.specs.Prelude.{Some, None, IsSomeAnd, IfSome, option_map, ◌⊎◌, IsTrue, take, drop, slice_get, set}
 use Rattle.std.specs.Prelude.{codes}
 use Rattle.std.specs.List.{position_or_len}
