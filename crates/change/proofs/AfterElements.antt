@@ -18,10 +18,10 @@ use Rattle.lemmas.proofs.Members.{in_map, map_in}
 use Rattle.zones.specs.Differing.{ElementEdit, element_after}
 use Rattle.change.specs.Elements.{AreElementsAfter}
 use Rattle.change.specs.Puts.{with_element, with_elements}
-use Rattle.change.specs.Grouping.{Key}
-use Rattle.change.proofs.Grouped.{same_key}
+use Rattle.sorted.specs.ElementKeys.{Key}
+use Rattle.terms.proofs.ElementOrder.{same_key}
 use Rattle.sorted.proofs.InTurn.{find_member, in_turn_none, in_turn_some}
-use Rattle.change.proofs.Ordered.{all_in}
+use Rattle.std.proofs.lemmas.List.Elements.{All-contains}
 
 put : Element → ElementEdit
 put e = Put e
@@ -82,7 +82,7 @@ module _ (i : Installation) (zone : Zone) (es : List Element) (after : AreElemen
           let m = map_in put es d there in
           let key : element_key m.0 ≡ (type, name) =
           same_key (element_key m.0) (type, name) (ap (λ o. element_eq (put_key o) (type, name)) m.2 ∙ at) in
-          let changes = all_in (λ e. (x : Id) × TakesEffect i x × IsTrue (has_change i.global x e.elem_type e.name))
+          let changes = All-contains (λ e. (x : Id) × TakesEffect i x × IsTrue (has_change i.global x e.elem_type e.name))
           es m.0 after.only m.1 in
           absurd (true≢false (sym changes.2
           ∙ ap (λ (k : Key). has_change i.global changes.0 k.0 k.1) key ∙ none changes.0 changes.1))
@@ -105,7 +105,7 @@ module _ (i : Installation) (zone : Zone) (es : List Element) (after : AreElemen
           at_key type name ∙ ap (λ o. option_map_or edit_put o (element_of zone type name))
               (found at.0 (type, name) at.1 at.2),
           subst (λ (k : Key). HasElementAfter i k.0 k.1 at.0) at.2
-              (all_in (λ e. HasElementAfter i e.elem_type e.name e) es at.0 after.after at.1),
+              (All-contains (λ e. HasElementAfter i e.elem_type e.name e) es at.0 after.after at.1),
         )
 
     pub element_unchanged : (type : ElemType) (name : Text)

@@ -31,15 +31,17 @@ use Rattle.terms.specs.Install.{Installation, TakesEffect, HasElementAfter}
 use Rattle.terms.specs.Changes.{has_replacement}
 use Rattle.terms.specs.Over.{IsOver}
 use Rattle.terms.specs.Tests.{ShareElement}
-use Rattle.terms.proofs.ElementOrder.{cmp_keys}
+use Rattle.terms.proofs.ChangedElements.{replaces_changes}
+use Rattle.terms.proofs.ElementOrder.{cmp_keys, same_key}
+use Rattle.lemmas.proofs.Each.{any_in, in_any}
 use Rattle.change.specs.Elements.{IsInstallOf, AreElementsAfter}
 use Rattle.change.specs.Folding.{AreChangers}
-use Rattle.change.specs.Grouping.{Key, key_cmp, AreByElement}
-use Rattle.change.specs.Lists.{Lists}
-use Rattle.change.proofs.FoldEnd.{replaces_changes}
-use Rattle.change.proofs.Grouped.{same_key, key_ties}
-use Rattle.change.proofs.IdLists.{listed_at}
-use Rattle.change.proofs.Ordered.{all_in}
+use Rattle.sorted.specs.ElementKeys.{Key, key_cmp}
+use Rattle.sorted.specs.Lists.{Lists}
+use Rattle.change.specs.Grouping.{AreByElement}
+use Rattle.sorted.proofs.ElementKeys.{key_ties}
+use Rattle.sorted.proofs.Listing.{listed_at}
+use Rattle.std.proofs.lemmas.List.Elements.{All-contains}
 
 module _ (zone : Zone) (type : ElemType) (name : Text) where
   found_key : (e : Element) → element_of zone type name ≡ Some e → (e.elem_type ≡ type) × (e.name ≡ name)
@@ -55,12 +57,6 @@ module _ (zone : Zone) (type : ElemType) (name : Text) where
   key_of_found (Some e) at = found_key e (sym at)
 
 -- ---- the changers in another order
-
-any_in : {X : Type 0} (P : X → Type 0) (xs : List X) (x : X) → Contains xs x → P x → Any P xs
-any_in P xs x h p = (h.0, x, h.1, h.2, p)
-
-in_any : {X : Type 0} (P : X → Type 0) (xs : List X) → Any P xs → (x : X) × Contains xs x × P x
-in_any P xs any = (any.1, (any.0, any.2, any.3), any.4)
 
 pub permuted_any : {X : Type 0} (P : X → Type 0) (xs ys : List X) → IsPermutation xs ys → Any P xs → Any P ys
 permuted_any P xs ys same any =
@@ -173,7 +169,7 @@ module _ (g : Global) (c : Choice) (zone : Zone) (deletions ids : List Id) where
     pub after : All (IsAfter g c zone deletions ids) es
     pub found : All (λ r. lookup (is_at (key_cmp r.0)) all ≡ Some r.1) rest
 
-  pub made_none : (all : Lists Key) (items : List Item) (es : List Element) → items ≡ all.entries → es ≡ []
+  pub made_none : (all : Lists Key Id) (items : List Item) (es : List Element) → items ≡ all.entries → es ≡ []
       → All (λ r. get key_cmp all r.0 ≡ Some r.1) all.entries → AreMade items items es
   made_none all items es same empty found = record {
     keys = ap (λ l. map element_key l ++ keys_of items) empty;
@@ -196,7 +192,7 @@ module _ (g : Global) (c : Choice) (zone : Zone) (deletions ids : List Id) where
           (subst (All (λ s. lookup (is_at (key_cmp s.0)) items ≡ Some s.1)) first made.found);
     }
 
-    module _ (all : Lists Key) (same : items ≡ all.entries) (by : AreByElement g ids all) where
+    module _ (all : Lists Key Id) (same : items ≡ all.entries) (by : AreByElement g ids all) where
       first_found : get key_cmp all r.0 ≡ Some r.1
       first_found =
           subst (λ l. lookup (is_at (key_cmp r.0)) l ≡ Some r.1) same
@@ -210,7 +206,7 @@ module _ (g : Global) (c : Choice) (zone : Zone) (deletions ids : List Id) where
       first_some = by.some r.0 r.1 first_found
 
   -- elements that are made of all of them are all the elements of the install
-  pub made_all : (all : Lists Key) (items left : List Item) (es : List Element) → items ≡ all.entries → left ≡ []
+  pub made_all : (all : Lists Key Id) (items left : List Item) (es : List Element) → items ≡ all.entries → left ≡ []
       → AreByElement g ids all → IsOrdered key_cmp all → All (λ r. get key_cmp all r.0 ≡ Some r.1) all.entries
       → AreMade items left es
       → (i : Installation) → IsInstallOf i g c zone deletions ids → AreElementsAfter i es
@@ -255,7 +251,7 @@ module _ (g : Global) (c : Choice) (zone : Zone) (deletions ids : List Id) where
       changer e within =
           let m = map_in (λ (r : Item). r.0) all.entries (element_key e)
           (subst (λ l. Contains l (element_key e)) keys (in_map element_key es e within)) in
-          let at = all_in (λ r. get key_cmp all r.0 ≡ Some r.1) all.entries m.0 found m.1 in
+          let at = All-contains (λ r. get key_cmp all r.0 ≡ Some r.1) all.entries m.0 found m.1 in
           let x = first m.0.1.items (by.some m.0.0 m.0.1 at) in
           let f = filter_in (λ y. has_change g y m.0.0.0 m.0.0.1) ids x.0
           (subst (λ l. Contains l x.0) (sym (listed_at key_cmp all m.0.0 m.0.1 at) ∙ by.list m.0.0) x.1) in

@@ -10,21 +10,18 @@ use Rattle.std.proofs.lemmas.List.Elements.{All-contains}
 use Rattle.lemmas.proofs.Booleans.{neither}
 use Rattle.lemmas.proofs.Members.{here, none_in, in_map, filter_in, in_flat}
 use Rattle.lemmas.proofs.Places.{contains_at}
-use Rattle.lemmas.proofs.Searches.{find_gives, All_find, All_from_no_list_any}
+use Rattle.lemmas.proofs.Searches.{find_gives, All_find, none_passes}
 use Rattle.lemmas.proofs.Texts.{same_from}
 use Rattle.terms.specs.Types.{Text, Id, IfReq, Ver, Sysmod, Global, Zone}
 use Rattle.terms.specs.Lookups.{at_most_one, sysmod_of, is_received, is_function}
-use Rattle.terms.specs.Choice.{Choice, vers_of, place, counting, fmid_of, pre_of, sup_of, del_of}
+use Rattle.terms.specs.Choice.{Choice, vers_of, place, counting, fmid_of, sup_of, del_of}
 use Rattle.terms.specs.Choice.{ifs_of}
 use Rattle.sysmods.specs.declared.choice.VerChoice.{VerChoice}
 use Rattle.sysmods.specs.Choices.{number_in, choice}
 use Rattle.terms.specs.Over.{Reaches, Supersedes, names}
 use Rattle.terms.specs.Global.{named, names_for, HasLoop, is_service, named_functions, fits_roles, RolesFit}
 use Rattle.terms.proofs.Leads.{reaches_more, last_step}
-
--- an item of a list of which none passes the test
-fails_test : {X : Type 0} (p : X → Bool) (xs : List X) → list_any p xs ≡ false → (x : X) → Contains xs x → p x ≡ false
-fails_test p xs none x is = All-contains (λ x. p x ≡ false) xs x (All_from_no_list_any p xs none) is
+use Rattle.terms.proofs.Loops.{sup_named}
 
 -- The ++VERs that count are among those for one SREL.
 abbrev pub AreFor : Global → Text → Choice → Type 0
@@ -104,12 +101,7 @@ module _ (g : Global) (srel : Text) (c : Choice) (are : AreFor g srel c) where
   -- so none supersedes itself
   pub never_itself : ¬ HasLoop g → (x : Id) → ¬ Supersedes c x x
   never_itself none x loop =
-      names_no_loop none x (reaches_more (sup_of c) (names c) (λ y z h. in_names y z h) x x loop)
-    where
-      in_names : (y z : Id) → Contains (sup_of c y) z → Contains (names c y) z
-      in_names y z h =
-          Contains-append_left (pre_of c y ++ sup_of c y) (at_most_one (fmid_of c y)) z
-          (Contains-append_right (pre_of c y) (sup_of c y) z h)
+      names_no_loop none x (reaches_more (sup_of c) (names c) (λ y z h. sup_named c y z h) x x loop)
 
   -- Roles fit.
   module _ (roles : RolesFit g) where
@@ -126,7 +118,7 @@ module _ (g : Global) (srel : Text) (c : Choice) (are : AreFor g srel c) where
     function_named : (x f : Id) (v : Ver) → Chosen x v → Contains (named_functions v) f → IsTrue (is_received g f)
         → IsTrue (is_function g f)
     function_named x f v from names received = by (is_function g f) (sym (ap (λ b. b && not (is_function g f)) received)
-        ∙ fails_test (is_service g) (named_functions v) (chosen_fits x v from).1 f names)
+        ∙ none_passes (is_service g) (named_functions v) f (chosen_fits x v from).1 names)
       where
         by : (b : Bool) → not b ≡ false → b ≡ true
         by true is = refl
@@ -167,4 +159,4 @@ module _ (g : Global) (srel : Text) (c : Choice) (are : AreFor g srel c) where
         named_never : (z : Id) → Contains (sup_of c z) f → ⊥
         named_never z names =
             let by = named_by (λ v. v.sup) z f names in
-            true≢false (sym function ∙ fails_test (is_function g) by.0.sup (chosen_fits z by.0 by.1).0 f by.2)
+            true≢false (sym function ∙ none_passes (is_function g) by.0.sup f (chosen_fits z by.0 by.1).0 by.2)

@@ -8,20 +8,17 @@ use Rattle.std.specs.Ordering.{is_eq}
 use Rattle.std.proofs.lemmas.Cmp.{tied_itself}
 use Rattle.std.proofs.lemmas.List.{map-append}
 use Rattle.lemmas.proofs.Options.{None_from_is_some}
-use Rattle.lemmas.proofs.Searches.{list_any_map}
+use Rattle.lemmas.proofs.Searches.{is_some_find, list_any_map}
 use Rattle.sorted.specs.Edits.{edit_key, edit_put}
 use Rattle.terms.specs.Types.{Zone}
 use Rattle.terms.specs.Lookups.{element_cmp, element_eq, element_key, element_of}
 use Rattle.terms.specs.Rising.{Rises}
-use Rattle.terms.proofs.ElementOrder.{element_cmp_total, element_ties}
+use Rattle.terms.proofs.ElementOrder.{element_cmp_total, element_ties, same_key}
 use Rattle.zones.specs.Delta.{ZoneDelta}
 use Rattle.zones.specs.Differing.{ElementEdit, AddsElementEdit, HasEditedElements, element_after}
 use Rattle.sorted.specs.Turned.{TurnsAt, AreTurned}
-use Rattle.change.specs.Grouping.{Key}
-use Rattle.change.proofs.Grouped.{same_key}
+use Rattle.sorted.specs.ElementKeys.{Key}
 use Rattle.sorted.proofs.InTurn.{find_member}
-use Rattle.zones_views.proofs.Filtered.{any_filter}
-use Rattle.terms.proofs.Nil.{is_some_find}
 use Rattle.sorted.proofs.Turning.{turned_none, turned_next}
 
 abbrev put_key : ElementEdit → Key
@@ -78,7 +75,7 @@ module _ (zone : Zone) (all : List ElementEdit) where
       by false out =
           sym (ap (λ o. option_map_or edit_put o (element_of zone k.0 k.1))
           (None_from_is_some (find (λ d. element_eq (put_key d) k) all)
-          ((is_some_find (λ d. element_eq (put_key d) k) all ∙ sym (any_filter (λ d. element_eq (put_key d) k) all))
+          (is_some_find (λ d. element_eq (put_key d) k) all
           ∙ sym (list_any_map (λ j. element_eq j k) put_key all) ∙ out)))
 
   pub done_all : (old new : ZoneDelta) → new.entries ≡ old.entries → AreDone all new.elements

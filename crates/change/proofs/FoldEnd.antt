@@ -17,7 +17,7 @@ use Rattle.terms.specs.Install.{Installation, TakesEffect, cleared, IsReplacer, 
 use Rattle.terms.specs.Install.{HasElementAfter}
 use Rattle.terms.proofs.Leads.{reaches_through}
 use Rattle.change.specs.Folding.{UpdatesBy, AreUpdates, IsUpdatedBy, HasReplaced, HasUpdated, IsFolded, AreChangers}
-use Rattle.change.proofs.Ordered.{all_in}
+use Rattle.std.proofs.lemmas.List.Elements.{All-contains}
 use Rattle.change.proofs.FoldSteps.{none_updated}
 
 -- ---- what is known of a SYSMOD that changes the element
@@ -109,7 +109,7 @@ module _ (i : Installation) (type : ElemType) (name : Text) where
               ∙ ap is_replacement f.replaces.5;
           over = λ y ins replaces other.
               elim (where_in y ((members y).1 (ins, replaces_changes i.global y type name replaces))) [
-                | inl before ↦ all_in (λ z. IsOver i.choice f.replacer z) f.front y sides.0 before
+                | inl before ↦ All-contains (λ z. IsOver i.choice f.replacer z) f.front y sides.0 before
                 | inr rest ↦ elim rest [
                   | inl same ↦ absurd (other (sym same))
                   | inr m ↦ let u = f.updates y m in
@@ -122,7 +122,7 @@ module _ (i : Installation) (type : ElemType) (name : Text) where
         updater_back y u is =
             elim (where_in y ((members y).1 (is.installed, ap is_some is.updates.1))) [
               | inl before ↦ absurd (itself f.replacer (reaches_through (names i.choice) f.replacer y f.replacer
-                  (all_in (λ z. IsOver i.choice f.replacer z) f.front y sides.0 before) is.over))
+                  (All-contains (λ z. IsOver i.choice f.replacer z) f.front y sides.0 before) is.over))
               | inr rest ↦ elim rest [
                 | inl same ↦ absurd (itself f.replacer (subst (λ z. IsOver i.choice z f.replacer) (sym same) is.over))
                 | inr m ↦ m
@@ -134,7 +134,7 @@ module _ (i : Installation) (type : ElemType) (name : Text) where
         updater_of y u m updates = record {
           installed = ((members y).0 (in_back y m)).0;
           updates = updates;
-          over = all_in (λ z. IsOver i.choice z f.replacer) f.back y sides.1 m;
+          over = All-contains (λ z. IsOver i.choice z f.replacer) f.back y sides.1 m;
         }
 
     -- updates of what the zone has

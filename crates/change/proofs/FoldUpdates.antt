@@ -1,9 +1,8 @@
 -- One update of an element, and the statement by which a SYSMOD changes it.
 use Rattle.std.proofs.Common.{◌≡◌, ◌⊎◌, inl, inr, List, [], ◌∷◌, ◌++◌, Option, Some, None, refl, sym}
 use Rattle.std.proofs.Common.{ap, ◌∙◌, subst, Contains, true≢false}
-use Rattle.std.specs.Prelude.{◌==◌, ℕ, IsTrue, IfErr, Result, Ok, Err, is_some, find, position, get_or}
+use Rattle.std.specs.Prelude.{◌==◌, ℕ, IsTrue, is_some, find, position, get_or}
 use Rattle.std.specs.Option.{IsSome, option_map_or}
-use Rattle.std.specs.Result.{IsOk}
 use Rattle.std.specs.declared.cmp.Ordering.{Ordering}
 use Rattle.std.specs.declared.cmp.Ordering.TheVariants.{Less, Equal, Greater}
 use Rattle.std.specs.Ordering.{nat_cmp, is_lt, is_eq, ordering_reverse}
@@ -23,11 +22,6 @@ use Rattle.lemmas.proofs.Searches.{find_passes}
 use Rattle.sysmods.proofs.First.{find_position, find_no_position}
 use Rattle.terms.proofs.ElementOrder.{type_from_number}
 use Rattle.change.specs.Folding.{is_for, IsUpdateOf}
-
--- an error that can't be
-pub ok_unless : {T E : Type 0} (r : Result T E) (P : E → Type 0) → IfErr r P → ((e : E) → P e → ⊥) → IsOk r
-ok_unless (Ok x) P h none = refl
-ok_unless (Err e) P h none = absurd (none e h)
 
 -- what stands in a list of ids with one id more
 in_with : (xs : List Id) (x z : Id) → Contains (with_item (slice_cmp nat_cmp) (λ y. y) xs x) z

@@ -1,27 +1,23 @@
--- What lists have after one more: pairs of ids, and the groups of them.
-use Rattle.std.proofs.Common.{◌≡◌, ◌⊎◌, inl, inr, Bool, true, false, ℕ, ◌+◌, ◌<◌, List, [], ◌∷◌, ◌++◌, length}
-use Rattle.std.proofs.Common.{refl, sym, ap, ap₂, ◌∙◌, subst, cond, true≢false, map, get_or, take}
+-- What lists have after one more, and the groups of pairs of ids.
+use Rattle.std.proofs.Common.{◌≡◌, ◌⊎◌, inl, inr, ℕ, ◌+◌, ◌<◌, List, [], ◌∷◌, ◌++◌, length}
+use Rattle.std.proofs.Common.{refl, sym, ap, ap₂, ◌∙◌, subst, get_or, take}
 use Rattle.std.specs.Prelude.{◌↔◌, Contains}
-use Rattle.std.specs.Option.{option_map_or}
 use Rattle.std.specs.declared.cmp.Ordering.{Ordering}
 use Rattle.std.specs.declared.cmp.Ordering.TheVariants.{Less, Equal, Greater}
 use Rattle.std.specs.Ordering.{nat_cmp, is_lt, is_eq, ordering_reverse}
-use Rattle.std.specs.BTreeMap.{is_at}
-use Rattle.std.specs.Map.{lookup}
+use Rattle.std.specs.BTreeMap.{IsEmpty}
+use Rattle.std.proofs.lemmas.Map.Lookups.{CmpEqualImpliesEq, exact_bytes}
 use Rattle.std.specs.Cmp.Lexicographic.{slice_cmp, texts_ties}
-use Rattle.std.specs.Str.{bytes_eq}
 use Rattle.std.proofs.lemmas.Cmp.{nat_list_cmp_total}
 use Rattle.std.proofs.lemmas.List.{take_more}
 use Rattle.std.proofs.lemmas.List.Elements.{Contains-append_left, Contains-append_right, Contains-append_cases}
-use Rattle.lemmas.proofs.Members.{here, here_or, none_in, in_map, map_in, in_filter, filter_in}
-use Rattle.lemmas.proofs.Texts.{same_from, same_itself}
+use Rattle.lemmas.proofs.Members.{here, here_or, none_in, in_filter, filter_in}
+use Rattle.lemmas.proofs.Texts.{same_from}
 use Rattle.terms.specs.Types.{Id}
-use Rattle.terms.specs.Choice.{Choice}
-use Rattle.terms.specs.Over.{Supersedes}
 use Rattle.terms.specs.Rising.{with_item, before, behind}
-use Rattle.change.specs.Lists.{Lists, Adds}
-use Rattle.change.specs.Pairs.{others_of, AreGrouped}
-use Rattle.change.specs.Superseded.{AddsSuperseded, AreSuperseded}
+use Rattle.sorted.specs.Lists.{Lists, Adds, Holds}
+use Rattle.sorted.proofs.Gaining.{gains_nothing, gains_one, holds_gained}
+use Rattle.change.specs.Pairs.{AreGrouped, AreGroupedBack}
 
 abbrev Has : List (Id × Id) → Id → Id → Type 0
 Has pairs a b = Contains {X = Id × Id} pairs (a, b)
@@ -81,81 +77,54 @@ in_with_item xs z y = (
 abbrev order : Id → Id → Ordering
 order = slice_cmp nat_cmp
 
-pub grouped_next : (pairs : List (Id × Id)) (k : ℕ) (p : Id × Id) (old new : Lists Id) → k < length pairs
-    → p ≡ get_or pairs k p → Adds order p.0 p.1 old new → AreGrouped (take k pairs) old
-    → AreGrouped (take (k + 1) pairs) new
-grouped_next pairs k p old new below is adds are x z = by (is_eq (order p.0 x)) refl
-  where
-    now : (b : Bool) → is_eq (order p.0 x) ≡ b
-        → others_of new x ≡ cond b (others_of old p.0 ++ p.1 ∷ []) (others_of old x)
-    now b e = adds.list x ∙ ap (λ c. cond c (others_of old p.0 ++ p.1 ∷ []) (others_of old x)) e
+exact : CmpEqualImpliesEq order
+exact = exact_bytes
 
-    by : (b : Bool) → is_eq (order p.0 x) ≡ b
-        → Contains (others_of new x) z ↔ Contains {X = Id × Id} (take (k + 1) pairs) (x, z)
-    by true e =
-        let same : p.0 ≡ x = same_from p.0 x (texts_ties p.0 x ∙ e) in
-        let all : others_of new x ≡ others_of old x ++ p.1 ∷ [] =
-        now true e ∙ ap (λ v. others_of old v ++ p.1 ∷ []) same in (
-          λ h. (in_more pairs k p below is (x, z)).1
-              (elim ((in_push (others_of old x) p.1 z).0 (subst (λ l. Contains l z) all h)) [
-                | inl was ↦ inl ((are x z).0 was)
-                | inr last ↦ inr (ap₂ (λ a b. (a, b)) same last)
-              ]),
-          λ h. subst (λ l. Contains l z) (sym all) ((in_push (others_of old x) p.1 z).1
-              (elim ((in_more pairs k p below is (x, z)).0 h) [
-                | inl was ↦ inl ((are x z).1 was)
-                | inr last ↦ inr (ap (λ q. q.1) last)
-              ])),
-        )
-    by false e = (
-      λ h. (in_more pairs k p below is (x, z)).1 (inl ((are x z).0 (subst (λ l. Contains l z) (now false e) h))),
-      λ h. subst (λ l. Contains l z) (sym (now false e)) (elim ((in_more pairs k p below is (x, z)).0 h) [
-        | inl was ↦ (are x z).1 was
-        | inr last ↦ absurd (true≢false (sym (sym (texts_ties p.0 x)
-            ∙ subst (λ v. bytes_eq p.0 v ≡ true) (ap (λ q. q.0) last) (same_itself p.0)) ∙ e))
-      ]),
-    )
+-- the pairs so far have the next one too, which the groups gain
+module _ (pairs : List (Id × Id)) (i : ℕ) (p : Id × Id) (old new : Lists Id Id) (below : i < length pairs)
+    (is : p ≡ get_or pairs i p) where
+  more : (x z : Id) → Has (take (i + 1) pairs) x z ↔ (Has (take i pairs) x z ⊎ ((x ≡ p.0) × (z ≡ p.1)))
+  more x z =
+      let at = in_more pairs i p below is (x, z) in (
+        λ h. elim (at.0 h) [
+          | inl was ↦ inl was
+          | inr last ↦ inr (sym (ap (λ q. q.0) last), sym (ap (λ q. q.1) last))
+        ],
+        λ h. at.1 (elim h [
+          | inl was ↦ inl was
+          | inr last ↦ inr (ap₂ (λ a b. (a, b)) (sym last.0) (sym last.1))
+        ]),
+      )
 
-pub grouped_none : (groups : Lists Id) → groups.entries ≡ [] → AreGrouped [] groups
-grouped_none groups empty x z = (
-  λ h. absurd (none_in z (subst (λ es. Contains (option_map_or (λ v. v.items) (lookup (is_at (order x)) es) []) z)
-      empty h)),
-  λ h. absurd (none_in {X = Id × Id} (x, z) h),
-)
+  pub grouped_next : Adds order p.0 p.1 old new → AreGrouped (take i pairs) old → AreGrouped (take (i + 1) pairs) new
+  grouped_next adds are x z =
+      let gains = gains_one order nat_list_cmp_total exact old new p.0 p.1 adds x z in (
+        λ h. (more x z).1 (elim (gains.0 h) [ inl was ↦ inl ((are x z).0 was) | inr last ↦ inr last ]),
+        λ h. gains.1 (elim ((more x z).0 h) [ inl was ↦ inl ((are x z).1 was) | inr last ↦ inr last ]),
+      )
 
-pub adds_superseded : (c : Choice) (x : Id) (sup : List Id) (old new : List (Id × Id))
-    → ((z : Id) → Contains sup z ↔ Supersedes c x z) → new ≡ old ++ map (λ z. (z, x)) sup → AddsSuperseded c x old new
-adds_superseded c x sup old new supersedes are z y = (
-  λ h. elim (Contains-append_cases old (map (λ z. (z, x)) sup) (z, y) (subst (λ l. Has l z y) are h)) [
-    | inl was ↦ inl was
-    | inr back ↦
-        let m = map_in (λ z. (z, x)) sup (z, y) back in
-        inr (sym (ap (λ p. p.1) m.2), (supersedes z).0 (subst (Contains sup) (ap (λ p. p.0) m.2) m.1))
-  ],
-  λ h. subst (λ l. Has l z y) (sym are) (elim h [
-    | inl was ↦ Contains-append_left old (map (λ z. (z, x)) sup) (z, y) was
-    | inr last ↦ Contains-append_right old (map (λ z. (z, x)) sup) (z, y)
-        (subst (λ v. Has (map (λ z. (z, x)) sup) z v) (sym last.0) (in_map (λ z. (z, x)) sup z
-        ((supersedes z).1 last.1)))
-  ]),
-)
+  pub grouped_back_next : Adds order p.1 p.0 old new → AreGroupedBack (take i pairs) old
+      → AreGroupedBack (take (i + 1) pairs) new
+  grouped_back_next adds are z x =
+      let gains = gains_one order nat_list_cmp_total exact old new p.1 p.0 adds z x in (
+        λ h. (more x z).1 (elim (gains.0 h) [
+          | inl was ↦ inl ((are z x).0 was)
+          | inr last ↦ inr (last.1, last.0)
+        ]),
+        λ h. gains.1 (elim ((more x z).0 h) [
+          | inl was ↦ inl ((are z x).1 was)
+          | inr last ↦ inr (last.1, last.0)
+        ]),
+      )
 
-pub superseded_next : (c : Choice) (xs : List Id) (k : ℕ) (x : Id) (old new : List (Id × Id)) → k < length xs
-    → x ≡ get_or xs k x → AddsSuperseded c x old new → AreSuperseded c (take k xs) old
-    → AreSuperseded c (take (k + 1) xs) new
-superseded_next c xs k x old new below is adds are z y = (
-  λ h. elim ((adds z y).0 h) [
-    | inl was ↦ let w = (are z y).0 was in ((in_more xs k x below is y).1 (inl w.0), w.1)
-    | inr last ↦ (
-      (in_more xs k x below is y).1 (inr (sym last.0)),
-      subst (λ v. Supersedes c v z) (sym last.0) last.1,
-    )
-  ],
-  λ h. (adds z y).1 (elim ((in_more xs k x below is y).0 h.0) [
-    | inl was ↦ inl ((are z y).1 (was, h.1))
-    | inr same ↦ inr (sym same, subst (λ v. Supersedes c v z) (sym same) h.1)
-  ]),
-)
+-- nothing is gathered in empty groups
+empty_holds : (groups : Lists Id Id) → IsEmpty groups → (These : Id → Id → Type 0) → ((x z : Id) → ¬ These x z)
+    → Holds order groups These
+empty_holds groups empty These none =
+    holds_gained order groups groups These empty (gains_nothing order groups These none)
 
-pub superseded_none : (c : Choice) → AreSuperseded c [] []
-superseded_none c z y = (λ h. absurd (none_in {X = Id × Id} (z, y) h), λ h. absurd (none_in y h.0))
+pub grouped_none : (groups : Lists Id Id) → IsEmpty groups → AreGrouped [] groups
+grouped_none groups empty = empty_holds groups empty (λ x z. Has [] x z) (λ x z h. none_in {X = Id × Id} (x, z) h)
+
+pub grouped_back_none : (groups : Lists Id Id) → IsEmpty groups → AreGroupedBack [] groups
+grouped_back_none groups empty = empty_holds groups empty (λ z x. Has [] x z) (λ z x h. none_in {X = Id × Id} (x, z) h)

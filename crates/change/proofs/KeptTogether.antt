@@ -23,6 +23,7 @@ use Rattle.terms.specs.Tests.{PassesAlone, IsEligible}
 use Rattle.terms.specs.Needs.{Needs}
 use Rattle.terms.specs.Judged.{Stays}
 use Rattle.terms.specs.Install.{Installation, TakesEffect, cleared}
+use Rattle.terms.proofs.ChangedElements.{update_changes}
 use Rattle.terms.proofs.Ids.{Contains_from_is_in}
 use Rattle.terms.proofs.Walks.{reaches_or_not}
 use Rattle.change.specs.Elements.{HasBases}
@@ -30,15 +31,6 @@ use Rattle.change.proofs.ChosenVers.{AreFor, counting_for, names_received, names
 use Rattle.change.proofs.ChosenVers.{function_first}
 use Rattle.change.proofs.FmidChains.{deleted_by_owner}
 use Rattle.change.proofs.LessLookups.{deleted_by_one, element_stays, element_was, applied_was}
-
--- an update changes the element
-pub update_changes : (g : Global) (x : Id) (type : ElemType) (name : Text) → IsTrue (has_update g x type name)
-    → IsTrue (has_change g x type name)
-update_changes g x type name = by (change_of g x type name)
-  where
-    by : (o : Option Change) → option_map_or (λ h. not (is_replacement h.action)) o false ≡ true → is_some o ≡ true
-    by None has = absurd (true≢false (sym has))
-    by (Some h) has = refl
 
 -- a change replaces or updates
 pub replaces_or_updates : (g : Global) (x : Id) (type : ElemType) (name : Text) → IsTrue (has_change g x type name)

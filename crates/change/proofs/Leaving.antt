@@ -6,7 +6,7 @@ use Rattle.std.specs.Option.{option_map, option_map_or, option_and_then}
 use Rattle.std.specs.Str.{bytes_eq}
 use Rattle.std.proofs.lemmas.List.Elements.{Contains-append_left, Contains-append_right}
 use Rattle.lemmas.proofs.Members.{in_map, none_in, in_flat}
-use Rattle.lemmas.proofs.Searches.{find_gives, All_find}
+use Rattle.lemmas.proofs.Searches.{find_gives, All_find, first_kept}
 use Rattle.lemmas.proofs.Texts.{same_from}
 use Rattle.terms.specs.Types.{Text, Id, Entry, Global, Zone, Applied}
 use Rattle.terms.specs.Lookups.{IsZone, is_nil, has_content, waives_applied, is_in, is_function, entry_of, delby_of}
@@ -14,6 +14,7 @@ use Rattle.terms.specs.Choice.{Choice, del_of}
 use Rattle.terms.specs.Deleted.{deletions, is_deleted, is_taken_out, entry_less, zone_less}
 use Rattle.terms.specs.Install.{delby_after}
 use Rattle.terms.proofs.Ids.{Contains_from_is_in}
+use Rattle.terms.proofs.SameZones.{an_entry}
 use Rattle.terms.proofs.NothingDeleted.{is_taken_out_none, zone_less_none}
 use Rattle.zones_views.proofs.Filtered.{passing}
 use Rattle.zones_views.proofs.Entries.{entry_less_waives}
@@ -27,10 +28,6 @@ use Rattle.change.specs.Plans.{installation}
 
 -- ---- what is left of an entry
 
-abbrev entry_with : Id → Option Applied → List Id → Option Id → List Id → Entry
-entry_with x date supby delby waived =
-    record { id = x; applied = date; supby = supby; delby = delby; waived = waived }
-
 -- an entry that nothing holds is bare
 bare : (e : Entry) (x : Id) → e.id ≡ x → has_content e ≡ false → IsTrue (waives_applied e) → e ≡ bare_entry x
 bare e x same unheld waives =
@@ -38,7 +35,7 @@ bare e x same unheld waives =
   where
     by : (date : Option Applied) (supby : List Id) (delby : Option Id) (waived : List Id)
         → (is_some date || not (is_nil supby) || is_some delby) ≡ false → (is_some date || is_nil waived) ≡ true
-        → entry_with x date supby delby waived ≡ bare_entry x
+        → an_entry x date supby delby waived ≡ bare_entry x
     by None [] None [] unheld waives = refl
     by None [] None (w ∷ ws) unheld waives = absurd (true≢false (sym waives))
     by None [] (Some k) waived unheld waives = absurd (true≢false unheld)
@@ -101,15 +98,6 @@ named_by_none c kept x out = by (find (λ k. is_in (del_of c k) x) kept) refl
         let gives = find_gives (λ k. is_in (del_of c k) x) kept k at in
         absurd (out (in_flat (del_of c) kept k x gives.1 (Contains_from_is_in (del_of c k) x gives.0)))
 
-first_of : {X : Type 0} (p : X → Bool) (xs : List X) → find p xs ≡ slice_get (filter p xs) 0
-first_of p [] = refl
-first_of {X} p (x ∷ xs) = by (first_of p xs) (p x) refl
-  where
-    by : find p xs ≡ slice_get (filter p xs) 0 → (b : Bool) → p x ≡ b
-        → find p (x ∷ xs) ≡ slice_get (filter p (x ∷ xs)) 0
-    by rest true e = rw e refl
-    by rest false e = rw e rest
-
 module _ (d : Deleting) (dels : AreDeletions d) where
   pub delby_is : (bypassed : List (Id × Id)) (date : Text) (x : Id)
       → delby_left d x
@@ -126,8 +114,8 @@ module _ (d : Deleting) (dels : AreDeletions d) where
 
       either : (b : Bool) → (if b then find meeting d.kept.now else find naming d.kept.now)
           ≡ slice_get (if b then filter meeting d.kept.now else filter naming d.kept.now) 0
-      either true = first_of meeting d.kept.now
-      either false = first_of naming d.kept.now
+      either true = sym (first_kept meeting d.kept.now)
+      either false = sym (first_kept naming d.kept.now)
 
       by : (o : Option Id) → (if is_some o then o else first_deleter d x)
           ≡ (if is_some o then o else slice_get

@@ -1,14 +1,14 @@
 -- What is found in a zone less what DELETE takes out of it.
-use Rattle.std.proofs.Common.{◌≡◌, ◌∙◌, Bool, true, false, not, List, [], ◌∷◌, map, filter, find, Option, None, Some}
-use Rattle.std.proofs.Common.{Contains, IsSome, is_some, inl, inr, refl, sym, ap, subst, true≢false}
+use Rattle.std.proofs.Common.{◌≡◌, ◌∙◌, Bool, true, false, not, List, map, filter, find, Option, None, Some}
+use Rattle.std.proofs.Common.{Contains, IsSome, is_some, refl, sym, ap, subst}
 use Rattle.std.specs.Prelude.{◌&&◌, ◌==◌, if◌then◌else◌}
 use Rattle.std.specs.Option.{option_map_or}
 use Rattle.std.specs.Cmp.Lexicographic.{texts_ties}
 use Rattle.std.specs.Str.{bytes_eq}
 use Rattle.std.proofs.lemmas.Cmp.{nat_list_cmp_total}
 use Rattle.std.proofs.lemmas.List.Folds.{Any-from_list_any, list_any-from_Any}
-use Rattle.lemmas.proofs.Members.{here_or, none_in, map_in, in_filter, filter_in, flat_in}
-use Rattle.lemmas.proofs.Searches.{find_gives}
+use Rattle.lemmas.proofs.Members.{map_in, in_filter, filter_in, flat_in}
+use Rattle.lemmas.proofs.Searches.{find_gives, find_some}
 use Rattle.terms.specs.declared.kinds.ElemType.{ElemType}
 use Rattle.terms.specs.Types.{Text, Id, type_number, Global, Entry, Element, Zone}
 use Rattle.terms.specs.Lookups.{has_content, is_in, IsZone, entry_of, element_of, is_applied}
@@ -17,18 +17,6 @@ use Rattle.terms.specs.Over.{chain}
 use Rattle.terms.specs.Deleted.{deletions, is_deleted, is_taken_out, entry_less, entries_less, zone_less}
 use Rattle.terms.proofs.Ids.{is_in_from_Contains, Contains_from_is_in}
 use Rattle.sorted.proofs.InTurn.{find_member}
-
--- a list with an item that passes the test has a first one
-pub find_some : {X : Type 0} (p : X → Bool) (xs : List X) (x : X) → Contains xs x → p x ≡ true → IsSome (find p xs)
-find_some p [] x is passes = absurd (none_in x is)
-find_some {X} p (y ∷ ys) x is passes = by (find_some p ys x) (p y) refl
-  where
-    by : (Contains ys x → p x ≡ true → IsSome (find p ys)) → (b : Bool) → p y ≡ b → IsSome (find p (y ∷ ys))
-    by again true e = rw e refl
-    by again false e = elim (here_or y ys x is) [
-      | inl same ↦ absurd (true≢false (sym passes ∙ ap p (sym same) ∙ e))
-      | inr later ↦ rw e (again later passes)
-    ]
 
 module _ (g : Global) (c : Choice) where
   -- what deletions of several SYSMODs delete, those of one of them delete

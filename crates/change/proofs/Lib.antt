@@ -18,7 +18,7 @@ pub mod Ordered
 pub mod FoldUpdates
 pub mod FoldSteps
 pub mod FoldEnd
-pub mod IdLists
 pub mod Grouped
 pub mod AllElements
 pub mod Removed
+pub mod Yielded

@@ -6,7 +6,7 @@ use Rattle.std.specs.List.{insert}
 use Rattle.std.proofs.Math.Seq.{drop-cons}
 use Rattle.std.proofs.lemmas.Bool.{cases_lt}
 use Rattle.std.proofs.lemmas.List.{take-append-drop, take_more, get_or-take, length-take-le, get_or_default}
-use Rattle.std.proofs.lemmas.List.Elements.{Contains-append_right, Contains-get_or, All-cons}
+use Rattle.std.proofs.lemmas.List.Elements.{Contains-append_right, Contains-get_or, All-cons, All-contains}
 use Rattle.std.proofs.lemmas.List.Sorted.{Contains-permutation, IsPermutation-sym, IsPermutation-insert}
 use Rattle.std.proofs.lemmas.List.Sorted.{IsPermutation-push_more}
 use Rattle.lemmas.proofs.Pairs.{AllPairs_between, AllPairs_parts, AllPairs_rest}
@@ -15,9 +15,6 @@ use Rattle.terms.specs.Choice.{Choice}
 use Rattle.terms.specs.Over.{IsOver, names}
 use Rattle.terms.proofs.Leads.{reaches_through}
 
-pub all_in : {X : Type 0} (P : X → Type 0) (xs : List X) (x : X) → All P xs → Contains xs x → P x
-all_in P xs x all h = subst P h.2 (all h.0 x h.1)
-
 -- each of those so far has the relation to the next one
 pub newest : {X : Type 0} (R : X → X → Type 0) (xs : List X) (k : ℕ) (x : X) → AllPairs R xs → k < length xs
     → x ≡ get_or xs k x → (y : X) → Contains (take k xs) y → R y x
@@ -25,7 +22,7 @@ newest R xs k x pairs below is y m =
     let split : xs ≡ take k xs ++ get_or xs k x ∷ drop (suc k) xs =
     sym (take-append-drop k xs) ∙ ap (λ ys. take k xs ++ ys) (drop-cons xs k x below) in
     let sides = AllPairs_parts R (take k xs) (drop (suc k) xs) (get_or xs k x) (subst (AllPairs R) split pairs) in
-    subst (R y) (sym is) (all_in (λ z. R z (get_or xs k x)) (take k xs) y sides.0 m)
+    subst (R y) (sym is) (All-contains (λ z. R z (get_or xs k x)) (take k xs) y sides.0 m)
 
 -- what all behind a place have and the item before it has
 pub one_before : {X : Type 0} (P : X → Type 0) (xs : List X) (p : ℕ) (x : X) → 0 < p → p ≤ length xs
@@ -60,6 +57,21 @@ module _ (c : Choice) where
             let same : p - 1 ≡ j = omega (arith, before, more) in
             subst (λ k. IsOver c x (get_or xs k d)) same top
       ])
+
+  -- what is not over one of them is over none behind it
+  pub back_from : (xs : List Id) (m : ℕ) (x : Id) → AllPairs (λ y z. IsOver c z y) xs → m < length xs
+      → (¬ IsOver c x (get_or xs m x)) → All (λ y. ¬ IsOver c x y) (drop m xs)
+  back_from xs m x order below none =
+      subst (All (λ y. ¬ IsOver c x y)) (sym (drop-cons xs m x below))
+      (All-cons (λ y. ¬ IsOver c x y) (get_or xs m x) (drop (suc m) xs) none
+      (λ j d behind over. none (reaches_through (names c) x (get_or (drop (suc m) xs) j d) (get_or xs m x) over
+      (All-contains (λ y. IsOver c y (get_or xs m x)) (drop (suc m) xs) (get_or (drop (suc m) xs) j d) sides
+      (Contains-get_or (drop (suc m) xs) j d behind)))))
+    where
+      sides : All (λ y. IsOver c y (get_or xs m x)) (drop (suc m) xs)
+      sides = (AllPairs_parts (λ y z. IsOver c z y) (take m xs) (drop (suc m) xs) (get_or xs m x)
+          (subst (AllPairs (λ y z. IsOver c z y))
+          (sym (take-append-drop m xs) ∙ ap (λ ys. take m xs ++ ys) (drop-cons xs m x below)) order)).1
 
   -- of those that it is not over, each is over it
   over_back : (xs : List Id) (p : ℕ) (x : Id) → ((y : Id) → Contains xs y → IsOver c y x ⊎ IsOver c x y)

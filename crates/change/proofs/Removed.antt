@@ -23,7 +23,7 @@ use Rattle.change.specs.declared.deleting.Deleting.{Deleting}
 use Rattle.change.specs.Deleting.{choice_of, is_cut, left}
 use Rattle.zones.specs.Differing.{ElementEdit}
 use Rattle.change.specs.Puts.{less_element, less_elements}
-use Rattle.change.specs.Grouping.{Key}
+use Rattle.sorted.specs.ElementKeys.{Key}
 use Rattle.sorted.proofs.InTurn.{find_member, in_turn_none, in_turn_some}
 
 removal : Element → ElementEdit

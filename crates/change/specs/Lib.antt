@@ -1,5 +1,4 @@
 pub mod Entries
-pub mod Lists
 pub mod Pairs
 pub mod Plans
 pub mod Puts

@@ -1,14 +1,18 @@
--- Pairs of ids, gathered by their first ids.
-use Rattle.std.specs.Prelude.{◌↔◌, List, Contains}
+-- Pairs of ids, gathered by their first ids or by their second ones.
+use Rattle.std.specs.Prelude.{List, Contains}
 use Rattle.std.specs.Ordering.{nat_cmp}
 use Rattle.std.specs.Cmp.Lexicographic.{slice_cmp}
+use Rattle.sorted.specs.Lists.{Lists, listed, Holds}
 use Rattle.terms.specs.Types.{Id}
-use Rattle.change.specs.Lists.{Lists, listed}
 
 -- what an id is paired with
-abbrev pub others_of : Lists Id → Id → List Id
+abbrev pub others_of : Lists Id Id → Id → List Id
 others_of = listed (slice_cmp nat_cmp)
 
 -- the groups have these pairs
-abbrev pub AreGrouped : List (Id × Id) → Lists Id → Type 0
-AreGrouped pairs groups = (x z : Id) → Contains (others_of groups x) z ↔ Contains {X = Id × Id} pairs (x, z)
+abbrev pub AreGrouped : List (Id × Id) → Lists Id Id → Type 0
+AreGrouped pairs groups = Holds (slice_cmp nat_cmp) groups (λ x z. Contains {X = Id × Id} pairs (x, z))
+
+-- the groups have them turned round
+abbrev pub AreGroupedBack : List (Id × Id) → Lists Id Id → Type 0
+AreGroupedBack pairs groups = Holds (slice_cmp nat_cmp) groups (λ z x. Contains {X = Id × Id} pairs (x, z))

@@ -5,6 +5,9 @@ use Rattle.terms.specs.Lookups.{is_supplied, delby_of}
 use Rattle.terms.specs.Choice.{Choice}
 use Rattle.terms.specs.Over.{Supersedes}
 use Rattle.terms.specs.Install.{Installation, TakesEffect}
+use Rattle.sysmods.specs.declared.choice.VerChoice.{VerChoice}
+use Rattle.sysmods.specs.Choices.{number_in, choice}
+use Rattle.change.specs.declared.installing.Installing.{Installing}
 use Rattle.change.specs.declared.plan.Plan.{Plan}
 use Rattle.change.specs.Pairs.{others_of}
 use Rattle.change.specs.Deleting.{at_stake}
@@ -20,6 +23,11 @@ installation g choice number zone kept bypassed date = record {
   bypassed = bypassed;
   date = date;
 }
+
+-- what is installed, by these ++VERs
+abbrev pub installation_of : VerChoice → Installing → Installation
+installation_of vers i =
+    installation vers.global.now (choice vers) (number_in vers) i.zone.now i.kept.now i.bypassed.now i.date
 
 -- The zone neither supplies it nor has it deleted, so that it may be installed.
 pub record IsFresh (zone : Zone) (x : Id) : Type 0 where

@@ -8,7 +8,7 @@ ghost use Rattle.change.specs.Deleting.{AreDeletions, is_cut, left, first_meetin
 ghost use Rattle.change.specs.Deleting.{is_function_gone, first_deleter, delby_left};
 ghost use Rattle.change.specs.Entries.{old_entry};
 
-use fields::{Id, IdList};
+use fields::{Attest, Id, IdList};
 use std::alloc::{AllocError, Global};
 use sysmods::VerChoice;
 use zones::{Entry, Zone};

@@ -8,9 +8,9 @@ ghost use Rattle.change.specs.Entries.{IsMadeEntry, PutsEntry, HasPutEntries};
 
 use crate::deleting::{Deleting, left_entry};
 use crate::differing::{put_entry, remove_entry};
-use crate::lists::listed;
 use crate::plan::Plan;
-use fields::{Id, IdList};
+use fields::{Attest, Id, IdList};
+use sorted::lists::listed;
 use std::alloc::{AllocError, Global};
 use zones::{Applied, Entry, Zone, ZoneDelta};
 
@@ -98,7 +98,7 @@ fn waived(alloc: Global, deleting: &Deleting, plan: &Plan, id: Id) -> Result<IdL
     let bypassed = listed(&plan.bypassed, id);
     let open = open_among(alloc, deleting, plan, bypassed)?;
     let ids = IdList::from_vec(open);
-    let _ = ids.as_slice();
+    ids.attest();
     Ok(ids)
 }
 
@@ -148,6 +148,6 @@ fn joined(alloc: Global, ids: &[Id], more: &[Id]) -> Result<IdList, AllocError>
     let mut all = Vec::from_slice(alloc, ids)?;
     all.extend_from_slice(more)?;
     let rising = IdList::from_vec(all);
-    let _ = rising.as_slice();
+    rising.attest();
     Ok(rising)
 }

@@ -6,7 +6,7 @@ ghost use Rattle.terms.specs.Changes.{has_replacement};
 ghost use Rattle.terms.specs.Install.{Installation, HasElementAfter};
 ghost use Rattle.terms.specs.Lookups.{IsRising, change_of, has_change};
 ghost use Rattle.terms.specs.Over.{IsOver};
-ghost use Rattle.terms.specs.Texts.{IsMerge, IsNumbered, IsUpdate};
+ghost use Rattle.terms.specs.Texts.{IsMerge, IsNumbered};
 ghost use Rattle.change.specs.Folding.{AreChangers, IsFolded, IsMadeBy, IsStep, IsUpdateOf, is_for};
 
 use fields::{Id, IdList, Name};
@@ -14,7 +14,7 @@ use std::alloc::{AllocError, Global};
 use sysmods::{GlobalZone, VerChoice};
 use sysmods_records::{Action, ElemChange};
 use terms::ElemType;
-use text80::{Line, Numbered, TextError, Update, merge};
+use text80::{Line, Numbered, Update, merge};
 use zones::{Element, TryClone};
 
 /// The element after all these SYSMODs, which change it and of which each later one is over each earlier one. The zone
@@ -208,28 +208,21 @@ fn changed(
             syslib: *syslib,
             text: Vec::from_slice(alloc, lines.as_slice())?,
         })),
-        Action::Updates { lines } => match old {
-            Some(element) => Ok(Some(updated(alloc, id, change.name, lines.as_slice(), element)?)),
+        Action::Updates { update } => match old {
+            Some(element) => Ok(Some(updated(alloc, id, update, element)?)),
             None => Ok(None),
         },
     }
 }
 
 /// The element after an update by the SYSMOD.
-fn updated(
-    alloc: Global,
-    id: Id,
-    name: Name,
-    lines: &[Line],
-    old: Element,
-) -> Result<Element, AllocError>
-    requires numbered { IsNumbered old.text }
-    requires update { IsUpdate name lines.now }
-    ensures { IfOk result (IsUpdateOf id lines.now old) }
+fn updated(alloc: Global, id: Id, update: &Update, old: Element) -> Result<Element, AllocError>
+    requires { IsNumbered old.text }
+    ensures { IfOk result (IsUpdateOf id update.now old) }
 {
     let Element {
         elem_type,
-        name: element_name,
+        name,
         fmid,
         rmid,
         mut umids,
@@ -240,40 +233,21 @@ fn updated(
     umids.insert(id)?;
     Ok(Element {
         elem_type,
-        name: element_name,
+        name,
         fmid,
         rmid,
         umids,
         distlib,
         syslib,
-        text: merged(alloc, name, text, lines)?,
+        text: merged(alloc, text, update)?,
     })
 }
 
 /// The text with the update made.
-fn merged(
-    alloc: Global,
-    name: Name,
-    text: Vec<Line>,
-    lines: &[Line],
-) -> Result<Vec<Line>, AllocError>
-    requires numbered { IsNumbered text.items }
-    requires update { IsUpdate name lines.now }
-    ensures { IfOk result (λ new. IsMerge text.items lines.now new.items) }
+fn merged(alloc: Global, text: Vec<Line>, update: &Update) -> Result<Vec<Line>, AllocError>
+    requires { IsNumbered text.items }
+    ensures { IfOk result (λ new. IsMerge text.items update.now new.items) }
 {
-    let text = Numbered::read(text).unwrap();
-    let update = update_of(alloc, name, lines)?;
-    Ok(merge(alloc, &text, &update)?.into_lines())
-}
-
-/// The records, which are an update of the element of this name.
-fn update_of(alloc: Global, name: Name, lines: &[Line]) -> Result<Update, AllocError>
-    requires { IsUpdate name lines.now }
-    ensures { IfOk result (λ update. update ≡ lines.now) }
-{
-    match Update::read(alloc, Vec::from_slice(alloc, lines)?, name.as_bytes()) {
-        Ok(update) => Ok(update),
-        Err(TextError::Memory) => Err(AllocError),
-        Err(TextError::Fault(_)) => unreachable!(),
-    }
+    let text = Numbered::known(text);
+    Ok(merge(alloc, &text, update)?.into_lines())
 }

@@ -3,8 +3,8 @@ ghost use Rattle.std.specs.Prelude.{IfOk, OnOk};
 ghost use Rattle.terms.specs.Lookups.{changes_of};
 ghost use Rattle.change.specs.Grouping.{AddsBy, AreByElement};
 
-use crate::lists::{Lists, add};
-use fields::{Id, Name};
+use fields::{Attest, Id, Name};
+use sorted::lists::{Lists, add};
 use std::alloc::{AllocError, Global};
 use std::collections::BTreeMap;
 use sysmods::GlobalZone;
@@ -16,10 +16,10 @@ pub(crate) fn changes_by_element(
     alloc: Global,
     global: &GlobalZone,
     ids: &[Id],
-) -> Result<Lists<(ElemType, Name)>, AllocError>
+) -> Result<Lists<(ElemType, Name), Id>, AllocError>
     ensures { IfOk result (AreByElement global.now ids.now) }
 {
-    prove!(global.len() < 65_536);
+    global.attest();
     let mut changers = BTreeMap::new(alloc);
     for id in ids {
         add_changes(alloc, &mut changers, global, *id)?;
@@ -30,7 +30,7 @@ pub(crate) fn changes_by_element(
 /// Adds the SYSMOD to each element that it changes.
 fn add_changes(
     alloc: Global,
-    changers: &mut Lists<(ElemType, Name)>,
+    changers: &mut Lists<(ElemType, Name), Id>,
     global: &GlobalZone,
     id: Id,
 ) -> Result<(), AllocError>
@@ -45,7 +45,7 @@ fn add_changes(
 /// Adds the SYSMOD to the element of each statement.
 fn add_each(
     alloc: Global,
-    changers: &mut Lists<(ElemType, Name)>,
+    changers: &mut Lists<(ElemType, Name), Id>,
     id: Id,
     changes: &[ElemChange],
 ) -> Result<(), AllocError>

@@ -1,14 +1,15 @@
 //! What kept SYSMODs put into a zone.
-ghost use Rattle.std.specs.Prelude.{◌≡◌, ◌≢◌, ◌⊎◌, All, Contains, IfOk, OnOk};
+ghost use Rattle.std.specs.Prelude.{◌≡◌, ◌≢◌, ◌↔◌, ◌⊎◌, All, Contains, IfOk, OnOk};
 ghost use Rattle.terms.specs.Types.{Id as AnId, Zone as AZone};
-ghost use Rattle.sysmods.specs.Choices.{number_in, choice};
+ghost use Rattle.sysmods.specs.Choices.{choice};
 ghost use Rattle.terms.specs.Over.{IsOver};
 ghost use Rattle.terms.specs.Tests.{ShareElement};
 ghost use Rattle.zones.specs.Delta.{IsChanged};
-ghost use Rattle.terms.specs.Install.{HasInstalled};
+ghost use Rattle.terms.specs.Install.{HasInstalled, TakesEffect};
 ghost use Rattle.change.specs.Elements.{HasBases};
 ghost use Rattle.zones.specs.Differing.{EachChanges};
-ghost use Rattle.change.specs.Plans.{installation, IsFresh};
+ghost use Rattle.change.specs.Plans.{installation_of, IsFresh};
+ghost use Rattle.change.specs.Superseded.{HaveSuperseded};
 ghost use Rattle.change.specs.Puts.{with_elements, less_element, less_elements};
 
 use crate::deleting::Deleting;
@@ -16,49 +17,59 @@ use crate::differing::{ElementEdit, edit_elements};
 use crate::elements::elements_after;
 use crate::entries::put_entries;
 use crate::plan::planned;
-use fields::{Id, IdList, YyDdd};
+use fields::{Attest, Id, IdList, YyDdd};
 use std::alloc::{AllocError, Global};
-use sysmods::VerChoice;
+use sysmods::Overs;
 use zones::{Edit, Element, Table, Zone, ZoneDelta};
 use zones_views::deletions;
 
+/// What is installed into which zone. `superseded` has each kept SYSMOD with each id that it supersedes, and `bypassed`
+/// SYSMODs with a bypassed requisite of theirs; both in any order, and what they say of others does not matter.
+#[derive(Clone, Copy)]
+pub struct Installing<'a> {
+    pub zone: &'a Zone,
+    pub kept: &'a IdList,
+    pub superseded: &'a [(Id, Id)],
+    pub bypassed: &'a [(Id, Id)],
+    pub date: YyDdd,
+}
+
+/// What an install changes, and the kept SYSMODs that take effect. The others of them become SUPERSEDED.
+#[derive(Drop)]
+pub struct Installed {
+    pub delta: ZoneDelta,
+    pub effective: IdList,
+}
+
 /// What the kept SYSMODs put into the zone and take out of it on this date, by the `++VER`s that count. Over orders
-/// those that change one element, and what they update is there. `bypassed` has pairs of a SYSMOD and a bypassed
-/// requisite of it.
+/// those that change one element, and what they update is there. The error comes where memory runs out, and no other.
 pub fn install(
     alloc: Global,
-    vers: &VerChoice<'_>,
-    zone: &Zone,
-    kept: &IdList,
-    bypassed: &[(Id, Id)],
-    date: YyDdd,
-) -> Result<ZoneDelta, AllocError>
-    requires fresh { All (IsFresh zone.now) kept.now }
-    requires order { (x y : AnId) → Contains kept.now x → Contains kept.now y → x ≢ y
-        → ShareElement vers.now.global.now x y → IsOver (choice vers.now) x y ⊎ IsOver (choice vers.now) y x }
-    requires base { HasBases (installation vers.now.global.now (choice vers.now) (number_in vers.now) zone.now kept.now
-        bypassed.now date) }
-    ensures installs { IfOk result (λ delta. (new : AZone) → IsChanged delta zone.now new →
-        HasInstalled (record {
-          global = vers.now.global.now;
-          choice = choice vers.now;
-          number = number_in vers.now;
-          zone = zone.now;
-          kept = kept.now;
-          bypassed = bypassed.now;
-          date = date;
-        }) new) }
-    ensures differs { IfOk result (EachChanges zone.now) }
+    installing: &Installing<'_>,
+    mut overs: Overs<'_, '_>,
+) -> Result<Installed, AllocError>
+    requires fresh { All (IsFresh installing.now.zone.now) installing.now.kept.now }
+    requires superseded { HaveSuperseded (choice overs) installing.now.kept.now installing.now.superseded.now }
+    requires order { (x y : AnId) → Contains installing.now.kept.now x → Contains installing.now.kept.now y → x ≢ y
+        → ShareElement overs.global.now x y → IsOver (choice overs) x y ⊎ IsOver (choice overs) y x }
+    requires base { HasBases (installation_of overs installing.now) }
+    ensures installs { IfOk result (λ i. (new : AZone) → IsChanged i.delta installing.now.zone.now new →
+        HasInstalled (installation_of overs.entry installing.now) new) }
+    ensures differs { IfOk result (λ i. EachChanges installing.now.zone.now i.delta) }
+    ensures effective { IfOk result (λ i. (x : AnId) → Contains i.effective x
+        ↔ TakesEffect (installation_of overs.entry installing.now) x) }
 {
-    prove!(vers.global().len() < 65_536);
+    let zone = installing.zone;
     zone.attest();
     zone.known_lists();
-    let dels = deletions(alloc, vers, kept.as_slice())?;
-    let plan = planned(alloc, vers, zone, kept, dels.as_slice(), bypassed, date)?;
+    let vers = overs.vers();
+    vers.global().attest();
+    let dels = deletions(alloc, vers, installing.kept.as_slice())?;
+    let plan = planned(alloc, vers, installing, dels.as_slice())?;
     let deleting = Deleting {
         vers,
         zone,
-        kept: kept.as_slice(),
+        kept: installing.kept.as_slice(),
         dels: dels.as_slice(),
     };
     let mut delta = ZoneDelta::new(alloc);
@@ -67,14 +78,17 @@ pub fn install(
     remove_elements(&deleting, &mut edits)?;
     let elements = elements_after(
         alloc,
-        vers,
+        &mut overs,
         zone,
         dels.as_slice(),
         plan.effective.as_slice(),
     )?;
     put_elements(elements, &mut edits)?;
     edit_elements(zone, edits.into_vec(), &mut delta)?;
-    Ok(delta)
+    Ok(Installed {
+        delta,
+        effective: plan.effective,
+    })
 }
 
 /// Removes the elements whose owner's chain the deletions meet. Mostly nothing is deleted.

@@ -1,49 +1,57 @@
 //! SYSMODs in the order of over.
-ghost use Rattle.std.specs.Prelude.{◌<◌, ◌≤◌, ◌-◌, ◌⊎◌, AllPairs, All, IfOk, IsPermutation, drop, get_or, length};
+ghost use Rattle.std.specs.Prelude.{◌≡◌, ◌<◌, ◌≤◌, ◌-◌, ◌⊎◌, AllPairs, All, IfOk, IsPermutation, drop, get_or, length};
 ghost use Rattle.sysmods.specs.Choices.{choice};
 ghost use Rattle.terms.specs.Over.{IsOver};
 
 use fields::Id;
 use std::alloc::{AllocError, Global};
-use sysmods::VerChoice;
+use sysmods::Overs;
 
 /// The ids, of which over orders each two, so that each later one is over each earlier one. An id that is over all
-/// before it costs one search.
+/// before it is asked about once, and any other one as often as it takes to halve them.
 pub(crate) fn in_order(
     alloc: Global,
-    vers: &VerChoice<'_>,
+    overs: &mut Overs<'_, '_>,
     ids: &[Id],
 ) -> Result<Vec<Id>, AllocError>
-    requires { AllPairs (λ x y. IsOver (choice vers.now) x y ⊎ IsOver (choice vers.now) y x) ids.now }
+    requires { AllPairs (λ x y. IsOver (choice overs.old) x y ⊎ IsOver (choice overs.old) y x) ids.now }
     ensures same { IfOk result (λ ordered. IsPermutation ids.now ordered.items) }
-    ensures order { IfOk result (λ ordered. AllPairs (λ x y. IsOver (choice vers.now) y x) ordered.items) }
+    ensures order { IfOk result (λ ordered. AllPairs (λ x y. IsOver (choice overs.old) y x) ordered.items) }
+    ensures overs { overs.new ≡ overs.old }
 {
     let mut ordered = Vec::new(alloc);
     for id in ids {
-        let place = place_of(alloc, vers, &ordered, *id)?;
+        let place = place_of(alloc, overs, &ordered, *id)?;
         ordered.insert(place, *id)?;
     }
     Ok(ordered)
 }
 
-/// The place of an id among others: behind the last one that it is over.
+/// The place of an id among others, which over orders: behind the last one that it is over. It tests the last one
+/// first, and then halves what is left.
 fn place_of(
     alloc: Global,
-    vers: &VerChoice<'_>,
+    overs: &mut Overs<'_, '_>,
     ordered: &[Id],
     id: Id,
 ) -> Result<usize, AllocError>
+    requires { AllPairs (λ x y. IsOver (choice overs.old) y x) ordered.now }
     ensures within { IfOk result (λ place. place ≤ length ordered.now) }
     ensures front { IfOk result
-        (λ place. 0 < place → IsOver (choice vers.now) id (get_or ordered.now (place - 1) id)) }
-    ensures back { IfOk result (λ place. All (λ x. ¬ IsOver (choice vers.now) id x) (drop place ordered.now)) }
+        (λ place. 0 < place → IsOver (choice overs.old) id (get_or ordered.now (place - 1) id)) }
+    ensures back { IfOk result (λ place. All (λ x. ¬ IsOver (choice overs.old) id x) (drop place ordered.now)) }
+    ensures overs { overs.new ≡ overs.old }
 {
-    let mut place = ordered.len();
-    while place > 0 {
-        if vers.over(alloc, id, ordered[place - 1])? {
-            return Ok(place);
+    let mut low = 0;
+    let mut high = ordered.len();
+    let mut middle = high.saturating_sub(1);
+    while low < high {
+        if overs.over(alloc, id, ordered[middle])? {
+            low = middle + 1;
+        } else {
+            high = middle;
         }
-        place -= 1;
+        middle = low + (high - low) / 2;
     }
-    Ok(0)
+    Ok(low)
 }

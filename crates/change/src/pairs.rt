@@ -1,14 +1,30 @@
-//! Pairs of ids, gathered by their first ids.
-ghost use Rattle.std.specs.Prelude.{◌≡◌, IfOk, map};
-ghost use Rattle.change.specs.Pairs.{AreGrouped};
+//! Pairs of ids: those of some first ids, and all gathered by their first ids or by their second ones.
+ghost use Rattle.std.specs.Prelude.{◌≡◌, IfOk, filter, map};
+ghost use Rattle.terms.specs.Lookups.{is_in};
+ghost use Rattle.change.specs.Pairs.{AreGrouped, AreGroupedBack};
 
-use crate::lists::{Lists, add};
-use fields::Id;
+use fields::{Id, IdList};
+use sorted::lists::{Lists, add};
 use std::alloc::{AllocError, Global};
 use std::collections::BTreeMap;
 
+/// The pairs whose first id is among these. The error comes where memory runs out.
+pub fn pairs_of(
+    alloc: Global,
+    ids: &IdList,
+    pairs: &[(Id, Id)],
+) -> Result<Vec<(Id, Id)>, AllocError>
+    ensures { IfOk result (λ found. found.items ≡ filter (λ p. is_in ids.now p.0) pairs.now) }
+{
+    pairs
+        .iter()
+        .filter(|pair| ids.contains(pair.0))
+        .copied()
+        .collect(alloc)
+}
+
 /// The second ids by their first ids.
-pub(crate) fn grouped(alloc: Global, pairs: &[(Id, Id)]) -> Result<Lists<Id>, AllocError>
+pub(crate) fn grouped(alloc: Global, pairs: &[(Id, Id)]) -> Result<Lists<Id, Id>, AllocError>
     ensures { IfOk result (AreGrouped pairs.now) }
 {
     let mut groups = BTreeMap::new(alloc);
@@ -18,13 +34,23 @@ pub(crate) fn grouped(alloc: Global, pairs: &[(Id, Id)]) -> Result<Lists<Id>, Al
     Ok(groups)
 }
 
-/// The first ids.
-pub(crate) fn firsts(alloc: Global, pairs: &[(Id, Id)]) -> Result<Vec<Id>, AllocError>
-    ensures { IfOk result (λ ids. ids.items ≡ map (λ p. p.0) pairs.now) }
+/// The first ids by their second ids.
+pub(crate) fn grouped_by_second(
+    alloc: Global,
+    pairs: &[(Id, Id)],
+) -> Result<Lists<Id, Id>, AllocError>
+    ensures { IfOk result (AreGroupedBack pairs.now) }
 {
-    let mut ids = Vec::new(alloc);
+    let mut groups = BTreeMap::new(alloc);
     for pair in pairs {
-        ids.push(pair.0)?;
+        add(alloc, &mut groups, pair.1, pair.0)?;
     }
-    Ok(ids)
+    Ok(groups)
+}
+
+/// The second ids.
+pub(crate) fn seconds(alloc: Global, pairs: &[(Id, Id)]) -> Result<Vec<Id>, AllocError>
+    ensures { IfOk result (λ ids. ids.items ≡ map (λ p. p.1) pairs.now) }
+{
+    pairs.iter().map(|pair| pair.1).collect(alloc)
 }

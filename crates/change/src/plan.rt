@@ -1,14 +1,16 @@
 //! What an install does to entries.
 ghost use Rattle.std.specs.Prelude.{◌≡◌, ◌↔◌, ◌++◌, Contains, IfOk, OnOk, map};
 ghost use Rattle.terms.specs.Types.{Id as AnId};
-ghost use Rattle.sysmods.specs.Choices.{number_in, choice};
+ghost use Rattle.sysmods.specs.Choices.{choice};
 ghost use Rattle.change.specs.Deleting.{at_stake};
-ghost use Rattle.change.specs.Plans.{IsPlan, installation};
+ghost use Rattle.change.specs.Plans.{IsPlan, installation_of};
+ghost use Rattle.change.specs.Superseded.{HaveSuperseded};
 
-use crate::effective::{superseded_pairs, taking_effect};
-use crate::lists::Lists;
-use crate::pairs::{firsts, grouped};
-use fields::{Id, IdList, YyDdd};
+use crate::effective::taking_effect;
+use crate::installing::Installing;
+use crate::pairs::{grouped, grouped_by_second, pairs_of, seconds};
+use fields::{Attest, Id, IdList, YyDdd};
+use sorted::lists::Lists;
 use std::alloc::{AllocError, Global};
 use sysmods::VerChoice;
 use zones::{Entry, Zone};
@@ -17,36 +19,33 @@ use zones::{Entry, Zone};
 #[derive(Drop)]
 pub(crate) struct Plan {
     pub(crate) effective: IdList,
-    pub(crate) superseders: Lists<Id>,
-    pub(crate) bypassed: Lists<Id>,
+    pub(crate) superseders: Lists<Id, Id>,
+    pub(crate) bypassed: Lists<Id, Id>,
     pub(crate) touched: IdList,
     pub(crate) date: YyDdd,
 }
 
-/// The plan of an install.
+/// The plan of an install by these `++VER`s.
 pub(crate) fn planned(
     alloc: Global,
     vers: &VerChoice<'_>,
-    zone: &Zone,
-    kept: &IdList,
+    installing: &Installing<'_>,
     dels: &[Id],
-    bypassed: &[(Id, Id)],
-    date: YyDdd,
 ) -> Result<Plan, AllocError>
-    ensures { IfOk result
-        (IsPlan (installation vers.now.global.now (choice vers.now) (number_in vers.now) zone.now kept.now bypassed.now
-        date) dels.now) }
+    requires { HaveSuperseded (choice vers.now) installing.now.kept.now installing.now.superseded.now }
+    ensures { IfOk result (IsPlan (installation_of vers.now installing.now) dels.now) }
 {
-    let effective = taking_effect(alloc, vers, kept)?;
-    let pairs = superseded_pairs(alloc, vers, effective.as_slice())?;
-    let at_stake = at_stake(alloc, zone, dels)?;
+    vers.global().attest();
+    let effective = taking_effect(alloc, installing.kept, installing.superseded)?;
+    let pairs = pairs_of(alloc, &effective, installing.superseded)?;
+    let at_stake = at_stake(alloc, installing.zone, dels)?;
     let touched = touched(alloc, effective.as_slice(), pairs.as_slice(), &at_stake)?;
     Ok(Plan {
         effective,
-        superseders: grouped(alloc, pairs.as_slice())?,
-        bypassed: grouped(alloc, bypassed)?,
+        superseders: grouped_by_second(alloc, pairs.as_slice())?,
+        bypassed: grouped(alloc, installing.bypassed)?,
         touched,
-        date,
+        date: installing.date,
     })
 }
 
@@ -58,9 +57,9 @@ fn touched(
     at_stake: &[Id],
 ) -> Result<IdList, AllocError>
     ensures { IfOk result (λ ids. (x : AnId)
-        → Contains ids x ↔ Contains ((map (λ p. p.0) pairs.now ++ effective.now) ++ at_stake.now) x) }
+        → Contains ids x ↔ Contains ((map (λ p. p.1) pairs.now ++ effective.now) ++ at_stake.now) x) }
 {
-    let mut ids = firsts(alloc, pairs)?;
+    let mut ids = seconds(alloc, pairs)?;
     ids.extend_from_slice(effective)?;
     ids.extend_from_slice(at_stake)?;
     Ok(IdList::from_vec(ids))

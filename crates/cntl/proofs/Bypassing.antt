@@ -20,6 +20,7 @@ use Rattle.terms.proofs.BypassMembers.{behind_operand}
 use Rattle.terms.proofs.ExactBypass.{are_members}
 use Rattle.operands.specs.Left.{AreNamed}
 use Rattle.cntl.specs.Singles.{AreSingle}
+use Rattle.terms.proofs.Reasons.{class_of}
 
 -- A command without doubles has no member of BYPASS twice.
 pub single_words : (w : CommandWord) (pieces : List Piece) (ws : List Word) → HasWords pieces ws
@@ -28,12 +29,6 @@ single_words w pieces ws h single =
     ap (λ l. list_any (is_often 2 (runs_in l)) (members_of w)) (sym (ap (list_behind (codes "BYPASS")) h
     ∙ behind_operand (codes "BYPASS") ws))
     ∙ (or_parts _ (list_any (is_often 2 (runs_in (list_behind (codes "BYPASS") pieces))) (members_of w)) single).1
-
--- A reason of a kind has the form of any reason.
-pub class_of : (kind : HoldKind) (t : Text) → IsReason kind t → IsClass t
-class_of Error t h = (omega (arith, h.0), h.1, h.2)
-class_of System t h = h
-class_of User t h = h
 
 module _ (kind : HoldKind) where
   list_classes : (list : Option Text) (vs : List Text) → IsSomeAnd list (λ text. IsListOf (IsReason kind) text vs)

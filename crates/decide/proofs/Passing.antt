@@ -59,7 +59,3 @@ eligible_is s rows made flags flagged n x at =
       λ on. (contains_at s.cands n x at, (none_fails (s.fails x)).0 (sym is ∙ on)),
       λ e. is ∙ (none_fails (s.fails x)).1 e.1,
     )
-
-pub map_through : {X Y Z : Type 0} (f : X → Y) (g : Y → Z) (xs : List X) → map (λ x. g (f x)) xs ≡ map g (map f xs)
-map_through f g [] = refl
-map_through f g (x ∷ xs) = ap (λ l. g (f x) ∷ l) (map_through f g xs)

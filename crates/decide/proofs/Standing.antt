@@ -28,6 +28,7 @@ use Rattle.lemmas.proofs.Pairs.{pairs_map}
 use Rattle.decide.specs.Said.{Serves}
 use Rattle.decide.specs.Serving.{StandsFor, AreOwn, AddsSuperseded, AreServed, AreOwnPlaces, IsServedIn}
 use Rattle.decide.specs.Serving.{is_between}
+use Rattle.lemmas.proofs.Orderings.{between_then, Equal_from_is_eq}
 
 -- a pair in a list
 abbrev pub Has : List (Id × ℕ) → Id → ℕ → Type 0
@@ -132,12 +133,6 @@ collected ids superseded pairs set made are z n =
     let d = are z n in
     (λ h. d.0 (b.0 (a.1 h)), λ s. a.0 (b.1 (d.1 s)))
 
-parted : (i a b : Ordering) → (is_le (ordering_then i a) && not (is_le (ordering_then i b)))
-    ≡ (is_eq i && (is_le a && not (is_le b)))
-parted Less a b = refl
-parted Equal a b = refl
-parted Greater a b = refl
-
 not_below : (n : ℕ) → is_le (nat_cmp 0 n) ≡ true
 not_below zero = refl
 not_below (suc n) = ap is_le (sym (nat_cmp_is 0 (suc n) Less (omega arith)))
@@ -154,23 +149,18 @@ below_end end n off = elim (cases_order end n) [
   ]
 ]
 
-equal_from : (i : Ordering) → is_eq i ≡ true → i ≡ Equal
-equal_from Less e = absurd (true≢false (sym e))
-equal_from Equal e = refl
-equal_from Greater e = absurd (true≢false (sym e))
-
 pub between : (z : Id) (end : ℕ) (p : Id × ℕ) → is_between z end p ≡ true → (z ≡ p.0) × (p.1 < end)
 between z end p on =
     let parts = and_parts (is_eq (slice_cmp nat_cmp z p.0)) (is_le (nat_cmp 0 p.1) && not (is_le (nat_cmp end p.1)))
-    (sym (parted (slice_cmp nat_cmp z p.0) (nat_cmp 0 p.1) (nat_cmp end p.1)) ∙ on) in
+    (sym (between_then (slice_cmp nat_cmp z p.0) (nat_cmp 0 p.1) (nat_cmp end p.1)) ∙ on) in
     let back = and_parts (is_le (nat_cmp 0 p.1)) (not (is_le (nat_cmp end p.1))) parts.1 in (
-      exact_bytes z p.0 (equal_from (slice_cmp nat_cmp z p.0) parts.0),
+      exact_bytes z p.0 (Equal_from_is_eq (slice_cmp nat_cmp z p.0) parts.0),
       below_end end p.1 (not-true (is_le (nat_cmp end p.1)) back.1),
     )
 
 pub is_between_holds : (z : Id) (end n : ℕ) → n < end → is_between z end (z, n) ≡ true
 is_between_holds z end n below =
-    parted (slice_cmp nat_cmp z z) (nat_cmp 0 n) (nat_cmp end n)
+    between_then (slice_cmp nat_cmp z z) (nat_cmp 0 n) (nat_cmp end n)
     ∙ ap (λ i. is_eq i && (is_le (nat_cmp 0 n) && not (is_le (nat_cmp end n)))) (tied_itself nat_list_cmp_total z)
     ∙ ap₂ (λ a b. a && not b) (not_below n) (before_end end n below)
 

@@ -14,7 +14,7 @@ use crate::kept::kept_ids;
 use crate::needs::open_needs;
 use crate::numbered::{all_eligible, numbered};
 use crate::wants::Want;
-use fields::{Id, IdList};
+use fields::{Attest, Id, IdList};
 use solve::{Solver, System, Worklist, causers};
 use std::alloc::{AllocError, Global};
 use terms::Test;
@@ -52,7 +52,7 @@ pub fn decide(
     if ids.len() > 4_294_967_295 {
         return Err(AllocError);
     }
-    let _ = ids.as_slice();
+    ids.attest();
     let eligible = all_eligible(alloc, tests.as_slice())?;
     let system = numbered(alloc, ids, superseded, wants, eligible)?;
     let decided = by_number(alloc, ids, &system, wants, tests)?;

@@ -6,7 +6,7 @@ ghost use Rattle.terms.specs.Lookups.{is_in};
 ghost use Rattle.terms.specs.Needs.{takes_superseder};
 ghost use Rattle.decide.specs.Serving.{AreOwn, AddsSuperseded, AreServed, AreOwnPlaces, IsServedIn, is_between};
 
-use fields::{Id, IdList};
+use fields::{Attest, Id, IdList};
 use std::alloc::{AllocError, Global};
 use std::collections::BTreeSet;
 use terms::NeedKind;
@@ -54,7 +54,7 @@ fn add_superseded(
     requires within { All (λ p. Contains ids.now p.0) superseded.now }
     ensures { OnOk result (AddsSuperseded ids.now superseded.now pairs.old.items pairs.new.items) }
 {
-    let _ = ids.as_slice();
+    ids.attest();
     for pair in superseded {
         pairs.push((pair.1, own_place(ids, pair.0)))?;
     }
@@ -131,7 +131,7 @@ fn own_places(alloc: Global, ids: &IdList, id: Id) -> Result<Vec<u32>, AllocErro
     ensures below { IfOk result (λ any. All (λ n. n < length ids.now) any.items) }
     ensures rising { IfOk result (λ any. AllPairs (λ a b. a < b) any.items) }
 {
-    let _ = ids.as_slice();
+    ids.attest();
     let mut places = Vec::new(alloc);
     let Some(place) = place_of(ids, id) else {
         return Ok(places);

@@ -3,6 +3,7 @@
 //! equality are the text's. A list that rises (`Rising`) is its items, with look-ups by binary search.
 #![tactic(auto)]
 
+mod attest;
 mod dates;
 mod forms;
 mod holds;
@@ -12,6 +13,7 @@ mod names;
 mod padded;
 pub mod spelling;
 
+pub use attest::Attest;
 pub use dates::YyDdd;
 pub use holds::{HoldDate, Reason};
 pub use ids::{Class, Id, Source};

@@ -7,6 +7,7 @@ ghost use Rattle.std.specs.Slice.Iter.{iter_rest};
 ghost use Rattle.std.specs.Iterator.Adapters.{IterYieldsInOrder};
 ghost use Rattle.terms.specs.Rising.{Rises, with_item, without_key};
 
+use crate::attest::Attest;
 use std::alloc::{AllocError, Global};
 use std::marker::Model;
 use std::slice::Iter;
@@ -33,6 +34,16 @@ impl<T: Field> Model for Rising<T> {
     ghost view = { λ a. a.items.items };
 
     ghost invariant = { λ a. Rises T.cmp (λ x. x) a.items.items };
+}
+
+impl<T: Field> Attest for Rising<T> {
+    ghost use Rattle.terms.specs.Rising.{Rises};
+
+    ghost form = { Rises T.cmp (λ x. x) };
+
+    fn attest(&self) {
+        let _ = self.as_slice();
+    }
 }
 
 impl<T: Field> Rising<T> {

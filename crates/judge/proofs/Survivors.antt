@@ -4,11 +4,12 @@ use Rattle.std.proofs.Common.{Some, refl, sym, ap, ◌∙◌, subst, Contains, a
 use Rattle.std.proofs.Common.{length}
 use Rattle.std.specs.Prelude.{◌↔◌}
 use Rattle.std.specs.List.{list_all}
-use Rattle.std.proofs.lemmas.Bool.{cases_eq, and_parts}
+use Rattle.std.proofs.lemmas.Bool.{cases_eq}
 use Rattle.std.proofs.lemmas.Option.{same_Some, slice_get_within}
 use Rattle.std.proofs.lemmas.List.Elements.{Contains-append_left, Contains-append_right, Contains-append_cases}
 use Rattle.lemmas.proofs.Members.{here, here_or, there, none_in, in_filter, filter_in}
 use Rattle.lemmas.proofs.Places.{contains_at, found_at}
+use Rattle.lemmas.proofs.Searches.{all_pass, passes_all}
 use Rattle.terms.specs.declared.codes.Test.{Test}
 use Rattle.terms.specs.declared.codes.Test.TheVariants.{J1, J2, J3, J4, J5, J6, J7, J8, J9, J10, J11, J12, J13}
 use Rattle.terms.specs.Types.{Id}
@@ -92,19 +93,6 @@ module _ (ids : List Id) (rows : List (List Test)) where
   pub survivors_none : (x : Id) → Contains [] x ↔ SurvivesIn ids rows 0 x
   survivors_none x = (λ h. absurd (none_in x h), λ h. absurd (omega (arith, h.below)))
 
-all_member : {X : Type 0} (p : X → Bool) (xs : List X) (x : X) → list_all p xs ≡ true → Contains xs x → p x ≡ true
-all_member p [] x all h = absurd (none_in x h)
-all_member p (y ∷ ys) x all h =
-    let both = and_parts (p y) (list_all p ys) all in
-    elim (here_or y ys x h) [
-      | inl same ↦ subst (λ v. p v ≡ true) same both.0
-      | inr rest ↦ all_member p ys x both.1 rest
-    ]
-
-all_of : {X : Type 0} (p : X → Bool) (xs : List X) → ((x : X) → Contains xs x → p x ≡ true) → list_all p xs ≡ true
-all_of p [] each = refl
-all_of p (x ∷ xs) each = rw (each x (here x xs)) (all_of p xs (λ y h. each y (there x xs y h)))
-
 -- each test is one of all
 among : (t : Test) → Contains all_tests t
 among J1 = (0, omega arith, refl)
@@ -130,7 +118,7 @@ module _ (s : Setting) (rows : List (List Test)) (failed : AreFailedTests s rows
       row = same_Some h.row (filter (failed.fails x) all_tests) (sym h.row_at ∙ failed.rows_are h.place x h.at)
 
       off : (t : Test) → is_clash t ≡ false → ¬ Fails s x t
-      off t other fails = true≢false (sym (all_member is_clash (filter (failed.fails x) all_tests) t
+      off t other fails = true≢false (sym (passes_all is_clash (filter (failed.fails x) all_tests) t
           (subst (λ r. list_all is_clash r ≡ true) row h.only_clashes)
           (in_filter (failed.fails x) all_tests t (among t) ((failed.failed h.place x h.at t).1 fails))) ∙ other)
 
@@ -158,7 +146,7 @@ module _ (s : Setting) (rows : List (List Test)) (failed : AreFailedTests s rows
         at = at.1;
         row = filter (failed.fails x) all_tests;
         row_at = failed.rows_are at.0 x at.1;
-        only_clashes = all_of is_clash (filter (failed.fails x) all_tests) (λ t there.
+        only_clashes = all_pass is_clash (filter (failed.fails x) all_tests) (λ t there.
             only t ((failed.failed at.0 x at.1 t).0 (filter_in (failed.fails x) all_tests t there).1));
       }
     where

@@ -6,7 +6,7 @@ ghost use Rattle.terms.specs.Types.{Id as AnId};
 ghost use Rattle.terms.specs.Lookups.{IsRising};
 ghost use Rattle.judge.specs.Surviving.{is_clash, SurvivesIn};
 
-use fields::{Id, IdList};
+use fields::{Attest, Id, IdList};
 use std::alloc::{AllocError, Global};
 use terms::Test;
 
@@ -57,6 +57,6 @@ pub(crate) fn survivors(
         add_if_surviving(&mut found, id, row_at(rows, i))?;
     }
     let survivors = IdList::from_vec(found);
-    let _ = survivors.as_slice();
+    survivors.attest();
     Ok(survivors)
 }

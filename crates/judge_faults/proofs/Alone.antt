@@ -1,11 +1,11 @@
 -- What candidates fail by themselves: those of J1 to J8 and J13 that their faults say.
 use Rattle.std.proofs.Common.{◌≡◌, ◌≢◌, Bool, true, false, not, List, [], ◌∷◌, Option, None, Some, IsTrue}
-use Rattle.std.proofs.Common.{refl, sym, ap, ◌∙◌, subst, true≢false, filter, find, Contains, arith}
+use Rattle.std.proofs.Common.{refl, sym, ap, ◌∙◌, subst, true≢false, filter, find, Contains}
 use Rattle.std.specs.Prelude.{◌↔◌, ◌==◌, ◌&&◌, is_some}
 use Rattle.std.specs.List.{list_any}
 use Rattle.std.specs.Option.{option_map_or}
 use Rattle.std.specs.Str.{bytes_eq}
-use Rattle.std.proofs.lemmas.Bool.{and_parts, not-true}
+use Rattle.std.proofs.lemmas.Bool.{and_parts, false_from_ne_true, not_from_false, not-true}
 use Rattle.std.proofs.lemmas.Cmp.{tied_itself}
 use Rattle.std.proofs.lemmas.List.Folds.{Any-from_list_any, list_any-from_Any}
 use Rattle.terms.specs.declared.kinds.ElemType.{ElemType}
@@ -14,30 +14,30 @@ use Rattle.terms.specs.declared.kinds.ZoneKind.{ZoneKind}
 use Rattle.terms.specs.declared.kinds.ZoneKind.TheVariants.{Target, Distribution}
 use Rattle.terms.specs.declared.codes.Test.{Test}
 use Rattle.terms.specs.declared.codes.Test.TheVariants.{J1, J2, J3, J4, J5, J6, J7, J8, J9, J10, J11, J12, J13}
-use Rattle.terms.specs.Types.{Text, Id, Change, Element, Global, Sysmod, Zone, zone_number}
-use Rattle.terms.specs.Lookups.{changes_of, change_of, element_cmp, element_of, holds_of}
-use Rattle.terms.specs.Lookups.{is_applied, sysmod_of}
+use Rattle.terms.specs.Types.{Text, Id, Change, Element, Global, Zone, zone_number}
+use Rattle.terms.specs.Lookups.{change_key, changes_of, change_of, element_cmp, element_of, holds_of}
+use Rattle.terms.specs.Lookups.{is_applied}
 use Rattle.terms.specs.Rising.{Rises}
 use Rattle.terms.specs.Choice.{fmid_of}
 use Rattle.terms.specs.Changes.{is_replacement, has_update}
 use Rattle.terms.specs.Lookups.{element_eq}
-use Rattle.terms.specs.Global.{IsGlobal, IsSysmod}
+use Rattle.terms.specs.Global.{IsGlobal}
 use Rattle.terms.specs.Tests.{Setting, view_of, owner_of, is_bypassed_hold, ChangesInView}
 use Rattle.terms.specs.Tests.{FailsJ1, FailsJ2, FailsJ4, FailsJ5, FailsJ6, FailsJ7, FailsJ8, FailsJ9}
 use Rattle.terms.specs.Tests.{FailsAlone, PassesAlone, Fails, Survives, has_candidate_base}
 use Rattle.terms.proofs.ElementOrder.{element_cmp_total, element_ties}
 use Rattle.terms.proofs.RisingLists.{find_there, Splits_around}
 use Rattle.lemmas.proofs.Members.{here, none_in, filter_in, in_filter, parts}
-use Rattle.lemmas.proofs.Searches.{All_find}
 use Rattle.lemmas.proofs.Texts.{same_from, same_itself}
-use Rattle.terms.proofs.ChangedElements.{change_there, change_found, change_has}
+use Rattle.terms.proofs.ChangedElements.{change_there, change_found, change_has, changes_rise}
+use Rattle.lemmas.proofs.Booleans.{false_from_not}
+use Rattle.lemmas.proofs.Options.{None_from_is_some}
 use Rattle.judge_faults.specs.declared.own.OwnFaults.{OwnFaults}
 use Rattle.judge_faults.specs.Own.{is_foreign_at, is_bare_at, HasFaults, passes_alone, passes}
 use Rattle.judge_faults.specs.Rows.{fails_test}
 
-pub off : (b : Bool) → ¬ IsTrue b → not b ≡ true
-off true lacks = absurd (lacks refl)
-off false lacks = refl
+off : (b : Bool) → ¬ IsTrue b → not b ≡ true
+off b lacks = not_from_false b (false_from_ne_true b lacks)
 
 bytes_apart : (x y : Id) → not (bytes_eq x y) ≡ true → x ≢ y
 bytes_apart x y e same = true≢false (sym (subst (λ z. bytes_eq x z ≡ true) same (same_itself x))
@@ -61,9 +61,6 @@ any_left {X} p xs = (
         let f = filter_in p xs y (subst (λ l. Contains l y) (sym e) (here y ys)) in
         list_any-from_Any p xs (f.0.0, y, f.0.1, f.0.2, f.1)
 
-abbrev change_key : Change → ElemType × Text
-change_key h = (h.elem_type, h.name)
-
 -- the statement about an element is the one that is found
 pub change_own : (g : Global) → IsGlobal g → (x : Id) (h : Change) → Contains (changes_of g x) h
     → change_of g x h.elem_type h.name ≡ Some h
@@ -73,15 +70,7 @@ change_own g is_global x h of =
     ap (find (λ k. element_eq (change_key k) (change_key h))) p.2
     ∙ find_there element_cmp_total change_key element_eq element_ties (change_key h) p.0 p.1 h
     (Splits_around element_cmp_total change_key (change_key h) p.0 p.1 h
-    (subst (Rises element_cmp change_key) p.2 (rises (sysmod_of g x) refl)) tie) tie
-  where
-    rises : (o : Option Sysmod) → sysmod_of g x ≡ o → Rises element_cmp change_key (option_map_or (λ s. s.changes) o [])
-    rises None at = λ i j d less below. absurd (omega (arith, below))
-    rises (Some s) at = (All_find IsSysmod (λ s. bytes_eq s.id x) g.sysmods s is_global.formed at).changes
-
-none_from : {X : Type 0} (o : Option X) → not (is_some o) ≡ true → o ≡ None
-none_from None e = refl
-none_from (Some x) e = absurd (true≢false (sym e))
+    (subst (Rises element_cmp change_key) p.2 (changes_rise g x is_global)) tie) tie
 
 distribution_from : (k : ZoneKind) → (zone_number k == 1) ≡ true → k ≡ Distribution
 distribution_from Target e = absurd (true≢false (sym e))
@@ -198,7 +187,8 @@ module _ (s : Setting) (is_global : IsGlobal s.global) where
               h.name,
               ap (λ o. option_map_or (λ h. not (is_replacement h.action)) o false)
                   (change_own g is_global x h (any.0, any.2, any.3)) ∙ q.0,
-              none_from (element_of seen h.elem_type h.name) q.1,
+              None_from_is_some (element_of seen h.elem_type h.name)
+                  (false_from_not (is_some (element_of seen h.elem_type h.name)) q.1),
               not-true (has_candidate_base s x h.elem_type h.name) p.1,
             ),
         λ (type, name, updates, lacks, base).

@@ -16,14 +16,14 @@ use Rattle.std.proofs.lemmas.List.Elements.{Contains-append_left, Contains-appen
 use Rattle.std.proofs.lemmas.Option.{same_Some, slice_get_within, get_or_from_slice_get}
 use Rattle.terms.specs.declared.kinds.ElemType.{ElemType}
 use Rattle.terms.specs.Types.{Text, Id, Global, type_number}
-use Rattle.terms.specs.Lookups.{changes_of, element_cmp}
+use Rattle.terms.specs.Lookups.{changes_of, change_key, element_cmp}
 use Rattle.terms.proofs.ElementOrder.{cmp_keys, element_cmp_total, type_from_number}
 use Rattle.lemmas.proofs.Members.{in_map, map_in}
 use Rattle.terms.specs.contracts.kinds.ElemTypeOrd.TheImpl as type_order
 use Rattle.judge_faults.specs.declared.own.OwnFaults.{OwnFaults}
 use Rattle.judge_faults.specs.declared.claims.Claim.{Claim}
 use Rattle.judge_faults.specs.Own.{passes}
-use Rattle.judge_faults.specs.Claims.{change_key, a_claim, HasClaim, AreClaims, AreGrouped}
+use Rattle.judge_faults.specs.Claims.{a_claim, HasClaim, AreClaims, AreGrouped}
 
 abbrev Key : Type 0
 Key = ElemType × Text

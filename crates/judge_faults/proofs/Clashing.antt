@@ -1,37 +1,30 @@
 -- Which candidates fail J9: for any setting, where it is known who survives.
 use Rattle.std.proofs.Common.{◌≡◌, ◌∙◌, inl, inr, ℕ, List, length, Some, IsTrue, refl, sym}
-use Rattle.std.proofs.Common.{ap₂, subst, map, Contains, slice_get}
+use Rattle.std.proofs.Common.{subst, map, Contains, slice_get}
 use Rattle.std.specs.Prelude.{◌↔◌, ◌⊎◌}
 use Rattle.std.proofs.lemmas.Option.{slice_get_within, same_Some}
-use Rattle.lemmas.proofs.Members.{map_in, in_map}
+use Rattle.lemmas.proofs.Members.{map_in}
 use Rattle.lemmas.proofs.Places.{found_at}
 use Rattle.terms.specs.declared.kinds.ElemType.{ElemType}
 use Rattle.terms.specs.Types.{Text, Id, Global}
-use Rattle.terms.specs.Lookups.{changes_of, has_change}
+use Rattle.terms.specs.Lookups.{changes_of, change_key, has_change}
 use Rattle.terms.specs.Choice.{Choice, npre_of}
 use Rattle.terms.specs.Tests.{Setting, Survives, Clash, FailsJ9}
-use Rattle.terms.proofs.ChangedElements.{change_found, change_has}
+use Rattle.terms.proofs.ChangedElements.{change_has, changes_to}
 use Rattle.judge_faults.specs.declared.own.OwnFaults.{OwnFaults}
 use Rattle.judge_faults.specs.declared.claims.Claim.{Claim}
 use Rattle.judge_faults.specs.Own.{passes}
-use Rattle.judge_faults.specs.Claims.{change_key, a_claim, PassesAt, AreClaims}
+use Rattle.judge_faults.specs.Claims.{a_claim, PassesAt, AreClaims}
 use Rattle.judge_faults.specs.Sharing.{ClashesOnOne, IsAmong, IsClashing}
 use Rattle.judge_faults.specs.Forbidding.{IsForbidding}
 use Rattle.lemmas.proofs.BesideLists.{beside_there}
 
--- what it claims, it changes, and the other way round
+-- what it claims, it changes
 changes_from : (g : Global) (x : Id) (key : ElemType × Text) → Contains (map change_key (changes_of g x)) key
     → IsTrue (has_change g x key.0 key.1)
 changes_from g x key h =
     let m = map_in change_key (changes_of g x) key h in
     subst (λ k. IsTrue (has_change g x k.0 k.1)) m.2 (change_has g x m.0 m.1)
-
-changes_to : (g : Global) (x : Id) (type : ElemType) (name : Text) → IsTrue (has_change g x type name)
-    → Contains (map change_key (changes_of g x)) (type, name)
-changes_to g x type name has =
-    let found = change_found g x type name has in
-    subst (Contains (map change_key (changes_of g x))) (ap₂ (λ t m. (t, m)) found.2 found.3)
-    (in_map change_key (changes_of g x) found.0 found.1)
 
 -- the claims that clash are those of the candidates that do
 pub clashing_at : (g : Global) (c : Choice) (ids : List Id) (faults : List OwnFaults) (claims : List Claim)

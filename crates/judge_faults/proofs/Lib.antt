@@ -7,7 +7,6 @@ pub mod Marks
 pub mod Runs
 pub mod Clashing
 pub mod Places
-pub mod Overs
 pub mod Forbidders
 pub mod Naming
 pub mod Deleting

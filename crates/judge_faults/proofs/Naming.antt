@@ -16,9 +16,13 @@ use Rattle.judge_faults.specs.declared.own.OwnFaults.{OwnFaults}
 use Rattle.judge_faults.specs.Own.{passes}
 use Rattle.judge_faults.specs.Claims.{PassesAt}
 use Rattle.judge_faults.specs.Sharing.{Marks, IsClashing}
-use Rattle.judge_faults.specs.Forbidding.{IsEither, IsOfNamed, IsOfOne, IsByNpre, IsByNpreBefore, IsForbidding, AreClashing}
+use Rattle.judge_faults.specs.Forbidding.{IsEither, IsOfNamed, IsOfOne, IsByNpre, IsForbidding, AreClashing}
 use Rattle.judge_faults.proofs.Marks.{marks_join, marks_same}
 use Rattle.terms.proofs.IdPlaces.{two_places}
+
+-- a candidate in front of a place passes and names one in NPRE, as `IsByNpre` says
+abbrev pub IsByNpreBefore : Choice → List Id → List OwnFaults → ℕ → ℕ → Type 0
+IsByNpreBefore c ids faults end n = (i : ℕ) × (i < end) × IsByNpre c ids faults i n
 
 abbrev nowhere : Option ℕ
 nowhere = None

@@ -1,40 +1,36 @@
 -- What the places of the candidates tell: each fails the tests that are marked at its place, and no others.
-use Rattle.std.proofs.Common.{◌≡◌, ◌≢◌, ℕ, zero, suc, ◌<◌, ◌+◌, Bool, true, false, not, List, [], ◌∷◌, length}
-use Rattle.std.proofs.Common.{Option, None, Some, IsTrue, refl, sym, ap, ap₂, ◌∙◌, subst, true≢false, filter, map}
-use Rattle.std.proofs.Common.{Contains, cond, arith, slice_get, get_or}
+use Rattle.std.proofs.Common.{◌≡◌, ◌≢◌, ℕ, zero, suc, ◌<◌, ◌+◌, Bool, true, false, List, [], ◌∷◌, length}
+use Rattle.std.proofs.Common.{Option, None, Some, IsTrue, refl, sym, ap, ap₂, ◌∙◌, subst, filter, map}
+use Rattle.std.proofs.Common.{cond, arith, slice_get}
 use Rattle.std.specs.Prelude.{◌↔◌, nat_eq}
 use Rattle.std.specs.Option.{option_map, option_map_or}
 use Rattle.std.specs.Str.{bytes_eq}
-use Rattle.std.proofs.lemmas.Bool.{and_parts, eqb-true, not-true}
+use Rattle.std.proofs.lemmas.Bool.{eqb-true, not-true}
 use Rattle.std.proofs.lemmas.Cmp.{nat_eq_equiv}
 use Rattle.std.proofs.lemmas.List.{length-map}
-use Rattle.std.proofs.lemmas.Option.{slice_get_within, slice_get-get_or, slice_get-map}
+use Rattle.std.proofs.lemmas.Option.{slice_get_within, slice_get-map}
 use Rattle.std.proofs.lemmas.Option.{same_Some}
-use Rattle.std.proofs.lemmas.List.Elements.{All-contains, filter_passes}
-use Rattle.std.proofs.lemmas.List.Kept.{AllPairs-filter}
 use Rattle.std.proofs.lemmas.Map.Views.{list_any-from_Contains}
 use Rattle.indexmap.proofs.CallerLemmas.{Contains-list_any}
 use Rattle.terms.specs.declared.codes.Test.{Test}
 use Rattle.terms.specs.Types.{Id}
 use Rattle.terms.specs.Lookups.{IsRising, is_before}
-use Rattle.terms.specs.Tests.{Setting, FailsJ8, FailsJ9, Survives, AreSurvivors, IsEligible, Fails}
+use Rattle.terms.specs.Tests.{Setting, FailsJ8, FailsJ9, Survives, Fails}
 use Rattle.terms.specs.Global.{IsGlobal}
-use Rattle.solve.specs.Problem.{holds}
 use Rattle.lemmas.proofs.Pairs.{AllPairs_rest}
-use Rattle.lemmas.proofs.Places.{contains_at, found_at}
+use Rattle.lemmas.proofs.Places.{contains_at}
 use Rattle.lemmas.proofs.Texts.{same_itself}
-use Rattle.lemmas.proofs.Members.{filter_in, in_filter}
 use Rattle.terms.specs.Failures.{all_tests}
 use Rattle.judge_faults.specs.declared.own.OwnFaults.{OwnFaults}
-use Rattle.judge_faults.specs.Failed.{AreFailedTests, AreEligible}
+use Rattle.judge_faults.specs.Failed.{AreFailedTests}
 use Rattle.lemmas.specs.Beside.{Beside}
 use Rattle.judge_faults.specs.Own.{HasFaults, passes}
 use Rattle.judge_faults.specs.Forbidding.{AreClashing}
-use Rattle.judge_faults.specs.Rows.{fails_test, is_among, row_of, is_eligible_at}
+use Rattle.judge_faults.specs.Rows.{fails_test, is_among, row_of}
 use Rattle.terms.proofs.IdPlaces.{two_places}
 use Rattle.judge_faults.proofs.Clashing.{fails_nine}
 use Rattle.lemmas.proofs.BesideLists.{beside_there}
-use Rattle.judge_faults.proofs.Alone.{off, bytes_differ, survives_if as survives-alone, test_fails as fails-alone}
+use Rattle.judge_faults.proofs.Alone.{bytes_differ, survives_if as survives-alone, test_fails as fails-alone}
 
 -- the place of an id and what it fails by itself
 abbrev pub own_of : List Id → List OwnFaults → ℕ → Id → Option (ℕ × OwnFaults)
@@ -72,36 +68,6 @@ module _ (s : Setting) (is_global : IsGlobal s.global) (rising : IsRising s.cand
 
   beside_own : (n : ℕ) (x : Id) → slice_get ids n ≡ Some x → (a : OwnFaults) × (slice_get faults n ≡ Some a)
   beside_own = beside_there ids faults own.lengths
-
-  -- the survivors
-  abbrev is_survivor : Id → Bool
-  is_survivor x = option_map_or (λ p. passes p.1) (own_of ids faults 0 x) false
-
-  survivor_if : (x : Id) → Contains ids x → IsTrue (is_survivor x) ↔ Survives s x
-  survivor_if x in_ids =
-      let found = found_at ids x in_ids in
-      let a = beside_own found.0 x found.1 in
-      let is : is_survivor x ≡ passes a.0 =
-      ap (λ o. option_map_or (λ p. passes p.1) o false) (own_at_holds ids faults 0 rising found.0 found.0 x a.0 found.1 a.1
-      (omega arith)) in
-      let both = survives_if found.0 x a.0 found.1 a.1 in
-      (λ on. both.0 (sym is ∙ on), λ survives. is ∙ both.1 survives)
-
-  abbrev pub survivors : List Id
-  survivors = filter is_survivor ids
-
-  pub survivors_among : (x : Id) → Contains survivors x → Contains ids x
-  survivors_among x h = (filter_in is_survivor ids x h).0
-
-  pub are_survivors_holds : AreSurvivors s survivors
-  are_survivors_holds = record {
-    rising = AllPairs-filter (λ u v. IsTrue (is_before u v)) is_survivor ids rising;
-    members = λ x. (
-      λ h. (survivor_if x (filter_in is_survivor ids x h).0).0
-          (All-contains (λ y. is_survivor y ≡ true) survivors x (filter_passes is_survivor ids) h),
-      λ survives. in_filter is_survivor ids x survives.0.0 ((survivor_if x survives.0.0).1 survives),
-    );
-  }
 
   module _ (marked : List ℕ) (are : AreClashing s.global s.choice ids faults marked) where
     pub nine : (n : ℕ) (x : Id) → slice_get ids n ≡ Some x → IsTrue (is_among marked n) ↔ FailsJ9 s x
@@ -148,34 +114,3 @@ module _ (s : Setting) (is_global : IsGlobal s.global) (rising : IsRising s.cand
             slice_get-map items rows n ∙ ap (option_map items) row.1
             ∙ ap (λ l. Some l) (beside.each n a.0 row.0 a.1 row.1)
             ∙ ap (λ o. Some (filter (fails_at o) all_tests)) (sym is)
-
-    eligible_if : (n : ℕ) (x : Id) (a : OwnFaults) → slice_get ids n ≡ Some x → slice_get faults n ≡ Some a
-        → IsTrue (is_eligible_at marked n a) ↔ IsEligible s x
-    eligible_if n x a at at_own = (
-      λ on.
-          let p = and_parts (passes a) (not (is_among marked n)) on in (
-            (survives_if n x a at at_own).0 p.0,
-            λ fails. true≢false
-                (sym ((nine n x at).1 fails) ∙ not-true (is_among marked n) p.1),
-          ),
-      λ eligible.
-          let alone = (survives_if n x a at at_own).1 eligible.0 in
-          let apart = off (is_among marked n) (λ on. eligible.1 ((nine n x at).0 on)) in
-          rw (alone, apart) refl,
-    )
-
-    -- the flags of who is eligible
-    pub are_eligible : (flags : List Bool) → Beside (λ n a flag. flag ≡ is_eligible_at marked n a) faults flags
-        → AreEligible s flags
-    are_eligible flags flagged = record {
-      lengths = flagged.lengths ∙ own.lengths;
-      eligible = λ n x at.
-          let a = beside_own n x at in
-          let below : n < length flags = subst (λ k. n < k) (sym flagged.lengths) (slice_get_within faults n a.0 a.1) in
-          let flag = slice_get-get_or flags n false below in
-          let is : holds flags n ≡ is_eligible_at marked n a.0 = flagged.each n a.0 (get_or flags n false) a.1 flag in
-          let both = eligible_if n x a.0 at a.1 in
-          (λ on. both.0 (sym is ∙ on), λ eligible. is ∙ both.1 eligible);
-      survivors = survivors;
-      are_survivors = are_survivors_holds;
-    }

@@ -11,7 +11,7 @@ use Rattle.terms.specs.Types.{Global}
 use Rattle.terms.specs.Choice.{Choice}
 use Rattle.judge_faults.specs.declared.claims.Claim.{Claim}
 use Rattle.judge_faults.specs.Claims.{AreGrouped}
-use Rattle.judge_faults.specs.Sharing.{Clashes, ClashesOnOne, Marks, IsAmong, IsRun, IsSplit}
+use Rattle.judge_faults.specs.Sharing.{Clashes, ClashesOnOne, Marks, IsAmong, IsRun}
 
 -- where an item stands in a part of a list
 in_front_holds : {X : Type 0} (xs : List X) (k : ℕ) (x : X) → k ≤ length xs → Contains (take k xs) x
@@ -38,6 +38,12 @@ in_part xs start end x low high h =
   where
     get_or_is : {X : Type 0} (xs : List X) (i : ℕ) (x : X) → slice_get xs i ≡ Some x → get_or xs i x ≡ x
     get_or_is xs i x at = get_or_from_slice_get xs i x x at
+
+-- no element has claims both in front of the place and from it on
+abbrev pub IsSplit : List Claim → ℕ → Type 0
+IsSplit claims k =
+    (i j : ℕ) (a b : Claim) → slice_get claims i ≡ Some a → slice_get claims j ≡ Some b → i < k → k ≤ j
+    → a.element ≢ b.element
 
 -- a run ends where the next begins
 pub split_next : (claims : List Claim) (start end : ℕ) → AreGrouped claims → IsRun claims start end

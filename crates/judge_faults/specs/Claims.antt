@@ -1,15 +1,11 @@
 -- What the candidates change that pass by themselves.
 use Rattle.std.specs.Prelude.{◌≡◌, ◌↔◌, ◌<◌, ℕ, List, Some, IsTrue, Contains, map, slice_get}
 use Rattle.terms.specs.declared.kinds.ElemType.{ElemType}
-use Rattle.terms.specs.Types.{Text, Id, Change, Global}
-use Rattle.terms.specs.Lookups.{changes_of}
+use Rattle.terms.specs.Types.{Text, Id, Global}
+use Rattle.terms.specs.Lookups.{changes_of, change_key}
 use Rattle.judge_faults.specs.declared.own.OwnFaults.{OwnFaults}
 use Rattle.judge_faults.specs.declared.claims.Claim.{Claim}
 use Rattle.judge_faults.specs.Own.{passes}
-
--- the type and the name of the element that a statement changes
-abbrev pub change_key : Change → ElemType × Text
-change_key h = (h.elem_type, h.name)
 
 -- a candidate, with its place, changes this element
 abbrev pub a_claim : ElemType × Text → Id → ℕ → Claim

@@ -1,9 +1,8 @@
--- The tests that each candidate fails, in the order of reports, and who is eligible.
+-- The tests that each candidate fails, in the order of reports.
 use Rattle.std.specs.Prelude.{◌≡◌, ◌↔◌, ℕ, Bool, List, Some, length, filter, IsTrue, slice_get}
 use Rattle.terms.specs.declared.codes.Test.{Test}
 use Rattle.terms.specs.Types.{Id}
-use Rattle.terms.specs.Tests.{Setting, AreSurvivors, IsEligible, Fails}
-use Rattle.solve.specs.Problem.{holds}
+use Rattle.terms.specs.Tests.{Setting, Fails}
 use Rattle.terms.specs.Failures.{all_tests}
 
 -- there is a row for each candidate, and it has the tests that the candidate fails
@@ -12,10 +11,3 @@ pub record AreFailedTests (s : Setting) (rows : List (List Test)) : Type 0 where
   pub fails : Id → Test → Bool
   pub rows_are : (n : ℕ) (x : Id) → slice_get s.cands n ≡ Some x → slice_get rows n ≡ Some (filter (fails x) all_tests)
   pub failed : (n : ℕ) (x : Id) → slice_get s.cands n ≡ Some x → (t : Test) → IsTrue (fails x t) ↔ Fails s x t
-
--- there is a flag for each candidate, and it says whether the candidate is eligible; the survivors are a list
-pub record AreEligible (s : Setting) (flags : List Bool) : Type 0 where
-  pub lengths : length flags ≡ length s.cands
-  pub eligible : (n : ℕ) (x : Id) → slice_get s.cands n ≡ Some x → IsTrue (holds flags n) ↔ IsEligible s x
-  pub survivors : List Id
-  pub are_survivors : AreSurvivors s survivors

@@ -1,5 +1,5 @@
 -- Which candidates forbid each other by NPRE.
-use Rattle.std.specs.Prelude.{◌≡◌, ◌≢◌, ◌⊎◌, ◌↔◌, ◌<◌, ℕ, List, Contains}
+use Rattle.std.specs.Prelude.{◌≡◌, ◌≢◌, ◌⊎◌, ◌↔◌, ℕ, List, Contains}
 use Rattle.terms.specs.Types.{Id, Global}
 use Rattle.terms.specs.Choice.{Choice, npre_of}
 use Rattle.judge_faults.specs.declared.own.OwnFaults.{OwnFaults}
@@ -21,10 +21,6 @@ IsOfOne ids faults i x named n = (y : Id) × Contains named y × IsOfNamed ids f
 -- x at the first place passes and names y in NPRE
 abbrev pub IsByNpre : Choice → List Id → List OwnFaults → ℕ → ℕ → Type 0
 IsByNpre c ids faults i n = (x : Id) × PassesAt ids faults i x × IsOfOne ids faults i x (npre_of c x) n
-
--- x is in front of a place
-abbrev pub IsByNpreBefore : Choice → List Id → List OwnFaults → ℕ → ℕ → Type 0
-IsByNpreBefore c ids faults end n = (i : ℕ) × (i < end) × IsByNpre c ids faults i n
 
 -- the candidate at the place passes, and so does another one; one names the other in NPRE
 pub record IsForbidding (c : Choice) (ids : List Id) (faults : List OwnFaults) (n : ℕ) : Type 0 where

@@ -1,12 +1,11 @@
 -- The failed tests of a candidate, as a list.
-use Rattle.std.specs.Prelude.{◌&&◌, ℕ, Bool, false, not, List, filter}
+use Rattle.std.specs.Prelude.{ℕ, Bool, false, List, filter}
 use Rattle.std.specs.List.{list_any}
 use Rattle.std.specs.Prelude.{nat_eq}
 use Rattle.terms.specs.declared.codes.Test.{Test}
 use Rattle.terms.specs.declared.codes.Test.TheVariants.{J1, J2, J3, J4, J5, J6, J7, J8, J9, J13}
 use Rattle.terms.specs.Failures.{all_tests}
 use Rattle.judge_faults.specs.declared.own.OwnFaults.{OwnFaults}
-use Rattle.judge_faults.specs.Own.{passes}
 
 -- the tests, by what the candidate fails by itself and whether it clashes with another one
 abbrev pub fails_test : OwnFaults → Bool → Test → Bool
@@ -25,9 +24,6 @@ fails_test a clashes _ = false
 abbrev pub is_among : List ℕ → ℕ → Bool
 is_among places n = list_any (nat_eq n) places
 
--- the row of a candidate, and whether it is eligible
+-- the row of a candidate
 abbrev pub row_of : List ℕ → ℕ → OwnFaults → List Test
 row_of clashing n a = filter (fails_test a (is_among clashing n)) all_tests
-
-abbrev pub is_eligible_at : List ℕ → ℕ → OwnFaults → Bool
-is_eligible_at clashing n a = passes a && not (is_among clashing n)

@@ -72,12 +72,6 @@ pub record IsRun (claims : List Claim) (start end : ℕ) : Type 0 where
   pub same : (i : ℕ) (a : Claim) → slice_get claims i ≡ Some a → start ≤ i → i < end → a.element ≡ element
   pub ends : (a : Claim) → slice_get claims end ≡ Some a → a.element ≢ element
 
--- no element has claims both in front of the place and from it on
-abbrev pub IsSplit : List Claim → ℕ → Type 0
-IsSplit claims k =
-    (i j : ℕ) (a b : Claim) → slice_get claims i ≡ Some a → slice_get claims j ≡ Some b → i < k → k ≤ j
-    → a.element ≢ b.element
-
 -- the candidate at the place passes by itself, and so does another one; both change an element that they may not share
 pub record IsClashing (g : Global) (c : Choice) (ids : List Id) (faults : List OwnFaults) (n : ℕ) : Type 0 where
   pub x : Id

@@ -7,7 +7,7 @@ ghost use Rattle.judge_faults.specs.Sharing.{StandApart, IsBelow, IsChain, FitsA
 use crate::claims::Claim;
 use fields::Id;
 use std::alloc::{AllocError, Global};
-use sysmods::VerChoice;
+use sysmods::{Overs, VerChoice};
 
 // Whether both have one owner.
 fn have_one_owner(vers: &VerChoice<'_>, x: Id, y: Id) -> bool
@@ -18,58 +18,63 @@ fn have_one_owner(vers: &VerChoice<'_>, x: Id, y: Id) -> bool
 }
 
 // Whether over orders them.
-fn are_ordered(alloc: Global, vers: &VerChoice<'_>, x: Id, y: Id) -> Result<bool, AllocError>
-    ensures { IfOk result (λ ordered. IsTrue ordered ↔ (IsOver (choice vers.now) x y
-        ⊎ IsOver (choice vers.now) y x)) }
+fn are_ordered(alloc: Global, overs: &mut Overs<'_, '_>, x: Id, y: Id) -> Result<bool, AllocError>
+    ensures ordered { IfOk result (λ ordered. IsTrue ordered ↔ (IsOver (choice overs.old) x y
+        ⊎ IsOver (choice overs.old) y x)) }
+    ensures same { overs.new ≡ overs.old }
 {
-    if vers.over(alloc, x, y)? {
+    if overs.over(alloc, x, y)? {
         return Ok(true);
     }
-    vers.over(alloc, y, x)
+    overs.over(alloc, y, x)
 }
 
 /// Whether two SYSMODs may not change one element.
 pub(crate) fn may_not_share(
     alloc: Global,
-    vers: &VerChoice<'_>,
+    overs: &mut Overs<'_, '_>,
     x: Id,
     y: Id,
 ) -> Result<bool, AllocError>
-    ensures { IfOk result (λ apart. IsTrue apart ↔ StandApart vers.now.global.now (choice vers.now) x y) }
+    ensures apart { IfOk result (λ apart. IsTrue apart ↔ StandApart overs.old.global.now (choice overs.old) x y) }
+    ensures same { overs.new ≡ overs.old }
 {
-    if !have_one_owner(vers, x, y) {
+    if !have_one_owner(overs.vers(), x, y) {
         return Ok(true);
     }
-    Ok(!are_ordered(alloc, vers, x, y)?)
+    Ok(!are_ordered(alloc, overs, x, y)?)
 }
 
 // Whether the second is over the first, and both have one owner.
 fn is_below(
     alloc: Global,
-    vers: &VerChoice<'_>,
+    overs: &mut Overs<'_, '_>,
     first: &Claim,
     second: &Claim,
 ) -> Result<bool, AllocError>
-    ensures { IfOk result (λ below. IsTrue below ↔ IsBelow vers.now.global.now (choice vers.now) first.now second.now) }
+    ensures below { IfOk result (λ below. IsTrue below
+        ↔ IsBelow overs.old.global.now (choice overs.old) first.now second.now) }
+    ensures same { overs.new ≡ overs.old }
 {
-    if !have_one_owner(vers, first.id, second.id) {
+    if !have_one_owner(overs.vers(), first.id, second.id) {
         return Ok(false);
     }
-    vers.over(alloc, second.id, first.id)
+    overs.over(alloc, second.id, first.id)
 }
 
 // Whether the claim is over all of the chain.
 fn is_at_end(
     alloc: Global,
-    vers: &VerChoice<'_>,
+    overs: &mut Overs<'_, '_>,
     chain: &[Claim],
     claim: &Claim,
 ) -> Result<bool, AllocError>
-    ensures { IfOk result (λ ends. IsTrue ends → IsChain vers.now.global.now (choice vers.now) chain.now
-        → All (λ b. IsBelow vers.now.global.now (choice vers.now) b claim.now) chain.now) }
+    ensures ends { IfOk result (λ ends. IsTrue ends → IsChain overs.old.global.now (choice overs.old) chain.now
+        → All (λ b. IsBelow overs.old.global.now (choice overs.old) b claim.now) chain.now) }
+    ensures same { overs.new ≡ overs.old }
 {
     match chain.last() {
-        Some(last) => is_below(alloc, vers, last, claim),
+        Some(last) => is_below(alloc, overs, last, claim),
         None => Ok(true),
     }
 }
@@ -78,19 +83,20 @@ fn is_at_end(
 // other.
 fn search_end(
     alloc: Global,
-    vers: &VerChoice<'_>,
+    overs: &mut Overs<'_, '_>,
     chain: &[Claim],
     claim: &Claim,
 ) -> Result<usize, AllocError>
     ensures within { IfOk result (λ k. k ≤ length chain.now) }
-    ensures front { IfOk result (λ k. IsChain vers.now.global.now (choice vers.now) chain.now
-        → All (λ b. IsBelow vers.now.global.now (choice vers.now) b claim.now) (take k chain.now)) }
+    ensures front { IfOk result (λ k. IsChain overs.old.global.now (choice overs.old) chain.now
+        → All (λ b. IsBelow overs.old.global.now (choice overs.old) b claim.now) (take k chain.now)) }
+    ensures same { overs.new ≡ overs.old }
 {
     let mut low = 0;
     let mut high = chain.len();
     while low < high {
         let middle = low + (high - low) / 2;
-        if is_below(alloc, vers, &chain[middle], claim)? {
+        if is_below(alloc, overs, &chain[middle], claim)? {
             low = middle + 1;
         } else {
             high = middle;
@@ -102,41 +108,43 @@ fn search_end(
 // Whether the claim is below all of the chain from a place on.
 fn is_in_front(
     alloc: Global,
-    vers: &VerChoice<'_>,
+    overs: &mut Overs<'_, '_>,
     chain: &[Claim],
     place: usize,
     claim: &Claim,
 ) -> Result<bool, AllocError>
     requires { place ≤ length chain.now }
-    ensures { IfOk result (λ fits. IsTrue fits → IsChain vers.now.global.now (choice vers.now) chain.now
-        → All (λ b. IsBelow vers.now.global.now (choice vers.now) claim.now b) (drop place chain.now)) }
+    ensures fits { IfOk result (λ fits. IsTrue fits → IsChain overs.old.global.now (choice overs.old) chain.now
+        → All (λ b. IsBelow overs.old.global.now (choice overs.old) claim.now b) (drop place chain.now)) }
+    ensures same { overs.new ≡ overs.old }
 {
     if place == chain.len() {
         return Ok(true);
     }
-    is_below(alloc, vers, claim, &chain[place])
+    is_below(alloc, overs, claim, &chain[place])
 }
 
 // Where a claim fits into the chain that is neither over all of it nor below all.
 fn place_inside(
     alloc: Global,
-    vers: &VerChoice<'_>,
+    overs: &mut Overs<'_, '_>,
     chain: &[Claim],
     claim: &Claim,
 ) -> Result<Option<usize>, AllocError>
     ensures within { IfOk result (λ place. IfSome place (λ k. k ≤ length chain.now)) }
-    ensures fits { IfOk result (λ place. IfSome place (λ k. IsChain vers.now.global.now (choice vers.now) chain.now
-        → FitsAt vers.now.global.now (choice vers.now) chain.now claim.now k)) }
+    ensures fits { IfOk result (λ place. IfSome place (λ k. IsChain overs.old.global.now (choice overs.old) chain.now
+        → FitsAt overs.old.global.now (choice overs.old) chain.now claim.now k)) }
+    ensures same { overs.new ≡ overs.old }
 {
     let Some(first) = chain.first() else {
         return Ok(None);
     };
     // What is not over the first fits nowhere, and needs no search for its place.
-    if !is_below(alloc, vers, first, claim)? {
+    if !is_below(alloc, overs, first, claim)? {
         return Ok(None);
     }
-    let place = search_end(alloc, vers, chain, claim)?;
-    if !is_in_front(alloc, vers, chain, place, claim)? {
+    let place = search_end(alloc, overs, chain, claim)?;
+    if !is_in_front(alloc, overs, chain, place, claim)? {
         return Ok(None);
     }
     Ok(Some(place))
@@ -145,19 +153,20 @@ fn place_inside(
 /// Where the claim fits into the chain, if it may share the element with each in it: mostly at its end.
 pub(crate) fn place_in(
     alloc: Global,
-    vers: &VerChoice<'_>,
+    overs: &mut Overs<'_, '_>,
     chain: &[Claim],
     claim: &Claim,
 ) -> Result<Option<usize>, AllocError>
     ensures within { IfOk result (λ place. IfSome place (λ k. k ≤ length chain.now)) }
-    ensures fits { IfOk result (λ place. IfSome place (λ k. IsChain vers.now.global.now (choice vers.now) chain.now
-        → FitsAt vers.now.global.now (choice vers.now) chain.now claim.now k)) }
+    ensures fits { IfOk result (λ place. IfSome place (λ k. IsChain overs.old.global.now (choice overs.old) chain.now
+        → FitsAt overs.old.global.now (choice overs.old) chain.now claim.now k)) }
+    ensures same { overs.new ≡ overs.old }
 {
-    if is_at_end(alloc, vers, chain, claim)? {
+    if is_at_end(alloc, overs, chain, claim)? {
         return Ok(Some(chain.len()));
     }
-    if is_in_front(alloc, vers, chain, 0, claim)? {
+    if is_in_front(alloc, overs, chain, 0, claim)? {
         return Ok(Some(0));
     }
-    place_inside(alloc, vers, chain, claim)
+    place_inside(alloc, overs, chain, claim)
 }

@@ -2,7 +2,8 @@
 ghost use Rattle.std.specs.Prelude.{◌≡◌, ◌↔◌, ◌<◌, ◌^◌, ◌++◌, [], length, map, IsTrue, IsPermutation, OnOk, IfOk};
 ghost use Rattle.std.specs.Prelude.{if◌then◌else◌};
 ghost use Rattle.judge_faults.specs.Own.{passes};
-ghost use Rattle.judge_faults.specs.Claims.{change_key, a_claim, AreClaims, AreGrouped};
+ghost use Rattle.terms.specs.Lookups.{change_key};
+ghost use Rattle.judge_faults.specs.Claims.{a_claim, AreClaims, AreGrouped};
 
 use crate::own::{OwnFaults, changes_of, own_at};
 use fields::{Id, Name};

@@ -1,22 +1,19 @@
 //! The tests that look at the elements which a candidate changes.
-ghost use Rattle.std.specs.Prelude.{◌≡◌, ◌==◌, ◌↔◌, ◌&&◌, Any, find, option_copied, IsTrue, IfOk, OnOk};
+ghost use Rattle.std.specs.Prelude.{◌≡◌, ◌==◌, ◌↔◌, ◌&&◌, Any, find, option_copied, IsTrue, IfOk};
 ghost use Rattle.std.specs.List.{list_any};
 ghost use Rattle.std.specs.Str.{bytes_eq};
 ghost use Rattle.terms.specs.Types.{type_number};
 ghost use Rattle.terms.specs.Over.{IsOver};
 ghost use Rattle.terms.specs.Changes.{is_replacement, has_replacement};
 ghost use Rattle.sysmods.specs.Choices.{choice};
-ghost use Rattle.judge_faults.specs.Overs.{AreOver};
 ghost use Rattle.judge_faults.specs.Views.{seen};
 ghost use Rattle.judge_faults.specs.Own.{is_foreign_at, IsLower, IsLowerAt, has_base, is_bare_at};
 
-use crate::memo::over;
 use crate::own::changes_of;
 use crate::view::View;
 use fields::{Id, IdList, Name};
-use indexmap::IndexSet;
 use std::alloc::{AllocError, Global};
-use sysmods::{GlobalZone, VerChoice};
+use sysmods::{GlobalZone, Overs};
 use sysmods_records::{Action, ElemChange};
 use terms::ElemType;
 use zones::Element;
@@ -43,17 +40,15 @@ pub(crate) fn is_foreign(view: &View<'_, '_>, owner: Id, changes: &[ElemChange])
 // Whether it is not over one of these.
 fn is_not_over_one(
     alloc: Global,
-    vers: &VerChoice<'_>,
-    memo: &mut IndexSet<(Id, Id)>,
+    overs: &mut Overs<'_, '_>,
     id: Id,
     others: &[Id],
 ) -> Result<bool, AllocError>
-    requires { AreOver (choice vers.now) memo.old.keys }
-    ensures lower { IfOk result (λ lower. IsTrue lower ↔ Any (λ z. ¬ IsOver (choice vers.now) id z) others.now) }
-    ensures memo { OnOk result (AreOver (choice vers.now) memo.new.keys) }
+    ensures lower { IfOk result (λ lower. IsTrue lower ↔ Any (λ z. ¬ IsOver (choice overs.old) id z) others.now) }
+    ensures same { overs.new ≡ overs.old }
 {
     for other in others {
-        if !over(alloc, vers, memo, id, *other)? {
+        if !overs.over(alloc, id, *other)? {
             return Ok(true);
         }
     }
@@ -63,35 +58,31 @@ fn is_not_over_one(
 // Whether it is not over the RMID or a UMID of the element.
 fn is_lower(
     alloc: Global,
-    vers: &VerChoice<'_>,
-    memo: &mut IndexSet<(Id, Id)>,
+    overs: &mut Overs<'_, '_>,
     id: Id,
     element: &Element,
 ) -> Result<bool, AllocError>
-    requires { AreOver (choice vers.now) memo.old.keys }
-    ensures lower { IfOk result (λ lower. IsTrue lower ↔ IsLower (choice vers.now) id element.now) }
-    ensures memo { OnOk result (AreOver (choice vers.now) memo.new.keys) }
+    ensures lower { IfOk result (λ lower. IsTrue lower ↔ IsLower (choice overs.old) id element.now) }
+    ensures same { overs.new ≡ overs.old }
 {
-    if !over(alloc, vers, memo, id, element.rmid)? {
+    if !overs.over(alloc, id, element.rmid)? {
         return Ok(true);
     }
-    is_not_over_one(alloc, vers, memo, id, element.umids.as_slice())
+    is_not_over_one(alloc, overs, id, element.umids.as_slice())
 }
 
 fn is_lower_at(
     alloc: Global,
     view: &View<'_, '_>,
-    memo: &mut IndexSet<(Id, Id)>,
+    overs: &mut Overs<'_, '_>,
     id: Id,
     change: &ElemChange,
 ) -> Result<bool, AllocError>
-    requires { AreOver (choice view.now.vers.now) memo.old.keys }
-    ensures lower { IfOk result (λ lower. IsTrue lower
-        ↔ IsLowerAt (choice view.now.vers.now) (seen view.now) id change.now) }
-    ensures memo { OnOk result (AreOver (choice view.now.vers.now) memo.new.keys) }
+    ensures lower { IfOk result (λ lower. IsTrue lower ↔ IsLowerAt (choice overs.old) (seen view.now) id change.now) }
+    ensures same { overs.new ≡ overs.old }
 {
     match view.element(change.elem_type, change.name) {
-        Some(element) => is_lower(alloc, view.vers, memo, id, element),
+        Some(element) => is_lower(alloc, overs, id, element),
         None => Ok(false),
     }
 }
@@ -100,17 +91,16 @@ fn is_lower_at(
 pub(crate) fn is_lower_somewhere(
     alloc: Global,
     view: &View<'_, '_>,
-    memo: &mut IndexSet<(Id, Id)>,
+    overs: &mut Overs<'_, '_>,
     id: Id,
     changes: &[ElemChange],
 ) -> Result<bool, AllocError>
-    requires { AreOver (choice view.now.vers.now) memo.old.keys }
     ensures lower { IfOk result (λ lower. IsTrue lower
-        ↔ Any (IsLowerAt (choice view.now.vers.now) (seen view.now) id) changes.now) }
-    ensures memo { OnOk result (AreOver (choice view.now.vers.now) memo.new.keys) }
+        ↔ Any (IsLowerAt (choice overs.old) (seen view.now) id) changes.now) }
+    ensures same { overs.new ≡ overs.old }
 {
     for change in changes {
-        if is_lower_at(alloc, view, memo, id, change)? {
+        if is_lower_at(alloc, view, overs, id, change)? {
             return Ok(true);
         }
     }

@@ -1,21 +1,25 @@
 //! NPRE: what a candidate forbids, and the applied functions that forbid it.
-ghost use Rattle.std.specs.Prelude.{◌≡◌, ◌↔◌, [], ◌∷◌, Contains, IsTrue, OnOk, IfOk};
+ghost use Rattle.std.specs.Prelude.{◌≡◌, ◌↔◌, IsTrue, OnOk, IfOk};
 ghost use Rattle.std.specs.List.{list_any};
+ghost use Rattle.std.specs.Ordering.{nat_cmp};
+ghost use Rattle.std.specs.Cmp.Lexicographic.{slice_cmp};
+ghost use Rattle.sorted.specs.Lists.{Gains, listed};
 ghost use Rattle.terms.specs.Lookups.{is_applied};
 ghost use Rattle.terms.specs.Choice.{npre_of};
 ghost use Rattle.sysmods.specs.Choices.{choice};
-ghost use Rattle.judge_faults.specs.Forbidders.{forbidders_of, Gains, ForbidsBy, AreForbidders, IsForbidden};
+ghost use Rattle.judge_faults.specs.Forbidders.{ForbidsBy, AreForbidders, IsForbidden};
 ghost use Rattle.judge_faults.specs.Views.{seen};
 
 use crate::view::View;
-use fields::Id;
+use fields::{Attest, Id};
+use sorted::lists::{Lists, add_to_all, listed};
 use std::alloc::{AllocError, Global};
 use std::collections::BTreeMap;
 use sysmods::VerChoice;
 use zones::{Entry, Zone};
 
 /// For each id the applied functions that name it in NPRE.
-pub(crate) type Forbidders = BTreeMap<Id, Vec<Id>>;
+pub(crate) type Forbidders = Lists<Id, Id>;
 
 /// What it names in NPRE.
 pub(crate) fn npre<'a>(vers: &VerChoice<'a>, id: Id) -> &'a [Id]
@@ -27,39 +31,6 @@ pub(crate) fn npre<'a>(vers: &VerChoice<'a>, id: Id) -> &'a [Id]
     }
 }
 
-fn only(alloc: Global, id: Id) -> Result<Vec<Id>, AllocError>
-    ensures { IfOk result (λ ids. ids.items ≡ id ∷ []) }
-{
-    let mut ids = Vec::new(alloc);
-    ids.push(id)?;
-    Ok(ids)
-}
-
-fn add(alloc: Global, forbidders: &mut Forbidders, named: Id, by: Id) -> Result<(), AllocError>
-    ensures { OnOk result (Gains forbidders.old forbidders.new (λ z y. (z ≡ named) × (y ≡ by))) }
-{
-    if let Some(ids) = forbidders.get_mut(&named) {
-        ids.push(by)?;
-        return Ok(());
-    }
-    forbidders.insert(named, only(alloc, by)?)?;
-    Ok(())
-}
-
-fn add_each(
-    alloc: Global,
-    forbidders: &mut Forbidders,
-    named: &[Id],
-    by: Id,
-) -> Result<(), AllocError>
-    ensures { OnOk result (Gains forbidders.old forbidders.new (λ z y. Contains named.now z × (y ≡ by))) }
-{
-    for id in named {
-        add(alloc, forbidders, *id, by)?;
-    }
-    Ok(())
-}
-
 // Adds what the SYSMOD of the entry names, if it is an applied function.
 fn add_function(
     alloc: Global,
@@ -67,11 +38,11 @@ fn add_function(
     entry: &Entry,
     forbidders: &mut Forbidders,
 ) -> Result<(), AllocError>
-    ensures { OnOk result (Gains forbidders.old forbidders.new
+    ensures { OnOk result (Gains (slice_cmp nat_cmp) forbidders.old forbidders.new
         (ForbidsBy vers.now.global.now (choice vers.now) entry.now)) }
 {
     if entry.applied.is_some() && vers.global().is_function(entry.id) {
-        add_each(alloc, forbidders, npre(vers, entry.id), entry.id)?;
+        add_to_all(alloc, forbidders, npre(vers, entry.id), entry.id)?;
     }
     Ok(())
 }
@@ -98,12 +69,9 @@ fn any_applied(view: &View<'_, '_>, ids: &[Id]) -> bool
 }
 
 fn any_forbidder(view: &View<'_, '_>, forbidders: &Forbidders, id: Id) -> bool
-    ensures { result ≡ list_any (is_applied (seen view.now)) (forbidders_of forbidders.now id) }
+    ensures { result ≡ list_any (is_applied (seen view.now)) (listed (slice_cmp nat_cmp) forbidders.now id) }
 {
-    match forbidders.get(&id) {
-        Some(ids) => any_applied(view, ids.as_slice()),
-        None => false,
-    }
+    any_applied(view, listed(forbidders, id))
 }
 
 /// Whether the candidate forbids what is applied in its view, or a function that is applied there forbids it.

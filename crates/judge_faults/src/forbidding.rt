@@ -12,7 +12,7 @@ use crate::sharing::shared_places;
 use fields::Id;
 use indexmap::IndexSet;
 use std::alloc::{AllocError, Global};
-use sysmods::VerChoice;
+use sysmods::{Overs, VerChoice};
 
 fn mark_both(marked: &mut IndexSet<u32>, one: u32, other: u32) -> Result<(), AllocError>
     ensures { OnOk result (Marks (IsEither one other) marked.old.keys marked.new.keys) }
@@ -137,16 +137,18 @@ fn mark_forbidding(
 /// The places of the candidates that pass by themselves and clash with another such one.
 pub(crate) fn clashing_places(
     alloc: Global,
-    vers: &VerChoice<'_>,
+    overs: &mut Overs<'_, '_>,
     ids: &[Id],
     faults: &[OwnFaults],
 ) -> Result<IndexSet<u32>, AllocError>
     requires rising { IsRising ids.now }
     requires lengths { length faults.now ≡ length ids.now }
     requires fits { length ids.now < 2 ^ 32 }
-    ensures { IfOk result (λ places. AreClashing vers.now.global.now (choice vers.now) ids.now faults.now places.keys) }
+    ensures clashing { IfOk result (λ places. AreClashing overs.old.global.now (choice overs.old) ids.now faults.now
+        places.keys) }
+    ensures same { overs.new ≡ overs.old }
 {
-    let mut marked = shared_places(alloc, vers, ids, faults)?;
-    mark_forbidding(vers, ids, faults, &mut marked)?;
+    let mut marked = shared_places(alloc, overs, ids, faults)?;
+    mark_forbidding(overs.vers(), ids, faults, &mut marked)?;
     Ok(marked)
 }

@@ -1,9 +1,8 @@
 //! Which tests each candidate of an APPLY or ACCEPT fails.
-//! For candidates that may all be installed, `test_all` answers who fails which test and who is eligible, for every
-//! setting. Whom applied functions name in NPRE is gathered in one pass over the zone. Seen in the code alone: a
-//! candidate's view of the zone is no copy but a list of deletions beside the zone; what the survivors change is gone
-//! through element by element, and those that may share one stand in a chain, which mostly takes the next one in by one
-//! search.
+//! For candidates that may all be installed, `test_all` answers who fails which test, for every setting. Whom applied
+//! functions name in NPRE is gathered in one pass over the zone. Seen in the code alone: a candidate's view of the zone
+//! is no copy but a list of deletions beside the zone; what the survivors change is gone through element by element,
+//! and those that may share one stand in a chain, which mostly takes the next one in by one search.
 #![tactic(auto)]
 
 mod chains;
@@ -12,7 +11,6 @@ mod deleted;
 mod elements;
 mod forbidden;
 mod forbidding;
-mod memo;
 mod own;
 mod rows;
 mod sharing;

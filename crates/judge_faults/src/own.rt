@@ -1,5 +1,5 @@
 //! The tests that look at one candidate alone.
-ghost use Rattle.std.specs.Prelude.{◌≡◌, ◌==◌, ◌<◌, ◌&&◌, ◌↔◌, Some, Any, not, IsTrue, IsFalse, IfOk, OnOk};
+ghost use Rattle.std.specs.Prelude.{◌≡◌, ◌==◌, ◌<◌, ◌&&◌, ◌↔◌, Some, Any, not, IsTrue, IsFalse, IfOk};
 ghost use Rattle.std.specs.Prelude.{[], filter, length, slice_get, option_copied, false};
 ghost use Rattle.std.specs.Str.{bytes_eq};
 ghost use Rattle.std.specs.List.{list_any};
@@ -11,7 +11,6 @@ ghost use Rattle.terms.specs.Tests.{FailsJ13, is_bypassed_hold};
 ghost use Rattle.sysmods.specs.Choices.{choice};
 ghost use Rattle.judge_faults.specs.Forbidders.{AreForbidders};
 ghost use Rattle.zones_views.specs.Scopes.{global_of, choice_of, setting_of, setting_with};
-ghost use Rattle.judge_faults.specs.Overs.{AreOver};
 ghost use Rattle.judge_faults.specs.Own.{IsLowerAt, HasFaults, passes_alone, passes};
 ghost use Rattle.lemmas.specs.Beside.{Beside};
 ghost use Rattle.judge_faults.specs.Views.{seen};
@@ -21,9 +20,8 @@ use crate::forbidden::{Forbidders, forbidders, is_forbidden};
 use crate::view::View;
 use cntl::Bypass;
 use fields::{Id, IdList};
-use indexmap::IndexSet;
 use std::alloc::{AllocError, Global};
-use sysmods::GlobalZone;
+use sysmods::{GlobalZone, Overs};
 use sysmods_records::{ElemChange, Ver};
 use terms::{HoldKind, ZoneKind};
 use zones::Zone;
@@ -92,20 +90,19 @@ fn has_standing_hold(global: &GlobalZone, bypass: &Bypass, kind: HoldKind, id: I
 fn is_lower(
     alloc: Global,
     view: &View<'_, '_>,
-    memo: &mut IndexSet<(Id, Id)>,
+    overs: &mut Overs<'_, '_>,
     bypass: &Bypass,
     id: Id,
     changes: &[ElemChange],
 ) -> Result<bool, AllocError>
-    requires { AreOver (choice view.now.vers.now) memo.old.keys }
     ensures lower { IfOk result (λ lower. IsTrue lower ↔ (IsFalse bypass.now.same_id
-        × Any (IsLowerAt (choice view.now.vers.now) (seen view.now) id) changes.now)) }
-    ensures memo { OnOk result (AreOver (choice view.now.vers.now) memo.new.keys) }
+        × Any (IsLowerAt (choice overs.old) (seen view.now) id) changes.now)) }
+    ensures same { overs.new ≡ overs.old }
 {
     if bypass.same_id {
         return Ok(false);
     }
-    is_lower_somewhere(alloc, view, memo, id, changes)
+    is_lower_somewhere(alloc, view, overs, id, changes)
 }
 
 fn has_applied(related: Option<&Zone>, id: Id) -> bool
@@ -154,20 +151,20 @@ fn is_ambiguous(scope: &Scope<'_, '_>, id: Id) -> bool
     fitting_count(scope.zone, scope.ids, vers_of(scope.global(), id)) >= 2
 }
 
-// What the candidate fails of J1 to J7 and J13, in its view and with what it is known to be over.
+// What the candidate fails of J1 to J7 and J13, in its view.
 fn own_faults(
     alloc: Global,
     scope: &Scope<'_, '_>,
     related: Option<&Zone>,
     forbidders: &Forbidders,
-    memo: &mut IndexSet<(Id, Id)>,
+    overs: &mut Overs<'_, '_>,
     id: Id,
 ) -> Result<OwnFaults, AllocError>
-    requires memo { AreOver (choice_of scope.now) memo.old.keys }
+    requires overs { overs.old ≡ scope.now.vers.now }
     requires forbidders { AreForbidders (global_of scope.now) (choice_of scope.now)
         scope.now.zone.now.entries forbidders.now }
     ensures faults { IfOk result (HasFaults (setting_with scope.now (option_copied related.entry)) id) }
-    ensures memo { OnOk result (AreOver (choice_of scope.now) memo.new.keys) }
+    ensures same { overs.new ≡ overs.old }
 {
     let vers = scope.vers;
     let dels = view_deletions(alloc, vers, scope.ids, id)?;
@@ -178,7 +175,7 @@ fn own_faults(
     };
     let global = scope.global();
     let changes = changes_of(global, id);
-    let lower = is_lower(alloc, &view, memo, scope.bypass, id, changes)?;
+    let lower = is_lower(alloc, &view, overs, scope.bypass, id, changes)?;
     Ok(OwnFaults {
         system_held: has_standing_hold(global, scope.bypass, HoldKind::System, id),
         user_held: has_standing_hold(global, scope.bypass, HoldKind::User, id),
@@ -197,15 +194,17 @@ pub(crate) fn all_faults(
     alloc: Global,
     scope: &Scope<'_, '_>,
     related: Option<&Zone>,
+    overs: &mut Overs<'_, '_>,
 ) -> Result<Vec<OwnFaults>, AllocError>
-    ensures { IfOk result (λ faults. Beside (λ n x own. HasFaults (setting_with scope.now (option_copied
+    requires { overs.old ≡ scope.now.vers.now }
+    ensures faults { IfOk result (λ faults. Beside (λ n x own. HasFaults (setting_with scope.now (option_copied
         related.entry)) x own) scope.now.ids.now faults.items) }
+    ensures same { overs.new ≡ overs.old }
 {
     let forbidders = forbidders(alloc, scope.vers, scope.zone)?;
-    let mut memo = IndexSet::new(alloc);
     let mut faults = Vec::new(alloc);
     for id in scope.ids.as_slice() {
-        faults.push(own_faults(alloc, scope, related, &forbidders, &mut memo, *id)?)?;
+        faults.push(own_faults(alloc, scope, related, &forbidders, overs, *id)?)?;
     }
     Ok(faults)
 }

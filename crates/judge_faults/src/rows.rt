@@ -1,9 +1,8 @@
-//! The failed tests of each candidate, and who is eligible.
-ghost use Rattle.std.specs.Prelude.{◌≡◌, ◌<◌, ◌^◌, ◌++◌, [], ◌∷◌, length, filter, not, ◌&&◌, OnOk, IfOk, if◌then◌else◌};
-ghost use Rattle.judge_faults.specs.Own.{passes};
+//! The failed tests of each candidate.
+ghost use Rattle.std.specs.Prelude.{◌≡◌, ◌<◌, ◌^◌, ◌++◌, [], ◌∷◌, length, filter, OnOk, IfOk, if◌then◌else◌};
 ghost use Rattle.terms.specs.Failures.{all_tests};
 ghost use Rattle.lemmas.specs.Beside.{Beside};
-ghost use Rattle.judge_faults.specs.Rows.{fails_test, is_among, row_of, is_eligible_at};
+ghost use Rattle.judge_faults.specs.Rows.{fails_test, is_among, row_of};
 
 use crate::own::{OwnFaults, own_at};
 use indexmap::IndexSet;
@@ -43,12 +42,6 @@ fn is_among(places: &IndexSet<u32>, place: u32) -> bool
     places.contains(&place)
 }
 
-fn is_eligible(own: OwnFaults, clashes: bool) -> bool
-    ensures { result ≡ (passes own && not clashes) }
-{
-    own.passes() && !clashes
-}
-
 /// The tests that each candidate fails, given who clashes.
 pub(crate) fn all_rows(
     alloc: Global,
@@ -65,22 +58,4 @@ pub(crate) fn all_rows(
         rows.push(row_of(alloc, own, is_among(clashing, i as u32))?)?;
     }
     Ok(rows)
-}
-
-/// Whether each candidate fails none.
-pub(crate) fn all_eligible(
-    alloc: Global,
-    faults: &[OwnFaults],
-    clashing: &IndexSet<u32>,
-) -> Result<Vec<bool>, AllocError>
-    requires { length faults.now < 2 ^ 32 }
-    ensures { IfOk result (λ flags. Beside (λ n own flag. flag ≡ is_eligible_at clashing.now.keys n own) faults.now
-        flags.items) }
-{
-    let mut flags = Vec::new(alloc);
-    for i in 0..faults.len() {
-        let own = own_at(faults, i);
-        flags.push(is_eligible(own, is_among(clashing, i as u32)))?;
-    }
-    Ok(flags)
 }

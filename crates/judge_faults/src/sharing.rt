@@ -12,7 +12,7 @@ use crate::own::OwnFaults;
 use fields::Id;
 use indexmap::IndexSet;
 use std::alloc::{AllocError, Global};
-use sysmods::VerChoice;
+use sysmods::Overs;
 
 // Whether no test is needed for the two: they are of one candidate, or both are marked.
 fn is_settled(one: &Claim, other: &Claim, shared: &IndexSet<u32>) -> bool
@@ -26,18 +26,19 @@ fn is_settled(one: &Claim, other: &Claim, shared: &IndexSet<u32>) -> bool
 // Marks two claims on one element if they clash.
 fn mark_pair(
     alloc: Global,
-    vers: &VerChoice<'_>,
+    overs: &mut Overs<'_, '_>,
     one: &Claim,
     other: &Claim,
     shared: &mut IndexSet<u32>,
 ) -> Result<(), AllocError>
-    ensures { OnOk result (Marks (IsOfPair vers.now.global.now (choice vers.now) one.now other.now) shared.old.keys
-        shared.new.keys) }
+    ensures marks { OnOk result (Marks (IsOfPair overs.old.global.now (choice overs.old) one.now other.now)
+        shared.old.keys shared.new.keys) }
+    ensures same { overs.new ≡ overs.old }
 {
     if is_settled(one, other, shared) {
         return Ok(());
     }
-    if may_not_share(alloc, vers, one.id, other.id)? {
+    if may_not_share(alloc, overs, one.id, other.id)? {
         shared.insert(one.place)?;
         shared.insert(other.place)?;
     }
@@ -47,16 +48,17 @@ fn mark_pair(
 // Marks a claim and those of the others that it clashes with.
 fn mark_against(
     alloc: Global,
-    vers: &VerChoice<'_>,
+    overs: &mut Overs<'_, '_>,
     claim: &Claim,
     others: &[Claim],
     shared: &mut IndexSet<u32>,
 ) -> Result<(), AllocError>
-    ensures { OnOk result (Marks (IsAgainst vers.now.global.now (choice vers.now) claim.now others.now) shared.old.keys
-        shared.new.keys) }
+    ensures marks { OnOk result (Marks (IsAgainst overs.old.global.now (choice overs.old) claim.now others.now)
+        shared.old.keys shared.new.keys) }
+    ensures same { overs.new ≡ overs.old }
 {
     for other in others {
-        mark_pair(alloc, vers, claim, other, shared)?;
+        mark_pair(alloc, overs, claim, other, shared)?;
     }
     Ok(())
 }
@@ -72,24 +74,25 @@ struct Claimants {
 // Takes one more claim in.
 fn take_in(
     alloc: Global,
-    vers: &VerChoice<'_>,
+    overs: &mut Overs<'_, '_>,
     claim: &Claim,
     claimants: &mut Claimants,
     shared: &mut IndexSet<u32>,
 ) -> Result<(), AllocError>
-    ensures { OnOk result ((claims : List Claim) (before : List ℕ)
-        → AreMarked vers.now.global.now (choice vers.now) claims claimants.old.chain.items claimants.old.others.items
+    ensures taken { OnOk result ((claims : List Claim) (before : List ℕ)
+        → AreMarked overs.old.global.now (choice overs.old) claims claimants.old.chain.items claimants.old.others.items
         before shared.old.keys
-        → AreMarked vers.now.global.now (choice vers.now) (claims ++ claim.now ∷ []) claimants.new.chain.items
+        → AreMarked overs.old.global.now (choice overs.old) (claims ++ claim.now ∷ []) claimants.new.chain.items
         claimants.new.others.items before shared.new.keys) }
+    ensures same { overs.new ≡ overs.old }
 {
-    let Some(place) = place_in(alloc, vers, claimants.chain.as_slice(), claim)? else {
-        mark_against(alloc, vers, claim, claimants.chain.as_slice(), shared)?;
-        mark_against(alloc, vers, claim, claimants.others.as_slice(), shared)?;
+    let Some(place) = place_in(alloc, overs, claimants.chain.as_slice(), claim)? else {
+        mark_against(alloc, overs, claim, claimants.chain.as_slice(), shared)?;
+        mark_against(alloc, overs, claim, claimants.others.as_slice(), shared)?;
         claimants.others.push(*claim)?;
         return Ok(());
     };
-    mark_against(alloc, vers, claim, claimants.others.as_slice(), shared)?;
+    mark_against(alloc, overs, claim, claimants.others.as_slice(), shared)?;
     claimants.chain.insert(place, *claim)?;
     Ok(())
 }
@@ -97,19 +100,20 @@ fn take_in(
 // Marks the claims on one element that clash.
 fn mark_run(
     alloc: Global,
-    vers: &VerChoice<'_>,
+    overs: &mut Overs<'_, '_>,
     claims: &[Claim],
     shared: &mut IndexSet<u32>,
 ) -> Result<(), AllocError>
-    ensures { OnOk result (Marks (IsAmong (Clashes vers.now.global.now (choice vers.now)) claims.now) shared.old.keys
-        shared.new.keys) }
+    ensures marks { OnOk result (Marks (IsAmong (Clashes overs.old.global.now (choice overs.old)) claims.now)
+        shared.old.keys shared.new.keys) }
+    ensures same { overs.new ≡ overs.old }
 {
     let mut claimants = Claimants {
         chain: Vec::new(alloc),
         others: Vec::new(alloc),
     };
     for claim in claims {
-        take_in(alloc, vers, claim, &mut claimants, shared)?;
+        take_in(alloc, overs, claim, &mut claimants, shared)?;
     }
     Ok(())
 }
@@ -130,18 +134,19 @@ fn run_end(claims: &[Claim], start: usize) -> usize
 // Marks the claims that clash.
 fn shared_among(
     alloc: Global,
-    vers: &VerChoice<'_>,
+    overs: &mut Overs<'_, '_>,
     claims: &[Claim],
 ) -> Result<IndexSet<u32>, AllocError>
     requires { AreGrouped claims.now }
-    ensures { IfOk result (λ shared. (n : ℕ) → Contains shared.keys n
-        ↔ IsAmong (ClashesOnOne vers.now.global.now (choice vers.now)) claims.now n) }
+    ensures shared { IfOk result (λ shared. (n : ℕ) → Contains shared.keys n
+        ↔ IsAmong (ClashesOnOne overs.old.global.now (choice overs.old)) claims.now n) }
+    ensures same { overs.new ≡ overs.old }
 {
     let mut shared = IndexSet::new(alloc);
     let mut start = 0;
     while start < claims.len() {
         let end = run_end(claims, start);
-        mark_run(alloc, vers, &claims[start..end], &mut shared)?;
+        mark_run(alloc, overs, &claims[start..end], &mut shared)?;
         start = end;
     }
     Ok(shared)
@@ -151,15 +156,16 @@ fn shared_among(
 /// such one.
 pub(crate) fn shared_places(
     alloc: Global,
-    vers: &VerChoice<'_>,
+    overs: &mut Overs<'_, '_>,
     ids: &[Id],
     faults: &[OwnFaults],
 ) -> Result<IndexSet<u32>, AllocError>
     requires lengths { length faults.now ≡ length ids.now }
     requires fits { length ids.now < 2 ^ 32 }
-    ensures { IfOk result (λ shared. (n : ℕ) → Contains shared.keys n
-        ↔ IsClashing vers.now.global.now (choice vers.now) ids.now faults.now n) }
+    ensures shared { IfOk result (λ shared. (n : ℕ) → Contains shared.keys n
+        ↔ IsClashing overs.old.global.now (choice overs.old) ids.now faults.now n) }
+    ensures same { overs.new ≡ overs.old }
 {
-    let claims = claims_of(alloc, vers.global(), ids, faults)?;
-    shared_among(alloc, vers, claims.as_slice())
+    let claims = claims_of(alloc, overs.vers().global(), ids, faults)?;
+    shared_among(alloc, overs, claims.as_slice())
 }

@@ -1,48 +1,47 @@
 //! The tests of all candidates.
-ghost use Rattle.std.specs.Prelude.{◌<◌, ◌^◌, All, IsTrue, IfOk, length, map, option_copied};
+ghost use Rattle.std.specs.Prelude.{◌≡◌, All, IsTrue, IfOk, map, option_copied};
 ghost use Rattle.terms.specs.Candidates.{is_installable};
 ghost use Rattle.zones_views.specs.Scopes.{global_of, setting_with};
-ghost use Rattle.judge_faults.specs.Failed.{AreFailedTests, AreEligible};
+ghost use Rattle.judge_faults.specs.Failed.{AreFailedTests};
 
 use crate::deleted::all_with_deleted;
 use crate::forbidding::clashing_places;
 use crate::own::all_faults;
-use crate::rows::{all_eligible, all_rows};
+use crate::rows::all_rows;
+use fields::Attest;
 use std::alloc::{AllocError, Global};
+use sysmods::Overs;
 use terms::Test;
 use zones::Zone;
 use zones_views::Scope;
 
-/// For each candidate the tests that it fails, and whether it is eligible.
+/// For each candidate the tests that it fails, and what was found of who is over whom.
 #[derive(Drop)]
-pub struct Tested {
+pub struct Tested<'a, 'b> {
     pub tests: Vec<Vec<Test>>,
-    pub eligible: Vec<bool>,
+    pub overs: Overs<'a, 'b>,
 }
 
-/// Tests the candidates of an APPLY or ACCEPT in this zone, for ACCEPT with the related target zone.
-pub fn test_all(
+/// The tests that each candidate of an APPLY or ACCEPT fails in this zone, for ACCEPT with the related target zone. The
+/// error comes where memory runs out.
+pub fn test_all<'a, 'b>(
     alloc: Global,
-    scope: &Scope<'_, '_>,
+    scope: &Scope<'a, 'b>,
     related: Option<&Zone>,
-) -> Result<Tested, AllocError>
+) -> Result<Tested<'a, 'b>, AllocError>
     requires { All (λ x. IsTrue (is_installable (global_of scope.now) scope.now.zone.now x)) scope.now.ids.now }
-    ensures fits { IfOk result (λ t. length scope.now.ids.now < 2 ^ 32) }
     ensures tests { IfOk result (λ t. AreFailedTests (setting_with scope.now (option_copied related.entry))
         (map (λ row. row.items) t.tests.items)) }
-    ensures eligible { IfOk result (λ t. AreEligible (setting_with scope.now (option_copied related.entry))
-        t.eligible.items) }
+    ensures overs { IfOk result (λ t. t.overs ≡ scope.now.vers.now) }
 {
-    scope.zone.attest();
-    let vers = scope.vers;
+    scope.global().attest();
     let list = scope.ids.as_slice();
     // They are no more than the received SYSMODs.
-    prove!(scope.global().len() < 65_536);
     prove!(list.len() < 4_294_967_296);
-    let alone = all_faults(alloc, scope, related)?;
-    let faults = all_with_deleted(alloc, vers, list, alone.as_slice())?;
-    let clashing = clashing_places(alloc, vers, list, faults.as_slice())?;
+    let mut overs = Overs::new(alloc, scope.vers);
+    let alone = all_faults(alloc, scope, related, &mut overs)?;
+    let faults = all_with_deleted(alloc, scope.vers, list, alone.as_slice())?;
+    let clashing = clashing_places(alloc, &mut overs, list, faults.as_slice())?;
     let tests = all_rows(alloc, faults.as_slice(), &clashing)?;
-    let eligible = all_eligible(alloc, faults.as_slice(), &clashing)?;
-    Ok(Tested { tests, eligible })
+    Ok(Tested { tests, overs })
 }

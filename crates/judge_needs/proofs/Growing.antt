@@ -11,8 +11,10 @@ use Rattle.std.specs.declared.cmp.Ordering.{Ordering}
 use Rattle.std.specs.Ordering.{is_eq, nat_cmp}
 use Rattle.std.specs.Cmp.Lexicographic.{slice_cmp}
 use Rattle.std.specs.BTreeMap.{get, UpdatesBy}
+use Rattle.std.proofs.lemmas.Bool.{false_from_ne_true}
 use Rattle.std.proofs.lemmas.Map.Text.{is_eq-slice_cmp}
 use Rattle.std.proofs.lemmas.List.{map-append}
+use Rattle.std.proofs.lemmas.List.Elements.{filter-append}
 use Rattle.std.proofs.lemmas.List.Concat.{flat_map-append}
 use Rattle.terms.specs.Types.{Id, IfReq, Entry}
 use Rattle.terms.specs.Choice.{Choice}
@@ -35,16 +37,6 @@ filter_one {X} {Y} p f x = by (p x) refl
     by : (b : Bool) → p x ≡ b → flat_map f (filter p (x ∷ [])) ≡ cond (p x) (f x) []
     by true e = ap (λ b. flat_map f (cond b (x ∷ []) [])) e ∙ append-nil (f x) ∙ ap (λ b. cond b (f x) []) (sym e)
     by false e = ap (λ b. flat_map f (cond b (x ∷ []) [])) e ∙ ap (λ b. cond b (f x) []) (sym e)
-
-pub filter-append : {X : Type 0} (p : X → Bool) (xs ys : List X) → filter p (xs ++ ys) ≡ filter p xs ++ filter p ys
-filter-append p [] ys = refl
-filter-append {X} p (x ∷ xs) ys =
-    ap (λ l. cond (p x) (x ∷ l) l) (filter-append p xs ys) ∙ by (p x)
-  where
-    by : (b : Bool) → cond b (x ∷ filter p xs ++ filter p ys) (filter p xs ++ filter p ys)
-        ≡ cond b (x ∷ filter p xs) (filter p xs) ++ filter p ys
-    by true = refl
-    by false = refl
 
 pub conditions_more : (p : Id → Bool) (conditions : List IfReq) (k : ℕ) (i : IfReq) → k < length conditions
     → i ≡ get_or conditions k i
@@ -104,10 +96,6 @@ stated_more c f entries k e below at =
 abbrev C : Id → Id → Ordering
 C = slice_cmp nat_cmp
 
-off_from : (b : Bool) → (b ≡ true → ⊥) → b ≡ false
-off_from true lacks = absurd (lacks refl)
-off_from false lacks = refl
-
 -- the list of one function is put in place of the one that it goes on
 pub adds_update : (old new : Lists) (k : Id) (w : Vec Requisite Global) (req : List Requisite)
     → UpdatesBy C (C k) old new (Some w)
@@ -126,7 +114,7 @@ adds_update old new k w req updates goes_on f = by (is_eq (C k f)) refl
         ∙ ap (λ b. listed old f ++ cond b req []) (sym (subst (λ x. bytes_eq f x ≡ true) (sym same) (same_itself f)))
     by false e =
         let here : f ≡ k → bytes_eq k f ≡ true = λ is. subst (λ x. bytes_eq k x ≡ true) (sym is) (same_itself k) in
-        let other : bytes_eq f k ≡ false = off_from (bytes_eq f k) (λ same. true≢false
+        let other : bytes_eq f k ≡ false = false_from_ne_true (bytes_eq f k) (λ same. true≢false
         (sym (is_eq-slice_cmp k f ∙ here (same_from f k same)) ∙ e)) in
         now false e ∙ sym (append-nil (listed old f)) ∙ ap (λ b. listed old f ++ cond b req []) (sym other)
 

@@ -1,13 +1,15 @@
 -- What SYSMODs that deletions leave state for functions.
 use Rattle.std.proofs.Common.{◌≡◌, Bool, true, false, List, [], ◌∷◌, ◌++◌, filter, map, cond, is_some}
-use Rattle.std.proofs.Common.{Option, None, Some, Contains, refl, sym, ap, ◌∙◌}
+use Rattle.std.proofs.Common.{None, Contains, refl, sym, ap, ◌∙◌}
 use Rattle.std.specs.Prelude.{◌&&◌, not, if◌then◌else◌}
 use Rattle.std.specs.List.{flat_map}
 use Rattle.std.specs.Option.{option_map_or}
 use Rattle.std.specs.Str.{bytes_eq}
 use Rattle.std.proofs.lemmas.List.{map-append}
+use Rattle.std.proofs.lemmas.List.Elements.{filter-append}
 use Rattle.lemmas.proofs.Members.{here, there}
-use Rattle.terms.specs.Types.{Id, Global, Entry, Zone, Applied}
+use Rattle.lemmas.proofs.Options.{is_some_unless}
+use Rattle.terms.specs.Types.{Id, Global, Entry, Zone}
 use Rattle.terms.specs.Lookups.{has_content, is_applied, applied_ids, IsZone}
 use Rattle.terms.specs.Choice.{Choice}
 use Rattle.terms.specs.Deleted.{is_deleted, is_taken_out, entry_less, zone_less}
@@ -17,13 +19,6 @@ use Rattle.zones_views.proofs.Flats.{filter_weaker}
 use Rattle.zones_views.proofs.Lookups.{is_applied_less}
 use Rattle.judge_needs.specs.declared.stated.Requisite.{Requisite}
 use Rattle.judge_needs.specs.Conditions.{a_requisite, stated_by}
-use Rattle.judge_needs.proofs.Growing.{filter-append}
-
-dated_left : (gone : Bool) (date : Option Applied) → is_some (if gone then None else date) ≡ (is_some date && not gone)
-dated_left true None = refl
-dated_left true (Some d) = refl
-dated_left false None = refl
-dated_left false (Some d) = refl
 
 module _ (g : Global) (c : Choice) (dels : List Id) (zone : Zone) (z : IsZone zone) where
   abbrev is_gone : Id → Bool
@@ -70,13 +65,13 @@ module _ (g : Global) (c : Choice) (dels : List Id) (zone : Zone) (z : IsZone zo
       by : Rest → (b : Bool) → is_some e.applied ≡ b → Old (is_some (if is_gone e.id then None else e.applied))
           ≡ New (is_some e.applied)
       by rest true on =
-          ap Old (dated_left (is_gone e.id) e.applied)
+          ap Old (is_some_unless (is_gone e.id) e.applied)
           ∙ ap (λ b. Old (b && not (is_gone e.id))) on
           ∙ ap Old (sym (stays e (among e (here e es)) on))
           ∙ kept rest (is_applied left e.id)
           ∙ sym (ap New on)
       by rest false off =
-          ap Old (dated_left (is_gone e.id) e.applied)
+          ap Old (is_some_unless (is_gone e.id) e.applied)
           ∙ ap (λ b. Old (b && not (is_gone e.id))) off
           ∙ rest
           ∙ sym (ap New off)

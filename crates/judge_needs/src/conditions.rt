@@ -11,7 +11,7 @@ ghost use Rattle.judge_needs.specs.Left.{left_of};
 
 use crate::left::Left;
 use crate::stated::{Stated, append_stated};
-use fields::{Id, IdList};
+use fields::{Attest, Id, IdList};
 use std::alloc::{AllocError, Global};
 use sysmods_records::IfReq;
 use zones_views::{Scope, view_deletions};

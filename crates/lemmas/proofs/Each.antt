@@ -1,10 +1,15 @@
 -- What holds of each item of a list, or of some item.
 use Rattle.std.proofs.Common.{List, [], ◌∷◌, ◌++◌, ◌<◌, map, subst, sym, refl, arith, suc, ◌≡◌, ◌⊎◌, ℕ, zero, length}
-use Rattle.std.proofs.Common.{inl, inr, get_or, ◌∙◌}
+use Rattle.std.proofs.Common.{inl, inr, get_or, ◌∙◌, ap}
 use Rattle.std.specs.List.{All, AllByRecursion, Any}
+use Rattle.std.specs.Prelude.{Contains}
 use Rattle.std.proofs.Math.ListN.{get_or-map}
 use Rattle.std.proofs.lemmas.List.{length-map, length-append, get_or_append_left}
-use Rattle.std.proofs.lemmas.List.Elements.{All-head, All-tail, All-cons, All-nil}
+use Rattle.std.proofs.lemmas.List.Elements.{All-head, All-tail, All-cons, All-nil, Contains-get_or}
+
+-- what each item of a list has, they all have
+pub All_from_each : {X : Type 0} (P : X → Type 0) (xs : List X) → ((x : X) → Contains xs x → P x) → All P xs
+All_from_each P xs each = λ k d below. each (get_or xs k d) (Contains-get_or xs k d below)
 
 pub All_middle : {X : Type 0} (P : X → Type 0) (before : List X) (x : X) (after : List X) → All P (before ++ x ∷ after)
     → P x
@@ -96,3 +101,24 @@ Any_push_cases P (x ∷ xs) y a =
       | inl here ↦ inl (any_here P x xs here)
       | inr rest ↦ elim (Any_push_cases P xs y rest) [ inl later ↦ inl (any_later P x xs later) | inr last ↦ inr last ]
     ]
+
+-- an item that has it, and a list that has such an item
+pub any_in : {X : Type 0} (P : X → Type 0) (xs : List X) (x : X) → Contains xs x → P x → Any P xs
+any_in P xs x h p = (h.0, x, h.1, h.2, p)
+
+pub in_any : {X : Type 0} (P : X → Type 0) (xs : List X) → Any P xs → (x : X) × Contains xs x × P x
+in_any P xs any = (any.1, (any.0, any.2, any.3), any.4)
+
+pub any_weaker : {X : Type 0} (P Q : X → Type 0) → ((x : X) → P x → Q x) → (xs : List X) → Any P xs → Any Q xs
+any_weaker P Q more xs any = (any.0, any.1, any.2, any.3, more any.1 any.4)
+
+-- some image, and some item at its image
+pub any_map : {X Y : Type 0} (P : Y → Type 0) (f : X → Y) (xs : List X) → Any (λ x. P (f x)) xs → Any P (map f xs)
+any_map P f xs a = (a.0, f a.1, rw length-map a.2, get_or-map f xs a.0 a.1 ∙ ap f a.3, a.4)
+
+pub any_unmap : {X Y : Type 0} (P : Y → Type 0) (f : X → Y) (xs : List X) → Any P (map f xs) → Any (λ x. P (f x)) xs
+any_unmap P f [] a = absurd (any_none P a)
+any_unmap P f (x ∷ xs) a = elim (any_cases P (f x) (map f xs) a) [
+  | inl here ↦ any_here (λ x. P (f x)) x xs here
+  | inr later ↦ any_later (λ x. P (f x)) x xs (any_unmap P f xs later)
+]

@@ -8,5 +8,6 @@ pub mod Searches
 pub mod Pairs
 pub mod Apart
 pub mod Lists
+pub mod Results
 pub mod Texts
 pub mod BesideLists

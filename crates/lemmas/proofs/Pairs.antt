@@ -4,6 +4,8 @@ use Rattle.std.specs.Prelude.{AllPairs}
 use Rattle.std.proofs.lemmas.List.Elements.{All-head, All-tail, All-cons, All-append, All-map, All-weaker}
 use Rattle.std.proofs.lemmas.List.Kept.{AllPairs-cons}
 use Rattle.lemmas.proofs.Each.{All_between, All_skip, All_middle, All_unmap}
+use Rattle.std.proofs.Common.{get_or, length-append, subst}
+use Rattle.std.proofs.lemmas.List.{get_or_append_left}
 
 pub AllPairs_first : {X : Type 0} (R : X → X → Type 0) (x : X) (xs : List X) → AllPairs R (x ∷ xs) → All (R x) xs
 AllPairs_first R x xs h = λ k d below. h 0 (suc k) d (omega arith) (omega arith)
@@ -35,6 +37,14 @@ AllPairs_parts R [] ys x h = (λ k d below. absurd (omega arith), AllPairs_first
 AllPairs_parts R (y ∷ xs) ys x h =
     let rest = AllPairs_parts R xs ys x (AllPairs_rest R y (xs ++ x ∷ ys) h) in
     (All-cons (λ y. R y x) y xs (All_middle (R y) xs x ys (AllPairs_first R y (xs ++ x ∷ ys) h)) rest.0, rest.1)
+
+-- the front of a list in order
+pub AllPairs_front : {X : Type 0} (R : X → X → Type 0) (xs ys : List X) → AllPairs R (xs ++ ys) → AllPairs R xs
+AllPairs_front R xs ys all = λ i j d less below.
+    let first = get_or_append_left xs ys d i (omega (arith, less, below)) in
+    let second = get_or_append_left xs ys d j below in
+    subst (λ a. R a (get_or xs j d)) first (subst (R (get_or (xs ++ ys) i d)) second
+    (all i j d less (omega (arith, below, length-append xs ys))))
 
 -- lists in order, one behind the other
 pub AllPairs_join : {X : Type 0} (R : X → X → Type 0) (xs ys : List X) → AllPairs R xs → AllPairs R ys

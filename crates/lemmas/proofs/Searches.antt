@@ -7,6 +7,15 @@ use Rattle.std.specs.Prelude.{Contains, ◌||◌}
 use Rattle.std.proofs.lemmas.Bool.{false≢true, cases_Bool}
 use Rattle.std.proofs.lemmas.List.Elements.{All-head, All-tail}
 use Rattle.std.proofs.lemmas.List.Folds.{list_any_at}
+use Rattle.std.proofs.Common.{ℕ, ◌<◌, ◌≤◌, ◌+◌, length, take, is_some, slice_get, unwrap_or}
+use Rattle.std.specs.Prelude.{◌&&◌, position}
+use Rattle.std.specs.List.{list_all, prefix_len}
+use Rattle.std.proofs.lemmas.Bool.{and_parts}
+use Rattle.std.proofs.lemmas.List.{get_or-take, length-take-le}
+use Rattle.std.proofs.lemmas.List.Elements.{All-contains, filter_more}
+use Rattle.std.proofs.lemmas.List.Folds.{Any-from_list_any}
+use Rattle.std.proofs.lemmas.List.Sums.{prefix_len_passes, prefix_len-le-length, length-filter, count_by-le-length}
+use Rattle.lemmas.proofs.Members.{here, here_or, there, none_in}
 
 -- a filter that each item passes, or none
 pub filter_all : {X : Type 0} (p : X → Bool) (xs : List X) → All (λ x. p x ≡ true) xs → filter p xs ≡ xs
@@ -123,16 +132,21 @@ find_filter_none {X} p q h (x ∷ xs) = by_found (find_filter_none p q h xs) (p 
     by_found rest false true e f = rw (f, e) rest
     by_found rest false false e f = rw f rest
 
+-- what is found among the images, by a test that asks for the same
+pub find_mapped : {X Y : Type 0} (p : X → Bool) (q : Y → Bool) (f : X → Y) → ((x : X) → q (f x) ≡ p x) → (xs : List X)
+    → find q (map f xs) ≡ option_map f (find p xs)
+find_mapped p q f same [] = refl
+find_mapped p q f same (x ∷ xs) = by (find_mapped p q f same xs) (p x) refl
+  where
+    by : find q (map f xs) ≡ option_map f (find p xs) → (b : Bool) → p x ≡ b
+        → find q (map f (x ∷ xs)) ≡ option_map f (find p (x ∷ xs))
+    by again true e = rw (same x, e) refl
+    by again false e = rw (same x, e) again
+
 -- a search that does not see the difference
 pub find_map : {X : Type 0} (p : X → Bool) (f : X → X) → ((x : X) → p (f x) ≡ p x) → (xs : List X)
     → find p (map f xs) ≡ option_map f (find p xs)
-find_map p f same [] = refl
-find_map p f same (x ∷ xs) = by (find_map p f same xs) (p x) refl
-  where
-    by : find p (map f xs) ≡ option_map f (find p xs) → (b : Bool) → p x ≡ b
-        → find p (map f (x ∷ xs)) ≡ option_map f (find p (x ∷ xs))
-    by again true e = rw (same x, e) refl
-    by again false e = rw (same x, e) again
+find_map p f = find_mapped p p f
 
 pub find_agree : {X : Type 0} (p q : X → Bool) → ((x : X) → p x ≡ q x) → (xs : List X) → find p xs ≡ find q xs
 find_agree p q same [] = refl
@@ -160,3 +174,91 @@ All_from_no_list_any p xs none k d below =
       | inl holding ↦ absurd (cc (none, list_any_at p xs k d below holding))
       | inr failing ↦ failing
     ]
+
+-- a test of all items, of some and of none, by the items
+pub passes_all : {X : Type 0} (p : X → Bool) (xs : List X) (x : X) → list_all p xs ≡ true → Contains xs x → p x ≡ true
+passes_all p [] x all h = absurd (none_in x h)
+passes_all p (y ∷ ys) x all h =
+    let parts = and_parts (p y) (list_all p ys) all in
+    elim (here_or y ys x h) [
+      | inl same ↦ subst (λ v. p v ≡ true) same parts.0
+      | inr later ↦ passes_all p ys x parts.1 later
+    ]
+
+pub all_pass : {X : Type 0} (p : X → Bool) (xs : List X) → ((x : X) → Contains xs x → p x ≡ true) → list_all p xs ≡ true
+all_pass p [] each = refl
+all_pass p (x ∷ xs) each = rw (each x (here x xs)) (all_pass p xs (λ y h. each y (there x xs y h)))
+
+pub some_passes : {X : Type 0} (p : X → Bool) (xs : List X) → list_any p xs ≡ true
+    → (x : X) × Contains xs x × (p x ≡ true)
+some_passes p xs h = let a = Any-from_list_any p xs h in (a.1, (a.0, a.2, a.3), a.4)
+
+pub passes_some : {X : Type 0} (p : X → Bool) (xs : List X) (x : X) → Contains xs x → p x ≡ true
+    → list_any p xs ≡ true
+passes_some p xs x at passes = list_any_at p xs at.0 x at.1 (ap p at.2 ∙ passes)
+
+pub none_passes : {X : Type 0} (p : X → Bool) (xs : List X) (x : X) → list_any p xs ≡ false → Contains xs x
+    → p x ≡ false
+none_passes p xs x none at = All-contains (λ x. p x ≡ false) xs x (All_from_no_list_any p xs none) at
+
+-- a search finds something just where some item passes
+pub is_some_find : {X : Type 0} (p : X → Bool) (xs : List X) → is_some (find p xs) ≡ list_any p xs
+is_some_find p [] = refl
+is_some_find p (x ∷ xs) = by (is_some_find p xs) (p x)
+  where
+    by : is_some (find p xs) ≡ list_any p xs → (b : Bool)
+        → is_some (cond b (Some x) (find p xs)) ≡ (b || list_any p xs)
+    by rest true = refl
+    by rest false = rest
+
+pub find_some : {X : Type 0} (p : X → Bool) (xs : List X) (x : X) → Contains xs x → p x ≡ true
+    → is_some (find p xs) ≡ true
+find_some p xs x at passes = is_some_find p xs ∙ passes_some p xs x at passes
+
+-- what is found is the first that a filter keeps
+pub first_kept : {X : Type 0} (p : X → Bool) (xs : List X) → slice_get (filter p xs) 0 ≡ find p xs
+first_kept p [] = refl
+first_kept p (x ∷ xs) = by (first_kept p xs) (p x) refl
+  where
+    by : slice_get (filter p xs) 0 ≡ find p xs → (b : Bool) → p x ≡ b
+        → slice_get (filter p (x ∷ xs)) 0 ≡ find p (x ∷ xs)
+    by rest true e = rw e refl
+    by rest false e = rw e rest
+
+-- of one item or none the first that passes, if one does, stands at the front
+pub first_of_one : {X : Type 0} (p : X → Bool) (xs : List X) → length xs ≤ 1 → unwrap_or (position p xs) 0 ≡ 0
+first_of_one p [] short = refl
+first_of_one p (x ∷ []) short = by (p x) refl
+  where
+    by : (b : Bool) → p x ≡ b → unwrap_or (position p (x ∷ [])) 0 ≡ 0
+    by true e = rw e refl
+    by false e = rw e refl
+first_of_one p (x ∷ y ∷ xs) short = absurd (omega (arith, short))
+
+-- a filter keeps no more than there are
+pub filter_le : {X : Type 0} (p : X → Bool) (xs : List X) → length (filter p xs) ≤ length xs
+filter_le p xs = rw (length-filter p xs) (count_by-le-length p xs)
+
+-- two filters are one
+pub filter_twice : {X : Type 0} (p q : X → Bool) (xs : List X) → filter q (filter p xs) ≡ filter (λ x. p x && q x) xs
+filter_twice p q [] = refl
+filter_twice p q (x ∷ xs) = by (filter_twice p q xs) (p x) refl
+  where
+    by : filter q (filter p xs) ≡ filter (λ x. p x && q x) xs → (b : Bool) → p x ≡ b
+        → filter q (filter p (x ∷ xs)) ≡ filter (λ x. p x && q x) (x ∷ xs)
+    by rest true e = rw e (ap (λ ys. cond (q x) (x ∷ ys) ys) rest)
+    by rest false e = rw e rest
+
+-- what a filter keeps so far, at one item more
+pub filter_next : {X : Type 0} (p : X → Bool) (xs : List X) (i : ℕ) (x : X) → i < length xs → x ≡ get_or xs i x
+    → filter p (take (i + 1) xs) ≡ filter p (take i xs) ++ cond (p x) (x ∷ []) []
+filter_next p xs i x below at =
+    filter_more p xs i x below ∙ ap (λ y. filter p (take i xs) ++ cond (p y) (y ∷ []) []) (sym at)
+
+-- the longest front whose items pass: they do, and what comes behind it does not
+pub prefix_passes : {X : Type 0} (p : X → Bool) (xs : List X) → All (λ x. p x ≡ true) (take (prefix_len p xs) xs)
+prefix_passes p xs k d below =
+    let within = prefix_len-le-length p xs in
+    let len = length-take-le (prefix_len p xs) xs within in
+    let lower : k < prefix_len p xs = omega (arith, below, len) in
+    subst (λ x. p x ≡ true) (sym (get_or-take (prefix_len p xs) xs k d lower)) (prefix_len_passes p xs k d lower)

@@ -1,9 +1,9 @@
 -- What a replacement says, and its text.
-use Rattle.std.proofs.Common.{◌≡◌, List, [], Option, Some, refl, sym, ◌∙◌, ap, subst, inl, inr, ◌⊎◌}
+use Rattle.std.proofs.Common.{◌≡◌, ◌↔◌, List, [], Option, Some, refl, sym, ◌∙◌, ap, subst, inl, inr, ◌⊎◌}
 use Rattle.std.specs.List.{flat_map}
 use Rattle.std.proofs.lemmas.Option.{same_Some}
 use Rattle.terms.specs.declared.kinds.ElemType.{ElemType}
-use Rattle.terms.specs.declared.kinds.ElemType.TheVariants.{Mac, Src, Clist, Data, Exec, Parm, Proc}
+use Rattle.terms.specs.declared.kinds.ElemType.TheVariants.{Mac, Src}
 use Rattle.terms.specs.declared.statement_words.StatementWord.{StatementWord}
 use Rattle.terms.specs.declared.statement_words.StatementWord.TheVariants as word
 use Rattle.terms.specs.declared.text_faults.TextFault.{TextFault}
@@ -13,33 +13,19 @@ use Rattle.terms.specs.Operands.{HasOwn}
 use Rattle.terms.specs.Statement.{Piece}
 use Rattle.terms.specs.Words.{Word, word_pieces, HasWords}
 use Rattle.terms.specs.Texts.{IsNumbered, IsReplacement, IsActionOf, IsUpdate, IsNumberedFault, IsUpdateFault}
-use Rattle.terms.specs.Statements.{changed_type, SaysChange, HasAction, IsChangeOf}
+use Rattle.terms.specs.Statements.{changed_type, Statement, SaysChange, HasAction, IsChangeOf}
 use Rattle.terms.specs.Ptfin.{Begun, sysmod_in, IsUpdateWord, HasValue, IsWithin}
 use Rattle.terms.proofs.Updates.{numbered_no_fault, update_no_fault}
 use Rattle.mcs_statements.specs.declared.fault.StatementError.{StatementError}
 use Rattle.mcs_statements.specs.declared.fault.StatementError.TheVariants.{Memory, Fault}
 use Rattle.mcs.specs.Elements.{HasNames, IsTextError, IsUpdateTextError}
 use Rattle.mcs.specs.Said.{IsSaidFault, IsSaidError}
+use Rattle.mcs.proofs.Saying.{change_excludes}
 
-pub action_to : (type : ElemType) (name distlib syslib : Text) (text : Lines)
-    → IsActionOf type name (Replaces distlib syslib text) → IsReplacement type text
-action_to Mac name d s text h = h
-action_to Src name d s text h = h
-action_to Clist name d s text h = h
-action_to Data name d s text h = h
-action_to Exec name d s text h = h
-action_to Parm name d s text h = h
-action_to Proc name d s text h = h
-
-pub action_from : (type : ElemType) (name distlib syslib : Text) (text : Lines) → IsReplacement type text
-    → IsActionOf type name (Replaces distlib syslib text)
-action_from Mac name d s text h = h
-action_from Src name d s text h = h
-action_from Clist name d s text h = h
-action_from Data name d s text h = h
-action_from Exec name d s text h = h
-action_from Parm name d s text h = h
-action_from Proc name d s text h = h
+pub replacement_fits : (type : ElemType) (name distlib syslib : Text) (text : Lines)
+    → IsActionOf type name (Replaces distlib syslib text) ↔ IsReplacement type text
+replacement_fits Mac name d s text = (λ h. h, λ h. h)
+replacement_fits type name d s text = (λ h. h, λ h. h)
 
 pub numbered_form : (type : ElemType) (text : Lines) → (type ≡ Mac) ⊎ (type ≡ Src) → IsReplacement type text
     → IsNumbered text
@@ -91,7 +77,7 @@ pub text_fault : (current : Option Begun) (w : StatementWord) (own : Option Text
 text_fault current w own rest inline type name d s Memory e value within = tt
 text_fault current w own rest inline type name d s (Fault code) e value within =
     subst (λ k. IsSaidFault current w own rest inline k) (sym e.0)
-    (SaysChange (a_change type name d s inline), value, within, λ good. e.1 (action_to type name d s inline good))
+    (SaysChange (a_change type name d s inline), value, within, λ good. e.1 ((replacement_fits type name d s inline).0 good))
 
 abbrev pub an_update : ElemType → Text → Lines → Change
 an_update type name text = record { elem_type = type; name = name; action = Updates text }
@@ -118,11 +104,20 @@ no_operands word.UpdateSrc ws inline (Replaces d s text) is h = absurd h
 no_operands w ws inline a is h = absurd is
 
 -- Whatever an update says, it has a name and no operand.
-pub update_excluded : (w : StatementWord) (own : Option Text) (rest : List Piece) (ws : List Word) (inline : Lines)
+update_excluded : (w : StatementWord) (own : Option Text) (rest : List Piece) (ws : List Word) (inline : Lines)
     (c : Change) → IsUpdateWord w → ((name : Text) → HasOwn IsName own name → rest ≡ [] → ⊥) → HasWords rest ws
     → IsChangeOf w own ws inline c → ⊥
 update_excluded w own rest ws inline c is none words h = none c.name h.name
     (words ∙ ap (flat_map word_pieces) (no_operands w ws inline c.action is h.action))
+
+-- Without these, a word of updates says nothing.
+pub no_update : (current : Option Sysmod) (w : StatementWord) (own : Option Text) (rest : List Piece) (inline : Lines)
+    (type : ElemType) → (changed_type w ≡ Some type) × IsUpdateWord w
+    → ((name : Text) → HasOwn IsName own name → rest ≡ [] → ⊥) → (s : Statement)
+    → HasValue current w own rest inline s → ⊥
+no_update current w own rest inline type is none =
+    change_excludes current w own rest inline type is.0
+    (λ ws c words r. update_excluded w own rest ws inline c is.1 none words r)
 
 -- an update changes a macro or a source
 pub update_to : (w : StatementWord) (type : ElemType) (name : Text) (text : Lines)

@@ -1,7 +1,7 @@
 -- Words that are taken one after the other, up to the end.
-use Rattle.std.proofs.Common.{◌≡◌, List, [], ◌∷◌, Option, Some, None, refl, sym, subst}
+use Rattle.std.proofs.Common.{◌≡◌, List, [], ◌∷◌, Option, None, sym, ap, subst}
 use Rattle.std.specs.Prelude.{option_map, is_some, false}
-use Rattle.std.proofs.lemmas.Bool.{true≢false}
+use Rattle.lemmas.proofs.Options.{None_from_is_some}
 use Rattle.terms.specs.Statement.{Piece}
 use Rattle.terms.specs.Words.{Word, HasWords, TakesWord, BeginsNoWords}
 use Rattle.terms.proofs.Solids.{words_more, words_first}
@@ -28,8 +28,7 @@ pub ended_none : (pieces : List Piece) → HasWords pieces [] → pieces ≡ []
 ended_none pieces h = h
 
 pub no_list : {X Y : Type 0} (o : Option X) (f : X → Y) → is_some o ≡ false → option_map f o ≡ None
-no_list None f e = refl
-no_list (Some x) f e = absurd (true≢false e)
+no_list o f e = ap (option_map f) (None_from_is_some o e)
 
 -- three words and nothing else
 pub three : (pieces r s t : List Piece) (a b c : Word) → TakesWord pieces a r → TakesWord r b s → TakesWord s c t

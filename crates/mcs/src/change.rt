@@ -135,15 +135,15 @@ pub fn change_statement(
     }))
 }
 
-/// The records as the text of an update.
-fn update_of(alloc: Global, name: Name, inline: &[Record]) -> Result<Vec<Line>, StatementError>
-    ensures text { IfOk result (λ lines. lines.items ≡ inline.now) }
-    ensures good { IfOk result (λ lines. IsUpdate name inline.now) }
+/// The records as an update of the element of this name.
+fn update_of(alloc: Global, name: Name, inline: &[Record]) -> Result<Update, StatementError>
+    ensures text { IfOk result (λ update. update ≡ inline.now) }
+    ensures good { IfOk result (λ update. IsUpdate name inline.now) }
     ensures bad { IfErr result (IsUpdateTextError name inline.now) }
 {
     let read = lines(alloc, inline)?;
     match Update::read(alloc, read, name.as_bytes()) {
-        Ok(update) => Ok(Vec::from_slice(alloc, update.records())?),
+        Ok(update) => Ok(update),
         Err(TextError::Memory) => Err(StatementError::Memory),
         Err(TextError::Fault(_)) => Err(StatementError::Fault(McCode::Mc5)),
     }
@@ -170,14 +170,14 @@ pub fn update_statement(
     if !is_within(current, inline) {
         return Err(StatementError::Fault(McCode::Mc6));
     }
-    let lines = match update_of(alloc, name, inline) {
-        Ok(lines) => lines,
+    let update = match update_of(alloc, name, inline) {
+        Ok(update) => update,
         Err(error) => return Err(error),
     };
     Ok(Statement::Change(ElemChange {
         elem_type,
         name,
-        action: Action::Updates { lines },
+        action: Action::Updates { update },
     }))
 }
 

@@ -7,7 +7,8 @@ use Rattle.terms.specs.Words.{Word, list_pieces, TakesWord, BeginsNoWords}
 use Rattle.terms.specs.Statements.{statement_text}
 use Rattle.terms.specs.Ptfin.{IsKnown, IsUnknown}
 
-no_pieces : (pieces : List Piece) (w : Word) (rest : List Piece) → pieces ≡ [] → TakesWord pieces w rest → ⊥
+-- no word stands first where nothing does
+pub no_pieces : (pieces : List Piece) (w : Word) (rest : List Piece) → pieces ≡ [] → TakesWord pieces w rest → ⊥
 no_pieces pieces w rest none t = cc (none, t.pieces_are)
 
 pub unknown_end : (records : Lines) (pieces : List Piece) (inline : Lines) → IsStatement records pieces inline

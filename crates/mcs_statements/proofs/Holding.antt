@@ -10,6 +10,7 @@ use Rattle.terms.specs.HoldStatements.{HasKind, IsHoldOf, IsReleaseOf, release_o
 use Rattle.terms.proofs.ExactOperands.{has_member, one_of}
 use Rattle.terms.proofs.ExactHolds.{kind_only}
 use Rattle.mcs_statements.specs.Holds.{HasKey}
+use Rattle.terms.proofs.Reasons.{class_of}
 
 pub release_is : (own : Option Text) (ws : List Word) (r : Release) → AreOperands release_operands ws → HasKey own ws r
     → IsReleaseOf own ws r
@@ -27,12 +28,6 @@ pub reason_of : (own : Option Text) (ws : List Word) (found : Option Word) (kind
     → HasRequired (IsReason kind) found r.reason
 reason_of own ws found kind r h k reason = subst (λ x. HasRequired (IsReason x) found r.reason)
     (kind_only ws r.kind kind k h) reason
-
--- A reason of a kind has the form of any reason.
-class_of : (kind : HoldKind) (t : Text) → IsReason kind t → IsClass t
-class_of Error t h = (omega (arith, h.0), h.1, h.2)
-class_of System t h = h
-class_of User t h = h
 
 module _ (kind : HoldKind) where
   pub reason_class : (found : Option Word) (v : Text) → HasRequired (IsReason kind) found v

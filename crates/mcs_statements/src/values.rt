@@ -1,9 +1,10 @@
 //! Which operands a statement may have, and the values of reasons and lists of ids.
-ghost use Rattle.std.specs.Prelude.{◌≡◌, ◌↔◌, ℕ, true, false, List, map, IsTrue, IfOk, IfErr, IfSome, IfNone};
+ghost use Rattle.std.specs.Prelude.{◌≡◌, ◌↔◌, ◌<◌, ◌≤◌, ℕ, length, true, false, List, map, IsTrue, IfOk, IfErr};
+ghost use Rattle.std.specs.Prelude.{IfSome, IfNone};
 ghost use Rattle.terms.specs.Statement.{Piece, HasSolid};
 ghost use Rattle.terms.specs.Words as grammar;
 ghost use Rattle.terms.specs.Forms.{IsId, IsReason};
-ghost use Rattle.std.specs.List.{list_any};
+ghost use Rattle.std.specs.List.{position};
 ghost use Rattle.std.specs.Str.{bytes_eq};
 ghost use Rattle.terms.specs.Operands.{operand, AreOperands, HasRequired, HasTexts};
 ghost use Rattle.rec80.specs.Views.{left_of};
@@ -16,15 +17,20 @@ use rec80::Words;
 use std::alloc::Global;
 use terms::HoldKind;
 
-/// Whether the word is one of the names.
-fn is_one_of(names: &[&[u8]], word: &[u8]) -> bool
-    ensures { result ≡ list_any (λ name. bytes_eq word.now name.now) names.now }
+/// How many operands a statement may have at most.
+const MOST: usize = 8;
+
+/// The place of the first name that is the word.
+fn place_of(names: &[&[u8]], word: &[u8]) -> Option<usize>
+    ensures place { result ≡ position (λ name. bytes_eq word.now name.now) names.now }
+    ensures within { IfSome result (λ i. i < length names.now) }
 {
-    names.iter().any(|name| word == *name)
+    names.iter().position(|name| word == *name)
 }
 
-/// Whether what is left are operands of these names alone, each at most once.
+/// Whether what is left are operands of these names alone, each at most once. It goes over them once.
 pub fn are_operands(words: &Words<'_>, names: &[&[u8]]) -> bool
+    requires { length names.now ≤ 8 }
     ensures yes { (pieces : List Piece) → HasSolid (left_of words.now) pieces → IsTrue result
         → (ws : List grammar.Word) × grammar.HasWords pieces ws × AreOperands (map (λ name. name.now) names.now) ws }
     ensures no { (pieces : List Piece) → HasSolid (left_of words.now) pieces → result ≡ false
@@ -32,15 +38,17 @@ pub fn are_operands(words: &Words<'_>, names: &[&[u8]]) -> bool
         → ⊥ }
 {
     let mut left = *words;
+    let mut seen = [false; MOST];
     loop {
         match left.next_word() {
             Ok(Some(word)) => {
-                if !is_one_of(names, word.word) {
+                let Some(place) = place_of(names, word.word) else {
+                    return false;
+                };
+                if seen[place] {
                     return false;
                 }
-                if operand(&left, word.word).is_some() {
-                    return false;
-                }
+                seen[place] = true;
             }
             Ok(None) => return true,
             Err(_) => return false,

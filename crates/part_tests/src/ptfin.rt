@@ -47,9 +47,9 @@ fn put_change(spelled: &mut Spelled, change: &ElemChange) {
             spelled.put(b" ");
             spelled.put_digit(lines.len());
         }
-        Action::Updates { lines } => {
+        Action::Updates { update } => {
             spelled.put(b" by ");
-            spelled.put_digit(lines.len());
+            spelled.put_digit(update.records().len());
         }
     }
 }

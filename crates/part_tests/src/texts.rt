@@ -167,6 +167,6 @@ fn update_copy(alloc: Global) -> Result<Update, TextError> {
 fn updates_are_copied(rt: HostRuntime) -> Result<(), Fail> {
     let update = update_copy(rt.alloc())?;
     assert_eq!(rt; update.records().len(), 2);
-    assert_eq!(rt; update.given().lines().len(), 1);
+    assert_eq!(rt; update.given(rt.alloc())?.lines().len(), 1);
     Ok(())
 }

@@ -8,9 +8,11 @@ use Rattle.std.proofs.lemmas.List.{take-append-drop, length-take-le}
 use Rattle.terms.specs.Types.{Text}
 use Rattle.terms.specs.Forms.{is_word_byte}
 use Rattle.terms.specs.Statement.{followed, TakesPiece, TheWord, BeginsNoWord}
-use Rattle.rec80.proofs.Cuts.{BeginsOutside, front_passes, back_fails, prefix_within}
+use Rattle.rec80.proofs.Cuts.{BeginsOutside, back_fails}
 use Rattle.rec80.specs.declared.cursor.Cursor.{Cursor}
 use Rattle.rec80.specs.Cursors.{IsAhead}
+use Rattle.std.proofs.lemmas.List.Sums.{prefix_len-le-length}
+use Rattle.lemmas.proofs.Searches.{prefix_passes}
 
 no_word_behind : (line : Text) (later : List (List ℕ)) → BeginsOutside is_word_byte line
     → BeginsNoWord (line ++ followed later)
@@ -28,7 +30,7 @@ some_word (b ∷ line) later h =
     omega (arith, one)
 
 pub word_within : (line : Text) (n : ℕ) → n ≡ prefix_len is_word_byte line → n ≤ length line
-word_within line n n_is = omega (arith, n_is, prefix_within is_word_byte line)
+word_within line n n_is = omega (arith, n_is, prefix_len-le-length is_word_byte line)
 
 pub takes_word_piece : (line word line' : Text) (later : List (List ℕ)) (n : ℕ) → n ≡ prefix_len is_word_byte line
     → word ≡ take n line → line' ≡ drop n line → is_word_byte (slice_index (line ++ followed later) 0) ≡ true
@@ -45,7 +47,7 @@ takes_word_piece line word line' later n n_is word_is line'_is first =
       (
         omega (arith, ap length word_is, len, some, n_is),
         subst (λ w. All (λ b. IsTrue (is_word_byte b)) w) word_is'
-            (front_passes is_word_byte line),
+            (prefix_passes is_word_byte line),
       ),
       no_word_behind line' later (subst (BeginsOutside is_word_byte) line_is' (back_fails is_word_byte line 0)),
     )

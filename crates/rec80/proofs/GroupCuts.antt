@@ -6,7 +6,8 @@ use Rattle.std.proofs.lemmas.List.{take-append-drop}
 use Rattle.std.proofs.lemmas.List.Elements.{All-weaker}
 use Rattle.std.proofs.lemmas.Bool.{not-true, not-false}
 use Rattle.terms.specs.Groups.{begins_statement, starts_outside, IsGroup}
-use Rattle.rec80.proofs.Cuts.{BeginsOutside, front_passes, back_fails}
+use Rattle.rec80.proofs.Cuts.{BeginsOutside, back_fails}
+use Rattle.lemmas.proofs.Searches.{prefix_passes}
 
 abbrev pub is_later : List ℕ → Bool
 is_later r = not (begins_statement r)
@@ -35,7 +36,7 @@ first_group (r ∷ rs) front back n starts some count front_is back_is =
       group = subst IsGroup (sym front_is') (
         not-false _ starts,
         All-weaker (λ x. is_later x ≡ true) (λ x. begins_statement x ≡ false) (λ x h. not-true (begins_statement x) h)
-            _ (front_passes is_later rs),
+            _ (prefix_passes is_later rs),
       );
       rest = subst (λ b. starts_outside b ≡ false) (sym back_is') (starts_inside _ (back_fails is_later rs []));
     }

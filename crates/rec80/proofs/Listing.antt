@@ -14,8 +14,10 @@ use Rattle.terms.specs.Words.{TakesNext, HasMore}
 use Rattle.terms.specs.Statement.{followed}
 use Rattle.terms.proofs.Members.{cut_only, is_space, blanks_each, BeginsMember, run_begins, first_start, comma_start}
 use Rattle.terms.proofs.Members.{no_comma, next_only, blanks_none, member_first, run_only}
-use Rattle.rec80.proofs.Cuts.{BeginsOutside, front_passes, back_fails, prefix_within}
+use Rattle.rec80.proofs.Cuts.{BeginsOutside, back_fails}
 use Rattle.rec80.specs.Lists.{SkipsBlanks, HasLeft}
+use Rattle.std.proofs.lemmas.List.Sums.{prefix_len-le-length}
+use Rattle.lemmas.proofs.Searches.{prefix_passes}
 
 pub skips_blank : (text next after : Text) (b : ℕ) → text ≡ b ∷ next → b ≡ 32 → SkipsBlanks next after
     → SkipsBlanks text after
@@ -193,7 +195,7 @@ stops_behind [] tail h stops = stops
 stops_behind (b ∷ line) tail h stops = h
 
 pub run_within : (line : Text) (n : ℕ) → n ≡ prefix_len is_member_byte line → n ≤ length line
-run_within line n n_is = omega (arith, n_is, prefix_within is_member_byte line)
+run_within line n n_is = omega (arith, n_is, prefix_len-le-length is_member_byte line)
 
 pub takes_run : (line word line' : Text) (more : ℕ) (later : List (List ℕ)) (n : ℕ) → n ≡ prefix_len is_member_byte line
     → (n ≡ 0 → ⊥) → word ≡ take n line → line' ≡ drop n line
@@ -208,7 +210,7 @@ takes_run line word line' more later n n_is some word_is line'_is =
     record {
       text_is = ap (λ l. l ++ tail) cut ∙ append_assoc word line' tail;
       some = omega (arith, ap length word_is, length-take-le n line (run_within line n n_is), some);
-      each = subst (λ w. All (λ b. is_member_byte b ≡ true) w) word_is' (front_passes is_member_byte line);
+      each = subst (λ w. All (λ b. is_member_byte b ≡ true) w) word_is' (prefix_passes is_member_byte line);
       ends = stops_behind line' tail (subst (BeginsOutside is_member_byte) line_is' (back_fails is_member_byte line 0))
           (tail_stops more later);
     }

@@ -10,14 +10,14 @@ use Rattle.machine.specs.Outcome.{line_code, lines_code}
 use Rattle.report.specs.declared.outcome.Line.{Line}
 use Rattle.report.specs.Views.{line_view}
 use Rattle.machine.specs.Report.{list_text, words_line, detail_line}
+use Rattle.std.proofs.lemmas.List.{get_or_default}
+use Rattle.lemmas.proofs.Lists.{flat_next}
 
 -- the texts of one element more
 pub flat_map_more : {X : Type 0} (f : X → List ℕ) (xs : List X) (i : ℕ) (d : X) → i < length xs
     → flat_map f (take i xs) ++ f (get_or xs i d) ≡ flat_map f (take (i + 1) xs)
 flat_map_more f xs i d below =
-    ap (λ t. flat_map f (take i xs) ++ t) (sym (append-nil (f (get_or xs i d))))
-    ∙ sym (flat_map-append f (take i xs) (get_or xs i d ∷ []))
-    ∙ ap (flat_map f) (sym (take_more xs i d below))
+    sym (flat_next f xs i (get_or xs i d) below (get_or_default xs i d (get_or xs i d) below))
 
 -- a list that is not empty: its first id, and each other one behind a comma
 pub list_text_parts : (xs : List (List ℕ)) (d : List ℕ) → 0 < length xs

@@ -6,8 +6,8 @@ ghost use Rattle.report_errsysmods.specs.Lines.{AreLinesOf, IsLineOf, IsReportOf
 ghost use Rattle.report_errsysmods.specs.Resolvers.{AreResolvers};
 
 use crate::open::{OpenError, open_errors};
-use crate::resolvers::{Resolvers, add_all, reasons, resolvers};
-use fields::{Id, IdList, Reason, ZoneName};
+use crate::resolvers::{Resolvers, all_resolvers, reasons, resolvers};
+use fields::{Attest, Id, IdList, Reason, ZoneName};
 use report::{Header, Line, Outcome};
 use std::alloc::{AllocError, Global};
 use sysmods::GlobalZone;
@@ -54,12 +54,11 @@ fn gathered(
 {
     let cands = IdList::new(alloc);
     let vers = choose(alloc, global, zone, &cands)?;
-    let mut all = reasons(alloc, errors)?;
-    add_all(alloc, global, &vers, &mut all)?;
-    Ok(all)
+    let asked = reasons(alloc, errors)?;
+    all_resolvers(alloc, global, &vers, &asked)
 }
 
-/// REPORT ERRSYSMODS of the zone of this name.
+/// REPORT ERRSYSMODS of the zone of this name. An error comes where memory runs out.
 pub fn errsysmods(
     alloc: Global,
     zone_name: ZoneName,
@@ -68,7 +67,7 @@ pub fn errsysmods(
 ) -> Result<Outcome<'static>, AllocError>
     ensures { IfOk result (IsReportOf zone_name global.now zone.now) }
 {
-    prove!(global.len() < 65_536);
+    global.attest();
     let errors = open_errors(alloc, global, zone)?;
     let all = gathered(alloc, global, zone, &errors)?;
     let lines = lines_of(alloc, &all, &errors)?;

@@ -1,13 +1,12 @@
 -- How the ids that are seen grow, by one test and one list after the other.
-use Rattle.std.proofs.Common.{◌≡◌, ℕ, ◌<◌, ◌+◌, inl, inr, List, [], ◌∷◌, ◌++◌, length, take, get_or}
+use Rattle.std.proofs.Common.{◌≡◌, ℕ, ◌<◌, ◌+◌, inl, inr, List, ◌++◌, length, take, get_or}
 use Rattle.std.proofs.Common.{sym, subst, ap, ◌∙◌, append_assoc}
 use Rattle.std.specs.List.{flat_map}
-use Rattle.std.proofs.lemmas.List.{append-nil, take_more}
 use Rattle.std.proofs.lemmas.List.Elements.{Contains-append_left, Contains-append_right, Contains-append_cases}
-use Rattle.std.proofs.lemmas.Grind.{flat_map-append}
 use Rattle.terms.specs.Types.{Id}
 use Rattle.sysmods_paths.specs.Seen.{AddsAll}
 use Rattle.sysmods_paths.proofs.Growth.{adds_keeps}
+use Rattle.lemmas.proofs.Lists.{flat_next}
 
 -- one list and then another
 pub adds_append : (old mid new xs ys : List Id) → AddsAll old xs mid → AddsAll mid ys new → AddsAll old (xs ++ ys) new
@@ -29,11 +28,5 @@ pub adds_flat : (f : Id → List Id) (old xs seen new : List Id) (i : ℕ) (x : 
     → AddsAll seen (f x) new → AddsAll old (flat_map f (take i xs)) seen
     → AddsAll old (flat_map f (take (i + 1) xs)) new
 adds_flat f old xs seen new i x below at more adds =
-    subst (λ named. AddsAll old named new) (sym next)
+    subst (λ named. AddsAll old named new) (sym (flat_next f xs i x below at))
     (adds_append old seen new (flat_map f (take i xs)) (f x) adds more)
-  where
-    next : flat_map f (take (i + 1) xs) ≡ flat_map f (take i xs) ++ f x
-    next =
-        ap (flat_map f) (take_more xs i x below ∙ ap (λ y. take i xs ++ y ∷ []) (sym at))
-        ∙ flat_map-append f (take i xs) (x ∷ [])
-        ∙ ap (λ ys. flat_map f (take i xs) ++ ys) (append-nil (f x))

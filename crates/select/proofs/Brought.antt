@@ -22,16 +22,7 @@ use Rattle.select.specs.Growing.{taken_up, has_grown, open_fmids, own_requisites
 use Rattle.select.specs.Growing.{required_through, asked_through, asked_by_namers}
 use Rattle.select.proofs.Needs.{Asks, Fmid, Required, Stated, Reason, in_own, own_in, AsksThrough, through_required}
 use Rattle.select.proofs.Listed.{function_listed, if_named}
-
--- An applied SYSMOD has a number, and what has one is applied.
-applied_some : (o : Option Entry) → option_map_or (λ e. is_some e.applied) o false ≡ true
-    → (a : Applied) × (option_and_then (λ e. e.applied) o ≡ Some a)
-applied_some None e = absurd (cc e)
-applied_some (Some e) on = by e.applied on
-  where
-    by : (o : Option Applied) → is_some o ≡ true → (a : Applied) × (o ≡ Some a)
-    by None is = absurd (cc is)
-    by (Some a) is = (a, refl)
+use Rattle.terms.proofs.Applied.{applied_dated}
 
 some_applied : (o : Option Entry) (a : Applied) → option_and_then (λ e. e.applied) o ≡ Some a
     → option_map_or (λ e. is_some e.applied) o false ≡ true
@@ -97,7 +88,7 @@ module _ (g : Global) (zone : Zone) where
       reqs_at o = reqs_where (bytes_eq x) (option_map_or (λ v. v.ifs) o [])
 
       counted : (y : Id) → IsTrue (is_applied zone y) → counting g zone [] y ≡ kept_ver g zone y
-      counted y on = let a = applied_some (entry_of zone y) on in kept_counts y a.0 a.1
+      counted y on = let a = applied_dated zone y on in kept_counts y a.0 a.1
 
       by : (b : Bool)
           → Contains (if b then stated_for (kept_ver g zone) (function_namers g.sysmods x) x else []) z

@@ -23,9 +23,10 @@ use Rattle.select.specs.Growing.{WillDo, IsAsked, taken_up, has_grown, asked_by,
 use Rattle.select.specs.Growing.{asked_by_namers, brought_by, superseders, next_asked, asked_first}
 use Rattle.select.proofs.Opened.{open_parts}
 use Rattle.select.proofs.Needs.{Asks, asks_from, asks_needed, asks_asked, AsksThrough, asks_with, asks_more}
-use Rattle.select.proofs.Needs.{through_still, needed_asked, reason_asked, either}
+use Rattle.select.proofs.Needs.{through_still, needed_asked, reason_asked}
 use Rattle.select.proofs.Listed.{super_listed}
 use Rattle.select.proofs.Brought.{own_has, own_asks, namers_have, namers_ask}
+use Rattle.std.proofs.lemmas.Bool.{cases_Bool, or_parts}
 
 -- a list of what one has, and behind it another
 pub joined : (ids all start keys grown : List Id) → all ≡ start ++ keys → keys ≡ grown
@@ -62,11 +63,6 @@ with_one p q xs d z h = elim (or_cases (p z) (is_in (xs ++ d ∷ []) z && q z) h
     by passes (inl was) = inl (or_right (p z) (is_in xs z && q z) (and_from (is_in xs z) (q z)
         (is_in_from_Contains xs z was) passes))
     by passes (inr same) = inr (same, subst (λ w. IsTrue (q w)) (sym same) passes)
-
--- the first of two of which none passes
-left_false : (a b : Bool) → (a || b) ≡ false → a ≡ false
-left_false true b e = absurd (true≢false e)
-left_false false b e = refl
 
 -- the search has seen these ids and gone through the first n of them
 pub record IsGrowth (g : Global) (zone : Zone) (sel : Selection) (seen : List Id) (n : ℕ) : Type 0 where
@@ -313,8 +309,8 @@ module _ (g : Global) (zone : Zone) (sel : Selection) where
         through f taken other asks_so =
             elim (with_one (is_start g zone sel) (is_open g zone sel) (take n old) d f taken) [
               | inl was ↦ absurd (true≢false (sym was ∙ other))
-              | inr (same, opened) ↦ others_in opened (left_false (is_start g zone sel d)
-                  (is_in (take n old) d && is_open g zone sel d) (ap (taken_up g zone sel (take n old)) same ∙ other)) z
+              | inr (same, opened) ↦ others_in opened (or_parts (is_start g zone sel d)
+                  (is_in (take n old) d && is_open g zone sel d) (ap (taken_up g zone sel (take n old)) same ∙ other)).0 z
                   (namers_have g zone sel old d x z
                   (with_more (is_growing_start g zone sel) (is_open g zone sel) (take n old) old x (was_seen x) grows)
                   (through_still g zone sel (taken_up g zone sel done) (taken_up g zone sel old) d x z by_now
@@ -331,7 +327,7 @@ module _ (g : Global) (zone : Zone) (sel : Selection) where
     -- what it asks for itself
     itself : IsTrue (is_open g zone sel d) → (z : Id) → Contains (asked_by g zone sel (taken_up g zone sel done) d) z
         → Contains new z
-    itself opened z asks = elim (either (is_growing_start g zone sel d)) [
+    itself opened z asks = elim (cases_Bool (is_growing_start g zone sel d)) [
       | inl first ↦ before d z
           (or_left (is_growing_start g zone sel d) (is_in (take n old) d && is_open g zone sel d) first) asks
       | inr other ↦ own_in opened other z (own_has g zone sel old applied d z

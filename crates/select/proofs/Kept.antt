@@ -3,9 +3,10 @@ use Rattle.std.proofs.Common.{◌≡◌, ◌<◌, ◌+◌, ℕ, length, take, ge
 use Rattle.std.proofs.Common.{◌++◌, filter, cond, if◌then◌else◌, refl, sym, ap, ◌∙◌, append_assoc}
 use Rattle.std.specs.List.{list_any, flat_map}
 use Rattle.std.proofs.lemmas.Grind.{flat_map-append}
-use Rattle.std.proofs.lemmas.List.{append-nil, take_more}
+use Rattle.std.proofs.lemmas.List.{append-nil}
 use Rattle.std.proofs.lemmas.List.Folds.{list_any-append}
-use Rattle.std.proofs.lemmas.List.Elements.{filter_more}
+use Rattle.lemmas.proofs.Searches.{filter_next}
+use Rattle.lemmas.proofs.Lists.{flat_next}
 
 -- a test of the items of what is kept
 pub any_kept : {X Y : Type 0} (p : X → Bool) (f : X → List Y) (q : Y → Bool) (xs : List X)
@@ -18,12 +19,6 @@ any_kept p f q (x ∷ xs) = by (any_kept p f q xs) (p x)
         (flat_map f (cond b (x ∷ filter p xs) (filter p xs)))
     by rest true = ap (λ r. list_any q (f x) || r) rest ∙ sym (list_any-append q (f x) (flat_map f (filter p xs)))
     by rest false = rest
-
--- what is kept so far, at one item more
-pub filter_next : {X : Type 0} (p : X → Bool) (xs : List X) (i : ℕ) (x : X) → i < length xs → x ≡ get_or xs i x
-    → filter p (take (i + 1) xs) ≡ filter p (take i xs) ++ cond (p x) (x ∷ []) []
-filter_next p xs i x below at =
-    filter_more p xs i x below ∙ ap (λ y. filter p (take i xs) ++ cond (p y) (y ∷ []) []) (sym at)
 
 -- what is made of what is kept so far, at one item more
 pub kept_more : {X Y : Type 0} (p : X → Bool) (f : X → List Y) (xs : List X) (i : ℕ) (x : X) → i < length xs
@@ -50,19 +45,4 @@ pub flat_more : {X Y : Type 0} (f : X → List Y) (xs : List X) (i : ℕ) (x : X
     → seen ≡ old ++ flat_map f (take i xs) → new ≡ old ++ flat_map f (take (i + 1) xs)
 flat_more f xs i x below at old seen new more so_far =
     more ∙ ap (λ ys. ys ++ f x) so_far ∙ append_assoc old (flat_map f (take i xs)) (f x)
-    ∙ ap (λ ys. old ++ ys) (sym next)
-  where
-    next : flat_map f (take (i + 1) xs) ≡ flat_map f (take i xs) ++ f x
-    next = ap (flat_map f) (take_more xs i x below ∙ ap (λ y. take i xs ++ y ∷ []) (sym at))
-        ∙ flat_map-append f (take i xs) (x ∷ [])
-        ∙ ap (λ ys. flat_map f (take i xs) ++ ys) (append-nil (f x))
-
--- two filters are one
-pub filter_both : {X : Type 0} (p q : X → Bool) (xs : List X) → filter (λ x. p x && q x) xs ≡ filter q (filter p xs)
-filter_both p q [] = refl
-filter_both p q (x ∷ xs) = by (filter_both p q xs) (p x) refl
-  where
-    by : filter (λ x. p x && q x) xs ≡ filter q (filter p xs) → (b : Bool) → p x ≡ b
-        → filter (λ x. p x && q x) (x ∷ xs) ≡ filter q (filter p (x ∷ xs))
-    by rest true e = rw e (ap (λ l. cond (q x) (x ∷ l) l) rest)
-    by rest false e = rw e rest
+    ∙ ap (λ ys. old ++ ys) (sym (flat_next f xs i x below at))

@@ -1,11 +1,10 @@
 -- What names an id stands among those that are found by it.
-use Rattle.std.proofs.Common.{◌≡◌, inl, inr, Bool, true, false, List, [], ◌∷◌, ◌++◌, map}
+use Rattle.std.proofs.Common.{◌≡◌, Bool, false, List, [], ◌++◌, map}
 use Rattle.std.proofs.Common.{filter, Option, None, Some, Contains, IsTrue, refl, sym}
 use Rattle.std.proofs.Common.{subst, ap, ◌∙◌}
 use Rattle.std.specs.List.{flat_map, list_any}
 use Rattle.std.specs.Option.{option_map_or}
 use Rattle.std.specs.Str.{bytes_eq}
-use Rattle.std.proofs.lemmas.Bool.{or_left, or_right}
 use Rattle.std.proofs.lemmas.List.Elements.{Contains-append_left, Contains-append_right}
 use Rattle.terms.specs.Types.{Text, Id, IfReq, Ver, Sysmod, Global}
 use Rattle.terms.specs.Lookups.{at_most_one, sysmod_of}
@@ -13,12 +12,13 @@ use Rattle.terms.specs.Lookups.{is_in}
 use Rattle.terms.specs.Choice.{vers_of}
 use Rattle.terms.specs.Candidates.{sups_for}
 use Rattle.terms.specs.Global.{named, named_functions, names_for}
-use Rattle.lemmas.proofs.Members.{here, none_in, here_or, in_map, in_filter, filter_in, flat_in, in_flat}
+use Rattle.lemmas.proofs.Members.{here, none_in, in_map, in_filter, filter_in, flat_in, in_flat}
 use Rattle.lemmas.proofs.Searches.{find_gives}
 use Rattle.lemmas.proofs.Texts.{same_from}
 use Rattle.sysmods_received.specs.Held.{zone_of}
 use Rattle.sysmods_received.specs.Namers.{namers_for, names_as_function, function_namers}
 use Rattle.terms.proofs.Ids.{is_in_from_Contains}
+use Rattle.lemmas.proofs.Searches.{passes_some}
 
 -- What names anything in a ++VER that counts is received.
 abbrev of_srel : Text → Ver → Bool
@@ -52,14 +52,6 @@ super_listed g srel y z names = by (sysmod_of g y) refl names
         (subst (λ o. Contains (flat_map named (option_map_or (λ s. filter (of_srel srel) s.vers) o [])) z) (sym e)
         (among (filter (of_srel srel) s.vers) h)))
 
--- some item passes
-some_from : {X : Type 0} (p : X → Bool) (xs : List X) (x : X) → Contains xs x → IsTrue (p x) → list_any p xs ≡ true
-some_from p [] x h passes = absurd (none_in x h)
-some_from p (y ∷ ys) x h passes = elim (here_or y ys x h) [
-  | inl same ↦ or_left (p y) (list_any p ys) (subst (λ w. IsTrue (p w)) (sym same) passes)
-  | inr later ↦ or_right (p y) (list_any p ys) (some_from p ys x later passes)
-]
-
 -- An FMID and the function of an ++IF are named as functions.
 pub fmid_named : (v : Ver) (f : Id) → v.fmid ≡ Some f → IsTrue (is_in (named_functions v) f)
 fmid_named v f at = is_in_from_Contains (named_functions v) f
@@ -84,4 +76,4 @@ function_listed g srel y f v there names = by (sysmod_of g y) refl there
     by (Some s) e h =
         in_filter (names_as_function g.sysmods f) (map (λ s. s.id) g.sysmods) y (listed g y s e)
         (ap (λ o. option_map_or (λ s. list_any (λ v. is_in (named_functions v) f) s.vers) o false) e
-        ∙ some_from (λ v. is_in (named_functions v) f) s.vers v (filter_in (of_srel srel) s.vers v h).0 names)
+        ∙ passes_some (λ v. is_in (named_functions v) f) s.vers v (filter_in (of_srel srel) s.vers v h).0 names)

@@ -16,11 +16,7 @@ use Rattle.lemmas.proofs.Texts.{same_from, same_itself}
 use Rattle.sysmods_received.specs.Namers.{function_namers}
 use Rattle.select.specs.Growing.{asked_by, open_fmids, own_requisites, required_through}
 use Rattle.select.proofs.Listed.{function_listed, fmid_named, if_named}
-
--- a value that is one or the other
-pub either : (b : Bool) → (b ≡ true) ⊎ (b ≡ false)
-either true = inl refl
-either false = inr refl
+use Rattle.std.proofs.lemmas.Bool.{cases_Bool}
 
 module _ (zone : Zone) where
   abbrev there_with : (Id → Bool) → Id → Bool
@@ -31,7 +27,7 @@ module _ (zone : Zone) where
       → IsTrue (there_with others f) ⊎ (IsTrue (cands f) × (others f ≡ false))
   there_split cands others f h = elim (or_cases (is_applied zone f) (cands f) h) [
     | inl on ↦ inl (or_left (is_applied zone f) (others f) on)
-    | inr is ↦ elim (either (others f)) [
+    | inr is ↦ elim (cases_Bool (others f)) [
       | inl too ↦ inl (or_right (is_applied zone f) (others f) too)
       | inr off ↦ inr (is, off)
     ]

@@ -1,33 +1,15 @@
 -- Where the ids of the start are looked for.
-use Rattle.std.proofs.Common.{◌≡◌, ◌⊎◌, inl, inr, true, false, ◌||◌, List, [], ◌++◌, map, filter, Option, None, Some}
-use Rattle.std.proofs.Common.{not, Contains, IsTrue, refl, sym, subst, ◌∙◌, true≢false, ◌↔◌}
-use Rattle.std.specs.Option.{option_map_or}
-use Rattle.std.specs.Str.{bytes_eq}
+use Rattle.std.proofs.Common.{◌≡◌, ◌⊎◌, inl, inr, true, false, ◌||◌, List, ◌++◌, map, filter}
+use Rattle.std.proofs.Common.{Contains, IsTrue, sym, subst, ◌∙◌, true≢false, ◌↔◌}
 use Rattle.std.proofs.lemmas.Bool.{and_parts, or_cases}
-use Rattle.std.proofs.lemmas.List.Elements.{Contains-append_left, Contains-append_right, All-contains_itself}
-use Rattle.terms.specs.Types.{Text, Id, Sysmod, Global, Zone, Selection}
-use Rattle.terms.specs.Lookups.{is_in, is_nil, sysmod_of}
-use Rattle.sysmods.specs.Choices.{has_ver}
+use Rattle.std.proofs.lemmas.List.Elements.{Contains-append_left, Contains-append_right}
+use Rattle.terms.specs.Types.{Id, Global, Zone, Selection}
+use Rattle.terms.specs.Lookups.{is_in}
 use Rattle.terms.specs.Candidates.{is_open, has_mass_choice, is_mass_chosen, is_start}
 use Rattle.terms.proofs.Ids.{Contains_from_is_in}
-use Rattle.lemmas.proofs.Members.{in_map, filter_in, in_filter}
-use Rattle.lemmas.proofs.Texts.{same_from}
-use Rattle.lemmas.proofs.Searches.{find_passes, All_find}
+use Rattle.lemmas.proofs.Members.{filter_in, in_filter}
 use Rattle.select.proofs.Opened.{open_parts}
-
-received_there : (g : Global) (srel : Text) (x : Id) → has_ver g srel x ≡ true
-    → Contains (map (λ s. s.id) g.sysmods) x
-received_there g srel x there = by (sysmod_of g x) refl there
-  where
-    by : (o : Option Sysmod) → sysmod_of g x ≡ o
-        → not (is_nil (option_map_or (λ s. filter (λ v. bytes_eq v.srel srel) s.vers) o [])) ≡ true
-        → Contains (map (λ s. s.id) g.sysmods) x
-    by None e none = absurd (true≢false (sym none))
-    by (Some s) e _ =
-        subst (Contains (map (λ s. s.id) g.sysmods)) (same_from s.id x
-        (find_passes (λ s. bytes_eq s.id x) g.sysmods s e))
-        (in_map (λ s. s.id) g.sysmods s (All_find (Contains g.sysmods) (λ s. bytes_eq s.id x) g.sysmods s
-        (All-contains_itself g.sysmods) e))
+use Rattle.terms.proofs.GlobalLookups.{ver_received}
 
 module _ (g : Global) (zone : Zone) (sel : Selection) (x : Id) (start : IsTrue (is_start g zone sel x)) where
   parts : IsTrue (is_open g zone sel x) × IsTrue (is_in sel.select x || is_in sel.group x || is_mass_chosen g zone sel
@@ -37,7 +19,7 @@ module _ (g : Global) (zone : Zone) (sel : Selection) (x : Id) (start : IsTrue (
 
   -- what the start has is received
   pub start_received : Contains (map (λ s. s.id) g.sysmods) x
-  start_received = received_there g zone.srel x (open_parts g zone sel x parts.0).ver
+  start_received = ver_received g zone.srel x (open_parts g zone sel x parts.0).ver
 
   -- without a mass choice it is named
   pub start_named : has_mass_choice sel ≡ false → Contains (sel.select ++ sel.group) x

@@ -6,7 +6,7 @@ use crate::growing::asked;
 use crate::scope::Scope;
 use crate::start::start;
 use cntl::Selection;
-use fields::{Id, IdList};
+use fields::{Attest, Id, IdList};
 use std::alloc::{AllocError, Global};
 use sysmods::GlobalZone;
 use zones::Zone;
@@ -33,7 +33,7 @@ fn start_and_growing(alloc: Global, scope: &Scope) -> Result<IdList, AllocError>
     let brought_in = open_among(alloc, scope, asked.as_slice())?;
     ids.extend_from_slice(brought_in.as_slice())?;
     let candidates = IdList::from_vec(ids);
-    let _ = candidates.as_slice();
+    candidates.attest();
     Ok(candidates)
 }
 

@@ -14,7 +14,7 @@ ghost use Rattle.select.specs.Growing.{AreAsked, brought_by, asked_first, supers
 use crate::asking::{brings_others, own_asked};
 use crate::bringing::brought_by;
 use crate::scope::Scope;
-use fields::Id;
+use fields::{Attest, Id};
 use indexmap::IndexSet;
 use std::alloc::{AllocError, Global};
 

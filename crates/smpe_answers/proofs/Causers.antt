@@ -1,12 +1,9 @@
 -- Each line of a failed id names a causer, and each causer that it names has such a line itself, with a failed test or
 -- with a need that no candidate serves.
-use Rattle.std.proofs.Common.{◌≡◌, ◌≢◌, inl, inr, Bool, true, false, List, Option, None, Some, Contains, IsTrue}
-use Rattle.std.proofs.Common.{filter, map, refl, sym, subst, true≢false, is_some, bytes_eq}
+use Rattle.std.proofs.Common.{◌≡◌, ◌≢◌, inl, inr, Bool, List, Option, Contains}
+use Rattle.std.proofs.Common.{map, refl, sym, subst}
 use Rattle.std.specs.Prelude.{◌↔◌}
-use Rattle.std.specs.Option.{option_map_or}
-use Rattle.lemmas.proofs.Members.{in_map, map_in, in_filter, filter_in}
-use Rattle.lemmas.proofs.Searches.{find_gives}
-use Rattle.lemmas.proofs.Texts.{same_from}
+use Rattle.lemmas.proofs.Members.{in_map, map_in, filter_in}
 use Rattle.terms.specs.declared.codes.NeedKind.{NeedKind}
 use Rattle.terms.specs.declared.codes.NeedKind.TheVariants as need
 use Rattle.terms.specs.declared.codes.Test.{Test}
@@ -15,8 +12,8 @@ use Rattle.terms.specs.declared.kinds.ZoneKind.{ZoneKind}
 use Rattle.terms.specs.declared.kinds.ZoneKind.TheVariants.{Target, Distribution}
 use Rattle.terms.specs.declared.not_chosen.NotChosen.{NotChosen}
 use Rattle.terms.specs.declared.not_chosen.NotChosen.TheVariants as out
-use Rattle.terms.specs.Types.{Text, Id, Entry, Global, Zone, Bypass, Selection, RestoreList}
-use Rattle.terms.specs.Lookups.{is_in, entry_of, is_applied, applied_ids}
+use Rattle.terms.specs.Types.{Text, Id, Global, Zone, Bypass, Selection, RestoreList}
+use Rattle.terms.specs.Lookups.{is_in, is_applied, applied_ids}
 use Rattle.terms.specs.Tests.{Setting, Fails, FailsAlone, IsEligible}
 use Rattle.terms.specs.Needs.{Needs, Serves, asked}
 use Rattle.terms.specs.Judged.{Stays}
@@ -32,6 +29,7 @@ use Rattle.smpe_answers.proofs.Decided.{survivors_only}
 use Rattle.smpe_answers.proofs.InstallLines.{IsSound, sound, in_kept, chosen}
 use Rattle.smpe_answers.specs.Causers.{HasFailedLine, IsCaused}
 use Rattle.smpe_answers.proofs.Causes.{cause_of, failure_stably, names_causer}
+use Rattle.terms.proofs.Applied.{in_applied_ids}
 
 -- the line of an id, among lines by id
 line_in : (place : Id → Place) (status : Id → Status) (ids : List Id) (x : Id) (p : Place) (s : Status)
@@ -160,23 +158,10 @@ install_caused g zone related sel bypass date d decides lines are x f (place, pr
 
 -- ---- RESTORE
 
--- what is applied stands in the list of that
-applied_listed : (zone : Zone) (y : Id) → IsTrue (is_applied zone y) → Contains (applied_ids zone) y
-applied_listed zone y = by (entry_of zone y) refl
-  where
-    by : (o : Option Entry) → entry_of zone y ≡ o → option_map_or (λ e. is_some e.applied) o false ≡ true
-        → Contains (applied_ids zone) y
-    by None at applied = absurd (true≢false (sym applied))
-    by (Some e) at applied =
-        let gives = find_gives (λ e. bytes_eq e.id y) zone.entries e at in
-        subst (Contains (applied_ids zone)) (same_from e.id y gives.0)
-        (in_map (λ e. e.id) (filter (λ e. is_some e.applied) zone.entries) e
-        (in_filter (λ e. is_some e.applied) zone.entries e gives.1 applied))
-
 pub needs_applied : (r : Restoring) (listed : Id → Bool) (x z : Id) (kind : NeedKind) → NeedsInRestore r listed x kind z
     → Contains (applied_ids r.zone) z
-needs_applied r listed x z need.Elem needs = applied_listed r.zone z needs.1.applied
-needs_applied r listed x z need.Dep needs = applied_listed r.zone z needs.1.applied
+needs_applied r listed x z need.Elem needs = in_applied_ids r.zone z needs.1.applied
+needs_applied r listed x z need.Dep needs = in_applied_ids r.zone z needs.1.applied
 needs_applied r listed x z need.Fmid needs = absurd needs
 needs_applied r listed x z need.Pre needs = absurd needs
 needs_applied r listed x z need.Req needs = absurd needs

@@ -9,14 +9,15 @@ use Rattle.terms.specs.Tests.{Setting, AreSurvivors}
 use Rattle.terms.specs.Needs.{bypassed_ids}
 use Rattle.terms.specs.Install.{Installation}
 use Rattle.terms.specs.Judged.{setting, IsKeptSet, Stays}
-use Rattle.terms.proofs.ExactOperands.{rising_only}
+use Rattle.terms.proofs.RisingAlike.{rises_only}
 use Rattle.machine.specs.Installing.{Decision, IsDecision}
+use Rattle.std.proofs.lemmas.Cmp.{nat_list_cmp_total}
 
 -- Lists that rise and have what has a property are one.
 pub members_only : (P : Id → Type 0) (xs ys : List Id) → IsRising xs → IsRising ys
     → ((x : Id) → Contains xs x ↔ P x) → ((x : Id) → Contains ys x ↔ P x) → xs ≡ ys
 members_only P xs ys rises rises' has has' =
-    rising_only xs ys rises rises' (λ x there. (has' x).1 ((has x).0 there))
+    rises_only nat_list_cmp_total (λ x. x) xs ys rises rises' (λ x there. (has' x).1 ((has x).0 there))
     (λ x there. (has x).1 ((has' x).0 there))
 
 pub candidates_only : (g : Global) (zone : Zone) (sel : Selection) (xs ys : List Id) → AreCandidates g zone sel xs

@@ -1,46 +1,29 @@
 -- What APPLY and ACCEPT decide is there, and so are the lines of it: that they are not can be refuted.
-use Rattle.std.proofs.Common.{◌≡◌, ◌∙◌, true, not, filter, List, [], Option, None, Some}
-use Rattle.std.proofs.Common.{Contains, IsTrue, refl, sym, ap, subst, true≢false, map, bytes_eq}
+use Rattle.std.proofs.Common.{◌≡◌, List, Option}
+use Rattle.std.proofs.Common.{Contains, refl, ap, subst, map}
 use Rattle.std.specs.Prelude.{◌↔◌, ◌+◌}
 use Rattle.std.specs.List.{flat_map}
-use Rattle.std.specs.Option.{option_map_or}
 use Rattle.std.proofs.lemmas.Bool.{and_parts}
 use Rattle.lemmas.proofs.Members.{in_map, map_in, flat_in, in_flat}
-use Rattle.lemmas.proofs.Searches.{find_gives}
-use Rattle.lemmas.proofs.Texts.{same_from}
-use Rattle.terms.specs.Types.{Text, Id, Sysmod, Global, Zone, Bypass, Selection}
-use Rattle.terms.specs.Lookups.{is_nil, sysmod_of}
-use Rattle.terms.specs.Choice.{place, counting, vers_of}
-use Rattle.terms.specs.Candidates.{AreCandidates, IsCandidate, is_installable}
+use Rattle.terms.specs.Types.{Text, Id, Global, Zone, Bypass, Selection}
+use Rattle.terms.specs.Choice.{place, counting}
+use Rattle.terms.specs.Candidates.{AreCandidates, IsCandidate}
 use Rattle.terms.specs.Tests.{Setting, Survives, AreSurvivors}
 use Rattle.terms.specs.Needs.{bypassed_ids}
 use Rattle.terms.specs.Judged.{setting, Stays, IsKeptSet}
 use Rattle.machine.specs.Installing.{Decision, IsDecision}
 use Rattle.smpe_upkeep.proofs.Decisions.{candidate_open}
 use Rattle.smpe_answers.proofs.Causes.{those_stably}
+use Rattle.terms.proofs.GlobalLookups.{installable_received}
 
 -- ---- the candidates, the survivors and the kept set
 
 received : Global → List Id
 received g = map (λ s. s.id) g.sysmods
 
-installable_received : (g : Global) (zone : Zone) (x : Id) → IsTrue (is_installable g zone x) → Contains (received g) x
-unfolding received
-installable_received g zone x ok = by (sysmod_of g x) refl
-  where
-    has_ver : not (is_nil (vers_of g zone.srel x)) ≡ true
-    has_ver = (and_parts _ _ (and_parts _ _ ok).0).0
-
-    by : (s : Option Sysmod) → sysmod_of g x ≡ s → Contains (map (λ s. s.id) g.sysmods) x
-    by None at = absurd (true≢false (sym has_ver ∙ ap (λ s.
-        not (is_nil (option_map_or (λ s. filter (λ v. bytes_eq v.srel zone.srel) s.vers) s []))) at))
-    by (Some s) at =
-        let gives = find_gives (λ s. bytes_eq s.id x) g.sysmods s at in
-        subst (Contains (map (λ s. s.id) g.sysmods)) (same_from s.id x gives.0)
-        (in_map (λ s. s.id) g.sysmods s gives.1)
-
 candidates_answered : (g : Global) (zone : Zone) (sel : Selection)
     → ¬ ¬ ((cands : List Id) × AreCandidates g zone sel cands)
+unfolding received
 candidates_answered g zone sel refuted = those_stably (IsCandidate g zone sel) (received g) (λ found. refuted (
   found.0,
   record {

@@ -13,12 +13,14 @@ use Rattle.terms.specs.Install.{Installation, TakesEffect, cleared, HasElementAf
 use Rattle.store_schema.specs.Forms.{HasZoneForms, IsTextOf}
 use Rattle.change.specs.Folding.{IsFolded}
 use Rattle.change.proofs.ChosenVers.{names_no_loop}
-use Rattle.change.proofs.FoldEnd.{replaces_changes, folded_after, folded_none, folded_some}
+use Rattle.change.proofs.FoldEnd.{folded_after, folded_none, folded_some}
+use Rattle.terms.proofs.ChangedElements.{replaces_changes}
 use Rattle.undo.proofs.Reverted.{key_found}
 use Rattle.smpe_upkeep.proofs.LessForms.{zone_less_forms, element_forms}
 use Rattle.smpe_answers.proofs.Effective.{IsSoundInstall}
 use Rattle.smpe_answers.proofs.InOver.{AreInOver, in_over}
-use Rattle.smpe_answers.proofs.FoldAnswered.{form_of, IsUpdatable, Folded, folded_on}
+use Rattle.smpe_answers.proofs.FoldAnswered.{IsUpdatable, Folded, folded_on}
+use Rattle.smpe_upkeep.proofs.TextForms.{text_form}
 
 module _ (i : Installation) (sound : IsSoundInstall i) (type : ElemType) (name : Text) where
   abbrev Updatable : Element → Type 0
@@ -42,7 +44,7 @@ module _ (i : Installation) (sound : IsSoundInstall i) (type : ElemType) (name :
           record {
             key = key;
             umids = has.umids.rising;
-            text = form_of type e.text (subst (λ t. IsTextOf t e.text) (ap (λ k. k.0) key) has.text);
+            text = text_form type e.text (subst (λ t. IsTextOf t e.text) (ap (λ k. k.0) key) has.text);
           }
 
   rising_start : (o : Option Element) → IfSome o Updatable → IfSome o (λ e. IsRising e.umids)

@@ -22,17 +22,13 @@ use Rattle.smpe_answers.proofs.Effective.{IsSoundInstall, effective, in_effectiv
 use Rattle.smpe_answers.proofs.EntryAfter.{applied_after, supby_after, supplied_after, bypassed_of, waived_after, made}
 use Rattle.smpe_answers.proofs.EntryAfter.{waives}
 use Rattle.smpe_answers.proofs.JoinedIds.{joined, joined_rises, in_joined}
-
-an_entry : Id → Option Applied → List Id → Option Id → List Id → Entry
-an_entry x applied supby delby waived =
-    record { id = x; applied = applied; supby = supby; delby = delby; waived = waived }
+use Rattle.terms.proofs.SameZones.{an_entry}
 
 -- what nothing holds is bare
 bare : (x : Id) (applied : Option Applied) (supby : List Id) (delby : Option Id) (waived : List Id)
     → has_content (an_entry x applied supby delby waived) ≡ false
     → IsTrue (waives_applied (an_entry x applied supby delby waived))
     → an_entry x applied supby delby waived ≡ bare_entry x
-unfolding an_entry
 bare x None [] None [] unheld waives = refl
 bare x None [] None (w ∷ ws) unheld waives = absurd (true≢false (sym waives))
 bare x None [] (Some k) waived unheld waives = absurd (true≢false unheld)
@@ -76,7 +72,7 @@ module _ (i : Installation) (sound : IsSoundInstall i) where
   module _ (new : Zone) (entries : (x : Id) → entry_of new x ≡ if_held (made i sound x)) where
     read : {X : Type 0} (field : Option Entry → X) (x : Id) → field None ≡ field (Some (bare_entry x))
         → field (entry_of new x) ≡ field (Some (made i sound x))
-    unfolding made an_entry
+    unfolding made
     read field x none = ap field (entries x) ∙ by (has_content (made i sound x)) refl
       where
         by : (b : Bool) → has_content (made i sound x) ≡ b

@@ -5,11 +5,11 @@ use Rattle.std.specs.List.{flat_map}
 use Rattle.terms.specs.declared.codes.NeedKind.{NeedKind}
 use Rattle.terms.specs.declared.codes.Test.{Test}
 use Rattle.terms.specs.Types.{Id}
-use Rattle.zones_views.proofs.Flats.{same_truth}
 use Rattle.machine.specs.Outcome.{Failure, OpenNeed}
 use Rattle.terms.specs.Failures.{all_tests, all_needs}
 use Rattle.machine.specs.Installing.{IsFailure}
 use Rattle.smpe_answers.proofs.Decided.{members_only}
+use Rattle.lemmas.proofs.Booleans.{same_truth}
 
 -- the needs by kind
 abbrev pub needs_of : (NeedKind → List Id) → List OpenNeed

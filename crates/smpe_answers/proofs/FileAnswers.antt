@@ -1,5 +1,5 @@
 -- A file has one list of items at most, or one fault, and never both.
-use Rattle.std.proofs.Common.{◌≡◌, ℕ, true, false, List, [], ◌∷◌, Option, refl, sym, ◌∙◌, ap, ap₂, subst, inl, inr}
+use Rattle.std.proofs.Common.{◌≡◌, ℕ, true, false, List, [], ◌∷◌, Option, refl, sym, ◌∙◌, ap, subst, inl, inr}
 use Rattle.std.proofs.lemmas.Bool.{true≢false}
 use Rattle.terms.specs.declared.codes.McCode.{McCode}
 use Rattle.terms.specs.declared.codes.McCode.TheVariants.{Mc1, Mc2, Mc3, Mc4, Mc5, Mc6}
@@ -22,6 +22,7 @@ use Rattle.terms.proofs.ExactFaults.{ptfin_fault_only}
 use Rattle.terms.proofs.ExactHoldFile.{item_fault_no_good, hold_file_only, hold_file_fault_no_items}
 use Rattle.terms.proofs.ExactCommandFiles.{file_only, file_fault_only, fault_no_file}
 use Rattle.smpe_answers.specs.Answers.{IsReadOnce}
+use Rattle.terms.proofs.ExactFaults.{faults_same}
 
 -- what is at fault behind a known word
 abbrev IsBehind : StatementWord → Option Text → List Piece → Lines → McCode → Type 0
@@ -136,9 +137,6 @@ judged_codes records a b (Behind code f) (Behind code' g) = known_codes records 
 -- The code of a statement's fault is determined.
 item_fault_only : (records : Lines) (a b : McCode) → IsItemFault records a → IsItemFault records b → a ≡ b
 item_fault_only records a b f g = judged_codes records a b (judged records a f) (judged records b g)
-
-faults_same : (f g : McsFault) → f.number ≡ g.number → f.code ≡ g.code → f ≡ g
-faults_same f g n c = ap₂ (λ a b. record { number = a; code = b }) n c
 
 -- what follows at a place is what follows at the same place
 at_place : (n m : ℕ) (records rest : Lines) (fault : McsFault) → n ≡ m → records ≡ rest → IsNextItemFault m rest fault

@@ -16,6 +16,7 @@ use Rattle.terms.specs.Ptfin.{IsNextFault, IsPtfinFault}
 use Rattle.terms.specs.HoldFile.{IsGoodItem, IsItemFault, BeginsWithItems, IsHoldFile, IsNextItemFault, IsHoldFileFault}
 use Rattle.smpe_answers.specs.Answers.{IsRead}
 use Rattle.smpe_answers.proofs.CutUp.{records_read, statement_read, group_taken}
+use Rattle.terms.specs.Ptfin.{IsFileFault}
 
 -- ---- a statement of PTFIN
 
@@ -109,26 +110,36 @@ begins_or_fault (suc k) c n (r ∷ rs) short starts none =
           ])
     ])
 
--- PTFIN is of items or has a fault.
-pub ptfin_read : (bytes : List ℕ) → ¬ ¬ IsRead (IsPtfin bytes) (IsPtfinFault bytes)
-ptfin_read bytes none = elim (records_read bytes) [
+-- A file is read, or its records are at fault, or its first record begins no statement.
+file_read : {I : Type 0} (bytes : List ℕ) (Good : List I → Type 0) (Fault : McsFault → Type 0)
+    → ((fault : McsFault) → IsFileFault bytes fault → Fault fault)
+    → ((records : Lines) → HasRecords bytes records → starts_outside records ≡ false → ¬ ¬ IsRead Good Fault)
+    → ¬ ¬ IsRead Good Fault
+file_read bytes Good Fault at_fault read none = elim (records_read bytes) [
   | inr bad ↦ none (inr (
     record { number = rec_fault_record bad.0; code = Mc1 },
-    inl (inl (refl, bad.0, bad.1, refl)),
+    at_fault (record { number = rec_fault_record bad.0; code = Mc1 }) (inl (refl, bad.0, bad.1, refl)),
   ))
   | inl good ↦ by good.0 good.1 (starts_outside good.0) refl
 ]
   where
     by : (records : Lines) → HasRecords bytes records → (b : Bool) → starts_outside records ≡ b → ⊥
-    by records has true at = none (inr (record { number = 1; code = Mc4 }, inl (inr (refl, refl, records, has, at))))
-    by records has false at =
-        begins_or_fault (length records) nothing 1 records (omega arith) at (λ begins. elim begins [
-          | inl all ↦ none (inl (items_of all.1, (records, all.0, all.1, all.2, has, all.3, refl)))
-          | inr bad ↦ none (inr (
-            bad.4,
-            inr (records, bad.0, bad.1, bad.2, bad.3, has, bad.5, bad.6),
-          ))
-        ])
+    by records has true at = none (inr (
+      record { number = 1; code = Mc4 },
+      at_fault (record { number = 1; code = Mc4 }) (inr (refl, refl, records, has, at)),
+    ))
+    by records has false at = read records has at none
+
+-- PTFIN is of items or has a fault.
+pub ptfin_read : (bytes : List ℕ) → ¬ ¬ IsRead (IsPtfin bytes) (IsPtfinFault bytes)
+ptfin_read bytes = file_read bytes (IsPtfin bytes) (IsPtfinFault bytes) (λ fault bad. inl bad) (λ records has at none.
+    begins_or_fault (length records) nothing 1 records (omega arith) at (λ begins. elim begins [
+      | inl all ↦ none (inl (items_of all.1, (records, all.0, all.1, all.2, has, all.3, refl)))
+      | inr bad ↦ none (inr (
+        bad.4,
+        inr (records, bad.0, bad.1, bad.2, bad.3, has, bad.5, bad.6),
+      ))
+    ]))
 
 -- ---- a hold file
 
@@ -230,18 +241,8 @@ items_or_fault (suc k) n (r ∷ rs) short starts none =
 
 -- A hold file is of items or has a fault.
 pub hold_file_read : (bytes : List ℕ) → ¬ ¬ IsRead (IsHoldFile bytes) (IsHoldFileFault bytes)
-hold_file_read bytes none = elim (records_read bytes) [
-  | inr bad ↦ none (inr (
-    record { number = rec_fault_record bad.0; code = Mc1 },
-    inl (inl (refl, bad.0, bad.1, refl)),
-  ))
-  | inl good ↦ by good.0 good.1 (starts_outside good.0) refl
-]
-  where
-    by : (records : Lines) → HasRecords bytes records → (b : Bool) → starts_outside records ≡ b → ⊥
-    by records has true at = none (inr (record { number = 1; code = Mc4 }, inl (inr (refl, refl, records, has, at))))
-    by records has false at =
-        items_or_fault (length records) 1 records (omega arith) at (λ begins. elim begins [
-          | inl all ↦ none (inl (all.0, (records, all.1, has, all.2)))
-          | inr bad ↦ none (inr (bad.3, inr (records, bad.0, bad.1, bad.2, has, bad.4, bad.5)))
-        ])
+hold_file_read bytes = file_read bytes (IsHoldFile bytes) (IsHoldFileFault bytes) (λ fault bad. inl bad)
+    (λ records has at none. items_or_fault (length records) 1 records (omega arith) at (λ begins. elim begins [
+      | inl all ↦ none (inl (all.0, (records, all.1, has, all.2)))
+      | inr bad ↦ none (inr (bad.3, inr (records, bad.0, bad.1, bad.2, has, bad.4, bad.5)))
+    ]))

@@ -19,7 +19,7 @@ use Rattle.terms.specs.Choice.{Choice}
 use Rattle.terms.specs.Over.{IsOver, owner}
 use Rattle.terms.specs.Texts.{HasForm, IsNumbered}
 use Rattle.terms.proofs.Placing.{Rises_with_item}
-use Rattle.store_schema.specs.Forms.{HasSysmodForms, IsTextOf, TakesUpdates, HasActionForms}
+use Rattle.store_schema.specs.Forms.{HasSysmodForms, TakesUpdates, HasActionForms}
 use Rattle.change.specs.Folding.{replacement, IsMadeBy, IsStep, IsFolded}
 use Rattle.change.proofs.FoldSteps.{fold_more}
 use Rattle.change.proofs.Gathered.{in_with_item}
@@ -27,13 +27,9 @@ use Rattle.smpe_upkeep.proofs.LessForms.{none_listed}
 use Rattle.smpe_upkeep.proofs.OperandForms.{change_forms}
 use Rattle.smpe_answers.proofs.InOver.{Ascend}
 use Rattle.smpe_answers.proofs.Merged.{merged}
+use Rattle.smpe_upkeep.proofs.TextForms.{text_form}
 
 -- ---- texts of MAC and SRC, which alone are updated
-
-pub form_of : (type : ElemType) (text : Lines) → IsTextOf type text → HasForm type text
-form_of Mac text is = is.1
-form_of Src text is = is.1
-form_of _ text is = tt
 
 numbered_of : (type : ElemType) (text : Lines) → TakesUpdates type → HasForm type text → IsNumbered text
 numbered_of Mac text updated form = form
@@ -60,7 +56,7 @@ module _ (g : Global) (sysmods : All HasSysmodForms g.sysmods) (c : Choice) (typ
   made_by x kind (Replaces distlib syslib lines) forms old fit = (
     Some (replacement (owner g c x) x type name distlib syslib lines),
     refl,
-    record { key = refl; umids = none_listed.rising; text = form_of type lines forms.2 },
+    record { key = refl; umids = none_listed.rising; text = text_form type lines forms.2 },
   )
   made_by x kind (Updates update) forms None fit = (None, refl, tt)
   made_by x kind (Updates update) forms (Some old) fit =

@@ -10,7 +10,7 @@ use Rattle.terms.specs.Choice.{Choice}
 use Rattle.terms.specs.Over.{IsOver, names}
 use Rattle.terms.proofs.Ids.{in_or_not}
 use Rattle.terms.proofs.Leads.{reaches_through}
-use Rattle.smpe_answers.proofs.RunsAnswered.{all_from_each}
+use Rattle.lemmas.proofs.Each.{All_from_each}
 
 module _ (c : Choice) where
   -- each later id is over each earlier one
@@ -44,7 +44,7 @@ module _ (c : Choice) where
         x ∷ y ∷ ys,
         record {
           ascend = AllPairs-cons (λ v w. IsOver c w v) x (y ∷ ys)
-              (all_from_each (λ w. IsOver c w x) (y ∷ ys) (λ w is. elim (here_or y ys w is) [
+              (All_from_each (λ w. IsOver c w x) (y ∷ ys) (λ w is. elim (here_or y ys w is) [
                 | inl same ↦ subst (λ v. IsOver c v x) same under
                 | inr later ↦ reaches_through (names c) w y x (above w later) under
               ]))
@@ -56,7 +56,7 @@ module _ (c : Choice) where
         y ∷ rest.0,
         record {
           ascend = AllPairs-cons (λ v w. IsOver c w v) y rest.0
-              (all_from_each (λ w. IsOver c w y) rest.0 (λ w is. elim (here_or x ys w ((rest.1.members w).0 is)) [
+              (All_from_each (λ w. IsOver c w y) rest.0 (λ w is. elim (here_or x ys w ((rest.1.members w).0 is)) [
                 | inl same ↦ subst (λ v. IsOver c v y) same over
                 | inr later ↦ above w later
               ]))

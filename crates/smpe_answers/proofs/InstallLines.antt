@@ -1,10 +1,9 @@
 -- The lines of APPLY and ACCEPT are determined, and so is all that these come to.
-use Rattle.std.proofs.Common.{◌≡◌, ◌∙◌, List, [], ◌∷◌, Option, None, Some, Contains, IsTrue, map, refl, sym}
+use Rattle.std.proofs.Common.{◌≡◌, ◌∙◌, List, Option, None, Some, Contains, IsTrue, map, refl, sym}
 use Rattle.std.proofs.Common.{ap, subst}
 use Rattle.std.specs.Prelude.{◌||◌, ◌++◌, not}
 use Rattle.std.proofs.lemmas.Bool.{or_right}
 use Rattle.std.proofs.lemmas.Option.{same_Some}
-use Rattle.lemmas.proofs.Members.{here, there}
 use Rattle.terms.specs.declared.not_chosen.NotChosen.{NotChosen}
 use Rattle.terms.specs.Types.{Text, Id, Global, Zone, Bypass, Selection}
 use Rattle.terms.specs.Lookups.{is_in}
@@ -13,7 +12,7 @@ use Rattle.terms.specs.Candidates.{is_open, not_chosen}
 use Rattle.terms.specs.Tests.{Setting, Fails, IsEligible}
 use Rattle.terms.specs.Needs.{Needs, Serves}
 use Rattle.terms.specs.Install.{Installation, TakesEffect}
-use Rattle.terms.proofs.ExactOperands.{rising_only}
+use Rattle.terms.proofs.RisingAlike.{rises_only}
 use Rattle.machine.specs.Outcome.{Status, Failed, Line, StatusLine}
 use Rattle.machine.specs.Receiving.{place_of}
 use Rattle.machine.specs.Installing.{Decision, IsDecision, HasStatus, IsInstalled, IsSuperseded, IsFailed, IsNotChosen}
@@ -24,13 +23,8 @@ use Rattle.smpe_answers.proofs.Decided.{with_bypassed, decision_only}
 use Rattle.smpe_answers.proofs.FailureAnswers.{failure_only}
 use Rattle.smpe_answers.proofs.Installed.{zone_only}
 use Rattle.smpe_answers.proofs.SamePairs.{effect_with}
-
--- Two functions that agree on the items of a list make the same list of it.
-pub map_alike : {X Y : Type 0} (f h : X → Y) (xs : List X) → ((x : X) → Contains xs x → f x ≡ h x) → map f xs ≡ map h xs
-map_alike f h [] same = refl
-map_alike f h (x ∷ xs) same =
-    ap (λ y. y ∷ map f xs) (same x (here x xs))
-    ∙ ap (λ ys. h x ∷ ys) (map_alike f h xs (λ z later. same z (there x xs z later)))
+use Rattle.lemmas.proofs.Lists.{map_alike}
+use Rattle.std.proofs.lemmas.Cmp.{nat_list_cmp_total}
 
 -- no reason is printed of what is open
 open_unnamed : (g : Global) (zone : Zone) (sel : Selection) (x : Id) → IsTrue (is_open g zone sel x)
@@ -87,7 +81,7 @@ module _ (d : Decision) (sel : Selection) (is : IsSound d sel) where
 
   lines_only : (lines more : List Line) → AreInstallLines d sel lines → AreInstallLines d sel more → lines ≡ more
   lines_only lines more are are' =
-      let ids = rising_only are.ids are'.ids are.rising are'.rising
+      let ids = rises_only nat_list_cmp_total (λ x. x) are.ids are'.ids are.rising are'.rising
       (λ x is. are'.all x (are.status x) (are.each x is)) (λ x is. are.all x (are'.status x) (are'.each x is)) in
       are.lines_are
       ∙ map_alike _ (λ x. StatusLine x (place_of d.setting.global x) (are'.status x)) are.ids

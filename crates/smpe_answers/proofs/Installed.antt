@@ -1,11 +1,10 @@
 -- The zone that an install leaves is determined.
-use Rattle.std.proofs.Common.{◌≡◌, ◌∙◌, Bool, true, false, not, Option, None, Some, Contains, IsTrue, refl}
+use Rattle.std.proofs.Common.{◌≡◌, ◌∙◌, Bool, true, false, not, Option, Some, Contains, IsTrue, refl}
 use Rattle.std.proofs.Common.{sym, ap, subst, is_some}
 use Rattle.std.specs.Prelude.{◌↔◌, ◌||◌, ◌+◌, IsFalse}
-use Rattle.std.specs.Option.{option_map_or, option_and_then}
 use Rattle.terms.specs.declared.kinds.ElemType.{ElemType}
-use Rattle.terms.specs.Types.{Text, Id, Entry, Global, Zone, Bypass, Selection}
-use Rattle.terms.specs.Lookups.{is_nil, has_change, entry_of, element_of, is_applied, is_supplied, applied_of, supby_of}
+use Rattle.terms.specs.Types.{Text, Id, Global, Zone, Bypass, Selection}
+use Rattle.terms.specs.Lookups.{is_nil, has_change, element_of, is_applied, is_supplied, applied_of, supby_of}
 use Rattle.terms.specs.Lookups.{waived_of}
 use Rattle.terms.specs.Over.{IsOver}
 use Rattle.terms.specs.Choice.{place, counting}
@@ -22,15 +21,7 @@ use Rattle.smpe_answers.proofs.Decided.{members_only, decision_only}
 use Rattle.smpe_answers.proofs.StableSame.{stable_option, stable_texts, stable_applied, stable_element}
 use Rattle.smpe_answers.proofs.InstalledElements.{element_after_only}
 use Rattle.smpe_answers.proofs.SamePairs.{installed_with}
-
--- what is applied has a date
-applied_by_date : (zone : Zone) (x : Id) → is_applied zone x ≡ is_some (applied_of zone x)
-applied_by_date zone x = by (entry_of zone x)
-  where
-    by : (o : Option Entry)
-        → option_map_or (λ e. is_some e.applied) o false ≡ is_some (option_and_then (λ e. e.applied) o)
-    by None = refl
-    by (Some e) = refl
+use Rattle.terms.proofs.Applied.{is_applied_dated}
 
 module _ (i : Installation) (no_loop : (x : Id) → ¬ IsOver i.choice x x) (ordered : AreOrdered i)
     (a b : Zone) (to_a : HasInstalled i a) (to_b : HasInstalled i b) where
@@ -46,7 +37,7 @@ module _ (i : Installation) (no_loop : (x : Id) → ¬ IsOver i.choice x x) (ord
   supplied_only : (x : Id) → is_supplied a x ≡ is_supplied b x
   supplied_only x =
       ap (λ t. t || not (is_nil (supby_of a x)))
-      (applied_by_date a x ∙ ap is_some (applied_only x) ∙ sym (applied_by_date b x))
+      (is_applied_dated a x ∙ ap is_some (applied_only x) ∙ sym (is_applied_dated b x))
       ∙ ap (λ ids. is_applied b x || not (is_nil ids)) (supby_only x)
 
   waived_only : (x : Id) → waived_of a x ≡ waived_of b x

@@ -10,8 +10,7 @@ use Rattle.lemmas.proofs.Members.{none_in, in_map}
 use Rattle.lemmas.proofs.Searches.{find_gives}
 use Rattle.lemmas.proofs.Texts.{same_or_not, same_from}
 use Rattle.terms.specs.Types.{Text, Id, Sysmod, Global, Item, ASysmod, AnAssign, HoldItem, AHold, ARelease}
-use Rattle.terms.specs.Lookups.{sysmod_of, is_received, is_nil}
-use Rattle.terms.specs.Choice.{vers_of}
+use Rattle.terms.specs.Lookups.{sysmod_of, is_received}
 use Rattle.terms.specs.Over.{Leads, Reaches}
 use Rattle.terms.specs.Global.{named, names_for, HasLoop, fits_roles, RolesFit, hold, release, assign}
 use Rattle.terms.specs.Global.{with_sysmod, ReceiveFault, Rc1, Rc2, Rc3, Rc4, HasFault, received, Receives}
@@ -24,7 +23,7 @@ use Rattle.machine.specs.Receiving.{AssignsId, TakesItem, TakesHoldItem}
 use Rattle.smpe_answers.specs.Answers.{IsAnswered}
 use Rattle.smpe_answers.proofs.RunsAnswered.{every_answered, Decided, decided_true, decided_le, decided_some}
 use Rattle.smpe_answers.proofs.RunsAnswered.{decided_all}
-use Rattle.smpe_answers.proofs.RunsAnswered.{all_from_each}
+use Rattle.lemmas.proofs.Each.{All_from_each}
 
 -- ---- loops
 
@@ -38,19 +37,6 @@ naming_received g srel x y = by (sysmod_of g x) refl
         → Contains (map (λ s. s.id) g.sysmods) x
     by None at is = absurd (none_in y is)
     by (Some s) at is =
-        let gives = find_gives (λ s. bytes_eq s.id x) g.sysmods s at in
-        subst (Contains (map (λ s. s.id) g.sysmods)) (same_from s.id x gives.0) (in_map (λ s. s.id) g.sysmods s gives.1)
-
--- and so is what has a ++VER
-pub vers_received : (g : Global) (srel : Text) (x : Id) → IsTrue (not (is_nil (vers_of g srel x)))
-    → Contains (map (λ s. s.id) g.sysmods) x
-vers_received g srel x = by (sysmod_of g x) refl
-  where
-    by : (o : Option Sysmod) → sysmod_of g x ≡ o
-        → IsTrue (not (is_nil (option_map_or (λ s. filter (λ v. bytes_eq v.srel srel) s.vers) o [])))
-        → Contains (map (λ s. s.id) g.sysmods) x
-    by None at some = absurd (cc some)
-    by (Some s) at some =
         let gives = find_gives (λ s. bytes_eq s.id x) g.sysmods s at in
         subst (Contains (map (λ s. s.id) g.sysmods)) (same_from s.id x gives.0) (in_map (λ s. s.id) g.sysmods s gives.1)
 
@@ -121,7 +107,7 @@ module _ (g : Global) (s : Sysmod) (no_loop : ¬ HasLoop g) (new : is_received g
   loop_or_not : Decided (HasLoop (with_sysmod g s))
   loop_or_not = elim (decided_some (λ v. LeadsBack g s v.srel) (λ v. leads_back_or_not v.srel) s.vers) [
     | inl found ↦ inl (found.0.srel, s.id, found.2)
-    | inr none ↦ inr (no_loop_from_search g s no_loop (all_from_each (λ v. ¬ LeadsBack g s v.srel) s.vers none))
+    | inr none ↦ inr (no_loop_from_search g s no_loop (All_from_each (λ v. ¬ LeadsBack g s v.srel) s.vers none))
   ]
 
 -- ---- the answer

@@ -1,16 +1,15 @@
 -- REPORT ERRSYSMODS has an answer: what resolves a reason can be decided, and stands among what is received.
 use Rattle.std.proofs.Common.{◌≡◌, inl, inr, Bool, true, false, not, List, map, filter, Contains, IsTrue, refl}
-use Rattle.std.proofs.Common.{◌++◌, []}
+use Rattle.std.proofs.Common.{[]}
 use Rattle.std.specs.Prelude.{◌↔◌}
 use Rattle.std.specs.List.{flat_map}
 use Rattle.std.proofs.lemmas.List.Kept.{AllPairs-filter}
-use Rattle.std.proofs.lemmas.List.Elements.{Contains-append_left, Contains-append_right}
 use Rattle.lemmas.proofs.Members.{in_filter, filter_in}
 use Rattle.lemmas.proofs.Pairs.{pairs_map}
 use Rattle.lemmas.proofs.Texts.{same_or_not}
 use Rattle.terms.specs.Types.{Id, Sysmod, Entry, Hold, Global, Zone}
-use Rattle.terms.specs.Lookups.{IsRising, is_before, is_nil, at_most_one}
-use Rattle.terms.specs.Choice.{Choice, vers_of, counting, pre_of, sup_of, fmid_of}
+use Rattle.terms.specs.Lookups.{IsRising, is_before, is_nil}
+use Rattle.terms.specs.Choice.{Choice, vers_of, counting, sup_of}
 use Rattle.terms.specs.Over.{names, Supersedes}
 use Rattle.terms.specs.Global.{IsGlobal}
 use Rattle.terms.proofs.Leads.{reaches_more}
@@ -19,7 +18,8 @@ use Rattle.change.proofs.ChosenVers.{AreFor, counting_for, names_received, names
 use Rattle.machine.specs.Outcome.{Line, ErrsysmodLine}
 use Rattle.machine.specs.Errsysmods.{open_errors, is_current, Resolves, AreErrsysmods}
 use Rattle.smpe_answers.proofs.RunsAnswered.{Decided, decided_true}
-use Rattle.smpe_answers.proofs.ReceiveAnswered.{vers_received}
+use Rattle.terms.proofs.GlobalLookups.{ver_received}
+use Rattle.terms.proofs.Loops.{sup_named}
 
 told : {P : Type 0} → Decided P → Bool
 told (inl is) = true
@@ -46,16 +46,12 @@ module _ (g : Global) (zone : Zone) (is_global : IsGlobal g) where
   ids : List Id
   ids = map (λ s. s.id) g.sysmods
 
-  sup_named : (x z : Id) → Contains (sup_of c x) z → Contains (names c x) z
-  sup_named x z is = Contains-append_left (pre_of c x ++ sup_of c x) (at_most_one (fmid_of c x)) z
-      (Contains-append_right (pre_of c x) (sup_of c x) z is)
-
   supersedes_or_not : (x z : Id) → Decided (Supersedes c x z)
   unfolding ids
   supersedes_or_not = reaches_or_not (sup_of c) ids
-      (λ x z is. names_received g zone.srel c are x z (sup_named x z is))
+      (λ x z is. names_received g zone.srel c are x z (sup_named c x z is))
       (λ x loop. names_no_loop g zone.srel c are is_global.no_loop x
-      (reaches_more (sup_of c) (names c) sup_named x x loop))
+      (reaches_more (sup_of c) (names c) (sup_named c) x x loop))
 
   resolves_or_not : (reason y : Id) → Decided (Resolves g zone reason y)
   unfolding c
@@ -84,7 +80,7 @@ module _ (g : Global) (zone : Zone) (is_global : IsGlobal g) where
   unfolding resolvers ids
   resolves_is reason y = (
     λ h. told_so (resolves_or_not reason y) (filter_in (λ y. told (resolves_or_not reason y)) ids y h).1,
-    λ r. in_filter (λ y. told (resolves_or_not reason y)) ids y (vers_received g zone.srel y r.fits)
+    λ r. in_filter (λ y. told (resolves_or_not reason y)) ids y (ver_received g zone.srel y r.fits)
         (so_told (resolves_or_not reason y) r),
   )
 

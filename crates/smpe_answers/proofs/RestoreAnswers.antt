@@ -18,7 +18,7 @@ use Rattle.machine.specs.Receiving.{place_of}
 use Rattle.machine.specs.Restoring.{HasRestoreStatus, IsBack, StaysOn, WasNotOn, RestoresListed}
 use Rattle.smpe_answers.proofs.Decided.{members_only}
 use Rattle.smpe_answers.proofs.FailureAnswers.{failure_only}
-use Rattle.smpe_answers.proofs.InstallLines.{map_alike}
+use Rattle.lemmas.proofs.Lists.{map_alike}
 
 -- the zone that a restore leaves
 module _ (r : Restoring) (kept : List Id) (a b : Zone) (to_a : Restores r kept a) (to_b : Restores r kept b) where

@@ -11,7 +11,7 @@ use Rattle.terms.specs.Restore.{Restoring, Restores}
 use Rattle.terms.proofs.ElementOrder.{element_cmp_total, element_ties}
 use Rattle.zones_views.proofs.Entries.{entries_less_held, entries_less_waive, entries_less_rise}
 use Rattle.undo.specs.Restoring.{all_changed, element_at}
-use Rattle.change.proofs.Grouped.{same_key}
+use Rattle.terms.proofs.ElementOrder.{same_key}
 use Rattle.undo.proofs.Reverted.{key_found, by_some}
 use Rattle.smpe_answers.proofs.Wanted.{with_wanted, with_wanted_rises, found_wanted}
 

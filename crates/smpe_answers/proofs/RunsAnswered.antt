@@ -1,9 +1,9 @@
 -- Runs have an answer where each step has one, and keeps what that takes; and what can be decided of lists.
-use Rattle.std.proofs.Common.{◌⊎◌, inl, inr, Bool, true, false, IsTrue, List, [], ◌∷◌, ◌++◌, All, Contains, get_or}
+use Rattle.std.proofs.Common.{◌⊎◌, inl, inr, Bool, true, false, IsTrue, List, [], ◌∷◌, ◌++◌, All, Contains}
 use Rattle.std.proofs.Common.{ℕ, ◌≤◌, refl, arith}
 use Rattle.std.specs.List.{AllByRecursion}
 use Rattle.std.proofs.lemmas.Bool.{cases_lt}
-use Rattle.std.proofs.lemmas.List.Elements.{All-head, All-tail, All-cons, Contains-get_or}
+use Rattle.std.proofs.lemmas.List.Elements.{All-head, All-tail, All-cons}
 use Rattle.lemmas.proofs.Members.{here, there, here_or, none_in}
 use Rattle.std.proofs.Common.{subst, sym}
 use Rattle.machine.specs.Runs.{Runs}
@@ -66,6 +66,3 @@ decided_all P each (x ∷ xs) = elim (each x) [
   ]
   | inr not ↦ inr (λ all. not (All-head P x xs all))
 ]
-
-pub all_from_each : {X : Type 0} (P : X → Type 0) (xs : List X) → ((x : X) → Contains xs x → P x) → All P xs
-all_from_each P xs each = λ k d below. each (get_or xs k d) (Contains-get_or xs k d below)

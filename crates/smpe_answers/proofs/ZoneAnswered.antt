@@ -16,8 +16,9 @@ use Rattle.terms.specs.Deleted.{deletions, is_deleted, zone_less}
 use Rattle.terms.specs.Install.{Installation, TakesEffect, cleared, HasElementAfter, HasInstalled}
 use Rattle.terms.proofs.ElementOrder.{element_cmp_total, element_ties}
 use Rattle.undo.specs.Restoring.{all_changed}
-use Rattle.change.proofs.Grouped.{same_key}
-use Rattle.undo.proofs.Reverted.{Key, by_some}
+use Rattle.terms.proofs.ElementOrder.{same_key}
+use Rattle.sorted.specs.ElementKeys.{Key}
+use Rattle.undo.proofs.Reverted.{by_some}
 use Rattle.smpe_answers.proofs.Effective.{IsSoundInstall, effective, in_effective}
 use Rattle.smpe_answers.proofs.ElementAnswered.{element_answered}
 use Rattle.smpe_answers.proofs.EntriesAnswered as after

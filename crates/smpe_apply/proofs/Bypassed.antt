@@ -5,9 +5,8 @@ use Rattle.terms.specs.Types.{Id}
 use Rattle.terms.specs.Lookups.{is_in}
 use Rattle.terms.specs.Tests.{Setting}
 use Rattle.terms.specs.Needs.{bypassed_ids}
-use Rattle.lemmas.proofs.Members.{filter_in, in_filter}
-use Rattle.terms.proofs.Ids.{is_in_from_Contains, Contains_from_is_in}
 use Rattle.machine.specs.Outcome.{Failure}
+use Rattle.change.proofs.TakingEffect.{of_these}
 use Rattle.smpe_apply.specs.Decided.{IsDecided}
 
 module _ (s : Setting) (kept : List Id) (failed : List (Id × Failure)) (decided : IsDecided s kept failed) where
@@ -19,12 +18,8 @@ module _ (s : Setting) (kept : List Id) (failed : List (Id × Failure)) (decided
       → ((x z : Id) → Contains pairs (x, z) ↔ (Contains s.cands x × Contains (bypassed_ids s x) z))
       → (found : List (Id × Id)) → found ≡ filter (λ p. is_in kept p.0) pairs
       → (x z : Id) → Contains found (x, z) ↔ (Contains kept x × Contains (bypassed_ids s x) z)
-  bypassed_kept pairs all found is x z = (
-    λ h.
-        let m = filter_in (λ (p : Id × Id). is_in kept p.0) pairs (x, z)
-        (subst (λ ps. Contains {X = Id × Id} ps (x, z)) is h) in
-        (Contains_from_is_in kept x m.1, ((all x z).0 m.0).1),
-    λ h. subst (λ ps. Contains {X = Id × Id} ps (x, z)) (sym is)
-        (in_filter (λ (p : Id × Id). is_in kept p.0) pairs (x, z) ((all x z).1 (kept_cand x h.0, h.1))
-        (is_in_from_Contains kept x h.0)),
-  )
+  bypassed_kept pairs all found is x z =
+      let of = of_these kept pairs x z in (
+        λ h. let m = of.0 (subst (λ ps. Contains {X = Id × Id} ps (x, z)) is h) in (m.0, ((all x z).0 m.1).1),
+        λ h. subst (λ ps. Contains {X = Id × Id} ps (x, z)) (sym is) (of.1 (h.0, (all x z).1 (kept_cand x h.0, h.1))),
+      )

@@ -6,18 +6,18 @@ ghost use Rattle.zones.specs.Delta.{IsChanged};
 ghost use Rattle.machine.specs.Installing.{InstallsSelected};
 ghost use Rattle.report.specs.Views.{line_view};
 
-use crate::decided::{Decided, decide};
+use crate::decided::{Deciding, decide_by};
 use crate::lines::lines;
 use crate::statuses::statuses;
-use change::{install, taking_effect};
+use change::{Installed, Installing, install};
 use cntl::{Bypass, Selection};
-use fields::YyDdd;
+use fields::{Attest, YyDdd};
 use report::Line;
 use select::{candidates, not_chosen};
 use std::alloc::{AllocError, Global};
 use sysmods::GlobalZone;
 use zones::{Zone, ZoneDelta};
-use zones_views::choose;
+use zones_views::{Scope, choose};
 
 /// What an APPLY or ACCEPT changes, and its lines by id.
 #[derive(Drop)]
@@ -28,6 +28,7 @@ pub struct Applied {
 
 /// Installs what is selected into the zone, less what BYPASS leaves out of account: APPLY in a target zone, ACCEPT in a
 /// distribution zone, which looks at the related target zone. Whether the command checks alone is its caller's matter.
+/// The error comes where memory runs out.
 pub fn apply(
     alloc: Global,
     global: &GlobalZone,
@@ -43,17 +44,31 @@ pub fn apply(
     ensures dated { IsDottedDate date }
 {
     prove!(date.as_bytes().len() == 6);
-    prove!(global.len() < 65_536);
+    global.attest();
     zone.attest();
     let ids = candidates(alloc, global, zone, selection)?;
-    let Decided {
+    let vers = choose(alloc, global, zone, &ids)?;
+    let scope = Scope {
+        vers: &vers,
+        zone,
+        ids: &ids,
+        bypass,
+    };
+    let Deciding {
         kept,
         failed,
         bypassed,
-    } = decide(alloc, global, zone, related, &ids, bypass)?;
-    let vers = choose(alloc, global, zone, &ids)?;
-    let effective = taking_effect(alloc, &vers, &kept)?;
-    let delta = install(alloc, &vers, zone, &kept, bypassed.as_slice(), date)?;
+        superseded,
+        overs,
+    } = decide_by(alloc, &scope, related)?;
+    let installing = Installing {
+        zone,
+        kept: &kept,
+        superseded: superseded.as_slice(),
+        bypassed: bypassed.as_slice(),
+        date,
+    };
+    let Installed { delta, effective } = install(alloc, &installing, overs)?;
     let left_out = not_chosen(alloc, global, zone, selection)?;
     let found = statuses(
         alloc,

@@ -1,20 +1,23 @@
 //! The kept candidates and the failures of the others.
-ghost use Rattle.std.specs.Prelude.{◌≡◌, ◌↔◌, All, Contains, IsTrue, IfOk, map, filter, option_copied};
+ghost use Rattle.std.specs.Prelude.{◌≡◌, ◌↔◌, All, Contains, IsTrue, IfOk, map, option_copied};
 ghost use Rattle.terms.specs.Types.{Id as AnId};
-ghost use Rattle.terms.specs.Lookups.{is_in};
 ghost use Rattle.terms.specs.Candidates.{is_installable};
 ghost use Rattle.terms.specs.Needs.{bypassed_ids};
 ghost use Rattle.terms.specs.Judged.{setting};
+ghost use Rattle.terms.specs.Over.{Supersedes};
+ghost use Rattle.zones_views.specs.Scopes.{choice_of, global_of, setting_with};
 ghost use Rattle.smpe_apply.specs.Decided.{IsDecided};
 ghost use Rattle.decide.specs.Views.{why_failed};
 
+use change::pairs_of;
 use cntl::Bypass;
 use decide::Failure;
 use fields::{Id, IdList};
 use judge::{Judged, judge_install};
 use std::alloc::{AllocError, Global};
-use sysmods::GlobalZone;
+use sysmods::{GlobalZone, Overs};
 use zones::Zone;
+use zones_views::{Scope, choose};
 
 /// The kept candidates, each other one with the reason, in their order, and the bypassed requisites of the kept ones.
 #[derive(Drop)]
@@ -24,19 +27,19 @@ pub struct Decided {
     pub bypassed: Vec<(Id, Id)>,
 }
 
-// The pairs whose first id is kept.
-fn of_kept(alloc: Global, kept: &IdList, pairs: &[(Id, Id)]) -> Result<Vec<(Id, Id)>, AllocError>
-    ensures { IfOk result (λ found. found.items ≡ filter (λ p. is_in kept.now p.0) pairs.now) }
-{
-    pairs
-        .iter()
-        .filter(|pair| kept.contains(pair.0))
-        .copied()
-        .collect(alloc)
+/// What is decided, and what an install asks besides: each candidate with each id that it supersedes, and what was
+/// found of who is over whom.
+#[derive(Drop)]
+pub(crate) struct Deciding<'a, 'b> {
+    pub(crate) kept: IdList,
+    pub(crate) failed: Vec<(Id, Failure)>,
+    pub(crate) bypassed: Vec<(Id, Id)>,
+    pub(crate) superseded: Vec<(Id, Id)>,
+    pub(crate) overs: Overs<'a, 'b>,
 }
 
 /// Decides which candidates of an APPLY or ACCEPT in this zone are kept, for ACCEPT with the related target zone: those
-/// of the greatest self-supporting set.
+/// of the greatest self-supporting set. The error comes where memory runs out.
 pub fn decide(
     alloc: Global,
     global: &GlobalZone,
@@ -53,17 +56,56 @@ pub fn decide(
         ↔ (Contains d.kept x × Contains (bypassed_ids
         (setting global.now zone.now (option_copied related.entry) ids.now bypass.now) x) z)) }
 {
+    let vers = choose(alloc, global, zone, ids)?;
+    let scope = Scope {
+        vers: &vers,
+        zone,
+        ids,
+        bypass,
+    };
+    let deciding = decide_by(alloc, &scope, related)?;
+    Ok(Decided {
+        kept: deciding.kept,
+        failed: deciding.failed,
+        bypassed: deciding.bypassed,
+    })
+}
+
+/// The same by the `++VER`s of the scope.
+pub(crate) fn decide_by<'a, 'b>(
+    alloc: Global,
+    scope: &Scope<'a, 'b>,
+    related: Option<&Zone>,
+) -> Result<Deciding<'a, 'b>, AllocError>
+    requires { All (λ x. IsTrue (is_installable (global_of scope.now) scope.now.zone.now x)) scope.now.ids.now }
+    ensures decided { IfOk result (λ d. IsDecided (setting_with scope.now (option_copied related.entry)) d.kept
+        (map why_failed d.failed.items)) }
+    ensures bypassed { IfOk result (λ d. (x z : AnId) → Contains {X = AnId × AnId} d.bypassed.items (x, z)
+        ↔ (Contains d.kept x × Contains (bypassed_ids (setting_with scope.now (option_copied related.entry)) x) z)) }
+    ensures superseded { IfOk result (λ d. (x z : AnId) → Contains {X = AnId × AnId} d.superseded.items (x, z)
+        ↔ (Contains scope.now.ids.now x × Supersedes (choice_of scope.now) x z)) }
+    ensures overs { IfOk result (λ d. d.overs ≡ scope.now.vers.now) }
+{
     let Judged {
         tests,
         wants,
         superseded,
         bypassed,
-    } = judge_install(alloc, global, zone, related, ids, bypass)?;
-    let decided = decide::decide(alloc, ids, tests, wants.as_slice(), superseded.as_slice())?;
-    let bypassed = of_kept(alloc, &decided.kept, bypassed.as_slice())?;
-    Ok(Decided {
+        overs,
+    } = judge_install(alloc, scope, related)?;
+    let decided = decide::decide(
+        alloc,
+        scope.ids,
+        tests,
+        wants.as_slice(),
+        superseded.as_slice(),
+    )?;
+    let bypassed = pairs_of(alloc, &decided.kept, bypassed.as_slice())?;
+    Ok(Deciding {
         kept: decided.kept,
         failed: decided.failed,
         bypassed,
+        superseded,
+        overs,
     })
 }

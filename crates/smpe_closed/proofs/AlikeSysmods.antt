@@ -17,7 +17,7 @@ use Rattle.terms.specs.Over.{chain_from}
 use Rattle.terms.specs.Changes.{is_replacement}
 use Rattle.terms.specs.Needs.{binding_ids}
 use Rattle.terms.specs.Closed.{IsSupported, IsAtPeace, IsOwned, IsClosedZone}
-use Rattle.smpe_closed.proofs.AppliedIds.{in_applied_ids}
+use Rattle.terms.proofs.Applied.{in_applied_ids}
 
 abbrev pub but_sources : Sysmod → Sysmod
 but_sources s = record s { sources = [] }

@@ -22,9 +22,9 @@ use Rattle.terms.proofs.Ids.{Contains_from_is_in}
 use Rattle.change.proofs.ChosenVers.{names_received, names_no_loop}
 use Rattle.change.proofs.FmidChains.{chain_of}
 use Rattle.change.proofs.KeptTogether.{kept_fmid}
-use Rattle.smpe_closed.proofs.AppliedIds.{in_applied_ids}
 use Rattle.smpe_closed.proofs.Supplied.{fewer_applied, fewer_supplied, fewer_element}
 use Rattle.smpe_closed.proofs.Given.{Keeps, kept_survives, unapplied}
+use Rattle.terms.proofs.Applied.{in_applied_ids}
 
 -- What an FMID has whenever what names it has it, the chain has.
 pub chain_has : (c : Choice) (P : Id → Type 0) → ((x f : Id) → P x → fmid_of c x ≡ Some f → P f) → (n : ℕ) (x y : Id)

@@ -14,9 +14,10 @@ use Rattle.terms.proofs.Ids.{in_or_not}
 use Rattle.terms.proofs.Leads.{reaches_through}
 use Rattle.terms.proofs.Walks.{reaches_or_not}
 use Rattle.change.proofs.ChosenVers.{names_received, never_itself, fmid_function, function_first}
-use Rattle.smpe_closed.proofs.Supplied.{applied_dated, supplied_or, supplied_applied, supplied_by}
+use Rattle.smpe_closed.proofs.Supplied.{supplied_or, supplied_applied, supplied_by}
 use Rattle.smpe_closed.proofs.Given.{Keeps, installing, kept_candidate, candidate_ver}
 use Rattle.smpe_closed.proofs.AlikeSysmods.{chosen_received}
+use Rattle.terms.proofs.Applied.{is_applied_dated}
 
 module _ {X : Type 0} (Over : X → X → Type 0) (over_or_not : (x y : X) → Over x y ⊎ (¬ Over x y))
     (through : (x y z : X) → Over x y → Over y z → Over x z) (never_itself : (x : X) → ¬ Over x x) where
@@ -128,12 +129,12 @@ module _ (s : Setting) (survivors kept : List Id) (k : Keeps s survivors kept) w
 
     module _ (new : Zone) (installed : HasInstalled i new) where
       pub effect_applied : (x : Id) → TakesEffect i x → is_applied new x ≡ true
-      effect_applied x effect = applied_dated new x ∙ ap is_some (installed.applied x effect)
+      effect_applied x effect = is_applied_dated new x ∙ ap is_some (installed.applied x effect)
 
       -- other ids are applied as they are without what is deleted
       pub other_applied : (x : Id) → (¬ TakesEffect i x) → is_applied new x ≡ is_applied (cleared i) x
-      other_applied x out = applied_dated new x ∙ ap is_some (installed.not_applied x out)
-          ∙ sym (applied_dated (cleared i) x)
+      other_applied x out = is_applied_dated new x ∙ ap is_some (installed.not_applied x out)
+          ∙ sym (is_applied_dated (cleared i) x)
 
       -- What is applied takes effect, or was applied and is not deleted.
       pub applied_either : (x : Id) → is_applied new x ≡ true → TakesEffect i x ⊎ (is_applied (cleared i) x ≡ true)

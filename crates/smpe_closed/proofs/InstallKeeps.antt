@@ -1,15 +1,13 @@
 -- APPLY and ACCEPT keep a closed zone.
 use Rattle.std.proofs.Common.{List, [], Option, All}
-use Rattle.terms.specs.declared.kinds.ElemType.{ElemType}
-use Rattle.terms.specs.declared.kinds.ElemType.TheVariants.{Mac, Src, Clist, Data, Exec, Parm, Proc}
-use Rattle.terms.specs.Types.{Text, Lines, Global, Zone, Selection, Bypass}
+use Rattle.terms.specs.Types.{Text, Global, Zone, Selection, Bypass}
 use Rattle.terms.specs.Lookups.{IsZone}
 use Rattle.terms.specs.Choice.{counting}
 use Rattle.terms.specs.Texts.{HasForm}
 use Rattle.terms.specs.Forms.{IsDottedDate}
 use Rattle.terms.specs.Install.{HasInstalled}
 use Rattle.terms.specs.Closed.{IsClosedZone}
-use Rattle.store_schema.specs.Forms.{IsTextOf, HasSysmodForms, HasZoneForms}
+use Rattle.store_schema.specs.Forms.{HasSysmodForms, HasZoneForms}
 use Rattle.store_schema.specs.Inventory.{Inventory, IsInventory}
 use Rattle.machine.specs.Outcome.{Line}
 use Rattle.machine.specs.Installing.{Decision, IsDecision, InstallsSelected}
@@ -21,16 +19,7 @@ use Rattle.smpe_closed.proofs.Installs.{IsInstall}
 use Rattle.smpe_closed.proofs.Supported.{installed_supported}
 use Rattle.smpe_closed.proofs.Peaceful.{install_keeps_peace, install_keeps_supby}
 use Rattle.smpe_closed.proofs.Owned.{install_keeps_owned}
-
--- a text of its type has the form of the type
-text_form : (type : ElemType) (text : Lines) → IsTextOf type text → HasForm type text
-text_form Mac text is = is.1
-text_form Src text is = is.1
-text_form Clist text is = tt
-text_form Data text is = tt
-text_form Exec text is = tt
-text_form Parm text is = tt
-text_form Proc text is = tt
+use Rattle.smpe_upkeep.proofs.TextForms.{text_form}
 
 -- The texts of the new zone have their forms, as those of the old one and of received SYSMODs have.
 installed_texts : (g : Global) (zone : Zone) (related : Option Zone) (sel : Selection) (bypass : Bypass) (date : Text)

@@ -11,19 +11,7 @@ use Rattle.terms.specs.Deleted.{deletions, is_taken_out, entries_less, zone_less
 use Rattle.terms.specs.Install.{Installation, TakesEffect, applied_with, cleared, HasInstalled}
 use Rattle.smpe_upkeep.proofs.Stable.{by_either, stable_number}
 use Rattle.smpe_closed.proofs.TakenOff.{dated_left}
-
--- what is applied has a date and a number
-pub dated : (zone : Zone) (x : Id) → is_applied zone x ≡ true → (a : Applied) × (applied_of zone x ≡ Some a)
-dated zone x on = by (entry_of zone x) on
-  where
-    shown : (o : Option Applied) → is_some o ≡ true → (a : Applied) × (o ≡ Some a)
-    shown None some = absurd (cc some)
-    shown (Some a) some = (a, refl)
-
-    by : (o : Option Entry) → option_map_or (λ e. is_some e.applied) o false ≡ true
-        → (a : Applied) × (option_and_then (λ e. e.applied) o ≡ Some a)
-    by None some = absurd (cc some)
-    by (Some e) some = shown e.applied some
+use Rattle.terms.proofs.Applied.{applied_dated}
 
 -- and what is not has none
 pub undated : (zone : Zone) (x : Id) → is_applied zone x ≡ false → applied_of zone x ≡ None
@@ -57,7 +45,7 @@ counts_alike g a b cands others x m n srel of_a of_b same =
 pub counts_whatever : (g : Global) (zone : Zone) (cands others : List Id) (x : Id) → is_applied zone x ≡ true
     → counting g zone cands x ≡ counting g zone others x
 counts_whatever g zone cands others x on =
-    let has = dated zone x on in
+    let has = applied_dated zone x on in
     counts_alike g zone zone cands others x has.0 has.0 refl has.1 has.1 refl
 
 -- What is not taken out counts as before.
@@ -65,7 +53,7 @@ pub counts_left : (g : Global) (is_gone : Id → Bool) (zone new : Zone) (cands 
     → new.entries ≡ entries_less is_gone zone.entries → new.srel ≡ zone.srel → is_applied new x ≡ true
     → counting g new cands x ≡ counting g zone others x
 counts_left g is_gone zone new cands others x is entries srel on =
-    let has = dated new x on in
+    let has = applied_dated new x on in
     counts_alike g new zone cands others x has.0 has.0 srel has.1 (dated_left is_gone zone new is entries x has.0 has.1)
     refl
 
@@ -91,7 +79,7 @@ module _ (i : Installation) (cands : List Id) (numbers : (x : Id) → i.number x
   pub install_keeps_choice : (later : List Id) (x : Id) → is_applied new x ≡ true
       → counting i.global new later x ≡ counting i.global i.zone cands x
   install_keeps_choice later x on =
-      let has = dated new x on in
+      let has = applied_dated new x on in
       ap (slice_get (vers_of i.global new.srel x))
       (kept_place i.global new later x has.0 has.1 ∙ place_after x has.0 has.1)
       ∙ ap (λ t. slice_get (vers_of i.global t x) (place i.global i.zone cands x))

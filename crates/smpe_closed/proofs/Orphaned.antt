@@ -16,9 +16,7 @@ use Rattle.terms.specs.Tests.{Setting}
 use Rattle.terms.specs.Needs.{binding_ids, is_lost, orphans, asked}
 use Rattle.terms.specs.Install.{HasInstalled}
 use Rattle.terms.proofs.Ids.{is_in_from_Contains}
-use Rattle.zones_views.proofs.Flats.{passes_some}
 use Rattle.change.proofs.LessLookups.{deleted_by_one}
-use Rattle.smpe_closed.proofs.AppliedIds.{in_applied_ids}
 use Rattle.smpe_closed.proofs.Supplied.{supplied_or, supplied_applied, supplied_by}
 use Rattle.smpe_closed.proofs.Supplied.{left_applied, applied_left, supby_left, fewer_applied}
 use Rattle.smpe_closed.proofs.Given.{Keeps, installing, kept_survives}
@@ -26,6 +24,8 @@ use Rattle.smpe_closed.proofs.Chains.{was_supported, was_supby}
 use Rattle.smpe_closed.proofs.Binding.{more_bound}
 use Rattle.smpe_closed.proofs.Effect.{supplied_stays}
 use Rattle.smpe_closed.proofs.NeedsMet.{need_supplied}
+use Rattle.terms.proofs.Applied.{in_applied_ids}
+use Rattle.lemmas.proofs.Searches.{passes_some}
 
 module _ (s : Setting) (survivors kept : List Id) (k : Keeps s survivors kept) (bypassed : List (Id × Id)) (date : Text)
     (new : Zone) (installed : HasInstalled (installing s kept bypassed date) new) where

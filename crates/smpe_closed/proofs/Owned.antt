@@ -1,6 +1,6 @@
 -- APPLY and ACCEPT keep the ownership of elements: who owns, replaces and updates one is applied, and has one owner.
 use Rattle.std.proofs.Common.{◌≡◌, ◌⊎◌, ◌∙◌, Bool, true, false, not, List, [], ◌∷◌, Option, Some, None, All, Contains}
-use Rattle.std.proofs.Common.{IsTrue, get_or, inl, inr, refl, sym, ap, subst, true≢false, is_some}
+use Rattle.std.proofs.Common.{IsTrue, get_or, inl, inr, refl, sym, ap, subst, true≢false}
 use Rattle.std.specs.Prelude.{unwrap_or, if◌then◌else◌, ◌&&◌, ◌==◌}
 use Rattle.std.specs.Option.{option_map_or}
 use Rattle.std.specs.Str.{bytes_eq}
@@ -12,9 +12,9 @@ use Rattle.lemmas.proofs.Searches.{All_find}
 use Rattle.lemmas.proofs.Texts.{same_or_not, same_from}
 use Rattle.terms.specs.declared.kinds.ElemType.{ElemType}
 use Rattle.terms.specs.declared.codes.Test.TheVariants.{J4}
-use Rattle.terms.specs.Types.{Text, Id, Lines, Change, Global, Element, Zone, Selection, Bypass}
+use Rattle.terms.specs.Types.{Text, Id, Lines, Global, Element, Zone, Selection, Bypass}
 use Rattle.terms.specs.Types.{type_number}
-use Rattle.terms.specs.Lookups.{is_in, is_received, is_function, is_applied, has_change, change_of, element_of}
+use Rattle.terms.specs.Lookups.{is_in, is_received, is_function, is_applied, has_change, element_of}
 use Rattle.terms.specs.Lookups.{element_key, element_eq}
 use Rattle.terms.specs.Choice.{Choice, counting, fmid_of, del_of}
 use Rattle.terms.specs.Changes.{is_replacement, has_replacement, has_update}
@@ -29,17 +29,19 @@ use Rattle.terms.proofs.ElementOrder.{element_cmp_total, element_ties, type_from
 use Rattle.terms.proofs.Ids.{Contains_from_is_in}
 use Rattle.machine.specs.Installing.{Decision}
 use Rattle.change.proofs.ChosenVers.{fmid_function, deleted_function}
-use Rattle.change.proofs.KeptTogether.{kept_owner, update_changes}
+use Rattle.change.proofs.KeptTogether.{kept_owner}
 use Rattle.change.proofs.LessLookups.{element_was}
 use Rattle.smpe_upkeep.proofs.Lists.{find_itself}
 use Rattle.smpe_closed.proofs.Installs.{IsInstall}
 use Rattle.smpe_closed.proofs.Supplied.{left_applied, left_element}
 use Rattle.smpe_closed.proofs.Given.{Keeps, installing, eligible, keeps, installed}
 use Rattle.smpe_closed.proofs.AlikeSysmods.{applied_received}
-use Rattle.smpe_closed.proofs.AppliedIds.{in_applied_ids}
 use Rattle.smpe_closed.proofs.Chains.{view_element, deleted_either}
 use Rattle.smpe_closed.proofs.Effect.{kept_received, effect_or_not, applied_either, effect_applied}
 use Rattle.smpe_closed.proofs.Undeleted.{undeleted_applied, fmid_applied}
+use Rattle.lemmas.proofs.Each.{All_from_each}
+use Rattle.terms.proofs.ChangedElements.{replaces_changes, update_changes}
+use Rattle.terms.proofs.Applied.{in_applied_ids}
 
 -- one that passes, or none
 search : {X : Type 0} (P : X → Type 0) → ((x : X) → P x ⊎ (¬ P x)) → (xs : List X)
@@ -55,19 +57,6 @@ search {X} P decide (y ∷ ys) = by (decide y) (search P decide ys)
       | inl same ↦ out (subst P (sym same) has)
       | inr later ↦ none x later has
     ])
-
--- each item of a list
-each_of : {X : Type 0} (P : X → Type 0) (xs : List X) → ((x : X) → Contains xs x → P x) → All P xs
-each_of P xs each = λ j d below. each (get_or xs j d) (All-contains_itself xs j d below)
-
--- what replaces an element changes it
-replacement_changes : (g : Global) (x : Id) (type : ElemType) (name : Text) → IsTrue (has_replacement g x type name)
-    → IsTrue (has_change g x type name)
-replacement_changes g x type name = by (change_of g x type name)
-  where
-    by : (o : Option Change) → option_map_or (λ h. is_replacement h.action) o false ≡ true → is_some o ≡ true
-    by None has = absurd (true≢false (sym has))
-    by (Some h) has = refl
 
 -- an updater has an update
 updater_updates : (i : Installation) (type : ElemType) (name : Text) (replacer : Option Id) (y : Id) (update : Lines)
@@ -180,7 +169,7 @@ module _ (s : Setting) (survivors kept : List Id) (k : Keeps s survivors kept) (
       (λ e. (type_number e.elem_type == type_number type) && bytes_eq e.name name) s.zone.elements e k.closed.elements
       left.0 in
       record {
-        applied = each_of (λ x. is_applied new x ≡ true) (e.fmid ∷ e.rmid ∷ e.umids) (λ x is. stays_with_owner x
+        applied = All_from_each (λ x. is_applied new x ≡ true) (e.fmid ∷ e.rmid ∷ e.umids) (λ x is. stays_with_owner x
             (All-contains (λ x. is_applied s.zone x ≡ true) (e.fmid ∷ e.rmid ∷ e.umids) x was.applied is)
             (ap (is_deleted s.global s.choice (deletions s.choice kept))
             (All-contains (λ x. owner_is x ≡ e.fmid) (e.fmid ∷ e.rmid ∷ e.umids) x was.owner is) ∙ left.1));
@@ -237,7 +226,7 @@ module _ (s : Setting) (survivors kept : List Id) (k : Keeps s survivors kept) (
           applied = three (λ x. is_applied new x ≡ true) is.applied (λ y update.
               effect_applied s survivors kept k bypassed date new installed y update.1.installed);
           rmid = is.rmid;
-          umids = each_of (λ x. IsTrue (has_update s.global x base.elem_type base.name)) e.umids (λ y within.
+          umids = All_from_each (λ x. IsTrue (has_update s.global x base.elem_type base.name)) e.umids (λ y within.
               elim ((updated.umids y).0 within) [
                 | inl old ↦ All-contains (λ x. IsTrue (has_update s.global x base.elem_type base.name)) base.umids y
                     is.umids old
@@ -261,7 +250,7 @@ module _ (s : Setting) (survivors kept : List Id) (k : Keeps s survivors kept) (
             All-cons P base.fmid (base.rmid ∷ e.umids) (All-head P base.fmid (base.rmid ∷ base.umids) all)
             (All-cons P base.rmid e.umids
             (All-head P base.rmid base.umids (All-tail P base.fmid (base.rmid ∷ base.umids) all))
-            (each_of P e.umids (λ y within. elim ((updated.umids y).0 within) [
+            (All_from_each P e.umids (λ y within. elim ((updated.umids y).0 within) [
               | inl old ↦ All-contains P (base.fmid ∷ base.rmid ∷ base.umids) y all
                   (there base.fmid (base.rmid ∷ base.umids) y (there base.rmid base.umids y old))
               | inr new ↦ each y new
@@ -299,7 +288,7 @@ module _ (s : Setting) (survivors kept : List Id) (k : Keeps s survivors kept) (
         (replaced_owned r distlib syslib lines replaces.installed replaces.replaces))
         (λ y update. one_owner y r update.1.installed replaces.installed
         (update_changes s.global y type name (updater_updates i type name (Some r) y update.0 update.1))
-        (replacement_changes s.global r type name replaces.replaces)
+        (replaces_changes s.global r type name replaces.replaces)
         ∙ sym (ap (λ (o : Element). o.fmid) is))
         updated form
 

@@ -21,19 +21,20 @@ use Rattle.terms.specs.Deleted.{deletions, is_deleted, is_taken_out}
 use Rattle.terms.specs.Tests.{Setting}
 use Rattle.terms.specs.Install.{Installation, cleared, HasInstalled, deleters, delby_after}
 use Rattle.terms.specs.Closed.{IsAtPeace}
-use Rattle.zones_views.proofs.Flats.{passes_some}
 use Rattle.store_schema.specs.Forms.{HasSysmodForms}
 use Rattle.machine.specs.Installing.{Decision}
 use Rattle.change.proofs.Installable.{is_fresh}
 use Rattle.smpe_upkeep.proofs.Lists.{find_itself}
 use Rattle.smpe_upkeep.proofs.OperandForms.{HasVers, ver_forms}
-use Rattle.smpe_closed.proofs.AppliedIds.{in_applied_ids, applied_in_ids}
+use Rattle.smpe_closed.proofs.AppliedIds.{applied_in_ids}
 use Rattle.smpe_closed.proofs.Installs.{IsInstall}
 use Rattle.smpe_closed.proofs.Supplied.{left_applied, left_supby}
 use Rattle.smpe_closed.proofs.Given.{Keeps, installing, eligible, kept_candidate, keeps, installed}
 use Rattle.smpe_closed.proofs.Chains.{was_supby, view_applied}
 use Rattle.smpe_closed.proofs.Effect.{applied_either, effect_applied}
 use Rattle.smpe_closed.proofs.Undeleted.{in_chain, undeleted_by, applied_undeleted, undeleted_applied, chain_applied}
+use Rattle.terms.proofs.Applied.{in_applied_ids}
+use Rattle.lemmas.proofs.Searches.{passes_some}
 
 -- no SYSMOD names itself in NPRE
 npre_others : (c : Choice) → HasVers c → (x : Id) → ¬ Contains (npre_of c x) x

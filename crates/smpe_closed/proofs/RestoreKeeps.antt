@@ -13,17 +13,16 @@ use Rattle.std.proofs.lemmas.List.Folds.{Any-from_list_any}
 use Rattle.lemmas.proofs.Members.{here, there, here_or, none_in, in_filter, filter_in, map_in, in_flat}
 use Rattle.lemmas.proofs.Searches.{All_from_no_list_any, find_gives}
 use Rattle.lemmas.proofs.Texts.{same_from, same_itself}
-use Rattle.terms.specs.declared.kinds.ElemType.{ElemType}
 use Rattle.terms.specs.declared.codes.Test.TheVariants.{J10, J12}
 use Rattle.terms.specs.declared.codes.NeedKind.TheVariants.{Dep}
-use Rattle.terms.specs.Types.{Text, Id, IfReq, Ver, Applied, Change, Global, Entry, Element, Zone, RestoreList}
+use Rattle.terms.specs.Types.{Id, IfReq, Ver, Applied, Change, Global, Entry, Element, Zone, RestoreList}
 use Rattle.terms.specs.Types.{type_number}
 use Rattle.terms.specs.Lookups.{IsZone, is_nil, is_in, is_function, has_content, is_applied, is_supplied, supplies}
 use Rattle.terms.specs.Lookups.{supby_of, delby_of, waived_of, applied_ids, element_of, element_key, element_eq}
 use Rattle.terms.specs.Lookups.{entry_of, applied_of, is_received, changes_of, change_of, has_change}
 use Rattle.terms.specs.Choice.{Choice, counting, fmid_of, pre_of, req_of, ifs_of, npre_of}
 use Rattle.terms.specs.Over.{chain, owner}
-use Rattle.terms.specs.Changes.{is_replacement, has_replacement, has_update}
+use Rattle.terms.specs.Changes.{has_update}
 use Rattle.terms.specs.Deleted.{entry_less}
 use Rattle.terms.specs.Needs.{unwaived, binding_ifs, binding_ids}
 use Rattle.terms.specs.Global.{IsGlobal}
@@ -35,11 +34,15 @@ use Rattle.terms.proofs.ElementOrder.{element_cmp_total, element_ties}
 use Rattle.change.proofs.ChosenVers.{counting_for, fmid_function}
 use Rattle.machine.specs.Outcome.{Line}
 use Rattle.machine.specs.Restoring.{RestoresListed}
-use Rattle.smpe_upkeep.proofs.Lists.{find_itself, flat_map_in}
+use Rattle.smpe_upkeep.proofs.Lists.{find_itself}
 use Rattle.smpe_closed.proofs.AlikeSysmods.{closed_by, chosen_received}
 use Rattle.smpe_closed.proofs.AppliedIds.{applied_in_ids, of_applied, each_applied}
 use Rattle.smpe_closed.proofs.KeptChoice.{counts_alike, counts_left}
 use Rattle.smpe_closed.proofs.TakenOff.{applied_left, supby_left, delby_left, waived_left}
+use Rattle.lemmas.proofs.Members.{flat_in}
+use Rattle.std.proofs.lemmas.Bool.{cases_Bool}
+use Rattle.lemmas.proofs.Booleans.{false_from_not, true_from_not}
+use Rattle.terms.proofs.ChangedElements.{replaces_changes, update_changes}
 
 -- What is kept, of a list, and the zones of it, which are closed.
 pub record IsRestore (r : Restoring) (ids kept : List Id) (new : Zone) : Type 0 where
@@ -54,18 +57,6 @@ pub record IsRestore (r : Restoring) (ids kept : List Id) (new : Zone) : Type 0 
   pub closed_accepted : IsClosedZone r.global (counting r.global r.accepted []) r.accepted
 
 -- ---- what is kept
-
-either_bool : (b : Bool) → (b ≡ true) ⊎ (b ≡ false)
-either_bool true = inl refl
-either_bool false = inr refl
-
-false_from_true : (b : Bool) → IsTrue (not b) → IsFalse b
-false_from_true true h = absurd (true≢false (sym h))
-false_from_true false h = refl
-
-true_from_not : (b : Bool) → IsFalse (not b) → IsTrue b
-true_from_not true h = refl
-true_from_not false h = absurd (true≢false h)
 
 module _ (r : Restoring) (ids kept : List Id) (new : Zone) (is : IsRestore r ids kept new) where
   -- a kept SYSMOD is eligible, so it is applied and of the list
@@ -190,7 +181,7 @@ module _ (r : Restoring) (ids kept : List Id) (new : Zone) (is : IsRestore r ids
 
       by : (b : Bool) → is_supplied new z ≡ b → (p : Id) × IsTrue (supplies r.zone p z) → IsTrue (is_supplied new z)
       by true e some = e
-      by false lost (p, supplies_it) = elim (either_bool (is_in kept p)) [
+      by false lost (p, supplies_it) = elim (cases_Bool (is_in kept p)) [
         | inl there ↦ absurd (left.1 (dependant p x (Contains_from_is_in kept p there) (record {
           other = λ same. left.1 (subst (Contains kept) (sym same) (Contains_from_is_in kept p there));
           applied = left.0;
@@ -214,7 +205,7 @@ module _ (r : Restoring) (ids kept : List Id) (new : Zone) (is : IsRestore r ids
       ifs : Contains (binding_ifs r.choice new (is_applied new) x) z
           → Contains (binding_ifs r.choice r.zone (is_applied r.zone) x) z
       ifs found =
-          let from = flat_map_in (λ (i : IfReq). unwaived new i.function i.req)
+          let from = flat_in (λ (i : IfReq). unwaived new i.function i.req)
           (filter (λ (i : IfReq). is_applied new i.function) (ifs_of r.choice x)) z found in
           let i : IfReq = from.0 in
           let of = filter_in (λ (i : IfReq). is_applied new i.function) (ifs_of r.choice x) i from.1 in
@@ -297,23 +288,6 @@ module _ (r : Restoring) (ids kept : List Id) (new : Zone) (is : IsRestore r ids
       by false (Some g) at same = λ there.
           fmid_not_kept y g left.0 left.1 at (subst (Contains kept) (sym same) there)
 
-  replaces_changes : (x : Id) (type : ElemType) (name : Text) → IsTrue (has_replacement r.global x type name)
-      → IsTrue (has_change r.global x type name)
-  replaces_changes x type name has = by (change_of r.global x type name) has
-    where
-      by : (o : Option Change) → IsTrue (option_map_or (λ h. is_replacement h.action) o false) → IsTrue (is_some o)
-      by None h = h
-      by (Some c) h = refl
-
-  updates_changes : (x : Id) (type : ElemType) (name : Text) → IsTrue (has_update r.global x type name)
-      → IsTrue (has_change r.global x type name)
-  updates_changes x type name has = by (change_of r.global x type name) has
-    where
-      by : (o : Option Change) → IsTrue (option_map_or (λ h. not (is_replacement h.action)) o false)
-          → IsTrue (is_some o)
-      by None h = h
-      by (Some c) h = refl
-
   -- ---- what counts in the accepted zone
 
   abbrev accepted_choice : Choice
@@ -349,7 +323,7 @@ module _ (r : Restoring) (ids kept : List Id) (new : Zone) (is : IsRestore r ids
   owns_itself : (x f : Id) → IsTrue (is_alike r.zone r.accepted x) → IsTrue (is_applied r.accepted f)
       → owner r.global accepted_choice x ≡ f → owner r.global accepted_choice f ≡ f → owner r.global r.choice f ≡ f
   owns_itself x f alike on owns itself =
-      by (is_function r.global x) (fmid_of accepted_choice x) refl owns (either_bool (is_function r.global f))
+      by (is_function r.global x) (fmid_of accepted_choice x) refl owns (cases_Bool (is_function r.global f))
     where
       function : IsTrue (is_function r.global f) → owner r.global r.choice f ≡ f
       function is_so = ap (λ b. if b then f else unwrap_or (fmid_of r.choice f) f) is_so
@@ -390,7 +364,7 @@ module _ (r : Restoring) (ids kept : List Id) (new : Zone) (is : IsRestore r ids
       each y is_in_ids = true_from_not (is_alike r.zone r.accepted y)
           (All-contains (λ y. IsFalse (not (is_alike r.zone r.accepted y))) (e.rmid ∷ e.umids) y
           (All_from_no_list_any (λ y. not (is_alike r.zone r.accepted y)) (e.rmid ∷ e.umids)
-          (false_from_true (list_any (λ y. not (is_alike r.zone r.accepted y)) (e.rmid ∷ e.umids)) alike)) is_in_ids)
+          (false_from_not (list_any (λ y. not (is_alike r.zone r.accepted y)) (e.rmid ∷ e.umids)) alike)) is_in_ids)
 
   module _ (e : Element) (stands : Contains new.elements e) where
     found : element_of new e.elem_type e.name ≡ Some e
@@ -412,7 +386,7 @@ module _ (r : Restoring) (ids kept : List Id) (new : Zone) (is : IsRestore r ids
         let rmid_in = Members_rmid in
         let rmid_left : IsLeft e.rmid = (
           on e.rmid rmid_in,
-          out e.rmid (replaces_changes e.rmid e.elem_type e.name was.rmid),
+          out e.rmid (replaces_changes r.global e.rmid e.elem_type e.name was.rmid),
         ) in
         let fmid_out = owner_not_kept e.rmid e.fmid rmid_left
         (All-contains (λ x. owner r.global r.choice x ≡ e.fmid) (e.fmid ∷ e.rmid ∷ e.umids) e.rmid was.owner rmid_in) in
@@ -423,7 +397,7 @@ module _ (r : Restoring) (ids kept : List Id) (new : Zone) (is : IsRestore r ids
             | inl first ↦ λ is_kept. fmid_out (subst (Contains kept) (sym first) is_kept)
             | inr rest ↦ elim (here_or e.rmid e.umids x rest) [
               | inl second ↦ λ is_kept. rmid_left.1 (subst (Contains kept) (sym second) is_kept)
-              | inr later ↦ out x (updates_changes x e.elem_type e.name
+              | inr later ↦ out x (update_changes r.global x e.elem_type e.name
                   (All-contains (λ x. IsTrue (has_update r.global x e.elem_type e.name)) e.umids x was.umids later))
             ]
           ],
@@ -461,7 +435,7 @@ module _ (r : Restoring) (ids kept : List Id) (new : Zone) (is : IsRestore r ids
             (eqb-true (type_number h.elem_type) (type_number e.elem_type) same.0)
             ∙ ap (element_of r.accepted e.elem_type) (same_from h.name e.name same.1) ∙ at in
             let returns : Option Element → Bool = λ o. option_map_or (may_return r) o true in
-            elim (either_bool (may_return r e)) [
+            elim (cases_Bool (may_return r e)) [
               | inl good ↦ good
               | inr bad ↦ absurd ((may_be x among).passes J12
                   (gives.1.0, h, gives.1.1, gives.1.2, ap returns found_there ∙ bad))
@@ -479,7 +453,7 @@ module _ (r : Restoring) (ids kept : List Id) (new : Zone) (is : IsRestore r ids
         (tested some.1 (some.0, some.2, some.3) some.4 at) in
         let ids = e.fmid ∷ e.rmid ∷ e.umids in
         let all = All_from_no_list_any (λ y. not (is_applied r.zone y)) ids
-        (false_from_true (list_any (λ y. not (is_applied r.zone y)) ids) returns.0) in
+        (false_from_not (list_any (λ y. not (is_applied r.zone y)) ids) returns.0) in
         let each : (x : Id) → Contains ids x → IsTrue (is_applied new x) =
         λ x there. still_applied x (
           true_from_not (is_applied r.zone x) (All-contains (λ y. IsFalse (not (is_applied r.zone y))) ids x all there),

@@ -27,7 +27,8 @@ use Rattle.change.proofs.Installable.{is_fresh}
 use Rattle.change.proofs.KeptTogether.{unsupplied}
 use Rattle.smpe_upkeep.proofs.Decisions.{candidate_open}
 use Rattle.smpe_closed.specs.Singles.{OneCounts, NoneFailsJ13, FirstInstalls, J12AsksApplied}
-use Rattle.smpe_closed.proofs.KeptChoice.{dated, undated}
+use Rattle.smpe_closed.proofs.KeptChoice.{undated}
+use Rattle.terms.proofs.Applied.{applied_dated}
 
 single_vers : (i : Inventory) → IsOfEarlier i → HasSingleVers i.global
 single_vers i is = λ k d below.
@@ -100,8 +101,8 @@ first_installs i is zone related sel bypass date d decides x kept =
 module _ (zone accepted : Zone) (of_zone : HasFirsts zone) (of_accepted : HasFirsts accepted) where
   both_first : (x : Id) → IsTrue (is_applied zone x) → IsTrue (is_applied accepted x) → is_alike zone accepted x ≡ true
   both_first x on too =
-      let m = dated zone x on in
-      let n = dated accepted x too in
+      let m = applied_dated zone x on in
+      let n = applied_dated accepted x too in
       ap (λ o. option_map_or (λ (a : Applied). option_map_or (λ (b : Applied). a.number == b.number)
       (applied_of accepted x) false) o false) m.1
       ∙ ap (λ o. option_map_or (λ (b : Applied). m.0.number == b.number) o false) n.1

@@ -32,12 +32,12 @@ use Rattle.smpe_upkeep.proofs.Defined.{defined}
 use Rattle.smpe_upkeep.proofs.StepForms.{IsStorable}
 use Rattle.smpe_closed.specs.Choices.{KeepsChoice, InstallKeepsChoice, StepKeepsChoice}
 use Rattle.smpe_closed.proofs.AlikeSysmods.{AreAlike, alike_choice, applied_received}
-use Rattle.smpe_closed.proofs.AppliedIds.{in_applied_ids}
 use Rattle.smpe_closed.proofs.Given.{installing}
 use Rattle.smpe_closed.proofs.KeptChoice.{counts_whatever, counts_left, install_keeps_choice}
 use Rattle.smpe_closed.proofs.ReceiveKeeps.{items_keep}
 use Rattle.smpe_closed.proofs.RejectKeeps.{without_alike}
 use Rattle.smpe_closed.proofs.StepKeeps.{named_has, each_zone}
+use Rattle.terms.proofs.Applied.{in_applied_ids}
 
 -- ---- one zone
 

@@ -1,35 +1,25 @@
 -- What is applied, supplied and waived in a zone, and in a zone less deletions.
 use Rattle.std.proofs.Common.{◌≡◌, ◌⊎◌, ◌∙◌, Bool, true, false, not, List, [], ◌∷◌, Option, Some, None, Contains}
-use Rattle.std.proofs.Common.{is_some, inl, inr, refl, sym, ap, subst, true≢false}
+use Rattle.std.proofs.Common.{inl, inr, refl, sym, ap, subst, true≢false}
 use Rattle.std.specs.Prelude.{if◌then◌else◌}
-use Rattle.std.specs.Option.{option_map_or, option_and_then}
 use Rattle.std.proofs.lemmas.Bool.{and_parts, and_from, or_cases, or_left, or_right, not-true, not_from_false}
 use Rattle.std.proofs.lemmas.Bool.{false_from_ne_true}
 use Rattle.std.proofs.lemmas.Option.{same_Some}
 use Rattle.lemmas.proofs.Members.{here, none_in, in_filter, filter_in}
 use Rattle.terms.specs.declared.kinds.ElemType.{ElemType}
-use Rattle.terms.specs.Types.{Text, Id, Global, Entry, Element, Zone}
-use Rattle.terms.specs.Lookups.{IsZone, is_nil, is_in, is_applied, is_supplied, entry_of, applied_of, supby_of}
+use Rattle.terms.specs.Types.{Text, Id, Global, Element, Zone}
+use Rattle.terms.specs.Lookups.{IsZone, is_nil, is_in, is_applied, is_supplied, supby_of}
 use Rattle.terms.specs.Lookups.{waived_of, element_of}
 use Rattle.terms.specs.Choice.{Choice}
 use Rattle.terms.specs.Over.{chain}
 use Rattle.terms.specs.Deleted.{is_deleted, is_taken_out, zone_less}
 use Rattle.terms.proofs.Ids.{is_in_from_Contains, Contains_from_is_in}
 use Rattle.zones_views.proofs.Filtered.{passing}
-use Rattle.zones_views.proofs.Flats.{some_passes, passes_some}
 use Rattle.smpe_closed.proofs.TakenOff.{waived_left as waived_still}
 use Rattle.zones_views.proofs.Lookups.{is_applied_less, supby_of_less, element_of_less}
+use Rattle.lemmas.proofs.Searches.{passes_some, some_passes}
 
 module _ (zone : Zone) where
-  -- what has a date is applied
-  pub applied_dated : (x : Id) → is_applied zone x ≡ is_some (applied_of zone x)
-  applied_dated x = by (entry_of zone x)
-    where
-      by : (o : Option Entry) → option_map_or (λ e. is_some e.applied) o false
-          ≡ is_some (option_and_then (λ e. e.applied) o)
-      by None = refl
-      by (Some e) = refl
-
   -- what is supplied is applied or superseded
   pub supplied_or : (z : Id) → is_supplied zone z ≡ true
       → (is_applied zone z ≡ true) ⊎ ((y : Id) × Contains (supby_of zone z) y)

@@ -19,7 +19,7 @@ use Rattle.terms.specs.Closed.{IsSupported}
 use Rattle.terms.proofs.Ids.{is_in_from_Contains}
 use Rattle.machine.specs.Installing.{Decision}
 use Rattle.change.proofs.ChosenVers.{if_function}
-use Rattle.smpe_closed.proofs.AppliedIds.{in_applied_ids, applied_in_ids}
+use Rattle.smpe_closed.proofs.AppliedIds.{applied_in_ids}
 use Rattle.smpe_closed.proofs.Supplied.{left_applied, waived_left}
 use Rattle.smpe_closed.proofs.Installs.{IsInstall}
 use Rattle.smpe_closed.proofs.Given.{Keeps, installing, kept_candidate, candidate_ver, decided, kept_set}
@@ -30,6 +30,7 @@ use Rattle.smpe_closed.proofs.Effect.{kept_received, effect_or_not, applied_eith
 use Rattle.smpe_closed.proofs.Undeleted.{fmid_applied}
 use Rattle.smpe_closed.proofs.Orphaned.{stays_supplied}
 use Rattle.smpe_closed.proofs.NeedsMet.{pre_supplied, req_supplied, ifreq_supplied}
+use Rattle.terms.proofs.Applied.{in_applied_ids}
 
 module _ (s : Setting) (survivors kept : List Id) (k : Keeps s survivors kept) (bypassed : List (Id × Id)) (date : Text)
     (new : Zone) (installed : HasInstalled (installing s kept bypassed date) new) where

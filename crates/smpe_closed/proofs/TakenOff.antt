@@ -14,6 +14,7 @@ use Rattle.terms.specs.Lookups.{IsZone, is_nil, is_before, has_content, entry_of
 use Rattle.terms.specs.Lookups.{delby_of, waived_of}
 use Rattle.terms.specs.Deleted.{entry_less, entries_less}
 use Rattle.zones_views.proofs.Filtered.{passing, find_filter}
+use Rattle.lemmas.proofs.Options.{is_some_unless}
 
 record IsBare (date : Option Applied) (supby : List Id) (delby : Option Id) : Type 0 where
   date_none : date ≡ None
@@ -38,13 +39,6 @@ held_field {Y} f d unheld e = by (has_content e) refl
     by : (b : Bool) → has_content e ≡ b → option_map_or f (if b then Some e else None) d ≡ f e
     by true at = refl
     by false at = sym (unheld e at)
-
-date_left : (date : Option Applied) (gone : Bool)
-    → is_some (if gone then None else date) ≡ (is_some date && not gone)
-date_left None true = refl
-date_left None false = refl
-date_left (Some d) true = refl
-date_left (Some d) false = refl
 
 and_then_or : (o : Option Entry) → option_and_then (λ e. e.delby) o ≡ option_map_or (λ e. e.delby) o None
 and_then_or None = refl
@@ -80,7 +74,7 @@ module _ (is_gone : Id → Bool) (zone new : Zone) (z : IsZone zone)
   pub applied_left : (x : Id) → is_applied new x ≡ (is_applied zone x && not (is_gone x))
   applied_left x = field_left (λ e. is_some e.applied) false (λ b. b && not (is_gone x))
       (λ e unheld. ap is_some (unheld_is e unheld).date_none) refl x
-      (λ e same. date_left e.applied (is_gone e.id) ∙ ap (λ y. is_some e.applied && not (is_gone y)) same)
+      (λ e same. is_some_unless (is_gone e.id) e.applied ∙ ap (λ y. is_some e.applied && not (is_gone y)) same)
 
   -- and has the date and the number that it had
   pub dated_left : (x : Id) (a : Applied) → applied_of new x ≡ Some a → applied_of zone x ≡ Some a

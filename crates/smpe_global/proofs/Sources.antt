@@ -1,12 +1,12 @@
 -- A SYSMOD that gains a source.
-use Rattle.std.proofs.Common.{◌≡◌, ◌∙◌, Bool, true, false, List, [], ◌∷◌, map, find, refl, sym, ap, subst, Option, None}
-use Rattle.std.proofs.Common.{Some, All, Contains, if◌then◌else◌}
+use Rattle.std.proofs.Common.{◌≡◌, ◌∙◌, Bool, true, false, [], ◌∷◌, find, refl, sym, ap, subst, Option, None}
+use Rattle.std.proofs.Common.{Some, Contains, if◌then◌else◌}
 use Rattle.std.specs.Ordering.{nat_cmp}
 use Rattle.std.specs.Cmp.Lexicographic.{slice_cmp, texts_ties}
 use Rattle.std.specs.Option.{option_map}
 use Rattle.std.specs.Str.{bytes_eq}
 use Rattle.std.proofs.lemmas.Cmp.{nat_list_cmp_total}
-use Rattle.std.proofs.lemmas.List.Elements.{All-head, All-tail, All-weaker, All-contains_itself}
+use Rattle.std.proofs.lemmas.List.Elements.{All-weaker, All-contains_itself}
 use Rattle.std.proofs.lemmas.List.Folds.{map_fixed}
 use Rattle.lemmas.proofs.Orderings.{Equal_from_is_eq}
 use Rattle.terms.specs.Types.{Text, Id, Sysmod, Global}
@@ -22,13 +22,7 @@ use Rattle.sysmods.specs.declared.edit.GlobalEdit.TheVariants.{ReplaceSources}
 use Rattle.sysmods.specs.Edits.{Fits, EachFits, after_edits}
 use Rattle.smpe_global.specs.Edits.{head_of, source_edits}
 use Rattle.smpe_global.proofs.Fitting.{fits_none, fits_one}
-
-map_same : {X : Type 0} (f h : X → X) (xs : List X) → All (λ x. f x ≡ h x) xs → map f xs ≡ map h xs
-map_same f h [] all = refl
-map_same f h (x ∷ xs) all =
-    let first = All-head (λ y. f y ≡ h y) x xs all in
-    let rest = map_same f h xs (All-tail (λ y. f y ≡ h y) x xs all) in
-    ap (λ y. y ∷ map f xs) first ∙ ap (λ ys. h x ∷ ys) rest
+use Rattle.lemmas.proofs.Lists.{map_alike}
 
 module _ (source : Text) (g : Global) (x : Id) (rises : Rises (slice_cmp nat_cmp) (λ (r : Sysmod). r.id)
     g.sysmods) where
@@ -68,8 +62,7 @@ module _ (source : Text) (g : Global) (x : Id) (rises : Rises (slice_cmp nat_cmp
     replaced : after_edits (ReplaceSources (head_of (with_source source s)) ∷ []) g ≡ assign g source x
     replaced =
         ap (λ ss. record g { sysmods = ss })
-        (map_same (put s.id) (assigned source x) g.sysmods (All-weaker (Contains g.sysmods)
-        (λ r. put s.id r ≡ assigned source x r) each g.sysmods (All-contains_itself g.sysmods)))
+        (map_alike (put s.id) (assigned source x) g.sysmods each)
       where
         put : Id → Sysmod → Sysmod
         put y r = if bytes_eq r.id y then record r { sources = (with_source source s).sources } else r

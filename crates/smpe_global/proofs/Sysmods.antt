@@ -6,11 +6,10 @@ use Rattle.machine.specs.Outcome.{OfKind, StatusLine}
 use Rattle.machine.specs.Receiving.{TakesItem, sourced, receive_status}
 use Rattle.sysmods_received.specs.declared.faults.ReceiveFault.{ReceiveFault}
 use Rattle.sysmods_received.specs.Refused.{fault_of}
-use Rattle.sysmods.specs.Faults.{IsReceived}
 use Rattle.report.specs.declared.outcome.Line.{Line}
 use Rattle.report.specs.Views.{line_view}
 use Rattle.smpe_global.specs.declared.taken.Taken.{Taken}
-use Rattle.smpe_global.specs.Edits.{answer_of, edits_after}
+use Rattle.smpe_global.specs.Edits.{IsReceived, answer_of, edits_after}
 use Rattle.smpe_global.specs.Taken.{IsTaken}
 use Rattle.smpe_global.proofs.Fitting.{fits_none, sysmod_fits, sysmod_makes}
 
@@ -40,12 +39,11 @@ module _ (source : Option Text) (g new : Global) (s : Sysmod) (line : Line) (was
     after = sym same;
   }
 
-  -- with the copy that is written
-  pub copy_taken : (sent copy : Sysmod) (refused : Option ReceiveFault) → sent ≡ sourced source s → copy ≡ sent
-      → is.edits.items ≡ was.edits.items ++ edits_after refused copy → IsSysmod copy → IsReceived g sent new refused
+  -- as it is sent
+  pub sent_taken : (sent : Sysmod) (refused : Option ReceiveFault) → sent ≡ sourced source s
+      → is.edits.items ≡ was.edits.items ++ edits_after refused sent → IsSysmod sent → IsReceived g sent new refused
       → line_view line ≡ StatusLine s.id (OfKind s.kind) (receive_status (answer_of new refused))
       → IsTaken (TakesItem source g (ASysmod s)) g new was is
-  copy_taken sent copy refused sent_is copy_is written known r printed =
-      let same : copy ≡ sourced source s = copy_is ∙ sent_is in
+  sent_taken sent refused same written known r printed =
       sysmod_taken refused (subst (λ c. is.edits.items ≡ was.edits.items ++ edits_after refused c) same written)
-      (subst IsSysmod same known) (subst (λ c. IsReceived g c new refused) sent_is r) printed
+      (subst IsSysmod same known) (subst (λ c. IsReceived g c new refused) same r) printed

@@ -19,6 +19,7 @@ use Rattle.lemmas.proofs.Texts.{same_from}
 use Rattle.terms.proofs.RisingLists.{Splits_around, find_there}
 use Rattle.machine.specs.State.{zone_named}
 use Rattle.smpe_global.specs.Rejections.{AppliesAlike}
+use Rattle.lemmas.proofs.Booleans.{same_truth}
 
 module _ {X : Type 0} (p : X → Bool) where
   passing : (xs : List X) → list_any p xs ≡ true → (x : X) × Contains xs x × (p x ≡ true)
@@ -44,11 +45,6 @@ module _ {X : Type 0} (p : X → Bool) where
       by : (find p xs ≡ Some x → Contains xs x) → (b : Bool) → p y ≡ b → Contains (y ∷ xs) x
       by again true f = let now = rw f at e in let same : y ≡ x = cc in subst (Contains (y ∷ xs)) same (here y xs)
       by again false f = let now = rw f at e in there y xs x (again now)
-
-same_truth : (a b : Bool) → (a ≡ true → b ≡ true) → (b ≡ true → a ≡ true) → a ≡ b
-same_truth true b to from = sym (to refl)
-same_truth false true to from = from refl
-same_truth false false to from = refl
 
 -- what a mapped search finds
 found_mapped : {X Y : Type 0} (f : X → Y) (o : Option X) (y : Y) → option_map f o ≡ Some y

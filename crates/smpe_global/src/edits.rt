@@ -1,9 +1,9 @@
 //! The edits by which the tables follow.
 ghost use Rattle.std.specs.Prelude.{◌≡◌, ◌++◌, map, OnOk};
-ghost use Rattle.smpe_global.specs.Edits.{edits_after};
+ghost use Rattle.smpe_global.specs.Edits.{edits_of};
 
 use std::alloc::{AllocError, Global};
-use sysmods::{GlobalEdit, ReceiveFault};
+use sysmods::GlobalEdit;
 use sysmods_records::{Hold, Sysmod};
 
 fn put_holds(edits: &mut Vec<GlobalEdit>, holds: Vec<Hold>) -> Result<(), AllocError>
@@ -15,18 +15,14 @@ fn put_holds(edits: &mut Vec<GlobalEdit>, holds: Vec<Hold>) -> Result<(), AllocE
     Ok(())
 }
 
-/// Appends what writes a SYSMOD that is received and its holds. A refused one is not written.
+/// Appends what writes a SYSMOD that is received and its holds.
 pub(crate) fn write_received(
     alloc: Global,
     edits: &mut Vec<GlobalEdit>,
-    refused: Option<ReceiveFault>,
     mut sysmod: Sysmod,
 ) -> Result<(), AllocError>
-    ensures { OnOk result (edits.new.items ≡ edits.old.items ++ edits_after refused sysmod) }
+    ensures { OnOk result (edits.new.items ≡ edits.old.items ++ edits_of sysmod) }
 {
-    if refused.is_some() {
-        return Ok(());
-    }
     let holds = sysmod.take_holds(alloc);
     edits.push(GlobalEdit::InsertSysmod(sysmod))?;
     put_holds(edits, holds)

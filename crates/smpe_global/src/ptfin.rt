@@ -1,23 +1,25 @@
 //! The items of a PTFIN.
-ghost use Rattle.std.specs.Prelude.{◌≡◌, IfOk, IfSome, OnOk, map};
+ghost use Rattle.std.specs.Prelude.{◌≡◌, ◌++◌, None, IfOk, IfSome, OnOk, map};
 ghost use Rattle.terms.specs.Types.{Global as AGlobal, ASysmod};
 ghost use Rattle.terms.specs.Forms.{IsSource};
+ghost use Rattle.terms.specs.Global.{received};
 ghost use Rattle.machine.specs.Runs.{Runs};
 ghost use Rattle.machine.specs.Receiving.{TakesItem, sourced, receive_status};
 ghost use Rattle.mcs.specs.Files.{item_of, items};
 ghost use Rattle.report.specs.Views.{line_view, status_view};
+ghost use Rattle.sysmods_received.specs.Refused.{IsRefusal};
 ghost use Rattle.sysmods.specs.Edits.{EachFits, after_edits};
-ghost use Rattle.smpe_global.specs.Edits.{answer_of};
+ghost use Rattle.smpe_global.specs.Edits.{IsReceived, answer_of, edits_after, edits_of};
 ghost use Rattle.smpe_global.specs.Taken.{IsTaken};
 
 use crate::assign::take_assign;
 use crate::edits::write_received;
 use crate::taken::Taken;
-use fields::Source;
+use fields::{Attest, Source};
 use mcs::Item;
 use report::{Line, Place, Status};
 use std::alloc::{AllocError, Global};
-use sysmods::{GlobalZone, ReceiveFault};
+use sysmods::{GlobalEdit, GlobalZone, ReceiveFault};
 use sysmods_records::Sysmod;
 use terms::IdRefusal;
 
@@ -42,8 +44,42 @@ fn status_of(refused: Option<ReceiveFault>) -> Status
     }
 }
 
-/// Receives a SYSMOD, with the source that the command adds. Its copy is for the tables, and is made first: once it is
-/// received, its holds stand among the others.
+/// Receives a SYSMOD that nothing refuses. Its copy is for the tables, and is made first: once it is received, its
+/// holds stand among the others.
+fn take_new(
+    alloc: Global,
+    global: &mut GlobalZone,
+    sysmod: Sysmod,
+    edits: &mut Vec<GlobalEdit>,
+) -> Result<(), AllocError>
+    requires { IsRefusal global.old sysmod None }
+    ensures global { OnOk result (global.new ≡ received global.old sysmod) }
+    ensures edits { OnOk result (edits.new.items ≡ edits.old.items ++ edits_of sysmod) }
+{
+    let copy = sysmod.try_clone(alloc)?;
+    global.receive(alloc, sysmod)?;
+    write_received(alloc, edits, copy)
+}
+
+/// Receives a SYSMOD unless this refuses it. A refused one is neither copied nor written.
+fn take_unless(
+    alloc: Global,
+    global: &mut GlobalZone,
+    refused: Option<ReceiveFault>,
+    sysmod: Sysmod,
+    edits: &mut Vec<GlobalEdit>,
+) -> Result<(), AllocError>
+    requires { IsRefusal global.old sysmod refused }
+    ensures global { OnOk result (IsReceived global.old sysmod global.new refused) }
+    ensures edits { OnOk result (edits.new.items ≡ edits.old.items ++ edits_after refused sysmod) }
+{
+    match refused {
+        None => take_new(alloc, global, sysmod, edits),
+        Some(_) => Ok(()),
+    }
+}
+
+/// Receives a SYSMOD, with the source that the command adds.
 fn take_sysmod(
     alloc: Global,
     global: &mut GlobalZone,
@@ -57,10 +93,9 @@ fn take_sysmod(
     let id = sysmod.id;
     let kind = sysmod.kind;
     let sysmod = with_source(sysmod, source)?;
-    let copy = sysmod.try_clone(alloc)?;
-    copy.attest();
-    let refused = global.receive(alloc, sysmod)?;
-    write_received(alloc, &mut taken.edits, refused, copy)?;
+    sysmod.attest();
+    let refused = global.refusal(alloc, &sysmod)?;
+    take_unless(alloc, global, refused, sysmod, &mut taken.edits)?;
     taken.lines.push(Line::Status {
         id,
         place: Place::Kind(kind),

@@ -9,11 +9,11 @@ ghost use Rattle.report.specs.Views.{line_view};
 use crate::lines::lines_of;
 use cntl::RestoreList;
 use decide::{Decided, decide};
-use fields::IdList;
+use fields::{Attest, IdList};
 use report::Line;
 use std::alloc::{AllocError, Global};
 use sysmods::GlobalZone;
-use undo::{Judged, judge_restore, restore_list};
+use undo::{Judged, Scope, applied_ids, judge_restore, restore_list};
 use zones::{Zone, ZoneDelta};
 use zones_views::choose;
 
@@ -25,7 +25,7 @@ pub struct Restored {
 }
 
 /// Takes SYSMODs of the list off the target zone, back to what its distribution zone holds. Whether the command checks
-/// alone is its caller's matter.
+/// alone is its caller's matter. An error comes where memory runs out.
 pub fn restore(
     alloc: Global,
     global: &GlobalZone,
@@ -39,13 +39,20 @@ pub fn restore(
 {
     let none = IdList::new(alloc);
     let vers = choose(alloc, global, zone, &none)?;
-    let ids = restore_list(alloc, &vers, zone, accepted, list)?;
+    let applied = applied_ids(alloc, zone)?;
+    let scope = Scope {
+        vers: &vers,
+        zone,
+        accepted,
+        applied: applied.as_slice(),
+    };
+    let ids = restore_list(alloc, &scope, list)?;
     let Judged {
         cands,
         tests,
         wants,
-    } = judge_restore(alloc, &vers, zone, accepted, &ids)?;
-    let _ = cands.as_slice();
+    } = judge_restore(alloc, &scope, &ids)?;
+    cands.attest();
     let Decided { kept, failed } = decide(alloc, &cands, tests, wants.as_slice(), &[])?;
     let lines = lines_of(alloc, global, ids.as_slice(), &kept, failed.as_slice())?;
     let delta = undo::restore(alloc, global, zone, accepted, &kept)?;

@@ -1,19 +1,18 @@
 -- What APPLY and ACCEPT lead to: a state with one zone changed, whose tables are an inventory's.
 use Rattle.std.proofs.Common.{◌≡◌, ◌≢◌, ◌∙◌, Bool, true, false, List, [], ◌∷◌, ◌++◌, Option, Some, IsTrue}
 use Rattle.std.proofs.Common.{refl, sym, ap, subst, inl, inr, true≢false}
-use Rattle.std.specs.Prelude.{IsSome, find, option_map, if◌then◌else◌}
+use Rattle.std.specs.Prelude.{find, option_map, if◌then◌else◌}
 use Rattle.std.specs.List.{AllByRecursion}
 use Rattle.std.specs.Str.{bytes_eq}
 use Rattle.std.specs.Ordering.{nat_cmp, is_lt}
 use Rattle.std.specs.Cmp.Lexicographic.{slice_cmp}
 use Rattle.std.proofs.lemmas.Cmp.{nat_list_cmp_total, tied_itself}
 use Rattle.std.proofs.lemmas.List.Elements.{All-append, All-weaker, recursion_from_All}
-use Rattle.indexmap.specs.IndexMap.{get, Updates}
+use Rattle.indexmap.specs.IndexMap.{Updates}
 use Rattle.terms.specs.declared.kinds.ZoneKind.{ZoneKind}
 use Rattle.terms.specs.declared.kinds.ZoneKind.TheVariants.{Target, Distribution}
 use Rattle.terms.specs.Types.{Text, Zone, NamedZone, Bypass, Selection, Install, Command}
 use Rattle.zones.specs.Delta.{ZoneDelta, IsChanged}
-use Rattle.terms.specs.Forms.{IsDottedDate}
 use Rattle.terms.specs.Lookups.{is_before}
 use Rattle.terms.specs.Rising.{Rises, with_item}
 use Rattle.lemmas.proofs.Pairs.{pairs_unmap, AllPairs_parts}
@@ -30,7 +29,7 @@ use Rattle.smpe_upkeep.proofs.ZonesKept.{stands_among}
 use Rattle.smpe_upkeep.proofs.InstallForms.{apply_kept}
 use Rattle.smpe_session.specs.declared.session.Session.{Session}
 use Rattle.smpe_session.specs.Sessions.{IsSessionOf}
-use Rattle.smpe_session.specs.Places.{install_command, related_for, IsPlace, IsPlan}
+use Rattle.smpe_session.specs.Places.{install_command, related_for, IsPlace, IsPlan, ChangesZone}
 use Rattle.smpe_session.proofs.Places.{install_at}
 use Rattle.smpe_session.proofs.Seeking.{zones_updated, some_updated}
 
@@ -145,61 +144,44 @@ runs_there date files Target i s t outcome there = there
 runs_there date files Distribution i s t outcome there = there
 
 -- what was planned, as the command's own words
-pub record IsReady (date : Text) (kind : ZoneKind) (i : Install) (s : State) (at : Session) (name : Text) (zone : Zone)
-    (delta : ZoneDelta) (new : Zone) (lines : List Line) : Type 0 where
-  pub place : IsPlace s at kind name zone
-  pub dated : IsDottedDate date
-  pub changed : IsChanged delta zone new
-  pub printed : List Line
-  pub installs : InstallsSelected s.global zone (related_for kind s.zones name) i.selection i.bypass date new printed
-  pub lines_are : lines ≡ or_nothing printed
-
-pub planned : (date : Text) (kind : ZoneKind) (i : Install) (s : State) (at : Session) (name : Text) (zone : Zone)
-    (related : Option Zone) (sel : Selection) (bypass : Bypass) (delta : ZoneDelta) (new : Zone) (lines : List Line)
+pub install_changes : (date : Text) (kind : ZoneKind) (i : Install) (s : State) (at : Session) (name : Text)
+    (zone : Zone) (related : Option Zone) (sel : Selection) (bypass : Bypass) (delta : ZoneDelta) (lines : List Line)
     → IsSessionOf s at → IsPlace s at kind name zone → related ≡ related_for kind s.zones name
-    → i.selection ≡ sel → i.bypass ≡ bypass → IsPlan at.global zone related sel bypass date delta new lines
-    → IsReady date kind i s at name zone delta new lines
-planned date kind i s at name zone related sel bypass delta new lines here place looks chosen bypasses plan = record {
-  place = place;
-  dated = plan.dated;
-  changed = plan.changed;
-  printed = plan.printed;
-  installs = subst (λ r. InstallsSelected s.global zone r i.selection i.bypass date new plan.printed) looks
-      (subst (λ g. InstallsSelected g zone related i.selection i.bypass date new plan.printed) here.global
-      (subst (λ x. InstallsSelected at.global zone related x i.bypass date new plan.printed) (sym chosen)
-      (subst (λ b. InstallsSelected at.global zone related sel b date new plan.printed) (sym bypasses) plan.installs)));
-  lines_are = plan.lines_are;
-}
-
-module _ (date : Text) (kind : ZoneKind) (i : Install) (s : State) (at : Session) (name : Text) (zone : Zone)
-    (delta : ZoneDelta) (new : Zone) (lines : List Line)
-    (ready : IsReady date kind i s at name zone delta new lines) where
-  pub install_performs : (files : Files) (check : Bool) (t : State) (header : Header) → i.check ≡ check
-      → t ≡ (if check then s else with_zone s name new) → header ≡ header_of (install_command kind i) s.boundary
-      → Performs date files s (install_command kind i) t (Ran header lines)
-  install_performs files check t header checks state headed = inr (
-    install_at s kind i ∙ ready.place.fits,
-    runs_there date files kind i s t (Ran header lines) record {
-      name = name;
-      at = ready.place.boundary;
+    → i.selection ≡ sel → i.bypass ≡ bypass → IsPlan at.global zone related sel bypass date delta lines
+    → (files : Files) (check : Bool) (header : Header) → i.check ≡ check
+    → header ≡ header_of (install_command kind i) s.boundary
+    → ChangesZone date files (install_command kind i) s at name delta check (Ran header lines)
+install_changes date kind i s at name zone related sel bypass delta lines here place looks chosen bypasses plan files
+    check header checks headed = record {
       zone = zone;
-      is_there = ready.place.is_there;
-      new = new;
-      lines = ready.printed;
-      installs = ready.installs;
-      state = state ∙ ap (λ c. if c then s else with_zone s name new) (sym checks);
-      prints = ap (Ran header) ready.lines_are ∙ ap (λ h. Ran h (or_nothing ready.printed)) headed;
-    },
-  )
-
-  -- what a commit of the change asks for
-  pub install_commits : {Committed : Type 0} → IsInventory (kept s)
-      → ((was : Zone) → IsZoneChange name was new (kept s) (kept (with_zone s name new)) → IsChanged delta was new
-      → IsInventory (kept (with_zone s name new)) → IsSome (get bytes_eq at.zones name) → Committed) → Committed
-  install_commits is commits = commits zone (zone_change (kept s) name zone new is ready.place.is_there) ready.changed
-      (apply_kept (kept s) name zone new (related_for kind s.zones name) i.selection i.bypass date ready.printed is
-      ready.place.is_there ready.installs ready.dated)
-      (subst IsSome (sym ready.place.has) refl)
+      has = place.has;
+      is_there = place.is_there;
+      performs = λ new changed. inr (
+        install_at s kind i ∙ place.fits,
+        runs_there date files kind i s (if check then s else with_zone s name new) (Ran header lines) record {
+          name = name;
+          at = place.boundary;
+          zone = zone;
+          is_there = place.is_there;
+          new = new;
+          lines = plan.printed;
+          installs = installs new changed;
+          state = ap (λ c. if c then s else with_zone s name new) (sym checks);
+          prints = ap (Ran header) plan.lines_are ∙ ap (λ h. Ran h (or_nothing plan.printed)) headed;
+        },
+      );
+      inventory = λ new changed inventory. apply_kept (kept s) name zone new (related_for kind s.zones name) i.selection
+          i.bypass date plan.printed inventory place.is_there (installs new changed) plan.dated;
+    }
+  where
+    installs : (new : Zone) → IsChanged delta zone new
+        → InstallsSelected s.global zone (related_for kind s.zones name) i.selection i.bypass date new plan.printed
+    installs new changed =
+        subst (λ r. InstallsSelected s.global zone r i.selection i.bypass date new plan.printed) looks
+        (subst (λ g. InstallsSelected g zone related i.selection i.bypass date new plan.printed) here.global
+        (subst (λ x. InstallsSelected at.global zone related x i.bypass date new plan.printed) (sym chosen)
+        (subst (λ b. InstallsSelected at.global zone related sel b date new plan.printed) (sym bypasses)
+        (plan.installs new changed))))
 
 -- the command where it can't run
 pub install_refused : (date : Text) (files : Files) (c : Command) (s : State) (header : Header) (why : Refusal)

@@ -1,4 +1,5 @@
 mod AllZones
+mod CarriedOut
 mod Installed
 mod Leading
 mod Looking

@@ -1,30 +1,28 @@
 -- Where RESTORE runs, and what it leads to.
 use Rattle.std.proofs.Common.{◌≡◌, ◌∙◌, Bool, List, Option, Some, None, refl, sym, ap, subst, inl, inr}
-use Rattle.std.specs.Prelude.{IsSome, is_some, find, option_map, if◌then◌else◌}
+use Rattle.std.specs.Prelude.{IsSome, is_some, if◌then◌else◌}
 use Rattle.std.specs.Option.{option_and_then}
 use Rattle.std.specs.Str.{bytes_eq}
 use Rattle.indexmap.specs.IndexMap.{get}
 use Rattle.terms.specs.declared.kinds.ZoneKind.{ZoneKind}
 use Rattle.terms.specs.declared.kinds.ZoneKind.TheVariants.{Target}
-use Rattle.terms.specs.Types.{Text, Zone, NamedZone, RestoreList, Restore}
-use Rattle.lemmas.proofs.Searches.{All_find}
+use Rattle.terms.specs.Types.{Text, Zone, RestoreList, Restore}
 use Rattle.zones.specs.Delta.{ZoneDelta, IsChanged}
-use Rattle.store_zones.specs.Zones.{IsZoneChange}
 use Rattle.store_schema.specs.Inventory.{IsInventory, IsRelated}
 use Rattle.machine.specs.Outcome.{Line, Ran, header_of}
 use Rattle.machine.specs.Restoring.{RestoresListed}
 use Rattle.machine.specs.State.{State, zone_named, with_zone}
-use Rattle.machine.specs.Machine.{Files, Performs}
+use Rattle.machine.specs.Machine.{Files}
 use Rattle.smpe_zones.specs.Kept.{kept}
 use Rattle.smpe_upkeep.proofs.RestoreForms.{restore_kept}
 use Rattle.smpe_session.specs.declared.session.Session.{Session}
 use Rattle.smpe_session.specs.Sessions.{IsSessionOf}
 use Rattle.smpe_session.specs.Steps.{IsSought}
-use Rattle.smpe_session.specs.Places.{IsPlace}
-use Rattle.smpe_session.specs.Restored.{HasAccepted, IsTarget, IsRestorePlan}
-use Rattle.smpe_session.proofs.Installed.{zone_change}
+use Rattle.smpe_session.specs.Places.{IsPlace, ChangesZone}
+use Rattle.smpe_session.specs.Restored.{HasAccepted, IsTarget}
+use Rattle.smpe_session.proofs.Leading.{headed}
 use Rattle.smpe_session.proofs.Places.{none_global, restore_at}
-use Rattle.smpe_session.proofs.StateZones.{its_own, sought_held}
+use Rattle.smpe_session.proofs.StateZones.{each_named, its_own, sought_held}
 
 abbrev related_in : Option Zone → Option Text
 related_in zone = option_and_then (λ (z : Zone). z.related) zone
@@ -89,17 +87,8 @@ module _ (s : State) (inventory : IsInventory (kept s)) where
 
   is_related : (name : Text) (zone : Zone) → zone_named s.zones name ≡ Some zone
       → Related zone.kind zone.srel zone.related
-  is_related name zone there = by (find (λ z. bytes_eq z.name name) s.zones) refl
-    where
-      by : (z : Option NamedZone) → find (λ z. bytes_eq z.name name) s.zones ≡ z
-          → Related zone.kind zone.srel zone.related
-      by None at = absurd (cc (sym there ∙ ap (option_map (λ z. z.zone)) at))
-      by (Some z) at =
-          let same : Some z.zone ≡ Some zone = sym (ap (option_map (λ z. z.zone)) at) ∙ there in
-          let is : z.zone ≡ zone = cc same in
-          subst (λ (y : Zone). Related y.kind y.srel y.related) is
-          (All_find (λ (z : NamedZone). Related z.zone.kind z.zone.srel z.zone.related)
-          (λ z. bytes_eq z.name name) s.zones z inventory.related at)
+  is_related name zone there = each_named (λ (z : Zone). Related z.kind z.srel z.related) s.zones inventory.related
+      name zone there
 
   module _ (at : Session) (accepted : Option Text) (has : HasAccepted s at accepted) (name : Text) (zone : Zone)
       (place : IsPlace s at Target name zone) where
@@ -123,40 +112,37 @@ module _ (s : State) (inventory : IsInventory (kept s)) where
         absurd (cc (sym (ap is_some (sym beside ∙ none)) ∙ some))
 
 -- what was planned, as the command's own words
-pub restores_there : (s : State) (at : Session) (zone accepted new : Zone) (what : RestoreList) (delta : ZoneDelta)
-    (lines : List Line) → IsSessionOf s at → IsRestorePlan at.global zone accepted what delta new lines
-    → RestoresListed s.global zone accepted what new lines
-restores_there s at zone accepted new what delta lines is plan =
-    subst (λ g. RestoresListed g zone accepted what new lines) is.global plan.restores
-
-module _ (s : State) (at : Session) (name : Text) (zone accepted new : Zone) (what : RestoreList) (lines : List Line)
-    (target : IsTarget s at name zone accepted)
-    (restores : RestoresListed s.global zone accepted what new lines) where
-  pub restore_performs : (date : Text) (files : Files) (check : Bool) (t : State)
-      → t ≡ (if check then s else with_zone s name new)
-      → Performs date files s (Restore what check) t (Ran (header_of (Restore what check) s.boundary) lines)
-  restore_performs date files check t state = inr (
-    restore_at s what check ∙ target.fits,
-    record {
-      name = name;
-      at = target.boundary;
-      zone = zone;
-      is_there = target.is_there;
-      accepted = accepted;
-      related = target.related;
-      new = new;
-      lines = lines;
-      restores = restores;
-      state = state;
-      prints = refl;
-    },
-  )
-
-  -- what a commit of the change asks for
-  pub restore_commits : (delta : ZoneDelta) → IsChanged delta zone new → {Committed : Type 0} → IsInventory (kept s)
-      → ((was : Zone) → IsZoneChange name was new (kept s) (kept (with_zone s name new)) → IsChanged delta was new
-      → IsInventory (kept (with_zone s name new)) → IsSome (get bytes_eq at.zones name) → Committed) → Committed
-  restore_commits delta changed is commits = commits zone
-      (zone_change (kept s) name zone new is target.is_there) changed
-      (restore_kept (kept s) name zone accepted new what lines is target.is_there target.related restores)
-      (subst IsSome (sym target.has) refl)
+pub restore_changes : (s : State) (at : Session) (name : Text) (zone accepted : Zone) (what : RestoreList)
+    (delta : ZoneDelta) (lines : List Line) → IsSessionOf s at → IsTarget s at name zone accepted
+    → ((new : Zone) → IsChanged delta zone new → RestoresListed at.global zone accepted what new lines)
+    → (date : Text) (files : Files) (check : Bool) (boundary : Option Text) → boundary ≡ s.boundary
+    → ChangesZone date files (Restore what check) s at name delta check
+    (Ran (header_of (Restore what check) boundary) lines)
+restore_changes s at name zone accepted what delta lines is target plan date files check boundary same = record {
+  zone = zone;
+  has = target.has;
+  is_there = target.is_there;
+  performs = λ new changed. headed date files (Restore what check) s (if check then s else with_zone s name new)
+      boundary (λ h. Ran h lines) same (inr (
+        restore_at s what check ∙ target.fits,
+        record {
+          name = name;
+          at = target.boundary;
+          zone = zone;
+          is_there = target.is_there;
+          accepted = accepted;
+          related = target.related;
+          new = new;
+          lines = lines;
+          restores = restores new changed;
+          state = refl;
+          prints = refl;
+        },
+      ));
+  inventory = λ new changed inventory. restore_kept (kept s) name zone accepted new what lines inventory
+      target.is_there target.related (restores new changed);
+}
+  where
+    restores : (new : Zone) → IsChanged delta zone new → RestoresListed s.global zone accepted what new lines
+    restores new changed =
+        subst (λ g. RestoresListed g zone accepted what new lines) is.global (plan new changed)

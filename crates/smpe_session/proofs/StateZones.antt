@@ -1,6 +1,7 @@
 -- Zones of the state: each is that of its name, and the session has it once it was sought.
-use Rattle.std.proofs.Common.{◌≡◌, ◌∙◌, Bool, Option, Some, None, IsTrue, Contains, refl, sym, ap, inl, inr}
-use Rattle.std.specs.Prelude.{IsSome, is_some, option_map}
+use Rattle.std.proofs.Common.{◌≡◌, ◌∙◌, Bool, List, Option, Some, None, IsTrue, All, Contains, refl, sym, ap}
+use Rattle.std.proofs.Common.{subst, inl, inr}
+use Rattle.std.specs.Prelude.{IsSome, is_some, find, option_map}
 use Rattle.std.specs.Str.{bytes_eq}
 use Rattle.std.specs.Ordering.{nat_cmp}
 use Rattle.std.specs.Cmp.Lexicographic.{slice_cmp, texts_ties}
@@ -11,6 +12,7 @@ use Rattle.terms.specs.Types.{Text, Zone, NamedZone}
 use Rattle.terms.specs.Lookups.{is_before}
 use Rattle.terms.specs.Rising.{Rises}
 use Rattle.lemmas.proofs.Pairs.{pairs_unmap}
+use Rattle.lemmas.proofs.Searches.{All_find}
 use Rattle.store_schema.specs.Inventory.{IsInventory}
 use Rattle.machine.specs.State.{State, global_name, zone_named}
 use Rattle.smpe_zones.specs.Kept.{kept}
@@ -46,3 +48,15 @@ module _ (s : State) (inventory : IsInventory (kept s)) where
           | inl global ↦ absurd (cc (sym there ∙ ap (zone_named s.zones) global ∙ no_global))
           | inr some ↦ got (get bytes_eq at.zones name) refl some
         ]
+
+-- what is so of each zone is so of one that is named
+pub each_named : (P : Zone → Type 0) (zones : List NamedZone) → All (λ (z : NamedZone). P z.zone) zones → (name : Text)
+    (zone : Zone) → zone_named zones name ≡ Some zone → P zone
+each_named P zones each name zone there = by (find (λ z. bytes_eq z.name name) zones) refl
+  where
+    by : (z : Option NamedZone) → find (λ z. bytes_eq z.name name) zones ≡ z → P zone
+    by None at = absurd (cc (sym there ∙ ap (option_map (λ z. z.zone)) at))
+    by (Some z) at =
+        let both : Some z.zone ≡ Some zone = sym (ap (option_map (λ z. z.zone)) at) ∙ there in
+        let same : z.zone ≡ zone = cc both in
+        subst P same (All_find (λ (z : NamedZone). P z.zone) (λ z. bytes_eq z.name name) zones z each at)

@@ -170,6 +170,14 @@ module _ {S : Type 0} (g : Ghosts S) (old mid at : Held S) (s : State) (later : 
   staying_since a NoState stays = stays
   staying_since a Memory stays = stays
 
+  pub performs_since : (session : Session) (date : Text) (files : Files) (c : Command) (r : Result Outcome StoreError)
+      → HasPerformed g mid at s session date files c r → HasPerformed g old at s session date files c r
+  performs_since session date files c (Ok outcome) performed = performed
+  performs_since session date files c (Err Fault) faulted = staying_since (Perform date files c) Fault faulted
+  performs_since session date files c (Err OtherSchema) none = none
+  performs_since session date files c (Err NoState) none = none
+  performs_since session date files c (Err Memory) stopped = stopped
+
 -- no state is told of a command but where it ended so
 pub told_none : {S : Type 0} (g : Ghosts S) (old new : Held S) (r : Result Outcome StoreError)
     (told_so : Result Performed StoreError) → told_so ≡ told r → TellsNoState g old new r

@@ -1,5 +1,5 @@
 -- Where APPLY, ACCEPT and RESTORE run, what they look at, and what they come to before it is committed.
-use Rattle.std.specs.Prelude.{◌≡◌, List, Option, None, Some, Result, Ok, Err}
+use Rattle.std.specs.Prelude.{◌≡◌, Bool, List, Option, None, Some, Result, Ok, Err, if◌then◌else◌}
 use Rattle.std.specs.Option.{option_and_then}
 use Rattle.std.specs.Str.{bytes_eq}
 use Rattle.indexmap.specs.IndexMap.{get}
@@ -9,10 +9,13 @@ use Rattle.terms.specs.Types.{Text, Global, Zone, NamedZone, Bypass, Selection, 
 use Rattle.zones.specs.Delta.{ZoneDelta, IsChanged}
 use Rattle.terms.specs.Forms.{IsDottedDate}
 use Rattle.machine.specs.Installing.{InstallsSelected}
-use Rattle.machine.specs.Outcome.{Line, or_nothing}
-use Rattle.machine.specs.State.{State, zone_named, target_of, at_kind, unless_at}
+use Rattle.machine.specs.Machine.{Files, Performs}
+use Rattle.machine.specs.Outcome.{Line, Outcome, or_nothing}
+use Rattle.machine.specs.State.{State, zone_named, with_zone, target_of, at_kind, unless_at}
 use Rattle.report.specs.declared.outcome.Refusal.{Refusal}
 use Rattle.report.specs.Views.{refusal_view}
+use Rattle.store_schema.specs.Inventory.{IsInventory}
+use Rattle.smpe_zones.specs.Kept.{kept}
 use Rattle.smpe_session.specs.declared.session.Session.{Session}
 use Rattle.smpe_session.specs.Sessions.{IsSessionOf}
 
@@ -45,11 +48,21 @@ abbrev pub HasPlace : State → Session → ZoneKind → {V : Type 0} → (V →
 HasPlace s at kind name zone (Ok v) = IsPlace s at kind (name v) (zone v)
 HasPlace s at kind name zone (Err why) = unless_at (at_kind kind s) s ≡ Some (refusal_view why)
 
--- The change, the changed zone and the lines are those of an APPLY or ACCEPT.
+-- The change and the lines are those of an APPLY or ACCEPT.
 pub record IsPlan (g : Global) (zone : Zone) (related : Option Zone) (sel : Selection) (bypass : Bypass) (date : Text)
-    (delta : ZoneDelta) (new : Zone) (lines : List Line) : Type 0 where
+    (delta : ZoneDelta) (lines : List Line) : Type 0 where
   pub dated : IsDottedDate date
-  pub changed : IsChanged delta zone new
   pub printed : List Line
-  pub installs : InstallsSelected g zone related sel bypass date new printed
+  pub installs : (new : Zone) → IsChanged delta zone new → InstallsSelected g zone related sel bypass date new printed
   pub lines_are : lines ≡ or_nothing printed
+
+-- The command changes this zone of the session so and has this outcome. Where it checks alone, the state stays.
+pub record ChangesZone (date : Text) (files : Files) (c : Command) (s : State) (at : Session) (name : Text)
+    (delta : ZoneDelta) (check : Bool) (outcome : Outcome) : Type 0 where
+  pub zone : Zone
+  pub has : get bytes_eq at.zones name ≡ Some zone
+  pub is_there : zone_named s.zones name ≡ Some zone
+  pub performs : (new : Zone) → IsChanged delta zone new
+      → Performs date files s c (if check then s else with_zone s name new) outcome
+  pub inventory : (new : Zone) → IsChanged delta zone new → IsInventory (kept s)
+      → IsInventory (kept (with_zone s name new))

@@ -1,13 +1,10 @@
--- Where RESTORE runs, and what it comes to before it is committed.
-use Rattle.std.specs.Prelude.{◌≡◌, List, Option, None, Some, Result, Ok, Err}
+-- Where RESTORE runs.
+use Rattle.std.specs.Prelude.{◌≡◌, Option, None, Some, Result, Ok, Err}
 use Rattle.std.specs.Option.{option_and_then}
 use Rattle.std.specs.Str.{bytes_eq}
 use Rattle.indexmap.specs.IndexMap.{get}
 use Rattle.terms.specs.declared.kinds.ZoneKind.TheVariants.{Target}
-use Rattle.terms.specs.Types.{Text, Global, Zone, RestoreList}
-use Rattle.zones.specs.Delta.{ZoneDelta, IsChanged}
-use Rattle.machine.specs.Outcome.{Line}
-use Rattle.machine.specs.Restoring.{RestoresListed}
+use Rattle.terms.specs.Types.{Text, Zone}
 use Rattle.machine.specs.State.{State, zone_named, at_kind, unless_at}
 use Rattle.report.specs.declared.outcome.Refusal.{Refusal}
 use Rattle.report.specs.Views.{refusal_view}
@@ -33,9 +30,3 @@ abbrev pub HasTarget : State → Session → {V : Type 0} → (V → Text) → (
     → Type 0
 HasTarget s at name zone accepted (Ok v) = IsTarget s at (name v) (zone v) (accepted v)
 HasTarget s at name zone accepted (Err why) = unless_at (at_kind Target s) s ≡ Some (refusal_view why)
-
--- The change, the changed zone and the lines are those of a RESTORE.
-pub record IsRestorePlan (g : Global) (zone accepted : Zone) (what : RestoreList) (delta : ZoneDelta) (new : Zone)
-    (lines : List Line) : Type 0 where
-  pub changed : IsChanged delta zone new
-  pub restores : RestoresListed g zone accepted what new lines

@@ -1,13 +1,11 @@
 //! APPLY and ACCEPT: what is selected comes into the zone of the boundary.
-ghost use Rattle.std.specs.Prelude.{◌≡◌, ◌≤◌, Some, IfOk, OnOk, IsSome, IsTrue, map, option_copied};
+ghost use Rattle.std.specs.Prelude.{◌≡◌, ◌≤◌, IfOk, OnOk, IsTrue, map, option_copied};
 ghost use Rattle.std.specs.Option.{option_and_then};
 ghost use Rattle.std.specs.Str.{bytes_eq};
-ghost use Rattle.indexmap.specs.IndexMap.{get, Updates};
+ghost use Rattle.indexmap.specs.IndexMap.{get};
 ghost use Rattle.sqlite.specs.Held.{state};
 ghost use Rattle.sqlite.specs.State.{HasCleanDisk};
-ghost use Rattle.terms.specs.Types.{Install as AnInstall, Zone as AZone};
-ghost use Rattle.zones.specs.Delta.{IsChanged};
-ghost use Rattle.store_zones.specs.Zones.{IsZoneChange};
+ghost use Rattle.terms.specs.Types.{Install as AnInstall};
 ghost use Rattle.store_schema.specs.Inventory.{IsInventory};
 ghost use Rattle.machine.specs.Outcome.{header_of};
 ghost use Rattle.machine.specs.State.{State};
@@ -16,25 +14,24 @@ ghost use Rattle.report.specs.Views.{line_view, header_view};
 ghost use Rattle.store.specs.BadRows.{OnlyLoads, TellsNoState};
 ghost use Rattle.smpe_zones.specs.Kept.{kept, Keeps};
 ghost use Rattle.smpe_session.specs.Sessions.{IsSessionOf, HasPerformed};
-ghost use Rattle.smpe_session.specs.Steps.{EndsCommitted, HasLoaded};
+ghost use Rattle.smpe_session.specs.Steps.{HasLoaded};
 ghost use Rattle.smpe_session.specs.Places.{install_command, HasRelated, HasPlace, IsPlan};
 
 use crate::lines::or_nothing;
-use crate::load::{commit_change, load_heads};
+use crate::load::load_heads;
+use crate::planned::Planned;
 use crate::related::target_name;
 use crate::session::Session;
-use crate::set::keep_zone;
 use cntl::{Bypass, Install, Selection};
 use fields::{YyDdd, ZoneName};
-use indexmap::IndexMap;
-use report::{Header, Line, Outcome, Refusal};
+use report::{Header, Outcome, Refusal};
 use smpe_apply::{Applied, apply};
 use sqlite::Alter;
 use std::alloc::{AllocError, Global};
-use store::{Change, Store, StoreError};
+use store::{Store, StoreError};
 use sysmods::GlobalZone;
 use terms::{CommandWord, ZoneKind};
-use zones::{Zone, ZoneDelta};
+use zones::Zone;
 
 /// A zone under its name.
 #[derive(Clone, Copy)]
@@ -43,17 +40,11 @@ pub(crate) struct Place<'a> {
     pub zone: &'a Zone,
 }
 
-/// What an APPLY, ACCEPT or RESTORE comes to before it is committed: the zone's change, the changed zone and the lines.
-#[derive(Drop)]
-pub(crate) struct Planned {
-    pub delta: ZoneDelta,
-    pub zone: Zone,
-    pub lines: Vec<Line>,
-}
-
 /// The header of the command that installs into a zone of this kind.
 fn header(kind: ZoneKind, boundary: Option<ZoneName>, check: bool) -> Header
-    ensures { (i : AnInstall) → i.check ≡ check → header_view result ≡ header_of (install_command kind i) boundary }
+    ensures view { (i : AnInstall) → i.check ≡ check
+        → header_view result ≡ header_of (install_command kind i) boundary }
+    ensures check { result.check ≡ check }
 {
     let word = match kind {
         ZoneKind::Target => CommandWord::Apply,
@@ -76,35 +67,11 @@ fn plan(
     date: YyDdd,
 ) -> Result<Planned, AllocError>
     ensures { IfOk result (λ p. IsPlan global.now zone.now (option_copied related.entry) selection.now bypass.now date
-        p.delta p.zone (map line_view p.lines.items)) }
+        p.delta (map line_view p.lines.items)) }
 {
     let Applied { delta, lines } = apply(alloc, global, zone, related, selection, bypass, date)?;
     let lines = or_nothing(lines)?;
-    let zone = delta.apply(alloc, zone)?;
-    Ok(Planned { delta, zone, lines })
-}
-
-/// Commits the change of a zone of the session, which then has the changed one.
-pub(crate) fn replace_zone<S: Alter>(
-    store: &mut Store<S>,
-    zones: &mut IndexMap<ZoneName, Zone>,
-    name: ZoneName,
-    delta: ZoneDelta,
-    zone: Zone,
-) -> Result<(), StoreError>
-    ensures clean { HasCleanDisk (state S.Store store.new) → HasCleanDisk (state S.Store store.old) }
-    ensures faults { (state S.Store store.old).faults ≤ (state S.Store store.new).faults }
-    ensures limit { store.new.step_limit ≡ store.old.step_limit }
-    ensures none { TellsNoState S.Store store.old store.new result }
-    ensures ended { HasCleanDisk (state S.Store store.new) → (s t : State) (was : AZone) → Keeps S.Store store.old s
-        → IsZoneChange name was zone (kept s) (kept t) → IsChanged delta was zone
-        → IsInventory (kept t) → IsSome (get bytes_eq zones.old name)
-        → EndsCommitted S.Store store.old store.new s t result }
-    ensures updates { OnOk result (Updates bytes_eq zones.old zones.new name (Some zone)) }
-{
-    commit_change(store, &Change::Zone(name, delta))?;
-    keep_zone(zones, name, zone)?;
-    Ok(())
+    Ok(Planned { delta, lines })
 }
 
 impl Session {
@@ -206,7 +173,7 @@ impl Session {
         match self.place(kind) {
             Ok(place) => {
                 let name = place.name;
-                let Planned { delta, zone, lines } = plan(
+                let planned = plan(
                     alloc,
                     &self.global,
                     place.zone,
@@ -215,12 +182,7 @@ impl Session {
                     &install.bypass,
                     date,
                 )?;
-                // The changed zone was made all the same: it shows that the lines are those of an install.
-                if install.check {
-                    return Ok(Outcome::Ran { header, lines });
-                }
-                replace_zone(store, &mut self.zones, name, delta, zone)?;
-                Ok(Outcome::Ran { header, lines })
+                self.carry_out(alloc, store, header, name, planned)
             }
             Err(refusal) => Ok(Outcome::Refused { header, refusal }),
         }

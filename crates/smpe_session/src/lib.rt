@@ -14,6 +14,7 @@ mod install;
 mod lines;
 mod list;
 mod load;
+mod planned;
 mod read;
 mod receive;
 mod reject;

@@ -1,5 +1,5 @@
 //! RESTORE: SYSMODs go off the target zone of the boundary, back to what its distribution zone holds.
-ghost use Rattle.std.specs.Prelude.{◌≡◌, ◌≤◌, IfOk, IsTrue, OnOk, map};
+ghost use Rattle.std.specs.Prelude.{◌≡◌, ◌≤◌, IsTrue, OnOk};
 ghost use Rattle.std.specs.Option.{option_and_then};
 ghost use Rattle.std.specs.Str.{bytes_eq};
 ghost use Rattle.indexmap.specs.IndexMap.{get};
@@ -10,23 +10,21 @@ ghost use Rattle.cntl.specs.Views.{restore_list_of};
 ghost use Rattle.store_schema.specs.Inventory.{IsInventory};
 ghost use Rattle.machine.specs.State.{State};
 ghost use Rattle.machine.specs.Machine.{Files};
-ghost use Rattle.report.specs.Views.{line_view};
 ghost use Rattle.store.specs.BadRows.{OnlyLoads, TellsNoState};
 ghost use Rattle.smpe_zones.specs.Kept.{kept, Keeps};
 ghost use Rattle.smpe_session.specs.Sessions.{IsSessionOf, HasPerformed};
 ghost use Rattle.smpe_session.specs.Steps.{HasLoaded};
-ghost use Rattle.smpe_session.specs.Restored.{HasAccepted, HasTarget, IsRestorePlan};
+ghost use Rattle.smpe_session.specs.Restored.{HasAccepted, HasTarget};
 
-use crate::install::{Planned, replace_zone};
+use crate::planned::Planned;
 use crate::session::Session;
 use cntl::RestoreList;
 use fields::ZoneName;
 use report::{Header, Outcome, Refusal};
 use smpe_restore::{Restored, restore};
 use sqlite::Alter;
-use std::alloc::{AllocError, Global};
+use std::alloc::Global;
 use store::{Store, StoreError};
-use sysmods::GlobalZone;
 use terms::{CommandWord, ZoneKind};
 use zones::Zone;
 
@@ -36,21 +34,6 @@ struct Target<'a> {
     name: ZoneName,
     zone: &'a Zone,
     accepted: &'a Zone,
-}
-
-fn plan(
-    alloc: Global,
-    global: &GlobalZone,
-    zone: &Zone,
-    accepted: &Zone,
-    list: &RestoreList,
-) -> Result<Planned, AllocError>
-    ensures { IfOk result (λ p. IsRestorePlan global.now zone.now accepted.now (restore_list_of list.now) p.delta p.zone
-        (map line_view p.lines.items)) }
-{
-    let Restored { delta, lines } = restore(alloc, global, zone, accepted, list)?;
-    let zone = delta.apply(alloc, zone)?;
-    Ok(Planned { delta, zone, lines })
 }
 
 impl Session {
@@ -131,19 +114,14 @@ impl Session {
         match self.target(accepted) {
             Ok(target) => {
                 let name = target.name;
-                let Planned { delta, zone, lines } = plan(
+                let Restored { delta, lines } = restore(
                     alloc,
                     &self.global,
                     target.zone,
                     target.accepted,
                     list,
                 )?;
-                // The changed zone was made all the same: it shows that the lines are those of a RESTORE.
-                if check {
-                    return Ok(Outcome::Ran { header, lines });
-                }
-                replace_zone(store, &mut self.zones, name, delta, zone)?;
-                Ok(Outcome::Ran { header, lines })
+                self.carry_out(alloc, store, header, name, Planned { delta, lines })
             }
             Err(refusal) => Ok(Outcome::Refused { header, refusal }),
         }

@@ -50,7 +50,8 @@ fn told(ended: Result<Outcome<'static>, StoreError>) -> Result<Performed, StoreE
 }
 
 impl Session {
-    /// A job begins: the global zone is loaded, and there is no boundary.
+    /// A job begins: the global zone is loaded, and there is no boundary. `Memory` comes where memory runs out, `Fault`
+    /// where the database fails, and `NoState` where the rows stand for no state.
     pub fn begin<S: Alter>(alloc: Global, store: &mut Store<S>) -> Result<Session, StoreError>
         ensures clean { HasCleanDisk (state S.Store store.new) → HasCleanDisk (state S.Store store.old) }
         ensures faults { (state S.Store store.old).faults ≤ (state S.Store store.new).faults }
@@ -68,7 +69,9 @@ impl Session {
         })
     }
 
-    /// Performs a command, which is committed before it is told of.
+    /// Performs a command, which is committed before it is told of. `Memory` comes where memory runs out, `Fault` where
+    /// the database fails, and `NoState` where a zone is loaded whose rows stand for none. No command of the job may
+    /// follow then: the session may be ahead of the tables.
     pub fn perform<S: Alter>(
         &mut self,
         alloc: Global,

@@ -32,6 +32,8 @@ use Rattle.smpe_upkeep.proofs.Lists.{each_alike}
 use Rattle.smpe_upkeep.proofs.ZonesKept.{stands_among}
 use Rattle.machine.specs.State.{State, zone_named, with_zone, ZoneDefinition, Zn1, Zn2, Zn3, Zn4, define_zone}
 use Rattle.machine.specs.State.{is_related, has_right_related, has_same_srel, global_name}
+use Rattle.std.proofs.lemmas.Bool.{or_parts}
+use Rattle.lemmas.proofs.Booleans.{false_from_not}
 
 tests : {T E : Type 0} (a b c e : Bool) (w x y z : E) (r t : T)
     → (if a then Err w else if not b then Err x else if not c then Err y else if e then Err z else Ok r) ≡ Ok t
@@ -41,10 +43,6 @@ tests false false c e w x y z r t is = absurd (cc is)
 tests false true false e w x y z r t is = absurd (cc is)
 tests false true true true w x y z r t is = absurd (cc is)
 tests false true true false w x y z r t is = (refl, refl, refl, cc is)
-
-neither : (a b : Bool) → IsFalse (a || b) → IsFalse a × IsFalse b
-neither true b is = absurd (cc is)
-neither false b is = (refl, is)
 
 -- what the tests of a definition that is not refused tell, and what it adds
 pub record IsDefined (s t : State) (d : ZoneDefinition) : Type 0 where
@@ -60,7 +58,7 @@ defined s t d is =
     let passed = tests (bytes_eq d.name global_name || is_some (zone_named s.zones d.name))
     (has_right_related s.zones d.kind d.related) (has_same_srel s.zones d.srel d.related) _ Zn1 Zn2 Zn3 Zn4
     (with_zone s d.name (a_zone d.kind d.srel d.related [] [])) t is in
-    let new = neither (bytes_eq d.name global_name) (is_some (zone_named s.zones d.name)) passed.0 in
+    let new = or_parts (bytes_eq d.name global_name) (is_some (zone_named s.zones d.name)) passed.0 in
     record {
       not_global = λ e. true≢false (sym (ap (λ n. bytes_eq n global_name) e ∙ same_itself global_name) ∙ new.0);
       is_new = new.1;
@@ -193,19 +191,15 @@ unrelated : (zones : List NamedZone) (name : Text) → IsFalse (is_related zones
     → AllByRecursion (λ y. y.zone.related ≢ Some name) zones
 unrelated [] name none = tt
 unrelated (z ∷ zs) name none =
-    let parts = neither (option_map_or (bytes_eq name) z.zone.related false) (is_related zs name) none in
+    let parts = or_parts (option_map_or (bytes_eq name) z.zone.related false) (is_related zs name) none in
     (names_other z.zone.related name parts.0, unrelated zs name parts.1)
-
-not_false : (b : Bool) → IsTrue (not b) → IsFalse b
-not_false true h = absurd (cc h)
-not_false false h = refl
 
 apart_back : (zones : List NamedZone) (kind : ZoneKind) (related : Option Text)
     → IsTrue (has_right_related zones kind related)
     → AllByRecursion (λ (y : NamedZone). IfSome related (λ name. y.zone.related ≢ Some name)) zones
 apart_back zones Target None right = absurd (cc right)
 apart_back zones Target (Some name) right =
-    unrelated zones name (not_false (is_related zones name) (and_parts
+    unrelated zones name (false_from_not (is_related zones name) (and_parts
     (option_map_or (λ z. zone_number z.kind == zone_number Distribution) (zone_named zones name) false)
     (not (is_related zones name)) right).1)
 apart_back zones Distribution None right = each_alike (Unit {0}) tt zones

@@ -22,3 +22,4 @@ pub mod StatementForms
 pub mod StepForms
 pub mod Topmost
 pub mod ZonesKept
+pub mod TextForms

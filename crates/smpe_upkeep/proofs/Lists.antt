@@ -1,13 +1,12 @@
 -- What each item of a list has, and what stands in lists.
 use Rattle.std.proofs.Common.{◌≡◌, ◌≤◌, ◌+◌, inl, inr, ℕ, Bool, Some, List, [], ◌∷◌, Contains, find, ap, ◌∙◌, subst}
 use Rattle.std.proofs.Common.{arith}
-use Rattle.std.specs.List.{AllByRecursion, flat_map}
+use Rattle.std.specs.List.{AllByRecursion}
 use Rattle.std.specs.declared.cmp.Ordering.{Ordering}
 use Rattle.std.specs.Ordering.{is_eq}
 use Rattle.std.specs.Cmp.{IsTotalOrder}
 use Rattle.std.proofs.lemmas.Cmp.{tied_itself}
-use Rattle.std.proofs.lemmas.List.Elements.{Contains-append_cases}
-use Rattle.lemmas.proofs.Members.{here, there, here_or, none_in, parts}
+use Rattle.lemmas.proofs.Members.{here_or, none_in, parts}
 use Rattle.terms.specs.Rising.{Rises}
 use Rattle.terms.specs.Types.{Lines}
 use Rattle.terms.specs.Texts.{number_of, line_at, IsNumbered}
@@ -17,16 +16,6 @@ use Rattle.terms.proofs.Texts.{Rises as LinesRise, Rises_numbered, line_at_head,
 pub each_alike : {X : Type 0} (P : Type 0) → P → (xs : List X) → AllByRecursion (λ (x : X). P) xs
 each_alike P is [] = tt
 each_alike P is (x ∷ xs) = (is, each_alike P is xs)
-
--- an item of a list of lists
-pub flat_map_in : {X Y : Type 0} (f : X → List Y) (xs : List X) (y : Y) → Contains (flat_map f xs) y
-    → (x : X) × Contains xs x × Contains (f x) y
-flat_map_in f [] y is_in = absurd (none_in y is_in)
-flat_map_in f (x ∷ xs) y is_in =
-    elim (Contains-append_cases (f x) (flat_map f xs) y is_in) [
-      | inl first ↦ (x, here x xs, first)
-      | inr later ↦ let in_rest = flat_map_in f xs y later in (in_rest.0, there x xs in_rest.0 in_rest.1, in_rest.2)
-    ]
 
 -- An item of a list that rises is what is found at its key.
 pub find_itself : {X K : Type 0} {R : K → K → Ordering} → IsTotalOrder R → (key : X → K) (E : K → K → Bool)

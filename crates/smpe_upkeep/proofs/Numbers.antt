@@ -6,16 +6,13 @@ use Rattle.std.specs.List.{position_or_len}
 use Rattle.std.specs.Option.{option_map_or}
 use Rattle.std.specs.Str.{bytes_eq}
 use Rattle.std.proofs.lemmas.Bool.{ltb-true}
-use Rattle.std.proofs.lemmas.List.Sums.{length-filter, count_by-le-length}
 use Rattle.terms.specs.Types.{Text, Id, Ver, Sysmod, Applied, Global, Zone}
 use Rattle.terms.specs.Lookups.{is_in, sysmod_of, applied_of}
 use Rattle.terms.specs.Choice.{vers_of, fits, place}
 use Rattle.store_schema.specs.Forms.{HasSysmodForms, HasZoneForms}
 use Rattle.smpe_upkeep.proofs.LessForms.{applied_forms}
 use Rattle.smpe_upkeep.proofs.OperandForms.{sysmod_forms}
-
-shorter : {X : Type 0} (p : X → Bool) (xs : List X) → length (filter p xs) ≤ length xs
-shorter p xs = rw (length-filter p xs) (count_by-le-length p xs)
+use Rattle.lemmas.proofs.Searches.{filter_le}
 
 -- The first that passes stands within the list.
 first_within : {X : Type 0} (p : X → Bool) (xs : List X) → unwrap_or (position p xs) 0 ≤ length xs
@@ -35,7 +32,7 @@ module _ (g : Global) (sysmods : All HasSysmodForms g.sysmods) where
       by None e = omega arith
       by (Some s) e =
           let most = (sysmod_forms g sysmods x s e).1.most in
-          let part = shorter (λ (v : Ver). bytes_eq v.srel srel) s.vers in
+          let part = filter_le (λ (v : Ver). bytes_eq v.srel srel) s.vers in
           omega (arith, most, part)
 
   -- The kept number has its form, and so has one of a few ++VERs.

@@ -24,7 +24,7 @@ use Rattle.terms.specs.Forms.{IsId}
 use Rattle.terms.proofs.ElementOrder.{type_from_number}
 use Rattle.terms.proofs.Leads.{last_step}
 use Rattle.store_schema.specs.Forms.{HasIfForms, HasVerForms, HasChangeForms, HasSysmodForms}
-use Rattle.smpe_upkeep.proofs.Lists.{flat_map_in}
+use Rattle.lemmas.proofs.Members.{flat_in}
 
 -- one of two lists, by a test
 either_in : {X : Type 0} (b : Bool) (xs : List X) (x : X) → Contains (if b then xs else []) x → Contains xs x
@@ -144,13 +144,13 @@ module _ (c : Choice) (vers : HasVers c) where
 
   if_reqs_form : (is_there : Id → Bool) (x z : Id) → Contains (if_reqs c is_there x) z → IsId z
   if_reqs_form is_there x z there =
-      let from = flat_map_in (λ i. i.req) (filter (λ i. is_there i.function) (ifs_of c x)) z there in
+      let from = flat_in (λ i. i.req) (filter (λ i. is_there i.function) (ifs_of c x)) z there in
       let stated = filter_in (λ i. is_there i.function) (ifs_of c x) from.0 from.1 in
       All-contains IsId from.0.req z (if_forms x from.0 stated.0).req.listed.each from.2
 
   stated_for_form : (xs : List Id) (function z : Id) → Contains (stated_for c xs function) z → IsId z
   stated_for_form xs function z there =
-      let from = flat_map_in (if_reqs c (bytes_eq function)) xs z there in
+      let from = flat_in (if_reqs c (bytes_eq function)) xs z there in
       if_reqs_form (bytes_eq function) from.0 z from.2
 
   if_needed_form : (g : Global) (zone : Zone) (cands : Id → Bool) (x z : Id)

@@ -52,6 +52,7 @@ use Rattle.store_schema.specs.Forms.{HasHoldForms}
 use Rattle.smpe_upkeep.proofs.Printable.{HasPrintableList, operands_printable}
 use Rattle.smpe_upkeep.proofs.StatementForms.{one_form, hold_formed, ver_formed, if_formed, source_formed}
 use Rattle.smpe_upkeep.proofs.StatementForms.{change_formed}
+use Rattle.terms.proofs.IdPlaces.{before_once}
 
 -- an internal hold of the SYSMOD's own
 abbrev pub IsOwnHold : Id → Hold → Type 0
@@ -97,9 +98,6 @@ before_trans a b c low high = ap is_lt (nat_list_cmp_total.trans a b c (Less_fro
 not_itself : (a : Text) → is_before a a ≡ true → ⊥
 not_itself a low = absurd (cc (Less_from_is_lt (slice_cmp nat_cmp a a) low, nat_list_cmp_total.antisymm a a))
 
-not_back : (a b : Text) → is_before a b ≡ true → IsFalse (is_before b a)
-not_back a b low = false_from_ne_true (is_before b a) (λ high. not_itself a (before_trans a b a low high))
-
 -- What is not before the second is not before the first, where that is.
 not_down : (a b c : Text) → is_before a b ≡ true → IsFalse (is_before c b) → IsFalse (is_before c a)
 not_down a b c low not_below = false_from_ne_true (is_before c a)
@@ -123,7 +121,7 @@ places kind v (w ∷ vs) apart =
         → (b : Bool) → is_before v.srel w.srel ≡ b → Placed (place_of v (w ∷ vs))
     by more true low = subst Placed (sym (ap (λ b. cond (not b) (1 + place_of v vs) 0) low)) (
       All-nil (λ (w : Ver). IsFalse (is_before v.srel w.srel)),
-      All-cons (λ (w : Ver). IsFalse (is_before w.srel v.srel)) w vs (not_back v.srel w.srel low)
+      All-cons (λ (w : Ver). IsFalse (is_before w.srel v.srel)) w vs (before_once v.srel w.srel low)
           (λ k d below. not_down v.srel w.srel (get_or vs k d).srel low
           (AllPairs_first (AreVersApart kind) w vs apart k d below).srels),
     )

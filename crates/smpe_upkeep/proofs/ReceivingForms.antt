@@ -1,25 +1,21 @@
 -- RECEIVE leads from an inventory to an inventory.
-use Rattle.std.proofs.Common.{◌≡◌, ℕ, ◌&&◌, ◌||◌, ◌==◌, Bool, true, false, List, [], Option, Some, None, All, IsTrue}
-use Rattle.std.proofs.Common.{get_or, refl, sym, ap, subst, inl, inr, arith, true≢false, IfSome}
-use Rattle.std.specs.Prelude.{Result, Ok, Err, nat_lt}
+use Rattle.std.proofs.Common.{◌≡◌, ℕ, Bool, true, false, List, [], Option, Some, None, All}
+use Rattle.std.proofs.Common.{get_or, refl, sym, subst, arith, IfSome}
+use Rattle.std.specs.Prelude.{Result, Ok, Err}
 use Rattle.std.specs.List.{AllByRecursion}
-use Rattle.std.specs.declared.cmp.Ordering.{Ordering}
-use Rattle.std.specs.declared.cmp.Ordering.TheVariants.{Equal, Greater}
-use Rattle.std.specs.Ordering.{nat_cmp, is_lt, ordering_then}
-use Rattle.std.specs.Cmp.{nat_cmp_is}
+use Rattle.std.specs.Ordering.{nat_cmp}
 use Rattle.std.specs.Cmp.Lexicographic.{slice_cmp}
-use Rattle.std.proofs.lemmas.Bool.{cases_lt, lt-ltb, eq-eqb, or_right, and_from}
 use Rattle.std.proofs.lemmas.Cmp.{nat_list_cmp_total}
 use Rattle.std.proofs.lemmas.List.Elements.{All-from_recursion}
-use Rattle.terms.specs.Types.{Text, type_number, Change, Sysmod, Global, Item, ASysmod, AnAssign, HoldItem, AHold}
+use Rattle.terms.specs.Types.{Text, type_number, Sysmod, Global, Item, ASysmod, AnAssign, HoldItem, AHold}
 use Rattle.terms.specs.Types.{ARelease, ReceiveWhat}
 use Rattle.terms.specs.Rising.{Rises}
 use Rattle.terms.specs.Forms.{IsSource}
-use Rattle.terms.specs.Global.{IsSysmod, change_cmp, ReceiveFault, Receives}
+use Rattle.terms.specs.Global.{IsSysmod, ReceiveFault, Receives}
 use Rattle.terms.specs.Ptfin.{IsPtfin}
 use Rattle.terms.specs.HoldFile.{IsHoldFile}
 use Rattle.terms.proofs.Placing.{All_with_item, Rises_with_item}
-use Rattle.store_schema.specs.Forms.{AreSorted, is_change_before, HasSysmodForms, HasHoldForms}
+use Rattle.store_schema.specs.Forms.{AreSorted, HasSysmodForms, HasHoldForms}
 use Rattle.store_schema.specs.Inventory.{Inventory, IsInventory}
 use Rattle.machine.specs.Outcome.{Line}
 use Rattle.machine.specs.Receiving.{sourced, global_after, AssignsId, TakesItem, TakesHoldItem}
@@ -30,26 +26,9 @@ use Rattle.smpe_upkeep.proofs.GlobalForms.{HasGlobalForms, runs_forms, hold_form
 use Rattle.smpe_upkeep.proofs.GlobalForms.{assign_forms, received_forms, global_forms, with_global}
 use Rattle.smpe_upkeep.proofs.PtfinForms.{IsOwnHold, IsWhole, IsItem, ptfin_formed}
 use Rattle.smpe_upkeep.proofs.HoldFileForms.{IsHoldItem, hold_file_formed}
+use Rattle.lemmas.proofs.Orderings.{lower_first}
 
 -- ---- SYSMODs
-
-lower_first : (m n : ℕ) (r : Ordering) → IsTrue (is_lt (ordering_then (nat_cmp m n) r))
-    → IsTrue (nat_lt m n || ((m == n) && is_lt r))
-lower_first m n r lower = elim (cases_lt m n) [
-  | inl less ↦ ap (λ b. b || ((m == n) && is_lt r)) (lt-ltb m n less)
-  | inr more ↦ elim (cases_lt n m) [
-    | inl greater ↦ absurd (true≢false (sym (subst (λ o. IsTrue (is_lt (ordering_then o r)))
-        (sym (nat_cmp_is m n Greater greater)) lower)))
-    | inr least ↦ or_right (nat_lt m n) ((m == n) && is_lt r)
-        (and_from (m == n) (is_lt r) (eq-eqb m n (omega (arith, more, least)))
-        (subst (λ o. IsTrue (is_lt (ordering_then o r))) (sym (nat_cmp_is m n Equal (omega (arith, more, least))))
-        lower))
-  ]
-]
-
-before_from_cmp : (a b : Change) → IsTrue (is_lt (change_cmp a b)) → IsTrue (is_change_before a b)
-before_from_cmp a b lower = lower_first (type_number a.elem_type) (type_number b.elem_type)
-    (slice_cmp nat_cmp a.name b.name) lower
 
 sources_listed : (source : Option Text) (s : Sysmod) → IfSome source IsSource → s.sources ≡ []
     → AreSorted IsSource (sourced source s).sources
@@ -78,7 +57,10 @@ with_forms s sources whole listed = record {
   apart = whole.growing.apart;
   most = whole.growing.most;
   changes = whole.growing.changes;
-  elements = λ i j d less below. before_from_cmp (get_or s.changes i d) (get_or s.changes j d)
+  elements = λ i j d less below.
+      let h = get_or s.changes i d in
+      let k = get_or s.changes j d in
+      lower_first (type_number h.elem_type) (type_number k.elem_type) (slice_cmp nat_cmp h.name k.name)
       (whole.growing.elements i j d less below);
 }
 

@@ -10,7 +10,7 @@ use Rattle.std.proofs.lemmas.List.Folds.{Any-from_list_any, list_any-from_Any}
 use Rattle.solve.specs.Problem.{Demand}
 use Rattle.solve.specs.declared.system.Need.{Need}
 use Rattle.solve.specs.Need.{demand}
-use Rattle.solve.proofs.Maps.{Any_map, Any_unmap}
+use Rattle.lemmas.proofs.Each.{any_map, any_unmap}
 
 abbrev pub is_bare : ℕ → Need → Bool
 is_bare x n = (n.of == x) && (length n.any.items == 0)
@@ -27,10 +27,10 @@ pub bare_exact : (ds : List Demand) (needs : List Need) (x : ℕ) → map demand
 bare_exact ds needs x maps = (
   λ some.
       let a = Any-from_list_any (is_bare x) needs some in
-      subst (Any (λ d. (d.of ≡ x) × (d.any ≡ []))) maps (Any_map (λ d. (d.of ≡ x) × (d.any ≡ [])) demand needs
+      subst (Any (λ d. (d.of ≡ x) × (d.any ≡ []))) maps (any_map (λ d. (d.of ≡ x) × (d.any ≡ [])) demand needs
       (a.0, a.1, a.2, a.3, bare_to x a.1 a.4)),
   λ bare.
-      let a = Any_unmap (λ d. (d.of ≡ x) × (d.any ≡ [])) demand needs
+      let a = any_unmap (λ d. (d.of ≡ x) × (d.any ≡ [])) demand needs
       (subst (Any (λ d. (d.of ≡ x) × (d.any ≡ []))) (sym maps) bare) in
       list_any-from_Any (is_bare x) needs (a.0, a.1, a.2, a.3, bare_from x a.1 a.4),
 )

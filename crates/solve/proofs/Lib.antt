@@ -1,4 +1,3 @@
-pub mod Maps
 pub mod Passing
 pub mod Drops
 pub mod Added

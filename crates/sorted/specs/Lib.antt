@@ -1,2 +1,4 @@
 pub mod Edits
+pub mod ElementKeys
+pub mod Lists
 pub mod Turned

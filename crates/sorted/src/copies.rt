@@ -1,5 +1,5 @@
 //! Copies of what owns memory.
-ghost use Rattle.std.specs.Prelude.{◌≡◌, ◌++◌, IfOk, OnOk};
+ghost use Rattle.std.specs.Prelude.{◌≡◌, IfOk};
 
 use std::alloc::{AllocError, Global};
 
@@ -14,20 +14,8 @@ pub fn copied<T: TryClone>(alloc: Global, items: &[T]) -> Result<Vec<T>, AllocEr
     ensures { IfOk result (λ copies. copies.items ≡ items.now) }
 {
     let mut copies = Vec::new(alloc);
-    copy_all(alloc, &mut copies, items)?;
-    Ok(copies)
-}
-
-/// Adds a copy of each item.
-pub(crate) fn copy_all<T: TryClone>(
-    alloc: Global,
-    new: &mut Vec<T>,
-    items: &[T],
-) -> Result<(), AllocError>
-    ensures { OnOk result (new.new.items ≡ new.old.items ++ items.now) }
-{
     for item in items {
-        new.push(item.try_clone(alloc)?)?;
+        copies.push(item.try_clone(alloc)?)?;
     }
-    Ok(())
+    Ok(copies)
 }

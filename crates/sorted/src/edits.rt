@@ -1,12 +1,14 @@
 //! Edits of items that rise by their keys.
-ghost use Rattle.std.specs.Prelude.{◌≡◌, ◌++◌, IfOk, OnOk};
+ghost use Rattle.std.specs.Prelude.{◌≡◌, ◌++◌, ◌∷◌, [], IfOk, IfSome, IfNone, IsTrue, OnOk};
 ghost use Rattle.std.specs.Option.{option_to_list};
+ghost use Rattle.std.specs.Ordering.{is_lt};
 ghost use Rattle.terms.specs.Rising.{Rises, before, behind};
 ghost use Rattle.sorted.specs.Edits.{edit_key, edit_put, edited};
 
-use crate::copies::{TryClone, copy_all};
-use crate::keyed::{Keyed, place};
+use crate::copies::TryClone;
+use crate::keyed::Keyed;
 use std::alloc::{AllocError, Global};
+use std::collections::VecDeque;
 
 /// What a change does at a key: it puts an item there, or what stands there goes.
 #[derive(Drop)]
@@ -39,38 +41,84 @@ impl<T: Keyed + TryClone> TryClone for Edit<T, T::Key> {
     }
 }
 
-// The items after the edits. Each item is copied once, or not at all where an edit has its key.
+/// The items after the edits. What stays is moved and not copied.
 pub(crate) fn edited<T: Keyed + TryClone>(
     alloc: Global,
-    items: &[T],
+    items: Vec<T>,
     edits: &[Edit<T, T::Key>],
 ) -> Result<Vec<T>, AllocError>
-    requires items { Rises T.Key.cmp T.key_of items.now }
+    requires items { Rises T.Key.cmp T.key_of items.items }
     requires edits { Rises T.Key.cmp (edit_key T.key_of) edits.now }
-    ensures { IfOk result (λ new. new.items ≡ edited T.Key.cmp T.key_of items.now edits.now) }
+    ensures { IfOk result (λ new. new.items ≡ edited T.Key.cmp T.key_of items.items edits.now) }
 {
+    let mut rest = VecDeque::from_vec(items);
     let mut new = Vec::new(alloc);
-    let mut rest = items;
     for edit in edits {
-        let (low, high) = cut(rest, edit.key());
-        copy_all(alloc, &mut new, low)?;
+        let key = edit.key();
+        move_before(&mut rest, &mut new, key)?;
+        drop_at(&mut rest, key);
         put(alloc, &mut new, edit)?;
-        rest = high;
     }
-    copy_all(alloc, &mut new, rest)?;
+    move_all(rest, &mut new)?;
     Ok(new)
 }
 
-// What stands before the key, and what stands behind it.
-fn cut<T: Keyed>(items: &[T], key: T::Key) -> (&[T], &[T])
-    requires { Rises T.Key.cmp T.key_of items.now }
-    ensures low { result.0.now ≡ before T.Key.cmp T.key_of key items.now }
-    ensures high { result.1.now ≡ behind T.Key.cmp T.key_of key items.now }
+// Takes the first item, if it stands before the key.
+fn pop_before<T: Keyed>(rest: &mut VecDeque<T>, key: T::Key) -> Option<T>
+    requires { Rises T.Key.cmp T.key_of rest.old.items }
+    ensures some { IfSome result (λ x. (rest.old.items ≡ x ∷ rest.new.items)
+        × IsTrue (is_lt (T.Key.cmp (T.key_of x) key))) }
+    ensures none { IfNone result ((rest.new.items ≡ rest.old.items)
+        × (before T.Key.cmp T.key_of key rest.old.items ≡ [])) }
 {
-    match place(items, key) {
-        Ok(place) => (&items[..place], &items[place + 1..]),
-        Err(place) => (&items[..place], &items[place..]),
+    if rest.front()?.key() < key {
+        rest.pop_front()
+    } else {
+        None
     }
+}
+
+// Moves what stands before the key.
+fn move_before<T: Keyed + Drop>(
+    rest: &mut VecDeque<T>,
+    new: &mut Vec<T>,
+    key: T::Key,
+) -> Result<(), AllocError>
+    requires { Rises T.Key.cmp T.key_of rest.old.items }
+    ensures moved { OnOk result (new.new.items ≡ new.old.items ++ before T.Key.cmp T.key_of key rest.old.items) }
+    ensures kept { OnOk result (behind T.Key.cmp T.key_of key rest.new.items
+        ≡ behind T.Key.cmp T.key_of key rest.old.items) }
+    ensures none { OnOk result (before T.Key.cmp T.key_of key rest.new.items ≡ []) }
+    ensures rises { OnOk result (Rises T.Key.cmp T.key_of rest.new.items) }
+{
+    while let Some(item) = pop_before(rest, key) {
+        new.push(item)?;
+    }
+    Ok(())
+}
+
+// What has the key goes, where nothing stands before it.
+fn drop_at<T: Keyed + Drop>(rest: &mut VecDeque<T>, key: T::Key)
+    requires rises { Rises T.Key.cmp T.key_of rest.old.items }
+    requires none { before T.Key.cmp T.key_of key rest.old.items ≡ [] }
+    ensures { rest.new.items ≡ behind T.Key.cmp T.key_of key rest.old.items }
+{
+    let Some(first) = rest.front() else {
+        return;
+    };
+    if first.key() == key {
+        let _ = rest.pop_front();
+    }
+}
+
+// Moves all that is left.
+fn move_all<T: Drop>(mut rest: VecDeque<T>, new: &mut Vec<T>) -> Result<(), AllocError>
+    ensures { OnOk result (new.new.items ≡ new.old.items ++ rest.items) }
+{
+    while let Some(item) = rest.pop_front() {
+        new.push(item)?;
+    }
+    Ok(())
 }
 
 // Adds what the edit puts, if it puts anything.

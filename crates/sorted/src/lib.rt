@@ -1,9 +1,10 @@
-//! Tables: items in the order of their keys, no key twice.
+//! Tables: items in the order of their keys, no key twice. Lists by keys: for each key some values.
 #![tactic(auto)]
 
 mod copies;
 mod edits;
 mod keyed;
+pub mod lists;
 mod table;
 
 pub use copies::{TryClone, copied};

@@ -11,6 +11,7 @@ use crate::edits::{Edit, edited};
 use crate::keyed::{Keyed, are_rising, place, stands_last};
 use std::alloc::{AllocError, Global};
 use std::marker::Model;
+use std::mem;
 
 /// Items that rise by their keys, no key twice. A contract sees them as their list.
 #[derive(Drop)]
@@ -118,12 +119,14 @@ impl<T: Keyed + TryClone> Table<T> {
         })
     }
 
-    /// The table after these edits. It goes over the items once.
-    pub fn edited(&self, alloc: Global, edits: &Table<Edit<T, T::Key>>) -> Result<Self, AllocError>
-        ensures { IfOk result (λ new. new ≡ edited T.Key.cmp T.key_of self.now edits.now) }
+    /// Makes the edits, in time that goes with the number of items and edits. What stays is moved, and what an edit
+    /// puts is copied. Where memory runs out, the table is empty afterwards.
+    pub fn edit(&mut self, alloc: Global, edits: &Table<Edit<T, T::Key>>) -> Result<(), AllocError>
+        ensures ok { OnOk result (self.new ≡ edited T.Key.cmp T.key_of self.old edits.now) }
+        ensures err { OnErr result (self.new ≡ []) }
     {
-        Ok(Table {
-            items: edited(alloc, self.items.as_slice(), edits.as_slice())?,
-        })
+        let items = mem::replace(&mut self.items, Vec::new(alloc));
+        self.items = edited(alloc, items, edits.as_slice())?;
+        Ok(())
     }
 }

@@ -22,7 +22,8 @@ use Rattle.store_rows.specs.Inside.{StaysInside}
 use Rattle.store_rows.proofs.CallLemmas.{failed_then, failed_before}
 use Rattle.store_rows.proofs.Causes.{failed_itself}
 use Rattle.store_rows.proofs.InsideLemmas.{on_ok}
-use Rattle.store_rows.proofs.Queries.{keeps_then, unchanged_keeps_commit}
+use Rattle.store_rows.proofs.Queries.{keeps_then}
+use Rattle.store_rows.proofs.Selects.{unchanged_keeps, rolled_keeps}
 use Rattle.store_rows.specs.Rows.{HasContents}
 use Rattle.store_schema.specs.declared.error.StoreError.{StoreError}
 use Rattle.store_schema.specs.declared.error.StoreError.TheVariants.{Fault, Memory}
@@ -104,10 +105,6 @@ module _ {S : Type 0} (g : Ghosts S) (old last done : Held S) (change : Change)
 
 -- ---- why a commit fails
 
-pub if_err : {A E : Type 0} (r : Result A E) (P Q : E → Type 0) → ((e : E) → P e → Q e) → IfErr r P → IfErr r Q
-if_err (Ok a) P Q f h = tt
-if_err (Err e) P Q f h = f e h
-
 -- what is so of an error is so of the one that is handed on
 pub handed_on : {A E : Type 0} (r : Result A E) (e : E) (P : E → Type 0) → IsErrAnd r (λ z. z ≡ e) → P e → IfErr r P
 handed_on (Ok a) e P told h = tt
@@ -161,16 +158,13 @@ failed_to_commit g old last done change (Err d) x e inside commit is clean runs 
 
 -- ---- what is committed, whatever the tables hold
 
-rolled_keeps : (a b : State) → IsRolledBack a b → KeepsCommit a b
-rolled_keeps a b back = record { was_open = back.was_open; committed = λ is_open. (back.undone is_open).1 }
-
 kept_by : {A E : Type 0} (r : Result A E) {P : E → Type 0} {Q : Type 0} → ((e : E) → P e → Q) → IfErr r P → OnErr r Q
 kept_by (Ok a) f h = tt
 kept_by (Err e) f h = f e h
 
 failed_keeps : (a b : State) (e : Error) → FailsToCommit a b e → KeepsCommit a b
 failed_keeps a b e (inl (cause, is, has, back, told)) = rolled_keeps a b back
-failed_keeps a b e (inr (is, ended, same)) = unchanged_keeps_commit a b same
+failed_keeps a b e (inr (is, ended, same)) = unchanged_keeps a b same
 
 module _ {S : Type 0} (g : Ghosts S) (calls : List Call) (old new : Held S) where
   -- `last` is reached in the transaction that is begun at `old`

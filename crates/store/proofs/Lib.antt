@@ -1,5 +1,6 @@
 mod Committing
 mod DeltaLemmas
+mod EditLoop
 mod GlobalLemmas
 mod Loading
 pub mod NoState

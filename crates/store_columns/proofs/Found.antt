@@ -1,11 +1,10 @@
 -- What a query found is what it asks for.
-use Rattle.std.proofs.Common.{◌≡◌, List, [], ◌∷◌, IsPermutation, map}
-use Rattle.std.specs.List.{AllByRecursion}
-use Rattle.std.proofs.lemmas.List.{nil_from_length}
-use Rattle.std.proofs.lemmas.List.Sorted.{length_permutation}
+use Rattle.std.proofs.Common.{◌≡◌, ℕ, List, [], ◌∷◌, IsPermutation, sym, subst}
 use Rattle.sqlite.specs.Order.{Row}
+use Rattle.sqlite.specs.Schema.{Schema}
 use Rattle.sqlite.specs.Table.{Table}
 use Rattle.store_rows.specs.Rows.{AreRows, AreFound}
+use Rattle.store_rows.specs.Texts.{ReadsRows}
 use Rattle.store_rows.proofs.ContentsLemmas.{found_are, found_with, all_found, found_all}
 use Rattle.store_columns.specs.Asked.{asked}
 
@@ -19,8 +18,7 @@ pub asked_found : (table : Table) (key : Row) (held found rows : List Row) → A
 asked_found table [] held found rows are h = found_all table held found rows are h
 asked_found table (k ∷ key) held found rows are h = found_with table (k ∷ key) held found rows are h
 
--- where nothing has the form, what was found is nothing
-pub none_asked : {X : Type 0} (row_of : X → Row) (P : X → Type 0) → ((x : X) → ¬ P x) → (xs : List X)
-    → AllByRecursion P xs → (rows : List Row) → IsPermutation (map row_of xs) rows → rows ≡ []
-none_asked row_of P none [] forms rows same = nil_from_length rows (length_permutation [] rows same)
-none_asked row_of P none (x ∷ xs) forms rows same = absurd (none x forms.0)
+-- a text that reads by so many columns
+pub reads_by : (schema : Schema) (table : Table) (width given : ℕ) (sql : List ℕ) → given ≡ width
+    → ReadsRows schema table width sql → ReadsRows schema table given sql
+reads_by schema table width given sql is reads = subst (λ (n : ℕ). ReadsRows schema table n sql) (sym is) reads

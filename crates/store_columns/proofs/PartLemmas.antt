@@ -1,11 +1,11 @@
 -- Texts and their parts between commas, and records and their bytes.
 use Rattle.std.proofs.Common.{get_or, map, take, IsTrue, append-nil, subst, subst₂, length-take, Bor, ◌≡◌, ◌≢◌, ◌==◌}
 use Rattle.std.proofs.Common.{◌<◌, ◌*◌, ◌%◌, ℕ, List, [], ◌∷◌, ◌++◌, length, length-append, All, false, arith, refl}
-use Rattle.std.proofs.Common.{sym, ap, ◌∙◌}
+use Rattle.std.proofs.Common.{◌+◌, sym, ap, ap₂, ◌∙◌}
 use Rattle.std.specs.List.{AllByRecursion, slice_split, join_with_byte, concat}
 use Rattle.std.proofs.lemmas.List.Splits.{slice_split_none, slice_split_at, join_with_byte-slice_split}
 use Rattle.std.proofs.lemmas.List.Elements.{All-from_recursion, recursion_from_All}
-use Rattle.std.proofs.lemmas.List.{get_or_default, get_or-map, get_or-take, length-map, take-map}
+use Rattle.std.proofs.lemmas.List.{get_or_default, get_or-map, get_or-take, length-map, map_more, take-map}
 use Rattle.terms.specs.Types.{Text}
 use Rattle.terms.specs.Lookups.{is_before}
 use Rattle.terms.specs.Texts.{HasLines}
@@ -81,6 +81,18 @@ module _ (form : Text → Type 0) where
         ap (λ xs. get_or xs k e) (sym (take-map (λ (part : Bor Text). part.now) i parts))
         ∙ get_or-take i (map (λ part. part.now) parts) k e less in
         subst₂ (λ y z. IsTrue (is_before y z)) (sym front) (at e) (h.rising k i e less (rw length-map within))
+
+  -- a list of the parts before one, and that one behind them
+  pub parts_grown : (parts : List (Bor Text)) (i : ℕ) (d : Bor Text) → i < length parts
+      → (list new : List Text) (item : Text) → list ≡ map (λ part. part.now) (take i parts)
+      → AreSorted form list → item ≡ (get_or parts i d).now → form item → All (λ y. IsTrue (is_before y item)) list
+      → new ≡ list ++ item ∷ []
+      → (new ≡ map (λ part. part.now) (take (i + 1) parts)) × AreSorted form new
+  parts_grown parts i d within list new item same listed is formed last grown = (
+    grown ∙ sym (map_more (λ (part : Bor Text). part.now) parts i d within
+        ∙ ap₂ (λ (xs : List Text) (x : Text). xs ++ x ∷ []) (sym same) (sym is)),
+    rw grown (listed_more list item listed formed last),
+  )
 
 whole_of : (lines : List (List ℕ)) → AllByRecursion (λ line. length line ≡ 80) lines
     → length (concat lines) ≡ length lines * 80

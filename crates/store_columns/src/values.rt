@@ -6,7 +6,7 @@ ghost use Rattle.sqlite.specs.Values.{or_null};
 ghost use Rattle.sqlite.specs.declared.types.Value.TheVariants.{Text};
 ghost use Rattle.sqlite_value.specs.Value.{owned};
 
-use fields::{Id, Source};
+use fields::Id;
 use sqlite_value::value::ValueRef;
 use std::alloc::{AllocError, Global};
 
@@ -22,22 +22,6 @@ pub fn joined_ids(alloc: Global, ids: &[Id]) -> Result<Vec<u8>, AllocError>
     for id in rest {
         text.push(b',')?;
         text.extend_from_slice(id.as_bytes())?;
-    }
-    Ok(text)
-}
-
-/// The sources, with a comma between each two.
-pub fn joined_sources(alloc: Global, sources: &[Source]) -> Result<Vec<u8>, AllocError>
-    ensures { IfOk result (λ text. text.items ≡ join_with_byte 44 sources.now) }
-{
-    let mut text = Vec::new(alloc);
-    let Some((first, rest)) = sources.split_first() else {
-        return Ok(text);
-    };
-    text.extend_from_slice(first.as_bytes())?;
-    for source in rest {
-        text.push(b',')?;
-        text.extend_from_slice(source.as_bytes())?;
     }
     Ok(text)
 }

@@ -5,30 +5,14 @@ use Rattle.sqlite_tied.specs.Compute.{everything}
 use Rattle.sqlite_schema.specs.Names.{same_name}
 use Rattle.sqlite_value.specs.Keys.{joined}
 use Rattle.store_rows.specs.Texts.{PutsByKey, TakesOut}
+use Rattle.store_rows.proofs.Meant.{puts_by_key, takes_out}
 use Rattle.store_schema.specs.Tables.{store_schema, hold}
 use Rattle.store_holds.specs.Calls.{put_hold, delete_hold}
 
 pub puts_hold : PutsByKey store_schema 4 hold 3 put_hold
 unfolding understood everything
-puts_hold = record {
-  there = record { found = refl; alone = refl };
-  command = refl;
-  plain = (refl, refl);
-  uncounted = refl;
-  timeless = refl;
-  unnamed = refl;
-  unique = refl;
-  texts = refl;
-  narrow = omega arith;
-  free = λ olds news. refl;
-}
+puts_hold = puts_by_key refl refl refl (refl, refl) refl refl refl refl refl (omega arith) (λ olds news. refl)
 
 pub takes_hold : TakesOut store_schema 4 hold 3 delete_hold
 unfolding understood everything same_name joined
-takes_hold = record {
-  there = record { found = refl; alone = refl };
-  command = refl;
-  plain = (refl, refl);
-  narrow = omega arith;
-  free = λ olds. refl;
-}
+takes_hold = takes_out refl refl refl (refl, refl) (omega arith) (λ olds. refl)

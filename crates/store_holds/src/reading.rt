@@ -159,7 +159,8 @@ fn by_key(mut holds: Vec<Hold>) -> Vec<Hold>
     holds
 }
 
-/// All holds, by id, kind and reason.
+/// All holds, by id, kind and reason. `BadRow` comes where a row is no hold, `Memory` where memory is short, and
+/// `Fault` where the disk fails or the tables are others.
 pub fn load_holds<S: Alter>(alloc: Global, conn: &mut Connection<S>) -> Result<Vec<Hold>, ReadError>
     ensures found { HasCleanDisk (state S.Store conn.new) → (r : Release) (contents : Contents)
         → HasContents (schema_under r) contents (state S.Store conn.old).now

@@ -57,7 +57,7 @@ fn flag_value(flag: bool) -> ValueRef<'static>
     ValueRef::Int(0)
 }
 
-/// Takes out the hold that has the key, if there is one.
+/// Takes out the hold that has the key, if there is one. An error comes where the disk fails or memory is short.
 pub fn remove_hold<S: Alter>(
     tx: &mut Transaction<'_, S>,
     id: Id,
@@ -82,7 +82,8 @@ pub fn remove_hold<S: Alter>(
     )
 }
 
-/// Puts the hold in place of the one that has its key, if there is one.
+/// Puts the hold in place of the one that has its key, if there is one. An error comes where the disk fails or memory
+/// is short.
 pub fn put_hold<S: Alter>(tx: &mut Transaction<'_, S>, hold: &Hold) -> Result<(), Error>
     ensures same_reference { tx.new.conn.ghost_name ≡ tx.old.conn.ghost_name }
     ensures inside { StaysInside S.Store tx.old.conn.now tx.new.conn.now }

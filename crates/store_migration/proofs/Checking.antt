@@ -25,7 +25,7 @@ use Rattle.terms.specs.Types.{Zone, NamedZone}
 use Rattle.store_schema.specs.declared.release.Release.{Release}
 use Rattle.store_schema.specs.Inventory.{Inventory}
 use Rattle.store_schema.specs.Tables.{zone}
-use Rattle.store_schema.proofs.Spelled.{zone_same, or_null_same}
+use Rattle.store_zone_loads.proofs.Heads.{same_head}
 use Rattle.store_zone_loads.specs.declared.head.ZoneHead.{ZoneHead}
 use Rattle.store_zone_loads.specs.Found.{head_of, zone_in}
 use Rattle.store_zone_loads.specs.Held.{name_key, HoldsZone, HoldsUnder, HoldsNumbers, HoldsHeads}
@@ -56,17 +56,6 @@ pub record HoldsFirst (r : Release) (c : Contents) (heads : List ZoneHead) (zone
 
 pub first_none : (r : Release) (c : Contents) → HoldsFirst r c [] []
 first_none r c = record { are = refl; each = tt; numbers = tt }
-
-same_head : (a b : ZoneHead) → head_row a ≡ head_row b → a ≡ b
-same_head a b e =
-    let name : a.name ≡ b.name = cc in
-    let kind : a.kind ≡ b.kind = zone_same a.kind b.kind cc in
-    let srel : a.srel ≡ b.srel = cc in
-    let related : a.related ≡ b.related = or_null_same a.related b.related cc in
-    ap (λ x. record a { name = x }) name
-    ∙ ap (λ x. record a { name = b.name; kind = x }) kind
-    ∙ ap (λ x. record b { srel = x; related = a.related }) srel
-    ∙ ap (λ x. record b { related = x }) related
 
 -- a zone that was read by the name of a head has it
 has_head : (c : Contents) (heads : List ZoneHead) (head : ZoneHead) (z : Zone) → HoldsHeads c heads → Has heads head

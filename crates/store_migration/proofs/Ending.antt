@@ -12,7 +12,8 @@ use Rattle.store_rows.specs.declared.error.ReadError.{ReadError}
 use Rattle.store_rows.specs.declared.error.ReadError.TheVariants as read
 use Rattle.store_rows.specs.Inside.{Holds}
 use Rattle.store_rows.proofs.InsideLemmas.{on_ok, on_ok_of}
-use Rattle.store_rows.proofs.Queries.{keeps_then, unchanged_keeps_commit, reads_then}
+use Rattle.store_rows.proofs.Queries.{keeps_then, reads_then}
+use Rattle.store_rows.proofs.Selects.{unchanged_keeps}
 use Rattle.store_schema.specs.declared.error.StoreError.{StoreError}
 use Rattle.store_schema.specs.declared.error.StoreError.TheVariants.{Fault, OtherSchema, NoState, Memory}
 use Rattle.store_schema.specs.declared.release.Release.{Release}
@@ -152,7 +153,7 @@ module _ {S : Type 0} (g : Ghosts S) (old : Held S) (live : IsLive (state g old)
             same = λ clean. same clean;
             bad = λ clean it. absurd cc;
             cause = λ clean it. absurd cc;
-            kept = λ clean. unchanged_keeps_commit (state g old) (state g mid) (same clean);
+            kept = λ clean. unchanged_keeps (state g old) (state g mid) (same clean);
             crash = crash;
             mode = λ _. mode;
           }
@@ -311,7 +312,7 @@ module _ {S : Type 0} (g : Ghosts S) (old : Held S) (live : IsLive (state g old)
               | inr p ↦ not_told NoState (λ m. cc) (λ f. cc) p
             ]))
             (λ clean. keeps_then (state g old) (state g mid) (state g new)
-            (unchanged_keeps_commit (state g old) (state g mid) (unchanged (clean_mid clean))) (record {
+            (unchanged_keeps (state g old) (state g mid) (unchanged (clean_mid clean))) (record {
               was_open = was_open clean;
               committed = λ is_open. subst (λ z. OnErr z ((state g new).committed ≡ (state g mid).committed)) failed_at
                   (same clean is_open);

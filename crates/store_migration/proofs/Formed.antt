@@ -1,14 +1,10 @@
 -- SYSMODs whose rows have their forms have theirs.
-use Rattle.std.proofs.Common.{ℕ, ◌+◌, get_or, ◌==◌, ◌&&◌, ◌||◌, List, [], ◌∷◌, map, IsTrue, arith, inl, inr}
-use Rattle.std.proofs.Common.{sym, ap, subst, true≢false}
-use Rattle.std.specs.Prelude.{All, nat_lt}
+use Rattle.std.proofs.Common.{ℕ, ◌+◌, get_or, List, [], ◌∷◌, map, IsTrue}
+use Rattle.std.proofs.Common.{sym, subst}
+use Rattle.std.specs.Prelude.{All}
 use Rattle.std.specs.List.{AllByRecursion}
-use Rattle.std.specs.declared.cmp.Ordering.{Ordering}
-use Rattle.std.specs.declared.cmp.Ordering.TheVariants.{Equal, Greater}
-use Rattle.std.specs.Ordering.{is_lt, nat_cmp, ordering_then}
-use Rattle.std.specs.Cmp.{nat_cmp_is}
+use Rattle.std.specs.Ordering.{is_lt, nat_cmp}
 use Rattle.std.specs.Cmp.Lexicographic.{slice_cmp}
-use Rattle.std.proofs.lemmas.Bool.{cases_lt, lt-ltb, eq-eqb, or_right, and_from}
 use Rattle.std.proofs.lemmas.List.Elements.{All-from_recursion, recursion_from_All}
 use Rattle.lemmas.proofs.Each.{recursion_weaker, recursion_front, recursion_back, recursion_unmap}
 use Rattle.terms.specs.declared.kinds.Kind.{Kind}
@@ -22,6 +18,7 @@ use Rattle.store_schema.specs.Earlier.{HasShortSources}
 use Rattle.store_schema.specs.Rows.{numbered_behind}
 use Rattle.store_schema.specs.declared.release.Release.{Release}
 use Rattle.store_schema.specs.declared.release.Release.TheVariants.{First, Second, Third}
+use Rattle.lemmas.proofs.Orderings.{lower_first}
 use Rattle.store_schema.proofs.Numbered.{numbered_is}
 use Rattle.store_sysmod_loads.specs.Built.{MayDo, IsBuilt}
 use Rattle.store_sysmod_loads.specs.Flat.{HasHeadForms, HasFormsUnder, HasVerRowForms, HasIfRowForms, HasElemRowForms}
@@ -29,20 +26,6 @@ use Rattle.store_sysmod_loads.specs.Flats.{head_of, ifs_of, all_vers, all_ifs, a
 use Rattle.store_sysmod_loads.specs.Runs.{if_rows, ver_rows, elem_rows}
 
 -- ---- an order by two keys
-
-lower_first : (m n : ℕ) (r : Ordering) → IsTrue (is_lt (ordering_then (nat_cmp m n) r))
-    → IsTrue (nat_lt m n || ((m == n) && is_lt r))
-lower_first m n r lower = elim (cases_lt m n) [
-  | inl less ↦ ap (λ b. b || ((m == n) && is_lt r)) (lt-ltb m n less)
-  | inr more ↦ elim (cases_lt n m) [
-    | inl greater ↦ absurd (true≢false (sym (subst (λ o. IsTrue (is_lt (ordering_then o r)))
-        (sym (nat_cmp_is m n Greater greater)) lower)))
-    | inr least ↦ or_right (nat_lt m n) ((m == n) && is_lt r)
-        (and_from (m == n) (is_lt r) (eq-eqb m n (omega (arith, more, least)))
-        (subst (λ o. IsTrue (is_lt (ordering_then o r))) (sym (nat_cmp_is m n Equal (omega (arith, more, least))))
-        lower))
-  ]
-]
 
 before_from : (a b : Change) → IsTrue (is_lt (change_cmp a b)) → IsTrue (is_change_before a b)
 before_from a b lower = lower_first (type_number a.elem_type) (type_number b.elem_type) (slice_cmp nat_cmp a.name b.name)

@@ -1,5 +1,5 @@
 -- What is told of a database of a release.
-use Rattle.std.proofs.Common.{◌≡◌, ◌⊎◌, ◌<◌, ℕ, List, [], length, inl, inr, Bool, true, false, Ok, Err, Result}
+use Rattle.std.proofs.Common.{◌≡◌, ◌⊎◌, List, [], length, inl, inr, Bool, true, false, Ok, Err, Result}
 use Rattle.std.proofs.Common.{arith, refl, sym, ap, subst, ◌∙◌, true≢false}
 use Rattle.sqlite.specs.declared.error.Error.{Error}
 use Rattle.sqlite.specs.declared.error.Error.TheVariants.{SqliteFailure}
@@ -19,50 +19,17 @@ use Rattle.store_schema.specs.Create.{IsBlank}
 use Rattle.store_schema.specs.Earlier.{schema_under, StandsUnder, IsEarlierStateOf}
 use Rattle.store_schema.specs.Inventory.{Inventory}
 use Rattle.store_schema.specs.Known.{select_meta, told}
+use Rattle.store_schema.proofs.OneState.{one_release}
 use Rattle.store_schema.specs.Stands.{IsStateOf}
 use Rattle.store_schema.specs.Tables.{schema_of}
 
--- how many tables it has, by which schemas are told apart
-size : Release → ℕ
-size First = 9
-size Second = 10
-size Third = 13
-
-sized : (r : Release) → length (schema_under r).tables ≡ size r
-unfolding size
-sized First = refl
-sized Second = refl
-sized Third = refl
-
-by_size : (r s : Release) → size r ≡ size s → r ≡ s
-unfolding size
-by_size First First e = refl
-by_size First Second e = absurd (omega (arith, e))
-by_size First Third e = absurd (omega (arith, e))
-by_size Second First e = absurd (omega (arith, e))
-by_size Second Second e = refl
-by_size Second Third e = absurd (omega (arith, e))
-by_size Third First e = absurd (omega (arith, e))
-by_size Third Second e = absurd (omega (arith, e))
-by_size Third Third e = refl
-
-some_tables : (r : Release) → 0 < size r
-unfolding size
-some_tables First = omega arith
-some_tables Second = omega arith
-some_tables Third = omega arith
-
-same_release : (r s : Release) → schema_under r ≡ schema_under s → r ≡ s
-same_release r s same = by_size r s (sym (sized r) ∙ (ap (λ (x : Schema). length x.tables) same ∙ sized s))
-
 pub only_third : (r : Release) → schema_under r ≡ schema_under Third → r ≡ Third
-only_third r = same_release r Third
+only_third r = one_release r Third
 
 pub not_blank : (r : Release) (db : Database) → db.schema ≡ schema_under r → IsBlank db → ⊥
-not_blank r db own blank =
-    let none : size r ≡ 0 = sym (sized r) ∙ (sym (ap (λ (x : Schema). length x.tables) own)
-    ∙ ap (λ (x : Schema). length x.tables) blank) in
-    omega (arith, some_tables r, none)
+not_blank First db own blank = absurd (omega (arith, ap (λ (x : Schema). length x.tables) (sym blank ∙ own)))
+not_blank Second db own blank = absurd (omega (arith, ap (λ (x : Schema). length x.tables) (sym blank ∙ own)))
+not_blank Third db own blank = absurd (omega (arith, ap (λ (x : Schema). length x.tables) (sym blank ∙ own)))
 
 pub is_earlier : (r : Release) (i : Inventory) (db : Database) → StandsUnder r i db → IsEarlierStateOf i db
 is_earlier First i db stands = inr (inl stands)
@@ -84,7 +51,7 @@ pub of_release : (r : Release) (i : Inventory) (db : Database) → db.schema ≡
     → StandsUnder r i db
 of_release r i db own is = elim (of_some i db is) [
   | inl blank ↦ absurd (not_blank r db own blank)
-  | inr it ↦ subst (λ s. StandsUnder s i db) (same_release it.0 r (sym it.2 ∙ own)) it.1
+  | inr it ↦ subst (λ s. StandsUnder s i db) (one_release it.0 r (sym it.2 ∙ own)) it.1
 ]
 
 pub of_blank : (i : Inventory) (db : Database) → IsBlank db → IsEarlierStateOf i db → IsStateOf i db

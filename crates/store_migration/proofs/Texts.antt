@@ -1,5 +1,6 @@
 -- What the texts mean, and that columns keep what they write.
-use Rattle.std.proofs.Common.{◌≡◌, pos, [], ◌∷◌, refl, arith}
+use Rattle.std.proofs.Common.{◌≡◌, pos, [], ◌∷◌, refl}
+use Rattle.std.proofs.Math.Dec.{lit≤}
 use Rattle.sqlite.specs.declared.types.Value.TheVariants.{Text as text}
 use Rattle.sqlite.specs.Listing.{understood}
 use Rattle.sqlite_tied.specs.Compute.{everything}
@@ -9,6 +10,7 @@ use Rattle.terms.specs.Types.{Text, Id}
 use Rattle.terms.specs.Spelling.{kind_text}
 use Rattle.store_rows.specs.Texts.{SuitColumns, PutsIn, PutsInPlace}
 use Rattle.store_rows.proofs.Values.{kept_whole}
+use Rattle.store_rows.proofs.Meant.{puts_in, puts_in_place}
 use Rattle.store_schema.specs.Rows.{source_row, number_row}
 use Rattle.store_schema.specs.Tables.{store_schema, meta, sysmod, source}
 use Rattle.store_migration.specs.declared.head.Head.{Head}
@@ -16,33 +18,15 @@ use Rattle.store_migration.specs.Moved.{insert_source, replace_sysmod, replace_n
 
 pub puts_source : PutsIn store_schema 9 source insert_source
 unfolding understood everything
-puts_source = record {
-  there = record { found = refl; alone = refl };
-  command = refl;
-  plain = (refl, refl);
-  uncounted = refl;
-  timeless = refl;
-}
+puts_source = puts_in refl refl refl (refl, refl) refl refl
 
 pub replaces_sysmod : PutsInPlace store_schema 1 sysmod 1 replace_sysmod
 unfolding understood everything same_name joined
-replaces_sysmod = record {
-  there = record { found = refl; alone = refl };
-  command = refl;
-  plain = (refl, refl);
-  narrow = omega arith;
-  free = λ olds news. refl;
-}
+replaces_sysmod = puts_in_place refl refl refl (refl, refl) (lit≤ tt) (λ olds news. refl)
 
 pub replaces_number : PutsInPlace store_schema 0 meta 1 replace_number
 unfolding understood everything same_name joined
-replaces_number = record {
-  there = record { found = refl; alone = refl };
-  command = refl;
-  plain = (refl, refl);
-  narrow = omega arith;
-  free = λ olds news. refl;
-}
+replaces_number = puts_in_place refl refl refl (refl, refl) (lit≤ tt) (λ olds news. refl)
 
 pub kept_source : (x : Id) (name : Text) → SuitColumns source.columns (source_row x name)
 kept_source x name = (refl, (refl, tt))

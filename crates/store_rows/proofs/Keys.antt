@@ -10,7 +10,8 @@ use Rattle.sqlite.specs.Ops.{binary, is_true, from_truth}
 use Rattle.sqlite_value.proofs.OrderLemmas.{value_cmp-Text}
 use Rattle.sqlite_schema.specs.Rules.{equal}
 
-told : (b : Bool) → is_true (from_truth (Some b)) ≡ b
+-- SQL's truth values tell the Booleans
+pub told : (b : Bool) → is_true (from_truth (Some b)) ≡ b
 told true = refl
 told false = refl
 

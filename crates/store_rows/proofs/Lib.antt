@@ -16,5 +16,6 @@ pub mod Selects
 pub mod Causes
 pub mod CallLemmas
 pub mod Typed
+pub mod Meant
 pub mod Unique
 pub mod Upserts

@@ -10,6 +10,7 @@ use Rattle.sqlite.specs.State.{State, HasCleanDisk, IsUnchanged, KeepsCommit, Su
 use Rattle.sqlite.proofs.StateLemmas.{survives_then}
 use Rattle.store_rows.specs.Reads.{OnlyReads, FailsToRead}
 use Rattle.store_rows.proofs.InsideLemmas.{on_ok, on_ok_of}
+use Rattle.store_rows.proofs.Selects.{unchanged_keeps}
 
 pub unchanged_then : (a b c : State) → IsUnchanged a b → IsUnchanged b c → IsUnchanged a c
 unchanged_then a b c p q = (
@@ -29,9 +30,6 @@ keeps_then a b c p q = record {
   was_open = λ is_open. p.was_open (q.was_open is_open);
   committed = λ is_open. q.committed is_open ∙ p.committed (q.was_open is_open);
 }
-
-pub unchanged_keeps_commit : (a b : State) → IsUnchanged a b → KeepsCommit a b
-unchanged_keeps_commit a b p = record { was_open = λ _. p.0.was_open; committed = λ _. p.0.committed_is }
 
 -- a query failed behind one that answered
 failed_later : (a b c : State) {P Q : Trees → Type 0} → IsUnchanged a b → Survives a b P → Survives b c Q
@@ -89,7 +87,7 @@ module _ {S E : Type 0} (g : Ghosts S) (schema : Schema) (bad_row fault : E) whe
             failed_later (state g a) (state g b) (state g c) it one.crash two.crash
             (two.cause clean failed (ap (λ (d : Database). d.schema) it.0.now_is ∙ has));
         kept = λ clean. keeps_then (state g a) (state g b) (state g c)
-            (unchanged_keeps_commit (state g a) (state g b) (first clean)) (two.kept clean);
+            (unchanged_keeps (state g a) (state g b) (first clean)) (two.kept clean);
         crash = survives_then (state g a) (state g b) (state g c) _ _ _ (λ _ db none. none) (λ _ db none. none)
             one.crash two.crash;
         mode = λ outside. two.mode (one.mode outside);

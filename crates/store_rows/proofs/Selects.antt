@@ -57,10 +57,10 @@ itself s is_open = (
   refl,
 )
 
-unchanged_keeps : (old new : State) → IsUnchanged old new → KeepsCommit old new
+pub unchanged_keeps : (old new : State) → IsUnchanged old new → KeepsCommit old new
 unchanged_keeps old new same = record { was_open = λ _. same.0.was_open; committed = λ _. same.0.committed_is }
 
-rolled_keeps : (old new : State) → IsRolledBack old new → KeepsCommit old new
+pub rolled_keeps : (old new : State) → IsRolledBack old new → KeepsCommit old new
 rolled_keeps old new back = record { was_open = back.was_open; committed = λ is_open. (back.undone is_open).1 }
 
 module _ (sql : List ℕ) (params : Row) (is_select_text : IsSelect sql) where

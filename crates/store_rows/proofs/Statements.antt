@@ -2,7 +2,7 @@
 use Rattle.std.proofs.Common.{◌≡◌, ◌⊎◌, inl, inr, ℕ, ℤ, ◌/◌, length, ◌-◌, ◌^◌, drop, if◌then◌else◌}
 use Rattle.std.proofs.Common.{MatchBool, filter, IsPermutation, List, [], ◌∷◌, ◌++◌, map, slice_get}
 use Rattle.std.proofs.Common.{unwrap_or, Bool, true, false, Option, Some, None, Ok, Err, Result, IsTrue, refl, sym}
-use Rattle.std.proofs.Common.{ap, subst, ◌∙◌, append-nil}
+use Rattle.std.proofs.Common.{ap, subst, subst₂, ◌∙◌, append-nil, fold}
 use Rattle.std.proofs.lemmas.Bool.{cases_Bool, and_parts, not-true}
 use Rattle.std.specs.List.{flat_map, list_all}
 use Rattle.std.proofs.lemmas.List.Sorted.{IsPermutation-map}
@@ -25,11 +25,13 @@ use Rattle.sqlite_schema.specs.declared.command.Conflict.TheVariants.{Abort}
 use Rattle.sqlite_schema.specs.declared.command.Upsert.{Upsert}
 use Rattle.sqlite.specs.Cast.{cast_row}
 use Rattle.sqlite.specs.Edit.{is_taken, put_all, edit_of, with_rowid, are_fresh, Applies}
+use Rattle.sqlite_rules.specs.Edit.{Edit, taken_by}
 use Rattle.sqlite.specs.Rowids.TheVariants.{Chosen, Given, Above}
 use Rattle.sqlite.specs.Effect.{Database, Answers, value_rows}
-use Rattle.sqlite.specs.Does.{Tally, Does}
-use Rattle.sqlite.specs.Rows.{Written, Task, stamped, rowids_for, count_of, nothing, Tries, TriesEach}
-use Rattle.sqlite.specs.Rows.{Upserts}
+use Rattle.sqlite.specs.Does.{Tally, OnTable, Concludes}
+use Rattle.sqlite.specs.Rows.{Written, Task, stamped, rowids_for, count_of, nothing, Tries, TriesEach, Part, Then}
+use Rattle.sqlite.specs.Rows.{Upserts, Sourced, Queried, Edited, Counter, Counts, Gives, higher, last_id}
+use Rattle.sqlite.specs.Rows.{Inserts, InsertsOr, Updates, Deletes}
 use Rattle.sqlite.specs.State.{State, HasCleanDisk, mode_of, Writes, Executes, ExecutesInside}
 use Rattle.sqlite.specs.Store.{Ghosts}
 use Rattle.sqlite.specs.Held.{Held, state}
@@ -91,38 +93,89 @@ module _ (old new : State) (schema : Schema) (has : old.now.schema ≡ schema) (
   abbrev db : Trees
   db = old.now.trees
 
+  abbrev at_old : Database
+  at_old = record { schema = schema; trees = db }
+
+  abbrev task : Task
+  task = task_of old.step_limit schema table params
+
+  -- a statement on the rows of the table leaves what its rows are written to
+  wrote : (Wrote : Task → Part Written) (tally : Tally)
+      → OnTable old.step_limit (mode_of old) params old.now at
+      (λ it. Then (Wrote it) (Concludes it (mode_of old) None)) (Ok (tally, new.now))
+      → (w : Written) × Wrote task (Ok w) × (new.now ≡ record { schema = schema; trees = w.trees })
+  wrote Wrote tally changed =
+      let on_schema = subst (λ s. OnTable old.step_limit (mode_of old) params (record old.now { schema = s }) at
+      (λ it. Then (Wrote it) (Concludes it (mode_of old) None)) (Ok (tally, new.now))) has changed in
+      let done = went (rw found at on_schema) in
+      (done.0, done.1, ap (λ (p : Tally × Database). p.1) (same_value (went (went done.2).2).2))
+
+  -- It is given rows, and what it makes of these leaves the trees, with no count of rowids beside them.
+  sourced : {M : Type 0} (terms : List Term) (width : ℕ) (Makes : List Row → ℤ → Part M) (trees_of : M → Trees)
+      (top : List Row → ℤ → M → ℤ) (made : List Row → ℤ → M → Trees → Written) (w : Written)
+      → ((rows : List Row) (first : ℤ) (m : M) (next : Trees) → (made rows first m next).trees ≡ next)
+      → table.is_counted ≡ false → table.stamps.terms ≡ []
+      → Then (Sourced old.step_limit at_old (stamped table params) (Values terms width)) (λ rows. Then (Counter task db)
+      (λ counter. Then (Makes rows (count_of counter)) (λ m. Then (Counts task (trees_of m) counter
+      (top rows (count_of counter) m)) (λ next. Gives (made rows (count_of counter) m next))))) (Ok w)
+      → (rows : List Row) × (rows ≡ value_rows params width (length terms / width) terms) × (first : ℤ)
+      × (rowids_for table first ≡ Chosen) × (m : M) × Makes rows first (Ok m) × (w.trees ≡ trees_of m)
+  sourced terms width Makes trees_of top made w shown_by uncounted timeless h =
+      let given = went h in
+      let counter = went given.2 in
+      let first = count_of counter.0 in
+      let written = went counter.2 in
+      let counted = went written.2 in
+      let same : counted.0 ≡ trees_of written.0 =
+      same_value (not_counted table.is_counted _ _ _ uncounted counted.1) in (
+        given.0,
+        subst (λ (stamps : Row). given.0 ≡ value_rows stamps width (length terms / width) terms)
+            (no_stamps table params timeless) given.1.1,
+        first,
+        ap (λ b. if b then Above first else Chosen) uncounted,
+        written.0,
+        written.1,
+        ap (λ (it : Written). it.trees) (same_value counted.2) ∙ shown_by given.0 first written.0 counted.0 ∙ same,
+      )
+
+  -- It asks for rows, and an edit that these give leaves the trees.
+  queried : (q : Program) (edit : List Row → Edit) (made : List Row → Trees → Written)
+      → ((rows : List Row) (next : Trees) → (made rows next).trees ≡ next)
+      → (w : Written) × Then (Queried old.step_limit at_old q params) (λ rows. Then
+      (Edited schema Enforced db (edit rows)) (λ next. Gives (made rows next))) (Ok w)
+      × (new.now ≡ record { schema = schema; trees = w.trees })
+      → (rows : List Row) × Answers at_old q params rows × (new.now.schema ≡ schema)
+      × action.Writes schema Enforced db (edit rows) (Ok new.now.trees)
+  queried q edit made shown_by (w, h, now) =
+      let given = went h in
+      let written = went given.2 in
+      let trees : w.trees ≡ written.0 = ap (λ (it : Written). it.trees) (same_value written.2)
+      ∙ shown_by given.0 written.0 in (
+        given.0,
+        given.1,
+        ap (λ (d : Database). d.schema) now,
+        subst (λ (t : Trees). action.Writes schema Enforced db (edit given.0) (Ok t))
+            (sym (ap (λ (d : Database). d.trees) now ∙ trees)) written.1,
+      )
+
   -- the rows of the statement are put in, each with the rowid that comes next
   pub inserts : (terms : List Term) (width : ℕ) → table.is_counted ≡ false → table.stamps.terms ≡ []
       → Writes old new None (Insert at (Values terms width)) text params count
       → (rows : List Row) × (rows ≡ value_rows params width (length terms / width) terms) × (new.now.schema ≡ schema)
       × action.Writes schema Enforced db (edit_of db table [] Chosen 0 rows) (Ok new.now.trees)
   inserts terms width uncounted timeless w =
-      let command = Insert at (Values terms width) in
-      let on_schema = subst (λ s. Does old.step_limit (mode_of old) params (record old.now { schema = s }) text None
-      command (Ok (w.tally, new.now))) has w.changed in
-      let done = went (rw found at on_schema) in
-      let now : new.now ≡ record { schema = schema; trees = done.0.trees } =
-      (ap (λ (p : Tally × Database). p.1) (same_value (went (went done.2).2).2)) in
-      let given = went done.1 in
-      let counter = went given.2 in
-      let written = went counter.2 in
-      let counted = went written.2 in
-      let mid : counted.0 ≡ written.0 = same_value (not_counted table.is_counted _ _ _ uncounted counted.1) in
-      let trees : done.0.trees ≡ written.0 = ap (λ (it : Written). it.trees) (same_value counted.2) ∙ mid in
-      let rows : given.0 ≡ value_rows params width (length terms / width) terms =
-      subst (λ (stamps : Row). given.0 ≡ value_rows stamps width (length terms / width) terms)
-      (no_stamps table params timeless) given.1.1 in
-      let how : rowids_for table (count_of counter.0) ≡ Chosen =
-      ap (λ b. if b then Above (count_of counter.0) else Chosen) uncounted in
-      let wrote = subst (λ ids. action.Writes schema Enforced db (edit_of db table [] ids 0 given.0) (Ok written.0)) how
-      written.1 in
-      let edit = edit_of db table [] Chosen 0 given.0 in (
-        given.0,
+      let edit = λ (rows : List Row) (first : ℤ). edit_of db table [] (rowids_for table first) 0 rows in
+      let (done, how, now) = wrote (λ it. Inserts it (Values terms width) db) w.tally w.changed in
+      let (rows, are, first, chosen, next, wrote_it, trees) =
+      sourced terms width (λ rows first. Edited schema Enforced db (edit rows first)) (λ next. next)
+      (λ rows first next. fold higher first (edit rows first).news)
+      (λ rows first mid next. record { trees = next; rows = (edit rows first).news; last = last_id (edit rows first).news })
+      done (λ _ _ _ _. refl) uncounted timeless how in (
         rows,
+        are,
         ap (λ (d : Database). d.schema) now,
-        subst
-            (λ (t : Trees). action.Writes schema Enforced db edit (Ok t))
-            (sym (ap (λ (d : Database). d.trees) now ∙ trees)) wrote,
+        subst₂ (λ ids (t : Trees). action.Writes schema Enforced db (edit_of db table [] ids 0 rows) (Ok t)) chosen
+            (sym (ap (λ (d : Database). d.trees) now ∙ trees)) wrote_it,
       )
 
   -- the one row of the statement is written, with the rowid that comes next, or what ON CONFLICT says is done
@@ -130,79 +183,41 @@ module _ (old new : State) (schema : Schema) (has : old.now.schema ≡ schema) (
       → table.stamps.terms ≡ [] → value_rows params width (length terms / width) terms ≡ source ∷ []
       → Writes old new None (InsertOr at Abort (Values terms width) clauses) text params count
       → (w : Written) × (new.now ≡ record { schema = schema; trees = w.trees })
-      × Upserts (task_of old.step_limit schema table params) Abort
-      (with_rowid Chosen (db table.tree) (cast_row table source)) db clauses (Ok w)
+      × Upserts task Abort (with_rowid Chosen (db table.tree) (cast_row table source)) db clauses (Ok w)
   tries terms width clauses source uncounted timeless one w =
-      let command = InsertOr at Abort (Values terms width) clauses in
-      let task = task_of old.step_limit schema table params in
-      let on_schema = subst (λ s. Does old.step_limit (mode_of old) params (record old.now { schema = s }) text None
-      command (Ok (w.tally, new.now))) has w.changed in
-      let done = went (rw found at on_schema) in
-      let now : new.now ≡ record { schema = schema; trees = done.0.trees } =
-      (ap (λ (p : Tally × Database). p.1) (same_value (went (went done.2).2).2)) in
-      let given = went done.1 in
-      let counter = went given.2 in
-      let written = went counter.2 in
-      let counted = went written.2 in
-      let mid : counted.0 ≡ written.0.0.trees = same_value (not_counted table.is_counted _ _ _ uncounted counted.1) in
-      let trees : done.0.trees ≡ written.0.0.trees = ap (λ (it : Written). it.trees) (same_value counted.2) ∙ mid in
-      let rows : given.0 ≡ source ∷ [] =
-      subst (λ (stamps : Row). given.0 ≡ value_rows stamps width (length terms / width) terms)
-      (no_stamps table params timeless) given.1.1 ∙ one in
-      let each = subst (λ (all : List Row). TriesEach task Abort clauses all (count_of counter.0) (nothing db)
-      (Ok written.0)) rows written.1 in
-      let first = went each in
-      let how : rowids_for table (count_of counter.0) ≡ Chosen =
-      ap (λ b. if b then Above (count_of counter.0) else Chosen) uncounted in
-      let tried = subst (λ ids. Tries task Abort clauses (with_rowid ids (db table.tree) (cast_row table source)) db
-      (Ok first.0)) how first.1 in
-      let last : written.0.0.trees ≡ first.0.trees = ap (λ (p : Written × ℤ). p.0.trees) (same_value first.2) in (
-        first.0,
-        subst (λ (t : Trees). new.now ≡ record { schema = schema; trees = t }) (trees ∙ last) now,
-        judged task clauses _ db first.0 tried,
+      let (done, how, now) = wrote (λ it. InsertsOr it Abort clauses (Values terms width) db) w.tally w.changed in
+      let (rows, are, first, chosen, last, wrote_it, trees) =
+      sourced terms width (λ rows first. TriesEach task Abort clauses rows first (nothing db)) (λ tried. tried.0.trees)
+      (λ rows first tried. tried.1) (λ rows first tried next. record tried.0 { trees = next })
+      done (λ _ _ _ _. refl) uncounted timeless how in
+      let each = subst (λ (all : List Row). TriesEach task Abort clauses all first (nothing db) (Ok last)) (are ∙ one)
+      wrote_it in
+      let tried = went each in
+      let alone = subst (λ ids. Tries task Abort clauses (with_rowid ids (db table.tree) (cast_row table source)) db
+      (Ok tried.0)) chosen tried.1 in
+      let end : last.0.trees ≡ tried.0.trees = ap (λ (p : Written × ℤ). p.0.trees) (same_value tried.2) in (
+        tried.0,
+        subst (λ (t : Trees). new.now ≡ record { schema = schema; trees = t }) (trees ∙ end) now,
+        judged task clauses _ db tried.0 alone,
       )
 
   -- the rows that the query finds are taken out by their rowids
   pub deletes : (q : Program) → Writes old new None (Delete at q) text params count
-      → (rows : List Row) × Answers (record { schema = schema; trees = db }) q params rows × (new.now.schema ≡ schema)
+      → (rows : List Row) × Answers at_old q params rows × (new.now.schema ≡ schema)
       × action.Writes schema Enforced db (edit_of db table (ids_of rows) Given 0 []) (Ok new.now.trees)
   deletes q w =
-      let on_schema = subst (λ s. Does old.step_limit (mode_of old) params (record old.now { schema = s }) text None
-      (Delete at q) (Ok (w.tally, new.now))) has w.changed in
-      let done = went (rw found at on_schema) in
-      let now : new.now ≡ record { schema = schema; trees = done.0.trees } =
-      ap (λ (p : Tally × Database). p.1) (same_value (went (went done.2).2).2) in
-      let given = went done.1 in
-      let written = went given.2 in
-      let trees : done.0.trees ≡ written.0 = ap (λ (it : Written). it.trees) (same_value written.2) in
-      let edit = edit_of db table (ids_of given.0) Given 0 [] in (
-        given.0,
-        given.1,
-        ap (λ (d : Database). d.schema) now,
-        subst (λ (t : Trees). action.Writes schema Enforced db edit (Ok t))
-            (sym (ap (λ (d : Database). d.trees) now ∙ trees)) written.1,
-      )
+      let edit = λ (rows : List Row). edit_of db table (ids_of rows) Given 0 [] in
+      queried q edit (λ rows next. record { trees = next; rows = taken_by db (edit rows); last = None }) (λ _ _. refl)
+      (wrote (λ it. Deletes it q db) w.tally w.changed)
 
   -- the rows that the query gives take the place of those whose rowids it gives
   pub updates : (q : Program) → Writes old new None (Update at q) text params count
-      → (rows : List Row) × Answers (record { schema = schema; trees = db }) q params rows × (new.now.schema ≡ schema)
+      → (rows : List Row) × Answers at_old q params rows × (new.now.schema ≡ schema)
       × action.Writes schema Enforced db (edit_of db table (ids_of rows) Given 1 rows) (Ok new.now.trees)
   updates q w =
-      let on_schema = subst (λ s. Does old.step_limit (mode_of old) params (record old.now { schema = s }) text None
-      (Update at q) (Ok (w.tally, new.now))) has w.changed in
-      let done = went (rw found at on_schema) in
-      let now : new.now ≡ record { schema = schema; trees = done.0.trees } =
-      ap (λ (p : Tally × Database). p.1) (same_value (went (went done.2).2).2) in
-      let given = went done.1 in
-      let written = went given.2 in
-      let trees : done.0.trees ≡ written.0 = ap (λ (it : Written). it.trees) (same_value written.2) in
-      let edit = edit_of db table (ids_of given.0) Given 1 given.0 in (
-        given.0,
-        given.1,
-        ap (λ (d : Database). d.schema) now,
-        subst (λ (t : Trees). action.Writes schema Enforced db edit (Ok t))
-            (sym (ap (λ (d : Database). d.trees) now ∙ trees)) written.1,
-      )
+      let edit = λ (rows : List Row). edit_of db table (ids_of rows) Given 1 rows in
+      queried q edit (λ rows next. record { trees = next; rows = (edit rows).news; last = None }) (λ _ _. refl)
+      (wrote (λ it. Updates it q params db) w.tally w.changed)
 
 -- One row is put in. No foreign key acts on it.
 pub puts_one : (schema : Schema) (table : Table) (db next : Trees) (sources : List Row) (new : Row)
@@ -219,7 +234,8 @@ puts_one schema table db next sources new is w =
       a,
     )
 
-scanned : {A B : Type 0} (p : A → Bool) (f : A → B) (xs : List A)
+-- one item for each that passes a test
+pub scanned : {A B : Type 0} (p : A → Bool) (f : A → B) (xs : List A)
     → flat_map (λ x. if p x then f x ∷ [] else []) xs ≡ map f (filter p xs)
 scanned p f [] = refl
 scanned p f (x ∷ xs) = go (p x) refl (scanned p f xs)

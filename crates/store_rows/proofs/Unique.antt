@@ -17,7 +17,7 @@ use Rattle.sqlite.specs.Cast.{cast}
 use Rattle.sqlite.specs.Kind.TheVariants as kind
 use Rattle.sqlite.specs.Collation.TheVariants.{Binary}
 use Rattle.sqlite.specs.Order.{Row, column, value_cmp}
-use Rattle.sqlite.specs.Ops.{binary, is_null, is_true, from_truth}
+use Rattle.sqlite.specs.Ops.{binary, is_null}
 use Rattle.sqlite.specs.Tree.{Trees, IsTable, rowid}
 use Rattle.sqlite.specs.Table.{Table}
 use Rattle.sqlite.specs.Schema.{Schema}
@@ -37,6 +37,7 @@ use Rattle.store_rows.specs.Rows.{shown, has_key}
 use Rattle.store_rows.specs.Numbered.{AreNumbered}
 use Rattle.store_rows.proofs.ContentsLemmas.{meets_from}
 use Rattle.store_rows.specs.Texts.{key_tests, SuitColumns, Columns, first_columns, unique_keys}
+use Rattle.store_rows.proofs.Keys.{told}
 use Rattle.store_rows.proofs.RowLemmas.{has_permuted, unmapped, whole, keyed, same_shown}
 
 -- ---- values that are equal
@@ -47,15 +48,11 @@ equal_parts : (a b : Value) → equal Binary a b ≡ true
 unfolding binary
 equal_parts a b h = by (is_null a || is_null b) refl
   where
-    told : (t : Bool) → is_true (from_truth (Some t)) ≡ true → t ≡ true
-    told true e = refl
-    told false e = e
-
     by : (null : Bool) → (is_null a || is_null b) ≡ null
         → (is_null a ≡ false) × (is_null b ≡ false) × (value_cmp a b ≡ Equal)
     by true e = absurd (true≢false (sym (rw e at h)))
     by false e = let nulls = or_parts _ _ e in
-        (nulls.0, nulls.1, Equal_from_is_eq _ (told (is_eq (value_cmp a b)) (rw e at h)))
+        (nulls.0, nulls.1, Equal_from_is_eq _ (sym (told (is_eq (value_cmp a b))) ∙ (rw e at h)))
 
 equal_from : (a b : Value) → is_null a ≡ false → is_null b ≡ false → value_cmp a b ≡ Equal → equal Binary a b ≡ true
 unfolding binary

@@ -1,8 +1,8 @@
 //! The statements that write rows, each in a transaction that is open.
 
-ghost use Rattle.std.specs.Prelude.{◌≡◌, ◌∷◌, [], ℕ, List, length, take, OnOk};
+ghost use Rattle.std.specs.Prelude.{◌≡◌, ◌∷◌, [], ℕ, List, length, take, Ok, OnOk};
 ghost use Rattle.sqlite.specs.Held.{state};
-ghost use Rattle.sqlite.specs.State.{HasCleanDisk};
+ghost use Rattle.sqlite.specs.State.{HasCleanDisk, Executes};
 ghost use Rattle.sqlite.specs.Values.{bound};
 ghost use Rattle.sqlite.specs.Schema.{Schema};
 ghost use Rattle.sqlite.specs.Table.{Table};
@@ -14,6 +14,23 @@ ghost use Rattle.store_rows.specs.Texts.{SuitColumns, PutsIn, PutsByKey, PutsInP
 
 use sqlite::{Alter, Error, Transaction};
 use sqlite_value::value::ValueRef;
+
+/// Runs a statement that shows no rows.
+fn run<S: Alter>(
+    tx: &mut Transaction<'_, S>,
+    sql: &str,
+    params: &[ValueRef<'_>],
+) -> Result<(), Error>
+    ensures same_reference { tx.new.conn.ghost_name ≡ tx.old.conn.ghost_name }
+    ensures inside { StaysInside S.Store tx.old.conn.now tx.new.conn.now }
+    ensures calls { RunsInside S.Store ((sql.now, bound params.now) ∷ []) tx.old.conn.now tx.new.conn.now result }
+    ensures ran { OnOk result (HasCleanDisk (state S.Store tx.new.conn.now)
+        → (count : ℕ) × Executes sql.now (bound params.now) (state S.Store tx.old.conn.now)
+        (state S.Store tx.new.conn.now) (Ok count)) }
+{
+    tx.execute(sql, params)?;
+    Ok(())
+}
 
 /// Puts one more row into the table that the text names, whose columns are the parameters.
 pub fn insert<S: Alter>(
@@ -29,8 +46,7 @@ pub fn insert<S: Alter>(
         → Turns S.Store tx.old.conn.now tx.new.conn.now (HasContents schema)
         (in_table table (with_row (bound row.now)))) }
 {
-    tx.execute(sql, row)?;
-    Ok(())
+    run(tx, sql, row)
 }
 
 /// Takes out of the table that the text names the rows whose first columns are the parameters.
@@ -47,8 +63,7 @@ pub fn remove<S: Alter>(
         → Turns S.Store tx.old.conn.now tx.new.conn.now (HasContents schema)
         (in_table table (without (bound key.now)))) }
 {
-    tx.execute(sql, key)?;
-    Ok(())
+    run(tx, sql, key)
 }
 
 /// Puts a row, whose columns are the parameters, into the table that the text names. Where a row has its key, that row
@@ -67,8 +82,7 @@ pub fn put<S: Alter>(
         → Turns S.Store tx.old.conn.now tx.new.conn.now (HasContents schema)
         (with_put table (take width (bound row.now)) (bound row.now))) }
 {
-    tx.execute(sql, row)?;
-    Ok(())
+    run(tx, sql, row)
 }
 
 /// Puts the parameters, as the columns of a row, in place of each row of the table that the text
@@ -87,8 +101,7 @@ pub fn replace<S: Alter>(
         → Turns S.Store tx.old.conn.now tx.new.conn.now (HasContents schema)
         (in_table table (in_place (take width (bound columns.now)) (bound columns.now)))) }
 {
-    tx.execute(sql, columns)?;
-    Ok(())
+    run(tx, sql, columns)
 }
 
 /// Takes out of the table that the text names the rows whose first column is the one parameter,
@@ -109,6 +122,5 @@ pub fn remove_parent<S: Alter>(
         → HasContents schema (in_table table (without (bound parent.now)) contents)
         (state S.Store tx.new.conn.now).now) }
 {
-    tx.execute(sql, parent)?;
-    Ok(())
+    run(tx, sql, parent)
 }

@@ -14,7 +14,7 @@ use Rattle.sqlite.proofs.Callers.{IsPlain, command_of, reads_as, one_permutation
 use Rattle.sqlite_tied.specs.Compute.{everything}
 use Rattle.store_schema.specs.Tables.{meta, schema_of}
 use Rattle.store_schema.specs.Known.{select_meta, select_own, GivesOther, IsNumber, own_numbers, known_numbers}
-use Rattle.store_schema.specs.Known.{HasNumberBut, HasNoState, HasNoRelease, HasOwnTables, HasTablesUnder}
+use Rattle.store_schema.specs.Known.{HasNumberBut, HasNumbersAmong, HasNoState, HasNoRelease, HasOwnTables, HasTablesUnder}
 use Rattle.store_schema.specs.Earlier.{tables_under, schema_under, number_under, IsEarlierStateOf}
 use Rattle.store_schema.specs.declared.release.Release.{Release}
 use Rattle.store_schema.specs.declared.release.Release.TheVariants.{First, Second, Third}
@@ -73,6 +73,14 @@ other_number numbers old new rows h other = record {
   rows = rows;
   shown = select_again select_meta [] meta_selects old new rows h;
   other = other;
+}
+
+pub none_other : (numbers : List ℤ) (old new : State) (rows : List Row) → Shown select_meta [] old new rows
+    → ¬ Any (GivesOther numbers) rows → HasNumbersAmong numbers old
+none_other numbers old new rows h none = record {
+  rows = rows;
+  shown = select_again select_meta [] meta_selects old new rows h;
+  no_other = none;
 }
 
 abbrev own_columns : List Term
@@ -151,14 +159,14 @@ no_state_of db tables none i (inr stands) = none (record {
   number = stands.tables.tables.0;
 })
 
-pub no_state : (old new : State) (rows : List Row) → Shown select_meta [] old new rows → ¬ IsBlank old.now
-    → ¬ HasOwnTables old.now → ¬ Any (GivesOther own_numbers) rows → HasNoState old
-no_state old new rows h tables none no_other = record {
+pub no_state : (old : State) → HasNumbersAmong own_numbers old → ¬ IsBlank old.now → ¬ HasOwnTables old.now
+    → HasNoState old
+no_state old numbers tables none = record {
   none = no_state_of old.now tables none;
   not_own = none;
-  rows = rows;
-  shown = select_again select_meta [] meta_selects old new rows h;
-  no_other = no_other;
+  rows = numbers.rows;
+  shown = numbers.shown;
+  no_other = numbers.no_other;
 }
 
 no_release_of : (db : Database) → ¬ IsBlank db → ((r : Release) → ¬ HasTablesUnder r db) → (i : Inventory)
@@ -173,14 +181,14 @@ no_release_of db tables none i (inr (inr stands)) = none Second (record {
   number = stands.tables.tables.0;
 })
 
-pub no_release : (old new : State) (rows : List Row) → Shown select_meta [] old new rows → ¬ IsBlank old.now
-    → ((r : Release) → ¬ HasTablesUnder r old.now) → ¬ Any (GivesOther known_numbers) rows → HasNoRelease old
-no_release old new rows h tables none no_other = record {
+pub no_release : (old : State) → HasNumbersAmong known_numbers old → ¬ IsBlank old.now
+    → ((r : Release) → ¬ HasTablesUnder r old.now) → HasNoRelease old
+no_release old numbers tables none = record {
   none = no_release_of old.now tables none;
   not_known = none;
-  rows = rows;
-  shown = select_again select_meta [] meta_selects old new rows h;
-  no_other = no_other;
+  rows = numbers.rows;
+  shown = numbers.shown;
+  no_other = numbers.no_other;
 }
 
 pub not_both : (b : Bool) → IsTrue b → b ≡ false → ⊥

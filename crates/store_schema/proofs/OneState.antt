@@ -92,7 +92,7 @@ one_head j k x y a b p q e = record {
 }
 
 -- no service has NPRE or DELETE
-service_suits : (k : Kind) (v : Ver) → k ≢ Function → VerSuitsKind k v → (v.npre ≡ []) × (v.del ≡ [])
+pub service_suits : (k : Kind) (v : Ver) → k ≢ Function → VerSuitsKind k v → (v.npre ≡ []) × (v.del ≡ [])
 service_suits Function v other h = absurd (other refl)
 service_suits Ptf v other h = (h.1, h.2)
 service_suits Apar v other h = (h.1, h.2)
@@ -669,21 +669,18 @@ shared_tables = ver ∷ ifreq ∷ hold ∷ elem ∷ zone ∷ entry ∷ zelem ∷
 module _ (i j : Inventory) (p : IsInventory i) (q : IsInventory j)
     (shared : AreAmong shared_tables (rows_of i) (rows_of j))
     (more : AreAmong (morever ∷ moreif ∷ chosen ∷ []) (rows_of i) (rows_of j)) where
-  -- the sources in a table of their own
-  within : ((r : Row) → Has (map sysmod_row i.global.sysmods) r → Has (map sysmod_row j.global.sysmods) r)
-      → ((r : Row) → Has (flat_map sources_of i.global.sysmods) r → Has (flat_map sources_of j.global.sysmods) r)
+  abbrev SysmodKept : Sysmod → Type 0
+  SysmodKept s = (t : Sysmod) × Has j.global.sysmods t × (s.id ≡ t.id) × (s.kind ≡ t.kind)
+
+  abbrev SourcesKept : Sysmod → Sysmod → Type 0
+  SourcesKept s t = (name : Text) → Has s.sources name → Has t.sources name
+
+  kept : ((s : Sysmod) → Has i.global.sysmods s → SysmodKept s)
+      → ((s t : Sysmod) → Has i.global.sysmods s → Has j.global.sysmods t → s.id ≡ t.id → SourcesKept s t)
       → IsWithin i j
-  within sysmods sources = record {
-    sysmods = λ s hs.
-        let there = sysmods (sysmod_row s) (mapped sysmod_row i.global.sysmods s hs) in
-        let it = unmapped sysmod_row j.global.sysmods _ there in (it.0, it.1, cc, kind_same s.kind it.0.kind cc);
-    sources = λ s t hs ht same name hn.
-        let found = flat_had sources_of j.global.sysmods _ (sources (source_row s.id name)
-        (flat_has sources_of i.global.sysmods s _ hs (mapped (source_row s.id) s.sources name hn))) in
-        let it = unmapped (source_row found.0.id) found.0.sources (source_row s.id name) found.2 in
-        let is : found.0 ≡ t = own j q s t ht same found.0 found.1 cc in
-        let equal : it.0 ≡ name = cc in
-        subst (λ (x : Sysmod). Has x.sources name) is (subst (Has found.0.sources) equal it.1);
+  kept sysmods sources = record {
+    sysmods = sysmods;
+    sources = sources;
     vers = shared.0;
     ifreqs = shared.1.0;
     holds = shared.1.1.0;
@@ -696,29 +693,32 @@ module _ (i j : Inventory) (p : IsInventory i) (q : IsInventory j)
     chosens = more.1.1.0;
   }
 
+  -- the sources in a table of their own
+  within : ((r : Row) → Has (map sysmod_row i.global.sysmods) r → Has (map sysmod_row j.global.sysmods) r)
+      → ((r : Row) → Has (flat_map sources_of i.global.sysmods) r → Has (flat_map sources_of j.global.sysmods) r)
+      → IsWithin i j
+  within sysmods sources = kept (λ s hs.
+      let there = sysmods (sysmod_row s) (mapped sysmod_row i.global.sysmods s hs) in
+      let it = unmapped sysmod_row j.global.sysmods _ there in (it.0, it.1, cc, kind_same s.kind it.0.kind cc))
+      (λ s t hs ht same name hn.
+      let found = flat_had sources_of j.global.sysmods _ (sources (source_row s.id name)
+      (flat_has sources_of i.global.sysmods s _ hs (mapped (source_row s.id) s.sources name hn))) in
+      let it = unmapped (source_row found.0.id) found.0.sources (source_row s.id name) found.2 in
+      let is : found.0 ≡ t = own j q s t ht same found.0 found.1 cc in
+      let equal : it.0 ≡ name = cc in
+      subst (λ (x : Sysmod). Has x.sources name) is (subst (Has found.0.sources) equal it.1))
+
   -- the sources in the row of the SYSMOD
   within_first :
       ((r : Row) → Has (map first_sysmod_row i.global.sysmods) r → Has (map first_sysmod_row j.global.sysmods) r)
       → IsWithin i j
-  within_first sysmods = record {
-    sysmods = λ s hs. let it = found s hs in (it.0, it.1, cc, kind_same s.kind it.0.kind cc);
-    sources = λ s t hs ht same name hn.
-        let it = found s hs in
-        let is : it.0 ≡ t = own j q s t ht same it.0 it.1 cc in
-        let equal : s.sources ≡ it.0.sources = ids_same s.sources it.0.sources
-        (sources_are_words _ (forms i p s hs).sources) (sources_are_words _ (forms j q it.0 it.1).sources) cc in
-        subst (λ (x : Sysmod). Has x.sources name) is (subst (λ l. Has l name) equal hn);
-    vers = shared.0;
-    ifreqs = shared.1.0;
-    holds = shared.1.1.0;
-    elems = shared.1.1.1.0;
-    zones = shared.1.1.1.1.0;
-    entries = shared.1.1.1.1.1.0;
-    zelems = shared.1.1.1.1.1.1.0;
-    morevers = more.0;
-    moreifs = more.1.0;
-    chosens = more.1.1.0;
-  }
+  within_first sysmods = kept (λ s hs. let it = found s hs in (it.0, it.1, cc, kind_same s.kind it.0.kind cc))
+      (λ s t hs ht same name hn.
+      let it = found s hs in
+      let is : it.0 ≡ t = own j q s t ht same it.0 it.1 cc in
+      let equal : s.sources ≡ it.0.sources = ids_same s.sources it.0.sources
+      (sources_are_words _ (forms i p s hs).sources) (sources_are_words _ (forms j q it.0 it.1).sources) cc in
+      subst (λ (x : Sysmod). Has x.sources name) is (subst (λ l. Has l name) equal hn))
     where
       found : (s : Sysmod) → Has i.global.sysmods s
           → (t : Sysmod) × Has j.global.sysmods t × (first_sysmod_row s ≡ first_sysmod_row t)

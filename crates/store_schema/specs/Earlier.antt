@@ -1,5 +1,5 @@
 -- What the tables of earlier schemas stand for. They are read to be migrated, and for nothing else.
-use Rattle.std.specs.Prelude.{◌≡◌, ◌≤◌, ◌⊎◌, ℤ, List, [], ◌∷◌, map, length, pos, All, IfSome}
+use Rattle.std.specs.Prelude.{◌≡◌, ◌≤◌, ◌⊎◌, ℤ, List, [], ◌∷◌, ◌++◌, map, length, pos, All, IfSome}
 use Rattle.std.specs.List.{flat_map}
 use Rattle.sqlite.specs.declared.types.Value.TheVariants as value
 use Rattle.sqlite.specs.Order.{Row}
@@ -10,12 +10,12 @@ use Rattle.terms.specs.Types.{Sysmod}
 use Rattle.terms.specs.Lookups.{IsRising}
 use Rattle.terms.specs.Spelling.{kind_text}
 use Rattle.store_rows.specs.Rows.{Contents, HasContents}
-use Rattle.store_schema.specs.Tables.{meta, sysmod, ver, ifreq, hold, elem, zone, entry, zelem, source, schema_of}
+use Rattle.store_schema.specs.Tables.{meta, sysmod, source, schema_of}
 use Rattle.store_schema.specs.Tables.{morever, moreif, chosen, first_tables, second_tables, all_tables}
 use Rattle.store_schema.specs.Inventory.{Inventory, IsInventory}
-use Rattle.store_schema.specs.Rows.{setting_row, ids, sysmod_row, vers_of, ifreqs_of, hold_row, elems_of, zone_row}
-use Rattle.store_schema.specs.Rows.{entries_of, zelems_of, sources_of}
-use Rattle.store_schema.specs.Stands.{rows_in, StandsFor, IsStateOf}
+use Rattle.store_schema.specs.Rows.{setting_row, ids, sysmod_row}
+use Rattle.store_schema.specs.Rows.{sources_of}
+use Rattle.store_schema.specs.Stands.{rows_in, shared_tables_of, StandsFor, IsStateOf}
 use Rattle.store_schema.specs.declared.release.Release.{Release}
 use Rattle.store_schema.specs.declared.release.Release.TheVariants.{First, Second, Third}
 
@@ -32,14 +32,7 @@ abbrev pub first_rows_of : Inventory → Contents
 first_rows_of i = rows_in (
     (meta, setting_row (pos 1) ∷ [])
     ∷ (sysmod, map first_sysmod_row i.global.sysmods)
-    ∷ (ver, flat_map vers_of i.global.sysmods)
-    ∷ (ifreq, flat_map ifreqs_of i.global.sysmods)
-    ∷ (hold, map hold_row i.global.holds)
-    ∷ (elem, flat_map elems_of i.global.sysmods)
-    ∷ (zone, map zone_row i.zones)
-    ∷ (entry, flat_map entries_of i.zones)
-    ∷ (zelem, flat_map zelems_of i.zones)
-    ∷ [])
+    ∷ shared_tables_of i)
 
 -- and had 8 characters at most
 abbrev pub HasShortSources : Sysmod → Type 0
@@ -57,14 +50,8 @@ abbrev pub second_rows_of : Inventory → Contents
 second_rows_of i = rows_in (
     (meta, setting_row (pos 2) ∷ [])
     ∷ (sysmod, map sysmod_row i.global.sysmods)
-    ∷ (ver, flat_map vers_of i.global.sysmods)
-    ∷ (ifreq, flat_map ifreqs_of i.global.sysmods)
-    ∷ (hold, map hold_row i.global.holds)
-    ∷ (elem, flat_map elems_of i.global.sysmods)
-    ∷ (zone, map zone_row i.zones)
-    ∷ (entry, flat_map entries_of i.zones)
-    ∷ (zelem, flat_map zelems_of i.zones)
-    ∷ (source, flat_map sources_of i.global.sysmods)
+    ∷ shared_tables_of i
+    ++ (source, flat_map sources_of i.global.sysmods)
     ∷ [])
 
 -- The tables are those of schema 2, and hold the rows of the inventory.

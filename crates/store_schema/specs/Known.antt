@@ -62,6 +62,12 @@ pub record HasNumberBut (numbers : List ℤ) (at : State) : Type 0 where
   pub shown : Shown select_meta [] at at rows
   pub other : Any (GivesOther numbers) rows
 
+-- and it gives `schema` no number but these
+pub record HasNumbersAmong (numbers : List ℤ) (at : State) : Type 0 where
+  pub rows : List Row
+  pub shown : Shown select_meta [] at at rows
+  pub no_other : ¬ Any (GivesOther numbers) rows
+
 -- the tables are another schema's than the store's, or than any release's
 abbrev pub HasOtherNumber : State → Type 0
 HasOtherNumber = HasNumberBut own_numbers

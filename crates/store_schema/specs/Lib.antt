@@ -3,6 +3,7 @@ pub mod Earlier
 pub mod Forms
 pub mod Inventory
 pub mod Known
+pub mod Looks
 pub mod Plain
 pub mod Rows
 pub mod Stands

@@ -1,5 +1,5 @@
 -- When the rows of a database stand for an inventory.
-use Rattle.std.specs.Prelude.{◌≡◌, ◌⊎◌, ◌==◌, List, [], ◌∷◌, map, if◌then◌else◌}
+use Rattle.std.specs.Prelude.{◌≡◌, ◌⊎◌, ◌==◌, List, [], ◌∷◌, ◌++◌, map, if◌then◌else◌}
 use Rattle.std.specs.List.{flat_map}
 use Rattle.sqlite.specs.Order.{Row}
 use Rattle.sqlite.specs.Tree.{Trees}
@@ -13,19 +13,25 @@ use Rattle.store_schema.specs.Inventory.{Inventory, IsInventory, empty_inventory
 use Rattle.store_schema.specs.Rows.{number_row, sysmod_row, vers_of, ifreqs_of, hold_row, elems_of, zone_row}
 use Rattle.store_schema.specs.Rows.{entries_of, zelems_of, sources_of, morevers_of, moreifs_of, chosen_of}
 
--- what each table holds: the schema's number, and the rows of the inventory
-abbrev pub tables_of : Inventory → List (Table × List Row)
-tables_of i =
-    (meta, number_row ∷ [])
-    ∷ (sysmod, map sysmod_row i.global.sysmods)
-    ∷ (ver, flat_map vers_of i.global.sysmods)
+-- what the tables hold that stand alike under all schemas of the store
+abbrev pub shared_tables_of : Inventory → List (Table × List Row)
+shared_tables_of i =
+    (ver, flat_map vers_of i.global.sysmods)
     ∷ (ifreq, flat_map ifreqs_of i.global.sysmods)
     ∷ (hold, map hold_row i.global.holds)
     ∷ (elem, flat_map elems_of i.global.sysmods)
     ∷ (zone, map zone_row i.zones)
     ∷ (entry, flat_map entries_of i.zones)
     ∷ (zelem, flat_map zelems_of i.zones)
-    ∷ (source, flat_map sources_of i.global.sysmods)
+    ∷ []
+
+-- what each table holds: the schema's number, and the rows of the inventory
+abbrev pub tables_of : Inventory → List (Table × List Row)
+tables_of i =
+    (meta, number_row ∷ [])
+    ∷ (sysmod, map sysmod_row i.global.sysmods)
+    ∷ shared_tables_of i
+    ++ (source, flat_map sources_of i.global.sysmods)
     ∷ (morever, flat_map morevers_of i.global.sysmods)
     ∷ (moreif, flat_map moreifs_of i.global.sysmods)
     ∷ (chosen, flat_map chosen_of i.zones)

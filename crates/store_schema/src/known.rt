@@ -2,15 +2,16 @@
 
 ghost use Rattle.std.specs.Prelude.{◌≡◌, false, IsTrue, OnOk, OnErr, IsErrOf};
 ghost use Rattle.sqlite.specs.Held.{state};
-ghost use Rattle.sqlite.specs.State.{HasCleanDisk, IsLive, IsUnchanged, KeepsCommit, Survives};
+ghost use Rattle.sqlite.specs.State.{HasCleanDisk, IsLive, IsUnchanged, Survives};
 ghost use Rattle.store_schema.specs.Create.{IsBlank};
 ghost use Rattle.store_schema.specs.Inventory.{Inventory};
 ghost use Rattle.store_rows.specs.Inside.{Holds};
 ghost use Rattle.store_schema.specs.Known.{HasOtherNumber, HasNoState, HasOwnTables};
+ghost use Rattle.store_schema.specs.Looks.{LeavesAll, KeepsLast, SurvivesAs};
 ghost use Rattle.store_schema.specs.Stands.{StandsFor, IsStateOf, IsSetUp};
 
 use crate::error::StoreError;
-use crate::numbers::{check_number, has_other_number, meta_rows};
+use crate::numbers::{check_number, check_numbers};
 use crate::release::Release;
 use crate::tables::{create, is_blank, is_schema_under};
 use sqlite::{Alter, Connection};
@@ -22,11 +23,9 @@ fn check_own<S: Alter>(alloc: Global, conn: &mut Connection<S>) -> Result<(), St
     ensures none { HasCleanDisk (state S.Store conn.new) → IsErrOf result StoreError.NoState
         → ¬ HasOwnTables (state S.Store conn.old).now }
     ensures which { IsErrOf result StoreError.OtherSchema → ⊥ }
-    ensures same { HasCleanDisk (state S.Store conn.new) → OnOk result
-        (IsUnchanged (state S.Store conn.old) (state S.Store conn.new)) }
-    ensures kept { HasCleanDisk (state S.Store conn.new) → KeepsCommit (state S.Store conn.old)
-        (state S.Store conn.new) }
-    ensures crash { Survives (state S.Store conn.old) (state S.Store conn.new) (λ _. ⊥) }
+    ensures same { LeavesAll S.Store conn.old conn.new result }
+    ensures kept { KeepsLast S.Store conn.old conn.new }
+    ensures crash { SurvivesAs S.Store conn.old conn.new }
     ensures mode { conn.old.in_transaction ≡ false → conn.new.in_transaction ≡ false }
 {
     if !is_schema_under(alloc, conn.schema(), Release::Third)? {
@@ -42,17 +41,12 @@ fn check<S: Alter>(alloc: Global, conn: &mut Connection<S>) -> Result<(), StoreE
         → HasOtherNumber (state S.Store conn.old) }
     ensures none { HasCleanDisk (state S.Store conn.new) → IsErrOf result StoreError.NoState
         → ¬ IsBlank (state S.Store conn.old).now → HasNoState (state S.Store conn.old) }
-    ensures same { HasCleanDisk (state S.Store conn.new) → OnOk result
-        (IsUnchanged (state S.Store conn.old) (state S.Store conn.new)) }
-    ensures kept { HasCleanDisk (state S.Store conn.new) → KeepsCommit (state S.Store conn.old)
-        (state S.Store conn.new) }
-    ensures crash { Survives (state S.Store conn.old) (state S.Store conn.new) (λ _. ⊥) }
+    ensures same { LeavesAll S.Store conn.old conn.new result }
+    ensures kept { KeepsLast S.Store conn.old conn.new }
+    ensures crash { SurvivesAs S.Store conn.old conn.new }
     ensures mode { conn.old.in_transaction ≡ false → conn.new.in_transaction ≡ false }
 {
-    let rows = meta_rows(conn)?;
-    if has_other_number(rows.as_slice(), &[3]) {
-        return Err(StoreError::OtherSchema);
-    }
+    check_numbers(conn, &[3])?;
     check_own(alloc, conn)
 }
 

@@ -3,10 +3,11 @@
 ghost use Rattle.std.specs.Prelude.{◌≡◌, ◌↔◌, ℤ, false, [], codes, IsTrue, OnOk, IfOk, IfSome, IfNone, IsErrOf};
 ghost use Rattle.std.specs.List.{Any};
 ghost use Rattle.sqlite.specs.Held.{state};
-ghost use Rattle.sqlite.specs.State.{HasCleanDisk, IsUnchanged, KeepsCommit, Shown, Survives};
+ghost use Rattle.sqlite.specs.State.{HasCleanDisk, Shown};
 ghost use Rattle.store_schema.specs.Earlier.{schema_under, number_under};
 ghost use Rattle.store_schema.specs.Known.{select_meta, select_own, Gives, GivesOther, GivesOwn, IsNumber};
-ghost use Rattle.store_schema.specs.Known.{HasTablesUnder};
+ghost use Rattle.store_schema.specs.Known.{HasTablesUnder, HasNumberBut, HasNumbersAmong};
+ghost use Rattle.store_schema.specs.Looks.{LeavesAll, KeepsLast, SurvivesAs};
 
 use crate::error::StoreError;
 use crate::release::Release;
@@ -14,14 +15,12 @@ use sqlite::{Alter, Connection, Error, Row};
 use sqlite_value::value::ValueRef;
 
 /// What `meta` says, whatever the other tables are.
-pub(crate) fn meta_rows<S: Alter>(conn: &mut Connection<S>) -> Result<Vec<Row>, Error>
+fn meta_rows<S: Alter>(conn: &mut Connection<S>) -> Result<Vec<Row>, Error>
     ensures shown { HasCleanDisk (state S.Store conn.new) → IfOk result
         (λ rows. Shown select_meta [] (state S.Store conn.old) (state S.Store conn.new) rows.items) }
-    ensures same { HasCleanDisk (state S.Store conn.new) → OnOk result
-        (IsUnchanged (state S.Store conn.old) (state S.Store conn.new)) }
-    ensures kept { HasCleanDisk (state S.Store conn.new) → KeepsCommit (state S.Store conn.old)
-        (state S.Store conn.new) }
-    ensures crash { Survives (state S.Store conn.old) (state S.Store conn.new) (λ _. ⊥) }
+    ensures same { LeavesAll S.Store conn.old conn.new result }
+    ensures kept { KeepsLast S.Store conn.old conn.new }
+    ensures crash { SurvivesAs S.Store conn.old conn.new }
     ensures mode { conn.old.in_transaction ≡ false → conn.new.in_transaction ≡ false }
 {
     conn.query_all("SELECT k, v FROM meta", &[])
@@ -31,11 +30,9 @@ pub(crate) fn meta_rows<S: Alter>(conn: &mut Connection<S>) -> Result<Vec<Row>, 
 fn own_rows<S: Alter>(conn: &mut Connection<S>) -> Result<Vec<Row>, Error>
     ensures shown { HasCleanDisk (state S.Store conn.new) → IfOk result
         (λ rows. Shown select_own [] (state S.Store conn.old) (state S.Store conn.new) rows.items) }
-    ensures same { HasCleanDisk (state S.Store conn.new) → OnOk result
-        (IsUnchanged (state S.Store conn.old) (state S.Store conn.new)) }
-    ensures kept { HasCleanDisk (state S.Store conn.new) → KeepsCommit (state S.Store conn.old)
-        (state S.Store conn.new) }
-    ensures crash { Survives (state S.Store conn.old) (state S.Store conn.new) (λ _. ⊥) }
+    ensures same { LeavesAll S.Store conn.old conn.new result }
+    ensures kept { KeepsLast S.Store conn.old conn.new }
+    ensures crash { SurvivesAs S.Store conn.old conn.new }
     ensures mode { conn.old.in_transaction ≡ false → conn.new.in_transaction ≡ false }
 {
     conn.query_all("SELECT rowid, k, v FROM meta", &[])
@@ -97,7 +94,7 @@ fn gives_own_number(row: &Row, release: Release) -> bool
 }
 
 /// Whether a row gives a number that is none of these.
-pub(crate) fn has_other_number(rows: &[Row], numbers: &[i64]) -> bool
+fn has_other_number(rows: &[Row], numbers: &[i64]) -> bool
     ensures { IsTrue result ↔ Any (GivesOther numbers.now) rows.now }
 {
     for row in rows {
@@ -106,6 +103,28 @@ pub(crate) fn has_other_number(rows: &[Row], numbers: &[i64]) -> bool
         }
     }
     false
+}
+
+/// Knows that `meta` gives the schema no number but these.
+pub(crate) fn check_numbers<S: Alter>(
+    conn: &mut Connection<S>,
+    numbers: &[i64],
+) -> Result<(), StoreError>
+    ensures known { HasCleanDisk (state S.Store conn.new) → OnOk result
+        (HasNumbersAmong numbers.now (state S.Store conn.old)) }
+    ensures other { HasCleanDisk (state S.Store conn.new) → IsErrOf result StoreError.OtherSchema
+        → HasNumberBut numbers.now (state S.Store conn.old) }
+    ensures which { IsErrOf result StoreError.NoState → ⊥ }
+    ensures same { LeavesAll S.Store conn.old conn.new result }
+    ensures kept { KeepsLast S.Store conn.old conn.new }
+    ensures crash { SurvivesAs S.Store conn.old conn.new }
+    ensures mode { conn.old.in_transaction ≡ false → conn.new.in_transaction ≡ false }
+{
+    let rows = meta_rows(conn)?;
+    if has_other_number(rows.as_slice(), numbers) {
+        return Err(StoreError::OtherSchema);
+    }
+    Ok(())
 }
 
 /// Whether `meta` has one row, with the number of the release.
@@ -126,11 +145,9 @@ pub(crate) fn check_number<S: Alter>(
     ensures none { HasCleanDisk (state S.Store conn.new) → IsErrOf result StoreError.NoState
         → ¬ HasTablesUnder release (state S.Store conn.old).now }
     ensures which { IsErrOf result StoreError.OtherSchema → ⊥ }
-    ensures same { HasCleanDisk (state S.Store conn.new) → OnOk result
-        (IsUnchanged (state S.Store conn.old) (state S.Store conn.new)) }
-    ensures kept { HasCleanDisk (state S.Store conn.new) → KeepsCommit (state S.Store conn.old)
-        (state S.Store conn.new) }
-    ensures crash { Survives (state S.Store conn.old) (state S.Store conn.new) (λ _. ⊥) }
+    ensures same { LeavesAll S.Store conn.old conn.new result }
+    ensures kept { KeepsLast S.Store conn.old conn.new }
+    ensures crash { SurvivesAs S.Store conn.old conn.new }
     ensures mode { conn.old.in_transaction ≡ false → conn.new.in_transaction ≡ false }
 {
     let rows = own_rows(conn)?;

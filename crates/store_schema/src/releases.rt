@@ -1,14 +1,15 @@
 //! The release that the tables of a database are of, earlier ones too.
 
-ghost use Rattle.std.specs.Prelude.{◌≡◌, false, OnOk, IfOk, IfSome, IfNone, IsErrOf};
+ghost use Rattle.std.specs.Prelude.{◌≡◌, false, IfOk, IfSome, IfNone, IsErrOf};
 ghost use Rattle.sqlite.specs.Held.{state};
 ghost use Rattle.sqlite.specs.State.{HasCleanDisk, IsUnchanged, KeepsCommit, Survives};
 ghost use Rattle.store_schema.specs.Create.{IsBlank};
 ghost use Rattle.store_schema.specs.Known.{HasUnknownNumber, HasNoRelease, HasTablesUnder};
+ghost use Rattle.store_schema.specs.Looks.{LeavesAll, KeepsLast, SurvivesAs};
 ghost use Rattle.store_schema.specs.declared.release.Release.{Release as ReleaseOf};
 
 use crate::error::StoreError;
-use crate::numbers::{check_number, has_other_number, meta_rows};
+use crate::numbers::{check_number, check_numbers};
 use crate::release::Release;
 use crate::tables::{is_blank, release_with};
 use sqlite::{Alter, Connection};
@@ -24,11 +25,9 @@ fn release_by_tables<S: Alter>(
     ensures none { HasCleanDisk (state S.Store conn.new) → IsErrOf result StoreError.NoState
         → (release : ReleaseOf) → ¬ HasTablesUnder release (state S.Store conn.old).now }
     ensures which { IsErrOf result StoreError.OtherSchema → ⊥ }
-    ensures same { HasCleanDisk (state S.Store conn.new) → OnOk result
-        (IsUnchanged (state S.Store conn.old) (state S.Store conn.new)) }
-    ensures kept { HasCleanDisk (state S.Store conn.new) → KeepsCommit (state S.Store conn.old)
-        (state S.Store conn.new) }
-    ensures crash { Survives (state S.Store conn.old) (state S.Store conn.new) (λ _. ⊥) }
+    ensures same { LeavesAll S.Store conn.old conn.new result }
+    ensures kept { KeepsLast S.Store conn.old conn.new }
+    ensures crash { SurvivesAs S.Store conn.old conn.new }
     ensures mode { conn.old.in_transaction ≡ false → conn.new.in_transaction ≡ false }
 {
     let Some(release) = release_with(alloc, conn.schema())? else {
@@ -46,17 +45,12 @@ fn known_release<S: Alter>(alloc: Global, conn: &mut Connection<S>) -> Result<Re
         → HasUnknownNumber (state S.Store conn.old) }
     ensures none { HasCleanDisk (state S.Store conn.new) → IsErrOf result StoreError.NoState
         → ¬ IsBlank (state S.Store conn.old).now → HasNoRelease (state S.Store conn.old) }
-    ensures same { HasCleanDisk (state S.Store conn.new) → OnOk result
-        (IsUnchanged (state S.Store conn.old) (state S.Store conn.new)) }
-    ensures kept { HasCleanDisk (state S.Store conn.new) → KeepsCommit (state S.Store conn.old)
-        (state S.Store conn.new) }
-    ensures crash { Survives (state S.Store conn.old) (state S.Store conn.new) (λ _. ⊥) }
+    ensures same { LeavesAll S.Store conn.old conn.new result }
+    ensures kept { KeepsLast S.Store conn.old conn.new }
+    ensures crash { SurvivesAs S.Store conn.old conn.new }
     ensures mode { conn.old.in_transaction ≡ false → conn.new.in_transaction ≡ false }
 {
-    let rows = meta_rows(conn)?;
-    if has_other_number(rows.as_slice(), &[1, 2, 3]) {
-        return Err(StoreError::OtherSchema);
-    }
+    check_numbers(conn, &[1, 2, 3])?;
     release_by_tables(alloc, conn)
 }
 

@@ -1,6 +1,6 @@
 -- What columns say that depend on others.
-use Rattle.std.proofs.Common.{◌≡◌, ◌≢◌, ◌<◌, ℕ, List, [], ◌∷◌, length, Bool, true, false, Option, Some, None, IsTrue}
-use Rattle.std.proofs.Common.{arith, refl, sym, ap, subst, ◌∙◌}
+use Rattle.std.proofs.Common.{◌≡◌, ◌≢◌, ◌<◌, ℕ, List, [], ◌∷◌, length, Bool, true, false, Option, Some, None}
+use Rattle.std.proofs.Common.{arith, refl, sym, ap, ◌∙◌}
 use Rattle.std.specs.Prelude.{IfSome}
 use Rattle.sqlite.specs.declared.types.Value.{Value}
 use Rattle.sqlite.specs.declared.types.Value.TheVariants as value
@@ -9,7 +9,7 @@ use Rattle.sqlite.specs.Values.{or_null}
 use Rattle.store_rows.proofs.ContentsLemmas.{columns_from}
 use Rattle.terms.specs.declared.kinds.Kind.TheVariants.{Ptf}
 use Rattle.terms.specs.declared.kinds.ElemType.{ElemType}
-use Rattle.terms.specs.declared.kinds.ElemType.TheVariants.{Mac, Src, Clist, Data, Exec, Parm, Proc}
+use Rattle.terms.specs.declared.kinds.ElemType.TheVariants.{Mac, Src}
 use Rattle.terms.specs.Types.{Text, Id, Lines, Action, Replaces, Updates}
 use Rattle.terms.specs.Forms.{IsName}
 use Rattle.terms.specs.Lookups.{is_in}
@@ -44,18 +44,10 @@ filled (line ∷ lines) some = omega arith
 pub fits_action : (t : ElemType) (name : Text) (a : Action) → HasActionForms Ptf t name a → IsActionOf t name a
 fits_action Mac name (Replaces d l text) h = (filled text h.3, h.2.1)
 fits_action Src name (Replaces d l text) h = (filled text h.3, h.2.1)
-fits_action Clist name (Replaces d l text) h = (filled text h.3, tt)
-fits_action Data name (Replaces d l text) h = (filled text h.3, tt)
-fits_action Exec name (Replaces d l text) h = (filled text h.3, tt)
-fits_action Parm name (Replaces d l text) h = (filled text h.3, tt)
-fits_action Proc name (Replaces d l text) h = (filled text h.3, tt)
+fits_action t name (Replaces d l text) h = (filled text h.3, tt)
 fits_action Mac name (Updates text) h = h.3
 fits_action Src name (Updates text) h = h.3
-fits_action Clist name (Updates text) h = absurd h.1
-fits_action Data name (Updates text) h = absurd h.1
-fits_action Exec name (Updates text) h = absurd h.1
-fits_action Parm name (Updates text) h = absurd h.1
-fits_action Proc name (Updates text) h = absurd h.1
+fits_action t name (Updates text) h = absurd h.1
 
 -- ---- the cells of what a statement does
 

@@ -1,5 +1,8 @@
 -- A row says all of what it stands for.
-use Rattle.std.proofs.Common.{◌≡◌, ap, sym, ◌∙◌}
+use Rattle.std.proofs.Common.{◌≡◌, ◌≢◌, List, [], ap, sym, ◌∙◌}
+use Rattle.terms.specs.Forms.{IsId}
+use Rattle.terms.specs.Types.{Id}
+use Rattle.store_schema.specs.Forms.{AreOthers, HasIfForms}
 use Rattle.terms.specs.declared.kinds.Kind.TheVariants.{Function, Ptf}
 use Rattle.store_schema.proofs.Spelled.{kind_same, ids_same, or_null_same, sources_are_words}
 use Rattle.store_schema.proofs.OneState.{same_ids, if_same, HaveOneHead, one_head, ver_is, change_is}
@@ -85,3 +88,8 @@ exact_elem a b p q e =
     let id : a.id ≡ b.id = cc in
     let change : a.change ≡ b.change = change_is Ptf Ptf a.id b.id a.change b.change p.1 q.1 e in
     ap (λ x. record a { id = x }) id ∙ ap (λ x. record b { change = x }) change
+
+-- what is known of the two columns of an ++IF
+pub formed_if : (x function : Id) (req : List Id) → IsId function → AreOthers x req × (req ≢ [])
+    → HasIfForms x (record { function = function; req = req })
+formed_if x function req formed (others, some) = record { function = formed; req = others; some = some }

@@ -10,8 +10,6 @@ use Rattle.sqlite_rules.specs.Lists.{Has}
 use Rattle.sqlite_rules.proofs.ListLemmas.{all_has, all_from, has_filtered, has_kept}
 use Rattle.sqlite_trees.proofs.ListLemmas.{map-map, ascending-map}
 use Rattle.lemmas.proofs.Each.{recursion_append, recursion_weaker}
-use Rattle.terms.specs.declared.kinds.Kind.{Kind}
-use Rattle.terms.specs.declared.kinds.Kind.TheVariants.{Function, Ptf, Apar, Usermod}
 use Rattle.terms.specs.Types.{Text, Id, Ver, Sysmod}
 use Rattle.terms.specs.Lookups.{is_before}
 use Rattle.store_rows.specs.Rows.{Contents}
@@ -24,6 +22,7 @@ use Rattle.store_schema.proofs.Lists.{ascending, all_by, has_all, flat_has, flat
 use Rattle.store_schema.proofs.Numbered.{numbered, numbered_is, numbered_has, number_above, IsVerBefore}
 use Rattle.store_schema.proofs.Numbered.{numbered_service, one_or_other, other_one}
 use Rattle.store_schema.proofs.Singles.{HasSingles, alone, numbered_alone}
+use Rattle.store_schema.proofs.OneState.{service_suits}
 use Rattle.store_sysmod_loads.specs.declared.flat.VerRow.{VerRow}
 use Rattle.store_sysmod_loads.specs.declared.flat.IfRow.{IfRow}
 use Rattle.store_sysmod_loads.specs.Flat.{is_first_row, is_first_if, HasVerRowForms, HasFirstForms, HasFurtherForms}
@@ -83,13 +82,6 @@ pub first_if_forms : (ss : List Sysmod) → AllByRecursion HasIfRowForms (all_if
 first_if_forms ss h = of_part is_first_if HasIfRowForms HasFirstIfForms
     (λ r pass forms. (forms, eqb-true r.place 1 pass)) (all_ifs ss) h
 
--- no service has NPRE or DELETE
-service_bare : (kind : Kind) (v : Ver) → kind ≢ Function → VerSuitsKind kind v → (v.npre ≡ []) × (v.del ≡ [])
-service_bare Function v other h = absurd (other refl)
-service_bare Ptf v other h = (h.1, h.2)
-service_bare Apar v other h = (h.1, h.2)
-service_bare Usermod v other h = (h.1, h.2)
-
 abbrev pub ver_line : Id → ℕ × Ver → VerRow
 ver_line x v = record { id = x; number = v.0; ver = record v.1 { ifs = [] } }
 
@@ -102,7 +94,7 @@ further_ver : (s : Sysmod) → IsBuilt s → (v : ℕ × Ver) → Has (numbered 
 further_ver s h v there pass =
     let service = numbered_service s.kind [] s.vers (λ u w hu hw. absurd hu)
     (ascending (AreVersApart s.kind) s.vers h.apart) v there (not_one v.0 pass) in
-    let bare = service_bare s.kind v.1 service
+    let bare = service_suits s.kind v.1 service
     (has_all (VerSuitsKind s.kind) s.vers v.1 h.suits (numbered_has [] s.vers v there)) in
     (above_one v.0 (number_above [] s.vers v there) pass, bare.0, bare.1)
 

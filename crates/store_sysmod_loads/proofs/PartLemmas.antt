@@ -14,12 +14,6 @@ use Rattle.store_schema.specs.Earlier.{schema_under}
 use Rattle.store_sysmod_loads.specs.Flats.{AreFormed}
 use Rattle.store_sysmod_loads.specs.Parts.{LoadsPart}
 
--- two facts of what a call answers
-pub if_both : {X E : Type 0} (q : Result X E) (P Q R : X → Type 0) → ((x : X) → P x → Q x → R x) → IfOk q P → IfOk q Q
-    → IfOk q R
-if_both (Ok x) P Q R h p q = h x p q
-if_both (Err e) P Q R h p q = tt
-
 module _ {S : Type 0} {g : Ghosts S} {r : Release} where
   -- the rows stand where they stood
   still : {X : Type 0} {H : X → Contents → Type 0} {W : X → List Sysmod → Type 0} {a b : Held S}

@@ -14,8 +14,8 @@ use Rattle.sqlite.specs.Tree.{IsAscending}
 use Rattle.lemmas.proofs.Each.{recursion_append, recursion_map, recursion_weaker}
 use Rattle.lemmas.proofs.Orderings.{Less_from_is_lt}
 use Rattle.terms.specs.declared.kinds.ElemType.{ElemType}
-use Rattle.terms.specs.Types.{Text, Id, IfReq, Ver, Change, Sysmod, type_number}
-use Rattle.terms.specs.Lookups.{is_before}
+use Rattle.terms.specs.Types.{Text, Id, IfReq, Ver, Change, Sysmod}
+use Rattle.terms.specs.Lookups.{is_before, element_cmp}
 use Rattle.terms.specs.Rising.{Rises}
 use Rattle.terms.specs.Global.{change_cmp}
 use Rattle.terms.specs.contracts.kinds.ElemTypeOrd.TheImpl as type_order
@@ -239,14 +239,11 @@ ifs_rise ss h =
     (λ (r : IfRow). r.id) (λ (r : IfRow). (r.srel, (r.place, r.number))) same_text
     (λ s. if_ids s.id (numbered s)) ss (ids_up ss h) (recursion_weaker IsBuilt _ sysmod_ifs_up ss h.built))
 
-abbrev pub elem_sub_cmp : ElemType × Text → ElemType × Text → Ordering
-elem_sub_cmp a b = ordering_then (nat_cmp (type_number a.0) (type_number b.0)) (slice_cmp nat_cmp a.1 b.1)
-
 abbrev pub elem_key_cmp : Id × (ElemType × Text) → Id × (ElemType × Text) → Ordering
-elem_key_cmp a b = ordering_then (slice_cmp nat_cmp a.0 b.0) (elem_sub_cmp a.1 b.1)
+elem_key_cmp a b = ordering_then (slice_cmp nat_cmp a.0 b.0) (element_cmp a.1 b.1)
 
 elems_up : (s : Sysmod) → IsBuilt s → IsAscending (λ (a b : ElemRow).
-    IsTrue (is_lt (elem_sub_cmp (a.change.elem_type, a.change.name) (b.change.elem_type, b.change.name))))
+    IsTrue (is_lt (element_cmp (a.change.elem_type, a.change.name) (b.change.elem_type, b.change.name))))
     (elem_rows s.id s.changes)
 elems_up s h = asc_map _ _ s.changes (ascending _ s.changes h.changes)
 
@@ -254,7 +251,7 @@ pub elems_rise : (ss : List Sysmod) → AreWhole ss → Rises elem_key_cmp
     (λ (r : ElemRow). (r.id, (r.change.elem_type, r.change.name))) (all_elems ss)
 elems_rise ss h =
     pairs_from _ (all_elems ss)
-    (asc_flat (slice_cmp nat_cmp) elem_sub_cmp (λ (s : Sysmod). elem_rows s.id s.changes) (λ (s : Sysmod). s.id)
+    (asc_flat (slice_cmp nat_cmp) element_cmp (λ (s : Sysmod). elem_rows s.id s.changes) (λ (s : Sysmod). s.id)
     (λ (r : ElemRow). r.id) (λ (r : ElemRow). (r.change.elem_type, r.change.name)) same_text
     (λ s. elem_parents s.id s.changes) ss (ids_up ss h) (recursion_weaker IsBuilt _ elems_up ss h.built))
 

@@ -1,12 +1,12 @@
 -- What the texts mean.
-use Rattle.std.proofs.Common.{◌≡◌, ◌≢◌, ◌++◌, ℕ, List, codes, refl, arith}
+use Rattle.std.proofs.Common.{◌≡◌, ◌≢◌, ◌++◌, ℕ, List, codes, refl}
 use Rattle.std.proofs.Math.Dec.{lit≤}
 use Rattle.sqlite.specs.Listing.{understood}
 use Rattle.sqlite.specs.Table.{Table}
 use Rattle.sqlite_tied.specs.Compute.{everything}
 use Rattle.store_rows.specs.Selects.{IsSelect}
-use Rattle.store_rows.specs.Texts.{Suits, IsTableOf, ReadsRows}
-use Rattle.store_rows.proofs.Typed.{none_typed}
+use Rattle.store_rows.specs.Texts.{IsTableOf, ReadsRows}
+use Rattle.store_rows.proofs.Meant.{reads_all}
 use Rattle.store_schema.specs.declared.release.Release.{Release}
 use Rattle.store_schema.specs.declared.release.Release.TheVariants.{First, Second, Third}
 use Rattle.store_schema.specs.Earlier.{schema_under}
@@ -26,17 +26,7 @@ select_heads = codes "SELECT id, kind, sources FROM sysmod"
 
 heads_before : (more : List Table) → ReadsRows (schema_of (first_tables ++ more)) sysmod 0 select_heads
 unfolding understood everything
-heads_before more = record {
-  names = _;
-  order = _;
-  command = refl;
-  plain = (refl, refl);
-  unlisted = refl;
-  whole = lit≤ tt;
-  given = refl;
-  typed = none_typed (Suits (schema_of (first_tables ++ more)) select_heads) refl;
-  narrow = omega arith;
-}
+heads_before more = reads_all refl (refl, refl) refl (lit≤ tt) refl refl
 
 pub reads_heads : (r : Release) → ReadsRows (schema_under r) sysmod 0 select_heads
 reads_heads r = under_each (λ schema. ReadsRows schema sysmod 0 select_heads) heads_before r
@@ -57,17 +47,7 @@ select_vers = codes "SELECT id, srel, fmid, pre, req, sup, npre, del FROM ver"
 
 vers_before : (more : List Table) → ReadsRows (schema_of (first_tables ++ more)) ver 0 select_vers
 unfolding understood everything
-vers_before more = record {
-  names = _;
-  order = _;
-  command = refl;
-  plain = (refl, refl);
-  unlisted = refl;
-  whole = lit≤ tt;
-  given = refl;
-  typed = none_typed (Suits (schema_of (first_tables ++ more)) select_vers) refl;
-  narrow = omega arith;
-}
+vers_before more = reads_all refl (refl, refl) refl (lit≤ tt) refl refl
 
 pub reads_vers : (r : Release) → ReadsRows (schema_under r) ver 0 select_vers
 reads_vers r = under_each (λ schema. ReadsRows schema ver 0 select_vers) vers_before r
@@ -88,17 +68,7 @@ select_ifs = codes "SELECT id, srel, n, fmid, req FROM ifreq"
 
 ifs_before : (more : List Table) → ReadsRows (schema_of (first_tables ++ more)) ifreq 0 select_ifs
 unfolding understood everything
-ifs_before more = record {
-  names = _;
-  order = _;
-  command = refl;
-  plain = (refl, refl);
-  unlisted = refl;
-  whole = lit≤ tt;
-  given = refl;
-  typed = none_typed (Suits (schema_of (first_tables ++ more)) select_ifs) refl;
-  narrow = omega arith;
-}
+ifs_before more = reads_all refl (refl, refl) refl (lit≤ tt) refl refl
 
 pub reads_ifs : (r : Release) → ReadsRows (schema_under r) ifreq 0 select_ifs
 reads_ifs r = under_each (λ schema. ReadsRows schema ifreq 0 select_ifs) ifs_before r
@@ -119,17 +89,7 @@ select_elems = codes "SELECT id, type, name, upd, distlib, syslib, text FROM ele
 
 elems_before : (more : List Table) → ReadsRows (schema_of (first_tables ++ more)) elem 0 select_elems
 unfolding understood everything
-elems_before more = record {
-  names = _;
-  order = _;
-  command = refl;
-  plain = (refl, refl);
-  unlisted = refl;
-  whole = lit≤ tt;
-  given = refl;
-  typed = none_typed (Suits (schema_of (first_tables ++ more)) select_elems) refl;
-  narrow = omega arith;
-}
+elems_before more = reads_all refl (refl, refl) refl (lit≤ tt) refl refl
 
 pub reads_elems : (r : Release) → ReadsRows (schema_under r) elem 0 select_elems
 reads_elems r = under_each (λ schema. ReadsRows schema elem 0 select_elems) elems_before r
@@ -150,17 +110,7 @@ select_sources = codes "SELECT id, name FROM source"
 
 sources_before : (more : List Table) → ReadsRows (schema_of (second_tables ++ more)) source 0 select_sources
 unfolding understood everything
-sources_before more = record {
-  names = _;
-  order = _;
-  command = refl;
-  plain = (refl, refl);
-  unlisted = refl;
-  whole = lit≤ tt;
-  given = refl;
-  typed = none_typed (Suits (schema_of (second_tables ++ more)) select_sources) refl;
-  narrow = omega arith;
-}
+sources_before more = reads_all refl (refl, refl) refl (lit≤ tt) refl refl
 
 pub reads_sources : (r : Release) → r ≢ First → ReadsRows (schema_under r) source 0 select_sources
 reads_sources r later = under_later (λ schema. ReadsRows schema source 0 select_sources) sources_before r later
@@ -182,17 +132,7 @@ select_more_vers = codes "SELECT id, srel, n, fmid, pre, req, sup FROM morever"
 
 more_vers_read : ReadsRows store_schema morever 0 select_more_vers
 unfolding understood everything
-more_vers_read = record {
-  names = _;
-  order = _;
-  command = refl;
-  plain = (refl, refl);
-  unlisted = refl;
-  whole = lit≤ tt;
-  given = refl;
-  typed = none_typed (Suits store_schema select_more_vers) refl;
-  narrow = omega arith;
-}
+more_vers_read = reads_all refl (refl, refl) refl (lit≤ tt) refl refl
 
 pub reads_more_vers : (r : Release) → r ≡ Third → ReadsRows (schema_under r) morever 0 select_more_vers
 reads_more_vers r is = under_third (λ schema. ReadsRows schema morever 0 select_more_vers) more_vers_read r is
@@ -214,17 +154,7 @@ select_more_ifs = codes "SELECT id, srel, v, n, fmid, req FROM moreif"
 
 more_ifs_read : ReadsRows store_schema moreif 0 select_more_ifs
 unfolding understood everything
-more_ifs_read = record {
-  names = _;
-  order = _;
-  command = refl;
-  plain = (refl, refl);
-  unlisted = refl;
-  whole = lit≤ tt;
-  given = refl;
-  typed = none_typed (Suits store_schema select_more_ifs) refl;
-  narrow = omega arith;
-}
+more_ifs_read = reads_all refl (refl, refl) refl (lit≤ tt) refl refl
 
 pub reads_more_ifs : (r : Release) → r ≡ Third → ReadsRows (schema_under r) moreif 0 select_more_ifs
 reads_more_ifs r is = under_third (λ schema. ReadsRows schema moreif 0 select_more_ifs) more_ifs_read r is

@@ -1,18 +1,14 @@
 -- When a ++VER may stand behind another.
-use Rattle.std.proofs.Common.{◌≡◌, ◌≢◌, ◌↔◌, inl, inr, Bool, IsTrue, IsFalse, refl, sym, ap, ◌∙◌}
-use Rattle.std.specs.Ordering.{is_lt, nat_cmp}
-use Rattle.std.specs.Cmp.Lexicographic.{slice_cmp}
+use Rattle.std.proofs.Common.{◌≡◌, ◌≢◌, ◌↔◌, inl, inr, Bool, IsTrue, IsFalse, sym, ap, ◌∙◌}
+use Rattle.std.specs.Ordering.{is_lt}
 use Rattle.std.proofs.lemmas.Cmp.{nat_list_cmp_total, tied_itself}
-use Rattle.lemmas.proofs.Orderings.{Less_from_is_lt}
 use Rattle.terms.specs.declared.kinds.Kind.{Kind}
 use Rattle.terms.specs.declared.kinds.Kind.TheVariants.{Function}
 use Rattle.terms.specs.Types.{Text, Ver}
 use Rattle.terms.specs.Lookups.{is_before}
+use Rattle.terms.proofs.IdPlaces.{before_once}
 use Rattle.store_schema.specs.Forms.{AreVersApart}
 use Rattle.store_schema.proofs.Numbered.{not_behind}
-
-not_over : (x y : Text) → IsTrue (is_before x y) → IsFalse (is_before y x)
-not_over x y low = rw (nat_list_cmp_total.antisymm y x, Less_from_is_lt (slice_cmp nat_cmp x y) low) refl
 
 not_over_same : (x y : Text) → x ≡ y → IsFalse (is_before y x)
 not_over_same x y same = ap (λ t. is_before y t) same ∙ ap is_lt (tied_itself nat_list_cmp_total y)
@@ -34,7 +30,7 @@ pub apart_other : (kind : Kind) (v w : Ver) (r : Bool) → v.srel ≢ w.srel →
     → (IsTrue r ↔ AreVersApart kind v w)
 apart_other kind v w r other told = (
   λ yes. record {
-    srels = not_over v.srel w.srel (sym told ∙ yes);
+    srels = before_once v.srel w.srel (sym told ∙ yes);
     service = λ same. absurd (other same);
     fmids = λ same. absurd (other same);
   },

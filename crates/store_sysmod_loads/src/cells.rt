@@ -144,28 +144,28 @@ fn replacement_in(
 }
 
 /// The records as an update of the element of this name.
-fn checked_update(alloc: Global, records: Vec<Line>, name: &[u8]) -> Result<Vec<Line>, ReadError>
-    ensures some { IfOk result (λ text. (text.items ≡ records.items) × IsUpdate name.now records.items) }
+fn checked_update(alloc: Global, records: Vec<Line>, name: &[u8]) -> Result<Update, ReadError>
+    ensures some { IfOk result (λ update. (update ≡ records.items) × IsUpdate name.now records.items) }
     ensures none { IsErrOf result ReadError.BadRow → ¬ IsUpdate name.now records.items }
     ensures fault { IsErrOf result ReadError.Fault → ⊥ }
 {
     match Update::read(alloc, records, name) {
-        Ok(update) => Ok(Vec::from_slice(alloc, update.records())?),
+        Ok(update) => Ok(update),
         Err(TextError::Memory) => Err(ReadError::Memory),
         Err(TextError::Fault(_)) => Err(ReadError::BadRow),
     }
 }
 
-/// The records of an update of the element of this type and name.
+/// An update of the element of this type and name.
 fn update_in(
     alloc: Global,
     row: &Row,
     at: usize,
     elem_type: ElemType,
     name: Name,
-) -> Result<Vec<Line>, ReadError>
-    ensures some { IfOk result (λ text. (column row.now at ≡ records text.items) × TakesUpdates elem_type
-        × AreRecords text.items × IsUpdate name text.items) }
+) -> Result<Update, ReadError>
+    ensures some { IfOk result (λ update. (column row.now at ≡ records update) × TakesUpdates elem_type
+        × AreRecords update × IsUpdate name update) }
     ensures none { IsErrOf result ReadError.BadRow → (text : List (List ℕ)) → TakesUpdates elem_type → AreRecords text
         → IsUpdate name text → column row.now at ≢ records text }
     ensures fault { IsErrOf result ReadError.Fault → ⊥ }
@@ -206,7 +206,7 @@ pub(crate) fn action_in(
             lines: replacement_in(alloc, row, 6, elem_type)?,
         }),
         (true, None, None) => Ok(Action::Updates {
-            lines: update_in(alloc, row, 6, elem_type, name)?,
+            update: update_in(alloc, row, 6, elem_type, name)?,
         }),
         _ => Err(ReadError::BadRow),
     }

@@ -1,6 +1,10 @@
 //! How the rows of SYSMODs are read.
 
-ghost use Rattle.std.specs.Prelude.{◌≡◌, ◌≢◌, IfOk, IsErrOf};
+ghost use Rattle.std.specs.Prelude.{◌≡◌, ◌≢◌, List, [], IfOk, IsErrOf};
+ghost use Rattle.sqlite.specs.Order.{column};
+ghost use Rattle.terms.specs.Types.{Text};
+ghost use Rattle.store_schema.specs.Forms.{AreOthers};
+ghost use Rattle.store_schema.specs.Rows.{ids};
 ghost use Rattle.store_sysmod_loads.specs.declared.flat.HeadRow.{HeadRow as AHeadRow};
 ghost use Rattle.store_sysmod_loads.specs.declared.flat.BareHead.{BareHead as ABareHead};
 ghost use Rattle.store_sysmod_loads.specs.declared.flat.SourceRow.{SourceRow as ASourceRow};
@@ -12,12 +16,26 @@ use crate::cells::{
     action_in, further_in, is_bare, number_in, other_in, others_in, short_sources_in, source_in,
 };
 use crate::flat::{BareHead, ElemRow, HeadRow, IfRow, SourceRow, VerRow};
-use fields::IdList;
+use fields::{Id, IdList};
 use sqlite::Row;
 use std::alloc::Global;
 use store_columns::{elem_type_in, id_in, kind_in, name_in, srel_in};
 use store_rows::{FromRow, ReadError};
 use sysmods_records::{ElemChange, IfReq, Ver};
+
+/// The requisites of an `++IF`: ids of others, one at least.
+fn requisites_in(alloc: Global, row: &Row, at: usize, id: Id) -> Result<IdList, ReadError>
+    ensures some { IfOk result (λ list. (column row.now at ≡ ids list) × AreOthers id list × (list ≢ [])) }
+    ensures none { IsErrOf result ReadError.BadRow → (list : List Text) → AreOthers id list → list ≢ []
+        → column row.now at ≢ ids list }
+    ensures fault { IsErrOf result ReadError.Fault → ⊥ }
+{
+    let list = others_in(alloc, row, at, id)?;
+    if list.is_empty() {
+        return Err(ReadError::BadRow);
+    }
+    Ok(list)
+}
 
 /// Reads SYSMODs with their sources, as schema 1 has them.
 pub(crate) struct Heads;
@@ -252,10 +270,7 @@ impl FromRow for Ifs {
         let Some(function) = id_in(row, 3) else {
             return Err(ReadError::BadRow);
         };
-        let req = others_in(alloc, row, 4, id)?;
-        if req.is_empty() {
-            return Err(ReadError::BadRow);
-        }
+        let req = requisites_in(alloc, row, 4, id)?;
         let ifreq = IfReq { function, req };
         Ok(IfRow {
             id,
@@ -303,10 +318,7 @@ impl FromRow for MoreIfs {
         let Some(function) = id_in(row, 4) else {
             return Err(ReadError::BadRow);
         };
-        let req = others_in(alloc, row, 5, id)?;
-        if req.is_empty() {
-            return Err(ReadError::BadRow);
-        }
+        let req = requisites_in(alloc, row, 5, id)?;
         let ifreq = IfReq { function, req };
         Ok(IfRow {
             id,

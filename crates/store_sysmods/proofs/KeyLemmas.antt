@@ -1,6 +1,6 @@
 -- What the keys of a sound database say of the rows of SYSMODs.
 use Rattle.std.proofs.Common.{◌≡◌, ◌≤◌, inl, inr, arith, true≢false, ℕ, ℤ, IsTrue, List, [], ◌∷◌, map, filter, length}
-use Rattle.std.proofs.Common.{Bool, true, false, not, ◌&&◌, ◌||◌, Some, Less, IsPermutation, refl, sym, ap}
+use Rattle.std.proofs.Common.{Bool, true, false, not, ◌&&◌, ◌||◌, Less, IsPermutation, refl, sym, ap}
 use Rattle.std.proofs.Common.{ap₂, subst, ◌∙◌}
 use Rattle.std.specs.List.{AllByRecursion, list_any}
 use Rattle.std.specs.Ordering.{is_ne, ordering_reverse}
@@ -11,7 +11,7 @@ use Rattle.sqlite.specs.declared.types.Value.TheVariants.{Null, Int, Real, Text,
 use Rattle.sqlite.specs.Collation.TheVariants.{Binary}
 use Rattle.sqlite.specs.Effect.{Database}
 use Rattle.sqlite.specs.Order.{Row, column, value_cmp}
-use Rattle.sqlite.specs.Ops.{binary, is_true, is_null, from_truth}
+use Rattle.sqlite.specs.Ops.{binary, is_null}
 use Rattle.sqlite.specs.Tree.{Trees, IsTable, rowid}
 use Rattle.sqlite.specs.View.{is_int}
 use Rattle.sqlite.specs.Edit.{id_in}
@@ -29,7 +29,7 @@ use Rattle.lemmas.proofs.Texts.{same_from, same_itself}
 use Rattle.terms.specs.Types.{Id}
 use Rattle.store_rows.specs.Rows.{Contents, HasContents, AreRows, has_key, shown}
 use Rattle.store_rows.proofs.ContentsLemmas.{held_at}
-use Rattle.store_rows.proofs.Keys.{equals, and_true}
+use Rattle.store_rows.proofs.Keys.{told, equals, and_true}
 use Rattle.store_rows.proofs.RowLemmas.{has_permuted, unmapped, mapped, filter_numbered, whole}
 use Rattle.store_schema.specs.Tables.{store_schema, sysmod, source, index_of}
 use Rattle.store_sysmods.specs.Sysmods.{sysmod_key}
@@ -43,10 +43,6 @@ text_alone (Int n) t is = absurd (true≢false (sym is))
 text_alone (Real x) t is = absurd (true≢false (sym is))
 text_alone (Text u) t is = ap Text (same_from u t (sym (equals u t) ∙ is))
 text_alone (Blob b) t is = absurd (true≢false (sym is))
-
-told : (b : Bool) → is_true (from_truth (Some b)) ≡ b
-told true = refl
-told false = refl
 
 numbers_differ : (m n : ℤ) → differ (Int m) (Int n) ≡ is_ne (value_cmp (Int m) (Int n))
 unfolding binary

@@ -1,10 +1,10 @@
 pub mod Texts
 pub mod RowForms
 pub mod Adding
-pub mod Numbering
 pub mod Calling
 pub mod Calls
 pub mod Partings
 pub mod KeyLemmas
 pub mod SysmodLemmas
 pub mod Steps
+pub mod Behind

@@ -1,5 +1,6 @@
 -- Calls one after the other: the statements that they run, and what the tables hold then.
-use Rattle.std.proofs.Common.{◌≡◌, ℕ, List, [], ◌∷◌, ◌++◌, Result, Ok, Err, IsErrAnd, OnOk, subst}
+use Rattle.std.proofs.Common.{◌≡◌, ℕ, List, [], ◌∷◌, ◌++◌, Result, Ok, Err, IsErrAnd, OnOk, sym, ap, subst}
+use Rattle.std.proofs.lemmas.List.{map-append}
 use Rattle.sqlite.specs.Store.{Ghosts}
 use Rattle.sqlite.specs.Order.{Row}
 use Rattle.sqlite.specs.Table.{Table}
@@ -8,31 +9,27 @@ use Rattle.sqlite.specs.Held.{Held}
 use Rattle.terms.specs.Types.{Id}
 use Rattle.store_rows.specs.Inside.{StaysInside, Turns}
 use Rattle.store_rows.specs.Calls.{Call, RunsInside}
-use Rattle.store_rows.specs.Rows.{Contents, HasContents, in_table, without}
-use Rattle.store_rows.proofs.InsideLemmas.{on_ok, stays_then, turns_then}
+use Rattle.store_rows.specs.Rows.{Contents, HasContents, in_table, with_row, without}
+use Rattle.store_rows.specs.Texts.{SuitColumns}
+use Rattle.store_rows.proofs.InsideLemmas.{on_ok, stays, stays_then, turns_then}
 use Rattle.store_schema.specs.Tables.{store_schema}
 use Rattle.store_sysmods.specs.Calls.{puts}
-use Rattle.store_sysmods.specs.Sysmods.{Adds, with_rows, sysmod_key}
-use Rattle.store_sysmods.proofs.Calling.{runs_rest, runs_stops}
+use Rattle.store_sysmods.specs.Steps.{Step, Puts}
+use Rattle.store_sysmods.specs.Sysmods.{with_rows, sysmod_key}
+use Rattle.store_sysmods.proofs.Adding.{adds_none, adds_then}
+use Rattle.store_sysmods.proofs.Calling.{runs_rest, runs_stops, runs_none}
 
 module _ {S : Type 0} (g : Ghosts S) where
-  -- the statements ran, and made this of what the tables held; or one of them failed
-  pub record Step {X : Type 0} (calls : List Call) (make : Contents → Contents) (a b : Held S) (r : Result X Error) :
-      Type 0 where
-    pub inside : StaysInside g a b
-    pub runs : RunsInside g calls a b r
-    pub ok : OnOk r (Turns g a b (HasContents store_schema) make)
-
   -- statements that ran
   abbrev pub Ran : List Call → (Contents → Contents) → Held S → Held S → Type 0
-  Ran calls make a b = Step calls make a b (Ok (tt {0}))
+  Ran calls make a b = Step g calls make a b (Ok (tt {0}))
 
   pub step_ok : {calls : List Call} {make : Contents → Contents} {a b : Held S} {q : Result (Unit {0}) Error}
-      {x : Unit {0}} → q ≡ Ok x → Step calls make a b q → Ran calls make a b
-  step_ok {calls = calls} {make = make} {a = a} {b = b} is step = subst (Step calls make a b) is step
+      {x : Unit {0}} → q ≡ Ok x → Step g calls make a b q → Ran calls make a b
+  step_ok {calls = calls} {make = make} {a = a} {b = b} is step = subst (Step g calls make a b) is step
 
   pub step_then : {X : Type 0} {xs ys : List Call} {make last : Contents → Contents} {a b c : Held S}
-      {r : Result X Error} → Ran xs make a b → Step ys last b c r → Step (xs ++ ys) (λ h. last (make h)) a c r
+      {r : Result X Error} → Ran xs make a b → Step g ys last b c r → Step g (xs ++ ys) (λ h. last (make h)) a c r
   step_then {xs = xs} {ys = ys} {make = make} {last = last} {a = a} {b = b} {c = c} {r = r} one two = record {
     inside = stays_then g a b c one.inside two.inside;
     runs = runs_rest g xs ys a b c r one.inside two.inside one.runs two.runs;
@@ -45,27 +42,75 @@ module _ {S : Type 0} (g : Ghosts S) where
 
   -- one of these failed, and none behind it was begun
   pub step_stops : {X Y : Type 0} {xs : List Call} (ys : List Call) {make : Contents → Contents} {a b : Held S}
-      {q : Result X Error} {e : Error} (r : Result Y Error) → q ≡ Err e → IsErrAnd r (λ z. z ≡ e) → Step xs make a b q
-      → Step (xs ++ ys) make a b r
+      {q : Result X Error} {e : Error} (r : Result Y Error) → q ≡ Err e → IsErrAnd r (λ z. z ≡ e)
+      → Step g xs make a b q → Step g (xs ++ ys) make a b r
   step_stops {xs = xs} ys {a = a} {b = b} {q = q} {e = e} r failed told first = record {
     inside = first.inside;
     runs = runs_stops g xs ys a b q e r failed told first.runs;
     ok = none_turns r e _ told;
   }
 
-  -- rows that are added to one table
-  pub step_adds : {X : Type 0} (text : List ℕ) (table : Table) (rows news : List Row) (a b : Held S)
-      (r : Result X Error) → rows ≡ news → StaysInside g a b → RunsInside g (puts text rows) a b r
-      → OnOk r (Adds g a b table rows) → Step (puts text news) (in_table table (with_rows news)) a b r
-  step_adds text table rows news a b r is inside runs ok =
-      subst (λ l. Step (puts text l) (in_table table (with_rows l)) a b r) is
-      (record { inside = inside; runs = runs; ok = ok })
+  -- an error says nothing of what the tables hold
+  pub step_errs : {X Y : Type 0} {calls : List Call} {make last : Contents → Contents} {a b : Held S}
+      {q : Result X Error} {e : Error} {r : Result Y Error} → q ≡ Err e → IsErrAnd r (λ z. z ≡ e)
+      → Step g calls make a b r → Step g calls last a b r
+  step_errs {e = e} {r = r} failed told step = record {
+    inside = step.inside;
+    runs = step.runs;
+    ok = none_turns r e _ told;
+  }
 
   -- a SYSMOD's rows that are taken out of one table
   pub step_takes : {X : Type 0} (text : List ℕ) (table : Table) (key : Row) (id : Id) (a b : Held S)
       (r : Result X Error) → key ≡ sysmod_key id → StaysInside g a b → RunsInside g ((text, key) ∷ []) a b r
       → OnOk r (Turns g a b (HasContents store_schema) (in_table table (without key)))
-      → Step ((text, sysmod_key id) ∷ []) (in_table table (without (sysmod_key id))) a b r
+      → Step g ((text, sysmod_key id) ∷ []) (in_table table (without (sysmod_key id))) a b r
   step_takes text table key id a b r is inside runs ok =
-      subst (λ k. Step ((text, k) ∷ []) (in_table table (without k)) a b r) is
+      subst (λ k. Step g ((text, k) ∷ []) (in_table table (without k)) a b r) is
       (record { inside = inside; runs = runs; ok = ok })
+
+  pub step_takes_of : {X : Type 0} (text : List ℕ) (table : Table) {x id : Id} {a b : Held S} {r : Result X Error}
+      → x ≡ id → Step g ((text, sysmod_key x) ∷ []) (in_table table (without (sysmod_key x))) a b r
+      → Step g ((text, sysmod_key id) ∷ []) (in_table table (without (sysmod_key id))) a b r
+  step_takes_of text table {a = a} {b = b} {r = r} is step =
+      subst (λ y. Step g ((text, sysmod_key y) ∷ []) (in_table table (without (sysmod_key y))) a b r) is step
+
+  -- ---- rows that are added to one table
+
+  module _ (text : List ℕ) (table : Table) where
+    pub puts_none : (a : Held S) → Puts g text table [] a a (Ok (tt {0}))
+    puts_none a = record { inside = stays g a; runs = runs_none g text a; ok = adds_none g table a }
+
+    pub puts_as : {X : Type 0} {xs ys : List Row} {a b : Held S} {r : Result X Error} → xs ≡ ys
+        → Puts g text table xs a b r → Puts g text table ys a b r
+    puts_as {a = a} {b = b} {r = r} is step = subst (λ l. Puts g text table l a b r) is step
+
+    -- the bound values are a row of the table
+    pub puts_row : {X : Type 0} {row r : Row} {a b : Held S} {q : Result X Error} → r ≡ row
+        → SuitColumns table.columns row → StaysInside g a b → RunsInside g ((text, r) ∷ []) a b q
+        → OnOk q (SuitColumns table.columns r → Turns g a b (HasContents store_schema) (in_table table (with_row r)))
+        → Puts g text table (row ∷ []) a b q
+    puts_row {r = r} {a = a} {b = b} {q = q} is suits inside runs ok =
+        puts_as (ap (λ l. l ∷ []) is) (record {
+          inside = inside;
+          runs = runs;
+          ok = on_ok q _ _ (λ turned. turned (subst (SuitColumns table.columns) (sym is) suits)) ok;
+        })
+
+    pub puts_then : {X : Type 0} (xs ys : List Row) {a b c : Held S} {r : Result X Error}
+        → Puts g text table xs a b (Ok (tt {0})) → Puts g text table ys b c r → Puts g text table (xs ++ ys) a c r
+    puts_then xs ys {a = a} {b = b} {c = c} {r = r} one two = record {
+      inside = stays_then g a b c one.inside two.inside;
+      runs = subst (λ calls. RunsInside g calls a c r) (sym (map-append (λ row. (text, row)) xs ys))
+          (runs_rest g (puts text xs) (puts text ys) a b c r one.inside two.inside one.runs two.runs);
+      ok = on_ok r _ _ (adds_then g table a b c xs ys two.inside one.ok) two.ok;
+    }
+
+    -- a row failed, and none behind it was begun
+    pub puts_stops : {X Y : Type 0} (xs ys : List Row) {a b : Held S} {q : Result X Error} {e : Error}
+        (r : Result Y Error) → q ≡ Err e → IsErrAnd r (λ z. z ≡ e) → Puts g text table xs a b q
+        → Puts g text table (xs ++ ys) a b r
+    puts_stops xs ys {a = a} {b = b} r failed told first =
+        subst (λ calls. Step g calls (in_table table (with_rows (xs ++ ys))) a b r)
+        (sym (map-append (λ row. (text, row)) xs ys))
+        (step_errs failed told (step_stops (puts text ys) r failed told first))

@@ -1,4 +1,6 @@
 pub mod Actions
+pub mod Behind
 pub mod Calls
 pub mod Lists
+pub mod Steps
 pub mod Sysmods

@@ -1,19 +1,18 @@
 //! The table of element statements.
 
-ghost use Rattle.std.specs.Prelude.{◌≡◌, [], ◌∷◌, map, OnOk};
+ghost use Rattle.std.specs.Prelude.{◌≡◌, [], ◌∷◌};
 ghost use Rattle.std.specs.List.{concat};
 ghost use Rattle.sqlite.specs.Values.{or_null};
 ghost use Rattle.sqlite.specs.declared.types.Value.TheVariants.{Int, Text};
 ghost use Rattle.sqlite_value.specs.Value.{owned};
 ghost use Rattle.sysmods_records.specs.Views.{action_of};
-ghost use Rattle.store_rows.specs.Calls.{RunsInside};
-ghost use Rattle.store_rows.specs.Inside.{StaysInside};
 ghost use Rattle.store_schema.specs.Rows.{elem_row, flag};
 ghost use Rattle.store_schema.specs.Tables.{elem as elem_table};
 ghost use Rattle.store_sysmods.specs.Actions.{is_update, distlib_of, syslib_of, lines_of as lines_in};
-ghost use Rattle.store_sysmods.specs.Calls.{puts, insert_elem as into_elem};
-ghost use Rattle.store_sysmods.specs.Sysmods.{Adds};
+ghost use Rattle.store_sysmods.specs.Calls.{insert_elem as into_elem};
+ghost use Rattle.store_sysmods.specs.Steps.{Puts};
 
+use crate::rows::Rows;
 use fields::Id;
 use fields::spelling::type_text;
 use sqlite::{Alter, Error, Transaction};
@@ -28,7 +27,7 @@ fn lines_of(action: &Action) -> &[Line]
 {
     match action {
         Action::Replaces { lines, .. } => lines.as_slice(),
-        Action::Updates { lines } => lines.as_slice(),
+        Action::Updates { update } => update.records(),
     }
 }
 
@@ -69,11 +68,8 @@ fn insert_row<'a, S: Alter>(
 ) -> Result<(), Error>
     requires { text.now ≡ concat (lines_in change.now.action) }
     ensures same_reference { tx.new.conn.ghost_name ≡ tx.old.conn.ghost_name }
-    ensures inside { StaysInside S.Store tx.old.conn.now tx.new.conn.now }
-    ensures calls { RunsInside S.Store (puts into_elem (elem_row id.now change.now ∷ []))
+    ensures puts { Puts S.Store into_elem elem_table (elem_row id.now change.now ∷ [])
         tx.old.conn.now tx.new.conn.now result }
-    ensures ok { OnOk result (Adds S.Store tx.old.conn.now tx.new.conn.now elem_table
-        (elem_row id.now change.now ∷ [])) }
 {
     let id = ValueRef::Text(id.as_bytes());
     let elem_type = ValueRef::Text(type_text(change.elem_type));
@@ -89,39 +85,34 @@ fn insert_row<'a, S: Alter>(
     )
 }
 
-fn insert_change<S: Alter>(
-    alloc: Global,
-    tx: &mut Transaction<'_, S>,
-    id: &Id,
-    change: &ElemChange,
-) -> Result<(), Error>
-    ensures same_reference { tx.new.conn.ghost_name ≡ tx.old.conn.ghost_name }
-    ensures inside { StaysInside S.Store tx.old.conn.now tx.new.conn.now }
-    ensures calls { RunsInside S.Store (puts into_elem (elem_row id.now change.now ∷ []))
-        tx.old.conn.now tx.new.conn.now result }
-    ensures ok { OnOk result (Adds S.Store tx.old.conn.now tx.new.conn.now elem_table
-        (elem_row id.now change.now ∷ [])) }
-{
-    let text = bytes_of(alloc, lines_of(&change.action))?;
-    insert_row(tx, id, change, text.as_slice())
+/// The rows of the SYSMOD's element statements.
+#[derive(Drop)]
+pub(crate) struct Changes {
+    pub alloc: Global,
+    pub id: Id,
 }
 
-/// Adds the rows of the SYSMOD's element statements.
-pub(crate) fn insert_changes<S: Alter>(
-    alloc: Global,
-    tx: &mut Transaction<'_, S>,
-    id: &Id,
-    changes: &[ElemChange],
-) -> Result<(), Error>
-    ensures same_reference { tx.new.conn.ghost_name ≡ tx.old.conn.ghost_name }
-    ensures inside { StaysInside S.Store tx.old.conn.now tx.new.conn.now }
-    ensures calls { RunsInside S.Store (puts into_elem (map (elem_row id.now) changes.now))
-        tx.old.conn.now tx.new.conn.now result }
-    ensures ok { OnOk result (Adds S.Store tx.old.conn.now tx.new.conn.now elem_table
-        (map (elem_row id.now) changes.now)) }
-{
-    for change in changes {
-        insert_change(alloc, tx, id, change)?;
+impl Rows for Changes {
+    ghost use Rattle.store_schema.specs.Rows.{elem_row};
+    ghost use Rattle.store_schema.specs.Tables.{elem as elem_table};
+    ghost use Rattle.store_sysmods.specs.Behind.{of_each};
+    ghost use Rattle.store_sysmods.specs.Calls.{insert_elem as into_elem};
+
+    type Item = ElemChange;
+
+    ghost text = { into_elem };
+
+    ghost table = { elem_table };
+
+    ghost rows = { λ of. of_each (elem_row of.id) };
+
+    fn insert<S: Alter>(
+        &self,
+        tx: &mut Transaction<'_, S>,
+        _front: &[ElemChange],
+        change: &ElemChange,
+    ) -> Result<(), Error> {
+        let text = bytes_of(self.alloc, lines_of(&change.action))?;
+        insert_row(tx, &self.id, change, text.as_slice())
     }
-    Ok(())
 }

@@ -1,15 +1,14 @@
 //! The table of the `++IF`s of the `++VER`s that are the first of their SREL.
 
-ghost use Rattle.std.specs.Prelude.{◌≡◌, ◌==◌, ◌<◌, ◌^◌, [], ◌∷◌, map, filter, if◌then◌else◌, OnOk};
-ghost use Rattle.std.specs.List.{enumerate_from, flat_map, join_with_byte};
-ghost use Rattle.store_rows.specs.Calls.{RunsInside};
-ghost use Rattle.store_rows.specs.Inside.{StaysInside};
-ghost use Rattle.store_schema.specs.Rows.{ifreq_row, is_first, numbered_behind};
+ghost use Rattle.std.specs.Prelude.{◌≡◌, ◌<◌, ◌^◌, [], ◌∷◌};
+ghost use Rattle.std.specs.List.{join_with_byte};
+ghost use Rattle.store_schema.specs.Rows.{ifreq_row};
 ghost use Rattle.store_schema.specs.Tables.{ifreq as ifreq_table};
-ghost use Rattle.store_sysmods.specs.Calls.{puts, insert_ifreq as into_ifreq};
-ghost use Rattle.store_sysmods.specs.Sysmods.{Adds};
+ghost use Rattle.store_sysmods.specs.Calls.{insert_ifreq as into_ifreq};
+ghost use Rattle.store_sysmods.specs.Steps.{Puts};
 
 use crate::numbers::number_behind;
+use crate::rows::{Rows, insert_all};
 use fields::{Id, Srel};
 use sqlite::{Alter, Error, Transaction};
 use sqlite_value::value::ValueRef;
@@ -30,11 +29,8 @@ fn insert_row<'a, S: Alter>(
     requires number { number < 2 ^ 63 }
     requires req { req.now ≡ join_with_byte 44 ifreq.now.req }
     ensures same_reference { tx.new.conn.ghost_name ≡ tx.old.conn.ghost_name }
-    ensures inside { StaysInside S.Store tx.old.conn.now tx.new.conn.now }
-    ensures calls { RunsInside S.Store (puts into_ifreq (ifreq_row id.now srel.now (number, ifreq.now) ∷ []))
+    ensures puts { Puts S.Store into_ifreq ifreq_table (ifreq_row id.now srel.now (number, ifreq.now) ∷ [])
         tx.old.conn.now tx.new.conn.now result }
-    ensures ok { OnOk result (Adds S.Store tx.old.conn.now tx.new.conn.now ifreq_table
-        (ifreq_row id.now srel.now (number, ifreq.now) ∷ [])) }
 {
     let id = ValueRef::Text(id.as_bytes());
     let srel = ValueRef::Text(srel.as_bytes());
@@ -48,89 +44,81 @@ fn insert_row<'a, S: Alter>(
     )
 }
 
-fn insert_if<S: Alter>(
+/// The rows of the `++IF`s of a `++VER` for the SREL, which count from 1.
+#[derive(Drop)]
+struct IfsOf {
     alloc: Global,
-    tx: &mut Transaction<'_, S>,
-    id: &Id,
-    srel: &Srel,
-    number: usize,
-    ifreq: &IfReq,
-) -> Result<(), Error>
-    requires { number < 2 ^ 63 }
-    ensures same_reference { tx.new.conn.ghost_name ≡ tx.old.conn.ghost_name }
-    ensures inside { StaysInside S.Store tx.old.conn.now tx.new.conn.now }
-    ensures calls { RunsInside S.Store (puts into_ifreq (ifreq_row id.now srel.now (number, ifreq.now) ∷ []))
-        tx.old.conn.now tx.new.conn.now result }
-    ensures ok { OnOk result (Adds S.Store tx.old.conn.now tx.new.conn.now ifreq_table
-        (ifreq_row id.now srel.now (number, ifreq.now) ∷ [])) }
-{
-    let req = joined_ids(alloc, ifreq.req.as_slice())?;
-    insert_row(tx, id, srel, number, ifreq, req.as_slice())
+    id: Id,
+    srel: Srel,
 }
 
-// Adds the rows of a `++VER`'s `++IF`s, which count from 1.
-fn insert_ifs<S: Alter>(
-    alloc: Global,
-    tx: &mut Transaction<'_, S>,
-    id: &Id,
-    srel: &Srel,
-    ifs: &[IfReq],
-) -> Result<(), Error>
-    ensures same_reference { tx.new.conn.ghost_name ≡ tx.old.conn.ghost_name }
-    ensures inside { StaysInside S.Store tx.old.conn.now tx.new.conn.now }
-    ensures calls { RunsInside S.Store (puts into_ifreq (map (ifreq_row id.now srel.now) (enumerate_from 1 ifs.now)))
-        tx.old.conn.now tx.new.conn.now result }
-    ensures ok { OnOk result (Adds S.Store tx.old.conn.now tx.new.conn.now ifreq_table
-        (map (ifreq_row id.now srel.now) (enumerate_from 1 ifs.now))) }
-{
-    for (index, ifreq) in ifs.iter().enumerate() {
-        insert_if(alloc, tx, id, srel, index + 1, ifreq)?;
+impl Rows for IfsOf {
+    ghost use Rattle.store_schema.specs.Rows.{ifreq_row};
+    ghost use Rattle.store_schema.specs.Tables.{ifreq as ifreq_table};
+    ghost use Rattle.store_sysmods.specs.Behind.{of_counted};
+    ghost use Rattle.store_sysmods.specs.Calls.{insert_ifreq as into_ifreq};
+
+    type Item = IfReq;
+
+    ghost text = { into_ifreq };
+
+    ghost table = { ifreq_table };
+
+    ghost rows = { λ of. of_counted (ifreq_row of.id of.srel) };
+
+    fn insert<S: Alter>(
+        &self,
+        tx: &mut Transaction<'_, S>,
+        front: &[IfReq],
+        ifreq: &IfReq,
+    ) -> Result<(), Error> {
+        let req = joined_ids(self.alloc, ifreq.req.as_slice())?;
+        insert_row(
+            tx,
+            &self.id,
+            &self.srel,
+            front.len() + 1,
+            ifreq,
+            req.as_slice(),
+        )
     }
-    Ok(())
 }
 
-// Adds the rows of the `++IF`s of the `++VER` of this number, if it is the first of its SREL.
-fn insert_ifs_of_first<S: Alter>(
-    alloc: Global,
-    tx: &mut Transaction<'_, S>,
-    id: &Id,
-    number: usize,
-    ver: &Ver,
-) -> Result<(), Error>
-    ensures same_reference { tx.new.conn.ghost_name ≡ tx.old.conn.ghost_name }
-    ensures inside { StaysInside S.Store tx.old.conn.now tx.new.conn.now }
-    ensures calls { RunsInside S.Store (puts into_ifreq
-        (if number == 1 then map (ifreq_row id.now ver.now.srel) (enumerate_from 1 ver.now.ifs) else []))
-        tx.old.conn.now tx.new.conn.now result }
-    ensures ok { OnOk result (Adds S.Store tx.old.conn.now tx.new.conn.now ifreq_table
-        (if number == 1 then map (ifreq_row id.now ver.now.srel) (enumerate_from 1 ver.now.ifs) else [])) }
-{
-    if number != 1 {
-        return Ok(());
-    }
-    insert_ifs(alloc, tx, id, &ver.srel, ver.ifs.as_slice())
+/// The rows of the `++IF`s of the SYSMOD's first `++VER`s.
+#[derive(Drop)]
+pub(crate) struct FirstIfs {
+    pub alloc: Global,
+    pub id: Id,
 }
 
-/// Adds the rows of the `++IF`s of the SYSMOD's first `++VER`s.
-pub(crate) fn insert_all_ifs<S: Alter>(
-    alloc: Global,
-    tx: &mut Transaction<'_, S>,
-    id: &Id,
-    vers: &[Ver],
-) -> Result<(), Error>
-    ensures same_reference { tx.new.conn.ghost_name ≡ tx.old.conn.ghost_name }
-    ensures inside { StaysInside S.Store tx.old.conn.now tx.new.conn.now }
-    ensures calls { RunsInside S.Store (puts into_ifreq
-        (flat_map (λ v. map (ifreq_row id.now v.1.srel) (enumerate_from 1 v.1.ifs))
-        (filter is_first (numbered_behind [] vers.now))))
-        tx.old.conn.now tx.new.conn.now result }
-    ensures ok { OnOk result (Adds S.Store tx.old.conn.now tx.new.conn.now ifreq_table
-        (flat_map (λ v. map (ifreq_row id.now v.1.srel) (enumerate_from 1 v.1.ifs))
-        (filter is_first (numbered_behind [] vers.now)))) }
-{
-    for (index, ver) in vers.iter().enumerate() {
-        let number = number_behind(&vers[..index], ver);
-        insert_ifs_of_first(alloc, tx, id, number, ver)?;
+impl Rows for FirstIfs {
+    ghost use Rattle.store_schema.specs.Tables.{ifreq as ifreq_table};
+    ghost use Rattle.store_sysmods.specs.Behind.{of_numbered, first_ifs};
+    ghost use Rattle.store_sysmods.specs.Calls.{insert_ifreq as into_ifreq};
+
+    type Item = Ver;
+
+    ghost text = { into_ifreq };
+
+    ghost table = { ifreq_table };
+
+    ghost rows = { λ of. of_numbered (first_ifs of.id) };
+
+    fn insert<S: Alter>(
+        &self,
+        tx: &mut Transaction<'_, S>,
+        front: &[Ver],
+        ver: &Ver,
+    ) -> Result<(), Error> {
+        let number = number_behind(front, ver);
+        if number != 1 {
+            return Ok(());
+        }
+        let ifs = IfsOf {
+            alloc: self.alloc,
+            id: self.id,
+            srel: ver.srel,
+        };
+        insert_all(tx, &ifs, ver.ifs.as_slice())
     }
-    Ok(())
 }

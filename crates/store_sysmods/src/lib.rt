@@ -9,6 +9,7 @@ mod ifreq;
 mod moreif;
 mod morever;
 mod numbers;
+mod rows;
 mod source;
 mod sysmod;
 mod ver;

@@ -6,17 +6,19 @@ ghost use Rattle.store_rows.specs.Inside.{StaysInside, Turns};
 ghost use Rattle.store_rows.specs.Rows.{HasContents};
 ghost use Rattle.store_schema.specs.Rows.{sysmod_row};
 ghost use Rattle.store_schema.specs.Tables.{sysmod as sysmod_table, store_schema};
-ghost use Rattle.store_sysmods.specs.Calls.{puts, insert_sysmod as into_sysmod, insert_sysmod_calls};
+ghost use Rattle.store_sysmods.specs.Calls.{insert_sysmod as into_sysmod, insert_sysmod_calls};
 ghost use Rattle.store_sysmods.specs.Calls.{remove_sysmod_calls, replace_sources_calls};
-ghost use Rattle.store_sysmods.specs.Sysmods.{Adds, AddsSysmod, ReplacesSources, RemovesSysmod};
+ghost use Rattle.store_sysmods.specs.Steps.{Step, Puts};
+ghost use Rattle.store_sysmods.specs.Sysmods.{AddsSysmod, ReplacesSources, RemovesSysmod};
 ghost use Rattle.store_sysmods.specs.Sysmods.{with_source_rows, with_sysmod_rows, without_sysmod_rows};
 
-use crate::elem::insert_changes;
-use crate::ifreq::insert_all_ifs;
-use crate::moreif::insert_moreifs;
-use crate::morever::insert_morevers;
-use crate::source::{insert_sources, remove_sources};
-use crate::ver::insert_vers;
+use crate::elem::Changes;
+use crate::ifreq::FirstIfs;
+use crate::moreif::FurtherIfs;
+use crate::morever::FurtherVers;
+use crate::rows::insert_all;
+use crate::source::{Sources, remove_sources};
+use crate::ver::FirstVers;
 use fields::Id;
 use fields::spelling::kind_text;
 use sqlite::{Alter, Error, Transaction};
@@ -28,10 +30,8 @@ use sysmods_records::Sysmod;
 // Adds the SYSMOD's own row, whose column of sources stays empty.
 fn insert_row<S: Alter>(tx: &mut Transaction<'_, S>, sysmod: &Sysmod) -> Result<(), Error>
     ensures same_reference { tx.new.conn.ghost_name ≡ tx.old.conn.ghost_name }
-    ensures inside { StaysInside S.Store tx.old.conn.now tx.new.conn.now }
-    ensures calls { RunsInside S.Store (puts into_sysmod (sysmod_row sysmod.now ∷ []))
+    ensures puts { Puts S.Store into_sysmod sysmod_table (sysmod_row sysmod.now ∷ [])
         tx.old.conn.now tx.new.conn.now result }
-    ensures ok { OnOk result (Adds S.Store tx.old.conn.now tx.new.conn.now sysmod_table (sysmod_row sysmod.now ∷ [])) }
 {
     let id = ValueRef::Text(sysmod.id.as_bytes());
     let kind = ValueRef::Text(kind_text(sysmod.kind));
@@ -43,8 +43,29 @@ fn insert_row<S: Alter>(tx: &mut Transaction<'_, S>, sysmod: &Sysmod) -> Result<
     )
 }
 
+// Adds the SYSMOD's rows, table after table.
+fn insert_rows<S: Alter>(
+    alloc: Global,
+    tx: &mut Transaction<'_, S>,
+    sysmod: &Sysmod,
+) -> Result<(), Error>
+    ensures same_reference { tx.new.conn.ghost_name ≡ tx.old.conn.ghost_name }
+    ensures step { Step S.Store (insert_sysmod_calls sysmod.now) (with_sysmod_rows sysmod.now)
+        tx.old.conn.now tx.new.conn.now result }
+{
+    let id = sysmod.id;
+    insert_row(tx, sysmod)?;
+    insert_all(tx, &Sources { id }, sysmod.sources.as_slice())?;
+    insert_all(tx, &FirstVers { alloc, id }, sysmod.vers.as_slice())?;
+    insert_all(tx, &FirstIfs { alloc, id }, sysmod.vers.as_slice())?;
+    insert_all(tx, &Changes { alloc, id }, sysmod.changes.as_slice())?;
+    insert_all(tx, &FurtherVers { alloc, id }, sysmod.vers.as_slice())?;
+    insert_all(tx, &FurtherIfs { alloc, id }, sysmod.vers.as_slice())
+}
+
 /// Adds the rows of the SYSMOD, its sources, its `++VER`s with their `++IF`s, and its element
-/// statements, which are not there. Its holds have a table of their own.
+/// statements, which are not there. Its holds have a table of their own. An error comes where the disk fails, where
+/// memory is short, and where the database refuses a row: its own, if its id is received, or one of two of one key.
 pub fn insert_sysmod<S: Alter>(
     alloc: Global,
     tx: &mut Transaction<'_, S>,
@@ -57,17 +78,12 @@ pub fn insert_sysmod<S: Alter>(
         (with_sysmod_rows sysmod.now)) }
     ensures stands { OnOk result (AddsSysmod S.Store tx.old.conn.now tx.new.conn.now sysmod.now) }
 {
-    insert_row(tx, sysmod)?;
-    insert_sources(tx, &sysmod.id, sysmod.sources.as_slice())?;
-    insert_vers(alloc, tx, &sysmod.id, sysmod.vers.as_slice())?;
-    insert_all_ifs(alloc, tx, &sysmod.id, sysmod.vers.as_slice())?;
-    insert_changes(alloc, tx, &sysmod.id, sysmod.changes.as_slice())?;
-    insert_morevers(alloc, tx, &sysmod.id, sysmod.vers.as_slice())?;
-    insert_moreifs(alloc, tx, &sysmod.id, sysmod.vers.as_slice())
+    insert_rows(alloc, tx, sysmod)
 }
 
 /// Puts the rows of the SYSMOD's sources in place of those that are there. Where it is not received and has a source,
-/// the database refuses the first of them.
+/// the database refuses the first of them, and of two that are the same the second. Any other error comes of the disk,
+/// or of memory that is short.
 pub fn replace_sources<S: Alter>(tx: &mut Transaction<'_, S>, sysmod: &Sysmod) -> Result<(), Error>
     ensures same_reference { tx.new.conn.ghost_name ≡ tx.old.conn.ghost_name }
     ensures inside { StaysInside S.Store tx.old.conn.now tx.new.conn.now }
@@ -77,10 +93,11 @@ pub fn replace_sources<S: Alter>(tx: &mut Transaction<'_, S>, sysmod: &Sysmod) -
     ensures stands { OnOk result (ReplacesSources S.Store tx.old.conn.now tx.new.conn.now sysmod.now) }
 {
     remove_sources(tx, sysmod.id)?;
-    insert_sources(tx, &sysmod.id, sysmod.sources.as_slice())
+    insert_all(tx, &Sources { id: sysmod.id }, sysmod.sources.as_slice())
 }
 
-/// Takes out the SYSMOD of the id, if there is one, with all its rows. The holds on it stay.
+/// Takes out the SYSMOD of the id, if there is one, with all its rows. The holds on it stay. An error comes where the
+/// disk fails or memory is short.
 pub fn remove_sysmod<S: Alter>(tx: &mut Transaction<'_, S>, id: Id) -> Result<(), Error>
     ensures same_reference { tx.new.conn.ghost_name ≡ tx.old.conn.ghost_name }
     ensures inside { StaysInside S.Store tx.old.conn.now tx.new.conn.now }

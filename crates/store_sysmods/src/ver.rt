@@ -1,15 +1,14 @@
 //! The table of `++VER`s, of which a SYSMOD has one for each SREL here.
 
-ghost use Rattle.std.specs.Prelude.{◌≡◌, ◌==◌, [], ◌∷◌, map, filter, if◌then◌else◌, IfOk, OnOk};
-ghost use Rattle.store_rows.specs.Calls.{RunsInside};
-ghost use Rattle.store_rows.specs.Inside.{StaysInside};
-ghost use Rattle.store_schema.specs.Rows.{ver_row, is_first, numbered_behind};
+ghost use Rattle.std.specs.Prelude.{◌≡◌, [], ◌∷◌, IfOk};
+ghost use Rattle.store_schema.specs.Rows.{ver_row};
 ghost use Rattle.store_schema.specs.Tables.{ver as ver_table};
-ghost use Rattle.store_sysmods.specs.Calls.{puts, insert_ver as into_ver};
+ghost use Rattle.store_sysmods.specs.Calls.{insert_ver as into_ver};
 ghost use Rattle.store_sysmods.specs.Lists.{AreLists};
-ghost use Rattle.store_sysmods.specs.Sysmods.{Adds};
+ghost use Rattle.store_sysmods.specs.Steps.{Puts};
 
 use crate::numbers::number_behind;
+use crate::rows::Rows;
 use fields::Id;
 use sqlite::{Alter, Error, Transaction};
 use sqlite_value::value::ValueRef;
@@ -49,10 +48,8 @@ fn insert_row<S: Alter>(
 ) -> Result<(), Error>
     requires { AreLists lists.now ver.now }
     ensures same_reference { tx.new.conn.ghost_name ≡ tx.old.conn.ghost_name }
-    ensures inside { StaysInside S.Store tx.old.conn.now tx.new.conn.now }
-    ensures calls { RunsInside S.Store (puts into_ver (ver_row id.now ver.now ∷ []))
+    ensures puts { Puts S.Store into_ver ver_table (ver_row id.now ver.now ∷ [])
         tx.old.conn.now tx.new.conn.now result }
-    ensures ok { OnOk result (Adds S.Store tx.old.conn.now tx.new.conn.now ver_table (ver_row id.now ver.now ∷ [])) }
 {
     let id = ValueRef::Text(id.as_bytes());
     let srel = ValueRef::Text(ver.srel.as_bytes());
@@ -69,46 +66,37 @@ fn insert_row<S: Alter>(
     )
 }
 
-// Adds the row of the `++VER` of this number, if it is the first of its SREL.
-fn insert_first<S: Alter>(
-    alloc: Global,
-    tx: &mut Transaction<'_, S>,
-    id: &Id,
-    number: usize,
-    ver: &Ver,
-) -> Result<(), Error>
-    ensures same_reference { tx.new.conn.ghost_name ≡ tx.old.conn.ghost_name }
-    ensures inside { StaysInside S.Store tx.old.conn.now tx.new.conn.now }
-    ensures calls { RunsInside S.Store (puts into_ver (if number == 1 then ver_row id.now ver.now ∷ [] else []))
-        tx.old.conn.now tx.new.conn.now result }
-    ensures ok { OnOk result (Adds S.Store tx.old.conn.now tx.new.conn.now ver_table
-        (if number == 1 then ver_row id.now ver.now ∷ [] else [])) }
-{
-    if number != 1 {
-        return Ok(());
-    }
-    let lists = lists_of(alloc, ver)?;
-    insert_row(tx, id, ver, &lists)
+/// The rows of the SYSMOD's first `++VER`s, without those of their `++IF`s.
+#[derive(Drop)]
+pub(crate) struct FirstVers {
+    pub alloc: Global,
+    pub id: Id,
 }
 
-/// Adds the rows of the SYSMOD's first `++VER`s, without those of their `++IF`s.
-pub(crate) fn insert_vers<S: Alter>(
-    alloc: Global,
-    tx: &mut Transaction<'_, S>,
-    id: &Id,
-    vers: &[Ver],
-) -> Result<(), Error>
-    ensures same_reference { tx.new.conn.ghost_name ≡ tx.old.conn.ghost_name }
-    ensures inside { StaysInside S.Store tx.old.conn.now tx.new.conn.now }
-    ensures calls { RunsInside S.Store (puts into_ver
-        (map (λ v. ver_row id.now v.1) (filter is_first (numbered_behind [] vers.now))))
-        tx.old.conn.now tx.new.conn.now result }
-    ensures ok { OnOk result (Adds S.Store tx.old.conn.now tx.new.conn.now ver_table
-        (map (λ v. ver_row id.now v.1) (filter is_first (numbered_behind [] vers.now)))) }
-{
-    for (index, ver) in vers.iter().enumerate() {
-        let number = number_behind(&vers[..index], ver);
-        insert_first(alloc, tx, id, number, ver)?;
+impl Rows for FirstVers {
+    ghost use Rattle.store_schema.specs.Tables.{ver as ver_table};
+    ghost use Rattle.store_sysmods.specs.Behind.{of_numbered, first_row};
+    ghost use Rattle.store_sysmods.specs.Calls.{insert_ver as into_ver};
+
+    type Item = Ver;
+
+    ghost text = { into_ver };
+
+    ghost table = { ver_table };
+
+    ghost rows = { λ of. of_numbered (first_row of.id) };
+
+    fn insert<S: Alter>(
+        &self,
+        tx: &mut Transaction<'_, S>,
+        front: &[Ver],
+        ver: &Ver,
+    ) -> Result<(), Error> {
+        let number = number_behind(front, ver);
+        if number != 1 {
+            return Ok(());
+        }
+        let lists = lists_of(self.alloc, ver)?;
+        insert_row(tx, &self.id, ver, &lists)
     }
-    Ok(())
 }

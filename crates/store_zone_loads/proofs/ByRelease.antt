@@ -3,12 +3,13 @@ use Rattle.std.proofs.Common.{◌≡◌, ◌⊎◌, ◌++◌, inl, inr, List, []
 use Rattle.std.specs.Prelude.{All, ⊤}
 use Rattle.std.specs.List.{AllByRecursion}
 use Rattle.sqlite.specs.Effect.{Database}
+use Rattle.sqlite.specs.State.{State, IsUnchanged}
 use Rattle.lemmas.proofs.Each.{recursion_weaker}
-use Rattle.store_rows.specs.Rows.{Contents}
+use Rattle.store_rows.specs.Rows.{Contents, HasContents}
 use Rattle.terms.specs.Types.{Text, Entry}
 use Rattle.store_schema.specs.declared.release.Release.{Release}
 use Rattle.store_schema.specs.declared.release.Release.TheVariants.{First, Second, Third}
-use Rattle.store_schema.specs.Earlier.{StandsUnder}
+use Rattle.store_schema.specs.Earlier.{StandsUnder, schema_under}
 use Rattle.store_schema.specs.Inventory.{Inventory}
 use Rattle.store_zone_loads.specs.declared.chosen.EntryNumber.{EntryNumber}
 use Rattle.store_zone_loads.specs.Held.{HoldsEntries, HoldsChosen, HasNumbers, HoldsNumbered}
@@ -17,6 +18,16 @@ use Rattle.store_zone_loads.specs.Read.{IsFirst, HasEntryRowForms, HasNumberForm
 use Rattle.store_zone_loads.proofs.Entries.{entries_same, numbers_same}
 use Rattle.store_zone_loads.proofs.InZone.{with_zone}
 use Rattle.store_zone_loads.proofs.Numbers.{no_numbers, firsts_are, all_rise, all_given, all_taken}
+
+-- what the tables hold, where a call has changed nothing
+pub held_after : (r : Release) (contents : Contents) (a b : State) → IsUnchanged a b
+    → HasContents (schema_under r) contents a.now → HasContents (schema_under r) contents b.now
+held_after r contents a b same was = subst (HasContents (schema_under r) contents) (sym same.0.now_is) was
+
+pub third_held : (r : Release) (contents : Contents) (a b : State) → r ≡ Third → IsUnchanged a b
+    → HasContents (schema_under r) contents a.now → HasContents (schema_under Third) contents b.now
+third_held r contents a b is same was =
+    subst (λ s. HasContents (schema_under s) contents b.now) is (held_after r contents a b same was)
 
 -- the numbers of entries under a release that has them
 pub numbers_third : (r : Release) (contents : Contents) (name : Text) (ns : List EntryNumber) → r ≡ Third

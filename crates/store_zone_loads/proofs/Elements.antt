@@ -1,11 +1,8 @@
 -- The rows of a zone's elements.
 use Rattle.std.proofs.Common.{◌≡◌, List, [], ap, ◌∙◌}
-use Rattle.std.specs.declared.cmp.Ordering.{Ordering}
-use Rattle.std.specs.Ordering.{is_lt}
 use Rattle.std.specs.Str.{bytes_eq}
 use Rattle.store_rows.specs.Rows.{Contents, has_key}
 use Rattle.terms.specs.Types.{Text, Element}
-use Rattle.terms.specs.Rising.{Rises}
 use Rattle.terms.proofs.ElementOrder.{element_cmp_total}
 use Rattle.store_schema.specs.Rows.{zelem_row}
 use Rattle.store_schema.proofs.OneState.{element_is}
@@ -30,8 +27,3 @@ meets_element name other e = first_cell name other []
 pub elements_same : (contents : Contents) (name : Text) (xs ys : List Element) → HoldsElements contents name xs
     → HoldsElements contents name ys → xs ≡ ys
 elements_same = items_same _ zelem_row HasElementRowForms _ _ element_cmp_total exact_element
-
--- by an order that answers alike they rise too
-pub rises_alike : {X K : Type 0} (R S : K → K → Ordering) → ((a b : K) → R a b ≡ S a b) → (key : X → K) (xs : List X)
-    → Rises S key xs → Rises R key xs
-rises_alike R S alike key xs h = λ k j d less within. ap is_lt (alike _ _) ∙ h k j d less within

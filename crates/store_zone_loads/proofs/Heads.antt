@@ -44,8 +44,9 @@ use Rattle.store_zone_loads.proofs.Relations.{heads_related}
 use Rattle.store_zone_loads.proofs.ZoneRows.{first_cell, of_zone}
 use Rattle.lemmas.proofs.Each.{recursion_map}
 
-pub exact_head : (a b : ZoneHead) → HasHeadForms a → HasHeadForms b → head_row a ≡ head_row b → a ≡ b
-exact_head a b p q e =
+-- a row says all of its head
+pub same_head : (a b : ZoneHead) → head_row a ≡ head_row b → a ≡ b
+same_head a b e =
     let name : a.name ≡ b.name = cc in
     let kind : a.kind ≡ b.kind = zone_same a.kind b.kind cc in
     let srel : a.srel ≡ b.srel = cc in
@@ -54,6 +55,9 @@ exact_head a b p q e =
     ∙ ap (λ x. record a { name = b.name; kind = x }) kind
     ∙ ap (λ x. record b { srel = x; related = a.related }) srel
     ∙ ap (λ x. record b { related = x }) related
+
+pub exact_head : (a b : ZoneHead) → HasHeadForms a → HasHeadForms b → head_row a ≡ head_row b → a ≡ b
+exact_head a b p q e = same_head a b e
 
 -- ---- one zone
 

@@ -301,6 +301,11 @@ numbered_rise es ns rise =
     pairs_unmap ById Low (λ e. e.id) (λ x y low. low) (numbered es ns)
     (subst (AllPairs Low) (sym (same_ids es ns)) (pairs_map ById Low (λ e. e.id) (λ x y low. low) es rise))
 
+-- a list that is these rises
+pub all_rising : (es : List Entry) (ns : List EntryNumber) (all : List Entry) {sorted : List Entry}
+    → all ≡ numbered es ns → sorted ≡ es → RiseById sorted → RiseById all
+all_rising es ns all is same rise = subst RiseById (sym is) (numbered_rise es ns (subst RiseById same rise))
+
 pub none_given : (es : List Entry) → (numbered es [] ≡ es) × (left_over es [] ≡ [])
 none_given [] = (refl, refl)
 none_given (e ∷ es) = let more = none_given es in (ap (λ xs. e ∷ xs) more.0, more.1)

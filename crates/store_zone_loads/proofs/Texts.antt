@@ -1,12 +1,12 @@
 -- What the texts mean, under each schema that has their tables.
-use Rattle.std.proofs.Common.{◌≡◌, ◌++◌, ℕ, List, codes, refl, arith}
+use Rattle.std.proofs.Common.{◌≡◌, ◌++◌, ℕ, List, codes, refl}
 use Rattle.sqlite.specs.Listing.{understood}
 use Rattle.sqlite.specs.Table.{Table}
 use Rattle.std.proofs.Math.Dec.{lit≤}
 use Rattle.sqlite_tied.specs.Compute.{everything}
 use Rattle.store_rows.specs.Selects.{IsSelect}
-use Rattle.store_rows.proofs.Typed.{none_typed, one_typed}
-use Rattle.store_rows.specs.Texts.{Suits, IsTableOf, ReadsRows}
+use Rattle.store_rows.proofs.Meant.{reads_all, reads_of_one}
+use Rattle.store_rows.specs.Texts.{IsTableOf, ReadsRows}
 use Rattle.store_columns.proofs.Releases.{under_each, under_third}
 use Rattle.store_schema.specs.declared.release.Release.{Release}
 use Rattle.store_schema.specs.declared.release.Release.TheVariants.{First, Second, Third}
@@ -33,17 +33,7 @@ select_head = codes "SELECT name, kind, srel, related FROM zone WHERE name = ?1"
 
 head_first : (more : List Table) → ReadsRows (schema_of (first_tables ++ more)) zone 1 select_head
 unfolding understood everything
-head_first more = record {
-  names = _;
-  order = _;
-  command = refl;
-  plain = (refl, refl);
-  unlisted = refl;
-  whole = lit≤ tt;
-  given = refl;
-  typed = one_typed (Suits (schema_of (first_tables ++ more)) select_head) (λ t. refl);
-  narrow = omega arith;
-}
+head_first more = reads_of_one refl (refl, refl) refl (lit≤ tt) refl (λ t. refl) (lit≤ tt)
 
 pub reads_head : (r : Release) → ReadsRows (schema_under r) zone 1 select_head
 reads_head = under_each (λ schema. ReadsRows schema zone 1 select_head) head_first
@@ -57,17 +47,7 @@ select_heads = codes "SELECT name, kind, srel, related FROM zone ORDER BY name"
 
 heads_first : (more : List Table) → ReadsRows (schema_of (first_tables ++ more)) zone 0 select_heads
 unfolding understood everything
-heads_first more = record {
-  names = _;
-  order = _;
-  command = refl;
-  plain = (refl, refl);
-  unlisted = refl;
-  whole = lit≤ tt;
-  given = refl;
-  typed = none_typed (Suits (schema_of (first_tables ++ more)) select_heads) refl;
-  narrow = omega arith;
-}
+heads_first more = reads_all refl (refl, refl) refl (lit≤ tt) refl refl
 
 pub reads_heads : (r : Release) → ReadsRows (schema_under r) zone 0 select_heads
 reads_heads = under_each (λ schema. ReadsRows schema zone 0 select_heads) heads_first
@@ -81,17 +61,7 @@ select_entries = codes "SELECT zone, id, date, supby, delby, waived FROM entry W
 
 entries_first : (more : List Table) → ReadsRows (schema_of (first_tables ++ more)) entry 1 select_entries
 unfolding understood everything
-entries_first more = record {
-  names = _;
-  order = _;
-  command = refl;
-  plain = (refl, refl);
-  unlisted = refl;
-  whole = lit≤ tt;
-  given = refl;
-  typed = one_typed (Suits (schema_of (first_tables ++ more)) select_entries) (λ t. refl);
-  narrow = omega arith;
-}
+entries_first more = reads_of_one refl (refl, refl) refl (lit≤ tt) refl (λ t. refl) (lit≤ tt)
 
 pub reads_entries : (r : Release) → ReadsRows (schema_under r) entry 1 select_entries
 reads_entries = under_each (λ schema. ReadsRows schema entry 1 select_entries) entries_first
@@ -105,17 +75,7 @@ select_elements = codes "SELECT zone, type, name, fmid, rmid, umid, distlib, sys
 
 elements_first : (more : List Table) → ReadsRows (schema_of (first_tables ++ more)) zelem 1 select_elements
 unfolding understood everything
-elements_first more = record {
-  names = _;
-  order = _;
-  command = refl;
-  plain = (refl, refl);
-  unlisted = refl;
-  whole = lit≤ tt;
-  given = refl;
-  typed = one_typed (Suits (schema_of (first_tables ++ more)) select_elements) (λ t. refl);
-  narrow = omega arith;
-}
+elements_first more = reads_of_one refl (refl, refl) refl (lit≤ tt) refl (λ t. refl) (lit≤ tt)
 
 pub reads_elements : (r : Release) → ReadsRows (schema_under r) zelem 1 select_elements
 reads_elements = under_each (λ schema. ReadsRows schema zelem 1 select_elements) elements_first
@@ -131,17 +91,7 @@ select_chosen = codes "SELECT zone, id, n FROM chosen WHERE zone = ?1 ORDER BY i
 
 chosen_third : ReadsRows store_schema chosen 1 select_chosen
 unfolding understood everything
-chosen_third = record {
-  names = _;
-  order = _;
-  command = refl;
-  plain = (refl, refl);
-  unlisted = refl;
-  whole = lit≤ tt;
-  given = refl;
-  typed = one_typed (Suits store_schema select_chosen) (λ t. refl);
-  narrow = omega arith;
-}
+chosen_third = reads_of_one refl (refl, refl) refl (lit≤ tt) refl (λ t. refl) (lit≤ tt)
 
 pub reads_chosen : (r : Release) → r ≡ Third → ReadsRows (schema_under r) chosen 1 select_chosen
 reads_chosen = under_third (λ schema. ReadsRows schema chosen 1 select_chosen) chosen_third

@@ -1,4 +1,5 @@
 pub mod Texts
+pub mod Putting
 pub mod RowForms
 pub mod Numbers
 pub mod ZoneLemmas

@@ -1,6 +1,6 @@
 -- The numbers of entries, where they are not 1, and the rows of these.
-use Rattle.std.proofs.Common.{◌≡◌, ◌==◌, ℕ, List, [], ◌∷◌, ◌++◌, map, filter, Bool, true, false, not, Option, None, Some}
-use Rattle.std.proofs.Common.{if◌then◌else◌, IsPermutation, refl, sym, ap, subst, ◌∙◌}
+use Rattle.std.proofs.Common.{◌≡◌, ◌==◌, ℕ, List, [], ◌∷◌, ◌++◌, map, filter, Bool, true, false, not, Option}
+use Rattle.std.proofs.Common.{None, Some, if◌then◌else◌, IsPermutation, refl, sym, ap, subst, ◌∙◌}
 use Rattle.std.specs.List.{flat_map}
 use Rattle.std.specs.Option.{option_map_or}
 use Rattle.std.specs.Str.{bytes_eq}

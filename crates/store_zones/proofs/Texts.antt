@@ -8,88 +8,32 @@ use Rattle.store_rows.specs.Texts.{PutsIn, PutsByKey, TakesOut}
 use Rattle.store_schema.specs.Tables.{store_schema, zone, entry, chosen, zelem}
 use Rattle.store_zones.specs.Calls.{put_entry, delete_entry, put_chosen, delete_chosen, put_element, delete_element}
 use Rattle.store_zones.specs.Calls.{insert_zone}
-
-pub puts_entry : PutsByKey store_schema 7 entry 2 put_entry
-unfolding understood everything
-puts_entry = record {
-  there = record { found = refl; alone = refl };
-  command = refl;
-  plain = (refl, refl);
-  uncounted = refl;
-  timeless = refl;
-  unnamed = refl;
-  unique = refl;
-  texts = refl;
-  narrow = omega arith;
-  free = λ olds news. refl;
-}
-
-pub takes_entry : TakesOut store_schema 7 entry 2 delete_entry
-unfolding understood everything same_name joined
-takes_entry = record {
-  there = record { found = refl; alone = refl };
-  command = refl;
-  plain = (refl, refl);
-  narrow = omega arith;
-  free = λ olds. refl;
-}
-
-pub puts_chosen : PutsByKey store_schema 12 chosen 2 put_chosen
-unfolding understood everything
-puts_chosen = record {
-  there = record { found = refl; alone = refl };
-  command = refl;
-  plain = (refl, refl);
-  uncounted = refl;
-  timeless = refl;
-  unnamed = refl;
-  unique = refl;
-  texts = refl;
-  narrow = omega arith;
-  free = λ olds news. refl;
-}
-
-pub takes_chosen : TakesOut store_schema 12 chosen 2 delete_chosen
-unfolding understood everything same_name joined
-takes_chosen = record {
-  there = record { found = refl; alone = refl };
-  command = refl;
-  plain = (refl, refl);
-  narrow = omega arith;
-  free = λ olds. refl;
-}
-
-pub puts_element : PutsByKey store_schema 8 zelem 3 put_element
-unfolding understood everything
-puts_element = record {
-  there = record { found = refl; alone = refl };
-  command = refl;
-  plain = (refl, refl);
-  uncounted = refl;
-  timeless = refl;
-  unnamed = refl;
-  unique = refl;
-  texts = refl;
-  narrow = omega arith;
-  free = λ olds news. refl;
-}
-
-pub takes_element : TakesOut store_schema 8 zelem 3 delete_element
-unfolding understood everything same_name joined
-takes_element = record {
-  there = record { found = refl; alone = refl };
-  command = refl;
-  plain = (refl, refl);
-  narrow = omega arith;
-  free = λ olds. refl;
-}
+use Rattle.store_rows.proofs.Meant.{puts_in, puts_by_key, takes_out}
 
 pub puts_zone : PutsIn store_schema 6 zone insert_zone
 unfolding understood everything
-puts_zone = record {
-  there = record { found = refl; alone = refl };
-  command = refl;
-  plain = (refl, refl);
-  uncounted = refl;
-  timeless = refl;
-}
+puts_zone = puts_in refl refl refl (refl, refl) refl refl
+
+pub puts_entry : PutsByKey store_schema 7 entry 2 put_entry
+unfolding understood everything
+puts_entry = puts_by_key refl refl refl (refl, refl) refl refl refl refl refl (omega arith) (λ olds news. refl)
+
+pub takes_entry : TakesOut store_schema 7 entry 2 delete_entry
+unfolding understood everything same_name joined
+takes_entry = takes_out refl refl refl (refl, refl) (omega arith) (λ olds. refl)
+
+pub puts_chosen : PutsByKey store_schema 12 chosen 2 put_chosen
+unfolding understood everything
+puts_chosen = puts_by_key refl refl refl (refl, refl) refl refl refl refl refl (omega arith) (λ olds news. refl)
+
+pub takes_chosen : TakesOut store_schema 12 chosen 2 delete_chosen
+unfolding understood everything same_name joined
+takes_chosen = takes_out refl refl refl (refl, refl) (omega arith) (λ olds. refl)
+
+pub puts_element : PutsByKey store_schema 8 zelem 3 put_element
+unfolding understood everything
+puts_element = puts_by_key refl refl refl (refl, refl) refl refl refl refl refl (omega arith) (λ olds news. refl)
+
+pub takes_element : TakesOut store_schema 8 zelem 3 delete_element
+unfolding understood everything same_name joined
+takes_element = takes_out refl refl refl (refl, refl) (omega arith) (λ olds. refl)

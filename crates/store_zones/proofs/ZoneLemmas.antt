@@ -1,19 +1,20 @@
 -- What the tables hold when a zone's entries or elements change.
-use Rattle.std.proofs.Common.{◌≡◌, ◌≢◌, ℕ, List, [], ◌∷◌, ◌++◌, map, filter, Bool, not, ◌&&◌, IsPermutation, sym, ap}
-use Rattle.std.proofs.Common.{ap₂, subst, subst₂, ◌∙◌}
+use Rattle.std.proofs.Common.{◌≡◌, ◌≢◌, ℕ, List, [], ◌∷◌, ◌++◌, map, filter, Bool, not, ◌&&◌, IsPermutation, refl, sym}
+use Rattle.std.proofs.Common.{ap, ap₂, subst, subst₂, ◌∙◌}
 use Rattle.std.specs.List.{AllByRecursion, flat_map}
 use Rattle.std.specs.Str.{bytes_eq}
 use Rattle.std.proofs.lemmas.List.{map-append}
 use Rattle.std.proofs.lemmas.List.Sorted.{IsPermutation-refl, IsPermutation-map, IsPermutation-middle}
 use Rattle.sqlite.specs.Order.{Row}
+use Rattle.sqlite.specs.Table.{Table}
 use Rattle.sqlite.specs.Effect.{Database}
 use Rattle.sqlite_trees.proofs.ListLemmas.{filter-map}
 use Rattle.terms.specs.declared.kinds.ElemType.{ElemType}
 use Rattle.terms.specs.Types as terms
 use Rattle.terms.specs.Types.{Entry, Element, Zone, NamedZone}
 use Rattle.terms.specs.Spelling.{type_text}
-use Rattle.store_rows.specs.Rows.{has_key, without, with_row, with_put, in_table, HasContents}
-use Rattle.store_rows.proofs.RowLemmas.{filter_same, filter_all}
+use Rattle.store_rows.specs.Rows.{Contents, has_key, without, with_row, with_put, in_table, HasContents}
+use Rattle.store_rows.proofs.RowLemmas.{filter_same, filter_all, same_rows}
 use Rattle.store_rows.proofs.ContentsLemmas.{permuted}
 use Rattle.store_rows.proofs.Keys.{equals, and_true}
 use Rattle.lemmas.proofs.Texts.{same_itself, other_text}
@@ -21,7 +22,8 @@ use Rattle.store_rows.proofs.Parts.{map_same, flat_same, changed}
 use Rattle.store_schema.specs.Inventory.{Inventory}
 use Rattle.store_schema.specs.Rows.{zone_row, entry_row, zelem_row, entries_of, zelems_of, chosen_in, chosen_of}
 use Rattle.store_schema.specs.Stands.{rows_of}
-use Rattle.store_schema.specs.Tables.{store_schema, entry, chosen, zelem, zone as zone_table}
+use Rattle.store_schema.specs.Tables.{store_schema, meta, sysmod, ver, ifreq, hold, elem, source, morever, moreif}
+use Rattle.store_schema.specs.Tables.{entry, chosen, zelem, zone as zone_table}
 use Rattle.store_schema.proofs.Spelled.{types_alike}
 use Rattle.store_zones.specs.Keys.{entry_key, element_key}
 use Rattle.store_zones.specs.Zones.{IsZoneChange, is_element, HasPutEntry, HasRemovedEntry}
@@ -86,36 +88,39 @@ module _ {X : Type 0} (row : terms.Text → X → Row) (name : terms.Text) (key 
 
 -- ---- all tables
 
--- two inventories whose rows are those of the first in all tables but entry and chosen, or zelem
-module _ (i j : Inventory) (global : j.global ≡ i.global) (zones : map zone_row j.zones ≡ map zone_row i.zones) where
-  abbrev same : (rows : List Row) → IsPermutation rows rows
-  same = IsPermutation-refl
+-- the tables that hold no rows of zones
+abbrev other_tables : List Table
+other_tables = meta ∷ sysmod ∷ ver ∷ ifreq ∷ hold ∷ elem ∷ source ∷ morever ∷ moreif ∷ []
 
-  pub with_entries : (make choose : List Row → List Row) → flat_map zelems_of j.zones ≡ flat_map zelems_of i.zones
-      → IsPermutation (flat_map entries_of j.zones) (make (flat_map entries_of i.zones))
-      → IsPermutation (flat_map chosen_of j.zones) (choose (flat_map chosen_of i.zones))
-      → AllByRecursion (λ t. IsPermutation (rows_of j t.tree)
-      (in_table chosen choose (in_table entry make (rows_of i)) t.tree)) store_schema.tables
-  with_entries make choose elements entries numbered =
-      rw (global, zones, elements) (
-        same _,
+-- these hold the same, and those of zones hold these rows in another order
+zone_tables : (c d : Contents) → AllByRecursion (λ t. IsPermutation (d t.tree) (c t.tree)) other_tables
+    → IsPermutation (d zone_table.tree) (c zone_table.tree) → IsPermutation (d entry.tree) (c entry.tree)
+    → IsPermutation (d zelem.tree) (c zelem.tree) → IsPermutation (d chosen.tree) (c chosen.tree)
+    → AllByRecursion (λ t. IsPermutation (d t.tree) (c t.tree)) store_schema.tables
+zone_tables c d others on_zone on_entry on_zelem on_chosen =
+    let at_ver = others.1.1 in
+    let at_hold = at_ver.1.1 in
+    let at_source = at_hold.1.1 in (
+      others.0,
+      (
+        others.1.0,
         (
-          same _,
+          at_ver.0,
           (
-            same _,
+            at_ver.1.0,
             (
-              same _,
+              at_hold.0,
               (
-                same _,
+                at_hold.1.0,
                 (
-                  same _,
+                  on_zone,
                   (
-                    same _,
+                    on_entry,
                     (
-                      entries,
+                      on_zelem,
                       (
-                        same _,
-                        (same _, (same _, (same _, (numbered, tt)))),
+                        at_source.0,
+                        (at_source.1.0, (at_source.1.1.0, (on_chosen, tt))),
                       ),
                     ),
                   ),
@@ -124,7 +129,45 @@ module _ (i j : Inventory) (global : j.global ≡ i.global) (zones : map zone_ro
             ),
           ),
         ),
-      )
+      ),
+    )
+
+same_order : (rows : List Row) → IsPermutation rows rows
+same_order = IsPermutation-refl
+
+-- what they hold tells the global zone alone
+same_others : (i j : Inventory) → j.global ≡ i.global
+    → AllByRecursion (λ t. IsPermutation (rows_of j t.tree) (rows_of i t.tree)) other_tables
+same_others i j global = rw global (
+  same_order _,
+  (
+    same_order _,
+    (
+      same_order _,
+      (
+        same_order _,
+        (
+          same_order _,
+          (
+            same_order _,
+            (same_order _, (same_order _, (same_order _, tt))),
+          ),
+        ),
+      ),
+    ),
+  ),
+)
+
+-- two inventories whose rows are those of the first in all tables but entry and chosen, or zelem
+module _ (i j : Inventory) (global : j.global ≡ i.global) (zones : map zone_row j.zones ≡ map zone_row i.zones) where
+  pub with_entries : (make choose : List Row → List Row) → flat_map zelems_of j.zones ≡ flat_map zelems_of i.zones
+      → IsPermutation (flat_map entries_of j.zones) (make (flat_map entries_of i.zones))
+      → IsPermutation (flat_map chosen_of j.zones) (choose (flat_map chosen_of i.zones))
+      → AllByRecursion (λ t. IsPermutation (rows_of j t.tree)
+      (in_table chosen choose (in_table entry make (rows_of i)) t.tree)) store_schema.tables
+  with_entries make choose elements entries numbered =
+      zone_tables (in_table chosen choose (in_table entry make (rows_of i))) (rows_of j) (same_others i j global)
+      (same_rows zones) entries (same_rows elements) numbered
 
   pub with_elements : (make : List Row → List Row) → flat_map entries_of j.zones ≡ flat_map entries_of i.zones
       → flat_map chosen_of j.zones ≡ flat_map chosen_of i.zones
@@ -132,31 +175,8 @@ module _ (i j : Inventory) (global : j.global ≡ i.global) (zones : map zone_ro
       → AllByRecursion (λ t. IsPermutation (rows_of j t.tree) (in_table zelem make (rows_of i) t.tree))
       store_schema.tables
   with_elements make entries numbered elements =
-      rw (global, zones, entries, numbered) (
-        same _,
-        (
-          same _,
-          (
-            same _,
-            (
-              same _,
-              (
-                same _,
-                (
-                  same _,
-                  (
-                    same _,
-                    (
-                      same _,
-                      (elements, (same _, (same _, (same _, (same _, tt))))),
-                    ),
-                  ),
-                ),
-              ),
-            ),
-          ),
-        ),
-      )
+      zone_tables (in_table zelem make (rows_of i)) (rows_of j) (same_others i j global) (same_rows zones)
+      (same_rows entries) elements (same_rows numbered)
 
 -- ---- one zone becomes another
 
@@ -281,32 +301,10 @@ module _ (global : terms.Global) (zone : NamedZone) where
       let zones : IsPermutation (map zone_row (before ++ zone ∷ after)) (zone_row zone ∷ map zone_row (before ++ after))
       =
       IsPermutation-map zone_row _ _ (IsPermutation-middle before zone after) in
-      let same = λ (rows : List Row). IsPermutation-refl rows in
-      permuted store_schema (in_table zone_table (with_row (zone_row zone)) (rows_of (with_zones (before ++ after))))
-      (rows_of (with_zones (before ++ zone ∷ after))) db
-      (rw (
-        flat_none entries_of no_entries before after,
-        flat_none zelems_of no_elements before after,
-        flat_none chosen_of no_numbers before after,
-      ) (
-        same _,
-        (
-          same _,
-          (
-            same _,
-            (
-              same _,
-              (
-                same _,
-                (
-                  same _,
-                  (
-                    zones,
-                    (same _, (same _, (same _, (same _, (same _, (same _, tt)))))),
-                  ),
-                ),
-              ),
-            ),
-          ),
-        ),
-      ))
+      let held = in_table zone_table (with_row (zone_row zone)) (rows_of (with_zones (before ++ after))) in
+      let more = with_zones (before ++ zone ∷ after) in
+      permuted store_schema held (rows_of more) db (zone_tables held (rows_of more)
+      (same_others (with_zones (before ++ after)) more refl) zones
+      (same_rows (flat_none entries_of no_entries before after))
+      (same_rows (flat_none zelems_of no_elements before after))
+      (same_rows (flat_none chosen_of no_numbers before after)))

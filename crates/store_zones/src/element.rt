@@ -23,7 +23,8 @@ use terms::ElemType;
 use text80::bytes_of;
 use zones::Element;
 
-/// Puts the element into the zone, in place of the one of its type and name, if there is one.
+/// Puts the element into the zone, in place of the one of its type and name, if there is one. An error comes where
+/// there is no such zone, where the disk fails or memory is short.
 pub fn put_element<S: Alter>(
     alloc: Global,
     tx: &mut Transaction<'_, S>,
@@ -78,7 +79,8 @@ fn put_row<S: Alter>(
     )
 }
 
-/// Takes the element of the type and name out of the zone, if there is one.
+/// Takes the element of the type and name out of the zone, if there is one. An error comes where the disk fails or
+/// memory is short.
 pub fn remove_element<S: Alter>(
     tx: &mut Transaction<'_, S>,
     zone: ZoneName,

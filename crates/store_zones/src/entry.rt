@@ -22,8 +22,8 @@ use store_columns::{id_value, joined_ids};
 use store_rows::{put, remove};
 use zones::Entry;
 
-/// Puts the entry into the zone, in place of the one of its id, if there is one. A number that no column can hold is
-/// told as memory that is short.
+/// Puts the entry into the zone, in place of the one of its id, if there is one. An error comes where there is no such
+/// zone, where the disk fails or memory is short; a number that no column can hold is told as memory that is short.
 pub fn put_entry<S: Alter>(
     alloc: Global,
     tx: &mut Transaction<'_, S>,
@@ -89,7 +89,7 @@ fn remove_row<S: Alter>(tx: &mut Transaction<'_, S>, zone: &ZoneName, id: &Id) -
     remove(tx, "DELETE FROM entry WHERE zone = ?1 AND id = ?2", &key)
 }
 
-/// Takes the entry of the id out of the zone, if there is one.
+/// Takes the entry of the id out of the zone, if there is one. An error comes where the disk fails or memory is short.
 pub fn remove_entry<S: Alter>(
     tx: &mut Transaction<'_, S>,
     zone: ZoneName,

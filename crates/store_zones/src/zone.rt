@@ -17,7 +17,8 @@ use sqlite_value::value::ValueRef;
 use store_rows::insert;
 use terms::ZoneKind;
 
-/// Adds a zone that has no entries.
+/// Adds a zone that has no entries. An error comes where there is a zone of its name, where the disk fails or memory is
+/// short.
 pub fn insert_zone<S: Alter>(
     tx: &mut Transaction<'_, S>,
     name: ZoneName,

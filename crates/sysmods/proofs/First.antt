@@ -33,13 +33,3 @@ find_no_position p xs e = by (nat_lt (position_or_len p xs) (length xs)) refl
         ∙ ap (λ b. cond b (Some (position_or_len p xs)) None) h))
     by false h = find_at p xs ∙ slice_get_past xs (position_or_len p xs)
         (ltb-false (position_or_len p xs) (length xs) h)
-
--- it is the first of those that pass
-pub first_filtered : {X : Type 0} (p : X → Bool) (xs : List X) → slice_get (filter p xs) 0 ≡ find p xs
-first_filtered p [] = refl
-first_filtered p (x ∷ xs) = by (first_filtered p xs) (p x) refl
-  where
-    by : slice_get (filter p xs) 0 ≡ find p xs → (b : Bool) → p x ≡ b
-        → slice_get (filter p (x ∷ xs)) 0 ≡ find p (x ∷ xs)
-    by rest true e = rw e refl
-    by rest false e = rw e rest

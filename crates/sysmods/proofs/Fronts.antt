@@ -32,14 +32,7 @@ use Rattle.sysmods_received.specs.declared.faults.ReceiveFault.{ReceiveFault as 
 use Rattle.sysmods_received.specs.declared.faults.ReceiveFault.TheVariants as code
 use Rattle.sysmods_received.specs.Refused.{IsRefusal}
 use Rattle.sysmods.proofs.Receiving.{kept}
-
--- the front of a list that is in order
-Rises_front : {X : Type 0} (R : X → X → Type 0) (xs ys : List X) → AllPairs R (xs ++ ys) → AllPairs R xs
-Rises_front R xs ys all = λ i j d less below.
-    let first = get_or_append_left xs ys d i (omega (arith, less, below)) in
-    let second = get_or_append_left xs ys d j below in
-    subst (λ a. R a (get_or xs j d)) first (subst (R (get_or (xs ++ ys) i d)) second
-    (all i j d less (omega (arith, below, length-append xs ys))))
+use Rattle.lemmas.proofs.Pairs.{AllPairs_front}
 
 module _ (xs ys : List Sysmod) where
   abbrev Whole : Global
@@ -106,7 +99,7 @@ module _ (xs ys : List Sysmod) where
 
   pub global_front : IsGlobal Whole → IsGlobal Front
   global_front g = record {
-    sysmods = Rises_front (λ a b. IsTrue (is_lt (slice_cmp nat_cmp a.id b.id))) xs ys g.sysmods;
+    sysmods = AllPairs_front (λ a b. IsTrue (is_lt (slice_cmp nat_cmp a.id b.id))) xs ys g.sysmods;
     holds = g.holds;
     formed = All_front IsSysmod xs ys g.formed;
     no_loop = λ loop. g.no_loop (loop_front loop);

@@ -6,3 +6,4 @@ pub mod Kept
 pub mod OneVer
 pub mod Receiving
 pub mod Taken
+mod KnownOvers

@@ -17,6 +17,7 @@ use Rattle.terms.specs.Types.{Text, Id, Ver, Sysmod, Global, Zone, Applied}
 use Rattle.terms.specs.Rising.{Rises}
 use Rattle.terms.specs.Lookups.{is_in, sysmod_of, applied_of}
 use Rattle.terms.specs.Choice.{vers_of, fits, place}
+use Rattle.lemmas.proofs.Searches.{first_of_one}
 
 -- behind a ++VER for the SREL there is no other one
 none_behind : (srel : Text) (v : Ver) (vs : List Ver) → bytes_eq v.srel srel ≡ true
@@ -58,16 +59,6 @@ one_ver g srel x single = by (sysmod_of g x) refl
     by (Some s) e =
         let there = (find_gives (λ s. bytes_eq s.id x) g.sysmods s e).1 in
         one_of srel s.vers (All-contains (λ s. Rises (slice_cmp nat_cmp) (λ v. v.srel) s.vers) g.sysmods s single there)
-
--- so the first that passes, if one does, stands at the front
-pub first_of_one : {X : Type 0} (p : X → Bool) (xs : List X) → length xs ≤ 1 → unwrap_or (position p xs) 0 ≡ 0
-first_of_one p [] short = refl
-first_of_one p (x ∷ []) short = by (p x) refl
-  where
-    by : (b : Bool) → p x ≡ b → unwrap_or (position p (x ∷ [])) 0 ≡ 0
-    by true e = rw e refl
-    by false e = rw e refl
-first_of_one p (x ∷ y ∷ xs) short = absurd (omega (arith, short))
 
 -- and of what is not applied the first counts
 pub first_place : (g : Global) (zone : Zone) (cands : List Id) (x : Id) → HasSingleVers g → applied_of zone x ≡ None

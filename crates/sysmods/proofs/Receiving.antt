@@ -14,7 +14,7 @@ use Rattle.sysmods_holds.specs.Lists.{with_holds}
 use Rattle.sysmods_received.specs.declared.faults.ReceiveFault.{ReceiveFault as Code}
 use Rattle.sysmods_received.specs.declared.faults.ReceiveFault.TheVariants as code
 use Rattle.sysmods_received.specs.Held.{found, zone_of}
-use Rattle.sysmods_received.specs.Refused.{fault_of}
+use Rattle.sysmods_received.specs.Refused.{fault_of, IsRefusal}
 use Rattle.sysmods.proofs.Taken.{folded}
 
 -- roles that cannot but fit fit
@@ -28,21 +28,25 @@ roles_stable g never i d below j e within = by (fits_roles g (get_or (get_or g.s
 
 module _ (xs : List Sysmod) (hs : List Hold) (s : Sysmod) where
   -- faults do not look at holds
-  pub no_fault : ((f : ReceiveFault) → ¬ HasFault (zone_of xs) s f) → (f : ReceiveFault)
+  no_fault : ((f : ReceiveFault) → ¬ HasFault (zone_of xs) s f) → (f : ReceiveFault)
       → ¬ HasFault (a_global xs hs) s f
   no_fault none Rc1 = none Rc1
   no_fault none Rc2 = none Rc2
   no_fault none Rc3 = none Rc3
   no_fault none Rc4 = none Rc4
 
-  pub same_fault : (f : Code) → RefusedBy (zone_of xs) s (fault_of f) → RefusedBy (a_global xs hs) s (fault_of f)
+  same_fault : (f : Code) → RefusedBy (zone_of xs) s (fault_of f) → RefusedBy (a_global xs hs) s (fault_of f)
   same_fault code.Rc1 by = by
   same_fault code.Rc2 by = by
   same_fault code.Rc3 by = by
   same_fault code.Rc4 by = by
 
+  pub same_refusal : (fault : Option Code) → IsRefusal (zone_of xs) s fault → IsRefusal (a_global xs hs) s fault
+  same_refusal None none = no_fault none
+  same_refusal (Some f) by = same_fault f by
+
   -- where no fault applies it is new
-  pub is_new : ((f : ReceiveFault) → ¬ HasFault (zone_of xs) s f) → found xs s.id ≡ None
+  pub is_new : ((f : ReceiveFault) → ¬ HasFault (a_global xs hs) s f) → found xs s.id ≡ None
   is_new none = by (found xs s.id) refl
     where
       by : (o : Option Sysmod) → found xs s.id ≡ o → found xs s.id ≡ None

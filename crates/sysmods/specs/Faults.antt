@@ -1,10 +1,7 @@
 -- Why requests on the global zone are refused.
 use Rattle.terms.specs.declared.kinds.HoldKind.{HoldKind}
-use Rattle.std.specs.Prelude.{◌≡◌, Option, None, Some, Ok, Err}
-use Rattle.terms.specs.Types.{Text, Id, Release, Sysmod, Global}
-use Rattle.terms.specs.Global.{ReleaseFault, Rl1, Rl2, Receives}
-use Rattle.sysmods_received.specs.declared.faults.ReceiveFault.{ReceiveFault}
-use Rattle.sysmods_received.specs.Refused.{fault_of}
+use Rattle.terms.specs.Types.{Text, Id, Release}
+use Rattle.terms.specs.Global.{ReleaseFault, Rl1, Rl2}
 use Rattle.sysmods_holds.specs.declared.holds.ReleaseError.{ReleaseError}
 use Rattle.sysmods_holds.specs.declared.holds.ReleaseError.TheVariants.{NoHold, Internal}
 
@@ -14,8 +11,3 @@ a_release x kind reason fmid = record { id = x; kind = kind; reason = reason; fm
 abbrev pub release_fault : ReleaseError → ReleaseFault
 release_fault NoHold = Rl1
 release_fault Internal = Rl2
-
--- what RECEIVE of the SYSMOD answers and leaves: the first fault and the zone as it was, or the zone with it
-abbrev pub IsReceived : Global → Sysmod → Global → Option ReceiveFault → Type 0
-IsReceived g s new None = Receives g s (Ok new)
-IsReceived g s new (Some fault) = Receives g s (Err (fault_of fault)) × (new ≡ g)

@@ -1,12 +1,14 @@
 //! The global zone: the received SYSMODs and the holds.
 //! A `GlobalZone` keeps `IsGlobal`. `receive`, `hold`, `release`, `assign` and `reject` are the definitions', and where
 //! they fail nothing changes; `from_parts` takes two lists just where they are those of a global zone. `VerChoice`
-//! answers who is over, supersedes and owns, by the one `++VER` that counts. Times are measured only.
+//! answers who is over, supersedes and owns, by the one `++VER` that counts; `Overs`, who is over whom, keeps what it
+//! has found. Times are measured only.
 #![tactic(auto)]
 
 mod chain;
 mod choice;
 mod edit;
+mod overs;
 mod parts;
 mod receive;
 mod zone;
@@ -17,6 +19,7 @@ pub use edit::GlobalEdit;
 pub use fields::{
     Class, HoldDate, Id, IdList, Name, Reason, Rising, Source, SourceList, Srel, ZoneName,
 };
+pub use overs::Overs;
 pub use sysmods_holds::{Placed, ReleaseError};
 pub use sysmods_received::ReceiveFault;
 pub use sysmods_records::{Action, ElemChange, Hold, IfReq, Sysmod, Ver};

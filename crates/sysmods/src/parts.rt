@@ -8,6 +8,7 @@ ghost use Rattle.terms.specs.declared.kinds.HoldKind.TheVariants.{System};
 ghost use Rattle.terms.specs.Lookups.{is_received};
 ghost use Rattle.terms.proofs.GlobalKept.{IsOwned};
 
+use fields::Attest;
 use sorted::are_rising;
 use std::alloc::{AllocError, Global};
 use sysmods_received::{Received, refusal};

@@ -1,5 +1,5 @@
 //! The received SYSMODs and the holds.
-ghost use Rattle.std.specs.Prelude.{◌≡◌, ◌↔◌, ◌<◌, ◌^◌, ◌++◌, [], length, Ok, Err, IsTrue, IsOk, IfOk, IfErr};
+ghost use Rattle.std.specs.Prelude.{◌≡◌, ◌↔◌, ◌<◌, ◌^◌, ◌++◌, [], length, None, Ok, Err, IsTrue, IsOk, IfOk, IfErr};
 ghost use Rattle.std.specs.Prelude.{OnOk};
 ghost use Rattle.std.specs.Prelude.{OnErr, option_copied, if◌then◌else◌};
 ghost use Rattle.std.specs.Map.Iter.{ShowsInOrder, deref};
@@ -7,15 +7,16 @@ ghost use Rattle.terms.specs.declared.kinds.HoldKind.TheVariants.{System};
 ghost use Rattle.terms.specs.Types.{Id as AnId};
 ghost use Rattle.terms.specs.Lookups.{sysmod_of, is_received, is_function, holds_of};
 ghost use Rattle.terms.specs.Global.{IsGlobal, hold_of, is_replacing, hold as with_hold, release as released};
-ghost use Rattle.terms.specs.Global.{assign as assigned, without_sysmod};
+ghost use Rattle.terms.specs.Global.{assign as assigned, received, without_sysmod};
 ghost use Rattle.terms.specs.Types.{a_global};
 ghost use Rattle.sysmods_received.specs.Namers.{namers_for, function_namers};
-ghost use Rattle.sysmods.specs.Faults.{IsReceived, a_release, release_fault};
+ghost use Rattle.sysmods_received.specs.Refused.{IsRefusal};
+ghost use Rattle.sysmods.specs.Faults.{a_release, release_fault};
 ghost use Rattle.sysmods.specs.Parts.{IsMadeOf};
 
 use crate::parts::{are_owned, received_from};
 use crate::receive::take_in;
-use fields::{Id, Reason, Source, Srel};
+use fields::{Attest, Id, Reason, Source, Srel};
 use std::alloc::{AllocError, Global};
 use std::collections::btree_map::Values;
 use std::marker::Model;
@@ -50,6 +51,16 @@ impl Model for GlobalZone {
     ghost view = { λ g. a_global g.sysmods g.holds };
 
     ghost invariant = { λ g. IsGlobal (a_global g.sysmods g.holds) };
+}
+
+impl Attest for GlobalZone {
+    ghost use Rattle.terms.specs.Global.{IsGlobal};
+
+    ghost form = { IsGlobal };
+
+    fn attest(&self) {
+        let _ = &self.sysmods;
+    }
 }
 
 impl GlobalZone {
@@ -171,24 +182,26 @@ impl GlobalZone {
         self.holds.of(id, kind)
     }
 
-    /// RECEIVE of one SYSMOD, whose holds come in among the others. Answers the first fault by which it
-    /// is refused, if there is one.
-    pub fn receive(
-        &mut self,
+    /// The first fault by which RECEIVE refuses the SYSMOD, if there is one.
+    pub fn refusal(
+        &self,
         alloc: Global,
-        sysmod: Sysmod,
+        sysmod: &Sysmod,
     ) -> Result<Option<ReceiveFault>, AllocError>
-        ensures answer { IfOk result (IsReceived self.old sysmod self.new) }
+        ensures { IfOk result (IsRefusal self.now sysmod.now) }
+    {
+        refusal(alloc, &self.sysmods, sysmod)
+    }
+
+    /// RECEIVE of a SYSMOD that nothing refuses, whose holds come in among the others.
+    pub fn receive(&mut self, alloc: Global, sysmod: Sysmod) -> Result<(), AllocError>
+        requires { IsRefusal self.old sysmod None }
+        ensures ok { OnOk result (self.new ≡ received self.old sysmod) }
         ensures err { OnErr result (self.new ≡ self.old) }
     {
-        match refusal(alloc, &self.sysmods, &sysmod)? {
-            Some(fault) => Ok(Some(fault)),
-            None => {
-                sysmod.attest();
-                take_in(&mut self.sysmods, &mut self.holds, alloc, sysmod)?;
-                Ok(None)
-            }
-        }
+        sysmod.attest();
+        take_in(&mut self.sysmods, &mut self.holds, alloc, sysmod)?;
+        Ok(())
     }
 
     /// Puts a hold in place of the one of its key, whose mark as internal stays.

@@ -28,6 +28,8 @@ use Rattle.sysmods_holds.specs.Keys.{key_of, key_cmp, key_cmp_total, place_cmp, 
 use Rattle.sysmods_holds.specs.Lists.{is_internal_on}
 use Rattle.sysmods_holds.specs.Internal.{goes_on, IsFirstInternal}
 use Rattle.sysmods_holds.proofs.Keyed.{Entries, found_key}
+use Rattle.std.proofs.lemmas.Bool.{and_parts}
+use Rattle.lemmas.proofs.Orderings.{between_then}
 
 -- what stays
 abbrev pub stays : Id → Hold → Bool
@@ -67,19 +69,17 @@ none_behind x h le = by (slice_cmp nat_cmp x h.id) h.kind refl le
     by Equal User e le = absurd (true≢false (sym le))
     by Greater kind e le = absurd (true≢false (sym le))
 
--- what goes on from a key is of its id
-on_parts : (i : Ordering) (a b : Ordering) → (is_le (ordering_then i a) && not (is_le (ordering_then i b))) ≡ true
-    → is_eq i ≡ true
-on_parts Less a b e = absurd (true≢false (sym e))
-on_parts Equal a b e = refl
-on_parts Greater a b e = absurd (true≢false (sym e))
-
 pub same_id : (from k : HoldKey) → goes_on from k ≡ true → from.id ≡ k.id
 same_id from k on =
     same_from from.id k.id (sym (is_eq-slice_cmp from.id k.id)
-    ∙ on_parts (slice_cmp nat_cmp from.id k.id)
-    (ordering_then (nat_cmp (hold_number from.kind) (hold_number k.kind)) (place_cmp from.place k.place))
-    (ordering_then (nat_cmp 2 (hold_number k.kind)) (place_cmp (behind_kind from.id User).place k.place)) on)
+    ∙ (and_parts (is_eq (slice_cmp nat_cmp from.id k.id)) (is_le low && not (is_le high))
+    (sym (between_then (slice_cmp nat_cmp from.id k.id) low high) ∙ on)).0)
+  where
+    low : Ordering
+    low = ordering_then (nat_cmp (hold_number from.kind) (hold_number k.kind)) (place_cmp from.place k.place)
+
+    high : Ordering
+    high = ordering_then (nat_cmp 2 (hold_number k.kind)) (place_cmp (behind_kind from.id User).place k.place)
 
 -- a key is before another or not
 less_or_not : (a b : HoldKey) → (key_cmp a b ≡ Less) ⊎ (is_le (key_cmp b a) ≡ true)

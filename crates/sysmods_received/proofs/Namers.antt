@@ -1,5 +1,5 @@
 -- Those that name an id are found among those that the index has for it.
-use Rattle.std.proofs.Common.{◌≡◌, ◌||◌, Bool, true, false, List, [], ◌∷◌, ◌++◌, find, refl, sym, ap, ◌∙◌, Option, None}
+use Rattle.std.proofs.Common.{◌≡◌, Bool, true, false, List, [], ◌∷◌, ◌++◌, find, refl, sym, ap, ◌∙◌, Option, None}
 use Rattle.std.proofs.Common.{Some, All, IsTrue, true≢false}
 use Rattle.std.specs.List.{list_any}
 use Rattle.std.specs.Option.{option_map_or}
@@ -22,30 +22,23 @@ use Rattle.sysmods_received.specs.Index.{Sets, has, mentions, IsIndexed}
 use Rattle.sysmods_received.specs.Held.{found}
 use Rattle.sysmods_received.specs.Ways.{names_so}
 use Rattle.sysmods_received.proofs.Indexed.{has_at, has_none}
-
-left_none : (a b : Bool) → (a || b) ≡ false → a ≡ false
-left_none true b e = absurd (true≢false e)
-left_none false b e = refl
-
-right_none : (a b : Bool) → (a || b) ≡ false → b ≡ false
-right_none true b e = absurd (true≢false e)
-right_none false b e = e
+use Rattle.std.proofs.lemmas.Bool.{or_parts}
 
 -- what a ++VER does not mention it names in no way
 sup_none : (v : Ver) (z : Id) → is_in (named v) z ≡ false → is_in v.sup z ≡ false
 sup_none v z none =
-    let listed = left_none (is_in (v.pre ++ v.sup) z) (is_in (at_most_one v.fmid) z)
-    (sym (list_any-append (bytes_eq z) (v.pre ++ v.sup) (at_most_one v.fmid)) ∙ none) in
-    right_none (is_in v.pre z) (is_in v.sup z) (sym (list_any-append (bytes_eq z) v.pre v.sup) ∙ listed)
+    let listed = (or_parts (is_in (v.pre ++ v.sup) z) (is_in (at_most_one v.fmid) z)
+    (sym (list_any-append (bytes_eq z) (v.pre ++ v.sup) (at_most_one v.fmid)) ∙ none)).0 in
+    (or_parts (is_in v.pre z) (is_in v.sup z) (sym (list_any-append (bytes_eq z) v.pre v.sup) ∙ listed)).1
 
 unmentioned : (way : Way) (z : Id) (s : Sysmod) → list_any (λ v. mentions v z) s.vers ≡ false → names_so way z s ≡ false
 unmentioned Named z s none = list_any_fewer (λ v. mentions v z) (λ v. is_in (named v) z) s.vers
-    (λ v. left_none (is_in (named v) z) (is_in (named_functions v) z)) none
+    (λ v e. (or_parts (is_in (named v) z) (is_in (named_functions v) z) e).0) none
 unmentioned Superseded z s none =
     list_any_fewer (λ v. mentions v z) (λ v. is_in v.sup z) s.vers
-    (λ v e. sup_none v z (left_none (is_in (named v) z) (is_in (named_functions v) z) e)) none
+    (λ v e. sup_none v z (or_parts (is_in (named v) z) (is_in (named_functions v) z) e).0) none
 unmentioned AsFunction z s none = list_any_fewer (λ v. mentions v z) (λ v. is_in (named_functions v) z) s.vers
-    (λ v. right_none (is_in (named v) z) (is_in (named_functions v) z)) none
+    (λ v e. (or_parts (is_in (named v) z) (is_in (named_functions v) z) e).1) none
 
 pub mentioned : (way : Way) (z : Id) (s : Sysmod) → names_so way z s ≡ true
     → IsTrue (list_any (λ v. mentions v z) s.vers)

@@ -1,6 +1,6 @@
 -- What the received SYSMODs name with one more among them, and who names it, are one relation.
 use Rattle.std.proofs.Common.{◌≡◌, ◌≢◌, ◌&&◌, ◌⊎◌, inl, inr, Bool, true, false, List, [], ◌∷◌, map, filter, refl, sym}
-use Rattle.std.proofs.Common.{ap, ◌∙◌, subst, None, Some, Contains, true≢false, if◌then◌else◌}
+use Rattle.std.proofs.Common.{ap, ◌∙◌, subst, None, Some, Contains, if◌then◌else◌}
 use Rattle.std.specs.List.{flat_map, list_any}
 use Rattle.std.specs.Str.{bytes_eq}
 use Rattle.std.proofs.lemmas.Map.Views.{any-filter_same}
@@ -17,13 +17,10 @@ use Rattle.sysmods_paths.specs.Seen.{IsTurned}
 use Rattle.sysmods_received.specs.Held.{found, zone_of}
 use Rattle.sysmods_received.specs.Namers.{namers_for, namers_with}
 use Rattle.sysmods_received.proofs.NamersFor.{named_for, named_by, named_by_received}
+use Rattle.std.proofs.lemmas.Bool.{and_parts}
 
 passing : (test : Id → Bool) (ks : List Id) (k : Id) → is_in (filter test ks) k ≡ (test k && is_in ks k)
 passing test ks k = any-filter_same (bytes_eq k) test (test k) (λ y same. ap test (sym (same_from k y same))) ks
-
-first : (a b : Bool) → (a && b) ≡ true → a ≡ true
-first true b e = refl
-first false b e = absurd (true≢false (sym e))
 
 module _ (xs : List Sysmod) (s : Sysmod) (srel : Text) (new : found xs s.id ≡ None) where
   abbrev Own : List Id
@@ -77,9 +74,9 @@ module _ (xs : List Sysmod) (s : Sysmod) (srel : Text) (new : found xs s.id ≡ 
           → Contains (names_for (with_sysmod (zone_of xs) s) srel y) z
       by (inl among) =
           let names : is_in (names_for (zone_of xs) srel y) z ≡ true =
-          first (is_in (names_for (zone_of xs) srel y) z) (is_in (map (λ r. r.id) xs) y)
+          (and_parts (is_in (names_for (zone_of xs) srel y) z) (is_in (map (λ r. r.id) xs) y)
           (sym (passing (λ k. is_in (names_for (zone_of xs) srel k) z) (map (λ r. r.id) xs) y)
-          ∙ is_in_from_Contains (namers_for xs srel z) y among) in
+          ∙ is_in_from_Contains (namers_for xs srel z) y among)).0 in
           let r = named_by xs srel z y names in
           subst (λ ids. Contains ids z)
           (sym (names_others (zone_of xs) s srel y (λ same. none_some (sym new ∙ ap (found xs) (sym same) ∙ r.1))))

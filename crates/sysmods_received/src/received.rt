@@ -17,6 +17,7 @@ ghost use Rattle.sysmods_received.specs.Ways.{names_so};
 
 use crate::index::Index;
 use crate::ways::Way;
+use fields::Attest;
 use std::alloc::{AllocError, Global};
 use std::collections::btree_map::Values;
 use std::collections::{BTreeMap, BTreeSet};

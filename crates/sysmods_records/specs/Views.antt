@@ -5,4 +5,4 @@ use Rattle.sysmods_records.specs.declared.change.Action.TheVariants.{Replaces, U
 
 abbrev pub action_of : Action → terms.Action
 action_of (Replaces distlib syslib lines) = terms.Replaces distlib syslib lines.items
-action_of (Updates lines) = terms.Updates lines.items
+action_of (Updates update) = terms.Updates update

@@ -6,10 +6,9 @@ use fields::Name;
 use std::cmp::Ordering;
 use std::marker::Model;
 use terms::ElemType;
-use text80::Line;
+use text80::{Line, Update};
 
-/// What an element statement does. The records of an update are all those behind `++MACUPD` or
-/// `++SRCUPD`, `./` records too.
+/// What an element statement does. An update has all records behind `++MACUPD` or `++SRCUPD`, `./` records too.
 #[derive(Drop)]
 pub enum Action {
     Replaces {
@@ -18,7 +17,7 @@ pub enum Action {
         lines: Vec<Line>,
     },
     Updates {
-        lines: Vec<Line>,
+        update: Update,
     },
 }
 

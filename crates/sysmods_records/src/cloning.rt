@@ -43,8 +43,8 @@ fn copy_action(alloc: Global, action: &Action) -> Result<Action, AllocError>
             syslib: *syslib,
             lines: Vec::from_slice(alloc, lines.as_slice())?,
         }),
-        Action::Updates { lines } => Ok(Action::Updates {
-            lines: Vec::from_slice(alloc, lines.as_slice())?,
+        Action::Updates { update } => Ok(Action::Updates {
+            update: update.clone()?,
         }),
     }
 }

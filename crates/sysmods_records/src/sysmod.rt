@@ -3,10 +3,10 @@ ghost use Rattle.std.specs.Prelude.{◌≡◌, ◌++◌, ◌&&◌, [], filter, O
 ghost use Rattle.std.specs.List.{flat_map, list_any};
 ghost use Rattle.std.specs.Str.{bytes_eq};
 ghost use Rattle.terms.specs.Lookups.{is_in};
-ghost use Rattle.terms.specs.Global.{IsSysmod, named, named_functions, with_source};
+ghost use Rattle.terms.specs.Global.{named, named_functions, with_source};
 
 use crate::{ElemChange, Hold, Ver};
-use fields::{Id, Source, SourceList, Srel};
+use fields::{Attest, Id, Source, SourceList, Srel};
 use std::alloc::{AllocError, Global};
 use std::marker::Model;
 use std::mem;
@@ -37,6 +37,16 @@ impl Model for Sysmod {
     ghost invariant = { λ a. IsSysmod (sysmod_of a) };
 }
 
+impl Attest for Sysmod {
+    ghost use Rattle.terms.specs.Global.{IsSysmod};
+
+    ghost form = { IsSysmod };
+
+    fn attest(&self) {
+        let _ = &self.id;
+    }
+}
+
 impl Sysmod {
     /// Adds a source.
     pub fn add_source(&mut self, source: Source) -> Result<(), AllocError>
@@ -45,13 +55,6 @@ impl Sysmod {
     {
         self.sources.insert(source)?;
         Ok(())
-    }
-
-    /// What holds of each SYSMOD. The call does nothing.
-    pub fn attest(&self)
-        ensures { IsSysmod self.now }
-    {
-        let _ = &self.id;
     }
 
     /// Lays its holds aside.

@@ -13,6 +13,11 @@ use Rattle.lemmas.proofs.Searches.{find_gives}
 use Rattle.lemmas.proofs.Texts.{same_from, same_itself, other_from_less}
 use Rattle.lemmas.proofs.Pairs.{AllPairs_first, AllPairs_rest}
 use Rattle.lemmas.proofs.Orderings.{Less_from_is_lt}
+use Rattle.std.proofs.Common.{true}
+use Rattle.std.specs.Option.{option_and_then}
+use Rattle.lemmas.proofs.Options.{some_from}
+use Rattle.terms.specs.Types.{Applied}
+use Rattle.terms.specs.Lookups.{applied_of}
 
 -- an entry is found at its own id
 pub found_itself : (es : List Entry) → Rises (slice_cmp nat_cmp) (λ e. e.id) es → (e : Entry) → Contains es e
@@ -30,6 +35,18 @@ found_itself (v ∷ es) rising e h = elim (here_or v es e h) [
     Below : Entry → Entry → Type 0
     Below a b = IsTrue (is_lt (slice_cmp nat_cmp a.id b.id))
 
+-- what is applied has a date and a number
+pub is_applied_dated : (zone : Zone) (x : Id) → is_applied zone x ≡ is_some (applied_of zone x)
+is_applied_dated zone x = by (entry_of zone x)
+  where
+    by : (o : Option Entry)
+        → option_map_or (λ e. is_some e.applied) o false ≡ is_some (option_and_then (λ e. e.applied) o)
+    by None = refl
+    by (Some e) = refl
+
+pub applied_dated : (zone : Zone) (x : Id) → is_applied zone x ≡ true → (a : Applied) × (applied_of zone x ≡ Some a)
+applied_dated zone x on = some_from (applied_of zone x) (sym (is_applied_dated zone x) ∙ on)
+
 -- the applied ids are those that are applied
 abbrev pub AppliedAre : Zone → Type 0
 AppliedAre zone = (y : Id) → Contains (applied_ids zone) y ↔ IsTrue (is_applied zone y)
@@ -37,8 +54,20 @@ AppliedAre zone = (y : Id) → Contains (applied_ids zone) y ↔ IsTrue (is_appl
 abbrev on : Option Entry → Bool
 on o = option_map_or (λ e. is_some e.applied) o false
 
+-- what is applied is one of the applied ids
+pub in_applied_ids : (zone : Zone) (y : Id) → IsTrue (is_applied zone y) → Contains (applied_ids zone) y
+in_applied_ids zone y applied = by (entry_of zone y) refl
+  where
+    by : (o : Option Entry) → entry_of zone y ≡ o → Contains (applied_ids zone) y
+    by None e = absurd (true≢false (sym applied ∙ ap on e))
+    by (Some f) e =
+        let gives = find_gives (λ v. bytes_eq v.id y) zone.entries f e in
+        subst (Contains (applied_ids zone)) (same_from f.id y gives.0)
+        (in_map (λ v. v.id) (filter (λ v. is_some v.applied) zone.entries) f
+        (in_filter (λ v. is_some v.applied) zone.entries f gives.1 (sym (ap on e) ∙ applied)))
+
 pub applied_are : (zone : Zone) → IsZone zone → AppliedAre zone
-applied_are zone form y = (there, among)
+applied_are zone form y = (there, in_applied_ids zone y)
   where
     there : Contains (applied_ids zone) y → IsTrue (is_applied zone y)
     there h =
@@ -46,14 +75,3 @@ applied_are zone form y = (there, among)
         let kept = filter_in (λ e. is_some e.applied) zone.entries from.0 from.1 in
         subst (λ w. IsTrue (is_applied zone w)) from.2
         (ap on (found_itself zone.entries form.entries from.0 kept.0) ∙ kept.1)
-
-    among : IsTrue (is_applied zone y) → Contains (applied_ids zone) y
-    among applied = by (entry_of zone y) refl
-      where
-        by : (o : Option Entry) → entry_of zone y ≡ o → Contains (applied_ids zone) y
-        by None e = absurd (true≢false (sym applied ∙ ap on e))
-        by (Some f) e =
-            let gives = find_gives (λ v. bytes_eq v.id y) zone.entries f e in
-            subst (Contains (applied_ids zone)) (same_from f.id y gives.0)
-            (in_map (λ v. v.id) (filter (λ v. is_some v.applied) zone.entries) f
-            (in_filter (λ v. is_some v.applied) zone.entries f gives.1 (sym (ap on e) ∙ applied)))

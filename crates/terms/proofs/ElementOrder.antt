@@ -15,6 +15,9 @@ use Rattle.terms.specs.Types.{Text, type_number, Change}
 use Rattle.terms.specs.Global.{change_cmp}
 use Rattle.terms.specs.Lookups.{element_cmp}
 use Rattle.terms.specs.Lookups.{element_eq}
+use Rattle.std.proofs.Common.{true}
+use Rattle.std.proofs.lemmas.Bool.{and_parts, eqb-true}
+use Rattle.lemmas.proofs.Texts.{same_from}
 
 -- what `cmp` of two types answers
 pub cmp_types : (a b : ElemType) → type_order.ghosts.cmp a b ≡ nat_cmp (type_number a) (type_number b)
@@ -74,3 +77,10 @@ type_at_number Proc = refl
 
 pub type_from_number : (a b : ElemType) → type_number a ≡ type_number b → a ≡ b
 type_from_number a b e = same_Some a b (sym (type_at_number a) ∙ ap type_at e ∙ type_at_number b)
+
+-- keys that are taken for the same are one
+pub same_key : (a b : ElemType × Text) → element_eq a b ≡ true → a ≡ b
+same_key a b e =
+    let both = and_parts (type_number a.0 == type_number b.0) (bytes_eq a.1 b.1) e in
+    ap (λ (t : ElemType). (t, a.1)) (type_from_number a.0 b.0 (eqb-true _ _ both.0))
+    ∙ ap (λ (n : Text). (b.0, n)) (same_from a.1 b.1 both.1)

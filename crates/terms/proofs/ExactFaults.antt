@@ -90,42 +90,26 @@ data Judged (current : Option Begun) (later records : Lines) : McCode → Type 0
   OfWord : IsUnknown records → Judged current later records Mc2
   Behind : (code : McCode) → KnownFault current later records code → Judged current later records code
 
+behind : (current : Option Begun) (later records : Lines) (code : McCode)
+    → (w : StatementWord) × (own : Option Text) × (rest : List Piece) × (inline : Lines)
+    × IsKnown records w own rest inline × IsFault current later w own rest inline code → Judged current later records code
+behind current later records code f = Behind code (record {
+  w = f.0;
+  own = f.1;
+  rest = f.2;
+  inline = f.3;
+  known = f.4;
+  fault = f.5;
+})
+
 judged : (current : Option Begun) (later records : Lines) (code : McCode) → IsStatementFault current later records code
     → Judged current later records code
 judged current later records Mc1 f = OfForm f
 judged current later records Mc2 f = OfWord f
-judged current later records Mc3 f = Behind Mc3 (record {
-  w = f.0;
-  own = f.1;
-  rest = f.2;
-  inline = f.3;
-  known = f.4;
-  fault = f.5;
-})
-judged current later records Mc4 f = Behind Mc4 (record {
-  w = f.0;
-  own = f.1;
-  rest = f.2;
-  inline = f.3;
-  known = f.4;
-  fault = f.5;
-})
-judged current later records Mc5 f = Behind Mc5 (record {
-  w = f.0;
-  own = f.1;
-  rest = f.2;
-  inline = f.3;
-  known = f.4;
-  fault = f.5;
-})
-judged current later records Mc6 f = Behind Mc6 (record {
-  w = f.0;
-  own = f.1;
-  rest = f.2;
-  inline = f.3;
-  known = f.4;
-  fault = f.5;
-})
+judged current later records Mc3 f = behind current later records Mc3 f
+judged current later records Mc4 f = behind current later records Mc4 f
+judged current later records Mc5 f = behind current later records Mc5 f
+judged current later records Mc6 f = behind current later records Mc6 f
 
 judged_codes : (current : Option Begun) (later records : Lines) (a b : McCode) → Judged current later records a
     → Judged current later records b → a ≡ b
@@ -152,7 +136,8 @@ pub statement_fault_only : (current : Option Begun) (later records : Lines) (a b
 statement_fault_only current later records a b f g = judged_codes current later records a b
     (judged current later records a f) (judged current later records b g)
 
-faults_same : (f g : McsFault) → f.number ≡ g.number → f.code ≡ g.code → f ≡ g
+-- faults of one number and code are one
+pub faults_same : (f g : McsFault) → f.number ≡ g.number → f.code ≡ g.code → f ≡ g
 faults_same f g n c = ap₂ (λ a b. record { number = a; code = b }) n c
 
 -- what follows at a place is what follows at the same place

@@ -1,64 +1,15 @@
 -- The values of operands are determined.
-use Rattle.std.proofs.Common.{◌≡◌, Bool, true, IsTrue, List, [], ◌∷◌, Option, Some, None, refl, sym, ◌∙◌, ap, subst}
-use Rattle.std.proofs.Common.{inl, inr}
-use Rattle.std.specs.Prelude.{Contains, IsSomeAnd}
-use Rattle.std.specs.Ordering.{nat_cmp}
-use Rattle.std.specs.declared.cmp.Ordering.TheVariants.{Less, Greater}
+use Rattle.std.proofs.Common.{◌≡◌, Bool, List, [], ◌∷◌, Option, Some, None, sym, ◌∙◌, ap, subst}
+use Rattle.std.specs.Prelude.{IsSomeAnd}
 use Rattle.std.proofs.lemmas.Cmp.{nat_list_cmp_total}
-use Rattle.std.specs.Ordering.{ordering_reverse}
-use Rattle.std.specs.Cmp.Lexicographic.{slice_cmp}
 use Rattle.terms.specs.Types.{Text}
-use Rattle.terms.specs.Lookups.{is_before, IsRising}
 use Rattle.terms.specs.Words.{Word, HasMembers, IsListOf, IsOneOf, plain}
 use Rattle.terms.specs.Operands.{AreSorted, HasOne, HasListed, HasSorted, HasRequired, HasOptional, HasTexts, HasFlag}
-use Rattle.lemmas.proofs.Members.{here, here_or, there, none_in}
+use Rattle.terms.proofs.RisingAlike.{rises_only}
 use Rattle.terms.proofs.ExactWords.{members_only, list_only}
-use Rattle.lemmas.proofs.Pairs.{AllPairs_first, AllPairs_rest}
-use Rattle.lemmas.proofs.Orderings.{Less_from_is_lt}
-
-not_both : (a b : Text) → is_before a b ≡ true → is_before b a ≡ true → ⊥
-not_both a b low high =
-    let one : slice_cmp nat_cmp a b ≡ Less = Less_from_is_lt (slice_cmp nat_cmp a b) low in
-    let two : slice_cmp nat_cmp b a ≡ Less = Less_from_is_lt (slice_cmp nat_cmp b a) high in
-    let back : Less ≡ Greater = sym one ∙ nat_list_cmp_total.antisymm a b ∙ ap ordering_reverse two in
-    cc (back)
-
--- what comes behind the first
-behind_first : (a : Text) (as' : List Text) (z : Text) → IsRising (a ∷ as') → Contains as' z → is_before a z ≡ true
-behind_first a as' z rises h = subst (λ t. is_before a t ≡ true) h.2
-    (AllPairs_first (λ x y. IsTrue (is_before x y)) a as' rises h.0 z h.1)
-
--- Lists that rise and have the same texts are one.
-pub rising_only : (as' bs : List Text) → IsRising as' → IsRising bs → ((x : Text) → Contains as' x → Contains bs x)
-    → ((x : Text) → Contains bs x → Contains as' x) → as' ≡ bs
-rising_only [] [] rises rises' up down = refl
-rising_only [] (b ∷ bs) rises rises' up down = absurd (none_in b (down b (here b bs)))
-rising_only (a ∷ as') [] rises rises' up down = absurd (none_in a (up a (here a as')))
-rising_only (a ∷ as') (b ∷ bs) rises rises' up down =
-    let same : a ≡ b = elim (here_or b bs a (up a (here a as'))) [
-      | inl is ↦ sym is
-      | inr later ↦ elim (here_or a as' b (down b (here b bs))) [
-        | inl is ↦ is
-        | inr later' ↦ absurd (not_both b a (behind_first b bs a rises' later) (behind_first a as' b rises later'))
-      ]
-    ] in
-    let more = rising_only as' bs (AllPairs_rest (λ x y. IsTrue (is_before x y)) a as' rises)
-    (AllPairs_rest (λ x y. IsTrue (is_before x y)) b bs rises')
-    (λ z h. rest a b as' bs z same rises (up z (there a as' z h)) h)
-    (λ z h. rest b a bs as' z (sym same) rises' (down z (there b bs z h)) h) in
-    cc (same, more)
-  where
-    rest : (a b : Text) (as' bs : List Text) (z : Text) → a ≡ b → IsRising (a ∷ as') → Contains (b ∷ bs) z
-        → Contains as' z → Contains bs z
-    rest a b as' bs z same rises h later =
-        elim (here_or b bs z h) [
-          | inl is ↦ let low : is_before a a ≡ true = subst (λ t. is_before a t ≡ true) (sym (same ∙ is))
-              (behind_first a as' z rises later) in absurd (not_both a a low low)
-          | inr more ↦ more
-        ]
 
 pub sorted_only : (texts a b : List Text) → AreSorted texts a → AreSorted texts b → a ≡ b
-sorted_only texts a b s t = rising_only a b s.rising t.rising (λ x h. (t.same x).1 ((s.same x).0 h))
+sorted_only texts a b s t = rises_only nat_list_cmp_total (λ x. x) a b s.rising t.rising (λ x h. (t.same x).1 ((s.same x).0 h))
     (λ x h. (s.same x).1 ((t.same x).0 h))
 
 listed_only : (form : Text → Type 0) (list : Option Text) (a b : List Text)

@@ -9,7 +9,7 @@ use Rattle.terms.specs.declared.kinds.ZoneKind.TheVariants.{Target}
 use Rattle.terms.specs.declared.codes.NeedKind.TheVariants.{Fmid, Pre, Req, Ifreq, HoldError, Orphan}
 use Rattle.terms.specs.declared.not_chosen.NotChosen.TheVariants.{Already, Deleted, Missing}
 use Rattle.lemmas.proofs.Members.{here_or, none_in}
-use Rattle.terms.specs.Types.{Text, Id, Ver, Change, Replaces, Sysmod, Global, Entry, Zone, NoReason, AnyReason, Bypass}
+use Rattle.terms.specs.Types.{Text, Id, Ver, Change, Replaces, Sysmod, Global, Entry, Zone, AnyReason}
 use Rattle.terms.specs.Types.{Selection, an_applied}
 use Rattle.terms.specs.Lookups.{is_applied}
 use Rattle.terms.specs.Choice.{place, counting, del_of}
@@ -20,6 +20,7 @@ use Rattle.terms.specs.Tests.{Setting, Clash, FailsJ2, FailsJ13, standing_holds}
 use Rattle.terms.specs.Needs.{asked, orphans, binding_ids, Needs, Serves}
 use Rattle.terms.specs.Judged.{setting}
 use Rattle.terms.specs.Install.{Installation, TakesEffect, delby_after}
+use Rattle.terms.specs.CommandForms.{no_bypass}
 
 abbrev srel : Text
 srel = 9 ∷ []
@@ -82,19 +83,6 @@ full = record {
     syslib = [];
     text = [];
   } ∷ [];
-}
-
-abbrev no_bypass : Bypass
-no_bypass = record {
-  pre = false;
-  req = false;
-  ifreq = false;
-  same_id = false;
-  applycheck = false;
-  holderror = NoReason;
-  holdsystem = NoReason;
-  holduser = NoReason;
-  holdclass = [];
 }
 
 abbrev select : List Id → Selection

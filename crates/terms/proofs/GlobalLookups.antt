@@ -16,6 +16,15 @@ use Rattle.lemmas.proofs.Searches.{find_filter_all, find_filter_none, find_map}
 use Rattle.terms.specs.Types.{Text, Id, Sysmod, Global}
 use Rattle.terms.specs.Lookups.{sysmod_of}
 use Rattle.terms.specs.Global.{with_sysmod, without_sysmod, assign, with_source}
+use Rattle.std.proofs.Common.{Option, IsTrue, Contains, map, subst}
+use Rattle.std.specs.Option.{option_map_or}
+use Rattle.std.proofs.lemmas.Bool.{and_parts}
+use Rattle.lemmas.proofs.Members.{in_map}
+use Rattle.lemmas.proofs.Searches.{find_gives}
+use Rattle.terms.specs.Types.{Zone}
+use Rattle.terms.specs.Lookups.{is_nil}
+use Rattle.terms.specs.Choice.{vers_of}
+use Rattle.terms.specs.Candidates.{is_installable}
 
 cmp_itself : (x : Id) → slice_cmp nat_cmp x x ≡ Equal
 cmp_itself x = tied_itself nat_list_cmp_total x
@@ -115,3 +124,20 @@ pub sysmod_of_assign : (g : Global) (source : Text) (x y : Id)
 sysmod_of_assign g source x y =
     find_map (λ s. bytes_eq s.id y) (assigned source x) (assigned_same (λ s. bytes_eq s.id y) source x (λ s. refl))
     g.sysmods
+
+-- what has a ++VER is received, and so what is installable
+pub ver_received : (g : Global) (srel : Text) (x : Id) → IsTrue (not (is_nil (vers_of g srel x)))
+    → Contains (map (λ s. s.id) g.sysmods) x
+ver_received g srel x some = by (sysmod_of g x) refl
+  where
+    by : (s : Option Sysmod) → sysmod_of g x ≡ s → Contains (map (λ s. s.id) g.sysmods) x
+    by None at = absurd (true≢false (sym some ∙ ap (λ s.
+        not (is_nil (option_map_or (λ s. filter (λ v. bytes_eq v.srel srel) s.vers) s []))) at))
+    by (Some s) at =
+        let found = find_gives (λ s. bytes_eq s.id x) g.sysmods s at in
+        subst (Contains (map (λ s. s.id) g.sysmods)) (same_from s.id x found.0)
+        (in_map (λ s. s.id) g.sysmods s found.1)
+
+pub installable_received : (g : Global) (zone : Zone) (x : Id) → IsTrue (is_installable g zone x)
+    → Contains (map (λ s. s.id) g.sysmods) x
+installable_received g zone x ok = ver_received g zone.srel x (and_parts _ _ (and_parts _ _ ok).0).0

@@ -1,12 +1,13 @@
 -- Places of ids that rise.
 use Rattle.std.proofs.Common.{◌≡◌, ◌≢◌, inl, inr, ℕ, ◌<◌, true, false, IsTrue, List, length, Some, sym, ap, ◌∙◌, subst}
 use Rattle.std.proofs.Common.{true≢false, slice_get}
-use Rattle.std.specs.Ordering.{is_lt, nat_cmp}
+use Rattle.std.specs.Ordering.{is_lt, nat_cmp, ordering_reverse}
 use Rattle.std.specs.Cmp.Lexicographic.{slice_cmp}
 use Rattle.std.proofs.lemmas.Bool.{cases_order}
 use Rattle.std.proofs.lemmas.Cmp.{nat_list_cmp_total, tied_itself}
 use Rattle.std.proofs.lemmas.Map.Lookups.{exact_bytes}
 use Rattle.std.proofs.lemmas.Option.{slice_get_within, slice_get-get_or, get_or_from_slice_get}
+use Rattle.lemmas.proofs.Orderings.{Less_from_is_lt}
 use Rattle.terms.specs.Rising.{StandsAt}
 use Rattle.terms.specs.Types.{Id}
 use Rattle.terms.specs.Lookups.{IsRising, is_before}
@@ -17,6 +18,11 @@ before_apart x y below same = true≢false (sym (subst (λ z. is_before x z ≡ 
   where
     not_below : (x : Id) → is_before x x ≡ false
     not_below x = ap is_lt (tied_itself nat_list_cmp_total x)
+
+-- and one stands before the other, not both
+pub before_once : (x y : Id) → IsTrue (is_before x y) → is_before y x ≡ false
+before_once x y below = ap is_lt (nat_list_cmp_total.antisymm y x
+    ∙ ap ordering_reverse (Less_from_is_lt (slice_cmp nat_cmp x y) below))
 
 -- ids at two places are two
 places_apart : (ids : List Id) → IsRising ids → (n m : ℕ) (x y : Id) → slice_get ids n ≡ Some x

@@ -40,6 +40,8 @@ pub mod ExactFiles
 pub mod ExactWords
 pub mod ExactCommands
 pub mod Permuted
+pub mod RisingAlike
+pub mod Reasons
 pub mod ExactHolds
 pub mod ExactStatements
 pub mod ExactPtfin

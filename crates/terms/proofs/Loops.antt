@@ -13,6 +13,10 @@ use Rattle.terms.specs.Global.{named, names_for, HasLoop, with_sysmod}
 use Rattle.terms.proofs.Leads.{loop_through, last_step}
 use Rattle.lemmas.proofs.Texts.{same_or_not, same_from, same_itself}
 use Rattle.terms.proofs.GlobalLookups.{sysmod_of_with_sysmod}
+use Rattle.std.proofs.Common.{◌++◌}
+use Rattle.terms.specs.Lookups.{at_most_one}
+use Rattle.terms.specs.Choice.{Choice, pre_of, sup_of, fmid_of}
+use Rattle.terms.specs.Over.{names}
 
 -- all ++VERs of a received SYSMOD
 abbrev pub all_vers : Global → Id → List Ver
@@ -119,3 +123,9 @@ module _ (g : Global) (s : Sysmod) where
           × Contains (names_for (with_sysmod g s) srel y) s.id) → ⊥
       by (inl direct) = unnamed s.id direct
       by (inr (y, to, last)) = unnamed y last
+
+-- what one supersedes it names
+pub sup_named : (c : Choice) (x z : Id) → Contains (sup_of c x) z → Contains (names c x) z
+sup_named c x z is =
+    Contains-append_left (pre_of c x ++ sup_of c x) (at_most_one (fmid_of c x)) z
+    (Contains-append_right (pre_of c x) (sup_of c x) z is)

@@ -27,7 +27,7 @@ module _ {X K : Type 0} {R : K → K → Ordering} (o : IsTotalOrder R) (key : X
       (AllPairs_first (λ a b. IsTrue (is_lt (R (key a) (key b)))) x xs rises there.0 y there.1)
 
   -- so behind the first one nothing has its key
-  none_behind : (x : X) (xs : List X) (k : K) → Rises R key (x ∷ xs) → E (key x) k ≡ true
+  pub none_behind : (x : X) (xs : List X) (k : K) → Rises R key (x ∷ xs) → E (key x) k ≡ true
       → find (λ y. E (key y) k) xs ≡ None
   none_behind x xs k rises tie = by_found (find (λ y. E (key y) k) xs) refl
     where

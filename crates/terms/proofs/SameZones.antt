@@ -34,7 +34,8 @@ same_zone a b za zb k s r entries elements =
     (rising_same element_cmp_total element_key element_eq element_ties a.elements b.elements za.elements zb.elements
     (λ key. elements key.0 key.1))
 
-an_entry : Id → Option Applied → List Id → Option Id → List Id → Entry
+-- an entry of these fields
+abbrev pub an_entry : Id → Option Applied → List Id → Option Id → List Id → Entry
 an_entry id applied supby delby waived = record {
   id = id;
   applied = applied;
@@ -45,7 +46,6 @@ an_entry id applied supby delby waived = record {
 
 entry_fields : (e f : Entry) → e.id ≡ f.id → e.applied ≡ f.applied → e.supby ≡ f.supby → e.delby ≡ f.delby
     → e.waived ≡ f.waived → e ≡ f
-unfolding an_entry
 entry_fields e f i a s d w =
     ap (λ v. an_entry v e.applied e.supby e.delby e.waived) i ∙ ap (λ v. an_entry f.id v e.supby e.delby e.waived) a
     ∙ ap (λ v. an_entry f.id f.applied v e.delby e.waived) s ∙ ap (λ v. an_entry f.id f.applied f.supby v e.waived) d

@@ -78,6 +78,10 @@ waives_applied e = is_some e.applied || is_nil e.waived
 abbrev pub element_key : Element → ElemType × Text
 element_key e = (e.elem_type, e.name)
 
+-- those of the element that a statement is about
+abbrev pub change_key : Change → ElemType × Text
+change_key h = (h.elem_type, h.name)
+
 -- the order of elements: by type and then by name
 abbrev pub element_cmp : ElemType × Text → ElemType × Text → Ordering
 element_cmp a b = ordering_then (nat_cmp (type_number a.0) (type_number b.0)) (slice_cmp nat_cmp a.1 b.1)

@@ -16,14 +16,14 @@ use Rattle.terms.specs.declared.text_faults.TextCode.TheVariants.{Tx5, Tx6}
 use Rattle.terms.specs.declared.text_faults.TextFault.{TextFault}
 use Rattle.terms.specs.Types.{Text, Lines}
 use Rattle.terms.specs.Texts.{IsNumbered, IsNumberedLine, number_of, is_control, IsDelete, IsSomeDelete, given, Deletes}
-use Rattle.terms.specs.Texts.{FollowChange, IsUpdate, BreaksOrder, HasRestFault, IsFirstFault}
+use Rattle.terms.specs.Texts.{FollowChange, IsUpdate, HasRestFault, IsFirstFault}
 use Rattle.terms.proofs.Controls.{begins_control, same_delete}
 use Rattle.terms.proofs.Updates.{given_control, given_other, deletes_change}
 use Rattle.lemmas.proofs.Each.{any_later, Any_append_left, Any_push_cases}
 use Rattle.text80.specs.declared.control.Range.{Range}
 use Rattle.text80.specs.Rising.{IsNumberFault}
 use Rattle.text80.specs.Ranges.{covers, AreRangesOf}
-use Rattle.text80.specs.Updates.{StandsBefore, AreParts, IsSound}
+use Rattle.text80.specs.Updates.{StandsBefore, AreGood, IsSound}
 use Rattle.text80.proofs.Reading.{IsRead, read_more, split_at_place, breaks}
 
 abbrev Hits : ℕ → List ℕ → Type 0
@@ -32,11 +32,10 @@ Hits n line = (low high : ℕ) × IsDelete low high line × (low ≤ n) × (n �
 abbrev holds_number : ℕ → Range → Bool
 holds_number n r = nat_le r.low n && nat_le n r.high
 
--- These records give these ones and delete these ranges, and the next number has to be `least` or higher.
-pub record IsSplit (seen givens : Lines) (ranges : List Range) (least : ℕ) : Type 0 where
+-- These records delete these ranges, and the next number has to be `least` or higher.
+pub record IsSplit (seen : Lines) (ranges : List Range) (least : ℕ) : Type 0 where
   pub controls : All (λ line. IsTrue (is_control line) → IsSomeDelete line) seen
-  pub given_is : givens ≡ given seen
-  pub read : IsRead givens least
+  pub read : IsRead (given seen) least
   pub ranges_are : AreRangesOf seen ranges
 
 ranges_push : (seen : Lines) (line : List ℕ) (ranges : List Range) (r : Range) → IsDelete r.low r.high line
@@ -65,14 +64,16 @@ ranges_push seen line ranges r d h n =
       ],
     )
 
-pub split_control : (seen givens : Lines) (ranges : List Range) (least : ℕ) (line : List ℕ) (r : Range)
-    → IsSplit seen givens ranges least → is_control line ≡ true → IsDelete r.low r.high line
-    → IsSplit (seen ++ line ∷ []) givens (ranges ++ r ∷ []) least
-split_control seen givens ranges least line r h yes' d = record {
+given_push : (seen : Lines) (line : List ℕ) → given (seen ++ line ∷ []) ≡ given seen ++ given (line ∷ [])
+given_push seen line = filter-append (λ l. not (is_control l)) seen (line ∷ [])
+
+pub split_control : (seen : Lines) (ranges : List Range) (least : ℕ) (line : List ℕ) (r : Range)
+    → IsSplit seen ranges least → is_control line ≡ true → IsDelete r.low r.high line
+    → IsSplit (seen ++ line ∷ []) (ranges ++ r ∷ []) least
+split_control seen ranges least line r h yes' d = record {
   controls = All-push (λ l. IsTrue (is_control l) → IsSomeDelete l) seen line h.controls (λ _. (r.low, r.high, d));
-  given_is = h.given_is ∙ sym (filter-append (λ l. not (is_control l)) seen (line ∷ [])
-      ∙ ap (λ l. given seen ++ l) (given_control line [] yes') ∙ append-nil (given seen));
-  read = h.read;
+  read = subst (λ g. IsRead g least) (sym (given_push seen line ∙ ap (λ l. given seen ++ l) (given_control line [] yes')
+      ∙ append-nil (given seen))) h.read;
   ranges_are = ranges_push seen line ranges r d h.ranges_are;
 }
 
@@ -86,116 +87,111 @@ ranges_other seen line ranges no' h n = (
   ],
 )
 
-pub split_given : (seen givens : Lines) (ranges : List Range) (least n : ℕ) (line : List ℕ)
-    → IsSplit seen givens ranges least → is_control line ≡ false → IsNumberedLine line → n ≡ number_of line → least ≤ n
-    → IsSplit (seen ++ line ∷ []) (givens ++ line ∷ []) ranges (n + 1)
-split_given seen givens ranges least n line h no' numbered is from = record {
+pub split_given : (seen : Lines) (ranges : List Range) (least n : ℕ) (line : List ℕ)
+    → IsSplit seen ranges least → is_control line ≡ false → IsNumberedLine line → n ≡ number_of line → least ≤ n
+    → IsSplit (seen ++ line ∷ []) ranges (n + 1)
+split_given seen ranges least n line h no' numbered is from = record {
   controls = All-push (λ l. IsTrue (is_control l) → IsSomeDelete l) seen line h.controls
       (λ e. absurd (both_ways (is_control line) no' e));
-  given_is = ap (λ l. l ++ line ∷ []) h.given_is ∙ sym (filter-append (λ l. not (is_control l)) seen (line ∷ [])
-      ∙ ap (λ l. given seen ++ l) (given_other line [] no'));
-  read = subst (λ m. IsRead (givens ++ line ∷ []) (m + 1)) (sym is)
-      (read_more givens least line h.read numbered (subst (λ m. least ≤ m) is from));
+  read = subst (λ g. IsRead g (n + 1))
+      (sym (given_push seen line ∙ ap (λ l. given seen ++ l) (given_other line [] no')))
+      (subst (λ m. IsRead (given seen ++ line ∷ []) (m + 1)) (sym is)
+      (read_more (given seen) least line h.read numbered (subst (λ m. least ≤ m) is from)));
   ranges_are = ranges_other seen line ranges no' h.ranges_are;
 }
 
 -- one more record of a list, at its place
 
-pub split_control_at : (lines givens : Lines) (ranges new : List Range) (least i : ℕ) (line : List ℕ) (r : Range)
-    → i < length lines → line ≡ get_or lines i line → IsSplit (take i lines) givens ranges least
+pub split_control_at : (lines : Lines) (ranges new : List Range) (least i : ℕ) (line : List ℕ) (r : Range)
+    → i < length lines → line ≡ get_or lines i line → IsSplit (take i lines) ranges least
     → is_control line ≡ true → IsDelete r.low r.high line → new ≡ ranges ++ r ∷ []
-    → IsSplit (take (i + 1) lines) givens new least
-split_control_at lines givens ranges new least i line r below at h yes' d e =
-    rw (take_more lines i line below, ← at, e) (split_control (take i lines) givens ranges least line r h yes' d)
+    → IsSplit (take (i + 1) lines) new least
+split_control_at lines ranges new least i line r below at h yes' d e =
+    rw (take_more lines i line below, ← at, e) (split_control (take i lines) ranges least line r h yes' d)
 
-pub split_given_at : (lines givens new : Lines) (ranges : List Range) (least i n : ℕ) (line : List ℕ) → i < length lines
-    → line ≡ get_or lines i line → IsSplit (take i lines) givens ranges least → is_control line ≡ false
-    → IsNumberedLine line → n ≡ number_of line → least ≤ n → new ≡ givens ++ line ∷ []
-    → IsSplit (take (i + 1) lines) new ranges (n + 1)
-split_given_at lines givens new ranges least i n line below at h no' numbered is from e =
-    rw (take_more lines i line below, ← at, e) (split_given (take i lines) givens ranges least n line h no' numbered is
-    from)
+pub split_given_at : (lines : Lines) (ranges : List Range) (least i n : ℕ) (line : List ℕ) → i < length lines
+    → line ≡ get_or lines i line → IsSplit (take i lines) ranges least → is_control line ≡ false
+    → IsNumberedLine line → n ≡ number_of line → least ≤ n → IsSplit (take (i + 1) lines) ranges (n + 1)
+split_given_at lines ranges least i n line below at h no' numbered is from =
+    rw (take_more lines i line below, ← at) (split_given (take i lines) ranges least n line h no' numbered is from)
 
-pub follow : (lines givens : Lines) (ranges : List Range) (least : ℕ) → IsSplit lines givens ranges least
-    → FollowChange lines
-follow lines givens ranges least h = record {
-  controls = h.controls;
-  numbered = subst IsNumbered h.given_is h.read.numbered;
-}
+pub follow : (lines : Lines) (ranges : List Range) (least : ℕ) → IsSplit lines ranges least → FollowChange lines
+follow lines ranges least h = record { controls = h.controls; numbered = h.read.numbered }
 
 -- all records are split, and the ranges sorted
-pub parts_from : (lines givens : Lines) (ranges sorted : List Range) (least i : ℕ)
-    → IsSplit (take i lines) givens ranges least → length lines ≤ i → IsPermutation ranges sorted
-    → IsNonDecreasingBy (λ r. r.low) sorted → AreParts lines givens sorted
-parts_from lines givens ranges sorted least i h all moved rising =
-    let whole = subst (λ l. IsSplit l givens ranges least) (take_all i lines all) h in
+pub good_from : (lines : Lines) (ranges sorted : List Range) (least i : ℕ) → IsSplit (take i lines) ranges least
+    → length lines ≤ i → IsPermutation ranges sorted → IsNonDecreasingBy (λ r. r.low) sorted → AreGood lines sorted
+good_from lines ranges sorted least i h all moved rising =
+    let whole = subst (λ l. IsSplit l ranges least) (take_all i lines all) h in
     record {
-      follow = follow lines givens ranges least whole;
-      given_is = whole.given_is;
+      follow = follow lines ranges least whole;
       rising = rising;
       ranges_are = λ n.
           let same = list_any-IsPermutation (holds_number n) ranges sorted moved in
           (λ e. (whole.ranges_are n).0 (same ∙ e), λ a. sym same ∙ (whole.ranges_are n).1 a);
     }
 
-rest_code : (seen givens : Lines) (ranges : List Range) (least : ℕ) (line : List ℕ) (code : TextCode)
-    → IsSplit seen givens ranges least → is_control line ≡ false → IsNumberFault line least Tx6 code
+rest_code : (seen : Lines) (ranges : List Range) (least : ℕ) (line : List ℕ) (code : TextCode)
+    → IsSplit seen ranges least → is_control line ≡ false → IsNumberFault line least Tx6 code
     → HasRestFault seen line code
-rest_code seen givens ranges least line code h no' f =
+rest_code seen ranges least line code h no' f =
     let other : IsTrue (is_control line) → ⊥ = λ e. both_ways (is_control line) no' e in
     elim f [
       | inl none ↦ subst (HasRestFault seen line) (sym none.0) (other, none.1)
       | inr low ↦ subst (HasRestFault seen line) (sym low.0)
-          (other, subst (λ g. BreaksOrder g line) h.given_is (breaks givens least line h.read low.1 low.2))
+          (other, breaks (given seen) least line h.read low.1 low.2)
     ]
 
-first_fault : (lines givens : Lines) (ranges : List Range) (least i : ℕ) (line : List ℕ) (fault : TextFault)
-    → i < length lines → line ≡ get_or lines i line → IsSplit (take i lines) givens ranges least → fault.number ≡ i + 2
+first_fault : (lines : Lines) (ranges : List Range) (least i : ℕ) (line : List ℕ) (fault : TextFault)
+    → i < length lines → line ≡ get_or lines i line → IsSplit (take i lines) ranges least → fault.number ≡ i + 2
     → HasRestFault (take i lines) line fault.code → IsFirstFault FollowChange HasRestFault 1 lines fault
-first_fault lines givens ranges least i line fault below at h number code = record {
+first_fault lines ranges least i line fault below at h number code = record {
   before = take i lines;
   line = line;
   after = drop (i + 1) lines;
   lines_are = split_at_place lines i line below at;
-  good = follow (take i lines) givens ranges least h;
+  good = follow (take i lines) ranges least h;
   number_is = let len = length-take-le i lines (omega arith) in omega (arith, number, len);
   code_is = code;
 }
 
 -- a `./` record that is no DELETE record
-pub control_fault : (lines givens : Lines) (ranges : List Range) (least i : ℕ) (line : List ℕ) (fault : TextFault)
-    → i < length lines → line ≡ get_or lines i line → IsSplit (take i lines) givens ranges least → fault.number ≡ i + 2
+pub control_fault : (lines : Lines) (ranges : List Range) (least i : ℕ) (line : List ℕ) (fault : TextFault)
+    → i < length lines → line ≡ get_or lines i line → IsSplit (take i lines) ranges least → fault.number ≡ i + 2
     → fault.code ≡ Tx5 → is_control line ≡ true → (IsSomeDelete line → ⊥)
     → IsFirstFault FollowChange HasRestFault 1 lines fault
-control_fault lines givens ranges least i line fault below at h number code yes' none =
-    first_fault lines givens ranges least i line fault below at h number
+control_fault lines ranges least i line fault below at h number code yes' none =
+    first_fault lines ranges least i line fault below at h number
     (subst (HasRestFault (take i lines) line) (sym code) (yes', none))
 
 -- a record without a number that rises
-pub number_fault : (lines givens : Lines) (ranges : List Range) (least i : ℕ) (line : List ℕ) (fault : TextFault)
-    → i < length lines → line ≡ get_or lines i line → IsSplit (take i lines) givens ranges least → fault.number ≡ i + 2
+pub number_fault : (lines : Lines) (ranges : List Range) (least i : ℕ) (line : List ℕ) (fault : TextFault)
+    → i < length lines → line ≡ get_or lines i line → IsSplit (take i lines) ranges least → fault.number ≡ i + 2
     → is_control line ≡ false → IsNumberFault line least Tx6 fault.code
     → IsFirstFault FollowChange HasRestFault 1 lines fault
-number_fault lines givens ranges least i line fault below at h number no' f =
-    first_fault lines givens ranges least i line fault below at h number
-    (rest_code (take i lines) givens ranges least line fault.code h no' f)
+number_fault lines ranges least i line fault below at h number no' f =
+    first_fault lines ranges least i line fault below at h number
+    (rest_code (take i lines) ranges least line fault.code h no' f)
 
 -- a CHANGE record before good records
 
-pub update_from : (name : Text) (records rest givens : Lines) (ranges : List Range) → StandsBefore name records rest
-    → AreParts rest givens ranges → IsUpdate name records
-update_from name records rest givens ranges s p = subst (IsUpdate name) (sym s.records_are) (s.change, p.follow)
+pub update_from : (name : Text) (records rest : Lines) (ranges : List Range) → StandsBefore name records rest
+    → AreGood rest ranges → IsUpdate name records
+update_from name records rest ranges s p = subst (IsUpdate name) (sym s.records_are) (s.change, p.follow)
 
-pub sound_from : (name : Text) (records rest givens : Lines) (ranges : List Range) → StandsBefore name records rest
-    → AreParts rest givens ranges → IsSound records givens ranges
-sound_from name records rest givens ranges s p = record {
+pub sound_from : (name : Text) (records rest : Lines) (ranges : List Range) → StandsBefore name records rest
+    → AreGood rest ranges → IsSound records ranges
+sound_from name records rest ranges s p = record {
   name = name;
-  update = update_from name records rest givens ranges s p;
-  given_is = p.given_is ∙ sym (given_control s.first rest (begins_control _ _ s.first s.change))
-      ∙ ap given (sym s.records_are);
+  update = update_from name records rest ranges s p;
   rising = p.rising;
   ranges_are = λ n. (
     λ e. subst (λ r. Deletes r n) (sym s.records_are) (any_later (Hits n) s.first rest ((p.ranges_are n).0 e)),
     λ a. (p.ranges_are n).1 (deletes_change name n s.first rest s.change (subst (λ r. Deletes r n) s.records_are a)),
   );
 }
+
+pub given_numbered : (name : Text) (records : Lines) → IsUpdate name records → IsNumbered (given records)
+given_numbered name [] h = absurd h
+given_numbered name (line ∷ lines) h =
+    subst IsNumbered (sym (given_control line lines (begins_control _ _ line h.0))) h.1.numbered

@@ -6,7 +6,7 @@ use Rattle.std.specs.Prelude.{nat_le, nat_lt, ◌&&◌, ◌||◌}
 use Rattle.std.specs.List.{All}
 use Rattle.std.specs.List.Sorted.{IsNonDecreasingBy}
 use Rattle.std.proofs.lemmas.Bool.{cases_lt, lt-ltb, le-ltb, le-leb, lt-leb, and_left}
-use Rattle.std.proofs.lemmas.List.{drop_more, drop_all, append_assoc}
+use Rattle.std.proofs.lemmas.List.{append-nil, drop_more, drop_all, append_assoc}
 use Rattle.std.proofs.lemmas.List.Elements.{All-tail, All-head}
 use Rattle.std.proofs.lemmas.List.Folds.{list_any_none}
 use Rattle.std.proofs.lemmas.List.Sorted.{IsNonDecreasingBy-drop}
@@ -157,13 +157,15 @@ rises_above : (from n : ℕ) (back : Lines) → Rises from back → IfSome (slic
 rises_above from n [] h not_below other = tt
 rises_above from n (g ∷ gs) h not_below other = (omega (arith, not_below, other), h.1)
 
--- the old record stays
-pub merging_kept : (all : List Range) (old givens os rest merged : Lines) (o : List ℕ) (left : List Range) (reach : ℕ)
+-- Nothing is given at the old record's number, and the merge goes on with `then` as the record stays or is deleted.
+merging_past : (all : List Range) (old givens os rest merged : Lines) (o : List ℕ) (left : List Range) (reach : ℕ)
     → IsMerging all old givens (o ∷ os) rest merged left reach →
-    (front back : Lines) (left' : List Range) (reach' : ℕ) → IsSplitBelow (number_of o) rest front back
-    → IfSome (slice_get back 0) (λ g. number_of g ≡ number_of o → ⊥) → IsSwept all (number_of o) left' reach' →
-    covers all (number_of o) ≡ false → IsMerging all old givens os back ((merged ++ front) ++ o ∷ []) left' reach'
-merging_kept all old givens os rest merged o left reach s front back left' reach' cut other swept keeps =
+    (front back then : Lines) (left' : List Range) (reach' : ℕ) → IsSplitBelow (number_of o) rest front back
+    → IfSome (slice_get back 0) (λ g. number_of g ≡ number_of o → ⊥) → IsSwept all (number_of o) left' reach'
+    → (Rises (number_of o + 1) back → (ms : Lines) → Merges (covers all) os back ms
+    → Merges (covers all) (o ∷ os) back (then ++ ms))
+    → IsMerging all old givens os back ((merged ++ front) ++ then) left' reach'
+merging_past all old givens os rest merged o left reach s front back then left' reach' cut other swept next =
     let above = rises_above s.from (number_of o) back (rises_behind s.from front back
     (subst (Rises s.from) cut.lines_are s.rest_rises)) cut.ends other in
     record {
@@ -174,11 +176,21 @@ merging_kept all old givens os rest merged o left reach s front back left' reach
       rest_numbered = all_behind front back (subst (All IsNumberedLine) cut.lines_are s.rest_numbered);
       swept = swept_later all (number_of o) (number_of o + 1) left' reach' (omega arith) swept;
       merges = λ ms m.
-          let one = pass_below o os front back (o ∷ ms) cut.below (stays above keeps m) in
-          let whole = s.merges (front ++ o ∷ ms) (subst (λ r. Merges (covers all) (o ∷ os) r (front ++ o ∷ ms))
+          let one = pass_below o os front back (then ++ ms) cut.below (next above ms m) in
+          let whole = s.merges (front ++ (then ++ ms)) (subst (λ r. Merges (covers all) (o ∷ os) r (front ++ (then ++ ms)))
           (sym cut.lines_are) one) in
           subst (Merges (covers all) old givens) (simp append_assoc) whole;
     }
+
+-- the old record stays
+pub merging_kept : (all : List Range) (old givens os rest merged : Lines) (o : List ℕ) (left : List Range) (reach : ℕ)
+    → IsMerging all old givens (o ∷ os) rest merged left reach →
+    (front back : Lines) (left' : List Range) (reach' : ℕ) → IsSplitBelow (number_of o) rest front back
+    → IfSome (slice_get back 0) (λ g. number_of g ≡ number_of o → ⊥) → IsSwept all (number_of o) left' reach' →
+    covers all (number_of o) ≡ false → IsMerging all old givens os back ((merged ++ front) ++ o ∷ []) left' reach'
+merging_kept all old givens os rest merged o left reach s front back left' reach' cut other swept keeps =
+    merging_past all old givens os rest merged o left reach s front back (o ∷ []) left' reach' cut other swept
+    (λ above ms m. stays above keeps m)
 
 -- the old record is deleted
 pub merging_gone : (all : List Range) (old givens os rest merged : Lines) (o : List ℕ) (left : List Range) (reach : ℕ)
@@ -187,21 +199,9 @@ pub merging_gone : (all : List Range) (old givens os rest merged : Lines) (o : L
     → IfSome (slice_get back 0) (λ g. number_of g ≡ number_of o → ⊥) → IsSwept all (number_of o) left' reach' →
     covers all (number_of o) ≡ true → IsMerging all old givens os back (merged ++ front) left' reach'
 merging_gone all old givens os rest merged o left reach s front back left' reach' cut other swept deletes =
-    let above = rises_above s.from (number_of o) back (rises_behind s.from front back
-    (subst (Rises s.from) cut.lines_are s.rest_rises)) cut.ends other in
-    record {
-      from = number_of o + 1;
-      old_rises = s.old_rises.1;
-      rest_rises = above;
-      old_numbered = All-tail IsNumberedLine o os s.old_numbered;
-      rest_numbered = all_behind front back (subst (All IsNumberedLine) cut.lines_are s.rest_numbered);
-      swept = swept_later all (number_of o) (number_of o + 1) left' reach' (omega arith) swept;
-      merges = λ ms m.
-          let one = pass_below o os front back ms cut.below (goes above deletes m) in
-          let whole = s.merges (front ++ ms) (subst (λ r. Merges (covers all) (o ∷ os) r (front ++ ms))
-          (sym cut.lines_are) one) in
-          subst (Merges (covers all) old givens) (simp append_assoc) whole;
-    }
+    subst (λ l. IsMerging all old givens os back l left' reach') (append-nil (merged ++ front))
+    (merging_past all old givens os rest merged o left reach s front back [] left' reach' cut other swept
+    (λ above ms m. goes above deletes m))
 
 -- the rest of the given records ends the merge
 pub merging_end : (all : List Range) (old givens rest merged : Lines) (left : List Range) (reach : ℕ)

@@ -1,7 +1,7 @@
 use Rattle.std.specs.Prelude.{◌≡◌, ℕ, List, ◌∷◌}
 use Rattle.std.specs.List.Sorted.{IsNonDecreasingBy}
 use Rattle.terms.specs.Types.{Text, Lines}
-use Rattle.terms.specs.Texts.{IsChange, given, FollowChange, IsUpdate, HasRestFault, IsFirstFault, IsUpdateFault}
+use Rattle.terms.specs.Texts.{IsChange, FollowChange, IsUpdate, HasRestFault, IsFirstFault, IsUpdateFault}
 use Rattle.text80.specs.declared.control.Range.{Range}
 use Rattle.text80.specs.declared.error.TextError.{TextError}
 use Rattle.text80.specs.declared.error.TextError.TheVariants.{Memory, Fault}
@@ -23,17 +23,15 @@ pub record StandsBefore (name : Text) (records rest : Lines) : Type 0 where
   pub records_are : records ≡ first ∷ rest
   pub change : IsChange name first
 
--- what good records behind a CHANGE record give and delete
-pub record AreParts (lines givens : Lines) (ranges : List Range) : Type 0 where
+-- good records behind a CHANGE record, and what they delete
+pub record AreGood (lines : Lines) (ranges : List Range) : Type 0 where
   pub follow : FollowChange lines
-  pub given_is : givens ≡ given lines
   pub rising : IsNonDecreasingBy (λ r. r.low) ranges
   pub ranges_are : AreRangesOf lines ranges
 
--- an update, what it gives and what it deletes
-pub record IsSound (records givens : Lines) (ranges : List Range) : Type 0 where
+-- an update, and what it deletes
+pub record IsSound (records : Lines) (ranges : List Range) : Type 0 where
   pub name : Text
   pub update : IsUpdate name records
-  pub given_is : givens ≡ given records
   pub rising : IsNonDecreasingBy (λ r. r.low) ranges
   pub ranges_are : AreRangesOf records ranges

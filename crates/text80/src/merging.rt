@@ -16,7 +16,8 @@ pub fn merge(alloc: Global, old: &Numbered, update: &Update) -> Result<Numbered,
     ensures { IfOk result (IsMerge old.now update.now) }
 {
     let mut merged = Vec::new(alloc);
-    let mut given = update.given().lines();
+    let all_given = update.given(alloc)?;
+    let mut given = all_given.lines();
     let mut ranges = update.ranges();
     let mut reach = 0;
     for line in old.lines() {

@@ -35,7 +35,7 @@ impl Numbered {
         }
     }
 
-    /// The records as a numbered text, or the first fault.
+    /// The records as a numbered text. The fault tells the first bad record, counted from 1: `Tx1` or `Tx2`.
     pub fn read(lines: Vec<Line>) -> Result<Numbered, TextFault>
         ensures text { IfOk result (λ text. text ≡ lines.items) }
         ensures fault { IfErr result (IsNumberedFault lines.items) }
@@ -51,6 +51,14 @@ impl Numbered {
             }
         }
         Ok(Numbered { lines })
+    }
+
+    /// The records of a numbered text. Nothing is looked at again.
+    pub fn known(lines: Vec<Line>) -> Numbered
+        requires { IsNumbered lines.items }
+        ensures { result ≡ lines.items }
+    {
+        Numbered { lines }
     }
 
     /// The records.

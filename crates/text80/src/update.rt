@@ -3,7 +3,7 @@ ghost use Rattle.std.specs.Prelude.{◌≡◌, ℕ, List, IfOk, IfErr};
 ghost use Rattle.std.specs.List.Sorted.{IsNonDecreasingBy};
 ghost use Rattle.terms.specs.Texts.{given as given_of, IsUpdate, IsUpdateFault};
 ghost use Rattle.text80.specs.Ranges.{AreRangesOf};
-ghost use Rattle.text80.specs.Updates.{AreParts, IsUpdateError, IsRestError, StandsBefore};
+ghost use Rattle.text80.specs.Updates.{AreGood, IsUpdateError, IsRestError, StandsBefore};
 
 use crate::control::{Range, changed, deleted};
 use crate::error::TextError;
@@ -13,11 +13,10 @@ use std::alloc::{AllocError, Global};
 use std::marker::Model;
 use terms::{TextCode, TextFault};
 
-/// An update of a numbered text, with all its records as they stand.
+/// An update of a numbered text: all its records as they stand, and what they delete.
 #[derive(Debug, Drop)]
 pub struct Update {
     records: Vec<Line>,
-    given: Numbered,
     ranges: Vec<Range>,
 }
 
@@ -29,22 +28,20 @@ impl Model for Update {
 
     ghost view = { λ u. u.records.items };
 
-    ghost invariant = { λ u. IsSound u.records.items u.given u.ranges.items };
+    ghost invariant = { λ u. IsSound u.records.items u.ranges.items };
 }
 
 impl Update {
-    /// The records as an update of the element of this name.
+    /// The records, CHANGE and all, as an update of the element of this name. `Fault` tells the first bad record,
+    /// counted from 1: `Tx3` or `Tx4` where it should be the CHANGE (`Tx3` also where there are no records), and behind
+    /// that `Tx1`, `Tx5` or `Tx6`.
     pub fn read(alloc: Global, records: Vec<Line>, name: &[u8]) -> Result<Update, TextError>
         ensures update { IfOk result (λ update. (update ≡ records.items) × IsUpdate name.now records.items) }
         ensures fault { IfErr result (IsUpdateError name.now records.items) }
     {
         let rest = behind_change(&records, name)?;
-        let Parts { given, ranges } = parts_of(alloc, rest)?;
-        Ok(Update {
-            records,
-            given,
-            ranges,
-        })
+        let ranges = ranges_of(alloc, rest)?;
+        Ok(Update { records, ranges })
     }
 
     /// All records, from CHANGE on.
@@ -55,11 +52,17 @@ impl Update {
         &self.records
     }
 
-    /// The records that the update gives.
-    pub fn given(&self) -> &Numbered
-        ensures { result.now ≡ given_of self.now }
+    /// A copy of the records that the update gives.
+    pub fn given(&self, alloc: Global) -> Result<Numbered, AllocError>
+        ensures { IfOk result (λ given. given ≡ given_of self.now) }
     {
-        &self.given
+        let mut given = Vec::new(alloc);
+        for line in self.records.iter() {
+            if !line.is_control() {
+                given.push(*line)?;
+            }
+        }
+        Ok(Numbered { lines: given })
     }
 
     /// The ranges that the update deletes, by their lower numbers. They may overlap.
@@ -76,21 +79,9 @@ impl Clone for Update {
 
     fn clone(&self) -> Result<Update, AllocError> {
         let records = self.records.clone()?;
-        let given = self.given.clone()?;
         let ranges = self.ranges.clone()?;
-        Ok(Update {
-            records,
-            given,
-            ranges,
-        })
+        Ok(Update { records, ranges })
     }
-}
-
-/// What the records behind a CHANGE record give and delete.
-#[derive(Drop)]
-struct Parts {
-    given: Numbered,
-    ranges: Vec<Range>,
 }
 
 /// The records behind a CHANGE record of this name.
@@ -117,12 +108,11 @@ fn behind_change<'a>(records: &'a [Line], name: &[u8]) -> Result<&'a [Line], Tex
     }
 }
 
-/// The records and ranges of the records behind the CHANGE record, which count from 2.
-fn parts_of(alloc: Global, lines: &[Line]) -> Result<Parts, TextError>
-    ensures parts { IfOk result (λ parts. AreParts lines.now parts.given parts.ranges.items) }
+/// The ranges that the records behind the CHANGE record delete. These records count from 2.
+fn ranges_of(alloc: Global, lines: &[Line]) -> Result<Vec<Range>, TextError>
+    ensures good { IfOk result (λ ranges. AreGood lines.now ranges.items) }
     ensures fault { IfErr result (IsRestError lines.now) }
 {
-    let mut given = Vec::new(alloc);
     let mut ranges = Vec::new(alloc);
     let mut least = 0;
     for (i, line) in lines.iter().enumerate() {
@@ -137,17 +127,11 @@ fn parts_of(alloc: Global, lines: &[Line]) -> Result<Parts, TextError>
             }
         } else {
             match rising_number(line, least, TextCode::Tx6) {
-                Ok(found) => {
-                    given.push(*line)?;
-                    least = found + 1;
-                }
+                Ok(found) => least = found + 1,
                 Err(code) => return Err(TextError::Fault(TextFault { number, code })),
             }
         }
     }
     ranges.sort_unstable_by_key(|range| range.low);
-    Ok(Parts {
-        given: Numbered { lines: given },
-        ranges,
-    })
+    Ok(ranges)
 }

@@ -15,7 +15,8 @@ use Rattle.zones_views.proofs.Entries.{entries_less_rise}
 use Rattle.undo.specs.Restoring.{IsRestoringOf, take_off, all_changed, ArePutBack}
 use Rattle.zones.specs.Differing.{ChangesEntry, EachChanges}
 use Rattle.undo.proofs.LessEdits.{all_taken_off, entry_left, elements_stay}
-use Rattle.undo.proofs.Reverted.{Key, reverted, unchanged}
+use Rattle.sorted.specs.ElementKeys.{Key}
+use Rattle.undo.proofs.Reverted.{reverted, unchanged}
 
 -- the entries' edits touch no element
 pub elements_none : (kept : List Id) (es : List Entry) (start between : ZoneDelta) → start.elements ≡ []

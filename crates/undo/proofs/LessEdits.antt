@@ -17,7 +17,7 @@ use Rattle.std.proofs.lemmas.List.Folds.{list_any_none}
 use Rattle.lemmas.proofs.Members.{here, there as later}
 use Rattle.lemmas.proofs.Options.{None_from_is_some}
 use Rattle.lemmas.proofs.Pairs.{pairs_map}
-use Rattle.lemmas.proofs.Searches.{All_from_no_list_any, All_find, filter_all, find_map, list_any_map}
+use Rattle.lemmas.proofs.Searches.{All_from_no_list_any, All_find, filter_all, find_map, is_some_find, list_any_map}
 use Rattle.lemmas.proofs.Texts.{same_from, same_itself}
 use Rattle.sorted.specs.declared.edits.Edit.{Edit}
 use Rattle.sorted.specs.declared.edits.Edit.TheVariants.{Put, Remove}
@@ -26,17 +26,12 @@ use Rattle.terms.specs.Types.{Id, Entry, Zone, Applied}
 use Rattle.terms.specs.Lookups.{IsZone, is_nil, has_content, is_before, waives_applied, entry_of}
 use Rattle.terms.specs.Rising.{with_item}
 use Rattle.terms.specs.Deleted.{entry_less, entries_less}
-use Rattle.terms.proofs.Nil.{is_some_find}
 use Rattle.zones.specs.Delta.{ZoneDelta}
-use Rattle.zones_views.proofs.Filtered.{passing, find_filter, any_filter}
+use Rattle.zones_views.proofs.Filtered.{passing, find_filter}
 use Rattle.sorted.specs.Turned.{Turns, TurnsAt, AreTurned}
 use Rattle.undo.specs.Restoring.{loses, less_edit, take_off}
 use Rattle.sorted.proofs.InTurn.{find_member}
 use Rattle.sorted.proofs.Turning.{turned_none, turned_next}
-
--- a search finds something just where the test is passed
-pub found_any : {X : Type 0} (p : X → Bool) (xs : List X) → is_some (find p xs) ≡ list_any p xs
-found_any p xs = is_some_find p xs ∙ sym (any_filter p xs)
 
 module _ (is_gone : Id → Bool) where
   abbrev stays : Id → Bool
@@ -213,7 +208,7 @@ module _ (is_gone : Id → Bool) where
         by true among = refl
         by false out =
             let none : entry_of zone x ≡ None = None_from_is_some (entry_of zone x)
-            (found_any (λ e. bytes_eq e.id x) zone.entries
+            (is_some_find (λ e. bytes_eq e.id x) zone.entries
             ∙ sym (list_any_map (λ j. bytes_eq j x) (λ (e : Entry). e.id) zone.entries) ∙ out) in
             none ∙ sym (wanted_is x ∙ ap (λ o. passing has_content (option_map (entry_less is_gone) o)) none)
 

@@ -1,4 +1,3 @@
-pub mod Gaining
 pub mod PairOrder
 pub mod Changed
 pub mod Needing

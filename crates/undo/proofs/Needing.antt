@@ -7,7 +7,8 @@ use Rattle.std.specs.Str.{bytes_eq}
 use Rattle.std.proofs.lemmas.Bool.{and_parts, not-true}
 use Rattle.std.proofs.lemmas.List.Elements.{Contains-append_left, Contains-append_right, Contains-append_cases}
 use Rattle.std.proofs.lemmas.List.Folds.{Any-from_list_any, list_any-from_Any}
-use Rattle.lemmas.proofs.Members.{here, here_or, there, none_in, in_map, map_in, in_flat, flat_in}
+use Rattle.lemmas.proofs.Members.{here, here_or, none_in, in_map, map_in, in_flat, flat_in}
+use Rattle.lemmas.proofs.Searches.{all_pass, passes_all}
 use Rattle.terms.specs.Types.{Id}
 use Rattle.terms.specs.Lookups.{IsZone, at_most_one, is_in, is_applied, applied_ids, supby_of, supplies}
 use Rattle.terms.specs.Choice.{fmid_of}
@@ -20,22 +21,6 @@ use Rattle.undo.specs.Dependences.{by_requisite, dependences_of}
 
 abbrev Pair : Type 0
 Pair = Id × Id
-
--- ---- lists of which all meet a test
-
-pub all_in : {X : Type 0} (p : X → Bool) (xs : List X) → list_all p xs ≡ true → (x : X) → Contains xs x → p x ≡ true
-all_in p [] all x h = absurd (none_in x h)
-all_in p (z ∷ xs) all x h =
-    let parts = and_parts (p z) (list_all p xs) all in
-    elim (here_or z xs x h) [
-      | inl same ↦ subst (λ v. p v ≡ true) same parts.0
-      | inr later ↦ all_in p xs parts.1 x later
-    ]
-
-pub in_all : {X : Type 0} (p : X → Bool) (xs : List X) → ((x : X) → Contains xs x → p x ≡ true) → list_all p xs ≡ true
-in_all p [] each = refl
-in_all p (z ∷ xs) each =
-    rw (each z (here z xs)) (in_all p xs (λ x h. each x (there z xs x h)))
 
 -- ---- who depends on whom
 
@@ -56,11 +41,11 @@ module _ (r : Restoring) (is_zone : IsZone r.zone) (listed : Id → Bool) where
       none all on =
           let a = Any-from_list_any (λ p. not (listed p) && supplies r.zone p z) (applied_ids r.zone) on in
           let parts = and_parts (not (listed a.1)) (supplies r.zone a.1 z) a.4 in
-          true≢false (sym (all_in listed (suppliers r.zone z) all a.1 ((supplier_is r.zone a.1 z).1 parts.1))
+          true≢false (sym (passes_all listed (suppliers r.zone z) a.1 all ((supplier_is r.zone a.1 z).1 parts.1))
           ∙ not-true (listed a.1) parts.0)
 
       to : IsFalse (is_supplied_outside r listed z) → list_all listed (suppliers r.zone z) ≡ true
-      to off = in_all listed (suppliers r.zone z) (λ x h. by x h (listed x) refl)
+      to off = all_pass listed (suppliers r.zone z) (λ x h. by x h (listed x) refl)
         where
           by : (x : Id) → Contains (suppliers r.zone z) x → (b : Bool) → listed x ≡ b → listed x ≡ true
           by x h true e = e

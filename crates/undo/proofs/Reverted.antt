@@ -1,34 +1,22 @@
 -- The elements that some SYSMODs change become those of another zone.
-use Rattle.std.proofs.Common.{◌≡◌, ◌≢◌, inl, inr, true, List, [], ◌∷◌, ◌++◌, Option, refl, sym, ap, ◌∙◌, All}
+use Rattle.std.proofs.Common.{◌≡◌, ◌≢◌, inl, inr, List, [], ◌∷◌, ◌++◌, Option, refl, sym, ap, ◌∙◌, All}
 use Rattle.std.proofs.Common.{Any, IsTrue, IsPermutation, subst}
 use Rattle.std.specs.Prelude.{◌||◌, None, Some, IfSome, IsFalse, if◌then◌else◌}
 use Rattle.std.specs.List.{list_any}
-use Rattle.std.proofs.lemmas.Bool.{and_parts, eqb-true}
 use Rattle.std.proofs.lemmas.List.Folds.{list_any_none, list_any-from_Any, list_any-append}
 use Rattle.std.proofs.lemmas.List.Sorted.{list_any-IsPermutation}
-use Rattle.lemmas.proofs.Searches.{find_gives, list_any_map}
-use Rattle.lemmas.proofs.Texts.{same_from}
+use Rattle.lemmas.proofs.Searches.{find_gives, is_some_find, list_any_map}
+use Rattle.sorted.specs.ElementKeys.{Key}
 use Rattle.sorted.specs.declared.edits.Edit.{Edit}
 use Rattle.sorted.specs.Edits.{after_edits}
 use Rattle.terms.specs.declared.kinds.ElemType.{ElemType}
 use Rattle.terms.specs.Types.{Text, Id, Change, Global, Element, Zone}
 use Rattle.terms.specs.Lookups.{element_cmp, element_eq, element_key, element_of, has_change, changes_of}
-use Rattle.terms.proofs.ElementOrder.{element_cmp_total, element_ties, type_from_number}
+use Rattle.terms.proofs.ElementOrder.{element_cmp_total, element_ties, same_key}
 use Rattle.zones.specs.Delta.{ZoneDelta}
 use Rattle.sorted.specs.Turned.{AreTurned}
 use Rattle.undo.specs.Restoring.{changed_keys, all_changed, element_at, EditsElement, PutsBack, ArePutBack}
-use Rattle.undo.proofs.LessEdits.{found_any}
 use Rattle.sorted.proofs.Turning.{turned_none, turned_next}
-
-abbrev pub Key : Type 0
-Key = ElemType × Text
-
--- two keys that are taken for the same are one
-same_key : (a b : Key) → element_eq a b ≡ true → a ≡ b
-same_key a b same =
-    let parts = and_parts _ _ same in
-    ap (λ t. (t, a.1)) (type_from_number a.0 b.0 (eqb-true _ _ parts.0))
-    ∙ ap (λ n. (b.0, n)) (same_from a.1 b.1 parts.1)
 
 -- what is found at a key has it
 pub key_found : (zone : Zone) (type : ElemType) (name : Text)
@@ -89,7 +77,7 @@ module _ (g : Global) (type : ElemType) (name : Text) where
   by_one : (x : Id) → list_any (λ j. element_eq j (type, name)) (changed_keys g x) ≡ has_change g x type name
   by_one x =
       list_any_map (λ j. element_eq j (type, name)) (λ (h : Change). (h.elem_type, h.name)) (changes_of g x)
-      ∙ sym (found_any (λ (h : Change). element_eq (h.elem_type, h.name) (type, name)) (changes_of g x))
+      ∙ sym (is_some_find (λ (h : Change). element_eq (h.elem_type, h.name) (type, name)) (changes_of g x))
 
   pub by_some : (xs : List Id)
       → list_any (λ j. element_eq j (type, name)) (all_changed g xs) ≡ list_any (λ x. has_change g x type name) xs

@@ -13,16 +13,20 @@ use Rattle.lemmas.proofs.Texts.{same_itself, other_text}
 use Rattle.terms.specs.declared.codes.NeedKind.{NeedKind}
 use Rattle.terms.specs.declared.codes.NeedKind.TheVariants.{Fmid, Pre, Req, Ifreq, HoldError, Orphan, Elem, Dep}
 use Rattle.terms.specs.Types.{Id, Change}
-use Rattle.terms.specs.Lookups.{IsZone, is_in, is_applied, is_supplied, applied_ids, changes_of, has_change}
+use Rattle.terms.specs.Lookups.{IsZone, is_in, is_applied, is_supplied, applied_ids, change_key, changes_of, has_change}
 use Rattle.terms.specs.Restore.{Restoring, NeedsDep, NeedsInRestore, restore_candidates}
 use Rattle.terms.proofs.Ids.{is_in_from_Contains, Contains_from_is_in}
 use Rattle.terms.proofs.Applied.{applied_are}
 use Rattle.decide.specs.declared.wants.Want.{Want}
 use Rattle.undo.specs.Dependences.{dependences_of}
-use Rattle.undo.specs.Elements.{Changers, changers_of, change_key, AreChangers, beside_at, beside}
+use Rattle.sorted.specs.ElementKeys.{key_cmp}
+use Rattle.sorted.specs.Lists.{listed}
+use Rattle.undo.specs.Elements.{Changers, AreChangers, beside_at, beside}
+use Rattle.undo.specs.Restoring.{changed_keys}
 use Rattle.undo.specs.Pairs.{is_own, AreOwn}
 use Rattle.undo.specs.Wants.{pair_want, HaveElem, HaveDep, AreWants}
-use Rattle.undo.proofs.Changed.{changes_from, changes_to}
+use Rattle.terms.proofs.ChangedElements.{changes_to}
+use Rattle.undo.proofs.Changed.{changes_from}
 use Rattle.undo.proofs.Needing.{dependences_are}
 
 abbrev Pair : Type 0
@@ -48,20 +52,25 @@ module _ (r : Restoring) (is_zone : IsZone r.zone) (others : List Id)
       × IsTrue (has_change r.global y h.elem_type h.name))
   beside_at_is x y h = (
     λ there.
-        let m = map_in (λ (v : Id). (x, v)) (changers_of all (change_key h)) (x, y) there in
-        let c = (are (change_key h) y).0 (subst (Contains (changers_of all (change_key h))) (ap (λ p. p.1) m.2) m.1) in
-        let o = (other_is y).0 c.0 in
-        (o.0, o.1, changes_from r.global y (change_key h) c.1),
-    λ p. in_map (λ (v : Id). (x, v)) (changers_of all (change_key h)) y ((are (change_key h) y).1 (
+        let m = map_in (λ (v : Id). (x, v)) (listed key_cmp all (change_key h)) (x, y) there in
+        let c = (are (change_key h) y).0 (subst (Contains (listed key_cmp all (change_key h))) (ap (λ p. p.1) m.2) m.1) in
+        let o = (other_is y).0 (subst (Contains others) (sym c.2.1) c.1) in (
+          o.0,
+          o.1,
+          changes_from r.global y (change_key h)
+              (subst (λ v. Contains (changed_keys r.global v) (change_key h)) (sym c.2.1) c.2.0),
+        ),
+    λ p. in_map (λ (v : Id). (x, v)) (listed key_cmp all (change_key h)) y ((are (change_key h) y).1 (
+      y,
       (other_is y).1 (p.0, p.1),
-      changes_to r.global y h.elem_type h.name p.2,
+      (changes_to r.global y h.elem_type h.name p.2, refl),
     )),
   )
 
   beside_by : (x : Id) (p : Pair) → Contains (beside r.global all x) p → p.0 ≡ x
   beside_by x p there =
       let m = flat_in (beside_at all x) (changes_of r.global x) p there in
-      let v = map_in (λ (v : Id). (x, v)) (changers_of all (change_key m.0)) p m.2 in
+      let v = map_in (λ (v : Id). (x, v)) (listed key_cmp all (change_key m.0)) p m.2 in
       sym (ap (λ q. q.0) v.2)
 
   pub have_elem_holds : (cands : List Id) (pairs : List Pair) → pairs ≡ flat_map (beside r.global all) cands

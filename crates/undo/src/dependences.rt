@@ -8,7 +8,7 @@ ghost use Rattle.undo.specs.Dependences.{by_requisite, dependences_of};
 use crate::pairs::add_pairs;
 use fields::{Id, IdList};
 use std::alloc::{AllocError, Global};
-use undo_list::{Scope, applied_ids, suppliers};
+use undo_list::{Scope, suppliers};
 use zones::Zone;
 use zones_views::requisites_held;
 
@@ -89,9 +89,8 @@ pub(crate) fn dependences(
     ensures { IfOk result (λ pairs. pairs.items
         ≡ flat_map (dependences_of (restoring_of scope.now) (is_in list.now)) (applied_ids scope.now.zone.now)) }
 {
-    let applied = applied_ids(alloc, scope.zone)?;
     let mut pairs = Vec::new(alloc);
-    for id in applied.as_slice() {
+    for id in scope.applied {
         add_dependences(alloc, scope, list, *id, &mut pairs)?;
     }
     Ok(pairs)

@@ -1,67 +1,36 @@
 //! Who changes which element.
-ghost use Rattle.std.specs.Prelude.{◌≡◌, ◌++◌, [], ◌∷◌, map, Contains, IfOk, OnOk};
+ghost use Rattle.std.specs.Prelude.{◌≡◌, ◌++◌, IfOk, OnOk};
 ghost use Rattle.std.specs.List.{flat_map};
-ghost use Rattle.undo.specs.Elements.{AreChangers, Gains, beside, beside_at, change_key, changers_of};
+ghost use Rattle.sorted.specs.ElementKeys.{key_cmp};
+ghost use Rattle.sorted.specs.Lists.{Gains};
+ghost use Rattle.undo.specs.Elements.{AreChangers, ChangedBy, beside, beside_at};
 
 use crate::pairs::add_needed;
+use crate::reverting::append_changes_of;
 use fields::{Id, Name};
+use sorted::lists::{Lists, add_to_all, listed};
 use std::alloc::{AllocError, Global};
 use std::collections::BTreeMap;
-use sysmods::VerChoice;
+use sysmods::{GlobalZone, VerChoice};
 use sysmods_records::ElemChange;
 use terms::ElemType;
 use undo_list::changes_of;
 
 /// For each element some SYSMODs that change it.
-pub(crate) type Changers = BTreeMap<(ElemType, Name), Vec<Id>>;
+pub(crate) type Changers = Lists<(ElemType, Name), Id>;
 
-fn only(alloc: Global, id: Id) -> Result<Vec<Id>, AllocError>
-    ensures { IfOk result (λ ids. ids.items ≡ id ∷ []) }
-{
-    let mut ids = Vec::new(alloc);
-    ids.push(id)?;
-    Ok(ids)
-}
-
-fn add(
+// Adds the SYSMOD to each element that it changes.
+fn add_changer(
     alloc: Global,
     changers: &mut Changers,
-    element: (ElemType, Name),
+    global: &GlobalZone,
     by: Id,
 ) -> Result<(), AllocError>
-    ensures { OnOk result (Gains changers.old changers.new (λ k y. (k ≡ element) × (y ≡ by))) }
+    ensures { OnOk result (Gains key_cmp changers.old changers.new (ChangedBy global.now by)) }
 {
-    if let Some(ids) = changers.get_mut(&element) {
-        ids.push(by)?;
-        return Ok(());
-    }
-    changers.insert(element, only(alloc, by)?)?;
-    Ok(())
-}
-
-fn add_at(
-    alloc: Global,
-    changers: &mut Changers,
-    change: &ElemChange,
-    by: Id,
-) -> Result<(), AllocError>
-    ensures { OnOk result (Gains changers.old changers.new (λ k y. (k ≡ change_key change.now) × (y ≡ by))) }
-{
-    add(alloc, changers, (change.elem_type, change.name), by)
-}
-
-fn add_each(
-    alloc: Global,
-    changers: &mut Changers,
-    changes: &[ElemChange],
-    by: Id,
-) -> Result<(), AllocError>
-    ensures { OnOk result (Gains changers.old changers.new (λ k y. Contains (map change_key changes.now) k
-        × (y ≡ by))) }
-{
-    for change in changes {
-        add_at(alloc, changers, change, by)?;
-    }
+    let mut keys = Vec::new(alloc);
+    append_changes_of(global, by, &mut keys)?;
+    add_to_all(alloc, changers, keys.as_slice(), by)?;
     Ok(())
 }
 
@@ -75,19 +44,9 @@ pub(crate) fn changers(
 {
     let mut changers = BTreeMap::new(alloc);
     for id in ids {
-        add_each(alloc, &mut changers, changes_of(vers, *id), *id)?;
+        add_changer(alloc, &mut changers, vers.global(), *id)?;
     }
     Ok(changers)
-}
-
-/// Those of them that change the element of the statement.
-pub(crate) fn changers_at<'a>(changers: &'a Changers, change: &ElemChange) -> &'a [Id]
-    ensures { result.now ≡ changers_of changers.now (change_key change.now) }
-{
-    match changers.get(&(change.elem_type, change.name)) {
-        Some(ids) => ids.as_slice(),
-        None => &[],
-    }
 }
 
 fn add_beside_at(
@@ -98,8 +57,8 @@ fn add_beside_at(
 ) -> Result<(), AllocError>
     ensures { OnOk result (pairs.new.items ≡ pairs.old.items ++ beside_at changers.now id change.now) }
 {
-    add_needed(pairs, id, changers_at(changers, change))?;
-    Ok(())
+    let others = listed(changers, (change.elem_type, change.name));
+    add_needed(pairs, id, others)
 }
 
 fn add_beside(

@@ -4,15 +4,14 @@ ghost use Rattle.terms.specs.Lookups.{is_in, is_applied};
 ghost use Rattle.terms.specs.Needs.{Serves};
 ghost use Rattle.terms.specs.Restore.{FailsRestore, MayBeRestored, NeedsInRestore, restore_candidates};
 ghost use Rattle.sysmods.specs.Choices.{choice};
-ghost use Rattle.undo_list.specs.Restoring.{restoring};
+ghost use Rattle.undo_list.specs.Restoring.{restoring_of};
 ghost use Rattle.decide.specs.Judged.{AreJudged};
 
 use crate::tests::all_rows;
 use crate::wanted::all_wants;
 use decide::Want;
-use fields::{Id, IdList};
+use fields::{Attest, IdList};
 use std::alloc::{AllocError, Global};
-use sysmods::VerChoice;
 use terms::Test;
 use undo_list::{Scope, push_applied};
 use zones::Zone;
@@ -32,35 +31,25 @@ fn candidates(alloc: Global, zone: &Zone, ids: &IdList) -> Result<IdList, AllocE
     let mut found = Vec::new(alloc);
     push_applied(zone, ids.as_slice(), &mut found)?;
     let cands = IdList::from_vec(found);
-    let _ = cands.as_slice();
+    cands.attest();
     Ok(cands)
 }
 
-/// Judges the SYSMODs of RESTORE's list in a target zone with this distribution zone. No superseder serves what they
-/// need.
+/// Judges the SYSMODs of RESTORE's list. No superseder serves what they need. An error comes where memory runs out.
 pub fn judge_restore(
     alloc: Global,
-    vers: &VerChoice<'_>,
-    zone: &Zone,
-    accepted: &Zone,
+    scope: &Scope<'_, '_>,
     ids: &IdList,
 ) -> Result<Judged, AllocError>
-    ensures cands { IfOk result
-        (λ j. j.cands ≡ restore_candidates (restoring vers.now zone.now accepted.now) ids.now) }
+    ensures cands { IfOk result (λ j. j.cands ≡ restore_candidates (restoring_of scope.now) ids.now) }
     ensures judged { IfOk result (λ j. AreJudged
-        (FailsRestore (restoring vers.now zone.now accepted.now))
-        (MayBeRestored (restoring vers.now zone.now accepted.now) ids.now)
-        (NeedsInRestore (restoring vers.now zone.now accepted.now) (is_in ids.now)) (Serves (choice vers.now)) j.cands
+        (FailsRestore (restoring_of scope.now)) (MayBeRestored (restoring_of scope.now) ids.now)
+        (NeedsInRestore (restoring_of scope.now) (is_in ids.now)) (Serves (choice scope.now.vers.now)) j.cands
         (map (λ row. row.items) j.tests.items) j.wants.items []) }
 {
-    let scope = Scope {
-        vers,
-        zone,
-        accepted,
-    };
-    let cands = candidates(alloc, zone, ids)?;
-    let tests = all_rows(alloc, &scope, cands.as_slice())?;
-    let wants = all_wants(alloc, &scope, ids, &cands)?;
+    let cands = candidates(alloc, scope.zone, ids)?;
+    let tests = all_rows(alloc, scope, cands.as_slice())?;
+    let wants = all_wants(alloc, scope, ids, &cands)?;
     Ok(Judged {
         cands,
         tests,

@@ -18,4 +18,4 @@ mod wanted;
 
 pub use judging::{Judged, judge_restore};
 pub use restoring::restore;
-pub use undo_list::restore_list;
+pub use undo_list::{Scope, applied_ids, restore_list};

@@ -9,14 +9,14 @@ ghost use Rattle.zones.specs.Differing.{EachChanges};
 ghost use Rattle.undo.specs.Restoring.{IsRestoringOf, loses, take_off};
 
 use crate::reverting::{changed_elements, put_back};
-use fields::{Id, IdList};
+use fields::{Attest, Id, IdList};
 use std::alloc::{AllocError, Global};
 use sysmods::GlobalZone;
 use zones::{Entry, Zone, ZoneDelta};
 use zones_views::entry_less;
 
 /// What changes in a target zone when the kept SYSMODs are taken off it. Elements that they change become those of the
-/// distribution zone. Each edit changes something.
+/// distribution zone. Each edit changes something. An error comes where memory runs out.
 pub fn restore(
     alloc: Global,
     global: &GlobalZone,

@@ -45,7 +45,8 @@ fn changes_of_all(
     Ok(keys)
 }
 
-fn append_changes_of(
+/// Adds the types and names of the elements that the SYSMOD changes.
+pub(crate) fn append_changes_of(
     global: &GlobalZone,
     id: Id,
     keys: &mut Vec<(ElemType, Name)>,

@@ -8,10 +8,10 @@ use crate::dependences::dependences;
 use crate::elements::{all_beside, changers};
 use crate::pairs::all_own;
 use decide::Want;
-use fields::{Id, IdList};
+use fields::{Attest, Id, IdList};
 use std::alloc::{AllocError, Global};
 use terms::NeedKind;
-use undo_list::{Scope, applied_ids, unaccepted};
+use undo_list::{Scope, unaccepted};
 
 // The candidates with those that share an element with them.
 fn elem_pairs(
@@ -22,8 +22,7 @@ fn elem_pairs(
     ensures { IfOk result (λ pairs. HaveElem (restoring_of scope.now) cands.now pairs.items) }
 {
     scope.zone.attest();
-    let applied = applied_ids(alloc, scope.zone)?;
-    let others = unaccepted(alloc, scope.accepted, applied.as_slice())?;
+    let others = unaccepted(alloc, scope.accepted, scope.applied)?;
     let changers = changers(alloc, scope.vers, others.as_slice())?;
     let pairs = all_beside(alloc, scope.vers, &changers, cands.as_slice())?;
     Ok(pairs)

@@ -9,7 +9,7 @@ use Rattle.std.specs.declared.cmp.Ordering.TheVariants.{Equal}
 use Rattle.std.proofs.lemmas.Bool.{cases_lt}
 use Rattle.std.proofs.lemmas.Cmp.{tied_itself, nat_cmp_total, nat_list_cmp_total}
 use Rattle.std.proofs.lemmas.List.{get_or_past}
-use Rattle.std.proofs.lemmas.List.Elements.{All-contains, Contains-get_or}
+use Rattle.std.proofs.lemmas.List.Elements.{All-contains}
 use Rattle.std.proofs.lemmas.Option.{slice_get_within, get_or_from_slice_get, same_Some}
 use Rattle.lemmas.proofs.Members.{here_or, none_in}
 use Rattle.lemmas.proofs.Orderings.{Equal_from_is_eq}
@@ -17,6 +17,7 @@ use Rattle.lemmas.proofs.Places.{found_at}
 use Rattle.terms.specs.Types.{Id, type_number}
 use Rattle.terms.specs.Rising.{Rises}
 use Rattle.terms.proofs.ElementOrder.{cmp_types}
+use Rattle.lemmas.proofs.Each.{All_from_each}
 use Rattle.terms.proofs.Ids.{Contains_from_is_in}
 use Rattle.solve.specs.Problem.{holds}
 use Rattle.solve.specs.Least.{Rule, Growth, IsClosed, IsLeast}
@@ -26,10 +27,6 @@ use Rattle.undo_list.specs.contracts.nodes.NodeOrd.TheImpl as node_order
 use Rattle.undo_list.specs.NodeOrder.{exact_nodes}
 use Rattle.undo_list.specs.Steps.{Step, AreClosed, IsReached, is_start}
 use Rattle.undo_list.specs.ByNumbers.{IsGrowth, AreFlagged}
-
--- all of a list, from each that is in it
-pub all_from : {X : Type 0} (P : X → Type 0) (xs : List X) → ((x : X) → Contains xs x → P x) → All P xs
-all_from P xs each = λ i d below. each (get_or xs i d) (Contains-get_or xs i d below)
 
 -- a flag of a list of them
 flag_at : {X : Type 0} (p : X → Bool) (xs : List X) (i : ℕ) → holds (map p xs) i ≡ true
@@ -134,7 +131,7 @@ module _ (table : List Node) (rises : Rises node_order.ghosts.cmp (λ n. n) tabl
           from_number p.0 m p.2 (All-contains (λ y. IsTrue (numbers y)) r.these p.0 all p.1)))
 
       numbers_closed : IsClosed g numbers
-      numbers_closed = record { start = start_numbers; rules = all_from _ g.rules follows }
+      numbers_closed = record { start = start_numbers; rules = All_from_each _ g.rules follows }
 
     -- ---- the least set of numbers as one of nodes
 
@@ -161,7 +158,7 @@ module _ (table : List Node) (rises : Rises node_order.ghosts.cmp (λ n. n) tabl
           let r = is.rules.there s h in
           sym (at_number r.0.that s.that r.2.that) ∙ (least.members r.0.that).1 (λ set closed.
           All-contains (λ v. All (λ y. IsTrue (set y)) v.these → IsTrue (set v.that)) g.rules r.0 closed.rules r.1
-          (all_from _ r.0.these (λ i of.
+          (All_from_each _ r.0.these (λ i of.
           let m = r.2.these.only i of in
           (least.members i).0 (at_number i m.0 m.2 ∙ all m.0 m.1) set closed)))
 

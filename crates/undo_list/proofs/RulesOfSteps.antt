@@ -27,7 +27,8 @@ use Rattle.undo_list.specs.contracts.nodes.NodeOrd.TheImpl as node_order
 use Rattle.undo_list.specs.Steps.{Step, as_step, as_steps, is_start}
 use Rattle.undo_list.specs.ByNumbers.{ArePlaces, IsNumbered, AreNumbered, IsGrowth, AddsRule, Covers, nodes_in}
 use Rattle.undo_list.specs.ByNumbers.{sysmod_in, AreFlagged, IsFlagged, AreReached}
-use Rattle.undo_list.proofs.Reached.{all_from, flagged_reached}
+use Rattle.lemmas.proofs.Each.{All_from_each}
+use Rattle.undo_list.proofs.Reached.{flagged_reached}
 
 -- ---- sorted numbers without doubles
 
@@ -61,7 +62,7 @@ are_places table these found places same members = record {
 pub numbered_rule : (table : List Node) (s : Step) (r : Rule) → IsNumbered table s r
     → AllPairs (λ a b. a < b) r.these → IsRule (length table) r
 numbered_rule table s r is rising = record {
-  these = all_from (λ y. y < length table) r.these
+  these = All_from_each (λ y. y < length table) r.these
       (λ i h. let m = is.these.only i h in slice_get_within table i m.0 m.2);
   rising = rising;
   that = slice_get_within table r.that s.that is.that;
@@ -144,14 +145,14 @@ flagged_more table flags i found new n at are is x = (
 pub starts_in : (table nodes : List Node) (ids : List Id) (steps : List RustStep)
     → nodes ≡ map Sysmod ids ++ flat_map nodes_in steps → ((n : Node) → Contains table n ↔ Contains nodes n)
     → All (λ x. Contains table (Sysmod x)) ids
-starts_in table nodes ids steps is same = all_from (λ x. Contains table (Sysmod x)) ids (λ x h.
+starts_in table nodes ids steps is same = All_from_each (λ x. Contains table (Sysmod x)) ids (λ x h.
     (same (Sysmod x)).1 (subst (λ l. Contains l (Sysmod x)) (sym is)
     (Contains-append_left (map Sysmod ids) (flat_map nodes_in steps) (Sysmod x) (in_map Sysmod ids x h))))
 
 pub covers_in : (table nodes : List Node) (ids : List Id) (steps : List RustStep)
     → nodes ≡ map Sysmod ids ++ flat_map nodes_in steps → ((n : Node) → Contains table n ↔ Contains nodes n)
     → All (Covers table) steps
-covers_in table nodes ids steps is same = all_from (Covers table) steps (λ s h.
+covers_in table nodes ids steps is same = All_from_each (Covers table) steps (λ s h.
     let in_table : (n : Node) → Contains (nodes_in s) n → Contains table n =
     λ n of. (same n).1 (subst (λ l. Contains l n) (sym is)
     (Contains-append_right (map Sysmod ids) (flat_map nodes_in steps) n (in_flat nodes_in steps s n h of))) in

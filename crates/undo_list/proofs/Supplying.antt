@@ -1,9 +1,9 @@
 -- Who supplies an id, and lists of lists.
-use Rattle.std.proofs.Common.{◌≡◌, ◌⊎◌, inl, inr, Bool, true, false, [], ◌∷◌, filter}
+use Rattle.std.proofs.Common.{◌≡◌, inl, inr, true, [], ◌∷◌, filter}
 use Rattle.std.proofs.Common.{refl, sym, subst, Contains, IsTrue}
 use Rattle.std.specs.Prelude.{◌↔◌, ◌||◌}
 use Rattle.std.specs.Str.{bytes_eq}
-use Rattle.std.proofs.lemmas.Bool.{and_parts}
+use Rattle.std.proofs.lemmas.Bool.{and_parts, or_cases, or_right}
 use Rattle.std.proofs.lemmas.List.Elements.{Contains-append_left, Contains-append_right, Contains-append_cases}
 use Rattle.lemmas.proofs.Members.{here, here_or, none_in, in_filter, filter_in}
 use Rattle.lemmas.proofs.Texts.{same_from, same_itself}
@@ -11,10 +11,6 @@ use Rattle.terms.specs.Types.{Id, Zone}
 use Rattle.terms.specs.Lookups.{is_in, is_applied, supby_of, supplies}
 use Rattle.terms.proofs.Ids.{is_in_from_Contains, Contains_from_is_in}
 use Rattle.undo_list.specs.Restoring.{suppliers}
-
-by_or : (a b : Bool) → (a || b) ≡ true → (a ≡ true) ⊎ (b ≡ true)
-by_or true b on = inl refl
-by_or false b on = inr on
 
 pub supplier_is : (zone : Zone) (x z : Id) → Contains (suppliers zone z) x ↔ IsTrue (supplies zone x z)
 supplier_is zone x z = (from, to)
@@ -33,15 +29,11 @@ supplier_is zone x z = (from, to)
               rw (f.1) (or_right (bytes_eq x z) (is_in (supby_of zone z) x)
               (is_in_from_Contains (supby_of zone z) x f.0))
         ]
-      where
-        or_right : (a b : Bool) → b ≡ true → (a || b) ≡ true
-        or_right true b on = refl
-        or_right false b on = on
 
     to : IsTrue (supplies zone x z) → Contains (suppliers zone z) x
     to on =
         let parts = and_parts (is_applied zone x) (bytes_eq x z || is_in (supby_of zone z) x) on in
-        elim (by_or (bytes_eq x z) (is_in (supby_of zone z) x) parts.1) [
+        elim (or_cases (bytes_eq x z) (is_in (supby_of zone z) x) parts.1) [
           | inl same ↦ Contains-append_left (filter (is_applied zone) (z ∷ []))
               (filter (is_applied zone) (supby_of zone z)) x
               (in_filter (is_applied zone) (z ∷ []) x

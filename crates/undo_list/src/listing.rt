@@ -3,63 +3,43 @@ ghost use Rattle.std.specs.Prelude.{IfOk};
 ghost use Rattle.terms.specs.Types.{RestoreGroup, RestoreSelect};
 ghost use Rattle.terms.specs.Restore.{AreListed};
 ghost use Rattle.cntl.specs.Views.{restore_list_of};
-ghost use Rattle.undo_list.specs.Restoring.{restoring};
+ghost use Rattle.undo_list.specs.Restoring.{restoring_of};
 
 use crate::numbered::reached;
 use crate::scope::Scope;
 use crate::steps::all_steps;
 use cntl::RestoreList;
-use fields::IdList;
+use fields::{Attest, IdList};
 use std::alloc::{AllocError, Global};
-use sysmods::VerChoice;
-use zones::Zone;
 
 // GROUP's list: its ids and all which they need, and what those need.
-fn grouped(
-    alloc: Global,
-    vers: &VerChoice<'_>,
-    zone: &Zone,
-    accepted: &Zone,
-    ids: &IdList,
-) -> Result<IdList, AllocError>
-    ensures { IfOk result (AreListed (restoring vers.now zone.now accepted.now) (RestoreGroup ids.now)) }
+fn grouped(alloc: Global, scope: &Scope<'_, '_>, ids: &IdList) -> Result<IdList, AllocError>
+    ensures { IfOk result (AreListed (restoring_of scope.now) (RestoreGroup ids.now)) }
 {
-    zone.attest();
-    let scope = Scope {
-        vers,
-        zone,
-        accepted,
-    };
-    let steps = all_steps(alloc, &scope)?;
+    scope.zone.attest();
+    let steps = all_steps(alloc, scope)?;
     reached(alloc, ids, steps.as_slice())
 }
 
 // SELECT's list: its ids.
-fn selected(
-    alloc: Global,
-    vers: &VerChoice<'_>,
-    zone: &Zone,
-    accepted: &Zone,
-    ids: &IdList,
-) -> Result<IdList, AllocError>
-    ensures { IfOk result (AreListed (restoring vers.now zone.now accepted.now) (RestoreSelect ids.now)) }
+fn selected(alloc: Global, scope: &Scope<'_, '_>, ids: &IdList) -> Result<IdList, AllocError>
+    ensures { IfOk result (AreListed (restoring_of scope.now) (RestoreSelect ids.now)) }
 {
-    let _ = ids.as_slice();
+    ids.attest();
     ids.try_clone(alloc)
 }
 
-/// SELECT's ids, or what GROUP's ids lead to, in a target zone with this distribution zone.
+/// SELECT's ids, or what GROUP's ids lead to. An error comes where memory runs out, also where GROUP's list is about
+/// 2^32 SYSMODs and elements or more.
 pub fn restore_list(
     alloc: Global,
-    vers: &VerChoice<'_>,
-    zone: &Zone,
-    accepted: &Zone,
+    scope: &Scope<'_, '_>,
     list: &RestoreList,
 ) -> Result<IdList, AllocError>
-    ensures { IfOk result (AreListed (restoring vers.now zone.now accepted.now) (restore_list_of list.now)) }
+    ensures { IfOk result (AreListed (restoring_of scope.now) (restore_list_of list.now)) }
 {
     match list {
-        RestoreList::Select(ids) => selected(alloc, vers, zone, accepted, ids),
-        RestoreList::Group(ids) => grouped(alloc, vers, zone, accepted, ids),
+        RestoreList::Select(ids) => selected(alloc, scope, ids),
+        RestoreList::Group(ids) => grouped(alloc, scope, ids),
     }
 }

@@ -8,7 +8,7 @@ ghost use Rattle.undo_list.specs.ByNumbers.{AddsRule, AreFlagged, AreReached, Co
 
 use crate::nodes::{Node, Step, push_sysmods};
 use crate::numbers::rule_of;
-use fields::{Id, IdList, Rising};
+use fields::{Attest, Id, IdList, Rising};
 use solve::{Rules, least};
 use std::alloc::{AllocError, Global};
 
@@ -120,7 +120,7 @@ fn reached_over(
     let rules = growth(alloc, table, ids, steps)?;
     let set = least(alloc, &rules)?;
     let found = IdList::from_vec(flagged(alloc, table.as_slice(), set.as_slice())?);
-    let _ = found.as_slice();
+    found.attest();
     Ok(found)
 }
 

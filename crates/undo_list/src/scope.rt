@@ -8,12 +8,15 @@ use sysmods::VerChoice;
 use sysmods_records::ElemChange;
 use zones::{Entry, Zone};
 
-/// The `++VER`s that count, the target zone, and its distribution zone.
+/// The `++VER`s that count, the target zone, its distribution zone, and the ids that are applied in the target zone,
+/// which `applied_ids` finds once for all that a RESTORE decides.
 #[derive(Clone, Copy)]
 pub struct Scope<'a, 'b> {
     pub vers: &'a VerChoice<'b>,
     pub zone: &'a Zone,
     pub accepted: &'a Zone,
+    pub applied: &'a [Id],
+    pub ghost has_applied: { applied.now ≡ applied_ids zone.now },
 }
 
 /// The element statements of a received SYSMOD.
@@ -46,7 +49,7 @@ fn push_if_applied(entry: &Entry, found: &mut Vec<Id>) -> Result<(), AllocError>
     Ok(())
 }
 
-/// The ids that are applied.
+/// The ids that are applied. An error comes where memory runs out.
 pub fn applied_ids(alloc: Global, zone: &Zone) -> Result<Vec<Id>, AllocError>
     ensures { IfOk result (λ found. found.items ≡ applied_ids zone.now) }
 {
@@ -67,7 +70,7 @@ fn push_if_unaccepted(accepted: &Zone, id: Id, found: &mut Vec<Id>) -> Result<()
     Ok(())
 }
 
-/// Those of these ids that the distribution zone does not supply.
+/// Those of these ids that the distribution zone does not supply. An error comes where memory runs out.
 pub fn unaccepted(alloc: Global, accepted: &Zone, ids: &[Id]) -> Result<Vec<Id>, AllocError>
     ensures { IfOk result (λ found. found.items ≡ filter (λ y. not (is_supplied accepted.now y)) ids.now) }
 {

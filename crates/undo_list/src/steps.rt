@@ -7,7 +7,7 @@ ghost use Rattle.undo_list.specs.Steps.{steps_of, to_element};
 ghost use Rattle.undo_list.specs.Restoring.{restoring_of};
 
 use crate::nodes::{Node, Step, only, push_step, push_sysmods};
-use crate::scope::{Scope, applied_ids, changes_of};
+use crate::scope::{Scope, changes_of};
 use crate::supply::suppliers;
 use fields::Id;
 use std::alloc::{AllocError, Global};
@@ -187,9 +187,8 @@ fn push_steps_of(
 pub(crate) fn all_steps(alloc: Global, scope: &Scope<'_, '_>) -> Result<Vec<Step>, AllocError>
     ensures { IfOk result (λ steps. as_steps steps.items ≡ all_steps (restoring_of scope.now)) }
 {
-    let applied = applied_ids(alloc, scope.zone)?;
     let mut steps = Vec::new(alloc);
-    for id in applied.as_slice() {
+    for id in scope.applied {
         push_steps_of(alloc, scope, *id, &mut steps)?;
     }
     Ok(steps)

@@ -17,7 +17,7 @@ fn push_if_applied(zone: &Zone, id: Id, found: &mut Vec<Id>) -> Result<(), Alloc
     Ok(())
 }
 
-/// Adds those of these ids that are applied.
+/// Adds those of these ids that are applied. An error comes where memory runs out.
 pub fn push_applied(zone: &Zone, ids: &[Id], found: &mut Vec<Id>) -> Result<(), AllocError>
     ensures { OnOk result (found.new.items ≡ found.old.items ++ filter (is_applied zone.now) ids.now) }
 {
@@ -27,7 +27,7 @@ pub fn push_applied(zone: &Zone, ids: &[Id], found: &mut Vec<Id>) -> Result<(), 
     Ok(())
 }
 
-/// The applied SYSMODs that supply the id.
+/// The applied SYSMODs that supply the id. An error comes where memory runs out.
 pub fn suppliers(alloc: Global, zone: &Zone, id: Id) -> Result<Vec<Id>, AllocError>
     ensures { IfOk result (λ found. found.items ≡ suppliers zone.now id) }
 {

@@ -1,16 +1,16 @@
 //! How a command changes a zone.
-ghost use Rattle.std.specs.Prelude.{◌≡◌, [], IsTrue, IfOk, OnOk, OnErr};
+ghost use Rattle.std.specs.Prelude.{◌≡◌, [], IsTrue, OnOk, OnErr};
 ghost use Rattle.std.specs.Ordering.{nat_cmp};
 ghost use Rattle.std.specs.Cmp.Lexicographic.{slice_cmp};
 ghost use Rattle.sorted.specs.declared.edits.Edit.TheVariants.{Put, Remove};
 ghost use Rattle.terms.specs.Lookups.{element_cmp, element_key, has_content, waives_applied};
 ghost use Rattle.terms.specs.Rising.{with_item};
-ghost use Rattle.zones.specs.Delta.{IsChanged, IsDelta};
+ghost use Rattle.zones.specs.Delta.{IsChanged};
 ghost use Rattle.sorted.specs.Edits.{edit_key};
 
 use crate::entries::{Element, Entry};
 use crate::zone::Zone;
-use fields::{Id, Name};
+use fields::{Attest, Id, Name};
 use sorted::{Edit, Table};
 use std::alloc::{AllocError, Global};
 use std::marker::Model;
@@ -37,6 +37,17 @@ impl Model for ZoneDelta {
         × All (λ e. IfSome (edit_put e) (λ x. IsTrue (waives_applied x))) d.entries };
 }
 
+impl Attest for ZoneDelta {
+    ghost use Rattle.zones.specs.Delta.{IsDelta};
+
+    ghost form = { IsDelta };
+
+    fn attest(&self) {
+        let _ = self.entries.as_slice();
+        let _ = self.elements.as_slice();
+    }
+}
+
 impl ZoneDelta {
     /// A delta that changes nothing.
     pub fn new(alloc: Global) -> Self
@@ -47,14 +58,6 @@ impl ZoneDelta {
             entries: Table::new(alloc),
             elements: Table::new(alloc),
         }
-    }
-
-    /// What holds of each delta. The call does nothing.
-    pub fn attest(&self)
-        ensures { IsDelta self.now }
-    {
-        let _ = self.entries.as_slice();
-        let _ = self.elements.as_slice();
     }
 
     /// What is put and removed of entries, rising by id.
@@ -133,10 +136,11 @@ impl ZoneDelta {
         Ok(())
     }
 
-    /// The zone with what the delta puts and without what it removes. It goes over both once.
-    pub fn apply(&self, alloc: Global, zone: &Zone) -> Result<Zone, AllocError>
-        ensures { IfOk result (IsChanged self.now zone.now) }
+    /// Changes the zone: what the delta puts comes in, and what it removes goes. Only what it puts is copied, in time
+    /// that goes with the size of both. An error comes where memory runs out, and leaves open what the zone then has.
+    pub fn apply(&self, alloc: Global, zone: &mut Zone) -> Result<(), AllocError>
+        ensures { OnOk result (IsChanged self.now zone.old zone.new) }
     {
-        zone.changed(alloc, self)
+        zone.change(alloc, self)
     }
 }

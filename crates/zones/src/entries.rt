@@ -1,9 +1,9 @@
 //! What a zone knows of a SYSMOD and of an element.
 ghost use Rattle.std.specs.Prelude.{◌≡◌};
 ghost use Rattle.terms.specs.Types.{an_applied};
-ghost use Rattle.terms.specs.Lookups.{IsRising, has_content, waives_applied};
+ghost use Rattle.terms.specs.Lookups.{has_content, waives_applied};
 
-use fields::{Id, IdList, Name, YyDdd};
+use fields::{Attest, Id, IdList, Name, YyDdd};
 use sorted::{Keyed, TryClone};
 use std::alloc::{AllocError, Global};
 use std::marker::Model;
@@ -75,13 +75,16 @@ impl Entry {
     {
         self.applied.is_some() || self.waived.is_empty()
     }
+}
 
-    /// What holds of each entry. The call does nothing.
-    pub fn attest(&self)
-        ensures { IsRising self.now.supby × IsRising self.now.waived }
-    {
-        let _ = self.supby.as_slice();
-        let _ = self.waived.as_slice();
+impl Attest for Entry {
+    ghost use Rattle.terms.specs.Lookups.{IsRising};
+
+    ghost form = { λ e. IsRising e.supby × IsRising e.waived };
+
+    fn attest(&self) {
+        self.supby.attest();
+        self.waived.attest();
     }
 }
 

@@ -1,6 +1,6 @@
 //! Target and distribution zones: the entries of SYSMODs and of elements, and how a zone changes.
-//! Look-ups are those of the definitions, and `changed` has at each key what the delta leaves there. Seen in the code
-//! alone: each item is copied once.
+//! Look-ups are those of the definitions, and a changed zone has at each key what the delta leaves there. Seen in the
+//! code alone: what a delta does not put is moved and never copied.
 #![tactic(auto)]
 
 mod delta;

@@ -1,13 +1,13 @@
 //! A zone: a map from ids to entries, and one from types and names to elements.
-ghost use Rattle.std.specs.Prelude.{◌≡◌, ◌==◌, ◌↔◌, [], All, IsTrue, IsSome, IfSome, IfOk, is_some, option_copied};
+ghost use Rattle.std.specs.Prelude.{◌≡◌, ◌==◌, ◌↔◌, [], All, IsTrue, IsSome, IfSome, OnOk, is_some, option_copied};
 ghost use Rattle.zones.specs.Delta.{IsChanged};
 ghost use Rattle.terms.specs.Types.{zone_number, a_zone};
-ghost use Rattle.terms.specs.Lookups.{IsRising, IsZone, entry_of, element_of, applied_of, is_applied, is_supplied};
+ghost use Rattle.terms.specs.Lookups.{IsRising, entry_of, element_of, applied_of, is_applied, is_supplied};
 ghost use Rattle.terms.specs.Lookups.{has_content, waives_applied};
 
 use crate::delta::ZoneDelta;
 use crate::entries::{Applied, Element, Entry};
-use fields::{Id, Name, Srel, ZoneName};
+use fields::{Attest, Id, Name, Srel, ZoneName};
 use sorted::Table;
 use std::alloc::{AllocError, Global};
 use std::marker::Model;
@@ -41,6 +41,17 @@ impl Model for Zone {
     ghost invariant = { λ z. All (λ e. IsTrue (has_content e)) z.entries
         × All (λ e. IsTrue (waives_applied e)) z.entries
         × (is_some z.related ≡ (zone_number z.kind == 0)) };
+}
+
+impl Attest for Zone {
+    ghost use Rattle.terms.specs.Lookups.{IsZone};
+
+    ghost form = { IsZone };
+
+    fn attest(&self) {
+        let _ = self.entries.as_slice();
+        let _ = self.elements.as_slice();
+    }
 }
 
 impl Zone {
@@ -102,14 +113,6 @@ impl Zone {
         ensures { result ≡ self.now.related }
     {
         self.related
-    }
-
-    /// What holds of each zone. The call does nothing.
-    pub fn attest(&self)
-        ensures { IsZone self.now }
-    {
-        let _ = self.entries.as_slice();
-        let _ = self.elements.as_slice();
     }
 
     /// What holds of each entry's lists. The call only goes over the entries.
@@ -176,20 +179,15 @@ impl Zone {
         }
     }
 
-    /// The zone as the delta changes it.
-    pub(crate) fn changed(&self, alloc: Global, delta: &ZoneDelta) -> Result<Zone, AllocError>
-        ensures { IfOk result (IsChanged delta.now self.now) }
+    /// Changes the zone as the delta says.
+    pub(crate) fn change(&mut self, alloc: Global, delta: &ZoneDelta) -> Result<(), AllocError>
+        ensures { OnOk result (IsChanged delta.now self.old self.new) }
     {
         delta.attest();
-        let zone = Zone {
-            kind: self.kind,
-            srel: self.srel,
-            related: self.related,
-            entries: self.entries.edited(alloc, delta.entry_edits())?,
-            elements: self.elements.edited(alloc, delta.element_edits())?,
-        };
-        zone.attest();
-        Ok(zone)
+        self.attest();
+        self.entries.edit(alloc, delta.entry_edits())?;
+        self.elements.edit(alloc, delta.element_edits())?;
+        Ok(())
     }
 }
 

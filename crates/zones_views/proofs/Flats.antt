@@ -1,20 +1,8 @@
 -- Filters and lists of lists.
 use Rattle.std.proofs.Common.{◌≡◌, Bool, true, false, List, [], ◌∷◌, ◌++◌, filter, map, refl, sym, ap, ◌∙◌}
-use Rattle.std.specs.Prelude.{Contains, if◌then◌else◌}
-use Rattle.std.specs.List.{flat_map, list_any}
+use Rattle.std.specs.Prelude.{if◌then◌else◌}
+use Rattle.std.specs.List.{flat_map}
 use Rattle.std.proofs.lemmas.List.Elements.{filter-append}
-use Rattle.std.proofs.lemmas.List.Folds.{list_any_at, Any-from_list_any}
-
--- what each item gives that passes
-pub flat_map_filter : {X Y : Type 0} (f : X → List Y) (p : X → Bool) (xs : List X)
-    → flat_map f (filter p xs) ≡ flat_map (λ x. if p x then f x else []) xs
-flat_map_filter f p [] = refl
-flat_map_filter f p (x ∷ xs) = by (flat_map_filter f p xs) (p x) refl
-  where
-    by : flat_map f (filter p xs) ≡ flat_map (λ x. if p x then f x else []) xs → (b : Bool) → p x ≡ b
-        → flat_map f (filter p (x ∷ xs)) ≡ flat_map (λ x. if p x then f x else []) (x ∷ xs)
-    by rest true e = rw e (ap (λ ys. f x ++ ys) rest)
-    by rest false e = rw e rest
 
 -- the filtered lists of the images of items that pass
 pub filter_flat_map : {X Y Z : Type 0} (p : Z → Bool) (f : Y → List Z) (h : X → Y) (q : X → Bool) (xs : List X)
@@ -42,17 +30,3 @@ filter_weaker {X} p q weaker (x ∷ xs) = by (filter_weaker p q weaker xs) (p x)
     by rest false e true f = rw (f, e) rest
     by rest true e false f = let impossible : true ≡ false = sym (weaker x e) ∙ f in cc
     by rest false e false f = rw (f, e) rest
-
-pub some_passes : {X : Type 0} (p : X → Bool) (xs : List X) → list_any p xs ≡ true
-    → (x : X) × Contains xs x × (p x ≡ true)
-some_passes p xs h = let a = Any-from_list_any p xs h in (a.1, (a.0, a.2, a.3), a.4)
-
-pub passes_some : {X : Type 0} (p : X → Bool) (xs : List X) (x : X) → Contains xs x → p x ≡ true
-    → list_any p xs ≡ true
-passes_some p xs x at passes = list_any_at p xs at.0 x at.1 (ap p at.2 ∙ passes)
-
--- tests that hold of the same are the same
-pub same_truth : (a b : Bool) → (a ≡ true → b ≡ true) → (b ≡ true → a ≡ true) → a ≡ b
-same_truth true b up down = sym (up refl)
-same_truth false true up down = down refl
-same_truth false false up down = refl

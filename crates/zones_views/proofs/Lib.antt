@@ -1,5 +1,4 @@
 pub mod Steps
-pub mod Alike
 pub mod Entries
 pub mod Filtered
 pub mod Lookups

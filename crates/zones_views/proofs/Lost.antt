@@ -1,71 +1,32 @@
 -- What SYSMODs that stay applied lose by deletions.
-use Rattle.std.proofs.Common.{◌≡◌, Bool, true, false, not, List, [], ◌∷◌, Option, None, Some, filter, map}
+use Rattle.std.proofs.Common.{◌≡◌, Bool, true, false, not, List, [], ◌∷◌, filter, map}
 use Rattle.std.proofs.Common.{cond, refl, sym}
-use Rattle.std.proofs.Common.{ap, ◌∙◌, is_some, true≢false, subst, inl, inr}
-use Rattle.std.specs.Prelude.{◌&&◌, ◌||◌, ◌⊎◌, Contains, get_or, if◌then◌else◌}
+use Rattle.std.proofs.Common.{ap, ◌∙◌, is_some, subst, inl, inr}
+use Rattle.std.specs.Prelude.{◌&&◌, ◌||◌, ◌⊎◌, get_or, if◌then◌else◌}
 use Rattle.std.specs.List.{flat_map, list_any}
-use Rattle.std.specs.Option.{option_map_or}
 use Rattle.std.specs.Str.{bytes_eq}
 use Rattle.std.proofs.lemmas.List.Elements.{filter_agree}
 use Rattle.std.proofs.lemmas.List.Folds.{list_any_none}
 use Rattle.std.proofs.lemmas.Cmp.{nat_list_eq_equiv}
 use Rattle.std.proofs.lemmas.Slice.Eq.{bytes_eq-Decides}
-use Rattle.lemmas.proofs.Members.{in_filter, in_map}
-use Rattle.lemmas.proofs.Searches.{find_gives, filter_none}
-use Rattle.terms.specs.Types.{Id, Global, Entry, Zone, Applied}
-use Rattle.terms.specs.Lookups.{is_in, has_content, is_applied, entry_of, supby_of, applied_ids, supplies}
+use Rattle.lemmas.proofs.Searches.{filter_none}
+use Rattle.terms.specs.Types.{Id, Global, Entry, Zone}
+use Rattle.terms.specs.Lookups.{is_in, has_content, is_applied, supby_of, applied_ids, supplies}
 use Rattle.terms.specs.Choice.{Choice, del_of}
 use Rattle.terms.specs.Deleted.{is_deleted, is_taken_out, entry_less, zone_less}
 use Rattle.terms.specs.Needs.{binding_ids, is_lost, orphans}
 use Rattle.terms.specs.Tests.{Setting}
 use Rattle.terms.proofs.Ids.{Contains_from_is_in, is_in_from_Contains}
 use Rattle.terms.proofs.NothingDeleted.{is_taken_out_none}
-use Rattle.zones_views.proofs.Flats.{filter_flat_map, filter_weaker, some_passes, passes_some, same_truth}
-
--- what is applied is one of the applied ids
-applied_among : (zone : Zone) (y : Id) → is_applied zone y ≡ true → Contains (applied_ids zone) y
-applied_among zone y on = by (entry_of zone y) refl
-  where
-    by : (o : Option Entry) → entry_of zone y ≡ o → Contains (applied_ids zone) y
-    by None e = absurd (true≢false (sym on ∙ ap (λ o. option_map_or (λ e. is_some e.applied) o false) e))
-    by (Some f) e =
-        let g = find_gives (λ v. bytes_eq v.id y) zone.entries f e in
-        let there = in_filter (λ v. is_some v.applied) zone.entries f g.1
-        (sym (ap (λ o. option_map_or (λ e. is_some e.applied) o false) e) ∙ on) in
-        subst (Contains (applied_ids zone)) ((bytes_eq-Decides f.id y).0 g.0)
-        (in_map (λ v. v.id) (filter (λ v. is_some v.applied) zone.entries) f there)
-
-and_left : (a b : Bool) → (a && b) ≡ true → a ≡ true
-and_left true b h = refl
-and_left false b h = h
-
-and_right : (a b : Bool) → (a && b) ≡ true → b ≡ true
-and_right true b h = h
-and_right false b h = absurd (true≢false (sym h))
-
-or_left : (a b : Bool) → a ≡ true → (a || b) ≡ true
-or_left a b h = rw h refl
-
-or_right : (a b : Bool) → b ≡ true → (a || b) ≡ true
-or_right true b h = refl
-or_right false b h = h
-
-or_cases : (a b : Bool) → (a || b) ≡ true → (a ≡ true) ⊎ (b ≡ true)
-or_cases true b h = inl refl
-or_cases false b h = inr h
-
-both : (a b : Bool) → a ≡ true → b ≡ true → (a && b) ≡ true
-both a b h k = rw (h, k) refl
+use Rattle.zones_views.proofs.Flats.{filter_flat_map, filter_weaker}
+use Rattle.std.proofs.lemmas.Bool.{and_parts, and_from, or_left, or_right, or_cases}
+use Rattle.lemmas.proofs.Booleans.{same_truth}
+use Rattle.lemmas.proofs.Options.{is_some_unless}
+use Rattle.lemmas.proofs.Searches.{some_passes, passes_some}
+use Rattle.terms.proofs.Applied.{in_applied_ids}
 
 bytes_eq_same : (z : Id) → bytes_eq z z ≡ true
 bytes_eq_same z = nat_list_eq_equiv.refl z
-
--- the ids of applied entries that stay
-dated_left : (gone : Bool) (date : Option Applied) → is_some (if gone then None else date) ≡ (is_some date && not gone)
-dated_left true None = refl
-dated_left true (Some d) = refl
-dated_left false None = refl
-dated_left false (Some d) = refl
 
 ids_left : (gone : Id → Bool) (es : List Entry)
     → map (λ e. e.id) (filter (λ e. is_some e.applied) (map (entry_less gone) es))
@@ -73,7 +34,7 @@ ids_left : (gone : Id → Bool) (es : List Entry)
 ids_left gone [] = refl
 ids_left gone (e ∷ es) =
     ap (λ b. map (λ e. e.id) (cond b (entry_less gone e ∷ filter (λ e. is_some e.applied) (map (entry_less gone) es))
-    (filter (λ e. is_some e.applied) (map (entry_less gone) es)))) (dated_left (gone e.id) e.applied)
+    (filter (λ e. is_some e.applied) (map (entry_less gone) es)))) (is_some_unless (gone e.id) e.applied)
     ∙ by (is_some e.applied && not (gone e.id)) (ids_left gone es)
   where
     by : (b : Bool) → map (λ e. e.id) (filter (λ e. is_some e.applied) (map (entry_less gone) es))
@@ -110,10 +71,10 @@ module _ (g : Global) (c : Choice) (dels : List Id) (zone : Zone) where
   taken : (p z : Id) → is_gone p ≡ true → (bytes_eq p z || is_in (supby_of zone z) p) ≡ true
       → list_any (λ p. is_gone p && supplies zone p z) (applied_ids zone) ≡ true
   taken p z gone names =
-      let on : is_applied zone p ≡ true = and_left (is_applied zone p) (is_deleted g c dels p) gone in
-      passes_some (λ p. is_gone p && supplies zone p z) (applied_ids zone) p (applied_among zone p on)
-      (both (is_gone p) (supplies zone p z) gone
-      (both (is_applied zone p) (bytes_eq p z || is_in (supby_of zone z) p) on names))
+      let on : is_applied zone p ≡ true = (and_parts (is_applied zone p) (is_deleted g c dels p) gone).0 in
+      passes_some (λ p. is_gone p && supplies zone p z) (applied_ids zone) p (in_applied_ids zone p on)
+      (and_from (is_gone p) (supplies zone p z) gone
+      (and_from (is_applied zone p) (bytes_eq p z || is_in (supby_of zone z) p) on names))
 
   missed : (p z : Id) → is_gone p ≡ true → (bytes_eq p z ≡ true) ⊎ (is_in (supby_of zone z) p ≡ true)
       → is_missed z ≡ true
@@ -129,9 +90,9 @@ module _ (g : Global) (c : Choice) (dels : List Id) (zone : Zone) where
       up h =
           let s = some_passes (λ p. is_gone p && supplies zone p z) (applied_ids zone) h in
           let named : Bool = bytes_eq s.0 z || is_in (supby_of zone z) s.0 in
-          missed s.0 z (and_left (is_gone s.0) (supplies zone s.0 z) s.2)
+          missed s.0 z (and_parts (is_gone s.0) (supplies zone s.0 z) s.2).0
           (or_cases (bytes_eq s.0 z) (is_in (supby_of zone z) s.0)
-          (and_right (is_applied zone s.0) named (and_right (is_gone s.0) (supplies zone s.0 z) s.2)))
+          (and_parts (is_applied zone s.0) named (and_parts (is_gone s.0) (supplies zone s.0 z) s.2).1).1)
 
       down : (is_gone z ≡ true) ⊎ (list_any is_gone (supby_of zone z) ≡ true)
           → list_any (λ p. is_gone p && supplies zone p z) (applied_ids zone) ≡ true

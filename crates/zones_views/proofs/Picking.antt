@@ -24,6 +24,7 @@ use Rattle.sysmods.specs.declared.choice.Pick.{Pick}
 use Rattle.sysmods.specs.Choices.{picked}
 use Rattle.zones_views.specs.Picks.{a_pick, is_further, kept_pick, fitting_pick}
 use Rattle.zones_views.proofs.Filtered.{passing, find_filter}
+use Rattle.lemmas.proofs.Searches.{find_mapped}
 
 -- what is found among some items stands at a place that they all have
 pub place_below : {X : Type 0} (p q : X → Bool) (xs : List X) (n : ℕ) → position p (filter q xs) ≡ Some n
@@ -35,25 +36,6 @@ place_below {X = X} p q xs n e = by (filter q xs) refl
     by (y ∷ ys) is =
         let below : n < length (filter q xs) = (position-Some p (filter q xs) n y e).0 in
         omega (arith, length-filter q xs, count_by-le-length q xs)
-
--- Of one item or none the first that passes, if one does, is the first.
-pub first_of_few : {X : Type 0} (p q : X → Bool) (xs : List X) → length xs < 2
-    → unwrap_or (position p (filter q xs)) 0 ≡ 0
-first_of_few p q xs few = by (position p (filter q xs)) refl
-  where
-    by : (o : Option ℕ) → position p (filter q xs) ≡ o → unwrap_or (position p (filter q xs)) 0 ≡ 0
-    by None e = rw e refl
-    by (Some n) e = let below : n < length xs = place_below p q xs n e in rw e (omega arith)
-
-found_mapped : {X Y : Type 0} (p : X → Bool) (q : Y → Bool) (f : X → Y) → ((x : X) → q (f x) ≡ p x) → (xs : List X)
-    → find q (map f xs) ≡ option_map f (find p xs)
-found_mapped p q f same [] = refl
-found_mapped p q f same (x ∷ xs) = by (found_mapped p q f same xs) (p x) refl
-  where
-    by : find q (map f xs) ≡ option_map f (find p xs) → (b : Bool) → p x ≡ b
-        → find q (map f (x ∷ xs)) ≡ option_map f (find p (x ∷ xs))
-    by rest true e = rw (same x, e) refl
-    by rest false e = rw (same x, e) rest
 
 -- the number of a pick, unless it is that of the first
 abbrev further : Option Pick → Option ℕ
@@ -77,7 +59,7 @@ module _ {X : Type 0} (id_of : X → Id) (pick : X → Pick) (same : (x : X) →
       ap (option_map (λ p. p.number))
       (find_filter nat_list_cmp_total (λ (p : Pick). p.id) bytes_eq texts_ties is_further x (map pick xs) picks_mapped
       ∙ ap (passing is_further)
-      (found_mapped (λ y. bytes_eq (id_of y) x) (λ p. bytes_eq p.id x) pick (λ y. ap (λ t. bytes_eq t x) (same y)) xs))
+      (find_mapped (λ y. bytes_eq (id_of y) x) (λ p. bytes_eq p.id x) pick (λ y. ap (λ t. bytes_eq t x) (same y)) xs))
 
 -- where 1 stands for what is not picked
 or_one : (x : Id) (n : ℕ) → 1 ≤ n → unwrap_or (further (Some (a_pick x n))) 1 ≡ n

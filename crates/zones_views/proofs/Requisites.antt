@@ -9,7 +9,7 @@ use Rattle.terms.specs.Needs.{unwaived}
 use Rattle.sysmods.specs.Choices.{choice}
 use Rattle.zones_views.specs.declared.taking.Taking.{Taking}
 use Rattle.zones_views.specs.Gone.{stays, by_ifs, binding_of}
-use Rattle.zones_views.proofs.Flats.{flat_map_filter}
+use Rattle.lemmas.proofs.Lists.{flat_if}
 
 -- what the zone does not have waives nothing
 pub unwaived_none : (zone : Zone) (by : Id) (ids : List Id) → None ≡ entry_of zone by → unwaived zone by ids ≡ ids
@@ -26,4 +26,4 @@ binding_of_ver t x o is =
     ap (λ o. unwaived t.zone.now x (option_map_or (λ v. v.pre) o [] ++ option_map_or (λ v. v.req) o []
     ++ by_ifs t (option_map_or (λ v. v.ifs) o []))) is
     ∙ ap (λ ys. unwaived t.zone.now x (pre_of c x ++ req_of c x ++ ys))
-    (sym (flat_map_filter (λ i. unwaived t.zone.now i.function i.req) (λ i. stays t i.function) (ifs_of c x)))
+    (flat_if (λ i. stays t i.function) (λ i. unwaived t.zone.now i.function i.req) (ifs_of c x))

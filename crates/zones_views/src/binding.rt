@@ -7,7 +7,7 @@ ghost use Rattle.zones_views.specs.Gone.{stays, by_ifs, binding_of};
 
 use crate::left::is_left;
 use crate::taking::Taking;
-use fields::{Id, IdList};
+use fields::{Attest, Id, IdList};
 use std::alloc::{AllocError, Global};
 use sysmods::VerChoice;
 use sysmods_records::{IfReq, Ver};

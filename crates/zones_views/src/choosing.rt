@@ -7,7 +7,7 @@ ghost use Rattle.sysmods.specs.Choices.{number_in, choice};
 ghost use Rattle.zones_views.specs.Picks.{kept_pick, fitting_pick, is_further};
 
 use crate::less::table_of;
-use fields::IdList;
+use fields::{Attest, IdList};
 use std::alloc::{AllocError, Global};
 use sysmods::{GlobalZone, Pick, VerChoice};
 use sysmods_records::{Sysmod, Ver};
@@ -26,7 +26,7 @@ pub fn choose<'a>(
     ensures counting { IfOk result (λ vers. choice vers ≡ counting global.now zone.now cands.now) }
     ensures numbers { IfOk result (λ vers. number_in vers ≡ (λ x. place global.now zone.now cands.now x + 1)) }
 {
-    prove!(global.len() < 65_536);
+    global.attest();
     zone.attest();
     let kept = table_of(kept_picks(alloc, zone)?);
     let fitting = table_of(fitting_picks(alloc, global, zone, cands)?);

@@ -4,7 +4,7 @@ ghost use Rattle.terms.specs.Types.{Id as AnId};
 ghost use Rattle.terms.specs.Lookups.{is_in};
 ghost use Rattle.terms.specs.Deleted.{entry_less};
 
-use fields::{Id, IdList};
+use fields::{Attest, Id, IdList};
 use sorted::TryClone;
 use std::alloc::{AllocError, Global};
 use zones::Entry;
@@ -54,7 +54,7 @@ fn list_left<T: TakesOut>(alloc: Global, taking: &T, ids: &IdList) -> Result<IdL
     ensures { IfOk result (λ left. left ≡ filter (λ y. not (T.is_gone taking.now y)) ids.now) }
 {
     let left = IdList::from_vec(ids_left(alloc, taking, ids.as_slice())?);
-    let _ = left.as_slice();
+    left.attest();
     Ok(left)
 }
 

@@ -8,7 +8,7 @@ ghost use Rattle.zones_views.specs.Gone.{is_gone};
 
 use crate::entry::TakesOut;
 use crate::taking::Taking;
-use fields::{Id, Name};
+use fields::{Attest, Id, Name};
 use sysmods::VerChoice;
 use terms::ElemType;
 use zones::{Element, Zone};

@@ -7,7 +7,7 @@ ghost use Rattle.zones_views.specs.Gone.{is_cut, is_gone};
 
 use crate::entry::entry_less;
 use crate::taking::Taking;
-use fields::Id;
+use fields::{Attest, Id};
 use sorted::{Keyed, Table, TryClone};
 use std::alloc::{AllocError, Global};
 use sysmods::VerChoice;

@@ -1,7 +1,6 @@
-use Rattle.std.proofs.Common.{◌≡◌, ◌∷◌, [], length, refl, sym, ap, subst, ◌∙◌, append_assoc, append-nil, arith}
+use Rattle.std.proofs.Common.{◌≡◌, ◌∷◌, refl, sym, subst, ◌∙◌, arith}
 use Rattle.std.specs.Prelude.{Contains}
 use Rattle.std.specs.Vec.Iter.{into_iter_items}
-use Rattle.std.proofs.lemmas.List.{nil_from_length}
 use Rattle.std.proofs.lemmas.List.Elements.{Contains-append_right}
 use Rattle.lemmas.proofs.Members.{here}
 use Rattle.terms.specs.Lookups.{element_cmp, element_key}
@@ -9,6 +8,7 @@ use Rattle.terms.specs.Rising.{Rises}
 use Rattle.sorted.specs.Edits.{edit_key}
 use Rattle.zones.specs.Differing.{HasEditedElements}
 use Rattle.change.proofs.ElementEdits.{AreDone, done_none, done_next, done_all, entries_stay}
+use Rattle.change.proofs.Yielded.{one_more, one_less, all_yielded}
 use Rattle.change.proofs.differing.edit_elements.Goals as goal
 
 pub loop-edit-init : goal.loop-edit-init
@@ -27,7 +27,7 @@ loop-edit-preserved c =
     let steps : into_iter_items at.edit-iterator ≡ x ∷ into_iter_items c.next.new.self = c.in-Some.ensures.steps.0 in
     let all = at.invariant.all in
     record {
-      all = append_assoc at.yielded (x ∷ []) _ ∙ rw (← steps) all;
+      all = one_more at.yielded _ _ _ all at.invariant.count x _ steps;
       entries = entries_stay c.args.zone.now x at.delta c.edit_element.new.delta c.in_ok-edit_element.ensures
           ∙ at.invariant.entries;
       done = done_next c.args.zone.now (into_iter_items c.into_iter-edit-iterator.result)
@@ -37,19 +37,16 @@ loop-edit-preserved c =
           (subst (λ es. Contains es x) all (Contains-append_right at.yielded (into_iter_items at.edit-iterator) x
           (subst (λ es. Contains es x) (sym steps) (here x _))))
           at.invariant.done c.in_ok-edit_element.ensures;
-      count = let was = at.invariant.count in
-          let gone = c.in-Some.ensures.steps.1 in
-          let short = ap length steps in
-          omega arith;
+      count = let gone = c.in-Some.ensures.steps.1 in
+          one_less at.yielded _ _ _ all at.invariant.count x _ steps _ (omega (arith, gone));
     }
 
 pub returns : goal.returns
 returns c =
     let at = c.loop-edit in
-    let empty : into_iter_items at.edit-iterator ≡ [] = nil_from_length _
-    (sym at.invariant.count ∙ c.in-None.ensures.steps.0) in
     let edits = into_iter_items c.into_iter-edit-iterator.result in
-    let yielded : at.yielded ≡ edits = sym (append-nil at.yielded) ∙ rw empty at at.invariant.all in
+    let yielded : at.yielded ≡ edits =
+    all_yielded at.yielded _ _ _ at.invariant.all at.invariant.count c.in-None.ensures.steps.0 in
     subst (λ es. HasEditedElements c.args.zone.now es c.args.delta.now at.delta)
     c.into_iter-edit-iterator.ensures.into_iter_gives.0
     (done_all c.args.zone.now edits c.args.delta.now at.delta at.invariant.entries

@@ -1,5 +1,3 @@
-use Rattle.std.proofs.Common.{subst}
-use Rattle.terms.specs.Lookups.{IsRising}
 use Rattle.change.proofs.Made.{waived_from}
 use Rattle.change.proofs.entries.waived.Goals as goal
 
@@ -7,4 +5,4 @@ pub returns : goal.returns
 returns c =
     waived_from c.args.deleting.now c.args.plan.now c.args.id c.listed-bypassed.result.now c.in_ok-open.open.items
     c.from_vec-ids.result c.in_ok-open.ensures c.listed-bypassed.ensures
-    c.from_vec-ids.ensures (subst IsRising c.as_slice.ensures.items c.as_slice.ensures.rising)
+    c.from_vec-ids.ensures c.attest.ensures

@@ -1,12 +1,15 @@
 use Rattle.std.proofs.Common.{subst, take_all, arith}
 use Rattle.terms.specs.Types.{Change}
-use Rattle.change.specs.Grouping.{AddsBy, change_key, key_cmp}
-use Rattle.change.specs.Lists.{Adds}
-use Rattle.change.proofs.Grouped.{by_none, by_next}
+use Rattle.terms.specs.Lookups.{change_key}
+use Rattle.sorted.specs.ElementKeys.{key_cmp}
+use Rattle.sorted.specs.Lists.{Adds}
+use Rattle.sorted.proofs.Listing.{adds_to_none}
+use Rattle.change.specs.Grouping.{AddsBy}
+use Rattle.change.proofs.Grouped.{by_next}
 use Rattle.change.proofs.grouping.add_each.Goals as goal
 
 pub loop-change-init : goal.loop-change-init
-loop-change-init c = by_none c.args.id c.args.changers.now
+loop-change-init c = adds_to_none key_cmp c.args.id c.args.changers.now
 
 pub loop-change-preserved : goal.loop-change-preserved
 loop-change-preserved c =

@@ -9,7 +9,7 @@ loop-id-init c = changers_none c.args.global.now c.new-changers.result c.new-cha
 pub loop-id-preserved : goal.loop-id-preserved
 loop-id-preserved c =
     changers_next c.args.global.now c.args.ids.now c.loop-id.id-index c.id-item.result c.loop-id.changers
-    c.add_changes.new.changers c.len.ensures.form (omega arith) c.id-item.is c.loop-id.invariant
+    c.add_changes.new.changers c.attest.ensures (omega arith) c.id-item.is c.loop-id.invariant
     c.in_ok-add_changes.ensures
 
 pub returns : goal.returns

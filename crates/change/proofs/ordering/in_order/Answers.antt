@@ -1,5 +1,5 @@
-use Rattle.std.proofs.Common.{List, ◌≤◌, ◌<◌, ◌-◌, All, AllPairs, IsPermutation, drop, get_or, length, subst, sym, take}
-use Rattle.std.proofs.Common.{◌+◌}
+use Rattle.std.proofs.Common.{List, ◌≤◌, ◌<◌, ◌-◌, ◌+◌, ◌∙◌, All, AllPairs, IsPermutation, drop, get_or, length, subst}
+use Rattle.std.proofs.Common.{subst₂, sym, take}
 use Rattle.sysmods.specs.Choices.{choice}
 use Rattle.terms.specs.Types.{Id}
 use Rattle.terms.specs.Over.{IsOver}
@@ -8,7 +8,7 @@ use Rattle.change.proofs.ordering.in_order.Goals as goal
 
 pub loop-id-preserved : goal.loop-id-preserved
 loop-id-preserved c =
-    let over = IsOver (choice c.args.vers.now) in
+    let over = IsOver (choice c.args.overs.now) in
     let ids = c.args.ids.now in
     let k = c.loop-id.id-index in
     let x = c.id-item.result in
@@ -17,14 +17,21 @@ loop-id-preserved c =
     let below = c.loop-id-test.true in
     let same = c.loop-id.invariant.same in
     let placed = c.in_ok-place.ensures in
+    let known = c.loop-id.invariant.overs in
     let listed = c.deref.ensures.value in
     let inserted = sym {A = List Id} c.in_ok-insert.ensures.items in
     record {
+      overs = placed.overs ∙ known;
       same = subst (IsPermutation (take (k + 1) ids)) inserted (permuted_more ids k x xs p below c.id-item.is same);
       order = subst (AllPairs (λ y z. over z y)) inserted
-          (ordered_more (choice c.args.vers.now) ids k x xs p c.requires below c.id-item.is same
+          (ordered_more (choice c.args.overs.now) ids k x xs p c.requires below c.id-item.is same
           c.loop-id.invariant.order
           (subst (λ l. p ≤ length l) listed placed.within)
-          (subst (λ l. 0 < p → over x (get_or l (p - 1) x)) listed placed.front)
-          (subst (λ l. All (λ y. ¬ over x y) (drop p l)) listed placed.back));
+          (subst₂ (λ v l. 0 < p → IsOver (choice v) x (get_or l (p - 1) x)) known listed placed.front)
+          (subst₂ (λ v l. All (λ y. ¬ IsOver (choice v) x y) (drop p l)) known listed placed.back));
     }
+
+pub place_of-requires : goal.place_of-requires
+place_of-requires c =
+    subst₂ (λ v l. AllPairs (λ x y. IsOver (choice v) y x) l) (sym c.loop-id.invariant.overs)
+    (sym c.deref.ensures.value) c.loop-id.invariant.order

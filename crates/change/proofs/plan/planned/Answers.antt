@@ -1,42 +1,44 @@
-use Rattle.std.proofs.Common.{◌≡◌, ◌∙◌, ◌++◌, ap₂, sym, subst, map}
+use Rattle.std.proofs.Common.{◌∙◌, ◌++◌, ap₂, sym, subst, map}
 use Rattle.std.specs.Prelude.{◌↔◌, Contains}
 use Rattle.terms.specs.Types.{Id}
-use Rattle.sysmods.specs.Choices.{number_in, choice}
+use Rattle.terms.specs.Global.{IsGlobal}
 use Rattle.terms.specs.Install.{Installation, TakesEffect}
-use Rattle.change.specs.Pairs.{AreGrouped}
-use Rattle.change.specs.Superseded.{AreSuperseded}
-use Rattle.change.specs.Plans.{installation, IsPlan}
+use Rattle.sysmods.specs.Choices.{choice}
+use Rattle.change.specs.Pairs.{AreGroupedBack}
+use Rattle.change.specs.Plans.{installation_of, IsPlan}
+use Rattle.change.proofs.ChosenVers.{looked_up, never_itself}
 use Rattle.change.proofs.Planned.{is_plan}
+use Rattle.change.proofs.TakingEffect.{takes_effect}
 use Rattle.change.proofs.plan.planned.Goals as goal
 
 pub returns : goal.returns
 returns c =
-    let g = c.args.vers.now.global.now in
-    let by = choice c.args.vers.now in
-    let numbers = number_in c.args.vers.now in
-    let zone = c.args.zone.now in
-    let kept = c.args.kept.now in
-    let effective = c.in_ok-effective.effective in
-    let pairs = c.in_ok-pairs.pairs.items in
-    let takes : (i : Installation) → i.kept ≡ kept → i.choice ≡ by
-    → (x : Id) → Contains effective x ↔ TakesEffect i x =
-    c.in_ok-effective.ensures in
-    let are : AreSuperseded by effective pairs =
-    rw (← c.as_slice.ensures.items) c.in_ok-pairs.ensures in
+    let vers = c.args.vers.now in
+    let i : Installation = installation_of vers c.args.installing.now in
     let dels = c.args.dels.now in
-    subst (λ xs. IsPlan (installation g by numbers zone kept c.args.bypassed.now c.args.date) dels (record {
+    let effective = c.in_ok-effective.effective in
+    let touched = c.in_ok-touched.touched in
+    let pairs = c.in_ok-pairs.pairs.items in
+    let is_global : IsGlobal vers.global.now = rw c.global.ensures at c.attest.ensures in
+    let never = never_itself vers.global.now vers.srel (choice vers) (looked_up vers) is_global.no_loop in
+    let effect : (x : Id) → Contains effective x ↔ TakesEffect i x = λ x.
+    let un = c.in_ok-effective.ensures x in
+    let takes = takes_effect i c.args.installing.now.superseded.now never c.requires x in
+    (λ h. takes.0 (un.0 h), λ h. un.1 (takes.1 h)) in
+    subst (λ xs. IsPlan i dels (record {
       effective = xs;
-      superseders = c.in_ok-grouped.field-0;
-      bypassed = c.in_ok-grouped-2.field-0;
-      touched = c.in_ok-touched.touched;
-      date = c.args.date;
+      superseders = c.in_ok-grouped_by_second.field-0;
+      bypassed = c.in_ok-grouped.field-0;
+      touched = touched;
+      date = i.date;
     })) (sym c.effective.view_is)
-    (is_plan g by numbers zone kept c.args.bypassed.now c.args.date dels effective c.in_ok-touched.touched pairs
-    c.in_ok-grouped.field-0 c.in_ok-grouped-2.field-0 takes are
-    (subst (λ ids. (x : Id) → Contains c.in_ok-touched.touched x ↔ Contains ids x)
+    (is_plan i dels effective touched c.args.installing.now.superseded.now pairs c.in_ok-grouped_by_second.field-0
+    c.in_ok-grouped.field-0 effect c.requires c.in_ok-pairs.ensures
+    (subst (λ ids. (x : Id) → Contains touched x ↔ Contains ids x)
     (ap₂ (λ xs ys. xs ++ ys)
-    (ap₂ (λ xs ys. map (λ p. p.0) xs ++ ys) c.as_slice-3.ensures.value c.as_slice-2.ensures.items)
+    (ap₂ (λ xs ys. map (λ p. p.1) xs ++ ys) c.as_slice-2.ensures.value c.as_slice.ensures.items)
     (c.deref.ensures.value ∙ c.in_ok-at_stake.ensures))
     c.in_ok-touched.ensures)
-    (subst (λ ps. AreGrouped ps c.in_ok-grouped.field-0) c.as_slice-4.ensures.value c.in_ok-grouped.ensures)
-    c.in_ok-grouped-2.ensures)
+    (subst (λ ps. AreGroupedBack ps c.in_ok-grouped_by_second.field-0) c.as_slice-3.ensures.value
+    c.in_ok-grouped_by_second.ensures)
+    c.in_ok-grouped.ensures)

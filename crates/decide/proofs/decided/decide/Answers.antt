@@ -1,10 +1,12 @@
-use Rattle.std.proofs.Common.{◌∙◌, map, subst}
-use Rattle.terms.specs.Lookups.{IsRising, is_nil}
+use Rattle.std.proofs.Common.{◌∙◌, map}
+use Rattle.terms.specs.Lookups.{is_nil}
 use Rattle.decide.specs.Said.{Said}
 use Rattle.decide.proofs.CandidateIds.{decided}
 use Rattle.decide.proofs.Demands.{said_problem}
-use Rattle.decide.proofs.Passing.{eligible_is, map_through}
+use Rattle.decide.proofs.Passing.{eligible_is}
 use Rattle.decide.proofs.decided.decide.Goals as goal
+use Rattle.std.proofs.Common.{sym}
+use Rattle.std.proofs.lemmas.Simd.{map-map}
 
 pub returns : goal.returns
 returns c fails tested =
@@ -15,9 +17,9 @@ returns c fails tested =
       superseded = c.args.superseded.now;
     } in
     let rows = map (λ row. row.items) c.args.tests.items in
-    let rising = subst IsRising c.as_slice.ensures.items c.as_slice.ensures.rising in
-    let flagged = (rw c.as_slice-2.ensures.value at c.in_ok-eligible.ensures)
-    ∙ map_through (λ row. row.items) is_nil c.args.tests.items in
+    let rising = c.attest.ensures in
+    let flagged = (rw c.as_slice.ensures.value at c.in_ok-eligible.ensures)
+    ∙ sym (map-map is_nil (λ row. row.items) c.args.tests.items) in
     let problem = said_problem s c.in_ok-eligible.eligible.items c.in_ok-system.system rising c.requires.once
     (eligible_is s rows tested c.in_ok-eligible.eligible.items flagged) c.in_ok-system.ensures.valid
     c.in_ok-system.ensures.problem in

@@ -3,7 +3,6 @@ use Rattle.std.proofs.lemmas.Option.{slice_get_read}
 use Rattle.lemmas.proofs.Lists.{front_more}
 use Rattle.lemmas.proofs.Places.{All-found}
 use Rattle.terms.specs.Types.{Id}
-use Rattle.terms.specs.Lookups.{IsRising}
 use Rattle.decide.specs.Serving.{AddsSuperseded}
 use Rattle.decide.proofs.CandidateIds.{one_number}
 use Rattle.decide.proofs.Standing.{superseded_next, superseded_none}
@@ -22,7 +21,7 @@ loop-pair-preserved c =
     let over = c.args.superseded.now in
     let k = c.loop-pair.pair-index in
     let pair = c.pair-item.result in
-    let rising = subst IsRising c.as_slice.ensures.items c.as_slice.ensures.rising in
+    let rising = c.attest.ensures in
     subst (λ l. AddsSuperseded ids l c.args.pairs.now.items c.push.new.self.items)
     (sym (front_more over k pair (omega arith) c.pair-item.is))
     (superseded_next ids (take k over) pair c.own_place.result c.args.pairs.now.items c.loop-pair.pairs.items

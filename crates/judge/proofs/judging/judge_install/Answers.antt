@@ -1,32 +1,25 @@
-use Rattle.std.proofs.Common.{map, subst, sym, Contains, All}
-use Rattle.std.specs.Prelude.{◌↔◌, IfOk, IsTrue, option_copied}
-use Rattle.terms.specs.Types.{Id}
-use Rattle.terms.specs.Candidates.{is_installable}
-use Rattle.terms.specs.Needs.{bypassed_ids}
-use Rattle.sysmods.specs.Choices.{choice}
-use Rattle.judge.specs.InstallJudged.{IsInstallJudged}
-use Rattle.judge.proofs.Chosen.{same_setting}
+use Rattle.std.proofs.Common.{map}
+use Rattle.std.specs.Prelude.{option_copied}
+use Rattle.terms.specs.Tests.{Setting, AreSurvivors}
+use Rattle.zones_views.specs.Scopes.{setting_with}
+use Rattle.judge.proofs.SaidOf.{install_judged}
+use Rattle.judge.proofs.Survivors.{survivors_are}
 use Rattle.judge.proofs.judging.judge_install.Goals as goal
-
-pub judge_by-requires : goal.judge_by-requires
-judge_by-requires c =
-    subst (λ g. All (λ x. IsTrue (is_installable g c.args.zone.now x)) c.args.ids.now)
-    (sym c.in_ok-vers.ensures.global) c.requires
 
 pub returns-clause-judged : goal.returns-clause-judged
 returns-clause-judged c =
-    subst (λ s. IfOk c.judge_by.result (λ j. IsInstallJudged s (map (λ row. row.items) j.tests.items) j.wants.items
-    j.superseded.items))
-    (same_setting c.args.zone.now (option_copied c.args.related) c.args.ids.now c.args.bypass.now c.args.global.now
-    c.in_ok-vers.vers.global.now (choice c.in_ok-vers.vers) c.in_ok-vers.ensures.global
-    c.in_ok-vers.ensures.counting)
-    c.judge_by.ensures.judged
+    let scope = c.args.scope.now in
+    let related = option_copied c.args.related in
+    let s : Setting = setting_with scope related in
+    let rows = map (λ row. row.items) c.in_ok-tests.field-0.tests.items in
+    let are : AreSurvivors s c.in_ok-survivors.survivors =
+    survivors_are s rows c.in_ok-tests.ensures.tests c.in_ok-survivors.survivors c.in_ok-survivors.ensures.rising
+    (rw c.as_slice.ensures.value at c.in_ok-survivors.ensures.members) in
+    install_judged scope related c.in_ok-survivors.survivors are rows c.in_ok-tests.ensures.tests
+    c.in_ok-wants.wants.items c.in_ok-wants.ensures c.in_ok-superseded.superseded.items c.in_ok-superseded.ensures
 
 pub returns-clause-bypassed : goal.returns-clause-bypassed
-returns-clause-bypassed c =
-    subst (λ s. IfOk c.judge_by.result (λ j. (x z : Id) → Contains {X = Id × Id} j.bypassed.items (x, z)
-    ↔ (Contains c.args.ids.now x × Contains (bypassed_ids s x) z)))
-    (same_setting c.args.zone.now (option_copied c.args.related) c.args.ids.now c.args.bypass.now c.args.global.now
-    c.in_ok-vers.vers.global.now (choice c.in_ok-vers.vers) c.in_ok-vers.ensures.global
-    c.in_ok-vers.ensures.counting)
-    c.judge_by.ensures.bypassed
+returns-clause-bypassed c = c.in_ok-bypassed.ensures
+
+pub returns-clause-superseded : goal.returns-clause-superseded
+returns-clause-superseded c = c.in_ok-superseded.ensures

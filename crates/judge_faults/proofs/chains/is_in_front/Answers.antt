@@ -7,10 +7,10 @@ use Rattle.judge_faults.specs.Sharing.{IsBelow, IsChain}
 use Rattle.judge_faults.proofs.Chained.{back_above}
 use Rattle.judge_faults.proofs.chains.is_in_front.Goals as goal
 
-pub returns : goal.returns
-returns c =
-    let g = c.args.vers.now.global.now in
-    let choices = choice c.args.vers.now in
+pub returns-clause-fits : goal.returns-clause-fits
+returns-clause-fits c =
+    let g = c.args.overs.now.global.now in
+    let choices = choice c.args.overs.now in
     let chain = c.args.chain.now in
     let claim = c.args.claim.now in
     let place = c.args.place in
@@ -19,4 +19,4 @@ returns c =
     → All (λ b. IsBelow g choices claim b) (drop place chain))
     (λ below tells on ordered. back_above g choices chain claim ordered place first
     (slice_get_read chain (length chain) place first refl (omega arith) c.index-chain-place.is) (tells.0 on))
-    c.is_below.ensures
+    c.is_below.ensures.below

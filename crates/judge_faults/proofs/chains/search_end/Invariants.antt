@@ -1,4 +1,4 @@
-use Rattle.std.proofs.Common.{◌≤◌, ◌-◌, length, take}
+use Rattle.std.proofs.Common.{◌≡◌, ◌≤◌, ◌-◌, length, take}
 use Rattle.std.specs.Prelude.{All}
 use Rattle.sysmods.specs.Choices.{choice}
 use Rattle.judge_faults.specs.Sharing.{IsBelow, IsChain}
@@ -7,10 +7,11 @@ use Rattle.judge_faults.proofs.chains.search_end.Given as goal
 -- the claim is over all in front of the lower end
 abbrev pub invariant-loop-low : goal.invariant-loop-low
 invariant-loop-low l = record {
+  same : l.overs ≡ l.fn.overs;
   ordered : l.low ≤ l.high;
   within : l.high ≤ length l.chain;
-  front : IsChain l.vers.global.now (choice l.vers) l.chain
-      → All (λ b. IsBelow l.vers.global.now (choice l.vers) b l.claim) (take l.low l.chain);
+  front : IsChain l.fn.overs.global.now (choice l.fn.overs) l.chain
+      → All (λ b. IsBelow l.fn.overs.global.now (choice l.fn.overs) b l.claim) (take l.low l.chain);
 }
 
 abbrev pub decreases-loop-low : goal.decreases-loop-low

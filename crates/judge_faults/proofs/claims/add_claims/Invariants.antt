@@ -1,5 +1,6 @@
 use Rattle.std.proofs.Common.{◌≡◌, ◌++◌, map, take}
-use Rattle.judge_faults.specs.Claims.{change_key, a_claim}
+use Rattle.terms.specs.Lookups.{change_key}
+use Rattle.judge_faults.specs.Claims.{a_claim}
 use Rattle.judge_faults.proofs.claims.add_claims.Given as goal
 
 abbrev pub invariant-loop-change : goal.invariant-loop-change

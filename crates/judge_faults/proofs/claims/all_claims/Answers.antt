@@ -1,7 +1,8 @@
 use Rattle.std.proofs.Common.{◌≡◌, ◌∙◌, ◌++◌, [], ap, map, length, refl, cond, arith, subst}
 use Rattle.std.proofs.lemmas.Option.{slice_get_read}
 use Rattle.judge_faults.specs.Own.{passes}
-use Rattle.judge_faults.specs.Claims.{change_key, a_claim, AreClaims}
+use Rattle.terms.specs.Lookups.{change_key}
+use Rattle.judge_faults.specs.Claims.{a_claim, AreClaims}
 use Rattle.judge_faults.proofs.Claimed.{claims_next}
 use Rattle.judge_faults.proofs.claims.all_claims.Goals as goal
 

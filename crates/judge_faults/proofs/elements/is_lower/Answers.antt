@@ -9,15 +9,15 @@ use Rattle.judge_faults.proofs.elements.is_lower.Goals as goal
 pub returns-then-not-branch-clause-lower : goal.returns-then-not-branch-clause-lower
 returns-then-not-branch-clause-lower c =
     rw (← c.element.view_is)
-    (lower_first (choice c.args.vers.now) c.args.id c.element.inside.rmid c.element.inside.umids
+    (lower_first (choice c.args.overs.now) c.args.id c.element.inside.rmid c.element.inside.umids
     (λ over. true≢false (sym (c.in_ok-over.ensures.over.1 over) ∙ search)))
 
 pub returns-clause-lower : goal.returns-clause-lower
 returns-clause-lower c =
     rw (← c.element.view_is)
     (IfOk-weaker c.is_not_over_one.result _
-    (λ lower. IsTrue lower ↔ Any (λ z. ¬ IsOver (choice c.args.vers.now) c.args.id z)
+    (λ lower. IsTrue lower ↔ Any (λ z. ¬ IsOver (choice c.args.overs.now) c.args.id z)
     (c.element.inside.rmid ∷ c.element.inside.umids))
-    (λ lower h. lower_rest (choice c.args.vers.now) c.args.id c.element.inside.rmid c.element.inside.umids lower
+    (λ lower h. lower_rest (choice c.args.overs.now) c.args.id c.element.inside.rmid c.element.inside.umids lower
     (c.in_ok-over.ensures.over.0 search) h)
-    (rw c.as_slice.ensures.items at c.is_not_over_one.ensures.lower))
+    (rw (c.as_slice.ensures.items, c.in_ok-over.ensures.same) at c.is_not_over_one.ensures.lower))

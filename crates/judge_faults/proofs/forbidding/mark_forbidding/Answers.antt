@@ -1,8 +1,7 @@
 use Rattle.std.proofs.Common.{◌≡◌, length, arith, subst}
 use Rattle.sysmods.specs.Choices.{choice}
 use Rattle.judge_faults.specs.Sharing.{Marks}
-use Rattle.judge_faults.specs.Forbidding.{IsByNpreBefore}
-use Rattle.judge_faults.proofs.Naming.{before_next, before_all}
+use Rattle.judge_faults.proofs.Naming.{IsByNpreBefore, before_next, before_all}
 use Rattle.judge_faults.proofs.forbidding.mark_forbidding.Goals as goal
 
 pub loop-i-preserved : goal.loop-i-preserved

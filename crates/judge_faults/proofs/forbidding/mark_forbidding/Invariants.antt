@@ -1,6 +1,6 @@
 use Rattle.sysmods.specs.Choices.{choice}
 use Rattle.judge_faults.specs.Sharing.{Marks}
-use Rattle.judge_faults.specs.Forbidding.{IsByNpreBefore}
+use Rattle.judge_faults.proofs.Naming.{IsByNpreBefore}
 use Rattle.judge_faults.proofs.forbidding.mark_forbidding.Given as goal
 
 abbrev pub invariant-loop-i : goal.invariant-loop-i

@@ -1,4 +1,4 @@
-use Rattle.std.proofs.Common.{length, ap, arith}
+use Rattle.std.proofs.Common.{◌∙◌, length, ap, arith}
 use Rattle.std.specs.Prelude.{option_copied}
 use Rattle.zones_views.specs.Scopes.{setting_with}
 use Rattle.judge_faults.specs.Own.{HasFaults}
@@ -7,7 +7,7 @@ use Rattle.judge_faults.proofs.own.all_faults.Goals as goal
 
 pub own_faults-requires : goal.own_faults-requires
 own_faults-requires c = record {
-  memo = c.loop-id.invariant.memo;
+  overs = c.loop-id.invariant.same ∙ c.requires;
   forbidders = c.in_ok-forbidders.ensures;
 }
 
@@ -15,7 +15,7 @@ pub loop-id-preserved : goal.loop-id-preserved
 loop-id-preserved c =
     let scope = c.args.scope.now in
     record {
-      memo = c.in_ok-own_faults.ensures.memo;
+      same = c.in_ok-own_faults.ensures.same ∙ c.loop-id.invariant.same;
       beside = beside_next (λ n x own. HasFaults (setting_with scope
           (option_copied c.args.related)) x own) scope.ids.now
           c.loop-id.faults.items c.push.new.self.items c.loop-id.id-index c.id-item.result
@@ -24,8 +24,8 @@ loop-id-preserved c =
           c.in_ok-own_faults.ensures.faults c.loop-id.invariant.beside;
     }
 
-pub returns : goal.returns
-returns c =
+pub returns-clause-faults : goal.returns-clause-faults
+returns-clause-faults c =
     let scope = c.args.scope.now in
     beside_through (λ n x own. HasFaults (setting_with scope (option_copied c.args.related)) x own) scope.ids.now
     c.loop-id.faults.items c.loop-id.id-index

@@ -1,50 +1,37 @@
-use Rattle.std.proofs.Common.{All, arith, subst, sym}
+use Rattle.std.proofs.Common.{◌∙◌, All, arith, subst, sym}
 use Rattle.terms.specs.Candidates.{is_installable}
 use Rattle.std.specs.Prelude.{IsTrue, option_copied}
 use Rattle.terms.specs.Global.{IsGlobal}
 use Rattle.zones_views.specs.Scopes.{global_of, setting_with}
 use Rattle.judge_faults.proofs.Few.{few}
 use Rattle.judge_faults.proofs.Deleting.{own_still, eight}
-use Rattle.judge_faults.proofs.Places.{are_failed, are_eligible}
+use Rattle.judge_faults.proofs.Places.{are_failed}
 use Rattle.judge_faults.proofs.tested.test_all.Goals as goal
 
-pub prove-unreachable-requires-2 : goal.prove-unreachable-requires-2
-prove-unreachable-requires-2 c =
+pub prove-unreachable-requires : goal.prove-unreachable-requires
+prove-unreachable-requires c =
     let g = global_of c.args.scope.now in
     let zone = c.args.scope.now.zone.now in
     omega (
       arith,
-      c.if-prove-2.true,
-      few g zone (rw c.global.ensures at c.len.ensures.form) c.as_slice-list.result.now c.as_slice-list.ensures.rising
+      c.if-prove.true,
+      few g zone (rw c.global.ensures at c.attest.ensures) c.as_slice-list.result.now c.as_slice-list.ensures.rising
           (subst (All (λ x. IsTrue (is_installable g zone x))) (sym c.as_slice-list.ensures.items) c.requires),
     )
 
 pub returns-clause-tests : goal.returns-clause-tests
 returns-clause-tests c =
     let s = setting_with c.args.scope.now (option_copied c.args.related) in
-    let form : IsGlobal (global_of c.args.scope.now) = rw c.global.ensures at c.len.ensures.form in
+    let form : IsGlobal (global_of c.args.scope.now) = rw c.global.ensures at c.attest.ensures in
     let rising = rw c.as_slice-list.ensures.items at c.as_slice-list.ensures.rising in
     let alone = c.in_ok-alone.alone.items in
     let faults = c.in_ok-faults.faults.items in
     let told = rw (c.as_slice-list.ensures.items, c.as_slice.ensures.value) at c.in_ok-faults.ensures in
-    let clashing = rw (c.as_slice-list.ensures.items, c.as_slice-2.ensures.value) at c.in_ok-clashing.ensures in
+    let same = c.in_ok-alone.ensures.same ∙ c.new-overs.ensures in
+    let clashing = rw (c.as_slice-list.ensures.items, c.as_slice-2.ensures.value, same) at
+    c.in_ok-clashing.ensures.clashing in
     are_failed s form rising faults
-    (own_still s form alone faults c.in_ok-alone.ensures told.0 told.1 told.2)
-    (eight s form alone faults c.in_ok-alone.ensures told.0 told.1 told.2)
+    (own_still s form alone faults c.in_ok-alone.ensures.faults told.0 told.1 told.2)
+    (eight s form alone faults c.in_ok-alone.ensures.faults told.0 told.1 told.2)
     c.in_ok-clashing.clashing.keys clashing (λ row. row.items) c.in_ok-tests.tests.items
     (rw c.as_slice-3.ensures.value at c.in_ok-tests.ensures)
-
-pub returns-clause-eligible : goal.returns-clause-eligible
-returns-clause-eligible c =
-    let s = setting_with c.args.scope.now (option_copied c.args.related) in
-    let form : IsGlobal (global_of c.args.scope.now) = rw c.global.ensures at c.len.ensures.form in
-    let rising = rw c.as_slice-list.ensures.items at c.as_slice-list.ensures.rising in
-    let alone = c.in_ok-alone.alone.items in
-    let faults = c.in_ok-faults.faults.items in
-    let told = rw (c.as_slice-list.ensures.items, c.as_slice.ensures.value) at c.in_ok-faults.ensures in
-    let clashing = rw (c.as_slice-list.ensures.items, c.as_slice-2.ensures.value) at c.in_ok-clashing.ensures in
-    are_eligible s form rising faults
-    (own_still s form alone faults c.in_ok-alone.ensures told.0 told.1 told.2)
-    (eight s form alone faults c.in_ok-alone.ensures told.0 told.1 told.2)
-    c.in_ok-clashing.clashing.keys clashing c.in_ok-eligible.eligible.items
-    (rw c.as_slice-4.ensures.value at c.in_ok-eligible.ensures)

@@ -5,7 +5,7 @@ use Rattle.terms.specs.Ptfin.{sysmod_in}
 use Rattle.mcs.specs.Files.{begun_in}
 use Rattle.mcs_statements.specs.KnownWords.{own_list}
 use Rattle.mcs.proofs.Saying.{change_excludes}
-use Rattle.mcs.proofs.Changing.{a_change, change_value, names_excluded, text_fault, action_from}
+use Rattle.mcs.proofs.Changing.{a_change, change_value, names_excluded, text_fault, replacement_fits}
 use Rattle.mcs.proofs.change.change_statement.Goals as goal
 
 pub returns-in_default-clause-fault : goal.returns-in_default-clause-fault
@@ -46,6 +46,6 @@ returns-clause-said c = λ rest h.
           rest inline c.in-Ok.lines.items c.args.elem_type n.0 c.in-Some.names.name c.in-Some.names.distlib
           c.in-Some.names.syslib c.requires n.1 n.2 c.in-Ok.ensures.text;
       within = c.is_within.ensures.0 c.if-not-is_within.false;
-      text = rw c.in-Ok.ensures.text (action_from c.args.elem_type c.in-Some.names.name c.in-Some.names.distlib
-          c.in-Some.names.syslib inline c.in-Ok.ensures.good);
+      text = rw c.in-Ok.ensures.text ((replacement_fits c.args.elem_type c.in-Some.names.name
+          c.in-Some.names.distlib c.in-Some.names.syslib inline).1 c.in-Ok.ensures.good);
     }

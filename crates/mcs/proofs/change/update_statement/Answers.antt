@@ -4,25 +4,19 @@ use Rattle.terms.specs.Statements.{SaysChange}
 use Rattle.terms.specs.Ptfin.{sysmod_in}
 use Rattle.mcs_statements.specs.KnownWords.{own_list}
 use Rattle.mcs.specs.Files.{begun_in}
-use Rattle.mcs.proofs.Saying.{change_excludes}
-use Rattle.mcs.proofs.Changing.{an_update, update_value, update_excluded, update_fault, update_from}
+use Rattle.mcs.proofs.Changing.{an_update, update_value, no_update, update_fault, update_from}
 use Rattle.mcs.proofs.change.update_statement.Goals as goal
 
 pub returns-then-not-is_ended-clause-fault : goal.returns-then-not-is_ended-clause-fault
 returns-then-not-is_ended-clause-fault c = λ rest h.
-    change_excludes (sysmod_in (begun_in c.args.current.now)) c.args.known.now.word (own_list c.args.known.now) rest
-    c.args.known.now.rest.inline.now c.args.elem_type c.requires.0
-    (λ ws ch hw r. update_excluded c.args.known.now.word (own_list c.args.known.now) rest ws
-    c.args.known.now.rest.inline.now ch c.requires.1
-    (λ name own none. true≢false (sym ((c.is_ended.ensures rest h).1 none) ∙ c.if-not-is_ended.true)) hw r)
+    no_update (sysmod_in (begun_in c.args.current.now)) c.args.known.now.word (own_list c.args.known.now) rest
+    c.args.known.now.rest.inline.now c.args.elem_type c.requires
+    (λ name own none. true≢false (sym ((c.is_ended.ensures rest h).1 none) ∙ c.if-not-is_ended.true))
 
 pub returns-in_default-clause-fault : goal.returns-in_default-clause-fault
 returns-in_default-clause-fault c = λ rest h.
-    change_excludes (sysmod_in (begun_in c.args.current.now)) c.args.known.now.word (own_list c.args.known.now) rest
-    c.args.known.now.rest.inline.now c.args.elem_type c.requires.0
-    (λ ws ch hw r. update_excluded c.args.known.now.word (own_list c.args.known.now) rest ws
-    c.args.known.now.rest.inline.now ch c.requires.1
-    (λ name own none. c.in_default.ensures.none name own) hw r)
+    no_update (sysmod_in (begun_in c.args.current.now)) c.args.known.now.word (own_list c.args.known.now) rest
+    c.args.known.now.rest.inline.now c.args.elem_type c.requires (λ name own none. c.in_default.ensures.none name own)
 
 pub returns-then-not-is_within-clause-fault : goal.returns-then-not-is_within-clause-fault
 returns-then-not-is_within-clause-fault c = λ rest h.
@@ -49,7 +43,7 @@ returns-clause-said c = λ rest h.
     let inline = c.args.known.now.rest.inline.now in
     let end = (c.is_ended.ensures rest h).0 c.if-not-is_ended.false in record {
       value = update_value (sysmod_in (begun_in c.args.current.now)) c.args.known.now.word (own_list c.args.known.now)
-          rest inline c.in-Ok.lines.items c.args.elem_type c.in-Some.name c.requires end c.in-Some.ensures.one
+          rest inline c.in-Ok.update c.args.elem_type c.in-Some.name c.requires end c.in-Some.ensures.one
           c.in-Ok.ensures.text;
       within = c.is_within.ensures.0 c.if-not-is_within.false;
       text = rw c.in-Ok.ensures.text (update_from c.args.known.now.word c.args.elem_type c.in-Some.name inline

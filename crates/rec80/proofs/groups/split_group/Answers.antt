@@ -1,9 +1,9 @@
 use Rattle.std.proofs.Common.{◌≡◌, ◌∙◌, ap, arith, drop}
 use Rattle.std.specs.List.{prefix_len}
 use Rattle.std.proofs.lemmas.List.{length-drop, take_rest}
-use Rattle.rec80.proofs.Cuts.{prefix_within}
 use Rattle.rec80.proofs.GroupCuts.{is_later, IsFirstGroup, first_group}
 use Rattle.rec80.proofs.groups.split_group.Goals as goal
+use Rattle.std.proofs.lemmas.List.Sums.{prefix_len-le-length}
 
 later : (c : goal.After-later_len) → c.later_len.result ≡ prefix_len is_later (drop 1 c.args.records.now)
 later c = c.later_len.ensures ∙ ap (prefix_len is_later) (take_rest c.args.records.now 1)
@@ -12,7 +12,7 @@ pub overflow_add-later_len : goal.overflow_add-later_len
 overflow_add-later_len c = omega (
   arith,
   later c,
-  prefix_within is_later (drop 1 c.args.records.now),
+  prefix_len-le-length is_later (drop 1 c.args.records.now),
   length-drop 1 c.args.records.now,
 )
 
@@ -20,7 +20,7 @@ pub split_at-requires : goal.split_at-requires
 split_at-requires c = omega (
   arith,
   later c,
-  prefix_within is_later (drop 1 c.args.records.now),
+  prefix_len-le-length is_later (drop 1 c.args.records.now),
   length-drop 1 c.args.records.now,
 )
 

@@ -12,7 +12,7 @@ returns c = record {
   lines = map line_view c.in_ok-lines.lines.items;
   outcome_is = refl;
   lines_are =
-      are_errsysmods c.args.global.now c.args.zone.now c.len.ensures.form c.in_ok-errors.errors.items c.in_ok-all.all
+      are_errsysmods c.args.global.now c.args.zone.now c.attest.ensures c.in_ok-errors.errors.items c.in_ok-all.all
       c.in_ok-lines.lines.items c.in_ok-errors.ensures
       (subst (λ l. AreResolvers c.args.global.now (has_ver c.args.global.now c.args.zone.now.srel)
       (counting c.args.global.now c.args.zone.now []) l c.in_ok-all.all)

@@ -11,6 +11,7 @@ returns c =
     let vers = choice c.args.vers.now in
     let these = has_ver c.args.vers.now.global.now c.args.vers.now.srel in
     let there : IsTrue (these c.args.by) = search rules in
-    gains_sysmod these vers c.args.by c.as_slice.result.now c.args.all.now c.add.new.all c.add_each.new.all there
+    gains_sysmod c.args.asked.now these vers c.args.by c.as_slice.result.now c.args.all.now c.add_asked.new.all
+    c.add_asked-2.new.all there
     (subst (λ l. (z : Id) → Contains l z ↔ Supersedes vers c.args.by z) (sym c.as_slice.ensures.items)
-    c.in_ok-superseded.ensures) c.in_ok-add.ensures c.in_ok-add_each.ensures
+    c.in_ok-superseded.ensures) c.in_ok-add_asked.ensures c.in_ok-add_asked-2.ensures

@@ -1,8 +1,12 @@
-use Rattle.std.proofs.Common.{arith}
-use Rattle.report_errsysmods.proofs.Gaining.{reasons_next}
+use Rattle.std.proofs.Common.{◌∙◌, ap, map, subst, take_all, arith, Contains}
+use Rattle.std.specs.Prelude.{◌↔◌}
+use Rattle.terms.specs.Types.{Id}
+use Rattle.report_errsysmods.specs.declared.open.OpenError.{OpenError}
 use Rattle.report_errsysmods.proofs.resolvers.reasons.Goals as goal
 
-pub loop-error-preserved : goal.loop-error-preserved
-loop-error-preserved c =
-    reasons_next c.args.errors.now c.loop-error.error-index c.error-item.result c.loop-error.all c.insert.new.self
-    c.new.result (omega arith) c.error-item.is c.loop-error.invariant c.in_ok-insert.ensures.updates c.new.ensures.items
+pub returns : goal.returns
+returns c =
+    subst (λ l. (z : Id) → Contains c.from_vec.result z ↔ Contains l z)
+    (c.loop-error.invariant
+    ∙ ap (map (λ (o : OpenError). o.reason)) (take_all c.loop-error.error-index c.args.errors.now (omega arith)))
+    c.from_vec.ensures

@@ -5,8 +5,9 @@ use Rattle.std.specs.Str.{bytes_eq}
 use Rattle.terms.specs.Types.{Id}
 use Rattle.terms.specs.Choice.{fits}
 use Rattle.select.specs.Growing.{taken_up, required_through}
-use Rattle.select.proofs.Kept.{filter_both}
 use Rattle.select.proofs.bringing.append_asked_through.Goals as goal
+use Rattle.lemmas.proofs.Searches.{filter_twice}
+use Rattle.std.proofs.Common.{sym}
 
 pub returns : goal.returns
 returns c =
@@ -16,6 +17,6 @@ returns c =
     subst (λ l. OnOk c.append_all_through.result
     (c.append_all_through.new.found.items ≡ c.args.found.now.items
     ++ flat_map (required_through zone cands c.args.function) l))
-    (filter_both (λ v. bytes_eq v.srel zone.srel) (fits zone cands) c.vers.result.now
+    (sym (filter_twice (λ v. bytes_eq v.srel zone.srel) (fits zone cands) c.vers.result.now)
     ∙ ap (filter (fits zone cands)) c.vers.ensures)
     c.append_all_through.ensures

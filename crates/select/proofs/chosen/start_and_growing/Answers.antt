@@ -1,5 +1,3 @@
-use Rattle.std.proofs.Common.{subst}
-use Rattle.terms.specs.Lookups.{IsRising}
 use Rattle.select.proofs.Growth.{joined, kept_of, candidates_from, candidates_installable}
 use Rattle.select.proofs.chosen.start_and_growing.Goals as goal
 
@@ -10,7 +8,7 @@ returns-clause-members c =
     c.in_ok-ids.ensures c.in_ok-asked.ensures
     (kept_of _ _ _ _ c.in_ok-brought_in.ensures c.as_slice-2.ensures.keys)
     (joined _ _ _ _ _ c.in_ok-extend_from_slice.ensures.items c.as_slice-3.ensures.value c.from_vec-candidates.ensures)
-    (subst IsRising c.as_slice-4.ensures.items c.as_slice-4.ensures.rising)
+    c.attest.ensures
 
 pub returns-clause-installable : goal.returns-clause-installable
 returns-clause-installable c =

@@ -1,33 +1,33 @@
-use Rattle.std.proofs.Common.{◌∙◌, sym, ap, filter, map}
-use Rattle.std.specs.Prelude.{option_copied}
-use Rattle.std.proofs.lemmas.List.{length-map}
+use Rattle.std.proofs.Common.{All, Contains, IsTrue, map, subst, sym}
+use Rattle.std.specs.Prelude.{◌↔◌, option_copied}
 use Rattle.terms.specs.Types.{Id}
-use Rattle.terms.specs.Lookups.{is_in}
-use Rattle.terms.specs.Judged.{setting}
+use Rattle.terms.specs.Candidates.{is_installable}
+use Rattle.terms.specs.Needs.{bypassed_ids}
+use Rattle.terms.specs.Tests.{Setting}
+use Rattle.sysmods.specs.Choices.{choice}
 use Rattle.decide.specs.Views.{why_failed}
-use Rattle.decide.proofs.Judging.{rows_of}
-use Rattle.smpe_apply.proofs.Bypassed.{bypassed_kept}
-use Rattle.smpe_apply.proofs.Deciding.{is_decided}
+use Rattle.judge.proofs.Chosen.{same_setting}
+use Rattle.smpe_apply.specs.Decided.{IsDecided}
 use Rattle.smpe_apply.proofs.decided.decide.Goals as goal
 
-pub decide-requires-clause-rows : goal.decide-requires-clause-rows
-decide-requires-clause-rows c =
-    sym (length-map c.in_ok-tests.field-0.tests.items (λ row. row.items))
-    ∙ rows_of _ _ _ _ _ _ _ _ c.in_ok-tests.ensures.judged.are_judged
+pub decide_by-requires : goal.decide_by-requires
+decide_by-requires c =
+    subst (λ g. All (λ x. IsTrue (is_installable g c.args.zone.now x)) c.args.ids.now)
+    (sym c.in_ok-vers.ensures.global) c.requires
 
 pub returns-clause-decided : goal.returns-clause-decided
 returns-clause-decided c =
-    let s = setting c.args.global.now c.args.zone.now (option_copied c.args.related) c.args.ids.now c.args.bypass.now in
-    let judged = c.in_ok-tests.field-0 in
-    let d = c.in_ok-decided.decided in
-    is_decided s (map (λ row. row.items) judged.tests.items) judged.wants.items judged.superseded.items
-    c.in_ok-tests.ensures.judged d.kept (map why_failed d.failed.items)
-    (rw (c.as_slice.ensures.value, c.as_slice-2.ensures.value) at c.in_ok-decided.ensures)
+    let d = c.in_ok-deciding.deciding in
+    subst (λ (s : Setting). IsDecided s d.kept (map why_failed d.failed.items))
+    (same_setting c.args.zone.now (option_copied c.args.related) c.args.ids.now c.args.bypass.now c.args.global.now
+    c.in_ok-vers.vers.global.now (choice c.in_ok-vers.vers) c.in_ok-vers.ensures.global c.in_ok-vers.ensures.counting)
+    c.in_ok-deciding.ensures.decided
 
 pub returns-clause-bypassed : goal.returns-clause-bypassed
 returns-clause-bypassed c =
-    let s = setting c.args.global.now c.args.zone.now (option_copied c.args.related) c.args.ids.now c.args.bypass.now in
-    let d = c.in_ok-decided.decided in
-    bypassed_kept s d.kept (map why_failed d.failed.items) (returns-clause-decided c)
-    c.in_ok-tests.field-0.bypassed.items c.in_ok-tests.ensures.bypassed c.in_ok-bypassed.bypassed.items
-    (c.in_ok-bypassed.ensures ∙ ap (filter (λ (p : Id × Id). is_in d.kept p.0)) c.as_slice-3.ensures.value)
+    let d = c.in_ok-deciding.deciding in
+    subst (λ (s : Setting). (x z : Id) → Contains {X = Id × Id} d.bypassed.items (x, z)
+    ↔ (Contains d.kept x × Contains (bypassed_ids s x) z))
+    (same_setting c.args.zone.now (option_copied c.args.related) c.args.ids.now c.args.bypass.now c.args.global.now
+    c.in_ok-vers.vers.global.now (choice c.in_ok-vers.vers) c.in_ok-vers.ensures.global c.in_ok-vers.ensures.counting)
+    c.in_ok-deciding.ensures.bypassed

@@ -7,19 +7,22 @@ use Rattle.report.specs.declared.outcome.Line.TheVariants.{Status}
 use Rattle.report.specs.declared.outcome.Place.TheVariants.{Kind}
 use Rattle.smpe_global.specs.declared.taken.Taken.{Taken}
 use Rattle.smpe_global.specs.Edits.{answer_of}
-use Rattle.smpe_global.proofs.Sysmods.{copy_taken}
+use Rattle.smpe_global.proofs.Sysmods.{sent_taken}
 use Rattle.smpe_global.proofs.ptfin.take_sysmod.Goals as goal
+
+pub take_unless-requires : goal.take_unless-requires
+take_unless-requires c = c.in_ok-refused.ensures
 
 pub returns : goal.returns
 returns c =
     let refused = c.in_ok-refused.refused in
     let read = c.sysmod.inside in
     let line : Line = Status read.id (Kind read.kind) c.status_of.result in
-    let status = receive_status (answer_of c.receive.new.self refused) in
-    let now : Taken = record { edits = c.write_received.new.edits; lines = c.push.new.self } in
-    copy_taken c.args.source.now c.args.global.now c.receive.new.self c.args.sysmod line c.args.taken.now now
+    let status = receive_status (answer_of c.take_unless.new.global refused) in
+    let now : Taken = record { edits = c.take_unless.new.edits; lines = c.push.new.self } in
+    sent_taken c.args.source.now c.args.global.now c.take_unless.new.global c.args.sysmod line c.args.taken.now now
     c.in_ok-push.ensures.items
-    c.in_ok-sysmod.sysmod c.in_ok-copy.copy refused c.in_ok-sysmod.ensures c.in_ok-copy.ensures
-    c.in_ok-write_received.ensures c.attest.ensures c.in_ok-refused.ensures.answer
-    (ap (StatusLine read.id (OfKind read.kind)) (c.status_of.ensures c.receive.new.self)
+    c.in_ok-sysmod.sysmod refused c.in_ok-sysmod.ensures
+    c.in_ok-take_unless.ensures.edits c.attest.ensures c.in_ok-take_unless.ensures.global
+    (ap (StatusLine read.id (OfKind read.kind)) (c.status_of.ensures c.take_unless.new.global)
     ∙ ap (λ (r : Sysmod). StatusLine r.id (OfKind r.kind) status) c.sysmod.view_is)

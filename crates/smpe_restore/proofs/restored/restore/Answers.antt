@@ -5,7 +5,6 @@ use Rattle.std.specs.Cmp.Lexicographic.{slice_cmp}
 use Rattle.std.proofs.lemmas.List.{length-map}
 use Rattle.terms.specs.Types.{Id, Global}
 use Rattle.terms.specs.Choice.{Choice, counting}
-use Rattle.terms.specs.Lookups.{IsRising}
 use Rattle.terms.specs.Rising.{Rises}
 use Rattle.machine.specs.Outcome.{StatusLine}
 use Rattle.machine.specs.Receiving.{place_of}
@@ -36,7 +35,7 @@ lines_of-requires c =
     let failed = c.in_ok-kept.field-0.failed.items in
     subst (Rises (slice_cmp nat_cmp) (λ (f : Id × Failure). f.0)) (sym c.as_slice-4.ensures.value)
     (failed_rises r c.in_ok-ids.ids c.in_ok-cands.field-0.cands
-    (subst IsRising c.as_slice.ensures.items c.as_slice.ensures.rising) kept failed
+    c.attest.ensures kept failed
     (decided_of _ _ _ _ _ _ _ _ c.in_ok-cands.ensures.judged kept (map why_failed failed)
     (rw c.as_slice-2.ensures.value at c.in_ok-kept.ensures)))
 

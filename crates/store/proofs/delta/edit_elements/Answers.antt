@@ -1,9 +1,10 @@
-use Rattle.std.proofs.Common.{Ok, rules, ◌≡◌, ◌∙◌, take, arith}
+use Rattle.std.proofs.Common.{rules, ◌∙◌, arith}
 use Rattle.store.specs.Calls.{element_calls}
 use Rattle.std.proofs.lemmas.List.{take_all}
-use Rattle.store_rows.proofs.CallLemmas.{runs_item, runs_stop, follows_err}
+use Rattle.store_rows.proofs.CallLemmas.{follows_err}
 use Rattle.store_rows.proofs.InsideLemmas.{stays_then}
 use Rattle.store.proofs.DeltaLemmas.{elements_go_on}
+use Rattle.store.proofs.EditLoop.{one_more, one_failed, all_written}
 use Rattle.store.proofs.delta.edit_elements.Goals as goal
 
 pub loop-edit-preserved : goal.loop-edit-preserved
@@ -14,32 +15,29 @@ loop-edit-preserved g c =
     record {
       same_reference = c.edit_element.ensures.same_reference ∙ c.loop-edit.invariant.same_reference;
       inside = stays_then g.S.Store old mid new c.loop-edit.invariant.inside c.edit_element.ensures.inside;
-      calls = runs_item g.S.Store (element_calls c.args.zone) c.args.edits.now c.loop-edit.edit-index _ old mid new
-          (tt {0}) (Ok (tt {0})) (omega arith) c.edit-item.is c.loop-edit.invariant.inside c.edit_element.ensures.inside
-          c.loop-edit.invariant.calls
-          (rw c.in_ok-edit_element.was at c.edit_element.ensures.calls);
+      calls = one_more g.S.Store (element_calls c.args.zone) c.args.edits.now c.loop-edit.edit-index old mid new _
+          (omega arith)
+          c.edit-item.is c.loop-edit.invariant.inside c.edit_element.ensures.inside c.loop-edit.invariant.calls
+          c.in_ok-edit_element.was c.edit_element.ensures.calls;
       changes = elements_go_on g.S.Store c.args.zone old mid new c.args.edits.now c.loop-edit.edit-index _ (omega arith)
-          c.edit-item.is c.edit_element.ensures.inside c.loop-edit.invariant.changes c.in_ok-edit_element.ensures.ok;
+          c.edit-item.is
+          c.edit_element.ensures.inside c.loop-edit.invariant.changes c.in_ok-edit_element.ensures.ok;
     }
-
-pub returns-clause-ok : goal.returns-clause-ok
-returns-clause-ok g c =
-    let whole : take c.loop-edit.edit-index c.args.edits.now ≡ c.args.edits.now = take_all _ _ (omega arith) in
-    rw whole at c.loop-edit.invariant.changes
 
 pub returns-clause-calls : goal.returns-clause-calls
 returns-clause-calls g c =
-    let whole : take c.loop-edit.edit-index c.args.edits.now ≡ c.args.edits.now = take_all _ _ (omega arith) in
-    rw whole at c.loop-edit.invariant.calls
+    all_written g.S.Store (element_calls c.args.zone) c.args.edits.now c.loop-edit.edit-index _ _ (omega arith)
+    c.loop-edit.invariant.calls
+
+pub returns-clause-ok : goal.returns-clause-ok
+returns-clause-ok g c =
+    rw (take_all c.loop-edit.edit-index c.args.edits.now (omega arith)) at c.loop-edit.invariant.changes
 
 pub returns-in_err-edit_element-clause-calls : goal.returns-in_err-edit_element-clause-calls
 returns-in_err-edit_element-clause-calls g c =
-    let old = c.args.tx.now.conn.now in
-    let mid = c.loop-edit.tx.conn.now in
-    let new = c.edit_element.new.tx.conn.now in
-    runs_stop g.S.Store (element_calls c.args.zone) c.args.edits.now c.loop-edit.edit-index old new
-    c.edit_element.result c.from_residual.result (search rules)
+    one_failed g.S.Store (element_calls c.args.zone) c.args.edits.now c.loop-edit.edit-index c.args.tx.now.conn.now
+    c.loop-edit.tx.conn.now
+    c.edit_element.new.tx.conn.now c.edit_element.result c.from_residual.result _ (omega arith) c.edit-item.is
+    c.loop-edit.invariant.inside c.edit_element.ensures.inside c.loop-edit.invariant.calls (search rules)
     (follows_err c.edit_element.result _ _ c.in_err-edit_element.was c.from_residual.ensures.1)
-    (runs_item g.S.Store (element_calls c.args.zone) c.args.edits.now c.loop-edit.edit-index _ old mid new (tt {0})
-    c.edit_element.result (omega arith) c.edit-item.is c.loop-edit.invariant.inside c.edit_element.ensures.inside c.loop-edit.invariant.calls
-    c.edit_element.ensures.calls)
+    c.edit_element.ensures.calls

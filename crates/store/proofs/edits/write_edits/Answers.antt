@@ -1,9 +1,10 @@
-use Rattle.std.proofs.Common.{Ok, rules, ◌≡◌, ◌∙◌, take, arith}
+use Rattle.std.proofs.Common.{rules, ◌∙◌, arith}
 use Rattle.store.specs.Calls.{edit_calls}
 use Rattle.std.proofs.lemmas.List.{take_all}
-use Rattle.store_rows.proofs.CallLemmas.{runs_item, runs_stop, follows_err}
+use Rattle.store_rows.proofs.CallLemmas.{follows_err}
 use Rattle.store_rows.proofs.InsideLemmas.{stays_then}
 use Rattle.store.proofs.GlobalLemmas.{edits_go_on}
+use Rattle.store.proofs.EditLoop.{one_more, one_failed, all_written}
 use Rattle.store.proofs.edits.write_edits.Goals as goal
 
 pub loop-edit-preserved : goal.loop-edit-preserved
@@ -14,32 +15,26 @@ loop-edit-preserved g c =
     record {
       same_reference = c.write_edit.ensures.same_reference ∙ c.loop-edit.invariant.same_reference;
       inside = stays_then g.S.Store old mid new c.loop-edit.invariant.inside c.write_edit.ensures.inside;
-      calls = runs_item g.S.Store edit_calls c.args.edits.now c.loop-edit.edit-index _ old mid new
-          (tt {0}) (Ok (tt {0})) (omega arith) c.edit-item.is c.loop-edit.invariant.inside c.write_edit.ensures.inside
-          c.loop-edit.invariant.calls
-          (rw c.in_ok-write_edit.was at c.write_edit.ensures.calls);
+      calls = one_more g.S.Store edit_calls c.args.edits.now c.loop-edit.edit-index old mid new _ (omega arith)
+          c.edit-item.is c.loop-edit.invariant.inside c.write_edit.ensures.inside c.loop-edit.invariant.calls
+          c.in_ok-write_edit.was c.write_edit.ensures.calls;
       changes = edits_go_on g.S.Store old mid new c.args.edits.now c.loop-edit.edit-index _ (omega arith) c.edit-item.is
           c.write_edit.ensures.inside c.loop-edit.invariant.changes c.in_ok-write_edit.ensures.ok;
     }
 
-pub returns-clause-ok : goal.returns-clause-ok
-returns-clause-ok g c =
-    let whole : take c.loop-edit.edit-index c.args.edits.now ≡ c.args.edits.now = take_all _ _ (omega arith) in
-    rw whole at c.loop-edit.invariant.changes
-
 pub returns-clause-calls : goal.returns-clause-calls
 returns-clause-calls g c =
-    let whole : take c.loop-edit.edit-index c.args.edits.now ≡ c.args.edits.now = take_all _ _ (omega arith) in
-    rw whole at c.loop-edit.invariant.calls
+    all_written g.S.Store edit_calls c.args.edits.now c.loop-edit.edit-index _ _ (omega arith)
+    c.loop-edit.invariant.calls
+
+pub returns-clause-ok : goal.returns-clause-ok
+returns-clause-ok g c =
+    rw (take_all c.loop-edit.edit-index c.args.edits.now (omega arith)) at c.loop-edit.invariant.changes
 
 pub returns-in_err-write_edit-clause-calls : goal.returns-in_err-write_edit-clause-calls
 returns-in_err-write_edit-clause-calls g c =
-    let old = c.args.tx.now.conn.now in
-    let mid = c.loop-edit.tx.conn.now in
-    let new = c.write_edit.new.tx.conn.now in
-    runs_stop g.S.Store edit_calls c.args.edits.now c.loop-edit.edit-index old new
-    c.write_edit.result c.from_residual.result (search rules)
-    (follows_err c.write_edit.result _ _ c.in_err-write_edit.was c.from_residual.ensures.1)
-    (runs_item g.S.Store edit_calls c.args.edits.now c.loop-edit.edit-index _ old mid new (tt {0})
-    c.write_edit.result (omega arith) c.edit-item.is c.loop-edit.invariant.inside c.write_edit.ensures.inside c.loop-edit.invariant.calls
-    c.write_edit.ensures.calls)
+    one_failed g.S.Store edit_calls c.args.edits.now c.loop-edit.edit-index c.args.tx.now.conn.now
+    c.loop-edit.tx.conn.now
+    c.write_edit.new.tx.conn.now c.write_edit.result c.from_residual.result _ (omega arith) c.edit-item.is
+    c.loop-edit.invariant.inside c.write_edit.ensures.inside c.loop-edit.invariant.calls (search rules)
+    (follows_err c.write_edit.result _ _ c.in_err-write_edit.was c.from_residual.ensures.1) c.write_edit.ensures.calls

@@ -1,8 +1,6 @@
-use Rattle.std.proofs.Common.{◌≡◌, List, ◌++◌, ◌∷◌, [], refl, sym, ap₂, ◌∙◌}
-use Rattle.std.proofs.lemmas.List.{map_more}
-use Rattle.terms.specs.Types.{Text}
+use Rattle.std.proofs.Common.{◌≡◌, ◌++◌, ◌∷◌, [], refl}
 use Rattle.terms.specs.Forms.{IsSource}
-use Rattle.store_columns.proofs.PartLemmas.{none_listed, listed_more, part_formed, part_last}
+use Rattle.store_columns.proofs.PartLemmas.{none_listed, parts_grown, part_formed, part_last}
 use Rattle.store_columns.proofs.lists.source_list.Goals as goal
 
 pub returns-in_default-clause-none : goal.returns-in_default-clause-none
@@ -23,11 +21,8 @@ pub loop-part-preserved : goal.loop-part-preserved
 loop-part-preserved c =
     let new : c.push_last.new.self ≡ c.loop-part.list ++ c.in-Some.source ∷ [] =
     rw c.if-not-branch.false at c.in_ok-push_last.ensures.ok in
-    let fits = c.in_ok-push_last.ensures.fits.0 c.if-not-branch.false in
-    record {
-      same = new ∙ sym (map_more (λ part. part.now) c.args.parts.now c.loop-part.part-index _ c.loop-part-test.true
-          ∙ ap₂ (λ (xs : List Text) (x : Text). xs ++ x ∷ []) (sym c.loop-part.invariant.same)
-          (sym c.in-Some.ensures.same));
-      listed = rw new (listed_more IsSource c.loop-part.list c.in-Some.source c.loop-part.invariant.listed
-          (rw c.in-Some.ensures.same (c.in-Some.ensures.form.0 refl)) fits);
-    }
+    let it = parts_grown IsSource c.args.parts.now c.loop-part.part-index _ c.loop-part-test.true c.loop-part.list
+    c.push_last.new.self c.in-Some.source c.loop-part.invariant.same c.loop-part.invariant.listed c.in-Some.ensures.same
+    (rw c.in-Some.ensures.same (c.in-Some.ensures.form.0 refl))
+    (c.in_ok-push_last.ensures.fits.0 c.if-not-branch.false) new in
+    record { same = it.0; listed = it.1 }

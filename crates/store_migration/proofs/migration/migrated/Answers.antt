@@ -1,6 +1,6 @@
 use Rattle.std.proofs.Common.{◌≡◌, arith, refl, sym, ◌∙◌}
-use Rattle.store_migration.proofs.Ending.{no_release, tables_made, checks_then, not_checked, has_read, own_kept, all_taken}
-use Rattle.store_migration.proofs.Ending.{not_taken}
+use Rattle.store_migration.proofs.Ending.{no_release, tables_made, checks_then, not_checked, has_read, own_kept}
+use Rattle.store_migration.proofs.Ending.{all_taken, not_taken}
 use Rattle.store_migration.proofs.migration.migrated.Goals as goal
 
 pub returns-in_err-release : goal.returns-in_err-release
@@ -22,72 +22,69 @@ returns-in_default g c =
 
 pub returns-in_err-heads : goal.returns-in_err-heads
 returns-in_err-heads g c =
-    let s = g.S.Store in
-    let old = c.args.conn.now in
-    let seen = c.release_of.new.conn in
-    let mid = c.check_all.new.conn in
-    let release = c.in-Some.release in
-    let read = c.check_all.ensures.reads in
-    let checks = checks_then s old c.attest.ensures release seen mid c.check_all.result
+    let checks = checks_then g.S.Store c.args.conn.now c.attest.ensures c.in-Some.release c.release_of.new.conn
+    c.check_all.new.conn c.check_all.result
     (λ clean. rw c.in-Some.is at (c.in_ok-release.ensures.same clean)) c.release_of.ensures.crash
     c.release_of.ensures.mode c.check_all.ensures in
-    not_checked s old c.attest.ensures release mid
-    (λ clean. rw c.in-Some.is at (c.in_ok-release.ensures.known (omega (arith, clean, read.crash.clean))))
+    not_checked g.S.Store c.args.conn.now c.attest.ensures c.in-Some.release c.check_all.new.conn
+    (λ clean. rw c.in-Some.is at (c.in_ok-release.ensures.known (omega (
+      arith,
+      clean,
+      c.check_all.ensures.reads.crash.clean,
+    ))))
     c.check_all.result checks _ c.from_residual-in_err-heads.result (sym c.told.ensures ∙ c.in_err-heads.was)
-    c.from_residual-in_err-heads.ensures.1 (read.mode c.release_of.ensures.mode)
+    c.from_residual-in_err-heads.ensures.1 (c.check_all.ensures.reads.mode c.release_of.ensures.mode)
 
 pub returns-in-Third : goal.returns-in-Third
 returns-in-Third g c =
-    let s = g.S.Store in
-    let old = c.args.conn.now in
-    let seen = c.release_of.new.conn in
-    let mid = c.check_all.new.conn in
-    let release = c.in-Some.release in
-    let read = c.check_all.ensures.reads in
-    let heads = c.in_ok-heads.heads in
-    let checks = checks_then s old c.attest.ensures release seen mid c.check_all.result
+    let checks = checks_then g.S.Store c.args.conn.now c.attest.ensures c.in-Some.release c.release_of.new.conn
+    c.check_all.new.conn c.check_all.result
     (λ clean. rw c.in-Some.is at (c.in_ok-release.ensures.same clean)) c.release_of.ensures.crash
     c.release_of.ensures.mode c.check_all.ensures in
-    own_kept s old c.attest.ensures release mid
-    (λ clean. rw c.in-Some.is at (c.in_ok-release.ensures.known (omega (arith, clean, read.crash.clean))))
-    c.check_all.result checks heads (has_read c.check_all.result heads (sym c.told.ensures ∙ c.in_ok-heads.was))
-    (tt {0}) c.in-Third.is (c.if-prove.ensures.settled refl) (read.mode c.release_of.ensures.mode)
+    own_kept g.S.Store c.args.conn.now c.attest.ensures c.in-Some.release c.check_all.new.conn
+    (λ clean. rw c.in-Some.is at (c.in_ok-release.ensures.known (omega (
+      arith,
+      clean,
+      c.check_all.ensures.reads.crash.clean,
+    ))))
+    c.check_all.result checks c.in_ok-heads.heads (has_read c.check_all.result c.in_ok-heads.heads (sym c.told.ensures ∙
+    c.in_ok-heads.was))
+    (tt {0}) c.in-Third.is (c.if-prove.ensures.settled refl) (c.check_all.ensures.reads.mode c.release_of.ensures.mode)
 
 pub returns-in_err-take_over-in_default-release : goal.returns-in_err-take_over-in_default-release
 returns-in_err-take_over-in_default-release g c =
-    let s = g.S.Store in
-    let old = c.args.conn.now in
-    let seen = c.release_of.new.conn in
-    let mid = c.check_all.new.conn in
-    let release = c.in-Some.release in
-    let read = c.check_all.ensures.reads in
-    let heads = c.in_ok-heads.heads in
     let made = rw c.as_slice.ensures.value at c.take_over.ensures in
-    let checks = checks_then s old c.attest.ensures release seen mid c.check_all.result
+    let checks = checks_then g.S.Store c.args.conn.now c.attest.ensures c.in-Some.release c.release_of.new.conn
+    c.check_all.new.conn c.check_all.result
     (λ clean. rw c.in-Some.is at (c.in_ok-release.ensures.same clean)) c.release_of.ensures.crash
     c.release_of.ensures.mode c.check_all.ensures in
-    not_taken s old c.attest.ensures release mid
-    (λ clean. rw c.in-Some.is at (c.in_ok-release.ensures.known (omega (arith, clean, read.crash.clean))))
-    c.check_all.result checks heads (has_read c.check_all.result heads (sym c.told.ensures ∙ c.in_ok-heads.was))
+    not_taken g.S.Store c.args.conn.now c.attest.ensures c.in-Some.release c.check_all.new.conn
+    (λ clean. rw c.in-Some.is at (c.in_ok-release.ensures.known (omega (
+      arith,
+      clean,
+      c.check_all.ensures.reads.crash.clean,
+    ))))
+    c.check_all.result checks c.in_ok-heads.heads (has_read c.check_all.result c.in_ok-heads.heads (sym c.told.ensures ∙
+    c.in_ok-heads.was))
     c.take_over.new.conn c.in_default-release.not-Third made.crash made.mode c.take_over.result _
     c.from_residual-in_err-take_over-in_default-release.result c.in_err-take_over-in_default-release.was
     c.from_residual-in_err-take_over-in_default-release.ensures.1 made.unchanged made.was_open
 
 pub returns : goal.returns
 returns g c =
-    let s = g.S.Store in
-    let old = c.args.conn.now in
-    let seen = c.release_of.new.conn in
-    let mid = c.check_all.new.conn in
-    let release = c.in-Some.release in
-    let read = c.check_all.ensures.reads in
-    let heads = c.in_ok-heads.heads in
     let made = rw c.as_slice.ensures.value at c.take_over.ensures in
     let done = rw c.as_slice.ensures.value at c.in_ok-take_over-in_default-release.ensures in
-    let checks = checks_then s old c.attest.ensures release seen mid c.check_all.result
+    let checks = checks_then g.S.Store c.args.conn.now c.attest.ensures c.in-Some.release c.release_of.new.conn
+    c.check_all.new.conn c.check_all.result
     (λ clean. rw c.in-Some.is at (c.in_ok-release.ensures.same clean)) c.release_of.ensures.crash
     c.release_of.ensures.mode c.check_all.ensures in
-    all_taken s old c.attest.ensures release mid
-    (λ clean. rw c.in-Some.is at (c.in_ok-release.ensures.known (omega (arith, clean, read.crash.clean))))
-    c.check_all.result checks heads (has_read c.check_all.result heads (sym c.told.ensures ∙ c.in_ok-heads.was))
-    c.take_over.new.conn c.in_default-release.not-Third made.crash made.mode (tt {0}) done.made done.is_open made.was_open
+    all_taken g.S.Store c.args.conn.now c.attest.ensures c.in-Some.release c.check_all.new.conn
+    (λ clean. rw c.in-Some.is at (c.in_ok-release.ensures.known (omega (
+      arith,
+      clean,
+      c.check_all.ensures.reads.crash.clean,
+    ))))
+    c.check_all.result checks c.in_ok-heads.heads (has_read c.check_all.result c.in_ok-heads.heads (sym c.told.ensures ∙
+    c.in_ok-heads.was))
+    c.take_over.new.conn c.in_default-release.not-Third made.crash made.mode (tt {0}) done.made done.is_open
+    made.was_open

@@ -7,11 +7,8 @@ use Rattle.store_migration.proofs.sources.insert_source.Goals as goal
 
 pub returns-clause-ok : goal.returns-clause-ok
 returns-clause-ok g c =
-    let x = c.args.id.now in
-    let name = c.args.source.now in
-    let row = source_bound c.as_bytes.result.now c.as_bytes-2.result.now x name c.as_bytes.ensures.same
-    c.as_bytes-2.ensures.same in
-    on_ok c.insert.result _ _ (λ ran.
-    as_inserted g.S.Store c.args.tx.now.conn.now c.insert.new.tx.conn.now store_schema source (source_row x name) _ row
-    (ran store_schema 9 source puts_source (kept_as source (source_row x name) _ row (kept_source x name))))
-    c.insert.ensures.ok
+    let own = source_row c.args.id.now c.args.source.now in
+    let row = source_bound _ _ c.args.id.now c.args.source.now c.as_bytes.ensures.same c.as_bytes-2.ensures.same in
+    on_ok c.insert.result _ _ (λ ran. as_inserted g.S.Store c.args.tx.now.conn.now c.insert.new.tx.conn.now store_schema
+    source own _ row (ran store_schema 9 source puts_source
+    (kept_as source own _ row (kept_source c.args.id.now c.args.source.now)))) c.insert.ensures.ok

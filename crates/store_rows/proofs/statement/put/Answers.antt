@@ -1,29 +1,11 @@
-use Rattle.std.proofs.Common.{Ok}
 use Rattle.sqlite.specs.Held.{state}
 use Rattle.sqlite.specs.Values.{bound}
-use Rattle.store_rows.proofs.Statements.{ran_inside}
+use Rattle.store_rows.proofs.InsideLemmas.{on_ok}
 use Rattle.store_rows.proofs.Upserts.{put_by_key}
-use Rattle.store_rows.proofs.CallLemmas.{one_call, follows_ok, follows_err}
 use Rattle.store_rows.proofs.statement.put.Goals as goal
 
 pub returns-clause-ok : goal.returns-clause-ok
-returns-clause-ok g c schema at table width text kept clean contents was =
-    let old = c.args.tx.now.conn.now in
-    let new = c.execute.new.self.conn.now in
-    let count = c.in_ok-execute.field-0 in
-    let ran = ran_inside g.S.Store old new c.args.sql.now (bound c.args.row.now) c.execute.result
-    c.execute.ensures.ended c.execute.ensures.runs clean count c.in_ok-execute.was in
-    put_by_key schema at table width c.args.sql.now (bound c.args.row.now) (state g.S.Store old)
-    (state g.S.Store new) count contents text kept was ran
-
-pub returns-clause-calls : goal.returns-clause-calls
-returns-clause-calls g c =
-    one_call g.S.Store c.args.tx.now.conn.now c.execute.new.self.conn.now c.args.sql.now (bound c.args.row.now)
-    c.execute.result (Ok (tt {0})) c.execute.ensures.runs
-    (follows_ok c.execute.result _ (tt {0}) c.in_ok-execute.was)
-
-pub returns-in_err-execute-clause-calls : goal.returns-in_err-execute-clause-calls
-returns-in_err-execute-clause-calls g c =
-    one_call g.S.Store c.args.tx.now.conn.now c.execute.new.self.conn.now c.args.sql.now (bound c.args.row.now)
-    c.execute.result c.from_residual.result c.execute.ensures.runs
-    (follows_err c.execute.result _ _ c.in_err-execute.was c.from_residual.ensures.1)
+returns-clause-ok g c =
+    on_ok c.run.result _ _ (λ ran schema at table width text kept clean contents was.
+    put_by_key schema at table width c.args.sql.now (bound c.args.row.now) (state g.S.Store c.args.tx.now.conn.now)
+    (state g.S.Store c.run.new.tx.conn.now) (ran clean).0 contents text kept was (ran clean).1) c.run.ensures.ran

@@ -1,23 +1,14 @@
 use Rattle.std.proofs.Common.{sym, subst, arith}
 use Rattle.sqlite.specs.Held.{state}
 use Rattle.sqlite.specs.State.{HasCleanDisk}
-use Rattle.store_schema.specs.Known.{HasOwnTables, own_numbers}
-use Rattle.store_schema.proofs.Meta.{other_number, no_state, not_both}
+use Rattle.store_schema.specs.Known.{HasOwnTables}
+use Rattle.store_schema.proofs.Meta.{no_state}
 use Rattle.store_schema.proofs.known.check.Goals as goal
-
-pub returns-then-has_other_number-clause-other : goal.returns-then-has_other_number-clause-other
-returns-then-has_other_number-clause-other g c clean is =
-    other_number own_numbers (state g.S.Store c.args.conn.now) (state g.S.Store c.meta_rows.new.conn)
-    c.in_ok-rows.rows.items (c.in_ok-rows.ensures.shown clean)
-    (rw c.as_slice.ensures.value at (c.has_other_number.ensures.0 c.if-has_other_number.true))
 
 pub returns-clause-none : goal.returns-clause-none
 returns-clause-none g c clean is tables =
-    let old = state g.S.Store c.args.conn.now in
-    let mid = state g.S.Store c.meta_rows.new.conn in
-    let before : HasCleanDisk mid = omega (arith, clean, c.check_own.ensures.crash.clean) in
-    let same = (c.in_ok-rows.ensures.same before).0.now_is in
-    no_state old mid c.in_ok-rows.rows.items (c.in_ok-rows.ensures.shown before) tables
+    let before : HasCleanDisk (state g.S.Store c.check_numbers.new.conn) =
+    omega (arith, clean, c.check_own.ensures.crash.clean) in
+    let same = (c.in_ok-check_numbers.ensures.same before).0.now_is in
+    no_state (state g.S.Store c.args.conn.now) (c.in_ok-check_numbers.ensures.known before) tables
     (λ own. c.check_own.ensures.none clean is (subst HasOwnTables (sym same) own))
-    (λ other. not_both c.has_other_number.result (c.has_other_number.ensures.1 (rw c.as_slice.ensures.value other))
-    c.if-has_other_number.false)

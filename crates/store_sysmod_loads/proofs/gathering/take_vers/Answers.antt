@@ -1,7 +1,6 @@
-use Rattle.std.proofs.Common.{◌≡◌, ◌<◌, ◌++◌, ◌∷◌, [], List, IsErrOf, length, length-append, append-nil, arith, rules}
+use Rattle.std.proofs.Common.{◌≡◌, ◌<◌, ◌++◌, ◌∷◌, [], List, length, length-append, append-nil, arith, rules}
 use Rattle.std.proofs.Common.{true, false, sym, ap, subst, ◌∙◌}
 use Rattle.std.proofs.lemmas.Grind.{common_steps}
-use Rattle.store_rows.specs.declared.error.ReadError.TheVariants.{BadRow}
 use Rattle.terms.specs.Types.{IfReq, Ver}
 use Rattle.store_schema.specs.Rows.{number_behind, numbered_behind}
 use Rattle.store_sysmod_loads.specs.declared.flat.VerRow.{VerRow}
@@ -27,14 +26,12 @@ returns-then-not-comes_next-clause-none c bad others rest more small h =
 
 pub returns-in_err-ver-clause-none : goal.returns-in_err-ver-clause-none
 returns-in_err-ver-clause-none c bad others rest more small h =
-    let failed : IsErrOf c.filled.result BadRow = search rules in
-    let vers = c.loop-row.vers.items in
-    let it = c.loop-row.invariant.only others rest more h in
-    let there = subst (λ (rows : List VerRow). HasVersBehind vers c.args.id rows c.loop-row.ifs.items it.0 rest more)
-    c.in-Some.ensures.some.0 it.2 in
-    let step = vers_step vers c.args.id c.in-Some.row c.pop_of.new.rows.items c.loop-row.ifs.items it.0 rest more
-    c.in-Some.ensures.some.1 there in
-    c.filled.ensures.none failed step.0 step.1 step.5
+    let (own, same, has) = c.loop-row.invariant.only others rest more h in
+    let there = subst (λ (rows : List VerRow). HasVersBehind c.loop-row.vers.items c.args.id rows c.loop-row.ifs.items
+    own rest more) c.in-Some.ensures.some.0 has in
+    let step = vers_step c.loop-row.vers.items c.args.id c.in-Some.row c.pop_of.new.rows.items c.loop-row.ifs.items own
+    rest more c.in-Some.ensures.some.1 there in
+    c.filled.ensures.none (search rules) step.0 step.1 step.5
 
 pub loop-row-preserved : goal.loop-row-preserved
 loop-row-preserved c =

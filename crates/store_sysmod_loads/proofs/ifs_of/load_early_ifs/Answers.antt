@@ -10,14 +10,14 @@ use Rattle.store_sysmod_loads.proofs.FlatLemmas.{rows_of_ifs}
 use Rattle.store_sysmod_loads.proofs.Further.{first_if_forms, first_ifs_pass, singles_first_ifs, early_ifs_held}
 use Rattle.store_sysmod_loads.proofs.Further.{early_singles}
 use Rattle.store_sysmod_loads.proofs.Parted.{all_pass, none_left}
-use Rattle.store_sysmod_loads.proofs.PartLemmas.{if_both}
+use Rattle.lemmas.proofs.Results.{if_ok_both}
 use Rattle.store_sysmod_loads.proofs.RiseLemmas.{ifs_rise}
 use Rattle.store_sysmod_loads.proofs.ifs_of.load_early_ifs.Goals as goal
 
 pub returns-clause-part : goal.returns-clause-part
 returns-clause-part g c r early = record {
   found = λ clean contents was.
-      if_both c.load_sorted.result _ _ _ (λ items forms held.
+      if_ok_both c.load_sorted.result _ _ _ (λ items forms held.
       let pass = first_ifs_pass items.items forms in
       record {
         firsts = subst (λ (rows : List IfRow). IsPermutation (map row_of_if rows) (contents ifreq.tree))

@@ -9,14 +9,14 @@ use Rattle.store_sysmod_loads.specs.Flats.{all_vers}
 use Rattle.store_sysmod_loads.proofs.FlatLemmas.{rows_of_vers}
 use Rattle.store_sysmod_loads.proofs.Further.{first_forms, firsts_pass, singles_first, early_held, early_singles}
 use Rattle.store_sysmod_loads.proofs.Parted.{all_pass, none_left}
-use Rattle.store_sysmod_loads.proofs.PartLemmas.{if_both}
+use Rattle.lemmas.proofs.Results.{if_ok_both}
 use Rattle.store_sysmod_loads.proofs.RiseLemmas.{vers_rise}
 use Rattle.store_sysmod_loads.proofs.vers_of.load_early_vers.Goals as goal
 
 pub returns-clause-part : goal.returns-clause-part
 returns-clause-part g c r early = record {
   found = λ clean contents was.
-      if_both c.load_sorted.result _ _ _ (λ items forms held.
+      if_ok_both c.load_sorted.result _ _ _ (λ items forms held.
       let pass = firsts_pass items.items forms in
       record {
         firsts = subst (λ (rows : List VerRow). IsPermutation (map row_of_ver rows) (contents ver.tree))

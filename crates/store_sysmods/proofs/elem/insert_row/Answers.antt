@@ -3,19 +3,18 @@ use Rattle.sqlite.specs.Values.{or_null}
 use Rattle.sqlite.specs.declared.types.Value.TheVariants.{Text}
 use Rattle.terms.specs.Types.{Change}
 use Rattle.terms.specs.Spelling.{type_text}
-use Rattle.store_rows.proofs.Bound.{as_inserted, kept_as}
 use Rattle.store_rows.proofs.InsideLemmas.{on_ok}
-use Rattle.store_schema.specs.Rows.{elem_row, flag}
+use Rattle.store_schema.specs.Rows.{flag}
 use Rattle.store_schema.specs.Tables.{store_schema, elem}
 use Rattle.store_sysmods.specs.Actions.{is_update, distlib_of, syslib_of}
 use Rattle.store_sysmods.proofs.Texts.{puts_elem}
 use Rattle.store_sysmods.proofs.RowForms.{kept_elem, elem_bound}
 use Rattle.store_sysmods.specs.Calls.{insert_elem}
-use Rattle.store_sysmods.proofs.Calling.{runs_key}
+use Rattle.store_sysmods.proofs.Steps.{puts_row}
 use Rattle.store_sysmods.proofs.elem.insert_row.Goals as goal
 
-pub returns-clause-ok : goal.returns-clause-ok
-returns-clause-ok g c =
+pub returns-clause-puts : goal.returns-clause-puts
+returns-clause-puts g c =
     let x = c.args.id.now in
     let change = c.args.change.now in
     let view = c.change.view_is in
@@ -26,23 +25,5 @@ returns-clause-ok g c =
     (c.update_value-update.ensures ∙ ap (λ (a : Change). flag (is_update a.action)) view)
     (c.distlib_value-distlib.ensures ∙ ap (λ (a : Change). or_null Text (distlib_of a.action)) view)
     (c.syslib_value-syslib.ensures ∙ ap (λ (a : Change). or_null Text (syslib_of a.action)) view) c.requires in
-    on_ok c.insert.result _ _ (λ ran.
-    as_inserted g.S.Store c.args.tx.now.conn.now c.insert.new.tx.conn.now store_schema elem (elem_row x change) _ row
-    (ran store_schema 5 elem puts_elem (kept_as elem (elem_row x change) _ row (kept_elem x change))))
-    c.insert.ensures.ok
-
-pub returns-clause-calls : goal.returns-clause-calls
-returns-clause-calls g c =
-    let x = c.args.id.now in
-    let change = c.args.change.now in
-    let view = c.change.view_is in
-    let row = elem_bound c.as_bytes.result.now c.type_text.result.now c.as_bytes-2.result.now c.args.text.now
-    c.update_value-update.result c.distlib_value-distlib.result c.syslib_value-syslib.result x change
-    c.as_bytes.ensures.same (c.type_text.ensures ∙ ap (λ (a : Change). type_text a.elem_type) view)
-    (c.as_bytes-2.ensures.same ∙ ap (λ (a : Change). a.name) view)
-    (c.update_value-update.ensures ∙ ap (λ (a : Change). flag (is_update a.action)) view)
-    (c.distlib_value-distlib.ensures ∙ ap (λ (a : Change). or_null Text (distlib_of a.action)) view)
-    (c.syslib_value-syslib.ensures ∙ ap (λ (a : Change). or_null Text (syslib_of a.action)) view) c.requires in
-    runs_key g.S.Store insert_elem (elem_row x change) _ c.args.tx.now.conn.now c.insert.new.tx.conn.now
-    c.insert.result row
-    c.insert.ensures.calls
+    puts_row g.S.Store insert_elem elem row (kept_elem x change) c.insert.ensures.inside c.insert.ensures.calls
+    (on_ok c.insert.result _ _ (λ ran. ran store_schema 5 elem puts_elem) c.insert.ensures.ok)

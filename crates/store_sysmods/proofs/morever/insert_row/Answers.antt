@@ -1,17 +1,15 @@
 use Rattle.std.proofs.Common.{rules, ap, ◌∙◌}
 use Rattle.terms.specs.Types.{Ver}
-use Rattle.store_rows.proofs.Bound.{as_inserted, kept_as}
 use Rattle.store_rows.proofs.InsideLemmas.{on_ok}
-use Rattle.store_schema.specs.Rows.{morever_row}
 use Rattle.store_schema.specs.Tables.{store_schema, morever}
+use Rattle.store_sysmods.specs.Calls.{insert_morever}
 use Rattle.store_sysmods.proofs.Texts.{puts_morever}
 use Rattle.store_sysmods.proofs.RowForms.{kept_morever, morever_bound}
-use Rattle.store_sysmods.specs.Calls.{insert_morever}
-use Rattle.store_sysmods.proofs.Calling.{runs_key}
+use Rattle.store_sysmods.proofs.Steps.{puts_row}
 use Rattle.store_sysmods.proofs.morever.insert_row.Goals as goal
 
-pub returns-clause-ok : goal.returns-clause-ok
-returns-clause-ok g c =
+pub returns-clause-puts : goal.returns-clause-puts
+returns-clause-puts g c =
     let v = c.args.ver.now in
     let x = c.args.id.now in
     let n = c.args.number in
@@ -23,25 +21,5 @@ returns-clause-ok g c =
     Rattle.sqlite.specs.declared.types.Value.TheVariants.Text u.fmid) view)
     (c.as_slice.ensures.value ∙ c.requires.lists.pre) (c.as_slice-2.ensures.value ∙ c.requires.lists.req)
     (c.as_slice-3.ensures.value ∙ c.requires.lists.sup) in
-    on_ok c.insert.result _ _ (λ ran.
-    as_inserted g.S.Store c.args.tx.now.conn.now c.insert.new.tx.conn.now store_schema morever (morever_row x (n, v))
-    _ row
-    (ran store_schema 10 morever puts_morever (kept_as morever (morever_row x (n, v)) _ row (kept_morever x (n, v)))))
-    c.insert.ensures.ok
-
-pub returns-clause-calls : goal.returns-clause-calls
-returns-clause-calls g c =
-    let v = c.args.ver.now in
-    let x = c.args.id.now in
-    let n = c.args.number in
-    let view = c.ver.view_is in
-    let row = morever_bound c.as_bytes.result.now c.as_bytes-2.result.now c.as_slice.result.now c.as_slice-2.result.now
-    c.as_slice-3.result.now _ c.id_value-fmid.result x n v
-    c.as_bytes.ensures.same (c.as_bytes-2.ensures.same ∙ ap (λ (u : Ver). u.srel) view) (search rules)
-    (c.id_value-fmid.ensures ∙ ap (λ (u : Ver). Rattle.sqlite.specs.Values.or_null
-    Rattle.sqlite.specs.declared.types.Value.TheVariants.Text u.fmid) view)
-    (c.as_slice.ensures.value ∙ c.requires.lists.pre) (c.as_slice-2.ensures.value ∙ c.requires.lists.req)
-    (c.as_slice-3.ensures.value ∙ c.requires.lists.sup) in
-    runs_key g.S.Store insert_morever (morever_row x (n, v)) _ c.args.tx.now.conn.now c.insert.new.tx.conn.now
-    c.insert.result row
-    c.insert.ensures.calls
+    puts_row g.S.Store insert_morever morever row (kept_morever x (n, v)) c.insert.ensures.inside c.insert.ensures.calls
+    (on_ok c.insert.result _ _ (λ ran. ran store_schema 10 morever puts_morever) c.insert.ensures.ok)

@@ -12,7 +12,8 @@ use Rattle.store_sysmods.proofs.SysmodLemmas.{sysmod_removed}
 use Rattle.store_sysmods.specs.Calls.{delete_vers, delete_ifreqs, delete_elems, delete_sources, delete_morevers}
 use Rattle.store_sysmods.specs.Calls.{delete_moreifs, delete_sysmod, remove_sysmod_calls}
 use Rattle.store_sysmods.proofs.Calling.{runs_key, runs_rest}
-use Rattle.store_sysmods.proofs.Steps.{Step, Ran, step_takes, step_ok, step_then, step_stops}
+use Rattle.store_sysmods.specs.Steps.{Step}
+use Rattle.store_sysmods.proofs.Steps.{Ran, step_takes, step_ok, step_then, step_stops}
 use Rattle.store_sysmods.proofs.sysmod.remove_sysmod.Given.{Over}
 use Rattle.store_sysmods.proofs.sysmod.remove_sysmod.Goals.{After-remove, After-remove-2, After-remove-3}
 use Rattle.store_sysmods.proofs.sysmod.remove_sysmod.Goals.{After-remove_sources, After-remove-4, After-remove-5}
@@ -43,8 +44,7 @@ elems g c = step_takes g.S.Store delete_elems elem _ c.args.id _ _ _
 sources : (g : Over) (c : After-remove_sources g) → Step g.S.Store ((delete_sources, sysmod_key c.args.id) ∷ [])
     (in_table source (without (sysmod_key c.args.id))) c.remove-3.new.tx.conn.now
     c.remove_sources.new.tx.conn.now c.remove_sources.result
-sources g c = step_takes g.S.Store delete_sources source _ c.args.id _ _ _ refl
-    c.remove_sources.ensures.inside c.remove_sources.ensures.calls c.remove_sources.ensures.ok
+sources g c = c.remove_sources.ensures.takes
 
 morevers : (g : Over) (c : After-remove-4 g) → Step g.S.Store ((delete_morevers, sysmod_key c.args.id) ∷ [])
     (in_table morever (without (sysmod_key c.args.id))) c.remove_sources.new.tx.conn.now

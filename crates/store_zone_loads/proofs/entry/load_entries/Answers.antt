@@ -8,13 +8,19 @@ use Rattle.store_zone_loads.proofs.InZone.{with_zone, without_zone, items_held, 
 use Rattle.store_zone_loads.proofs.Entries.{meets_entry}
 use Rattle.store_zone_loads.proofs.entry.load_entries.Goals as goal
 
+pub returns-in_err-rows-clause-reads : goal.returns-in_err-rows-clause-reads
+returns-in_err-rows-clause-reads g c r =
+    reads_err g.S.Store _ _ _ c.args.conn.now c.load_listed.new.conn c.load_listed.result _ (search rules)
+    (λ bad. search rules) (λ failed. search rules) (c.load_listed.ensures.reads refl ((_, refl), tt) r tt)
+
 pub returns-in_err-rows-clause-none : goal.returns-in_err-rows-clause-none
-returns-in_err-rows-clause-none g c clean bad r contents was xs held =
+returns-in_err-rows-clause-none g c clean bad r contents was entries held =
     let name = c.args.name.now in
     let failed : IsErrOf c.load_listed.result BadRow = search rules in
-    c.load_listed.ensures.none clean failed refl r tt contents was (map (with_zone name) xs)
-    (forms_held _ entry_row HasEntryRowForms _ _ contents name xs held)
-    (rows_held _ entry_row HasEntryRowForms _ _ contents name c.as_bytes.result.now c.as_bytes.ensures.same xs held)
+    c.load_listed.ensures.none clean failed refl r tt contents was (map (with_zone name) entries)
+    (forms_held _ entry_row HasEntryRowForms _ _ contents name entries held)
+    (rows_held _ entry_row HasEntryRowForms _ _ contents name c.as_bytes.result.now c.as_bytes.ensures.same entries
+    held)
 
 pub returns-clause-found : goal.returns-clause-found
 returns-clause-found g c clean r contents was =
@@ -26,18 +32,14 @@ returns-clause-found g c clean r contents was =
     rise) c.zone_table.ensures.same c.zone_table.ensures.rise
 
 pub returns-clause-none : goal.returns-clause-none
-returns-clause-none g c clean bad r contents was xs held =
+returns-clause-none g c clean bad r contents was entries held =
     let name = c.args.name.now in
-    let rows = c.in_ok-rows.ensures.only clean refl r tt contents was (map (with_zone name) xs)
-    (forms_held _ entry_row HasEntryRowForms _ _ contents name xs held)
-    (rows_held _ entry_row HasEntryRowForms _ _ contents name c.as_bytes.result.now c.as_bytes.ensures.same xs held) in
-    c.zone_table.ensures.none bad xs (without_zone name c.in_ok-rows.rows.items xs rows)
+    let rows = c.in_ok-rows.ensures.only clean refl r tt contents was (map (with_zone name) entries)
+    (forms_held _ entry_row HasEntryRowForms _ _ contents name entries held)
+    (rows_held _ entry_row HasEntryRowForms _ _ contents name c.as_bytes.result.now c.as_bytes.ensures.same entries
+    held) in
+    c.zone_table.ensures.none bad entries (without_zone name c.in_ok-rows.rows.items entries rows)
     held.rise
-
-pub returns-in_err-rows-clause-reads : goal.returns-in_err-rows-clause-reads
-returns-in_err-rows-clause-reads g c r =
-    reads_err g.S.Store _ _ _ c.args.conn.now c.load_listed.new.conn c.load_listed.result _ (search rules)
-    (λ bad. search rules) (λ failed. search rules) (c.load_listed.ensures.reads refl ((_, refl), tt) r tt)
 
 pub returns-clause-reads : goal.returns-clause-reads
 returns-clause-reads g c r =

@@ -1,4 +1,4 @@
-use Rattle.std.proofs.Common.{◌≡◌, [], sym, ap₂, subst, ◌∙◌}
+use Rattle.std.proofs.Common.{◌≡◌, [], sym, ap₂, ◌∙◌}
 use Rattle.std.proofs.lemmas.Cmp.{nat_list_cmp_total}
 use Rattle.std.proofs.lemmas.Grind.{common_steps}
 use Rattle.std.proofs.Common.{arith}
@@ -8,7 +8,7 @@ use Rattle.store_rows.proofs.InsideLemmas.{if_ok_both}
 use Rattle.store_schema.proofs.Lists.{rising_same}
 use Rattle.terms.specs.Types.{Entry}
 use Rattle.store_zone_loads.specs.Numbered.{numbered}
-use Rattle.store_zone_loads.proofs.Numbers.{RiseById, none_given, numbered_rise}
+use Rattle.store_zone_loads.proofs.Numbers.{none_given, all_rising}
 use Rattle.store_zone_loads.proofs.numbering.numbered.Goals as goal
 
 pub returns-then-is_empty-clause-same : goal.returns-then-is_empty-clause-same
@@ -25,22 +25,18 @@ pub returns-clause-same : goal.returns-clause-same
 returns-clause-same c =
     let entries : c.from.result.items ≡ c.args.entries = grind (arith, common_steps) in
     let numbers : c.from-numbers.result.items ≡ c.args.numbers = grind (arith, common_steps) in
-    let all : c.in_ok-all.all.items ≡ numbered c.args.entries c.args.numbers =
-    c.in_ok-all.ensures.same ∙ ap₂ numbered entries numbers in
-    let rise : RiseById c.in_ok-all.all.items =
-    subst RiseById (sym all) (numbered_rise c.args.entries c.args.numbers
-    (subst RiseById c.into_vec-2.ensures.items c.into_vec-2.ensures.rising)) in
+    let all = c.in_ok-all.ensures.same ∙ ap₂ numbered entries numbers in
     if_ok_both c.table_of.result _ _ _ (λ table same up.
     rising_same nat_list_cmp_total (λ (e : Entry). e.id) table c.in_ok-all.all.items
-    (IsPermutation-sym c.in_ok-all.all.items table same) up rise ∙ all) c.table_of.ensures.same c.table_of.ensures.rise
+    (IsPermutation-sym c.in_ok-all.all.items table same) up
+    (all_rising c.args.entries c.args.numbers c.in_ok-all.all.items all c.into_vec-2.ensures.items
+    c.into_vec-2.ensures.rising) ∙ all) c.table_of.ensures.same c.table_of.ensures.rise
 
 pub returns-clause-none : goal.returns-clause-none
 returns-clause-none c bad whole =
     let entries : c.from.result.items ≡ c.args.entries = grind (arith, common_steps) in
     let numbers : c.from-numbers.result.items ≡ c.args.numbers = grind (arith, common_steps) in
-    let all : c.in_ok-all.all.items ≡ numbered c.args.entries c.args.numbers =
-    c.in_ok-all.ensures.same ∙ ap₂ numbered entries numbers in
-    let rise : RiseById c.in_ok-all.all.items =
-    subst RiseById (sym all) (numbered_rise c.args.entries c.args.numbers
-    (subst RiseById c.into_vec-2.ensures.items c.into_vec-2.ensures.rising)) in
-    c.table_of.ensures.none bad c.in_ok-all.all.items (IsPermutation-refl c.in_ok-all.all.items) rise
+    let all = c.in_ok-all.ensures.same ∙ ap₂ numbered entries numbers in
+    c.table_of.ensures.none bad c.in_ok-all.all.items (IsPermutation-refl c.in_ok-all.all.items)
+    (all_rising c.args.entries c.args.numbers c.in_ok-all.all.items all c.into_vec-2.ensures.items
+    c.into_vec-2.ensures.rising)

@@ -1,12 +1,10 @@
-use Rattle.std.proofs.Common.{map, rules, sym, subst, arith}
+use Rattle.std.proofs.Common.{map, rules, arith}
 use Rattle.sqlite.specs.Held.{state}
 use Rattle.sqlite.specs.State.{HasCleanDisk}
 use Rattle.store_rows.proofs.InsideLemmas.{if_ok_both}
 use Rattle.store_rows.proofs.Queries.{reads_more}
-use Rattle.store_rows.specs.Rows.{HasContents}
-use Rattle.store_schema.specs.Earlier.{schema_under}
 use Rattle.store_zone_loads.specs.Numbered.{as_first, numbers_of}
-use Rattle.store_zone_loads.proofs.ByRelease.{earlier_numbered, all_numbered, none_over, numbers_third}
+use Rattle.store_zone_loads.proofs.ByRelease.{earlier_numbered, all_numbered, none_over, numbers_third, third_held}
 use Rattle.store_zone_loads.proofs.zone.load_numbered.Goals as goal
 
 pub returns-in_err-entries-clause-none : goal.returns-in_err-entries-clause-none
@@ -29,41 +27,29 @@ returns-in_err-numbers-in-Third-clause-none g c clean bad contents was all held 
     let r = c.args.release in
     let before : HasCleanDisk (state g.S.Store c.load_entries.new.conn) =
     omega (arith, clean, c.load_numbers.ensures.reads.crash.clean) in
-    let same = (c.in_ok-entries.ensures.reads r).same before in
-    let later = subst (HasContents (schema_under r) contents) (sym same.0.now_is) was in
     c.load_numbers.ensures.none clean (search rules) contents
-    (subst (λ s. HasContents (schema_under s) contents (state g.S.Store c.load_entries.new.conn).now) c.in-Third.is
-    later) (numbers_of all)
+    (third_held r contents _ _ c.in-Third.is ((c.in_ok-entries.ensures.reads r).same before) was) (numbers_of all)
     (numbers_third r contents c.args.name.now (numbers_of all) c.in-Third.is held.numbers)
 
 pub returns-in_ok-numbers-in-Third-clause-found : goal.returns-in_ok-numbers-in-Third-clause-found
 returns-in_ok-numbers-in-Third-clause-found g c clean contents was =
     let r = c.args.release in
-    let name = c.args.name.now in
     let before : HasCleanDisk (state g.S.Store c.load_entries.new.conn) =
     omega (arith, clean, c.load_numbers.ensures.reads.crash.clean) in
-    let same = (c.in_ok-entries.ensures.reads r).same before in
-    let later = subst (HasContents (schema_under r) contents) (sym same.0.now_is) was in
-    let entries = c.in_ok-entries.ensures.found before r contents was in
-    let numbers = c.in_ok-numbers-in-Third.ensures.found clean contents
-    (subst (λ s. HasContents (schema_under s) contents (state g.S.Store c.load_entries.new.conn).now) c.in-Third.is
-    later) in
     if_ok_both c.numbered.result _ _ _
-    (all_numbered contents name c.in_ok-entries.entries c.in_ok-numbers-in-Third.numbers entries numbers r c.in-Third.is)
+    (all_numbered contents c.args.name.now c.in_ok-entries.entries c.in_ok-numbers-in-Third.numbers
+    (c.in_ok-entries.ensures.found before r contents was)
+    (c.in_ok-numbers-in-Third.ensures.found clean contents
+    (third_held r contents _ _ c.in-Third.is ((c.in_ok-entries.ensures.reads r).same before) was)) r c.in-Third.is)
     c.numbered.ensures.same c.numbered.ensures.whole
 
 pub returns-in_ok-numbers-in-Third-clause-none : goal.returns-in_ok-numbers-in-Third-clause-none
 returns-in_ok-numbers-in-Third-clause-none g c clean bad contents was all held =
     let r = c.args.release in
-    let name = c.args.name.now in
     let before : HasCleanDisk (state g.S.Store c.load_entries.new.conn) =
     omega (arith, clean, c.load_numbers.ensures.reads.crash.clean) in
-    let same = (c.in_ok-entries.ensures.reads r).same before in
-    let later = subst (HasContents (schema_under r) contents) (sym same.0.now_is) was in
-    let entries = c.in_ok-entries.ensures.found before r contents was in
-    let numbers = c.in_ok-numbers-in-Third.ensures.found clean contents
-    (subst (λ s. HasContents (schema_under s) contents (state g.S.Store c.load_entries.new.conn).now) c.in-Third.is
-    later) in
     c.numbered.ensures.none bad
-    (none_over contents name c.in_ok-entries.entries c.in_ok-numbers-in-Third.numbers entries numbers r c.in-Third.is all
+    (none_over contents c.args.name.now c.in_ok-entries.entries c.in_ok-numbers-in-Third.numbers
+    (c.in_ok-entries.ensures.found before r contents was) (c.in_ok-numbers-in-Third.ensures.found clean contents
+    (third_held r contents _ _ c.in-Third.is ((c.in_ok-entries.ensures.reads r).same before) was)) r c.in-Third.is all
     held)

@@ -1,12 +1,11 @@
 use Rattle.std.proofs.Common.{Some, rules, sym, subst, arith}
 use Rattle.sqlite.specs.Held.{state}
 use Rattle.sqlite.specs.State.{HasCleanDisk}
-use Rattle.store_rows.specs.Rows.{HasContents}
-use Rattle.store_schema.specs.Earlier.{schema_under}
 use Rattle.store_zone_loads.specs.Held.{HoldsHead, HoldsUnder}
 use Rattle.store_rows.proofs.Queries.{reads_err, reads_more, reads_then}
 use Rattle.store_zone_loads.proofs.Zones.{head_at, is_zone}
 use Rattle.store_zone_loads.proofs.Heads.{head_named}
+use Rattle.store_zone_loads.proofs.ByRelease.{held_after}
 use Rattle.store_zone_loads.proofs.zone.load_under.Goals as goal
 
 pub returns-in_err-head-clause-reads : goal.returns-in_err-head-clause-reads
@@ -47,29 +46,27 @@ returns-in_default-clause-found g c clean contents was =
 pub returns-clause-found : goal.returns-clause-found
 returns-clause-found g c clean contents was =
     let r = c.args.release in
-    let name = c.args.name.now in
     let head = c.in-Some.head in
     let before : HasCleanDisk (state g.S.Store c.zone_head.new.conn) =
     omega (arith, clean, c.load_rest.ensures.reads.crash.clean) in
-    let same = (c.in_ok-head.ensures.reads r).same before in
-    let later = subst (HasContents (schema_under r) contents) (sym same.0.now_is) was in
-    let there = subst (HoldsHead contents name) c.in-Some.is (c.in_ok-head.ensures.found before r contents was) in
-    let named = head_named contents name head there in
+    let there = subst (HoldsHead contents c.args.name.now) c.in-Some.is
+    (c.in_ok-head.ensures.found before r contents was) in
+    let named = head_named contents c.args.name.now head there in
     subst (λ n. HoldsUnder r contents n (Some c.in_ok-load_rest.field-0)) named
-    (c.in_ok-load_rest.ensures.found clean contents later
+    (c.in_ok-load_rest.ensures.found clean contents
+    (held_after r contents _ _ ((c.in_ok-head.ensures.reads r).same before) was)
     (subst (λ n. HoldsHead contents n (Some head)) (sym named) there))
 
 pub returns-in_err-load_rest-clause-none : goal.returns-in_err-load_rest-clause-none
 returns-in_err-load_rest-clause-none g c clean bad contents was zone held =
     let r = c.args.release in
     let name = c.args.name.now in
-    let head = c.in-Some.head in
     let before : HasCleanDisk (state g.S.Store c.zone_head.new.conn) =
     omega (arith, clean, c.load_rest.ensures.reads.crash.clean) in
-    let same = (c.in_ok-head.ensures.reads r).same before in
-    let later = subst (HasContents (schema_under r) contents) (sym same.0.now_is) was in
     let there = subst (HoldsHead contents name) c.in-Some.is (c.in_ok-head.ensures.found before r contents was) in
-    let named = head_named contents name head there in
-    let own = is_zone r contents name head there zone held in
-    c.load_rest.ensures.none clean (search rules) contents later
-    (subst (λ n. HoldsHead contents n (Some head)) (sym named) there) own.0 own.1
+    let own = is_zone r contents name c.in-Some.head there zone held in
+    c.load_rest.ensures.none clean (search rules) contents
+    (held_after r contents _ _ ((c.in_ok-head.ensures.reads r).same before) was)
+    (subst (λ n. HoldsHead contents n (Some c.in-Some.head)) (sym (head_named contents name c.in-Some.head there))
+    there)
+    own.0 own.1

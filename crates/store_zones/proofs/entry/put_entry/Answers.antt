@@ -41,4 +41,5 @@ returns-in_err-put_row-clause-calls g c =
     let e = c.args.entry.now in
     runs_err g.S.Store ((put_entry, entry_row zone e) ∷ []) (chosen_call zone e ∷ []) c.args.tx.now.conn.now
     c.put_row.new.tx.conn.now c.put_row.result c.from_residual-in_err-put_row.result (search rules)
-    (follows_err c.put_row.result _ _ c.in_err-put_row.was c.from_residual-in_err-put_row.ensures.1) c.put_row.ensures.calls
+    (follows_err c.put_row.result _ _ c.in_err-put_row.was c.from_residual-in_err-put_row.ensures.1)
+    c.put_row.ensures.calls

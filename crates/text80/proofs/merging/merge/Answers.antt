@@ -86,4 +86,4 @@ returns c =
     c.loop-line.invariant)
     (subst IsNumbered (sym c.lines-line-items.ensures.lines) c.lines-line-items.ensures.numbered)
     (subst IsNumbered (sym c.lines-given.ensures.lines) c.lines-given.ensures.numbered)
-    (c.lines-given.ensures.lines ∙ c.given.ensures) c.ranges-ranges.ensures.ranges)
+    (c.lines-given.ensures.lines ∙ c.in_ok-all_given.ensures) c.ranges-ranges.ensures.ranges)

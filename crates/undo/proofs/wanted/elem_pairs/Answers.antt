@@ -5,6 +5,6 @@ use Rattle.undo.proofs.wanted.elem_pairs.Goals as goal
 pub returns : goal.returns
 returns c =
     have_elem_holds (restoring_of c.args.scope.now) c.attest.ensures c.in_ok-others.others.items
-    (rw (c.as_slice.ensures.value, c.in_ok-applied.ensures) at c.in_ok-others.ensures) c.in_ok-changers.changers
-    (rw c.as_slice-2.ensures.value at c.in_ok-changers.ensures) c.args.cands.now c.in_ok-pairs.pairs.items
-    (rw c.as_slice-3.ensures.items at c.in_ok-pairs.ensures)
+    (rw c.args.scope.now.has_applied at c.in_ok-others.ensures) c.in_ok-changers.changers
+    (rw c.as_slice.ensures.value at c.in_ok-changers.ensures) c.args.cands.now c.in_ok-pairs.pairs.items
+    (rw c.as_slice-2.ensures.items at c.in_ok-pairs.ensures)

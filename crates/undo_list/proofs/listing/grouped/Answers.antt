@@ -2,7 +2,7 @@ use Rattle.std.proofs.Common.{◌∙◌, ap, subst}
 use Rattle.std.proofs.lemmas.Result.{IfOk-weaker}
 use Rattle.terms.specs.Types.{RestoreGroup}
 use Rattle.terms.specs.Restore.{AreListed}
-use Rattle.undo_list.specs.Restoring.{restoring}
+use Rattle.undo_list.specs.Restoring.{restoring_of}
 use Rattle.undo_list.specs.Steps.{as_steps}
 use Rattle.undo_list.specs.ByNumbers.{AreReached}
 use Rattle.undo_list.proofs.ListedBySteps.{listed_from}
@@ -10,7 +10,7 @@ use Rattle.undo_list.proofs.listing.grouped.Goals as goal
 
 pub returns : goal.returns
 returns c =
-    let r = restoring c.args.vers.now c.args.zone.now c.args.accepted.now in
+    let r = restoring_of c.args.scope.now in
     let steps = ap as_steps c.as_slice.ensures.value ∙ c.in_ok-steps.ensures in
     IfOk-weaker c.reached.result (AreReached c.args.ids.now (as_steps c.as_slice.result.now))
     (AreListed r (RestoreGroup c.args.ids.now))

@@ -1,13 +1,13 @@
 use Rattle.std.proofs.Common.{◌∙◌, Contains, Some, map, ap, subst}
 use Rattle.undo_list.specs.Steps.{as_step}
 use Rattle.undo_list.specs.ByNumbers.{IsNumbered}
-use Rattle.undo_list.proofs.Reached.{all_from}
+use Rattle.lemmas.proofs.Each.{All_from_each}
 use Rattle.undo_list.proofs.RulesOfSteps.{are_places, numbered_rule}
 use Rattle.undo_list.proofs.numbers.rule_of.Goals as goal
 
 pub numbers-requires-clause-there : goal.numbers-requires-clause-there
 numbers-requires-clause-there c =
-    all_from (Contains c.args.table.now) c.as_slice.result.now
+    All_from_each (Contains c.args.table.now) c.as_slice.result.now
     (λ n h. c.requires.covers.these n (subst (λ l. Contains l n) c.as_slice.ensures.value h))
 
 pub returns-clause-numbered : goal.returns-clause-numbered

@@ -10,12 +10,12 @@ use Rattle.zones_views.proofs.choosing.choose.Goals as goal
 pub table_of-kept-requires : goal.table_of-kept-requires
 table_of-kept-requires c =
     rw c.in_ok-kept_picks.ensures (picks_rise (λ (e : Entry). e.id) kept_pick (λ e. refl) c.args.zone.now.entries
-    c.attest.ensures.entries)
+    c.attest-2.ensures.entries)
 
 pub table_of-fitting-requires : goal.table_of-fitting-requires
 table_of-fitting-requires c =
     rw c.in_ok-fitting_picks.ensures (picks_rise (λ (s : Sysmod). s.id)
-    (fitting_pick c.args.zone.now c.args.cands.now) (λ s. refl) c.args.global.now.sysmods c.len.ensures.form.sysmods)
+    (fitting_pick c.args.zone.now c.args.cands.now) (λ s. refl) c.args.global.now.sysmods c.attest.ensures.sysmods)
 
 numbers : (c : goal.After-new) → (x : Id)
     → number_in c.new.result x ≡ place c.args.global.now c.args.zone.now c.args.cands.now x + 1
@@ -23,7 +23,7 @@ numbers c x =
     let kept = c.new.ensures.kept ∙ c.table_of-kept.ensures ∙ c.in_ok-kept_picks.ensures in
     let fitting = c.new.ensures.fitting ∙ c.table_of-fitting.ensures ∙ c.in_ok-fitting_picks.ensures in
     rw (kept, fitting)
-    (numbers_are c.args.global.now c.args.zone.now c.args.cands.now c.len.ensures.form c.attest.ensures x)
+    (numbers_are c.args.global.now c.args.zone.now c.args.cands.now c.attest.ensures c.attest-2.ensures x)
 
 pub returns-clause-counting : goal.returns-clause-counting
 returns-clause-counting c = fun_ext (λ x.

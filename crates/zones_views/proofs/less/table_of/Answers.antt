@@ -1,7 +1,7 @@
 use Rattle.std.proofs.Common.{refl, sym, List, Option, None, Some, IsPermutation, subst}
 use Rattle.std.specs.Prelude.{IsSome, IfNone, IfSome}
 use Rattle.std.proofs.lemmas.List.Sorted.{IsPermutation-refl}
-use Rattle.zones_views.proofs.Alike.{rises_permuted}
+use Rattle.terms.proofs.RisingAlike.{rises_permuted}
 use Rattle.zones_views.proofs.less.table_of.Goals as goal
 
 some_there : {X : Type 0} (P : List X → Type 0) (xs : List X) (o : Option (List X)) → P xs

@@ -7,7 +7,7 @@ use Rattle.terms.specs.Lookups.{element_cmp, element_key}
 use Rattle.terms.specs.Deleted.{is_deleted, is_taken_out, zone_less}
 use Rattle.terms.proofs.ElementOrder.{cmp_keys}
 use Rattle.sysmods.specs.Choices.{choice}
-use Rattle.zones_views.proofs.Alike.{rises_agree}
+use Rattle.terms.proofs.RisingAlike.{rises_alike}
 use Rattle.zones_views.proofs.Entries.{entries_less_held, entries_less_waive, entries_less_rise}
 use Rattle.zones_views.proofs.less.zone_less.Goals as goal
 
@@ -20,7 +20,7 @@ table_of-requires c =
 pub table_of-requires-2 : goal.table_of-requires-2
 table_of-requires-2 c =
     let v = c.args.vers.now in
-    rises_agree _ element_cmp cmp_keys element_key c.in_ok-elements.elements.items
+    rises_alike _ element_cmp cmp_keys element_key c.in_ok-elements.elements.items
     (rw c.in_ok-elements.ensures (AllPairs-filter
     (λ (x y : Element). IsTrue (is_lt (element_cmp (element_key x) (element_key y))))
     (λ e. not (is_deleted v.global.now (choice v) c.args.dels.now e.fmid))

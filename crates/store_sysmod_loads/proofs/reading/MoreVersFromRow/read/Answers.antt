@@ -14,13 +14,13 @@ returns-clause-read c =
         (
           c.in-Some.ensures.some.1,
           record {
+            npre = none_other c.in-Some.id c.new-npre.result c.new-npre.ensures;
+            del = none_other c.in-Some.id c.new-del.result c.new-del.ensures;
             srel = c.in-Some-srel_in.ensures.some.1;
             fmid = c.in-Some-other_in.ensures.some.1;
             pre = c.in_ok-pre.ensures.some.1;
             req = c.in_ok-req.ensures.some.1;
             sup = c.in_ok-sup.ensures.some.1;
-            npre = none_other c.in-Some.id c.new-npre.result c.new-npre.ensures;
-            del = none_other c.in-Some.id c.new-del.result c.new-del.ensures;
             ifs = λ k d within. absurd (omega arith);
             suits = tt;
           },

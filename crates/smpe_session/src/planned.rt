@@ -1,0 +1,84 @@
+//! What an APPLY, ACCEPT or RESTORE comes to, and how it is carried out.
+ghost use Rattle.std.specs.Prelude.{◌≡◌, ◌≤◌, IsTrue, OnOk, Some, map};
+ghost use Rattle.std.specs.Str.{bytes_eq};
+ghost use Rattle.indexmap.specs.IndexMap.{get, Updates};
+ghost use Rattle.sqlite.specs.Held.{state};
+ghost use Rattle.sqlite.specs.State.{HasCleanDisk};
+ghost use Rattle.terms.specs.Types.{Text, Command, Zone as AZone};
+ghost use Rattle.zones.specs.Delta.{IsChanged};
+ghost use Rattle.machine.specs.Machine.{Files};
+ghost use Rattle.machine.specs.Outcome.{Ran};
+ghost use Rattle.machine.specs.State.{State};
+ghost use Rattle.report.specs.Views.{line_view, header_view};
+ghost use Rattle.store.specs.BadRows.{OnlyLoads, TellsNoState};
+ghost use Rattle.smpe_zones.specs.Kept.{Keeps};
+ghost use Rattle.smpe_session.specs.Sessions.{IsSessionOf, HasPerformed};
+ghost use Rattle.smpe_session.specs.Places.{ChangesZone};
+
+use crate::load::commit_change;
+use crate::session::Session;
+use fields::{Attest, ZoneName};
+use indexmap::IndexMap;
+use report::{Header, Line, Outcome};
+use sqlite::Alter;
+use std::alloc::{AllocError, Global};
+use store::{Change, Store, StoreError};
+use zones::{Zone, ZoneDelta};
+
+/// The change of a zone, and the lines.
+#[derive(Drop)]
+pub(crate) struct Planned {
+    pub delta: ZoneDelta,
+    pub lines: Vec<Line>,
+}
+
+/// Changes a zone of the session, if it has one of the name.
+fn change_zone(
+    alloc: Global,
+    zones: &mut IndexMap<ZoneName, Zone>,
+    name: ZoneName,
+    delta: &ZoneDelta,
+) -> Result<(), AllocError>
+    ensures { OnOk result ((was : AZone) → get bytes_eq zones.old name ≡ Some was
+        → (new : AZone) × IsChanged delta.now was new × Updates bytes_eq zones.old zones.new name (Some new)) }
+{
+    let Some(zone) = zones.get_mut(&name) else {
+        return Ok(());
+    };
+    delta.apply(alloc, zone)?;
+    Ok(())
+}
+
+impl Session {
+    /// Under CHECK nothing changes. Else the session's zone does, and what it became is committed. A job whose commit
+    /// fails ends there, and its session with it.
+    pub(crate) fn carry_out<S: Alter>(
+        &mut self,
+        alloc: Global,
+        store: &mut Store<S>,
+        header: Header,
+        name: ZoneName,
+        planned: Planned,
+    ) -> Result<Outcome<'static>, StoreError>
+        ensures clean { HasCleanDisk (state S.Store store.new) → HasCleanDisk (state S.Store store.old) }
+        ensures faults { (state S.Store store.old).faults ≤ (state S.Store store.new).faults }
+        ensures limit { store.new.step_limit ≡ store.old.step_limit }
+        ensures loads { IsTrue header.check → OnOk result (OnlyLoads S.Store store.old store.new) }
+        ensures none { TellsNoState S.Store store.old store.new result }
+        ensures ended { HasCleanDisk (state S.Store store.new) → (s : State) → IsSessionOf s self.old
+            → Keeps S.Store store.old s
+            → (date : Text) (files : Files) (c : Command)
+            → ChangesZone date files c s self.old name planned.delta header.check
+            (Ran (header_view header) (map line_view planned.lines.items))
+            → HasPerformed S.Store store.old store.new s self.new date files c result }
+    {
+        let Planned { delta, lines } = planned;
+        if header.check {
+            delta.attest();
+            return Ok(Outcome::Ran { header, lines });
+        }
+        change_zone(alloc, &mut self.zones, name, &delta)?;
+        commit_change(store, &Change::Zone(name, delta))?;
+        Ok(Outcome::Ran { header, lines })
+    }
+}

@@ -1,0 +1,123 @@
+-- The rows of the items of a list, each behind those before it.
+use Rattle.std.proofs.Common.{◌≡◌, ℕ, ◌+◌, ◌<◌, ◌≤◌, arith, List, [], ◌∷◌, ◌++◌, append-nil, map, filter, length}
+use Rattle.std.proofs.Common.{take, drop, Bool, true, false, not, if◌then◌else◌, get_or, Result, Ok}
+use Rattle.std.proofs.Common.{Err, IsErrAnd, refl, sym, ap, ◌∙◌}
+use Rattle.std.specs.List.{flat_map, enumerate_from}
+use Rattle.std.proofs.lemmas.List.{append_assoc, length-append, take_more, take_all, take-append-drop}
+use Rattle.std.proofs.lemmas.List.Concat.{flat_map_single}
+use Rattle.sqlite.specs.Store.{Ghosts}
+use Rattle.sqlite.specs.Order.{Row}
+use Rattle.sqlite.specs.Table.{Table}
+use Rattle.sqlite.specs.Held.{Held}
+use Rattle.sqlite.specs.declared.error.Error.{Error}
+use Rattle.terms.specs.Types.{Id, Ver}
+use Rattle.store_schema.specs.Rows.{ver_row, morever_row, ifreq_row, moreif_row, is_first, numbered_behind}
+use Rattle.store_sysmods.specs.Behind.{rows_behind, of_each, of_counted, of_numbered, first_row, further_row}
+use Rattle.store_sysmods.specs.Behind.{first_ifs, further_ifs}
+use Rattle.store_sysmods.specs.Steps.{Puts}
+use Rattle.store_sysmods.proofs.Steps.{puts_as, puts_then, puts_stops}
+
+-- ---- the same rows as a list tells them
+
+pub each_behind : {X : Type 0} (row : X → Row) (front xs : List X) → rows_behind (of_each row) front xs ≡ map row xs
+each_behind row front [] = refl
+each_behind row front (x ∷ xs) = ap (λ rows. row x ∷ rows) (each_behind row (front ++ x ∷ []) xs)
+
+pub counted_behind : {X : Type 0} (row : ℕ × X → Row) (front xs : List X)
+    → rows_behind (of_counted row) front xs ≡ map row (enumerate_from (length front + 1) xs)
+counted_behind row front [] = refl
+counted_behind row front (x ∷ xs) =
+    ap (λ rows. row (length front + 1, x) ∷ rows) (counted_behind row (front ++ x ∷ []) xs
+    ∙ ap (λ n. map row (enumerate_from (n + 1) xs)) (length-append front (x ∷ [])))
+
+pub numbered_rows : (rows : ℕ × Ver → List Row) (front vs : List Ver)
+    → rows_behind (of_numbered rows) front vs ≡ flat_map rows (numbered_behind front vs)
+numbered_rows rows front [] = refl
+numbered_rows rows front (v ∷ vs) =
+    ap (λ more. of_numbered rows front v ++ more) (numbered_rows rows (front ++ v ∷ []) vs)
+
+-- items that pass a test have some rows, and the others have none
+pub flat_if : {X Y : Type 0} (p : X → Bool) (f : X → List Y) (xs : List X)
+    → flat_map (λ x. if p x then f x else []) xs ≡ flat_map f (filter p xs)
+flat_if p f [] = refl
+flat_if p f (x ∷ xs) = go (p x) refl (flat_if p f xs)
+  where
+    go : (b : Bool) → p x ≡ b → flat_map (λ x. if p x then f x else []) xs ≡ flat_map f (filter p xs)
+        → flat_map (λ x. if p x then f x else []) (x ∷ xs) ≡ flat_map f (filter p (x ∷ xs))
+    go true e later = rw e (ap (λ rows. f x ++ rows) later)
+    go false e later = rw e later
+
+-- ---- the rows of a SYSMOD's ++VERs and of their ++IFs
+
+pub first_rows : (x : Id) (vs : List Ver) → rows_behind (of_numbered (first_row x)) [] vs
+    ≡ map (λ (v : ℕ × Ver). ver_row x v.1) (filter is_first (numbered_behind [] vs))
+first_rows x vs =
+    numbered_rows (first_row x) [] vs ∙ flat_if is_first (λ (v : ℕ × Ver). ver_row x v.1 ∷ []) (numbered_behind [] vs)
+    ∙ flat_map_single (λ (v : ℕ × Ver). ver_row x v.1) (filter is_first (numbered_behind [] vs))
+
+pub further_rows : (x : Id) (vs : List Ver) → rows_behind (of_numbered (further_row x)) [] vs
+    ≡ map (morever_row x) (filter (λ v. not (is_first v)) (numbered_behind [] vs))
+further_rows x vs =
+    numbered_rows (further_row x) [] vs
+    ∙ flat_if (λ v. not (is_first v)) (λ (v : ℕ × Ver). morever_row x v ∷ []) (numbered_behind [] vs)
+    ∙ flat_map_single (morever_row x) (filter (λ v. not (is_first v)) (numbered_behind [] vs))
+
+pub first_if_rows : (x : Id) (vs : List Ver) → rows_behind (of_numbered (first_ifs x)) [] vs
+    ≡ flat_map (λ (v : ℕ × Ver). map (ifreq_row x v.1.srel) (enumerate_from 1 v.1.ifs))
+    (filter is_first (numbered_behind [] vs))
+first_if_rows x vs =
+    numbered_rows (first_ifs x) [] vs
+    ∙ flat_if is_first (λ (v : ℕ × Ver). map (ifreq_row x v.1.srel) (enumerate_from 1 v.1.ifs)) (numbered_behind [] vs)
+
+pub further_if_rows : (x : Id) (vs : List Ver) → rows_behind (of_numbered (further_ifs x)) [] vs
+    ≡ flat_map (λ (v : ℕ × Ver). map (moreif_row x v.1.srel v.0) (enumerate_from 1 v.1.ifs))
+    (filter (λ v. not (is_first v)) (numbered_behind [] vs))
+further_if_rows x vs =
+    numbered_rows (further_ifs x) [] vs ∙ flat_if (λ v. not (is_first v))
+    (λ (v : ℕ × Ver). map (moreif_row x v.1.srel v.0) (enumerate_from 1 v.1.ifs)) (numbered_behind [] vs)
+
+-- ---- the loop
+
+module _ {X : Type 0} (rows : List X → X → List Row) where
+  behind_both : (front xs ys : List X)
+      → rows_behind rows front (xs ++ ys) ≡ rows_behind rows front xs ++ rows_behind rows (front ++ xs) ys
+  behind_both front [] ys = ap (λ l. rows_behind rows l ys) (sym (append-nil front))
+  behind_both front (x ∷ xs) ys =
+      ap (λ more. rows front x ++ more) (behind_both (front ++ x ∷ []) xs ys
+      ∙ ap (λ l. rows_behind rows (front ++ x ∷ []) xs ++ rows_behind rows l ys) (append_assoc front (x ∷ []) xs))
+      ∙ sym (append_assoc (rows front x) (rows_behind rows (front ++ x ∷ []) xs)
+      (rows_behind rows (front ++ x ∷ xs) ys))
+
+  module _ (items : List X) (i : ℕ) (item : X) (within : i < length items) (is : item ≡ get_or items i item) where
+    one_more : rows_behind rows [] (take i items) ++ rows (take i items) item ≡ rows_behind rows [] (take (i + 1) items)
+    one_more =
+        ap (λ more. rows_behind rows [] (take i items) ++ more) (sym (append-nil (rows (take i items) item)))
+        ∙ sym (behind_both [] (take i items) (item ∷ []))
+        ∙ ap (λ x. rows_behind rows [] (take i items ++ x ∷ [])) is
+        ∙ ap (rows_behind rows []) (sym (take_more items i item within))
+
+    and_rest : rows_behind rows [] (take (i + 1) items) ++ rows_behind rows (take (i + 1) items) (drop (i + 1) items)
+        ≡ rows_behind rows [] items
+    and_rest = sym (behind_both [] (take (i + 1) items) (drop (i + 1) items))
+        ∙ ap (rows_behind rows []) (take-append-drop (i + 1) items)
+
+    module _ {S : Type 0} (g : Ghosts S) (text : List ℕ) (table : Table) {a b c : Held S}
+        (done : Puts g text table (rows_behind rows [] (take i items)) a b (Ok (tt {0}))) where
+      -- an item more
+      pub puts_more : {Y : Type 0} {r : Result Y Error} → Puts g text table (rows (take i items) item) b c r
+          → Puts g text table (rows_behind rows [] (take (i + 1) items)) a c r
+      puts_more more = puts_as g text table one_more (puts_then g text table _ _ done more)
+
+      -- an item failed
+      pub puts_fails : {Y Z : Type 0} {q : Result Y Error} {e : Error} (r : Result Z Error) → q ≡ Err e
+          → IsErrAnd r (λ z. z ≡ e) → Puts g text table (rows (take i items) item) b c q
+          → Puts g text table (rows_behind rows [] items) a c r
+      puts_fails r failed told more =
+          puts_as g text table and_rest (puts_stops g text table _ _ r failed told (puts_more more))
+
+  -- all items
+  pub puts_all : {S : Type 0} (g : Ghosts S) (text : List ℕ) (table : Table) {a b : Held S} (items : List X) (i : ℕ)
+      → length items ≤ i → Puts g text table (rows_behind rows [] (take i items)) a b (Ok (tt {0}))
+      → Puts g text table (rows_behind rows [] items) a b (Ok (tt {0}))
+  puts_all g text table items i end done =
+      puts_as g text table (ap (rows_behind rows []) (take_all i items (omega (arith, end)))) done

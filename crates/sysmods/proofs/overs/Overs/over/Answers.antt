@@ -1,0 +1,28 @@
+use Rattle.std.proofs.Common.{refl, sym, ◌∙◌, subst}
+use Rattle.sysmods.specs.Choices.{choice}
+use Rattle.sysmods.specs.Overs.{AreOver}
+use Rattle.sysmods.proofs.KnownOvers.{known_over, more_over}
+use Rattle.sysmods.proofs.overs.Overs.over.Goals as goal
+
+pub returns-then-is_known-clause-over : goal.returns-then-is_known-clause-over
+returns-then-is_known-clause-over c =
+    rw (← c.self.view_is) (
+      λ on. known_over (choice c.self.inside.vers.now) c.self.inside.known.keys c.self.invariant c.args.x c.args.z
+          (sym c.is_known.ensures ∙ c.if-is_known.true),
+      λ over. refl,
+    )
+
+pub returns-then-not-branch-clause-over : goal.returns-then-not-branch-clause-over
+returns-then-not-branch-clause-over c = rw (← c.self.view_is, ← c.if-not-branch.true) c.in_ok-finds.ensures
+
+pub invariant_of-self : goal.invariant_of-self
+invariant_of-self c =
+    subst (AreOver (choice c.self.inside.vers.now)) (sym c.in_err-insert.ensures.err) c.self.invariant
+
+pub invariant_of-self-2 : goal.invariant_of-self-2
+invariant_of-self-2 c =
+    more_over (choice c.self.inside.vers.now) c.self.inside.known.keys c.self.invariant c.args.x c.args.z
+    c.insert.new.self.keys (c.in_ok-finds.ensures.0 search) c.in_ok-insert.ensures.keys
+
+pub returns-clause-over : goal.returns-clause-over
+returns-clause-over c = rw (← c.self.view_is) (λ on. c.in_ok-finds.ensures.0 search, λ over. refl)

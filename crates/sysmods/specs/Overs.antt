@@ -1,0 +1,19 @@
+-- Pairs of ids of which the first is known to be over the second.
+use Rattle.std.specs.Prelude.{◌&&◌, Bool, List, All}
+use Rattle.std.specs.List.{list_any}
+use Rattle.std.specs.Str.{bytes_eq}
+use Rattle.terms.specs.Types.{Id}
+use Rattle.terms.specs.Choice.{Choice}
+use Rattle.terms.specs.Over.{IsOver}
+
+-- they are
+abbrev pub AreOver : Choice → List (Id × Id) → Type 0
+AreOver c pairs = All (λ p. IsOver c p.0 p.1) pairs
+
+-- whether the pair is one of them
+abbrev pub is_known : List (Id × Id) → Id → Id → Bool
+is_known pairs x z = list_any (λ p. bytes_eq x p.0 && bytes_eq z p.1) pairs
+
+-- whether one of these is known to be over z
+abbrev pub is_one_known : List (Id × Id) → List Id → Id → Bool
+is_one_known pairs ys z = list_any (λ y. is_known pairs y z) ys

@@ -1,0 +1,110 @@
+//! Who is over whom, with what was found before: along a chain of PREs or SUPs each search is short.
+ghost use Rattle.std.specs.Prelude.{◌≡◌, ◌↔◌, ◌||◌, IsTrue, IfOk};
+ghost use Rattle.terms.specs.Choice.{pre_of, sup_of};
+ghost use Rattle.terms.specs.Over.{IsOver};
+ghost use Rattle.sysmods.specs.Choices.{choice};
+ghost use Rattle.sysmods.specs.Overs.{AreOver, is_known, is_one_known};
+
+use crate::choice::VerChoice;
+use fields::Id;
+use indexmap::IndexSet;
+use std::alloc::{AllocError, Global};
+use std::marker::Model;
+
+/// Which id is over which by the `++VER`s that count. It keeps the pairs that it has found. A contract sees it as the
+/// choice of these `++VER`s.
+#[derive(Drop)]
+pub struct Overs<'a, 'b> {
+    vers: &'a VerChoice<'b>,
+    known: IndexSet<(Id, Id)>,
+}
+
+impl<'a, 'b> Model for Overs<'a, 'b> {
+    ghost use Rattle.sysmods.specs.declared.choice.VerChoice as choices;
+
+    ghost Value = { choices.VerChoice };
+
+    ghost use Rattle.sysmods.specs.Choices.{choice};
+    ghost use Rattle.sysmods.specs.Overs.{AreOver};
+
+    ghost view = { λ a. a.vers.now };
+
+    ghost invariant = { λ a. AreOver (choice a.vers.now) a.known.keys };
+}
+
+impl<'a, 'b> Overs<'a, 'b> {
+    /// Nothing is found yet.
+    pub fn new(alloc: Global, vers: &'a VerChoice<'b>) -> Self
+        ensures { result ≡ vers.now }
+    {
+        Overs {
+            vers,
+            known: IndexSet::new(alloc),
+        }
+    }
+
+    /// The choice of the `++VER`s that count.
+    pub fn vers(&self) -> &'a VerChoice<'b>
+        ensures { result.now ≡ self.now }
+    {
+        self.vers
+    }
+
+    /// Whether x is over z: a list leads from x to z by PRE, SUP and FMID. The error comes where memory runs out, and
+    /// it may be asked again then.
+    pub fn over(&mut self, alloc: Global, x: Id, z: Id) -> Result<bool, AllocError>
+        ensures over { IfOk result (λ over. IsTrue over ↔ IsOver (choice self.old) x z) }
+        ensures same { self.new ≡ self.old }
+    {
+        if is_known(&self.known, x, z) {
+            return Ok(true);
+        }
+        if !finds(alloc, self.vers, &self.known, x, z)? {
+            return Ok(false);
+        }
+        self.known.insert((x, z))?;
+        Ok(true)
+    }
+}
+
+fn is_known(known: &IndexSet<(Id, Id)>, x: Id, z: Id) -> bool
+    ensures { result ≡ is_known known.now.keys x z }
+{
+    known.contains(&(x, z))
+}
+
+fn is_one_known(known: &IndexSet<(Id, Id)>, ids: &[Id], z: Id) -> bool
+    ensures { result ≡ is_one_known known.now.keys ids.now z }
+{
+    ids.iter().any(|id| is_known(known, *id, z))
+}
+
+// Whether x names one in PRE or SUP that is known to be over z.
+fn follows_known(vers: &VerChoice<'_>, known: &IndexSet<(Id, Id)>, x: Id, z: Id) -> bool
+    ensures { result ≡ (is_one_known known.now.keys (pre_of (choice vers.now) x) z
+        || is_one_known known.now.keys (sup_of (choice vers.now) x) z) }
+{
+    match vers.ver(x) {
+        Some(ver) => {
+            is_one_known(known, ver.pre.as_slice(), z) || is_one_known(known, ver.sup.as_slice(), z)
+        }
+        None => false,
+    }
+}
+
+// Whether x is over z, by what is known or by a search.
+fn finds(
+    alloc: Global,
+    vers: &VerChoice<'_>,
+    known: &IndexSet<(Id, Id)>,
+    x: Id,
+    z: Id,
+) -> Result<bool, AllocError>
+    requires { AreOver (choice vers.now) known.now.keys }
+    ensures { IfOk result (λ over. IsTrue over ↔ IsOver (choice vers.now) x z) }
+{
+    if follows_known(vers, known, x, z) {
+        return Ok(true);
+    }
+    vers.over(alloc, x, z)
+}
