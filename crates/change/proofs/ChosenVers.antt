@@ -18,8 +18,8 @@ use Rattle.terms.specs.Choice.{Choice, vers_of, place, counting, fmid_of, sup_of
 use Rattle.terms.specs.Choice.{ifs_of}
 use Rattle.sysmods.specs.declared.choice.VerChoice.{VerChoice}
 use Rattle.sysmods.specs.Choices.{number_in, choice}
-use Rattle.terms.specs.Over.{Reaches, Supersedes, names}
-use Rattle.terms.specs.Global.{named, names_for, HasLoop, is_service, named_functions, fits_roles, RolesFit}
+use Rattle.terms.specs.Over.{IsOver, Reaches, Supersedes, names}
+use Rattle.terms.specs.Global.{IsGlobal, named, names_for, HasLoop, is_service, named_functions, fits_roles, RolesFit}
 use Rattle.terms.proofs.Leads.{reaches_more, last_step}
 use Rattle.terms.proofs.Loops.{sup_named}
 
@@ -160,3 +160,7 @@ module _ (g : Global) (srel : Text) (c : Choice) (are : AreFor g srel c) where
         named_never z names =
             let by = named_by (λ v. v.sup) z f names in
             true≢false (sym function ∙ none_passes (is_function g) by.0.sup f (chosen_fits z by.0 by.1).0 by.2)
+
+-- nothing is over itself by those that a value looks up
+pub not_over_itself : (vers : VerChoice) → IsGlobal vers.global.now → (x : Id) → ¬ IsOver (choice vers) x x
+not_over_itself vers is = names_no_loop vers.global.now vers.srel (choice vers) (looked_up vers) is.no_loop

@@ -8,27 +8,20 @@ use Rattle.std.proofs.lemmas.List.Elements.{Contains-append_right, Contains-appe
 use Rattle.lemmas.proofs.Members.{there, here_or, none_in, in_middle}
 use Rattle.lemmas.proofs.Pairs.{AllPairs_parts}
 use Rattle.terms.specs.declared.kinds.ElemType.{ElemType}
-use Rattle.terms.specs.Types.{Text, Id, Lines, Change, Global, Element}
-use Rattle.terms.specs.Lookups.{IsRising, change_of, has_change, element_of}
+use Rattle.terms.specs.Types.{Text, Id, Lines, Global, Element}
+use Rattle.terms.specs.Lookups.{IsRising, has_change, element_of}
 use Rattle.terms.specs.Choice.{Choice}
 use Rattle.terms.specs.Changes.{is_replacement, has_replacement}
 use Rattle.terms.specs.Over.{IsOver, names}
 use Rattle.terms.specs.Install.{Installation, TakesEffect, cleared, IsReplacer, IsUpdater, IsUpdated}
 use Rattle.terms.specs.Install.{HasElementAfter}
+use Rattle.terms.proofs.ChangedElements.{replaces_changes}
 use Rattle.terms.proofs.Leads.{reaches_through}
 use Rattle.change.specs.Folding.{UpdatesBy, AreUpdates, IsUpdatedBy, HasReplaced, HasUpdated, IsFolded, AreChangers}
 use Rattle.std.proofs.lemmas.List.Elements.{All-contains}
 use Rattle.change.proofs.FoldSteps.{none_updated}
 
 -- ---- what is known of a SYSMOD that changes the element
-
-pub replaces_changes : (g : Global) (x : Id) (type : ElemType) (name : Text) → IsTrue (has_replacement g x type name)
-    → IsTrue (has_change g x type name)
-replaces_changes g x type name h = by (change_of g x type name) h
-  where
-    by : (o : Option Change) → IsTrue (option_map_or (λ h. is_replacement h.action) o false) → IsTrue (is_some o)
-    by None h = h
-    by (Some k) h = refl
 
 pub update_replaces_not : (g : Global) (c : Choice) (x : Id) (type : ElemType) (name : Text) (update : Lines)
     → UpdatesBy g c type name x update → IsTrue (has_replacement g x type name) → ⊥

@@ -9,7 +9,7 @@ ghost use Rattle.terms.specs.Over.{IsOver};
 ghost use Rattle.terms.specs.Texts.{IsMerge, IsNumbered};
 ghost use Rattle.change.specs.Folding.{AreChangers, IsFolded, IsMadeBy, IsStep, IsUpdateOf, is_for};
 
-use fields::{Id, IdList, Name};
+use fields::{Attest, Id, IdList, Name};
 use std::alloc::{AllocError, Global};
 use sysmods::{GlobalZone, VerChoice};
 use sysmods_records::{Action, ElemChange};
@@ -37,7 +37,7 @@ pub(crate) fn element_after(
         → AreChangers i vers.now.global.now (choice vers.now) elem_type name (option_copied base.entry) changers.now
         → HasElementAfter i elem_type name e) }
 {
-    prove!(vers.global().len() < 65_536);
+    vers.global().attest();
     match last_replacement(vers.global(), elem_type, name, changers) {
         Some(place) => folded(alloc, vers, None, elem_type, name, from(changers, place)),
         None => folded(
@@ -113,7 +113,7 @@ fn folded(
     ensures folded { IfOk result
         (λ e. IsFolded vers.now.global.now (choice vers.now) elem_type name changers.now start (Some e)) }
 {
-    prove!(vers.global().len() < 65_536);
+    vers.global().attest();
     let mut element = start;
     for id in changers {
         element = after_one(alloc, vers, element, elem_type, name, *id)?;
@@ -128,7 +128,7 @@ fn copy_of(alloc: Global, base: Option<&Element>) -> Result<Option<Element>, All
 {
     match base {
         Some(element) => {
-            let _ = element.umids.as_slice();
+            element.umids.attest();
             Ok(Some(element.try_clone(alloc)?))
         }
         None => Ok(None),

@@ -145,7 +145,9 @@ fn bypass_list(alloc: Global, word: CommandWord, list: &Text<'_>) -> Result<Bypa
     bypassed(alloc, list)
 }
 
-/// What BYPASS says, of whose members none is there twice. Where it is absent, nothing is bypassed.
+/// What BYPASS says, of whose members none is there twice. Where it is absent, nothing is bypassed. `Memory` comes
+/// where memory runs out, `Bad` where BYPASS is there and has no list, or one with a member that the command's BYPASS
+/// has not, or has in another form.
 pub fn bypass(alloc: Global, word: CommandWord, words: &Words<'_>) -> Result<Bypass, OperandError>
     ensures ok { (ws : List grammar.Word) → LeavesWords words.now ws → AreSingle word ws
         → IfOk result (λ b. HasBypass word (operand (codes "BYPASS") ws) b) }

@@ -67,7 +67,9 @@ fn read_all(alloc: Global, bytes: &[u8]) -> Result<Vec<Command>, CntlError>
     Ok(read)
 }
 
-/// The commands of a command file, or its first fault.
+/// The commands of a command file. `Memory` comes where memory runs out. `Fault` is `Cn5` at the first bad record,
+/// wherever it stands; else the fault of the first faulty command, at the record where this begins: `Cn5` also where
+/// its form is at fault, or where a comment between commands is not closed.
 pub fn read_cntl(alloc: Global, bytes: &[u8]) -> Result<Vec<Command>, CntlError>
     ensures commands { IfOk result (λ read. IsCommandFile bytes.now (map command_of read.items)) }
     ensures good { (cs : List terms.Command) → IsCommandFile bytes.now cs → IfErr result (λ e. e ≡ CntlError.Memory) }

@@ -109,7 +109,8 @@ fn restore_list(alloc: Global, words: &Words<'_>) -> Result<RestoreList, Operand
 }
 
 /// The command of this word and of the operands that are left, which are known ones. No member of BYPASS is there
-/// twice.
+/// twice. `Memory` comes where memory runs out, `Bad` where an operand has not its form, where one that the command
+/// needs is absent, and where RESTORE has both SELECT and GROUP.
 pub fn read_operands(
     alloc: Global,
     word: CommandWord,

@@ -34,7 +34,9 @@ fn take_command_word(left: &mut Words<'_>) -> Option<CommandWord>
     read_word(text)
 }
 
-/// The command of these words, or the first that applies of Cn1, Cn3, Cn4 and Cn2.
+/// The command of these words. `Memory` comes where memory runs out, and `Fault` has the first that applies of `Cn1`
+/// where they begin with no command, `Cn3` where an operand or a member of BYPASS comes twice, `Cn4` where RESTORE has
+/// SELECT and GROUP or none of them, and `Cn2` where anything else is wrong with an operand.
 pub fn read_command(alloc: Global, words: &Words<'_>) -> Result<Command, CommandError>
     ensures command { (pieces : List AnyPiece) → LeavesPieces words.now pieces
         → IfOk result (λ c. IsCommand pieces (command_of c)) }

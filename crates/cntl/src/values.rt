@@ -17,7 +17,7 @@ use std::alloc::Global;
 /// How many members a list may have.
 const MOST: usize = 1000;
 
-/// Whether the operand of that name is there, which has no list.
+/// Whether the operand of that name is there, which has no list. The error comes where it has one.
 pub fn flag_of(words: &Words<'_>, name: &[u8]) -> Result<bool, BadOperand>
     ensures ok { (ws : List grammar.Word) → LeavesWords words.now ws
         → IfOk result (λ flag. HasFlag (operand name.now ws) flag) }
@@ -34,7 +34,7 @@ pub fn is_absent(words: &Words<'_>, name: &[u8]) -> bool
     operand(words, name).is_none()
 }
 
-/// The zone that SET names.
+/// The zone that SET names. The error comes where there is no BDY with a list of one zone name.
 pub fn zone(words: &Words<'_>) -> Result<ZoneName, BadOperand>
     ensures ok { (ws : List grammar.Word) → LeavesWords words.now ws
         → IfOk result (λ zone. HasRequired IsZoneName (operand (codes "BDY") ws) zone) }
@@ -47,7 +47,8 @@ pub fn zone(words: &Words<'_>) -> Result<ZoneName, BadOperand>
     }
 }
 
-/// The members of the word's list in rising order, where they are no more than a list may have.
+/// The members of the word's list in rising order. `Memory` comes where memory runs out, `Bad` where the word has no
+/// list of such members, more than 1,000 of them, or one of them twice.
 pub fn short_list<T: Member>(alloc: Global, word: &Word<'_>) -> Result<Rising<T>, OperandError>
     ensures ok { IfOk result (λ list. HasSorted T.form (word_of word.now) (map T.text list)
         × IsShort (map T.text list)) }
@@ -61,7 +62,8 @@ pub fn short_list<T: Member>(alloc: Global, word: &Word<'_>) -> Result<Rising<T>
     Ok(list)
 }
 
-/// The ids of an operand, none where it is absent.
+/// The ids of an operand, none where it is absent. `Memory` comes where memory runs out, `Bad` where the operand is
+/// there and has no list of ids, more than 1,000 of them, or one of them twice.
 pub fn id_list(alloc: Global, words: &Words<'_>, name: &[u8]) -> Result<IdList, OperandError>
     ensures ok { (ws : List grammar.Word) → LeavesWords words.now ws
         → IfOk result (λ list. HasShort IsId (operand name.now ws) list) }
@@ -74,7 +76,8 @@ pub fn id_list(alloc: Global, words: &Words<'_>, name: &[u8]) -> Result<IdList, 
     }
 }
 
-/// The ids of an operand that must be there.
+/// The ids of an operand that must be there. `Memory` comes where memory runs out, `Bad` where it is not, or has no
+/// list of ids, more than 1,000 of them, or one of them twice.
 pub fn some_ids(alloc: Global, words: &Words<'_>, name: &[u8]) -> Result<IdList, OperandError>
     ensures ok { (ws : List grammar.Word) → LeavesWords words.now ws
         → IfOk result (λ list. HasSome IsId (operand name.now ws) list) }
@@ -87,7 +90,8 @@ pub fn some_ids(alloc: Global, words: &Words<'_>, name: &[u8]) -> Result<IdList,
     }
 }
 
-/// The sources of an operand, none where it is absent.
+/// The sources of an operand, none where it is absent. `Memory` comes where memory runs out, `Bad` where the operand is
+/// there and has no list of sources, more than 1,000 of them, or one of them twice.
 pub fn source_list(
     alloc: Global,
     words: &Words<'_>,

@@ -28,7 +28,7 @@ pub struct Decided {
 
 /// Decides on candidates, beside which stand the tests that each one fails, by what they need, each need once, and by
 /// pairs of a candidate and one that it supersedes. It keeps the greatest set of those that fail no test and that
-/// supports itself. 2^32 candidates or more count as too little memory.
+/// supports itself. The error comes where memory runs out, and for 2^32 candidates or more.
 pub fn decide(
     alloc: Global,
     ids: &IdList,

@@ -93,7 +93,8 @@ impl<T: Field> Rising<T> {
         self.items.binary_search(&item).is_ok()
     }
 
-    /// Answers whether the item is new.
+    /// Puts the item into the list, and answers whether it is new. The error comes where memory runs out, and changes
+    /// nothing.
     pub fn insert(&mut self, item: T) -> Result<bool, AllocError>
         ensures added { IfOk result (λ added. added ≡ not (list_any (T.eq item) self.old)) }
         ensures ok { OnOk result (self.new ≡ with_item T.cmp (λ x. x) self.old item) }
@@ -108,7 +109,7 @@ impl<T: Field> Rising<T> {
         }
     }
 
-    /// Answers whether the item was there.
+    /// Takes the item out of the list, and answers whether it was there.
     pub fn remove(&mut self, item: T) -> bool
         ensures found { result ≡ list_any (T.eq item) self.old }
         ensures after { self.new ≡ without_key T.cmp (λ x. x) self.old item }
@@ -122,7 +123,8 @@ impl<T: Field> Rising<T> {
         }
     }
 
-    /// Adds an item that all others stand before, and answers whether it is one.
+    /// Adds an item that all others stand before, and answers whether it is one. The error comes where memory runs out,
+    /// and changes nothing.
     pub fn push_last(&mut self, item: T) -> Result<bool, AllocError>
         ensures fits { IfOk result
             (λ fits. IsTrue fits ↔ All (λ x. IsTrue (is_lt (T.cmp x item))) self.old) }
@@ -137,7 +139,7 @@ impl<T: Field> Rising<T> {
         Ok(fits)
     }
 
-    /// A list of the same items.
+    /// A list of the same items. The error comes where memory runs out.
     pub fn try_clone(&self, alloc: Global) -> Result<Self, AllocError>
         ensures { IfOk result (λ copy. copy ≡ self.now) }
     {

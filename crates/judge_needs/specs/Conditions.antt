@@ -1,12 +1,10 @@
 -- The requisites by ++IF, as lists and as an index of what applied SYSMODs state.
-use Rattle.std.specs.Prelude.{◌≡◌, ◌||◌, ◌++◌, Bool, List, [], Vec, map}
-use Rattle.std.specs.declared.alloc.Global.{Global}
+use Rattle.std.specs.Prelude.{◌≡◌, ◌||◌, ◌++◌, Bool, List, map}
 use Rattle.std.specs.List.{flat_map}
-use Rattle.std.specs.Option.{option_map_or}
 use Rattle.std.specs.Ordering.{nat_cmp}
 use Rattle.std.specs.Cmp.Lexicographic.{slice_cmp}
 use Rattle.std.specs.Str.{bytes_eq}
-use Rattle.std.specs.BTreeMap.{BTreeMap, get}
+use Rattle.sorted.specs.Lists.{Lists, listed}
 use Rattle.terms.specs.Types.{Id, Zone}
 use Rattle.terms.specs.Lookups.{is_in, is_applied, applied_ids}
 use Rattle.terms.specs.Choice.{Choice}
@@ -22,20 +20,20 @@ abbrev pub a_requisite : Id → Id → Requisite
 a_requisite by z = record { by = by; id = z }
 
 -- for each function the requisites that are stated for it
-abbrev pub Lists : Type 0
-Lists = BTreeMap Id (Vec Requisite Global)
+abbrev pub Stated : Type 0
+Stated = Lists Id Requisite
 
-abbrev pub listed : Lists → Id → List Requisite
-listed lists f = option_map_or (λ v. v.items) (get (slice_cmp nat_cmp) lists f) []
+abbrev pub requisites_of : Stated → Id → List Requisite
+requisites_of = listed (slice_cmp nat_cmp)
 
 -- each function gets some more
-abbrev pub Adds : Lists → Lists → (Id → List Requisite) → Type 0
-Adds old new more = (f : Id) → listed new f ≡ listed old f ++ more f
+abbrev pub AddsMore : Stated → Stated → (Id → List Requisite) → Type 0
+AddsMore old new more = (f : Id) → requisites_of new f ≡ requisites_of old f ++ more f
 
 -- what the SYSMOD states for the function
 abbrev pub stated_by : Choice → Id → Id → List Requisite
 stated_by c f y = map (a_requisite y) (if_reqs c (bytes_eq f) y)
 
 -- they are what applied SYSMODs state
-abbrev pub AreStated : Choice → Zone → Lists → Type 0
-AreStated c zone lists = (f : Id) → listed lists f ≡ flat_map (stated_by c f) (applied_ids zone)
+abbrev pub AreStated : Choice → Zone → Stated → Type 0
+AreStated c zone stated = (f : Id) → requisites_of stated f ≡ flat_map (stated_by c f) (applied_ids zone)

@@ -78,7 +78,7 @@ fn add_bypassed(
     Ok(())
 }
 
-/// Each candidate with each of its PRE, REQ and IFREQ that BYPASS covers.
+/// Each candidate with each of its PRE, REQ and IFREQ that BYPASS covers. The error comes where memory runs out.
 pub fn bypassed_pairs(alloc: Global, scope: &Scope<'_, '_>) -> Result<Vec<(Id, Id)>, AllocError>
     ensures { IfOk result (λ pairs. AreBypassed (setting_of scope.now) scope.now.ids.now pairs.items) }
 {

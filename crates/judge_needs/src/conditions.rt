@@ -5,7 +5,7 @@ ghost use Rattle.terms.specs.Types.{Id as AnId};
 ghost use Rattle.terms.specs.Lookups.{is_applied, is_function, is_in};
 ghost use Rattle.terms.specs.Deleted.{view};
 ghost use Rattle.terms.specs.Conditions.{if_reqs, if_needed};
-ghost use Rattle.judge_needs.specs.Conditions.{AreStated, is_there, listed};
+ghost use Rattle.judge_needs.specs.Conditions.{AreStated, is_there, requisites_of};
 ghost use Rattle.zones_views.specs.Scopes.{global_of, choice_of};
 ghost use Rattle.judge_needs.specs.Left.{left_of};
 
@@ -62,7 +62,7 @@ fn append_for_function(
 ) -> Result<(), AllocError>
     ensures { OnOk result (found.new.items ≡ found.old.items
         ++ (if is_function (global_of left.now.scope) id then map (λ r. r.id)
-        (filter (λ r. is_applied (left_of left.now) r.by) (listed stated.now id)) else [])) }
+        (filter (λ r. is_applied (left_of left.now) r.by) (requisites_of stated.now id)) else [])) }
 {
     if left.scope.global().is_function(id) {
         append_stated(left, stated, id, found)?;

@@ -3,12 +3,13 @@ ghost use Rattle.std.specs.Prelude.{◌≡◌, ◌++◌, [], ◌∷◌, map, fil
 ghost use Rattle.std.specs.List.{flat_map};
 ghost use Rattle.std.specs.Str.{bytes_eq};
 ghost use Rattle.terms.specs.Lookups.{is_applied};
-ghost use Rattle.judge_needs.specs.Conditions.{Adds, AreStated, a_requisite, listed, stated_by};
+ghost use Rattle.judge_needs.specs.Conditions.{AddsMore, AreStated, a_requisite, requisites_of, stated_by};
 ghost use Rattle.zones_views.specs.Scopes.{choice_of};
 ghost use Rattle.judge_needs.specs.Left.{left_of};
 
 use crate::left::Left;
 use fields::Id;
+use sorted::lists::{Lists, add, listed};
 use std::alloc::{AllocError, Global};
 use std::collections::BTreeMap;
 use sysmods_records::IfReq;
@@ -23,26 +24,21 @@ pub(crate) struct Requisite {
 }
 
 /// For each function the requisites that are stated for it.
-pub(crate) type Stated = BTreeMap<Id, Vec<Requisite>>;
+pub(crate) type Stated = Lists<Id, Requisite>;
 
-fn requisites(alloc: Global, by: Id, ids: &[Id]) -> Result<Vec<Requisite>, AllocError>
-    ensures { IfOk result (λ list. list.items ≡ map (a_requisite by) ids.now) }
+fn add_each(
+    alloc: Global,
+    stated: &mut Stated,
+    function: Id,
+    by: Id,
+    ids: &[Id],
+) -> Result<(), AllocError>
+    ensures { OnOk result (AddsMore stated.old stated.new
+        (λ f. if bytes_eq f function then map (a_requisite by) ids.now else [])) }
 {
-    let mut list = Vec::new(alloc);
     for id in ids {
-        list.push(Requisite { by, id: *id })?;
+        add(alloc, stated, function, Requisite { by, id: *id })?;
     }
-    Ok(list)
-}
-
-fn add(stated: &mut Stated, function: Id, mut more: Vec<Requisite>) -> Result<(), AllocError>
-    ensures { OnOk result (Adds stated.old stated.new (λ f. if bytes_eq f function then more.items else [])) }
-{
-    if let Some(list) = stated.get_mut(&function) {
-        list.append(&mut more)?;
-        return Ok(());
-    }
-    stated.insert(function, more)?;
     Ok(())
 }
 
@@ -52,12 +48,17 @@ fn add_conditions(
     by: Id,
     conditions: &[IfReq],
 ) -> Result<(), AllocError>
-    ensures { OnOk result (Adds stated.old stated.new (λ f. map (a_requisite by) (flat_map (λ i. i.req)
+    ensures { OnOk result (AddsMore stated.old stated.new (λ f. map (a_requisite by) (flat_map (λ i. i.req)
         (filter (λ i. bytes_eq f i.function) conditions.now)))) }
 {
     for condition in conditions {
-        let more = requisites(alloc, by, condition.req.as_slice())?;
-        add(stated, condition.function, more)?;
+        add_each(
+            alloc,
+            stated,
+            condition.function,
+            by,
+            condition.req.as_slice(),
+        )?;
     }
     Ok(())
 }
@@ -68,7 +69,7 @@ fn add_if_applied(
     entry: &Entry,
     stated: &mut Stated,
 ) -> Result<(), AllocError>
-    ensures { OnOk result (Adds stated.old stated.new (λ f. if is_some entry.now.applied
+    ensures { OnOk result (AddsMore stated.old stated.new (λ f. if is_some entry.now.applied
         then stated_by (choice_of scope.now) f entry.now.id else [])) }
 {
     if entry.applied.is_some() {
@@ -124,10 +125,7 @@ pub(crate) fn append_stated(
     found: &mut Vec<Id>,
 ) -> Result<(), AllocError>
     ensures { OnOk result (found.new.items ≡ found.old.items ++ map (λ r. r.id)
-        (filter (λ r. is_applied (left_of left.now) r.by) (listed stated.now function))) }
+        (filter (λ r. is_applied (left_of left.now) r.by) (requisites_of stated.now function))) }
 {
-    match stated.get(&function) {
-        Some(list) => append_left(left, list.as_slice(), found),
-        None => Ok(()),
-    }
+    append_left(left, listed(stated, function), found)
 }

@@ -23,7 +23,7 @@ fn add_superseded(
     Ok(())
 }
 
-/// Each candidate with each id that it supersedes, directly or through others.
+/// Each candidate with each id that it supersedes, directly or through others. The error comes where memory runs out.
 pub fn superseded_pairs(
     alloc: Global,
     vers: &VerChoice<'_>,

@@ -150,7 +150,7 @@ fn all_wants(
     Ok(wants)
 }
 
-/// What candidates need of which these survive: each need once.
+/// What candidates need of which these survive: each need once. The error comes where memory runs out.
 pub fn wants_of(
     alloc: Global,
     scope: &Scope<'_, '_>,

@@ -21,15 +21,7 @@ use Rattle.terms.specs.Ptfin.{NamesFmid, IsSecond}
 use Rattle.lemmas.proofs.Texts.{same_from, same_itself}
 use Rattle.terms.proofs.ElementOrder.{type_from_number}
 use Rattle.terms.proofs.ExactOperands.{own_only}
-use Rattle.lemmas.proofs.Each.{any_here, any_later, any_cases, any_none}
-
-any_weaker : {X : Type 0} (P Q : X → Type 0) → ((x : X) → P x → Q x) → (xs : List X) → Any P xs → Any Q xs
-any_weaker P Q imp [] h = absurd (any_none P h)
-any_weaker P Q imp (x ∷ xs) h =
-    elim (any_cases P x xs h) [
-      | inl here ↦ any_here Q x xs (imp x here)
-      | inr later ↦ any_later Q x xs (any_weaker P Q imp xs later)
-    ]
+use Rattle.lemmas.proofs.Each.{any_here, any_later, any_cases, any_none, any_weaker}
 
 -- FMID names that id just where it was read
 read_names : (rest : List Piece) (named : Option Text) (f : Text) → IfSome named (NamesFmid rest) → named ≡ Some f

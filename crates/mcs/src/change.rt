@@ -96,7 +96,9 @@ fn text_of(
     }
 }
 
-/// What a replacement says.
+/// What a replacement says. `Memory` comes where memory runs out. `Fault` is `Mc3` where it has anything but a name,
+/// DISTLIB and SYSLIB, each in its form; `Mc6` where the SYSMOD has 999 elements already, or the text has more than
+/// 99,999 records; and `Mc5` where there is no text, or one of a macro or source that is not numbered.
 pub fn change_statement(
     alloc: Global,
     current: &Option<Begun>,
@@ -149,7 +151,9 @@ fn update_of(alloc: Global, name: Name, inline: &[Record]) -> Result<Update, Sta
     }
 }
 
-/// What an update says.
+/// What an update says. `Memory` comes where memory runs out. `Fault` is `Mc3` where it has anything but one name;
+/// `Mc6` where the SYSMOD has 999 elements already, or the text has more than 99,999 records; and `Mc5` where the text
+/// is no update of the element.
 pub fn update_statement(
     alloc: Global,
     current: &Option<Begun>,

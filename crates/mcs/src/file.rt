@@ -145,7 +145,7 @@ impl SoFar {
         }
     }
 
-    /// What they make with one statement more.
+    /// What they make with one statement more. The error comes where memory runs out.
     pub fn and(self, alloc: Global, statement: Statement) -> Result<SoFar, AllocError>
         requires { Suits (begun_in self.current) (statement_of statement) }
         ensures { IfOk result (λ next. so_far next ≡ after (so_far self) (statement_of statement)) }
@@ -182,7 +182,7 @@ impl SoFar {
         }
     }
 
-    /// The items.
+    /// The items. The error comes where memory runs out.
     pub fn into_items(self) -> Result<Vec<Item>, AllocError>
         ensures { IfOk result (λ found. items found.items ≡ items_of (so_far self)) }
     {

@@ -11,7 +11,7 @@ use mcs_statements::{Known, StatementError};
 use operands::one;
 use terms::{Kind, McCode};
 
-/// What a header says.
+/// What a header says. `Fault` is `Mc3` where it has anything but one id. `Memory` never comes.
 pub fn header_statement(
     current: &Option<Begun>,
     kind: Kind,

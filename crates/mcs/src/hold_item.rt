@@ -56,7 +56,9 @@ fn release_item(known: &Known<'_>) -> Result<HoldItem, StatementError>
     }
 }
 
-/// What a statement of a hold file says, or its first fault.
+/// What a statement of a hold file says. `Memory` comes where memory runs out, and `Fault` has the first that applies
+/// of `Mc1` for its form, `Mc2` for its word, `Mc4` for text behind it and for any word but `++HOLD` and `++RELEASE`,
+/// `Mc3` for an operand, and `Mc6` for a comment of more than 200 characters.
 pub(crate) fn read_item(alloc: Global, group: &Group<'_>) -> Result<HoldItem, StatementError>
     ensures good { IfOk result (λ item. IsGoodItem group.now.records.now (item_of item)) }
     ensures fault { All IsRecord group.now.records.now → IfErr result (IsItemError group.now.records.now) }

@@ -46,7 +46,9 @@ fn read_own_hold(alloc: Global, sysmod: &Sysmod, known: &Known<'_>) -> Result<Ho
     Ok(hold)
 }
 
-/// What a `++HOLD` says.
+/// What a `++HOLD` in a SYSMOD says. `Memory` comes where memory runs out. `Fault` is `Mc3` where no SYSMOD is begun,
+/// where an operand is unknown, comes twice, has not its form or is missing, and where it is no SYSTEM hold of this
+/// SYSMOD; and `Mc6` where its comment has more than 200 characters.
 pub fn hold_statement(
     alloc: Global,
     current: &Option<Begun>,

@@ -142,7 +142,9 @@ fn is_within(begun: &Begun, condition: &IfReq) -> bool
     has_place(begun) && condition.req.len() <= 1000
 }
 
-/// What an `++IF` says.
+/// What an `++IF` says. `Memory` comes where memory runs out. `Fault` is `Mc3` where no SYSMOD is begun, where it has
+/// not FMID, THEN and REQ in this order, each in its form, and where REQ names the SYSMOD itself; and `Mc6` where the
+/// last `++VER` has 100 `++IF`s already, or REQ has more than 1,000 ids.
 pub fn if_statement(
     alloc: Global,
     current: &Option<Begun>,

@@ -44,7 +44,9 @@ fn said_by(
     }
 }
 
-/// What a statement says behind those so far, or its first fault.
+/// What a statement says behind those so far. `Memory` comes where memory runs out, and `Fault` has the first that
+/// applies of `Mc1` for its form, `Mc2` for its word, `Mc4` for its place, and of `Mc3` for an operand, `Mc6` for a
+/// limit and `Mc5` for its text.
 pub fn read_statement(
     alloc: Global,
     current: &Option<Begun>,

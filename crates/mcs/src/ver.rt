@@ -179,7 +179,10 @@ fn is_within(sysmod: &Sysmod, ver: &Ver) -> bool
     sysmod.vers.len() < 8 && are_short(ver)
 }
 
-/// What a `++VER` says.
+/// What a `++VER` says. `Memory` comes where memory runs out. `Fault` is `Mc3` where no SYSMOD is begun, where an
+/// operand is unknown, comes twice or has not its form, where service has no FMID or has NPRE or DELETE, and where an
+/// operand names the SYSMOD itself; and `Mc6` where the SYSMOD has 8 `++VER`s already, or a list has more than 1,000
+/// ids.
 pub fn ver_statement(
     alloc: Global,
     current: &Option<Begun>,

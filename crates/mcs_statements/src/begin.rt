@@ -18,7 +18,8 @@ pub struct Known<'a> {
     pub rest: Words<'a>,
 }
 
-/// The statement's word, or what is wrong with its form or its word.
+/// The statement's word. `Mc1` comes where the statement's form is at fault, and `Mc2` where it begins with no known
+/// word.
 pub fn begun<'a>(group: &Group<'a>) -> Result<Known<'a>, McCode>
     ensures ok { IfOk result (λ b. (rest : List Piece)
         × IsKnown group.now.records.now b.word (own_list b) rest b.rest.inline.now × HasSolid (left_of b.rest) rest) }

@@ -87,7 +87,8 @@ fn comment_in(alloc: Global, text: &Text<'_>) -> Result<String, OperandError>
     Ok(String::from_str(alloc, comment)?)
 }
 
-/// The comment of an operand that may be absent.
+/// The comment of an operand that may be absent. `Memory` comes where memory runs out, `Bad` where the operand is there
+/// and its list is absent, blank or no UTF-8.
 pub fn optional_comment(
     alloc: Global,
     words: &Words<'_>,

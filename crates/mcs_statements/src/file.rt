@@ -18,7 +18,8 @@ pub fn error_at(number: usize, error: StatementError) -> McsError
     }
 }
 
-/// The statements of a file, or the fault that comes before all of theirs.
+/// The statements of a file. `Fault` comes before all faults of theirs: `Mc1` at the first bad record, else `Mc4` at
+/// record 1, if no statement begins there. `Memory` never comes.
 pub fn statements(bytes: &[u8]) -> Result<Groups<'_>, McsError>
     ensures ok { IfOk result (λ groups. (groups.number ≡ 1) × HasRecords bytes.now groups.rest.now) }
     ensures fault { IfErr result (IsFileError bytes.now) }

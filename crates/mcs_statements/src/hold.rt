@@ -81,7 +81,8 @@ fn read_key(known: &Known<'_>) -> Option<Release>
     })
 }
 
-/// What a `++RELEASE` says.
+/// What a `++RELEASE` says. The error comes where an operand is unknown, comes twice, has not its form or is missing: a
+/// `++RELEASE` has an id, one of ERROR, SYSTEM and USER, FMID and REASON.
 pub fn read_release(known: &Known<'_>) -> Result<Release, BadOperand>
     ensures ok { (rest : List Piece) → HasSolid (left_of known.now.rest) rest
         → IfOk result (λ r. (ws : List grammar.Word) × grammar.HasWords rest ws
@@ -99,7 +100,9 @@ pub fn read_release(known: &Known<'_>) -> Result<Release, BadOperand>
     }
 }
 
-/// What a `++HOLD` says, in a SYSMOD or in a hold file. A long comment is read too.
+/// What a `++HOLD` says, in a SYSMOD or in a hold file. A long comment is read too. `Memory` comes where memory runs
+/// out, `Bad` where an operand is unknown, comes twice, has not its form or is missing: a `++HOLD` has an id, one of
+/// ERROR, SYSTEM and USER, FMID and REASON.
 pub fn read_hold(alloc: Global, known: &Known<'_>, internal: bool) -> Result<Hold, OperandError>
     ensures ok { (rest : List Piece) → HasSolid (left_of known.now.rest) rest
         → IfOk result (λ h. (ws : List grammar.Word) × grammar.HasWords rest ws × IsHoldOf (own_list known.now) ws h) }

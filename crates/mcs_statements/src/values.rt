@@ -83,7 +83,8 @@ pub fn required_reason(kind: HoldKind, words: &Words<'_>, name: &[u8]) -> Option
     Some(reason)
 }
 
-/// The ids of an operand, none where it is absent.
+/// The ids of an operand, none where it is absent. `Memory` comes where memory runs out, `Bad` where the operand is
+/// there and has no list of ids, or one of them twice.
 pub fn listed_ids(alloc: Global, words: &Words<'_>, name: &[u8]) -> Result<IdList, OperandError>
     ensures ok { (ws : List grammar.Word) → LeavesWords words.now ws
         → IfOk result (λ ids. HasTexts IsId (operand name.now ws) ids) }

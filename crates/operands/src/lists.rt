@@ -12,7 +12,8 @@ use fields::{Id, IdList, Rising, Source, SourceList};
 use rec80::Word;
 use std::alloc::Global;
 
-/// The members of the word's list in rising order. One that stands there twice is a bad operand.
+/// The members of the word's list in rising order. `Memory` comes where memory runs out, `Bad` where the word has no
+/// list of such members, or one stands there twice.
 pub fn rising<T: Member>(alloc: Global, word: &Word<'_>) -> Result<Rising<T>, OperandError>
     ensures sorted { IfOk result (λ list. HasSorted T.form (word_of word.now) (map T.text list)) }
     ensures bad { IfErr result (λ e. Excludes e ((values : List (List ℕ))
@@ -30,7 +31,8 @@ pub fn rising<T: Member>(alloc: Global, word: &Word<'_>) -> Result<Rising<T>, Op
     Ok(rising)
 }
 
-/// The members of the word's list, as they stand. One that stands there twice is a bad operand.
+/// The members of the word's list, as they stand. `Memory` comes where memory runs out, `Bad` where the word has no
+/// list of such members, or one stands there twice.
 pub fn listed<T: Member>(alloc: Global, word: &Word<'_>) -> Result<Vec<T>, OperandError>
     ensures listed { IfOk result (λ list. HasListed T.form (word_of word.now) (map T.text list.items)) }
     ensures bad { IfErr result (λ e. Excludes e ((values : List (List ℕ))
@@ -48,7 +50,8 @@ pub fn listed<T: Member>(alloc: Global, word: &Word<'_>) -> Result<Vec<T>, Opera
     Ok(read)
 }
 
-/// The ids of the word's list, as they stand.
+/// The ids of the word's list, as they stand. `Memory` comes where memory runs out, `Bad` where the word has no list of
+/// ids, or one stands there twice.
 pub fn listed_ids(alloc: Global, word: &Word<'_>) -> Result<Vec<Id>, OperandError>
     ensures listed { IfOk result (λ list. HasListed IsId (word_of word.now) list.items) }
     ensures bad { IfErr result (λ e. Excludes e ((values : List (List ℕ)) × HasListed IsId (word_of word.now) values)) }
@@ -56,7 +59,8 @@ pub fn listed_ids(alloc: Global, word: &Word<'_>) -> Result<Vec<Id>, OperandErro
     listed::<Id>(alloc, word)
 }
 
-/// The ids of the word's list in rising order.
+/// The ids of the word's list in rising order. `Memory` comes where memory runs out, `Bad` where the word has no list
+/// of ids, or one stands there twice.
 pub fn ids(alloc: Global, word: &Word<'_>) -> Result<IdList, OperandError>
     ensures sorted { IfOk result (λ list. HasSorted IsId (word_of word.now) list) }
     ensures bad { IfErr result (λ e. Excludes e ((values : List (List ℕ)) × HasSorted IsId (word_of word.now) values)) }
@@ -64,7 +68,8 @@ pub fn ids(alloc: Global, word: &Word<'_>) -> Result<IdList, OperandError>
     rising::<Id>(alloc, word)
 }
 
-/// The sources of the word's list in rising order.
+/// The sources of the word's list in rising order. `Memory` comes where memory runs out, `Bad` where the word has no
+/// list of sources, or one stands there twice.
 pub fn sources(alloc: Global, word: &Word<'_>) -> Result<SourceList, OperandError>
     ensures sorted { IfOk result (λ list. HasSorted IsSource (word_of word.now) list) }
     ensures bad { IfErr result (λ e. Excludes e ((values : List (List ℕ))

@@ -12,7 +12,7 @@ use crate::find::operand;
 use crate::member::Member;
 use rec80::{Word, Words};
 
-/// Whether an operand that has no list is there.
+/// Whether an operand that has no list is there. The error comes where it has one.
 pub fn flag(found: &Option<Word<'_>>) -> Result<bool, BadOperand>
     ensures ok { IfOk result (λ flag. HasFlag (option_map word_of found.now) flag) }
     ensures bad { OnErr result ((flag : Bool) → HasFlag (option_map word_of found.now) flag → ⊥) }
@@ -76,7 +76,7 @@ pub fn required<T: Member>(words: &Words<'_>, name: &[u8]) -> Option<T>
     one::<T>(&word)
 }
 
-/// The value of an operand that may be absent.
+/// The value of an operand that may be absent. The error comes where it is there, and has no list of one such value.
 pub fn optional<T: Member>(words: &Words<'_>, name: &[u8]) -> Result<Option<T>, BadOperand>
     ensures ok { (ws : List grammar.Word) → LeavesWords words.now ws
         → IfOk result (λ found. HasOptional T.form (operand name.now ws) (option_map T.text found)) }

@@ -46,17 +46,20 @@ impl Spelled {
         }
     }
 
-    /// A number below 10.
-    pub(crate) fn put_digit(&mut self, number: usize) {
-        self.put(&[b'0' + (number % 10) as u8]);
+    /// Each word behind a blank.
+    pub(crate) fn put_words(&mut self, words: &[&[u8]]) {
+        for word in words {
+            self.put(b" ");
+            self.put(word);
+        }
     }
 
     /// A number below 100.
     pub(crate) fn put_number(&mut self, number: usize) {
         if number >= 10 {
-            self.put_digit(number / 10);
+            self.put(&[b'0' + (number / 10 % 10) as u8]);
         }
-        self.put_digit(number);
+        self.put(&[b'0' + (number % 10) as u8]);
     }
 
     /// The ids in parentheses behind the name, where there are any.

@@ -11,9 +11,7 @@ use std::test::Fail;
 /// The operand of this name in the first command.
 fn operand_in<'a>(cards: &'a [Record], name: &[u8]) -> Option<Word<'a>> {
     let mut commands = Records { all: cards }.commands();
-    let Ok(Some(command)) = commands.next_command() else {
-        return None;
-    };
+    let command = commands.next_command().ok()??;
     operand(&command.words, name)
 }
 
@@ -238,8 +236,7 @@ fn put_receive(spelled: &mut Spelled, what: &ReceiveWhat) {
     put_flag(spelled, what.sysmods, b" SYSMODS");
     put_flag(spelled, what.holddata, b" HOLDDATA");
     if let Some(source) = what.source {
-        spelled.put(b" ");
-        spelled.put(source.as_bytes());
+        spelled.put_words(&[source.as_bytes()]);
     }
 }
 
@@ -274,7 +271,8 @@ fn put_bypass(spelled: &mut Spelled, bypass: &Bypass) {
     }
 }
 
-fn put_install(spelled: &mut Spelled, install: &Install) {
+fn put_install(spelled: &mut Spelled, name: &[u8], install: &Install) {
+    spelled.put(name);
     put_flag(spelled, install.selection.ptfs, b" PTFS");
     put_flag(spelled, install.selection.groupextend, b" EXTEND");
     put_flag(spelled, install.check, b" CHECK");
@@ -285,23 +283,14 @@ fn put_install(spelled: &mut Spelled, install: &Install) {
 fn put_command(spelled: &mut Spelled, command: &Command) {
     match command {
         Command::Set(zone) => {
-            spelled.put(b"SET ");
-            spelled.put(zone.as_bytes());
+            spelled.put(b"SET");
+            spelled.put_words(&[zone.as_bytes()]);
             put_flag(spelled, zone.is_global(), b" all");
         }
         Command::Receive(what) => put_receive(spelled, what),
-        Command::Reject(ids) => {
-            spelled.put(b"REJECT");
-            spelled.put_ids(b" SELECT", ids);
-        }
-        Command::Apply(install) => {
-            spelled.put(b"APPLY");
-            put_install(spelled, install);
-        }
-        Command::Accept(install) => {
-            spelled.put(b"ACCEPT");
-            put_install(spelled, install);
-        }
+        Command::Reject(ids) => spelled.put_ids(b"REJECT SELECT", ids),
+        Command::Apply(install) => put_install(spelled, b"APPLY", install),
+        Command::Accept(install) => put_install(spelled, b"ACCEPT", install),
         Command::Restore { list, check } => {
             spelled.put(b"RESTORE");
             put_flag(spelled, *check, b" CHECK");
@@ -325,22 +314,15 @@ fn put_commands(spelled: &mut Spelled, commands: &[Command]) {
     }
 }
 
-fn put_error(spelled: &mut Spelled, error: CntlError) {
-    match error {
-        CntlError::Memory => spelled.put(b"memory"),
-        CntlError::Fault { number, code } => {
-            spelled.put_digit(number);
-            spelled.put(b" ");
-            spelled.put(cn_text(code));
-        }
-    }
-}
-
 fn commanded(alloc: Global, bytes: &[u8]) -> Spelled {
     let mut spelled = Spelled::new();
     match read_cntl(alloc, bytes) {
         Ok(commands) => put_commands(&mut spelled, commands.as_slice()),
-        Err(error) => put_error(&mut spelled, error),
+        Err(CntlError::Memory) => spelled.put(b"memory"),
+        Err(CntlError::Fault { number, code }) => {
+            spelled.put_number(number);
+            spelled.put_words(&[cn_text(code)]);
+        }
     }
     spelled
 }

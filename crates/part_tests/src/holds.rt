@@ -2,47 +2,33 @@
 
 use crate::cards::{Spelled, file};
 use fields::spelling::{hold_text, mc_text};
-use mcs::{HoldItem, McsError, Release, read_hold};
+use fields::{Id, Reason};
+use mcs::{HoldItem, McsError, read_hold};
 use std::alloc::{AllocError, Global};
 use std::test::Fail;
 use sysmods_records::Hold;
+use terms::HoldKind;
+
+fn put_key(spelled: &mut Spelled, id: Id, kind: HoldKind, reason: Reason, fmid: Id) {
+    spelled.put_words(&[id.as_bytes(), hold_text(kind)]);
+    spelled.put_words(&[reason.as_bytes(), fmid.as_bytes()]);
+}
 
 /// A hold as text.
 pub(crate) fn put_hold(spelled: &mut Spelled, hold: &Hold) {
-    spelled.put(b" ");
-    spelled.put(hold.id.as_bytes());
-    spelled.put(b" ");
-    spelled.put(hold_text(hold.kind));
-    spelled.put(b" ");
-    spelled.put(hold.reason.as_bytes());
-    spelled.put(b" ");
-    spelled.put(hold.fmid.as_bytes());
+    put_key(spelled, hold.id, hold.kind, hold.reason, hold.fmid);
     if let Some(class) = hold.class {
-        spelled.put(b" ");
-        spelled.put(class.as_bytes());
+        spelled.put_words(&[class.as_bytes()]);
     }
     if let Some(date) = hold.date {
-        spelled.put(b" ");
-        spelled.put(date.as_bytes());
+        spelled.put_words(&[date.as_bytes()]);
     }
     if let Some(comment) = &hold.comment {
-        spelled.put(b" ");
-        spelled.put(comment.as_bytes());
+        spelled.put_words(&[comment.as_bytes()]);
     }
     if hold.internal {
         spelled.put(b" internal");
     }
-}
-
-fn put_release(spelled: &mut Spelled, release: &Release) {
-    spelled.put(b" ");
-    spelled.put(release.id.as_bytes());
-    spelled.put(b" ");
-    spelled.put(hold_text(release.kind));
-    spelled.put(b" ");
-    spelled.put(release.reason.as_bytes());
-    spelled.put(b" ");
-    spelled.put(release.fmid.as_bytes());
 }
 
 fn put_items(spelled: &mut Spelled, items: &[HoldItem]) {
@@ -52,9 +38,9 @@ fn put_items(spelled: &mut Spelled, items: &[HoldItem]) {
                 spelled.put(b"HOLD");
                 put_hold(spelled, hold);
             }
-            HoldItem::Release(release) => {
+            HoldItem::Release(gone) => {
                 spelled.put(b"RELEASE");
-                put_release(spelled, release);
+                put_key(spelled, gone.id, gone.kind, gone.reason, gone.fmid);
             }
         }
         spelled.put(b";");
@@ -67,27 +53,30 @@ pub(crate) fn put_error(spelled: &mut Spelled, error: McsError) {
         McsError::Memory => spelled.put(b"memory"),
         McsError::Fault { number, code } => {
             spelled.put_number(number);
-            spelled.put(b" ");
-            spelled.put(mc_text(code));
+            spelled.put_words(&[mc_text(code)]);
         }
     }
 }
 
-fn held(alloc: Global, bytes: &[u8]) -> Spelled {
+fn held(alloc: Global, cards: &[&str]) -> Result<Spelled, AllocError> {
+    let bytes = file(alloc, cards)?;
     let mut spelled = Spelled::new();
-    match read_hold(alloc, bytes) {
+    match read_hold(alloc, bytes.as_slice()) {
         Ok(items) => put_items(&mut spelled, items.as_slice()),
         Err(error) => put_error(&mut spelled, error),
     }
-    spelled
-}
-
-fn held_by(alloc: Global, cards: &[&str]) -> Result<Spelled, AllocError> {
-    let bytes = file(alloc, cards)?;
-    Ok(held(alloc, bytes.as_slice()))
+    Ok(spelled)
 }
 
 const GOOD: &str = "++HOLD(UA00001) SYSTEM FMID(HAA1100) REASON(ACTION).";
+
+const TWO_KINDS: &str = "++HOLD(UA00001) SYSTEM USER FMID(HAA1100) REASON(A).";
+
+const NO_ID: &str = "++HOLD(UA00001) ERROR FMID(HAA1100) REASON(ACTION).";
+
+const RELEASED_CLASS: &str = "++RELEASE(UA00001) USER FMID(HAA1100) REASON(A) CLASS(B).";
+
+const EMPTY_COMMENT: &str = "++HOLD(UA00001) USER FMID(HAA1100) REASON(X) COMMENT( ).";
 
 /// Three cards, and the items of the hold file that begins with the good card and has these behind it, or the record
 /// and the code of its first fault.
@@ -109,41 +98,23 @@ const FILES: &[[&str; 4]] = &[
     [GOOD, "++PTF(UA00001).", "", "2 Mc4"],
     [GOOD, "", "", "1 Mc4"],
     ["", GOOD, GOOD, "1 Mc4"],
-    [
-        "++HOLD(UA00001) SYSTEM USER FMID(HAA1100) REASON(A).",
-        GOOD,
-        GOOD,
-        "1 Mc3",
-    ],
-    [
-        GOOD,
-        GOOD,
-        "++HOLD(UA00001) ERROR FMID(HAA1100) REASON(ACTION).",
-        "3 Mc3",
-    ],
-    [
-        GOOD,
-        GOOD,
-        "++RELEASE(UA00001) USER FMID(HAA1100) REASON(A) CLASS(B).",
-        "3 Mc3",
-    ],
-    [
-        GOOD,
-        GOOD,
-        "++HOLD(UA00001) USER FMID(HAA1100) REASON(X) COMMENT( ).",
-        "3 Mc3",
-    ],
+    [TWO_KINDS, GOOD, GOOD, "1 Mc3"],
+    [GOOD, GOOD, NO_ID, "3 Mc3"],
+    [GOOD, GOOD, RELEASED_CLASS, "3 Mc3"],
+    [GOOD, GOOD, EMPTY_COMMENT, "3 Mc3"],
 ];
 
 #[test]
 fn hold_files(rt: HostRuntime) -> Result<(), Fail> {
     for [first, second, third, wanted] in FILES {
-        let spelled = held_by(rt.alloc(), &[first, second, third])?;
+        let spelled = held(rt.alloc(), &[first, second, third])?;
         assert_eq!(rt; spelled.text(), *wanted, "{first}");
     }
-    assert_eq!(rt; held(rt.alloc(), &[]).text(), "");
+    assert_eq!(rt; held(rt.alloc(), &[])?.text(), "");
     Ok(())
 }
+
+const COMMENTED: &str = "++HOLD(UA00001) USER FMID(HAA1100) REASON(X) COMMENT(";
 
 /// Two records of a comment, which is 200 characters long with 54 more.
 const LINE: &str = "XXXXXXXXXXXXXXXXXXXXXXXXXXXXXXXXXXXXXXXXXXXXXXXXXXXXXXXXXXXXXXXXXXXXXXXX";
@@ -162,19 +133,11 @@ const LONG: &[[&str; 2]] = &[
 #[test]
 fn long_comments(rt: HostRuntime) -> Result<(), Fail> {
     for [last, wanted] in LONG {
-        let spelled = held_by(
-            rt.alloc(),
-            &[
-                "++HOLD(UA00001) USER FMID(HAA1100) REASON(X) COMMENT(",
-                LINE,
-                LINE,
-                last,
-            ],
-        )?;
+        let spelled = held(rt.alloc(), &[COMMENTED, LINE, LINE, last])?;
+        let got = spelled.text();
         assert!(rt;
-            spelled.text().starts_with(wanted),
-            "{last}: {}",
-            spelled.text()
+            got.starts_with(wanted),
+            "{last}: got {got}, wanted {wanted}"
         );
     }
     Ok(())

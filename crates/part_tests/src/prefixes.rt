@@ -62,10 +62,7 @@ fn ptfin_cut_at_each_byte(rt: HostRuntime) -> Result<(), Fail> {
     let bytes = file(rt.alloc(), PTFIN)?;
     for n in 0..=bytes.len() {
         let got = ptfin_got(rt.alloc(), &bytes[..n]);
-        let wanted = ptfin_wanted(n / 80, n % 80);
-        if got != wanted {
-            return Err(Fail::new(format_args!("{n} bytes: got {got:?}, wanted {wanted:?}")));
-        }
+        assert_eq!(rt; got, ptfin_wanted(n / 80, n % 80), "{n} bytes");
     }
     Ok(())
 }
@@ -75,10 +72,7 @@ fn commands_cut_at_each_byte(rt: HostRuntime) -> Result<(), Fail> {
     let bytes = file(rt.alloc(), CNTL)?;
     for n in 0..=bytes.len() {
         let got = cntl_got(rt.alloc(), &bytes[..n]);
-        let wanted = cntl_wanted(n / 80, n % 80);
-        if got != wanted {
-            return Err(Fail::new(format_args!("{n} bytes: got {got:?}, wanted {wanted:?}")));
-        }
+        assert_eq!(rt; got, cntl_wanted(n / 80, n % 80), "{n} bytes");
     }
     Ok(())
 }

@@ -20,17 +20,13 @@ fn put_members(spelled: &mut Spelled, list: &Text<'_>) {
                 spelled.put(b";");
             }
             Ok(None) => return,
-            Err(_) => {
-                spelled.put(b"?");
-                return;
-            }
+            Err(_) => return spelled.put(b"?"),
         }
     }
 }
 
 /// Each word with its members in parentheses and a blank; a `?` where there is no word.
-fn put_words(spelled: &mut Spelled, words: Words<'_>) {
-    let mut words = words;
+fn put_words(spelled: &mut Spelled, mut words: Words<'_>) {
     for _ in 0..9 {
         match words.next_word() {
             Ok(Some(word)) => {
@@ -43,10 +39,7 @@ fn put_words(spelled: &mut Spelled, words: Words<'_>) {
                 spelled.put(b" ");
             }
             Ok(None) => return,
-            Err(_) => {
-                spelled.put(b"?");
-                return;
-            }
+            Err(_) => return spelled.put(b"?"),
         }
     }
 }
@@ -104,13 +97,9 @@ const STATEMENTS: &[[&str; 3]] = &[
 ];
 
 fn stated(first: &str, second: &str) -> Spelled {
-    let cards = [record(first), record(second)];
-    let group = Group {
-        number: 1,
-        records: &cards,
-    };
+    let records = &[record(first), record(second)];
     let mut spelled = Spelled::new();
-    match statement(&group) {
+    match statement(&Group { number: 1, records }) {
         Ok(words) => put_words(&mut spelled, words),
         Err(error) => put_fault(&mut spelled, error),
     }
@@ -134,7 +123,7 @@ fn grouped(cards: &[Record]) -> Spelled {
     };
     for _ in 0..9 {
         if let Some(group) = groups.next_group() {
-            spelled.put_digit(group.records.len());
+            spelled.put_number(group.records.len());
         }
     }
     spelled
@@ -192,14 +181,14 @@ const COMMANDS: &[[&str; 4]] = &[
 fn put_next(spelled: &mut Spelled, commands: &mut Commands<'_>) -> bool {
     match commands.next_command() {
         Ok(Some(command)) => {
-            spelled.put_digit(command.number);
+            spelled.put_number(command.number);
             spelled.put(b" ");
             put_words(spelled, command.words);
             true
         }
         Ok(None) => false,
         Err(error) => {
-            spelled.put_digit(error.number);
+            spelled.put_number(error.number);
             spelled.put(b" ");
             put_fault(spelled, error.why);
             false
@@ -251,32 +240,22 @@ fn pieces(rt: HostRuntime) {
     assert_eq!(rt; pieces_of("APPLY CHECK -, (A) CHECK.").text(), "WW-LW");
 }
 
-/// The lines of the list of the statement's first word, and the first byte of the last one.
-fn lines_of(first: &str, second: &str) -> Spelled {
-    let cards = [record(first), record(second)];
-    let group = Group {
-        number: 1,
-        records: &cards,
-    };
-    let mut spelled = Spelled::new();
-    let Ok(mut words) = statement(&group) else {
-        return spelled;
-    };
-    let Ok(Some(word)) = words.next_word() else {
-        return spelled;
-    };
-    let Some(text) = word.list else {
-        return spelled;
-    };
+/// The lines of the list of the statement's first word, and the first byte of the last one, if they are there.
+fn put_lines(spelled: &mut Spelled, records: &[Record]) -> Option<()> {
+    let mut words = statement(&Group { number: 1, records }).ok()?;
+    let text = words.next_word().ok()??.list?;
     spelled.put(text.line().trim_ascii());
-    let Some(next) = text.next_line() else {
-        return spelled;
-    };
+    let next = text.next_line()?;
     spelled.put(b"/");
     spelled.put(next.line());
-    if let Some((byte, _)) = next.next_byte() {
-        spelled.put(&[b'/', byte]);
-    }
+    let (byte, _) = next.next_byte()?;
+    spelled.put(&[b'/', byte]);
+    Some(())
+}
+
+fn lines_of(first: &str, second: &str) -> Spelled {
+    let mut spelled = Spelled::new();
+    let _found = put_lines(&mut spelled, &[record(first), record(second)]);
     spelled
 }
 

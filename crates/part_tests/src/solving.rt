@@ -6,6 +6,14 @@ use std::process::Abort;
 /// A list of candidates with their needs: who needs which of these.
 type Needs<'a> = &'a [(u32, &'a [u32])];
 
+fn add_need(alloc: Global, s: &mut System, of: u32, any: &[u32]) -> Result<(), AllocError> {
+    if s.admits(of, any) {
+        let any = any.to_vec(alloc)?;
+        s.add_need(Need { of, any })?;
+    }
+    Ok(())
+}
+
 /// A system of these candidates and needs.
 fn system(alloc: Global, eligible: &[bool], needs: Needs<'_>) -> Result<System, AllocError> {
     let mut s = System::new(alloc, Vec::new(alloc));
@@ -15,12 +23,7 @@ fn system(alloc: Global, eligible: &[bool], needs: Needs<'_>) -> Result<System, 
         }
     }
     for (of, any) in needs {
-        if s.admits(*of, any) {
-            s.add_need(Need {
-                of: *of,
-                any: any.to_vec(alloc)?,
-            })?;
-        }
+        add_need(alloc, &mut s, *of, any)?;
     }
     Ok(s)
 }
@@ -114,12 +117,7 @@ fn chain(alloc: Global, n: u32, end: &[u32]) -> Result<System, AllocError> {
     for k in 0..n {
         let next = [k.saturating_add(1)];
         let any = if next[0] < n { &next } else { end };
-        if s.admits(k, any) {
-            s.add_need(Need {
-                of: k,
-                any: any.to_vec(alloc)?,
-            })?;
-        }
+        add_need(alloc, &mut s, k, any)?;
     }
     Ok(s)
 }

@@ -27,6 +27,8 @@ const DELETE_TEN: &str = "./ DELETE SEQ1=00000010,SEQ2=00000010";
 
 const DELETE_ALL: &str = "./ DELETE SEQ1=00000000,SEQ2=99999999";
 
+const DELETE_BACK: &str = "./ DELETE SEQ1=00000020,SEQ2=00000010";
+
 fn lines(alloc: Global, cards: &[&str]) -> Result<Vec<Line>, AllocError> {
     let mut lines = Vec::new(alloc);
     for card in cards {
@@ -61,62 +63,22 @@ fn merges(rt: HostRuntime) -> Result<(), Fail> {
     Ok(())
 }
 
-/// Records, and the first fault of what they are read as.
-struct Faulty {
-    cards: &'static [&'static str],
-    number: usize,
-    code: TextCode,
-}
+/// Records, and the number and the code of the first fault of what they are read as.
+type Faulty = (&'static [&'static str], usize, TextCode);
 
 const TEXTS: &[Faulty] = &[
-    Faulty {
-        cards: &[TEN, "U"],
-        number: 2,
-        code: TextCode::Tx1,
-    },
-    Faulty {
-        cards: &[TEN, TWENTY, TWENTY],
-        number: 3,
-        code: TextCode::Tx2,
-    },
+    (&[TEN, "U"], 2, TextCode::Tx1),
+    (&[TEN, TWENTY, TWENTY], 3, TextCode::Tx2),
 ];
 
 const UPDATES: &[Faulty] = &[
-    Faulty {
-        cards: &[CHANGE, TEN, "U"],
-        number: 3,
-        code: TextCode::Tx1,
-    },
-    Faulty {
-        cards: &[],
-        number: 1,
-        code: TextCode::Tx3,
-    },
-    Faulty {
-        cards: &[TEN, CHANGE],
-        number: 1,
-        code: TextCode::Tx3,
-    },
-    Faulty {
-        cards: &["./ CHANGE NAME=M2"],
-        number: 1,
-        code: TextCode::Tx4,
-    },
-    Faulty {
-        cards: &[CHANGE, TEN, "./ DELETE SEQ1=00000020,SEQ2=00000010"],
-        number: 3,
-        code: TextCode::Tx5,
-    },
-    Faulty {
-        cards: &[CHANGE, CHANGE],
-        number: 2,
-        code: TextCode::Tx5,
-    },
-    Faulty {
-        cards: &[CHANGE, TWENTY, TEN],
-        number: 3,
-        code: TextCode::Tx6,
-    },
+    (&[CHANGE, TEN, "U"], 3, TextCode::Tx1),
+    (&[], 1, TextCode::Tx3),
+    (&[TEN, CHANGE], 1, TextCode::Tx3),
+    (&["./ CHANGE NAME=M2"], 1, TextCode::Tx4),
+    (&[CHANGE, TEN, DELETE_BACK], 3, TextCode::Tx5),
+    (&[CHANGE, CHANGE], 2, TextCode::Tx5),
+    (&[CHANGE, TWENTY, TEN], 3, TextCode::Tx6),
 ];
 
 fn text_fault(alloc: Global, cards: &[&str]) -> Result<Option<TextFault>, AllocError> {
@@ -131,20 +93,17 @@ fn update_fault(alloc: Global, cards: &[&str]) -> Result<Option<TextFault>, Allo
     }
 }
 
-fn fault_of(row: &Faulty) -> Option<TextFault> {
-    Some(TextFault {
-        number: row.number,
-        code: row.code,
-    })
+fn fault(number: usize, code: TextCode) -> Option<TextFault> {
+    Some(TextFault { number, code })
 }
 
 #[test]
 fn faults(rt: HostRuntime) -> Result<(), Fail> {
-    for row in TEXTS {
-        assert_eq!(rt; text_fault(rt.alloc(), row.cards)?, fault_of(row));
+    for (cards, number, code) in TEXTS {
+        assert_eq!(rt; text_fault(rt.alloc(), cards)?, fault(*number, *code));
     }
-    for row in UPDATES {
-        assert_eq!(rt; update_fault(rt.alloc(), row.cards)?, fault_of(row));
+    for (cards, number, code) in UPDATES {
+        assert_eq!(rt; update_fault(rt.alloc(), cards)?, fault(*number, *code));
     }
     Ok(())
 }

@@ -50,7 +50,8 @@ impl<'a> Records<'a> {
 impl<'a> Commands<'a> {
     ghost use Rattle.rec80.specs.Views.{left_of};
 
-    /// Takes the next command. Behind the last one there is none. An `Err` changes nothing.
+    /// Takes the next command. Behind the last one there is none. The error comes where the form of the command is at
+    /// fault, or where a comment between commands is not closed, and changes nothing.
     pub fn next_command(&mut self) -> Result<Option<Command<'a>>, CommandError>
         ensures command { IfOk result (λ found. IfSome found (λ x. (pieces : List Piece)
             × TakesCommand self.old.number self.old.rest.now pieces x.number self.new.number self.new.rest.now

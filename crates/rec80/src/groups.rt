@@ -60,7 +60,7 @@ fn split_group(records: &[Record]) -> (&[Record], &[Record])
 }
 
 impl<'a> Records<'a> {
-    /// Walks the statements of a PTFIN or hold file.
+    /// Walks the statements of a PTFIN or hold file. The error comes where the first record begins none.
     pub fn groups(&self) -> Result<Groups<'a>, StartsOutside>
         ensures ok { IfOk result (λ groups. (groups.number ≡ 1) × (groups.rest.now ≡ self.now.all.now)) }
         ensures outside { IsErr result ↔ IsTrue (starts_outside self.now.all.now) }

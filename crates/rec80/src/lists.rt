@@ -117,7 +117,8 @@ fn is_blank(rest: &Text) -> bool
 }
 
 impl<'a> Members<'a> {
-    /// Takes the next member, with its own list. Behind the last one there is none. An `Err` changes nothing.
+    /// Takes the next member, with its own list. Behind the last one there is none. The error comes where what is left
+    /// is no list of members from its first one on, and changes nothing.
     pub fn next_member(&mut self) -> Result<Option<Word<'a>>, NoMembers>
         ensures member { IfOk result (λ found. IfSome found (λ m. (ms : List grammar.Word)
             → LeavesMembers self.new ms → LeavesMembers self.old (word_of m ∷ ms))) }

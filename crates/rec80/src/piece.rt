@@ -79,7 +79,9 @@ fn split_word<'a>(at: &Cursor<'a>) -> (&'a [u8], Cursor<'a>)
     )
 }
 
-/// The piece that begins here, and the place behind it.
+/// The piece that begins here, and the place behind it. The error tells why none begins: `End` where nothing is left,
+/// `Period` at a period, `OpenComment` at a comment that is not closed, and `BadParens` at a parenthesis that has no
+/// partner or holds a third level.
 pub fn solid_piece<'a>(at: &Cursor<'a>) -> Result<(Piece<'a>, Cursor<'a>), Stop>
     requires { BeginsNoGap (rest_of at.now) }
     ensures piece { IfOk result (λ x. TakesPiece (rest_of at.now) (piece_of x.0) (rest_of x.1)) }

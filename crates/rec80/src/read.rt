@@ -12,7 +12,8 @@ fn is_printable(byte: u8) -> bool
     0x20 <= byte && byte <= 0x7E
 }
 
-/// The records of a file, or its first fault.
+/// The records of a file. `Rec2` comes where a whole record has a bad byte, at the first one, and `Rec1` where none
+/// has, but the file ends inside a record.
 pub fn records(bytes: &[u8]) -> Result<Records<'_>, RecError>
     ensures ok { IfOk result (λ found. HasRecords bytes.now found.all.now) }
     ensures good { (records : List (List ℕ)) → HasRecords bytes.now records → IsOk result }

@@ -25,7 +25,9 @@ pub fn start<'a>(records: &'a [Record]) -> Option<Cursor<'a>>
     })
 }
 
-/// The words and the inline records of a statement, or what is wrong with its form.
+/// The words and the inline records of a statement. `NoPeriod` comes where it ends without its period, `OpenComment`
+/// where a comment before that is not closed, `BadParens` where a parenthesis has no partner or a third level opens,
+/// and `TextAfterPeriod` where more than blanks and comments follows the period in its record.
 pub fn statement<'a>(group: &Group<'a>) -> Result<Words<'a>, StmtError>
     ensures ok { IfOk result (λ words. (pieces : List Piece) × IsStatement group.now.records.now pieces words.inline.now
         × HasSolid (left_of words) pieces) }

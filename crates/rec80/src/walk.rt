@@ -49,7 +49,9 @@ fn is_idle(tail: &[u8]) -> bool
     end.is_end()
 }
 
-/// The records behind the one in which the statement ends that begins here.
+/// The records behind the one in which the statement ends that begins here. `NoPeriod` comes where it ends without its
+/// period, `OpenComment` where a comment before that is not closed, `BadParens` where a parenthesis has no partner or a
+/// third level opens, and `TextAfterPeriod` where more than blanks and comments follows the period in its record.
 pub fn inline_behind<'a>(from: &Cursor<'a>) -> Result<&'a [Record], StmtError>
     ensures ok { IfOk result (λ inline. (ps : List Piece) × (tail : List ℕ) × EndsFrom from.now ps tail inline.now
         × IsIdle tail) }

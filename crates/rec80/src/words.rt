@@ -47,7 +47,8 @@ fn own_list<'a>(at: &Cursor<'a>) -> Option<(Text<'a>, Cursor<'a>)>
 }
 
 impl<'a> Words<'a> {
-    /// Takes the next word, with its list. Behind the last one there is none. An `Err` changes nothing.
+    /// Takes the next word, with its list. Behind the last one there is none. The error comes where a character that
+    /// stands in no word is next, or a list without a word before it, and changes nothing.
     pub fn next_word(&mut self) -> Result<Option<Word<'a>>, NoWord>
         ensures word { (pieces : List AnyPiece) → HasSolid (left_of self.old) pieces
             → IfOk result (λ found. IfSome found (λ w. (rest : List AnyPiece) × TakesWord pieces (word_of w) rest

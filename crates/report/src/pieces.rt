@@ -12,7 +12,8 @@ use itoa::Buffer;
 
 const BLANKS: [u8; 8] = [b' '; 8];
 
-/// Writes all of a piece, in as many writes as the sink needs.
+/// Writes all of a piece, in as many writes as the sink needs. The error comes where a write fails; a beginning went
+/// out then.
 pub fn write_all<W: Sink>(piece: &[u8], w: &mut W) -> Result<(), WriteFault>
     ensures sends { Sent W.Sink w.old w.new piece.now }
     ensures after { 0 < length piece.now → W.has_failed w.new ≡ is_err result }

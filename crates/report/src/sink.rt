@@ -19,7 +19,8 @@ pub trait Sink {
     /// Whether a write has failed.
     ghost has_failed: { Self → Bool };
 
-    /// Takes the first bytes of a piece, one at least, and answers how many.
+    /// Takes the first bytes of a piece, one at least, and answers how many. The error comes where the write fails, and
+    /// at each call from then on.
     fn write(&mut self, piece: &[u8]) -> Result<usize, WriteFault>
         requires { 0 < length piece.now }
         ensures some { IfOk result (λ n. 0 < n) }

@@ -126,7 +126,8 @@ fn write_page<W: Sink>(outcome: &Outcome<'_>, page: &mut Page<'_, W>) -> Result<
     Ok(code)
 }
 
-/// Writes the text of an outcome and answers its return code. After a fault a beginning of the text went out.
+/// Writes the text of an outcome and answers its return code. The error comes where a write fails; a beginning of the
+/// text went out then.
 pub fn write_report<W: Sink>(outcome: &Outcome<'_>, w: &mut W) -> Result<u8, WriteFault>
     ensures sends { Sent W.Sink w.old w.new (text (outcome_view outcome.now)) }
     ensures fault { W.has_failed w.new ≡ is_err result }

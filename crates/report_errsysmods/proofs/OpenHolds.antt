@@ -44,13 +44,6 @@ open_holds g zone x = by g.holds
     by [] = refl
     by (h ∷ hs) = at h (filter (is_error_on x) hs) (by hs) (bytes_eq h.id x) (hold_number h.kind == 0) refl
 
--- what one more item gives
-pub flat_map_one : {X Y : Type 0} (f : X → List Y) (xs : List X) (i : ℕ) (x : X) → i < length xs → x ≡ get_or xs i x
-    → flat_map f (take (i + 1) xs) ≡ flat_map f (take i xs) ++ f x
-flat_map_one f xs i x below at =
-    ap (flat_map f) (take_more xs i x below ∙ ap (λ v. take i xs ++ v ∷ []) (sym at))
-    ∙ flat_map-append f (take i xs) (x ∷ []) ∙ ap (λ l. flat_map f (take i xs) ++ l) (append-nil (f x))
-
 pub open_entries : (g : Global) (zone : Zone) (es : List Entry)
     → flat_map (open_in g zone) es ≡ flat_map (λ e. open_on g zone e.id) (filter is_current es)
 open_entries g zone [] = refl

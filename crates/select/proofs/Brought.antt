@@ -7,22 +7,22 @@ use Rattle.std.specs.Option.{option_map_or, option_and_then}
 use Rattle.std.specs.Str.{bytes_eq}
 use Rattle.std.proofs.lemmas.List.Elements.{Contains-append_left, Contains-append_right, Contains-append_cases}
 use Rattle.terms.specs.declared.kinds.HoldKind.TheVariants.{Error}
-use Rattle.terms.specs.Types.{Id, IfReq, Ver, Applied, Entry, Global, Zone, Selection}
+use Rattle.terms.specs.Types.{Id, IfReq, Ver, Applied, Entry, Zone}
 use Rattle.terms.specs.Lookups.{is_in, is_applied, applied_of, entry_of, is_supplied, is_function, applied_ids}
 use Rattle.terms.specs.Lookups.{holds_of}
-use Rattle.terms.specs.Choice.{vers_of, fits, counting}
+use Rattle.terms.specs.Choice.{Choice, fits, counting}
 use Rattle.terms.specs.Candidates.{fmids_for}
 use Rattle.terms.specs.Conditions.{reqs_where, if_reqs, stated_for}
 use Rattle.lemmas.proofs.Members.{none_in, filter_in, in_filter, flat_in, in_flat}
 use Rattle.lemmas.proofs.Places.{contains_at}
 use Rattle.lemmas.proofs.Texts.{same_from}
-use Rattle.terms.proofs.Applied.{AppliedAre}
-use Rattle.sysmods_received.specs.Namers.{function_namers}
-use Rattle.select.specs.Growing.{taken_up, has_grown, open_fmids, own_requisites, kept_ver, stated, reasons, own_asked}
-use Rattle.select.specs.Growing.{required_through, asked_through, asked_by_namers}
-use Rattle.select.proofs.Needs.{Asks, Fmid, Required, Stated, Reason, in_own, own_in, AsksThrough, through_required}
+use Rattle.terms.proofs.Applied.{AppliedAre, applied_dated}
+use Rattle.select.specs.Scopes.{Scope, vers_in}
+use Rattle.select.specs.Growing.{taken_up, has_grown, open_fmids, own_requisites, kept_ver, namers_in, stated, reasons}
+use Rattle.select.specs.Growing.{own_asked, required_through, asked_through, asked_by_namers}
+use Rattle.select.proofs.Needs.{for_function, Asks, Fmid, Required, Stated, Reason, in_own, own_in, AsksThrough}
+use Rattle.select.proofs.Needs.{through_required}
 use Rattle.select.proofs.Listed.{function_listed, if_named}
-use Rattle.terms.proofs.Applied.{applied_dated}
 
 some_applied : (o : Option Entry) (a : Applied) → option_and_then (λ e. e.applied) o ≡ Some a
     → option_map_or (λ e. is_some e.applied) o false ≡ true
@@ -36,35 +36,41 @@ by_number : (vs : List Ver) (o : Option Applied) (a : Applied) (other : ℕ) →
 by_number vs None a other at = absurd (cc at)
 by_number vs (Some b) a other at = refl
 
-module _ (g : Global) (zone : Zone) where
+module _ (scope : Scope) where
+  abbrev zone : Zone
+  zone = scope.zone
+
+  abbrev counted_ver : Choice
+  counted_ver = counting scope.global zone []
+
   -- the ++VER that counts of what is applied
-  kept_counts : (y : Id) (a : Applied) → applied_of zone y ≡ Some a → counting g zone [] y ≡ kept_ver g zone y
-  kept_counts y a at = by_number (vers_of g zone.srel y) (applied_of zone y) a
-      (unwrap_or (position (fits zone (is_in [])) (vers_of g zone.srel y)) 0) at
+  kept_counts : (y : Id) (a : Applied) → applied_of zone y ≡ Some a → counted_ver y ≡ kept_ver scope y
+  kept_counts y a at = by_number (vers_in scope y) (applied_of zone y) a
+      (unwrap_or (position (fits zone (is_in [])) (vers_in scope y)) 0) at
 
   -- what has one is applied, and it is one of its ++VERs
-  kept_there : (y : Id) (v : Ver) → kept_ver g zone y ≡ Some v
-      → IsTrue (is_applied zone y) × Contains (vers_of g zone.srel y) v
+  kept_there : (y : Id) (v : Ver) → kept_ver scope y ≡ Some v
+      → IsTrue (is_applied zone y) × Contains (vers_in scope y) v
   kept_there y v = by (applied_of zone y) refl
     where
       by : (o : Option Applied) → applied_of zone y ≡ o
-          → option_and_then (λ a. slice_get (vers_of g zone.srel y) (a.number - 1)) o ≡ Some v
-          → IsTrue (is_applied zone y) × Contains (vers_of g zone.srel y) v
+          → option_and_then (λ a. slice_get (vers_in scope y) (a.number - 1)) o ≡ Some v
+          → IsTrue (is_applied zone y) × Contains (vers_in scope y) v
       by None at found = absurd (cc found)
       by (Some a) at found = (
         some_applied (entry_of zone y) a at,
-        contains_at (vers_of g zone.srel y) (a.number - 1) v found,
+        contains_at (vers_in scope y) (a.number - 1) v found,
       )
 
   -- what states anything for a function by it
   record States (x y : Id) : Type 0 where
     on : IsTrue (is_applied zone y)
-    names : Contains (function_namers g.sysmods x) y
+    names : Contains (namers_in scope x) y
 
-  states : (x y z : Id) → Contains (if_reqs (kept_ver g zone) (bytes_eq x) y) z → States x y
-  states x y z = by (kept_ver g zone y) refl
+  states : (x y z : Id) → Contains (if_reqs (kept_ver scope) (bytes_eq x) y) z → States x y
+  states x y z = by (kept_ver scope y) refl
     where
-      by : (o : Option Ver) → kept_ver g zone y ≡ o
+      by : (o : Option Ver) → kept_ver scope y ≡ o
           → Contains (reqs_where (bytes_eq x) (option_map_or (λ v. v.ifs) o [])) z → States x y
       by None at none = absurd (none_in z none)
       by (Some v) at h =
@@ -73,131 +79,127 @@ module _ (g : Global) (zone : Zone) where
           let is = kept_there y v at in
           record {
             on = is.0;
-            names = subst (λ f. Contains (function_namers g.sysmods f) y) (sym (same_from x from.0.function kept.1))
-                (function_listed g zone.srel y from.0.function v is.1 (if_named v from.0 kept.0));
+            names = subst (λ f. Contains (namers_in scope f) y) (sym (same_from x from.0.function kept.1))
+                (function_listed scope.global zone.srel y from.0.function v is.1 (if_named v from.0 kept.0));
           }
 
-  abbrev by_counting : Id → List Id
-  by_counting x = if is_function g x then stated_for (counting g zone []) (applied_ids zone) x else []
-
   -- What applied SYSMODs state for it is what those among its namers state.
-  stated_same : AppliedAre zone → (x z : Id) → Contains (stated g zone x) z ↔ Contains (by_counting x) z
-  stated_same applied x z = by (is_function g x)
+  stated_same : AppliedAre zone → (x z : Id) → Contains (stated scope x) z ↔ Contains (for_function scope x) z
+  stated_same applied x z = by (is_function scope.global x)
     where
       reqs_at : Option Ver → List Id
       reqs_at o = reqs_where (bytes_eq x) (option_map_or (λ v. v.ifs) o [])
 
-      counted : (y : Id) → IsTrue (is_applied zone y) → counting g zone [] y ≡ kept_ver g zone y
+      counted : (y : Id) → IsTrue (is_applied zone y) → counted_ver y ≡ kept_ver scope y
       counted y on = let a = applied_dated zone y on in kept_counts y a.0 a.1
 
       by : (b : Bool)
-          → Contains (if b then stated_for (kept_ver g zone) (function_namers g.sysmods x) x else []) z
-          ↔ Contains (if b then stated_for (counting g zone []) (applied_ids zone) x else []) z
+          → Contains (if b then stated_for (kept_ver scope) (namers_in scope x) x else []) z
+          ↔ Contains (if b then stated_for counted_ver (applied_ids zone) x else []) z
       by false = (λ none. none, λ none. none)
       by true = (
         λ h.
-            let from = flat_in (if_reqs (kept_ver g zone) (bytes_eq x)) (function_namers g.sysmods x) z h in
+            let from = flat_in (if_reqs (kept_ver scope) (bytes_eq x)) (namers_in scope x) z h in
             let is = states x from.0 z from.2 in
-            in_flat (if_reqs (counting g zone []) (bytes_eq x)) (applied_ids zone) from.0 z
-            ((applied from.0).1 is.on)
+            in_flat (if_reqs counted_ver (bytes_eq x)) (applied_ids zone) from.0 z ((applied from.0).1 is.on)
             (subst (λ o. Contains (reqs_at o) z) (sym (counted from.0 is.on)) from.2),
         λ h.
-            let from = flat_in (if_reqs (counting g zone []) (bytes_eq x)) (applied_ids zone) z h in
-            let on = (applied from.0).0 from.1 in
-            let within : Contains (if_reqs (kept_ver g zone) (bytes_eq x) from.0) z =
-            subst (λ o. Contains (reqs_at o) z) (counted from.0 on) from.2 in
-            in_flat (if_reqs (kept_ver g zone) (bytes_eq x)) (function_namers g.sysmods x) from.0 z
+            let from = flat_in (if_reqs counted_ver (bytes_eq x)) (applied_ids zone) z h in
+            let within : Contains (if_reqs (kept_ver scope) (bytes_eq x) from.0) z =
+            subst (λ o. Contains (reqs_at o) z) (counted from.0 ((applied from.0).0 from.1)) from.2 in
+            in_flat (if_reqs (kept_ver scope) (bytes_eq x)) (namers_in scope x) from.0 z
             (states x from.0 z within).names within,
       )
 
-module _ (g : Global) (zone : Zone) (sel : Selection) (seen : List Id) where
+module _ (scope : Scope) (seen : List Id) where
   abbrev free : Id → Bool
-  free z = not (is_supplied zone z)
+  free z = not (is_supplied scope.zone z)
 
   abbrev fmids : Id → List Id
-  fmids x = open_fmids zone (fmids_for g zone.srel x)
+  fmids x = open_fmids scope.zone (fmids_for scope.global scope.zone.srel x)
 
   abbrev cands : Id → Bool
-  cands = taken_up g zone sel seen
+  cands = taken_up scope seen
 
   abbrev error_reasons : Id → List Id
-  error_reasons x = map (λ h. h.reason) (holds_of g Error x)
+  error_reasons x = map (λ h. h.reason) (holds_of scope.global Error x)
+
+  abbrev own : Id → List Id
+  own x = own_requisites scope cands x
 
   abbrev all_requisites : Id → List Id
-  all_requisites x = own_requisites g zone cands x ++ stated g zone x ++ reasons g sel x
+  all_requisites x = own x ++ stated scope x ++ reasons scope x
 
-  in_asked : (x z : Id) → IsTrue (free z) → Contains (all_requisites x) z → Contains (own_asked g zone sel seen x) z
+  in_asked : (x z : Id) → IsTrue (free z) → Contains (all_requisites x) z → Contains (own_asked scope seen x) z
   in_asked x z is_free h = Contains-append_right (fmids x) (filter free (all_requisites x)) z
       (in_filter free (all_requisites x) z h is_free)
 
   -- What it asks for it does by itself, and only that.
-  pub own_has : AppliedAre zone → (x z : Id) → Asks g zone sel cands x z → Contains (own_asked g zone sel seen x) z
+  pub own_has : AppliedAre scope.zone → (x z : Id) → Asks scope cands x z → Contains (own_asked scope seen x) z
   own_has applied x z (Fmid h) = Contains-append_left (fmids x) (filter free (all_requisites x)) z h
   own_has applied x z (Required is_free v is fit within) = in_asked x z is_free
-      (Contains-append_left (own_requisites g zone cands x ++ stated g zone x) (reasons g sel x) z
-      (Contains-append_left (own_requisites g zone cands x) (stated g zone x) z
-      (in_own g zone sel cands x z v is fit within)))
+      (Contains-append_left (own x ++ stated scope x) (reasons scope x) z
+      (Contains-append_left (own x) (stated scope x) z (in_own scope cands x z v is fit within)))
   own_has applied x z (Stated is_free h) = in_asked x z is_free
-      (Contains-append_left (own_requisites g zone cands x ++ stated g zone x) (reasons g sel x) z
-      (Contains-append_right (own_requisites g zone cands x) (stated g zone x) z
-      ((stated_same g zone applied x z).1 h)))
+      (Contains-append_left (own x ++ stated scope x) (reasons scope x) z
+      (Contains-append_right (own x) (stated scope x) z ((stated_same scope applied x z).1 h)))
   own_has applied x z (Reason extend h) =
       let kept = filter_in free (error_reasons x) z h in
       in_asked x z kept.1
-      (Contains-append_right (own_requisites g zone cands x ++ stated g zone x) (reasons g sel x) z
+      (Contains-append_right (own x ++ stated scope x) (reasons scope x) z
       (subst (λ b. Contains (if b then error_reasons x else []) z) (sym extend) kept.0))
 
-  pub own_asks : AppliedAre zone → (x z : Id) → Contains (own_asked g zone sel seen x) z → Asks g zone sel cands x z
+  pub own_asks : AppliedAre scope.zone → (x z : Id) → Contains (own_asked scope seen x) z → Asks scope cands x z
   own_asks applied x z h =
       elim (Contains-append_cases (fmids x) (filter free (all_requisites x)) z h) [
         | inl fmid ↦ Fmid fmid
         | inr rest ↦ let kept = filter_in free (all_requisites x) z rest in called kept.1 kept.0
       ]
     where
-      reason : IsTrue (free z) → (b : Bool) → sel.groupextend ≡ b
-          → Contains (if b then error_reasons x else []) z → Asks g zone sel cands x z
+      reason : IsTrue (free z) → (b : Bool) → scope.selection.groupextend ≡ b
+          → Contains (if b then error_reasons x else []) z → Asks scope cands x z
       reason is_free false e none = absurd (none_in z none)
       reason is_free true e is = Reason e (in_filter free (error_reasons x) z is is_free)
 
-      called : IsTrue (free z) → Contains (all_requisites x) z → Asks g zone sel cands x z
+      called : IsTrue (free z) → Contains (all_requisites x) z → Asks scope cands x z
       called is_free is =
-          elim (Contains-append_cases (own_requisites g zone cands x ++ stated g zone x) (reasons g sel x) z is) [
-            | inl first ↦ elim (Contains-append_cases (own_requisites g zone cands x) (stated g zone x) z first) [
-              | inl mine ↦ own_in g zone sel cands x z is_free mine
-              | inr others ↦ Stated is_free ((stated_same g zone applied x z).0 others)
+          elim (Contains-append_cases (own x ++ stated scope x) (reasons scope x) z is) [
+            | inl first ↦ elim (Contains-append_cases (own x) (stated scope x) z first) [
+              | inl mine ↦ own_in scope cands x z is_free mine
+              | inr others ↦ Stated is_free ((stated_same scope applied x z).0 others)
             ]
-            | inr last ↦ reason is_free sel.groupextend refl last
+            | inr last ↦ reason is_free scope.selection.groupextend refl last
           ]
 
   -- What those ask for by it that grow and name it.
   abbrev growing_namers : Id → List Id
-  growing_namers f = filter (has_grown g zone sel seen) (function_namers g.sysmods f)
+  growing_namers f = filter (has_grown scope seen) (namers_in scope f)
 
   abbrev fitting : Id → List Ver
-  fitting y = filter (fits zone cands) (vers_of g zone.srel y)
+  fitting y = filter (fits scope.zone cands) (vers_in scope y)
 
-  pub namers_have : (f y z : Id) → IsTrue (has_grown g zone sel seen y) → AsksThrough g zone sel cands f y z
-      → Contains (asked_by_namers g zone sel seen f) z
+  pub namers_have : (f y z : Id) → IsTrue (has_grown scope seen y) → AsksThrough scope cands f y z
+      → Contains (asked_by_namers scope seen f) z
   namers_have f y z grows asks =
-      in_filter free (flat_map (asked_through g zone cands f) (growing_namers f)) z
-      (in_flat (asked_through g zone cands f) (growing_namers f) y z
-      (in_filter (has_grown g zone sel seen) (function_namers g.sysmods f) y asks.named grows)
-      (in_flat (required_through zone cands f) (fitting y) asks.ver z
-      (in_filter (fits zone cands) (vers_of g zone.srel y) asks.ver asks.there asks.fit) asks.within))
+      in_filter free (flat_map (asked_through scope seen f) (growing_namers f)) z
+      (in_flat (asked_through scope seen f) (growing_namers f) y z
+      (in_filter (has_grown scope seen) (namers_in scope f) y asks.named grows)
+      (in_flat (required_through scope.zone cands f) (fitting y) asks.ver z
+      (in_filter (fits scope.zone cands) (vers_in scope y) asks.ver asks.there asks.fit) asks.within))
       asks.is_free
 
   -- one that grows asks for it
   abbrev pub IsCalledFor : Id → Type 0
-  IsCalledFor z = (y : Id) × IsTrue (has_grown g zone sel seen y) × Asks g zone sel cands y z
+  IsCalledFor z = (y : Id) × IsTrue (has_grown scope seen y) × Asks scope cands y z
 
-  pub namers_ask : (f z : Id) → IsTrue (cands f) → Contains (asked_by_namers g zone sel seen f) z → IsCalledFor z
+  pub namers_ask : (f z : Id) → IsTrue (cands f) → Contains (asked_by_namers scope seen f) z → IsCalledFor z
   namers_ask f z is h =
-      let passed = filter_in free (flat_map (asked_through g zone cands f) (growing_namers f)) z h in
-      let from = flat_in (asked_through g zone cands f) (growing_namers f) z passed.0 in
-      let grows = filter_in (has_grown g zone sel seen) (function_namers g.sysmods f) from.0 from.1 in
-      let ver = flat_in (required_through zone cands f) (fitting from.0) z from.2 in
-      let kept = filter_in (fits zone cands) (vers_of g zone.srel from.0) ver.0 ver.1 in (
+      let passed = filter_in free (flat_map (asked_through scope seen f) (growing_namers f)) z h in
+      let from = flat_in (asked_through scope seen f) (growing_namers f) z passed.0 in
+      let grows = filter_in (has_grown scope seen) (namers_in scope f) from.0 from.1 in
+      let ver = flat_in (required_through scope.zone cands f) (fitting from.0) z from.2 in
+      let kept = filter_in (fits scope.zone cands) (vers_in scope from.0) ver.0 ver.1 in (
         from.0,
         grows.1,
-        Required passed.1 ver.0 kept.0 kept.1 (through_required zone cands ver.0 z f is ver.2),
+        Required passed.1 ver.0 kept.0 kept.1 (through_required scope.zone cands ver.0 z f is ver.2),
       )

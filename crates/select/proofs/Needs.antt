@@ -5,16 +5,17 @@ use Rattle.std.specs.Option.{option_map_or}
 use Rattle.std.specs.Str.{bytes_eq}
 use Rattle.std.proofs.lemmas.Bool.{or_cases, or_left, or_right}
 use Rattle.std.proofs.lemmas.List.Elements.{Contains-append_left, Contains-append_right, Contains-append_cases}
-use Rattle.terms.specs.Types.{Id, IfReq, Ver, Global, Zone, Selection}
+use Rattle.terms.specs.Types.{Id, IfReq, Ver, Zone}
 use Rattle.terms.specs.Lookups.{is_in, at_most_one, is_applied, is_supplied, is_function, applied_ids}
-use Rattle.terms.specs.Choice.{vers_of, fits, counting}
-use Rattle.terms.specs.Candidates.{fmids_for, required_by, needed_ids, open_reasons}
+use Rattle.terms.specs.Choice.{fits, counting}
+use Rattle.terms.specs.Candidates.{fmids_for, required_by, needed_ids}
 use Rattle.terms.specs.Conditions.{reqs_where, stated_for}
+use Rattle.terms.specs.Global.{named_functions}
 use Rattle.terms.proofs.Ids.{is_in_from_Contains}
 use Rattle.lemmas.proofs.Members.{none_in, here, filter_in, in_filter, flat_in, in_flat}
 use Rattle.lemmas.proofs.Texts.{same_from, same_itself}
-use Rattle.sysmods_received.specs.Namers.{function_namers}
-use Rattle.select.specs.Growing.{asked_by, open_fmids, own_requisites, required_through}
+use Rattle.select.specs.Scopes.{Scope, needed_in, open_reasons_in, vers_in}
+use Rattle.select.specs.Growing.{asked_by, open_fmids, own_requisites, namers_in, required_through}
 use Rattle.select.proofs.Listed.{function_listed, fmid_named, if_named}
 use Rattle.std.proofs.lemmas.Bool.{cases_Bool}
 
@@ -122,51 +123,59 @@ module _ (zone : Zone) where
             (or_right (is_applied zone from.0.function) (cands from.0.function)
             (subst (λ w. IsTrue (cands w)) (same_from f from.0.function kept.1) is))) from.2)
 
-module _ (g : Global) (zone : Zone) (sel : Selection) where
+module _ (scope : Scope) where
+  abbrev zone : Zone
+  zone = scope.zone
+
   abbrev free : Id → Bool
   free z = not (is_supplied zone z)
 
   abbrev fmids : Id → List Id
-  fmids x = open_fmids zone (fmids_for g zone.srel x)
+  fmids x = open_fmids zone (fmids_for scope.global zone.srel x)
 
-  abbrev for_function : Id → List Id
-  for_function x = if is_function g x then stated_for (counting g zone []) (applied_ids zone) x else []
+  -- what applied SYSMODs state for a function by the ++VERs that count
+  abbrev pub for_function : Id → List Id
+  for_function x =
+      if is_function scope.global x then stated_for (counting scope.global zone []) (applied_ids zone) x else []
+
+  -- under GROUPEXTEND the open reasons
+  abbrev reasons_too : Id → List Id
+  reasons_too x = if scope.selection.groupextend then open_reasons_in scope x else []
 
   -- by which operand it asks for an id
   pub data Asks (cands : Id → Bool) (x z : Id) : Type 0 where
     Fmid : Contains (fmids x) z → Asks cands x z
-    Required : IsTrue (free z) → (v : Ver) → Contains (vers_of g zone.srel x) v → IsTrue (fits zone cands v)
+    Required : IsTrue (free z) → (v : Ver) → Contains (vers_in scope x) v → IsTrue (fits zone cands v)
         → Contains (required_by zone cands v) z → Asks cands x z
     Stated : IsTrue (free z) → Contains (for_function x) z → Asks cands x z
-    Reason : IsTrue sel.groupextend → Contains (open_reasons g zone x) z → Asks cands x z
+    Reason : IsTrue scope.selection.groupextend → Contains (open_reasons_in scope x) z → Asks cands x z
 
   -- the requisites of a ++VER that fits
-  pub in_own : (cands : Id → Bool) (x z : Id) (v : Ver) → Contains (vers_of g zone.srel x) v
-      → IsTrue (fits zone cands v) → Contains (required_by zone cands v) z → Contains (own_requisites g zone cands x) z
+  pub in_own : (cands : Id → Bool) (x z : Id) (v : Ver) → Contains (vers_in scope x) v
+      → IsTrue (fits zone cands v) → Contains (required_by zone cands v) z → Contains (own_requisites scope cands x) z
   in_own cands x z v there fit within =
-      in_flat (required_by zone cands) (filter (fits zone cands) (vers_of g zone.srel x)) v z
-      (in_filter (fits zone cands) (vers_of g zone.srel x) v there fit) within
+      in_flat (required_by zone cands) (filter (fits zone cands) (vers_in scope x)) v z
+      (in_filter (fits zone cands) (vers_in scope x) v there fit) within
 
-  pub own_in : (cands : Id → Bool) (x z : Id) → IsTrue (free z) → Contains (own_requisites g zone cands x) z
+  pub own_in : (cands : Id → Bool) (x z : Id) → IsTrue (free z) → Contains (own_requisites scope cands x) z
       → Asks cands x z
   own_in cands x z is_free h =
-      let from = flat_in (required_by zone cands) (filter (fits zone cands) (vers_of g zone.srel x)) z h in
-      let kept = filter_in (fits zone cands) (vers_of g zone.srel x) from.0 from.1 in
+      let from = flat_in (required_by zone cands) (filter (fits zone cands) (vers_in scope x)) z h in
+      let kept = filter_in (fits zone cands) (vers_in scope x) from.0 from.1 in
       Required is_free from.0 kept.0 kept.1 from.2
 
   -- it asks for an id by this function, with a ++VER that fits
   pub record AsksThrough (cands : Id → Bool) (f x z : Id) : Type 0 where
-    pub named : Contains (function_namers g.sysmods f) x
+    pub named : Contains (namers_in scope f) x
     pub is_free : IsTrue (free z)
     pub ver : Ver
-    pub there : Contains (vers_of g zone.srel x) ver
+    pub there : Contains (vers_in scope x) ver
     pub fit : IsTrue (fits zone cands ver)
     pub within : Contains (required_through zone cands f ver) z
 
   -- With other candidates it asks for the same, or it does so by a function that is a candidate here alone.
   pub asks_with : (cands others : Id → Bool) (x z : Id) → Asks cands x z
-      → Asks others x z
-      ⊎ ((f : Id) × IsTrue (cands f) × (others f ≡ false) × AsksThrough cands f x z)
+      → Asks others x z ⊎ ((f : Id) × IsTrue (cands f) × (others f ≡ false) × AsksThrough cands f x z)
   asks_with cands others x z (Fmid h) = inl (Fmid h)
   asks_with cands others x z (Stated is_free h) = inl (Stated is_free h)
   asks_with cands others x z (Reason extend h) = inl (Reason extend h)
@@ -175,14 +184,7 @@ module _ (g : Global) (zone : Zone) (sel : Selection) where
       f,
       is,
       off,
-      record {
-        named = function_listed g zone.srel x f v there (fmid_named v f at);
-        is_free = is_free;
-        ver = v;
-        there = there;
-        fit = fit;
-        within = through_fmid zone cands v z f at within;
-      },
+      through f (fmid_named v f at) (through_fmid zone cands v z f at within),
     )
     | inl fit_too ↦ elim (required_split zone cands others v z within) [
       | inl too ↦ inl (Required is_free v there fit_too too)
@@ -190,17 +192,21 @@ module _ (g : Global) (zone : Zone) (sel : Selection) where
         i.function,
         is,
         off,
-        record {
-          named = function_listed g zone.srel x i.function v there (if_named v i has);
-          is_free = is_free;
-          ver = v;
-          there = there;
-          fit = fit;
-          within = through_if zone cands v z i has states within;
-        },
+        through i.function (if_named v i has) (through_if zone cands v z i has states within),
       )
     ]
   ]
+    where
+      through : (f : Id) → IsTrue (is_in (named_functions v) f) → Contains (required_through zone cands f v) z
+          → AsksThrough cands f x z
+      through f names by_it = record {
+        named = function_listed scope.global zone.srel x f v there names;
+        is_free = is_free;
+        ver = v;
+        there = there;
+        fit = fit;
+        within = by_it;
+      }
 
   -- with more candidates it asks for no less
   pub asks_more : (cands others : Id → Bool) (x z : Id) → ((f : Id) → IsTrue (cands f) → IsTrue (others f))
@@ -209,7 +215,8 @@ module _ (g : Global) (zone : Zone) (sel : Selection) where
   asks_more cands others x z more (Stated is_free h) = Stated is_free h
   asks_more cands others x z more (Reason extend h) = Reason extend h
   asks_more cands others x z more (Required is_free v there fit within) =
-      Required is_free v there (fits_more zone cands others more v fit) (required_more zone cands others more v z within)
+      Required is_free v there (fits_more zone cands others more v fit)
+      (required_more zone cands others more v z within)
 
   pub through_still : (cands others : Id → Bool) (f x z : Id) → ((h : Id) → IsTrue (cands h) → IsTrue (others h))
       → AsksThrough cands f x z → AsksThrough others f x z
@@ -223,65 +230,67 @@ module _ (g : Global) (zone : Zone) (sel : Selection) where
   }
 
   -- what a growing one asks for has the needed ids, and under GROUPEXTEND the open reasons
-  pub needed_asked : (cands : Id → Bool) (x z : Id) → Contains (needed_ids g zone cands x) z
-      → Contains (asked_by g zone sel cands x) z
-  needed_asked cands x z h = Contains-append_left (needed_ids g zone cands x)
-      (if sel.groupextend then open_reasons g zone x else []) z h
+  pub needed_asked : (cands : Id → Bool) (x z : Id) → Contains (needed_in scope cands x) z
+      → Contains (asked_by scope cands x) z
+  needed_asked cands x z h = Contains-append_left (needed_in scope cands x) (reasons_too x) z h
 
-  pub reason_asked : (cands : Id → Bool) (x z : Id) → IsTrue sel.groupextend → Contains (open_reasons g zone x) z
-      → Contains (asked_by g zone sel cands x) z
-  reason_asked cands x z extend h = Contains-append_right (needed_ids g zone cands x)
-      (if sel.groupextend then open_reasons g zone x else []) z
-      (subst (λ b. Contains (if b then open_reasons g zone x else []) z) (sym extend) h)
+  pub reason_asked : (cands : Id → Bool) (x z : Id) → IsTrue scope.selection.groupextend
+      → Contains (open_reasons_in scope x) z → Contains (asked_by scope cands x) z
+  reason_asked cands x z extend h = Contains-append_right (needed_in scope cands x) (reasons_too x) z
+      (subst (λ b. Contains (if b then open_reasons_in scope x else []) z) (sym extend) h)
 
   abbrev all_listed : (Id → Bool) → Id → List Id
-  all_listed cands x = own_requisites g zone cands x ++ for_function x
+  all_listed cands x = own_requisites scope cands x ++ for_function x
 
-  needed_are : (cands : Id → Bool) (x : Id) → needed_ids g zone cands x ≡ fmids x ++ filter free (all_listed cands x)
+  needed_are : (cands : Id → Bool) (x : Id) → needed_in scope cands x ≡ fmids x ++ filter free (all_listed cands x)
   unfolding needed_ids
   needed_are cands x = refl
 
   in_needed : (cands : Id → Bool) (x z : Id) → IsTrue (free z) → Contains (all_listed cands x) z
-      → Contains (needed_ids g zone cands x) z
+      → Contains (needed_in scope cands x) z
   in_needed cands x z is_free h = subst (λ zs. Contains zs z) (sym (needed_are cands x))
       (Contains-append_right (fmids x) (filter free (all_listed cands x)) z
       (in_filter free (all_listed cands x) z h is_free))
 
-  pub asks_needed : (cands : Id → Bool) (x z : Id) → Asks cands x z
-      → Contains (needed_ids g zone cands x) z ⊎ (IsTrue sel.groupextend × Contains (open_reasons g zone x) z)
+  -- z is needed by x, or an open reason that x brings in
+  abbrev pub IsWanted : (Id → Bool) → Id → Id → Type 0
+  IsWanted cands x z =
+      Contains (needed_in scope cands x) z ⊎ (IsTrue scope.selection.groupextend × Contains (open_reasons_in scope x) z)
+
+  pub asks_needed : (cands : Id → Bool) (x z : Id) → Asks cands x z → IsWanted cands x z
   asks_needed cands x z (Fmid h) = inl (subst (λ zs. Contains zs z) (sym (needed_are cands x))
       (Contains-append_left (fmids x) (filter free (all_listed cands x)) z h))
   asks_needed cands x z (Required is_free v there fit within) = inl (in_needed cands x z is_free
-      (Contains-append_left (own_requisites g zone cands x) (for_function x) z (in_own cands x z v there fit within)))
+      (Contains-append_left (own_requisites scope cands x) (for_function x) z (in_own cands x z v there fit within)))
   asks_needed cands x z (Stated is_free h) = inl (in_needed cands x z is_free
-      (Contains-append_right (own_requisites g zone cands x) (for_function x) z h))
+      (Contains-append_right (own_requisites scope cands x) (for_function x) z h))
   asks_needed cands x z (Reason extend h) = inr (extend, h)
 
-  pub asks_asked : (cands : Id → Bool) (x z : Id) → Asks cands x z → Contains (asked_by g zone sel cands x) z
+  pub asks_asked : (cands : Id → Bool) (x z : Id) → Asks cands x z → Contains (asked_by scope cands x) z
   asks_asked cands x z asks = elim (asks_needed cands x z asks) [
     | inl needed ↦ needed_asked cands x z needed
     | inr (extend, reason) ↦ reason_asked cands x z extend reason
   ]
 
-  pub asks_from : (cands : Id → Bool) (x z : Id) → Contains (asked_by g zone sel cands x) z → Asks cands x z
+  pub asks_from : (cands : Id → Bool) (x z : Id) → Contains (asked_by scope cands x) z → Asks cands x z
   asks_from cands x z h =
-      elim (Contains-append_cases (needed_ids g zone cands x) (if sel.groupextend then open_reasons g zone x else [])
-      z h) [
+      elim (Contains-append_cases (needed_in scope cands x) (reasons_too x) z h) [
         | inl needed ↦ elim (Contains-append_cases (fmids x) (filter free (all_listed cands x)) z
             (subst (λ zs. Contains zs z) (needed_are cands x) needed)) [
               | inl fmid ↦ Fmid fmid
               | inr rest ↦ listed_ask (filter_in free (all_listed cands x) z rest)
             ]
-        | inr reason ↦ by sel.groupextend refl reason
+        | inr reason ↦ by scope.selection.groupextend refl reason
       ]
     where
-      by : (b : Bool) → sel.groupextend ≡ b → Contains (if b then open_reasons g zone x else []) z → Asks cands x z
+      by : (b : Bool) → scope.selection.groupextend ≡ b → Contains (if b then open_reasons_in scope x else []) z
+          → Asks cands x z
       by true e there = Reason e there
       by false e none = absurd (none_in z none)
 
       listed_ask : Contains (all_listed cands x) z × (free z ≡ true) → Asks cands x z
       listed_ask (there, is_free) =
-          elim (Contains-append_cases (own_requisites g zone cands x) (for_function x) z there) [
+          elim (Contains-append_cases (own_requisites scope cands x) (for_function x) z there) [
             | inl own ↦ own_in cands x z is_free own
             | inr others ↦ Stated is_free others
           ]

@@ -4,7 +4,7 @@ use Rattle.std.proofs.Common.{◌++◌, map, filter, cond, Option, None, Some, i
 use Rattle.std.proofs.Common.{ap, ◌∙◌, ◌↔◌}
 use Rattle.std.specs.List.{filter_map, cons_option}
 use Rattle.terms.specs.declared.not_chosen.NotChosen.{NotChosen}
-use Rattle.terms.specs.Types.{Id, Global, Zone, Selection}
+use Rattle.terms.specs.Types.{Id}
 use Rattle.terms.specs.Lookups.{is_in, is_before, IsRising}
 use Rattle.terms.specs.Candidates.{not_chosen}
 use Rattle.terms.proofs.Ids.{Contains_from_is_in}
@@ -13,19 +13,20 @@ use Rattle.std.specs.Option.{option_to_list}
 use Rattle.std.proofs.lemmas.List.{take_more}
 use Rattle.std.proofs.lemmas.List.Elements.{filter_map-append}
 use Rattle.std.proofs.lemmas.List.Kept.{AllPairs-filter}
-use Rattle.select.specs.Reasons.{beside, with_reason}
+use Rattle.select.specs.Scopes.{Scope, named_ids}
+use Rattle.select.specs.Reasons.{beside, reason_in, with_reason}
 
-module _ (g : Global) (zone : Zone) (sel : Selection) where
+module _ (scope : Scope) where
   abbrev found : List Id → List (Id × NotChosen)
-  found xs = filter_map (with_reason g zone sel) xs
+  found xs = filter_map (with_reason scope) xs
 
   abbrev has_reason : Id → Bool
-  has_reason x = is_some (not_chosen g zone sel x)
+  has_reason x = is_some (reason_in scope x)
 
   -- their ids, in the order of the list
   firsts : (xs : List Id) → map (λ f. f.0) (found xs) ≡ filter has_reason xs
   firsts [] = refl
-  firsts (x ∷ xs) = by (firsts xs) (not_chosen g zone sel x)
+  firsts (x ∷ xs) = by (firsts xs) (reason_in scope x)
     where
       by : map (λ f. f.0) (found xs) ≡ filter has_reason xs → (o : Option NotChosen)
           → map (λ f. f.0) (cons_option (beside x o) (found xs)) ≡ cond (is_some o) (x ∷ filter has_reason xs)
@@ -35,12 +36,12 @@ module _ (g : Global) (zone : Zone) (sel : Selection) where
 
   -- at one id more
   pub found_next : (xs : List Id) (i : ℕ) (x : Id) (old new : List (Id × NotChosen)) → i < length xs → x ≡ get_or xs i x
-      → new ≡ old ++ option_to_list (with_reason g zone sel x) → old ≡ found (take i xs) → new ≡ found (take (i + 1) xs)
+      → new ≡ old ++ option_to_list (with_reason scope x) → old ≡ found (take i xs) → new ≡ found (take (i + 1) xs)
   found_next xs i x old new below at is was =
-      is ∙ ap (λ ps. ps ++ option_to_list (with_reason g zone sel x)) was
-      ∙ ap (λ ps. found (take i xs) ++ ps) (one (with_reason g zone sel x))
+      is ∙ ap (λ ps. ps ++ option_to_list (with_reason scope x)) was
+      ∙ ap (λ ps. found (take i xs) ++ ps) (one (with_reason scope x))
       ∙ sym (ap found (take_more xs i x below ∙ ap (λ y. take i xs ++ y ∷ []) (sym at))
-      ∙ filter_map-append (with_reason g zone sel) (take i xs) (x ∷ []))
+      ∙ filter_map-append (with_reason scope) (take i xs) (x ∷ []))
     where
       one : (o : Option (Id × NotChosen)) → option_to_list o ≡ cons_option o []
       one None = refl
@@ -51,34 +52,32 @@ module _ (g : Global) (zone : Zone) (sel : Selection) where
       xs rising)
 
   -- what is found has its reason
-  found_reason : (xs : List Id) (x : Id) (why : NotChosen) → Contains (found xs) (x, why)
-      → not_chosen g zone sel x ≡ Some why
+  found_reason : (xs : List Id) (x : Id) (why : NotChosen) → Contains (found xs) (x, why) → reason_in scope x ≡ Some why
   found_reason [] x why h = absurd (none_in (x, why) h)
-  found_reason (y ∷ ys) x why h = by (found_reason ys x why) (not_chosen g zone sel y) refl h
+  found_reason (y ∷ ys) x why h = by (found_reason ys x why) (reason_in scope y) refl h
     where
-      by : (Contains (found ys) (x, why) → not_chosen g zone sel x ≡ Some why) → (o : Option NotChosen)
-          → not_chosen g zone sel y ≡ o
-          → Contains (cons_option (beside y o) (found ys)) (x, why) → not_chosen g zone sel x ≡ Some why
+      by : (Contains (found ys) (x, why) → reason_in scope x ≡ Some why)
+          → (o : Option NotChosen) → reason_in scope y ≡ o
+          → Contains (cons_option (beside y o) (found ys)) (x, why) → reason_in scope x ≡ Some why
       by rest None e h = rest h
       by rest (Some other) e h = elim (here_or (y, other) (found ys) (x, why) h) [
-        | inl same ↦ ap (not_chosen g zone sel) (sym (ap (λ p. p.0) same)) ∙ e ∙ ap (λ p. Some p.1) same
+        | inl same ↦ ap (reason_in scope) (sym (ap (λ p. p.0) same)) ∙ e ∙ ap (λ p. Some p.1) same
         | inr within ↦ rest within
       ]
 
   -- an id of the list that has a reason is found
-  reason_found : (xs : List Id) (x : Id) (why : NotChosen) → Contains xs x → not_chosen g zone sel x ≡ Some why
+  reason_found : (xs : List Id) (x : Id) (why : NotChosen) → Contains xs x → reason_in scope x ≡ Some why
       → Contains (found xs) (x, why)
   reason_found [] x why h e = absurd (none_in x h)
-  reason_found (y ∷ ys) x why h e = by (λ within. reason_found ys x why within e) (not_chosen g zone sel y) refl
+  reason_found (y ∷ ys) x why h e = by (λ within. reason_found ys x why within e) (reason_in scope y) refl
       (here_or y ys x h)
     where
-      by : (Contains ys x → Contains (found ys) (x, why)) → (o : Option NotChosen) → not_chosen g zone sel y ≡ o
-          → (y ≡ x) ⊎ Contains ys x
-          → Contains (cons_option (beside y o) (found ys)) (x, why)
-      by rest None none (inl same) = absurd (cc (sym e ∙ ap (not_chosen g zone sel) (sym same) ∙ none))
+      by : (Contains ys x → Contains (found ys) (x, why)) → (o : Option NotChosen) → reason_in scope y ≡ o
+          → (y ≡ x) ⊎ Contains ys x → Contains (cons_option (beside y o) (found ys)) (x, why)
+      by rest None none (inl same) = absurd (cc (sym e ∙ ap (reason_in scope) (sym same) ∙ none))
       by rest None none (inr within) = rest within
       by rest (Some other) is (inl same) =
-          subst (Contains ((y, other) ∷ found ys)) (pair same (sym is ∙ ap (not_chosen g zone sel) same ∙ e))
+          subst (Contains ((y, other) ∷ found ys)) (pair same (sym is ∙ ap (reason_in scope) same ∙ e))
           (here (y, other) (found ys))
         where
           pair : y ≡ x → Some other ≡ Some why → ◌≡◌ {A = Id × NotChosen} (y, other) (x, why)
@@ -86,18 +85,17 @@ module _ (g : Global) (zone : Zone) (sel : Selection) where
       by rest (Some other) is (inr within) = there (y, other) (found ys) (x, why) (rest within)
 
   -- only what SELECT or GROUP names has a reason
-  reason_named : (x : Id) (why : NotChosen) → not_chosen g zone sel x ≡ Some why → Contains (sel.select ++ sel.group) x
+  reason_named : (x : Id) (why : NotChosen) → reason_in scope x ≡ Some why → Contains (named_ids scope.selection) x
   unfolding not_chosen
-  reason_named x why e = by (is_in (sel.select ++ sel.group) x) refl
+  reason_named x why e = by (is_in (named_ids scope.selection) x) refl
     where
-      by : (b : Bool) → is_in (sel.select ++ sel.group) x ≡ b → Contains (sel.select ++ sel.group) x
-      by true named = Contains_from_is_in (sel.select ++ sel.group) x named
+      by : (b : Bool) → is_in (named_ids scope.selection) x ≡ b → Contains (named_ids scope.selection) x
+      by true named = Contains_from_is_in (named_ids scope.selection) x named
       by false unnamed = let none = rw unnamed at e in absurd (cc none)
 
-  pub found_members : (xs : List Id) → ((x : Id) → Contains xs x ↔ Contains (sel.select ++ sel.group) x)
-      → (x : Id) (why : NotChosen) → Contains (found xs) (x, why) ↔ (not_chosen g zone sel x ≡ Some why)
+  pub found_members : (xs : List Id) → ((x : Id) → Contains xs x ↔ Contains (named_ids scope.selection) x)
+      → (x : Id) (why : NotChosen) → Contains (found xs) (x, why) ↔ (reason_in scope x ≡ Some why)
   found_members xs named x why = (
     found_reason xs x why,
-    λ e.
-        reason_found xs x why ((named x).1 (reason_named x why e)) e,
+    λ e. reason_found xs x why ((named x).1 (reason_named x why e)) e,
   )

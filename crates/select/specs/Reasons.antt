@@ -1,13 +1,18 @@
 -- Ids that SELECT or GROUP names and that are no candidates, each with the reason.
 use Rattle.std.specs.Prelude.{Option, None, Some}
 use Rattle.terms.specs.declared.not_chosen.NotChosen.{NotChosen}
-use Rattle.terms.specs.Types.{Id, Global, Zone, Selection}
+use Rattle.terms.specs.Types.{Id}
 use Rattle.terms.specs.Candidates.{not_chosen}
+use Rattle.select.specs.Scopes.{Scope}
 
 -- a reason beside the id
 abbrev pub beside : Id → Option NotChosen → Option (Id × NotChosen)
 beside x None = None
 beside x (Some why) = Some (x, why)
 
-abbrev pub with_reason : Global → Zone → Selection → Id → Option (Id × NotChosen)
-with_reason g zone sel x = beside x (not_chosen g zone sel x)
+-- why it is no candidate
+abbrev pub reason_in : Scope → Id → Option NotChosen
+reason_in scope x = not_chosen scope.global scope.zone scope.selection x
+
+abbrev pub with_reason : Scope → Id → Option (Id × NotChosen)
+with_reason scope x = beside x (reason_in scope x)

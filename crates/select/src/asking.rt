@@ -6,11 +6,11 @@ ghost use Rattle.std.specs.Str.{bytes_eq};
 ghost use Rattle.terms.specs.declared.kinds.HoldKind.TheVariants.{Error};
 ghost use Rattle.terms.specs.Lookups.{at_most_one, is_applied, is_in, is_supplied, holds_of};
 ghost use Rattle.terms.specs.Choice.{fits};
-ghost use Rattle.terms.specs.Candidates.{is_open, is_growing_start, required_by, fmids_for};
+ghost use Rattle.terms.specs.Candidates.{required_by, fmids_for};
 ghost use Rattle.terms.specs.Conditions.{reqs_where, if_reqs, stated_for};
-ghost use Rattle.sysmods_received.specs.Namers.{function_namers};
-ghost use Rattle.select.specs.Growing.{taken_up, has_grown, is_there, open_fmids, own_requisites, kept_ver};
-ghost use Rattle.select.specs.Growing.{stated, error_reason, reasons, own_asked};
+ghost use Rattle.select.specs.Scopes.{is_growing_start_in, is_for_and_fits};
+ghost use Rattle.select.specs.Growing.{is_open_among, taken_up, has_grown, is_there, open_fmids, own_requisites};
+ghost use Rattle.select.specs.Growing.{kept_ver, namers_in, stated, error_reason, reasons, own_asked, brings_others};
 
 use crate::scope::Scope;
 use crate::start::is_start;
@@ -24,41 +24,39 @@ use zones::Zone;
 
 /// Whether an id of the start brings others in.
 pub(crate) fn brings_others(selection: &Selection, id: Id) -> bool
-    ensures { result ≡ (selection.now.groupextend || is_in selection.now.group id) }
+    ensures { result ≡ brings_others selection.now id }
 {
     selection.groupextend || selection.group.contains(id)
 }
 
 /// Whether it is of the start and brings others in.
 pub(crate) fn is_growing_start(scope: &Scope, id: Id) -> bool
-    ensures { result ≡ is_growing_start scope.now.global.now scope.now.zone.now scope.now.selection.now id }
+    ensures { result ≡ is_growing_start_in scope.now id }
 {
     is_start(scope, id) && brings_others(scope.selection, id)
 }
 
-fn is_asked_and_open(scope: &Scope, seen: &IndexSet<Id>, id: Id) -> bool
-    ensures { result ≡ (is_in seen.now.keys id
-        && is_open scope.now.global.now scope.now.zone.now scope.now.selection.now id) }
+fn is_open_among(scope: &Scope, seen: &IndexSet<Id>, id: Id) -> bool
+    ensures { result ≡ is_open_among scope.now seen.now.keys id }
 {
     seen.contains(&id) && scope.is_open(id)
 }
 
 fn is_taken_up(scope: &Scope, seen: &IndexSet<Id>, id: Id) -> bool
-    ensures { result ≡ taken_up scope.now.global.now scope.now.zone.now scope.now.selection.now seen.now.keys id }
+    ensures { result ≡ taken_up scope.now seen.now.keys id }
 {
-    is_start(scope, id) || is_asked_and_open(scope, seen, id)
+    is_start(scope, id) || is_open_among(scope, seen, id)
 }
 
 /// Whether it grows, where these ids are asked for already.
 pub(crate) fn has_grown(scope: &Scope, seen: &IndexSet<Id>, id: Id) -> bool
-    ensures { result ≡ has_grown scope.now.global.now scope.now.zone.now scope.now.selection.now seen.now.keys id }
+    ensures { result ≡ has_grown scope.now seen.now.keys id }
 {
-    is_growing_start(scope, id) || is_asked_and_open(scope, seen, id)
+    is_growing_start(scope, id) || is_open_among(scope, seen, id)
 }
 
 fn is_there(scope: &Scope, seen: &IndexSet<Id>, function: Id) -> bool
-    ensures { result
-        ≡ is_there scope.now.global.now scope.now.zone.now scope.now.selection.now seen.now.keys function }
+    ensures { result ≡ is_there scope.now seen.now.keys function }
 {
     scope.zone.is_applied(function) || is_taken_up(scope, seen, function)
 }
@@ -79,8 +77,7 @@ fn append_if_there(
     found: &mut Vec<Id>,
 ) -> Result<(), AllocError>
     ensures { OnOk result (found.new.items ≡ found.old.items
-        ++ (if is_there scope.now.global.now scope.now.zone.now scope.now.selection.now seen.now.keys
-        condition.now.function then condition.now.req else [])) }
+        ++ (if is_there scope.now seen.now.keys condition.now.function then condition.now.req else [])) }
 {
     append_if(is_there(scope, seen, condition.function), condition, found)
 }
@@ -93,8 +90,7 @@ fn append_conditional(
     found: &mut Vec<Id>,
 ) -> Result<(), AllocError>
     ensures { OnOk result (found.new.items ≡ found.old.items
-        ++ reqs_where (is_there scope.now.global.now scope.now.zone.now scope.now.selection.now seen.now.keys)
-        conditions.now) }
+        ++ reqs_where (is_there scope.now seen.now.keys) conditions.now) }
 {
     for condition in conditions {
         append_if_there(scope, seen, condition, found)?;
@@ -109,9 +105,8 @@ pub(crate) fn append_operands(
     ver: &Ver,
     found: &mut Vec<Id>,
 ) -> Result<(), AllocError>
-    ensures { OnOk result (found.new.items ≡ found.old.items ++ (ver.now.pre ++ ver.now.req
-        ++ reqs_where (is_there scope.now.global.now scope.now.zone.now scope.now.selection.now seen.now.keys)
-        ver.now.ifs)) }
+    ensures { OnOk result (found.new.items ≡ found.old.items
+        ++ (ver.now.pre ++ ver.now.req ++ reqs_where (is_there scope.now seen.now.keys) ver.now.ifs)) }
 {
     found.extend_from_slice(ver.pre.as_slice())?;
     found.extend_from_slice(ver.req.as_slice())?;
@@ -121,8 +116,7 @@ pub(crate) fn append_operands(
 
 // Whether it has no FMID, or one that is applied or a candidate.
 fn fits(scope: &Scope, seen: &IndexSet<Id>, ver: &Ver) -> bool
-    ensures { result ≡ fits scope.now.zone.now
-        (taken_up scope.now.global.now scope.now.zone.now scope.now.selection.now seen.now.keys) ver.now }
+    ensures { result ≡ fits scope.now.zone (taken_up scope.now seen.now.keys) ver.now }
 {
     match ver.fmid {
         Some(fmid) => is_there(scope, seen, fmid),
@@ -132,8 +126,7 @@ fn fits(scope: &Scope, seen: &IndexSet<Id>, ver: &Ver) -> bool
 
 /// Whether it is for the zone's SREL and fits.
 pub(crate) fn is_for_and_fits(scope: &Scope, seen: &IndexSet<Id>, ver: &Ver) -> bool
-    ensures { result ≡ (bytes_eq ver.now.srel scope.now.zone.now.srel && fits scope.now.zone.now
-        (taken_up scope.now.global.now scope.now.zone.now scope.now.selection.now seen.now.keys) ver.now) }
+    ensures { result ≡ is_for_and_fits scope.now.zone (taken_up scope.now seen.now.keys) ver.now }
 {
     ver.srel == scope.zone.srel() && fits(scope, seen, ver)
 }
@@ -146,10 +139,8 @@ fn append_required(
     found: &mut Vec<Id>,
 ) -> Result<(), AllocError>
     ensures { OnOk result (found.new.items ≡ found.old.items
-        ++ (if bytes_eq ver.now.srel scope.now.zone.now.srel && fits scope.now.zone.now
-        (taken_up scope.now.global.now scope.now.zone.now scope.now.selection.now seen.now.keys) ver.now
-        then required_by scope.now.zone.now
-        (taken_up scope.now.global.now scope.now.zone.now scope.now.selection.now seen.now.keys) ver.now else [])) }
+        ++ (if is_for_and_fits scope.now.zone (taken_up scope.now seen.now.keys) ver.now
+        then required_by scope.now.zone (taken_up scope.now seen.now.keys) ver.now else [])) }
 {
     if is_for_and_fits(scope, seen, ver) {
         append_operands(scope, seen, ver, found)?;
@@ -164,10 +155,8 @@ fn append_all_required(
     found: &mut Vec<Id>,
 ) -> Result<(), AllocError>
     ensures { OnOk result (found.new.items ≡ found.old.items
-        ++ flat_map (required_by scope.now.zone.now
-        (taken_up scope.now.global.now scope.now.zone.now scope.now.selection.now seen.now.keys))
-        (filter (λ v. bytes_eq v.srel scope.now.zone.now.srel && fits scope.now.zone.now
-        (taken_up scope.now.global.now scope.now.zone.now scope.now.selection.now seen.now.keys) v) vers.now)) }
+        ++ flat_map (required_by scope.now.zone (taken_up scope.now seen.now.keys))
+        (filter (is_for_and_fits scope.now.zone (taken_up scope.now seen.now.keys)) vers.now)) }
 {
     for ver in vers {
         append_required(scope, seen, ver, found)?;
@@ -182,8 +171,7 @@ fn append_own(
     found: &mut Vec<Id>,
 ) -> Result<(), AllocError>
     ensures { OnOk result (found.new.items ≡ found.old.items
-        ++ own_requisites scope.now.global.now scope.now.zone.now
-        (taken_up scope.now.global.now scope.now.zone.now scope.now.selection.now seen.now.keys) id) }
+        ++ own_requisites scope.now (taken_up scope.now seen.now.keys) id) }
 {
     append_all_required(scope, seen, scope.vers(id), found)
 }
@@ -217,7 +205,7 @@ fn append_stated_by(
     found: &mut Vec<Id>,
 ) -> Result<(), AllocError>
     ensures { OnOk result (found.new.items ≡ found.old.items
-        ++ if_reqs (kept_ver scope.now.global.now scope.now.zone.now) (bytes_eq function) namer) }
+        ++ if_reqs (kept_ver scope.now) (bytes_eq function) namer) }
 {
     match scope.kept_ver(namer) {
         Some(ver) => append_all_for(function, ver.ifs.as_slice(), found),
@@ -232,7 +220,7 @@ fn append_stated_among(
     found: &mut Vec<Id>,
 ) -> Result<(), AllocError>
     ensures { OnOk result (found.new.items ≡ found.old.items
-        ++ stated_for (kept_ver scope.now.global.now scope.now.zone.now) namers.now function) }
+        ++ stated_for (kept_ver scope.now) namers.now function) }
 {
     for namer in namers {
         append_stated_by(scope, function, *namer, found)?;
@@ -242,7 +230,7 @@ fn append_stated_among(
 
 /// Those that name it as a function.
 pub(crate) fn function_namers(alloc: Global, scope: &Scope, id: Id) -> Result<Vec<Id>, AllocError>
-    ensures { IfOk result (λ namers. namers.items ≡ function_namers scope.now.global.now.sysmods id) }
+    ensures { IfOk result (λ namers. namers.items ≡ namers_in scope.now id) }
 {
     let mut namers = Vec::new(alloc);
     scope.global.append_function_namers(id, &mut namers)?;
@@ -256,8 +244,7 @@ fn append_stated(
     id: Id,
     found: &mut Vec<Id>,
 ) -> Result<(), AllocError>
-    ensures { OnOk result (found.new.items ≡ found.old.items
-        ++ stated scope.now.global.now scope.now.zone.now id) }
+    ensures { OnOk result (found.new.items ≡ found.old.items ++ stated scope.now id) }
 {
     if scope.global.is_function(id) {
         let namers = function_namers(alloc, scope, id)?;
@@ -280,7 +267,7 @@ fn append_reason(hold: &Hold, found: &mut Vec<Id>) -> Result<(), AllocError>
 #[tactic(auto, using(crate::proofs::ErrorReasons::error_reasons))]
 fn append_error_reasons(scope: &Scope, id: Id, found: &mut Vec<Id>) -> Result<(), AllocError>
     ensures { OnOk result (found.new.items ≡ found.old.items
-        ++ map (λ h. h.reason) (holds_of scope.now.global.now Error id)) }
+        ++ map (λ h. h.reason) (holds_of scope.now.global Error id)) }
 {
     for hold in scope.global.holds_of(HoldKind::Error, id) {
         append_reason(hold, found)?;
@@ -289,8 +276,7 @@ fn append_error_reasons(scope: &Scope, id: Id, found: &mut Vec<Id>) -> Result<()
 }
 
 fn append_reasons(scope: &Scope, id: Id, found: &mut Vec<Id>) -> Result<(), AllocError>
-    ensures { OnOk result (found.new.items ≡ found.old.items
-        ++ reasons scope.now.global.now scope.now.selection.now id) }
+    ensures { OnOk result (found.new.items ≡ found.old.items ++ reasons scope.now id) }
 {
     let selection = scope.selection;
     if selection.groupextend {
@@ -306,10 +292,8 @@ fn requisites(
     id: Id,
 ) -> Result<Vec<Id>, AllocError>
     ensures { IfOk result (λ ids. ids.items
-        ≡ own_requisites scope.now.global.now scope.now.zone.now
-        (taken_up scope.now.global.now scope.now.zone.now scope.now.selection.now seen.now.keys) id
-        ++ stated scope.now.global.now scope.now.zone.now id
-        ++ reasons scope.now.global.now scope.now.selection.now id) }
+        ≡ own_requisites scope.now (taken_up scope.now seen.now.keys) id
+        ++ stated scope.now id ++ reasons scope.now id) }
 {
     let mut ids = Vec::new(alloc);
     append_own(scope, seen, id, &mut ids)?;
@@ -353,7 +337,7 @@ fn append_fmids(srel: Srel, vers: &[Ver], found: &mut Vec<Id>) -> Result<(), All
 
 // The FMIDs of its `++VER`s for the zone's SREL.
 fn fmids(alloc: Global, scope: &Scope, id: Id) -> Result<Vec<Id>, AllocError>
-    ensures { IfOk result (λ ids. ids.items ≡ fmids_for scope.now.global.now scope.now.zone.now.srel id) }
+    ensures { IfOk result (λ ids. ids.items ≡ fmids_for scope.now.global scope.now.zone.srel id) }
 {
     let mut ids = Vec::new(alloc);
     append_fmids(scope.zone.srel(), scope.vers(id), &mut ids)?;
@@ -384,8 +368,7 @@ pub(crate) fn own_asked(
     seen: &IndexSet<Id>,
     id: Id,
 ) -> Result<Vec<Id>, AllocError>
-    ensures { IfOk result (λ found. found.items
-        ≡ own_asked scope.now.global.now scope.now.zone.now scope.now.selection.now seen.now.keys id) }
+    ensures { IfOk result (λ found. found.items ≡ own_asked scope.now seen.now.keys id) }
 {
     let mut found = unless_applied(alloc, scope.zone, fmids(alloc, scope, id)?);
     let requisites = requisites(alloc, scope, seen, id)?;

@@ -4,10 +4,9 @@ ghost use Rattle.std.specs.Prelude.{◌≡◌, ◌++◌, ◌&&◌, [], filter, I
 ghost use Rattle.std.specs.List.{flat_map};
 ghost use Rattle.std.specs.Str.{bytes_eq};
 ghost use Rattle.terms.specs.Lookups.{at_most_one, is_in};
-ghost use Rattle.terms.specs.Choice.{fits};
-ghost use Rattle.terms.specs.Candidates.{is_start, is_growing_start};
-ghost use Rattle.select.specs.Growing.{taken_up, has_grown, own_asked, required_through, asked_through};
-ghost use Rattle.select.specs.Growing.{asked_by_namers, brought_by};
+ghost use Rattle.select.specs.Scopes.{is_for_and_fits};
+ghost use Rattle.select.specs.Growing.{taken_up, has_grown, required_through, asked_through};
+ghost use Rattle.select.specs.Growing.{asked_by_namers, own_unless_first, others_unless_start, brought_by};
 
 use crate::asking::{
     append_all_for, append_operands, function_namers, has_grown, is_for_and_fits, is_growing_start,
@@ -34,8 +33,8 @@ fn append_required_through(
     ver: &Ver,
     found: &mut Vec<Id>,
 ) -> Result<(), AllocError>
-    ensures { OnOk result (found.new.items ≡ found.old.items ++ required_through scope.now.zone.now
-        (taken_up scope.now.global.now scope.now.zone.now scope.now.selection.now seen.now.keys) function ver.now) }
+    ensures { OnOk result (found.new.items ≡ found.old.items
+        ++ required_through scope.now.zone (taken_up scope.now seen.now.keys) function ver.now) }
 {
     if has_fmid(ver, function) {
         append_operands(scope, seen, ver, found)
@@ -53,11 +52,8 @@ fn append_through(
     found: &mut Vec<Id>,
 ) -> Result<(), AllocError>
     ensures { OnOk result (found.new.items ≡ found.old.items
-        ++ (if bytes_eq ver.now.srel scope.now.zone.now.srel && fits scope.now.zone.now
-        (taken_up scope.now.global.now scope.now.zone.now scope.now.selection.now seen.now.keys) ver.now
-        then required_through scope.now.zone.now
-        (taken_up scope.now.global.now scope.now.zone.now scope.now.selection.now seen.now.keys) function ver.now
-        else [])) }
+        ++ (if is_for_and_fits scope.now.zone (taken_up scope.now seen.now.keys) ver.now
+        then required_through scope.now.zone (taken_up scope.now seen.now.keys) function ver.now else [])) }
 {
     if is_for_and_fits(scope, seen, ver) {
         append_required_through(scope, seen, function, ver, found)?;
@@ -73,10 +69,8 @@ fn append_all_through(
     found: &mut Vec<Id>,
 ) -> Result<(), AllocError>
     ensures { OnOk result (found.new.items ≡ found.old.items
-        ++ flat_map (required_through scope.now.zone.now
-        (taken_up scope.now.global.now scope.now.zone.now scope.now.selection.now seen.now.keys) function)
-        (filter (λ v. bytes_eq v.srel scope.now.zone.now.srel && fits scope.now.zone.now
-        (taken_up scope.now.global.now scope.now.zone.now scope.now.selection.now seen.now.keys) v) vers.now)) }
+        ++ flat_map (required_through scope.now.zone (taken_up scope.now seen.now.keys) function)
+        (filter (is_for_and_fits scope.now.zone (taken_up scope.now seen.now.keys)) vers.now)) }
 {
     for ver in vers {
         append_through(scope, seen, function, ver, found)?;
@@ -93,8 +87,7 @@ fn append_asked_through(
     found: &mut Vec<Id>,
 ) -> Result<(), AllocError>
     ensures { OnOk result (found.new.items ≡ found.old.items
-        ++ asked_through scope.now.global.now scope.now.zone.now
-        (taken_up scope.now.global.now scope.now.zone.now scope.now.selection.now seen.now.keys) function namer) }
+        ++ asked_through scope.now seen.now.keys function namer) }
 {
     append_all_through(scope, seen, function, scope.vers(namer), found)
 }
@@ -107,10 +100,8 @@ fn append_if_grown(
     found: &mut Vec<Id>,
 ) -> Result<(), AllocError>
     ensures { OnOk result (found.new.items ≡ found.old.items
-        ++ (if has_grown scope.now.global.now scope.now.zone.now scope.now.selection.now seen.now.keys namer
-        then asked_through scope.now.global.now scope.now.zone.now
-        (taken_up scope.now.global.now scope.now.zone.now scope.now.selection.now seen.now.keys) function namer
-        else [])) }
+        ++ (if has_grown scope.now seen.now.keys namer
+        then asked_through scope.now seen.now.keys function namer else [])) }
 {
     if has_grown(scope, seen, namer) {
         append_asked_through(scope, seen, function, namer, found)?;
@@ -127,10 +118,8 @@ fn append_all_grown(
     found: &mut Vec<Id>,
 ) -> Result<(), AllocError>
     ensures { OnOk result (found.new.items ≡ found.old.items
-        ++ flat_map (asked_through scope.now.global.now scope.now.zone.now
-        (taken_up scope.now.global.now scope.now.zone.now scope.now.selection.now seen.now.keys) function)
-        (filter (has_grown scope.now.global.now scope.now.zone.now scope.now.selection.now seen.now.keys)
-        namers.now)) }
+        ++ flat_map (asked_through scope.now seen.now.keys function)
+        (filter (has_grown scope.now seen.now.keys) namers.now)) }
 {
     for namer in namers {
         append_if_grown(scope, seen, function, *namer, found)?;
@@ -144,8 +133,7 @@ fn asked_by_namers(
     seen: &IndexSet<Id>,
     function: Id,
 ) -> Result<Vec<Id>, AllocError>
-    ensures { IfOk result (λ found. found.items ≡ asked_by_namers scope.now.global.now scope.now.zone.now
-        scope.now.selection.now seen.now.keys function) }
+    ensures { IfOk result (λ found. found.items ≡ asked_by_namers scope.now seen.now.keys function) }
 {
     let namers = function_namers(alloc, scope, function)?;
     let mut asked = Vec::new(alloc);
@@ -160,9 +148,7 @@ fn own_unless_first(
     seen: &IndexSet<Id>,
     id: Id,
 ) -> Result<Vec<Id>, AllocError>
-    ensures { IfOk result (λ found. found.items
-        ≡ (if is_growing_start scope.now.global.now scope.now.zone.now scope.now.selection.now id then []
-        else own_asked scope.now.global.now scope.now.zone.now scope.now.selection.now seen.now.keys id)) }
+    ensures { IfOk result (λ found. found.items ≡ own_unless_first scope.now seen.now.keys id) }
 {
     if is_growing_start(scope, id) {
         Ok(Vec::new(alloc))
@@ -178,9 +164,7 @@ fn others_unless_start(
     seen: &IndexSet<Id>,
     id: Id,
 ) -> Result<Vec<Id>, AllocError>
-    ensures { IfOk result (λ found. found.items
-        ≡ (if is_start scope.now.global.now scope.now.zone.now scope.now.selection.now id then []
-        else asked_by_namers scope.now.global.now scope.now.zone.now scope.now.selection.now seen.now.keys id)) }
+    ensures { IfOk result (λ found. found.items ≡ others_unless_start scope.now seen.now.keys id) }
 {
     if is_start(scope, id) {
         Ok(Vec::new(alloc))
@@ -196,8 +180,7 @@ pub(crate) fn brought_by(
     seen: &IndexSet<Id>,
     id: Id,
 ) -> Result<Vec<Id>, AllocError>
-    ensures { IfOk result (λ found. found.items
-        ≡ brought_by scope.now.global.now scope.now.zone.now scope.now.selection.now seen.now.keys id) }
+    ensures { IfOk result (λ found. found.items ≡ brought_by scope.now seen.now.keys id) }
 {
     let mut found = own_unless_first(alloc, scope, seen, id)?;
     let others = others_unless_start(alloc, scope, seen, id)?;

@@ -1,6 +1,7 @@
 //! The candidates.
 ghost use Rattle.std.specs.Prelude.{◌≡◌, filter, All, IsTrue, IfOk};
-ghost use Rattle.terms.specs.Candidates.{AreCandidates, is_installable, is_open};
+ghost use Rattle.terms.specs.Candidates.{AreCandidates, is_installable};
+ghost use Rattle.select.specs.Scopes.{is_installable_in, is_open_in};
 
 use crate::growing::asked;
 use crate::scope::Scope;
@@ -12,8 +13,7 @@ use sysmods::GlobalZone;
 use zones::Zone;
 
 fn open_among(alloc: Global, scope: &Scope, ids: &[Id]) -> Result<Vec<Id>, AllocError>
-    ensures { IfOk result (λ found. found.items
-        ≡ filter (is_open scope.now.global.now scope.now.zone.now scope.now.selection.now) ids.now) }
+    ensures { IfOk result (λ found. found.items ≡ filter (is_open_in scope.now) ids.now) }
 {
     ids.iter()
         .filter(|id| scope.is_open(**id))
@@ -24,9 +24,8 @@ fn open_among(alloc: Global, scope: &Scope, ids: &[Id]) -> Result<Vec<Id>, Alloc
 // The start and what it brings in.
 fn start_and_growing(alloc: Global, scope: &Scope) -> Result<IdList, AllocError>
     ensures members { IfOk result
-        (λ ids. AreCandidates scope.now.global.now scope.now.zone.now scope.now.selection.now ids) }
-    ensures installable { IfOk result (λ ids.
-        All (λ x. IsTrue (is_installable scope.now.global.now scope.now.zone.now x)) ids) }
+        (λ ids. AreCandidates scope.now.global scope.now.zone scope.now.selection ids) }
+    ensures installable { IfOk result (λ ids. All (λ x. IsTrue (is_installable_in scope.now x)) ids) }
 {
     let mut ids = start(alloc, scope)?;
     let asked = asked(alloc, scope, ids.as_slice())?;
@@ -37,7 +36,7 @@ fn start_and_growing(alloc: Global, scope: &Scope) -> Result<IdList, AllocError>
     Ok(candidates)
 }
 
-/// The candidates, rising.
+/// The candidates, rising. The error comes where memory runs out.
 pub fn candidates(
     alloc: Global,
     global: &GlobalZone,
@@ -47,5 +46,10 @@ pub fn candidates(
     ensures members { IfOk result (λ ids. AreCandidates global.now zone.now selection.now ids) }
     ensures installable { IfOk result (λ ids. All (λ x. IsTrue (is_installable global.now zone.now x)) ids) }
 {
-    start_and_growing(alloc, &Scope::new(global, zone, selection))
+    let scope = Scope {
+        global,
+        zone,
+        selection,
+    };
+    start_and_growing(alloc, &scope)
 }

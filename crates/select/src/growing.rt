@@ -7,9 +7,9 @@ ghost use Rattle.std.specs.Prelude.{◌≡◌, ◌++◌, ◌↔◌, [], filter, 
 ghost use Rattle.std.specs.List.{flat_map};
 ghost use Rattle.terms.specs.Types.{Id as AnId};
 ghost use Rattle.terms.specs.Lookups.{is_in};
-ghost use Rattle.terms.specs.Candidates.{is_open, is_start, sups_for};
 ghost use Rattle.sysmods_paths.specs.Seen.{AddsAll};
-ghost use Rattle.select.specs.Growing.{AreAsked, brought_by, asked_first, superseders, next_asked};
+ghost use Rattle.select.specs.Scopes.{is_start_in, sups_in};
+ghost use Rattle.select.specs.Growing.{AreAsked, brought_if_open, asked_first, superseders, next_asked};
 
 use crate::asking::{brings_others, own_asked};
 use crate::bringing::brought_by;
@@ -19,8 +19,7 @@ use indexmap::IndexSet;
 use std::alloc::{AllocError, Global};
 
 fn those_over(alloc: Global, scope: &Scope, id: Id, namers: &[Id]) -> Result<Vec<Id>, AllocError>
-    ensures { IfOk result (λ found. found.items
-        ≡ filter (λ y. is_in (sups_for scope.now.global.now scope.now.zone.now.srel y) id) namers.now) }
+    ensures { IfOk result (λ found. found.items ≡ filter (λ y. is_in (sups_in scope.now y) id) namers.now) }
 {
     namers
         .iter()
@@ -30,8 +29,7 @@ fn those_over(alloc: Global, scope: &Scope, id: Id, namers: &[Id]) -> Result<Vec
 }
 
 fn superseders(alloc: Global, scope: &Scope, id: Id) -> Result<Vec<Id>, AllocError>
-    ensures { IfOk result (λ found. found.items
-        ≡ superseders scope.now.global.now scope.now.zone.now scope.now.selection.now id) }
+    ensures { IfOk result (λ found. found.items ≡ superseders scope.now id) }
 {
     let selection = scope.selection;
     let mut namers = Vec::new(alloc);
@@ -49,9 +47,7 @@ fn brought_if_open(
     seen: &IndexSet<Id>,
     id: Id,
 ) -> Result<Vec<Id>, AllocError>
-    ensures { IfOk result (λ found. found.items
-        ≡ (if is_open scope.now.global.now scope.now.zone.now scope.now.selection.now id
-        then brought_by scope.now.global.now scope.now.zone.now scope.now.selection.now seen.now.keys id else [])) }
+    ensures { IfOk result (λ found. found.items ≡ brought_if_open scope.now seen.now.keys id) }
 {
     if scope.is_open(id) {
         brought_by(alloc, scope, seen, id)
@@ -66,8 +62,7 @@ fn next_asked(
     seen: &IndexSet<Id>,
     id: Id,
 ) -> Result<Vec<Id>, AllocError>
-    ensures { IfOk result (λ found. found.items
-        ≡ next_asked scope.now.global.now scope.now.zone.now scope.now.selection.now seen.now.keys id) }
+    ensures { IfOk result (λ found. found.items ≡ next_asked scope.now seen.now.keys id) }
 {
     let mut found = brought_if_open(alloc, scope, seen, id)?;
     let over = superseders(alloc, scope, id)?;
@@ -85,8 +80,7 @@ fn see_all(ids: &[Id], seen: &mut IndexSet<Id>) -> Result<(), AllocError>
 }
 
 fn see_next(alloc: Global, scope: &Scope, id: Id, seen: &mut IndexSet<Id>) -> Result<(), AllocError>
-    ensures { OnOk result (AddsAll seen.old.keys
-        (next_asked scope.now.global.now scope.now.zone.now scope.now.selection.now seen.old.keys id) seen.new.keys) }
+    ensures { OnOk result (AddsAll seen.old.keys (next_asked scope.now seen.old.keys id) seen.new.keys) }
 {
     let found = next_asked(alloc, scope, seen, id)?;
     see_all(found.as_slice(), seen)?;
@@ -94,8 +88,7 @@ fn see_next(alloc: Global, scope: &Scope, id: Id, seen: &mut IndexSet<Id>) -> Re
 }
 
 fn asked_first(alloc: Global, scope: &Scope, id: Id) -> Result<Vec<Id>, AllocError>
-    ensures { IfOk result (λ found. found.items
-        ≡ asked_first scope.now.global.now scope.now.zone.now scope.now.selection.now id) }
+    ensures { IfOk result (λ found. found.items ≡ asked_first scope.now id) }
 {
     if brings_others(scope.selection, id) {
         own_asked(alloc, scope, &IndexSet::new(alloc), id)
@@ -110,8 +103,7 @@ fn see_first(
     id: Id,
     seen: &mut IndexSet<Id>,
 ) -> Result<(), AllocError>
-    ensures { OnOk result (AddsAll seen.old.keys
-        (asked_first scope.now.global.now scope.now.zone.now scope.now.selection.now id) seen.new.keys) }
+    ensures { OnOk result (AddsAll seen.old.keys (asked_first scope.now id) seen.new.keys) }
 {
     let found = asked_first(alloc, scope, id)?;
     see_all(found.as_slice(), seen)?;
@@ -120,9 +112,7 @@ fn see_first(
 
 // What those of the start bring that bring others in.
 fn asked_by_start(alloc: Global, scope: &Scope, start: &[Id]) -> Result<IndexSet<Id>, AllocError>
-    ensures { IfOk result (λ seen. AddsAll []
-        (flat_map (asked_first scope.now.global.now scope.now.zone.now scope.now.selection.now) start.now)
-        seen.keys) }
+    ensures { IfOk result (λ seen. AddsAll [] (flat_map (asked_first scope.now) start.now) seen.keys) }
 {
     let mut seen = IndexSet::new(alloc);
     for id in start {
@@ -133,10 +123,8 @@ fn asked_by_start(alloc: Global, scope: &Scope, start: &[Id]) -> Result<IndexSet
 
 /// The ids that are asked for, open or not.
 pub(crate) fn asked(alloc: Global, scope: &Scope, start: &[Id]) -> Result<IndexSet<Id>, AllocError>
-    requires { (x : AnId) → Contains start.now x
-        ↔ IsTrue (is_start scope.now.global.now scope.now.zone.now scope.now.selection.now x) }
-    ensures { IfOk result
-        (λ seen. AreAsked scope.now.global.now scope.now.zone.now scope.now.selection.now seen.keys) }
+    requires { (x : AnId) → Contains start.now x ↔ IsTrue (is_start_in scope.now x) }
+    ensures { IfOk result (λ seen. AreAsked scope.now seen.keys) }
 {
     scope.zone.attest();
     let mut seen = asked_by_start(alloc, scope, start)?;

@@ -5,8 +5,9 @@ ghost use Rattle.std.specs.Option.{option_to_list};
 ghost use Rattle.terms.specs.declared.not_chosen.NotChosen.{NotChosen as Reason};
 ghost use Rattle.terms.specs.Types.{Id as AnId};
 ghost use Rattle.terms.specs.Lookups.{IsRising, is_in};
-ghost use Rattle.terms.specs.Candidates.{is_open, not_chosen};
-ghost use Rattle.select.specs.Reasons.{with_reason};
+ghost use Rattle.terms.specs.Candidates.{not_chosen};
+ghost use Rattle.select.specs.Scopes.{is_open_in, named_ids};
+ghost use Rattle.select.specs.Reasons.{reason_in, with_reason};
 
 use crate::scope::Scope;
 use crate::start::{is_named, named_ids};
@@ -19,9 +20,8 @@ use zones::Zone;
 
 // Whether it is not named, or excluded, or open.
 fn needs_no_reason(scope: &Scope, id: Id) -> bool
-    ensures { result ≡ (not (is_in (scope.now.selection.now.select ++ scope.now.selection.now.group) id)
-        || is_in scope.now.selection.now.exclude id
-        || is_open scope.now.global.now scope.now.zone.now scope.now.selection.now id) }
+    ensures { result ≡ (not (is_in (named_ids scope.now.selection) id) || is_in scope.now.selection.exclude id
+        || is_open_in scope.now id) }
 {
     let selection = scope.selection;
     !is_named(selection, id) || selection.exclude.contains(id) || scope.is_open(id)
@@ -29,7 +29,7 @@ fn needs_no_reason(scope: &Scope, id: Id) -> bool
 
 #[tactic(auto, unfolding(terms::specs::Candidates::not_chosen))]
 fn why_not(scope: &Scope, id: Id) -> Option<NotChosen>
-    ensures { result ≡ not_chosen scope.now.global.now scope.now.zone.now scope.now.selection.now id }
+    ensures { result ≡ reason_in scope.now id }
 {
     if needs_no_reason(scope, id) {
         None
@@ -49,8 +49,7 @@ fn push_with_reason(
     id: Id,
     found: &mut Vec<(Id, NotChosen)>,
 ) -> Result<(), AllocError>
-    ensures { OnOk result (found.new.items ≡ found.old.items
-        ++ option_to_list (with_reason scope.now.global.now scope.now.zone.now scope.now.selection.now id)) }
+    ensures { OnOk result (found.new.items ≡ found.old.items ++ option_to_list (with_reason scope.now id)) }
 {
     if let Some(why) = why_not(scope, id) {
         found.push((id, why))?;
@@ -64,8 +63,7 @@ fn with_reasons(
     scope: &Scope,
     ids: &[Id],
 ) -> Result<Vec<(Id, NotChosen)>, AllocError>
-    ensures { IfOk result (λ found. found.items
-        ≡ filter_map (with_reason scope.now.global.now scope.now.zone.now scope.now.selection.now) ids.now) }
+    ensures { IfOk result (λ found. found.items ≡ filter_map (with_reason scope.now) ids.now) }
 {
     let mut found = Vec::new(alloc);
     for id in ids {
@@ -74,7 +72,8 @@ fn with_reasons(
     Ok(found)
 }
 
-/// The ids of SELECT and GROUP that are neither excluded nor open, rising, each with the reason.
+/// The ids of SELECT and GROUP that are neither excluded nor open, rising, each with the reason. The error comes where
+/// memory runs out.
 pub fn not_chosen(
     alloc: Global,
     global: &GlobalZone,
@@ -87,9 +86,10 @@ pub fn not_chosen(
         ↔ (not_chosen global.now zone.now selection.now x ≡ Some why)) }
 {
     let named = IdList::from_vec(named_ids(alloc, selection)?);
-    with_reasons(
-        alloc,
-        &Scope::new(global, zone, selection),
-        named.as_slice(),
-    )
+    let scope = Scope {
+        global,
+        zone,
+        selection,
+    };
+    with_reasons(alloc, &scope, named.as_slice())
 }

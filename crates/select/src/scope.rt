@@ -3,42 +3,37 @@ ghost use Rattle.std.specs.Prelude.{◌≡◌, ◌&&◌, filter, is_some, option
 ghost use Rattle.std.specs.List.{list_any};
 ghost use Rattle.std.specs.Str.{bytes_eq};
 ghost use Rattle.terms.specs.Lookups.{is_in, delby_of};
-ghost use Rattle.terms.specs.Choice.{vers_of};
-ghost use Rattle.terms.specs.Candidates.{is_installable, is_open, sups_for};
 ghost use Rattle.sysmods.specs.Choices.{has_ver};
+ghost use Rattle.select.specs.Scopes.{is_installable_in, is_open_in, vers_in, sups_in};
 ghost use Rattle.select.specs.Growing.{kept_ver};
 
 use cntl::Selection;
 use fields::{Id, Srel};
+use std::marker::Model;
 use sysmods::{GlobalZone, has_ver, numbered_ver};
 use sysmods_records::Ver;
 use zones::Zone;
 
 /// What an APPLY chooses from and by.
-#[derive(Clone, Copy)]
+#[derive(Drop)]
 pub(crate) struct Scope<'a> {
     pub(crate) global: &'a GlobalZone,
     pub(crate) zone: &'a Zone,
     pub(crate) selection: &'a Selection,
 }
 
-impl<'a> Scope<'a> {
-    pub(crate) fn new(global: &'a GlobalZone, zone: &'a Zone, selection: &'a Selection) -> Self
-        ensures global { result.global.now ≡ global.now }
-        ensures zone { result.zone.now ≡ zone.now }
-        ensures selection { result.selection.now ≡ selection.now }
-    {
-        Scope {
-            global,
-            zone,
-            selection,
-        }
-    }
+impl<'a> Model for Scope<'a> {
+    ghost use Rattle.select.specs.Scopes as scopes;
 
+    ghost Value = { scopes.Scope };
+
+    ghost view = { λ a. record { global = a.global.now; zone = a.zone.now; selection = a.selection.now } };
+}
+
+impl<'a> Scope<'a> {
     /// Its `++VER`s, among which are those for the zone's SREL.
     pub(crate) fn vers(&self, id: Id) -> &'a [Ver]
-        ensures { filter (λ v. bytes_eq v.srel self.now.zone.now.srel) result.now
-            ≡ vers_of self.now.global.now self.now.zone.now.srel id }
+        ensures { filter (λ v. bytes_eq v.srel self.now.zone.srel) result.now ≡ vers_in self.now id }
     {
         match self.global.get(id) {
             Some(sysmod) => sysmod.vers.as_slice(),
@@ -47,14 +42,14 @@ impl<'a> Scope<'a> {
     }
 
     fn has_ver(&self, id: Id) -> bool
-        ensures { result ≡ has_ver self.now.global.now self.now.zone.now.srel id }
+        ensures { result ≡ has_ver self.now.global self.now.zone.srel id }
     {
         has_ver(self.global, self.zone.srel(), id)
     }
 
     /// The `++VER` by which it was installed, if it is applied.
     pub(crate) fn kept_ver(&self, id: Id) -> Option<&'a Ver>
-        ensures { option_copied result ≡ kept_ver self.now.global.now self.now.zone.now id }
+        ensures { option_copied result ≡ kept_ver self.now id }
     {
         let applied = self.zone.applied(id)?;
         numbered_ver(self.global, self.zone.srel(), id, applied.number)
@@ -62,13 +57,13 @@ impl<'a> Scope<'a> {
 
     /// Whether a `++VER` of the one for the zone's SREL names the other in SUP.
     pub(crate) fn supersedes(&self, id: Id, other: Id) -> bool
-        ensures { result ≡ is_in (sups_for self.now.global.now self.now.zone.now.srel id) other }
+        ensures { result ≡ is_in (sups_in self.now id) other }
     {
         any_supersedes(self.vers(id), self.zone.srel(), other)
     }
 
     pub(crate) fn is_deleted(&self, id: Id) -> bool
-        ensures { result ≡ is_some (delby_of self.now.zone.now id) }
+        ensures { result ≡ is_some (delby_of self.now.zone id) }
     {
         match self.zone.entry(id) {
             Some(entry) => entry.delby.is_some(),
@@ -78,14 +73,14 @@ impl<'a> Scope<'a> {
 
     /// Whether it has a `++VER` for the zone's SREL, and is neither supplied nor deleted.
     fn is_installable(&self, id: Id) -> bool
-        ensures { result ≡ is_installable self.now.global.now self.now.zone.now id }
+        ensures { result ≡ is_installable_in self.now id }
     {
         self.has_ver(id) && !self.zone.supplies(id) && !self.is_deleted(id)
     }
 
     /// Whether it may be installed and is not excluded.
     pub(crate) fn is_open(&self, id: Id) -> bool
-        ensures { result ≡ is_open self.now.global.now self.now.zone.now self.now.selection.now id }
+        ensures { result ≡ is_open_in self.now id }
     {
         let selection = self.selection;
         self.is_installable(id) && !selection.exclude.contains(id)

@@ -3,7 +3,8 @@ ghost use Rattle.std.specs.Prelude.{◌≡◌, ◌||◌, ◌++◌, ◌↔◌, fa
 ghost use Rattle.std.specs.Option.{option_map_or};
 ghost use Rattle.terms.specs.Types.{Id as AnId};
 ghost use Rattle.terms.specs.Lookups.{is_in, sysmod_of};
-ghost use Rattle.terms.specs.Candidates.{passes_filters, is_mass_chosen, is_start};
+ghost use Rattle.terms.specs.Candidates.{passes_filters};
+ghost use Rattle.select.specs.Scopes.{is_mass_chosen_in, is_start_in, named_ids};
 
 use crate::filters::{has_mass_choice, passes_filters};
 use crate::scope::Scope;
@@ -13,8 +14,8 @@ use std::alloc::{AllocError, Global};
 use sysmods::GlobalZone;
 
 fn passes(scope: &Scope, id: Id) -> bool
-    ensures { result ≡ option_map_or (passes_filters scope.now.global.now scope.now.zone.now scope.now.selection.now)
-        (sysmod_of scope.now.global.now id) false }
+    ensures { result ≡ option_map_or (passes_filters scope.now.global scope.now.zone scope.now.selection)
+        (sysmod_of scope.now.global id) false }
 {
     match scope.global.get(id) {
         Some(sysmod) => passes_filters(scope.global, scope.zone, scope.selection, sysmod),
@@ -23,7 +24,7 @@ fn passes(scope: &Scope, id: Id) -> bool
 }
 
 fn is_mass_chosen(scope: &Scope, id: Id) -> bool
-    ensures { result ≡ is_mass_chosen scope.now.global.now scope.now.zone.now scope.now.selection.now id }
+    ensures { result ≡ is_mass_chosen_in scope.now id }
 {
     has_mass_choice(scope.selection) && passes(scope, id)
 }
@@ -37,14 +38,14 @@ pub(crate) fn is_named(selection: &Selection, id: Id) -> bool
 
 /// Whether it is open, and the mass choice, SELECT or GROUP names it.
 pub(crate) fn is_start(scope: &Scope, id: Id) -> bool
-    ensures { result ≡ is_start scope.now.global.now scope.now.zone.now scope.now.selection.now id }
+    ensures { result ≡ is_start_in scope.now id }
 {
     scope.is_open(id) && (is_named(scope.selection, id) || is_mass_chosen(scope, id))
 }
 
 /// The ids of SELECT and of GROUP.
 pub(crate) fn named_ids(alloc: Global, selection: &Selection) -> Result<Vec<Id>, AllocError>
-    ensures { IfOk result (λ ids. ids.items ≡ selection.now.select ++ selection.now.group) }
+    ensures { IfOk result (λ ids. ids.items ≡ named_ids selection.now) }
 {
     let mut ids = Vec::from_slice(alloc, selection.select.as_slice())?;
     ids.extend_from_slice(selection.group.as_slice())?;
@@ -63,9 +64,7 @@ fn received_ids(alloc: Global, global: &GlobalZone) -> Result<Vec<Id>, AllocErro
 
 // The ids that may be in the start: those named, or all received ones where the mass choice is made.
 fn ids_in_question(alloc: Global, scope: &Scope) -> Result<Vec<Id>, AllocError>
-    ensures { IfOk result (λ ids. (x : AnId)
-        → IsTrue (is_start scope.now.global.now scope.now.zone.now scope.now.selection.now x)
-        → Contains ids.items x) }
+    ensures { IfOk result (λ ids. (x : AnId) → IsTrue (is_start_in scope.now x) → Contains ids.items x) }
 {
     if has_mass_choice(scope.selection) {
         received_ids(alloc, scope.global)
@@ -75,8 +74,7 @@ fn ids_in_question(alloc: Global, scope: &Scope) -> Result<Vec<Id>, AllocError>
 }
 
 fn among(alloc: Global, scope: &Scope, ids: &[Id]) -> Result<Vec<Id>, AllocError>
-    ensures { IfOk result (λ start. start.items
-        ≡ filter (is_start scope.now.global.now scope.now.zone.now scope.now.selection.now) ids.now) }
+    ensures { IfOk result (λ start. start.items ≡ filter (is_start_in scope.now) ids.now) }
 {
     ids.iter()
         .filter(|id| is_start(scope, **id))
@@ -86,8 +84,7 @@ fn among(alloc: Global, scope: &Scope, ids: &[Id]) -> Result<Vec<Id>, AllocError
 
 /// The open ids that the mass choice, SELECT or GROUP names. Some may stand twice.
 pub(crate) fn start(alloc: Global, scope: &Scope) -> Result<Vec<Id>, AllocError>
-    ensures { IfOk result (λ start. (x : AnId) → Contains start.items x
-        ↔ IsTrue (is_start scope.now.global.now scope.now.zone.now scope.now.selection.now x)) }
+    ensures { IfOk result (λ start. (x : AnId) → Contains start.items x ↔ IsTrue (is_start_in scope.now x)) }
 {
     let ids = ids_in_question(alloc, scope)?;
     among(alloc, scope, ids.as_slice())

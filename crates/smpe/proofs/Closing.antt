@@ -22,6 +22,7 @@ use Rattle.store_schema.proofs.OneState.{one_state}
 use Rattle.store.specs.Causes.{LeavesFaulted}
 use Rattle.smpe_zones.specs.Kept.{kept, Keeps, IsAround, IsStopped}
 use Rattle.store.specs.View.{Tables, TablesIfOpen, Leaves}
+use Rattle.smpe_zones.proofs.Adding.{prints_none}
 use Rattle.smpe_zones.proofs.Keeping.{inventory_kept, leaves_more}
 use Rattle.smpe_upkeep.proofs.StepForms.{HasActForms, HasJobForms}
 use Rattle.smpe_closed.proofs.StepKeeps.{IsClosedState}
@@ -32,10 +33,6 @@ use Rattle.smpe_zones.specs.Definitions.{HasDefined}
 use Rattle.smpe.specs.declared.error.JobError.{JobError}
 use Rattle.smpe.specs.declared.error.JobError.TheVariants.{Memory, Store, Write}
 use Rattle.smpe.specs.Ending.{StaysClosed, EndsEarly, EndsJob}
-
--- what the definition of a zone prints
-prints_none : (s t : State) (d : ZoneDefinition) → define_zone s d ≡ Ok t → Prints s (Define d) t []
-prints_none s t d is = ([], (sym (ap (state_after s) is), refl), refl)
 
 -- tables of one database, whatever schema it is read by, stand for one inventory
 same_stands : (trees : Trees) (a b : Schema) (i j : Inventory) → StandsFor i (record { schema = a; trees = trees })

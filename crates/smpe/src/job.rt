@@ -89,7 +89,9 @@ fn run_commands<S: Alter, W: Sink>(
 }
 
 /// Performs the commands of a command file over a PTFIN and a hold file, each committed first and reported after, and
-/// answers the highest return code.
+/// answers the highest return code. A command file at fault is reported too. `Memory` comes where memory runs out,
+/// `Write` where the report can't be written, and `Store` with `Fault` where the database fails, or with `NoState`
+/// where the rows stand for no state.
 pub fn run_job<S: Alter, W: Sink>(
     alloc: Global,
     store: &mut Store<S>,

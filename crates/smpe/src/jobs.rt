@@ -111,7 +111,9 @@ fn run_one<S: Alter, W: Sink>(
     }
 }
 
-/// Runs the jobs one after the other. A refused definition does not end the list, an error does.
+/// Runs the jobs one after the other. A refused definition does not end the list, an error does: `Memory` comes where
+/// memory runs out, `Write` where the report can't be written, and `Store` with `Fault` where the database fails, or
+/// with `NoState` where the rows stand for no state.
 pub fn run_jobs<S: Alter, W: Sink>(
     alloc: Global,
     store: &mut Store<S>,

@@ -7,7 +7,8 @@ ghost use Rattle.smpe.specs.ListJob.{list_records};
 use fields::ZoneName;
 use std::alloc::{AllocError, Global};
 
-/// The command file that lists a zone: `SET BDY(zone).` and `LIST.`, a record each.
+/// The command file that lists a zone: `SET BDY(zone).` and `LIST.`, a record each. The error comes where memory runs
+/// out.
 pub fn list_commands(alloc: Global, zone: ZoneName) -> Result<Vec<u8>, AllocError>
     ensures records { IfOk result (λ file. file.items ≡ list_records zone) }
     ensures commands { IfOk result (λ file. IsCommandFile file.items (Set zone ∷ ListZone false ∷ [])) }

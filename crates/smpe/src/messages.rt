@@ -49,7 +49,7 @@ fn write_refused<W: Sink>(fault: ZoneFault, w: &mut W) -> Result<u8, WriteFault>
 }
 
 /// Writes the line of a defined or refused zone, and answers the program's status: of a job its return code, which has
-/// no line here.
+/// no line here. The error comes where the line can't be written.
 pub fn zone_line<W: Sink>(name: ZoneName, answer: &Answer, w: &mut W) -> Result<u8, WriteFault>
     ensures sends { Sent W.Sink w.old w.new (zone_text name (answer_of answer.now)) }
     ensures fault { W.has_failed w.old ≡ false → W.has_failed w.new ≡ is_err result }
@@ -63,7 +63,8 @@ pub fn zone_line<W: Sink>(name: ZoneName, answer: &Answer, w: &mut W) -> Result<
     }
 }
 
-/// Writes the line of a database that has the tables of this program's schema, and answers the program's status.
+/// Writes the line of a database that has the tables of this program's schema, and answers the program's status. The
+/// error comes where the line can't be written.
 pub fn migrated_line<W: Sink>(w: &mut W) -> Result<u8, WriteFault>
     ensures sends { Sent W.Sink w.old w.new migrated_text }
     ensures fault { W.has_failed w.new ≡ is_err result }
@@ -151,6 +152,7 @@ fn write_fault<W: Sink>(fault: &Fault<'_>, w: &mut W) -> Result<(), WriteFault>
 }
 
 /// Writes the line of a fault, and answers the program's status. The text of an error of `clap` is left to who has it.
+/// The error comes where the line can't be written.
 pub fn fault_line<W: Sink>(fault: &Fault<'_>, w: &mut W) -> Result<u8, WriteFault>
     ensures sends { Sent W.Sink w.old w.new (fault_text fault.now) }
     ensures fault { W.has_failed w.old ≡ false → W.has_failed w.new ≡ is_err result }

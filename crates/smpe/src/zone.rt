@@ -26,7 +26,9 @@ fn are_known(name: ZoneName, srel: Srel)
     prove!(srel.as_bytes().len() == 4);
 }
 
-/// Adds a zone without entries, or tells the first fault that applies.
+/// Adds a zone without entries. `Refused` has the first that applies of `NameTaken`, `WrongRelated`, `OtherSrel` and
+/// `TooMany`; `Memory` comes where memory runs out, and `Store` has `Fault` where the database fails, or `NoState`
+/// where the rows of zones stand for none.
 pub fn define_zone<S: Alter>(
     store: &mut Store<S>,
     name: ZoneName,

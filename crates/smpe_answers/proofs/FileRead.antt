@@ -7,7 +7,7 @@ use Rattle.terms.specs.declared.statement_words.StatementWord.{StatementWord}
 use Rattle.terms.specs.Types.{Text, Lines, HoldItem}
 use Rattle.terms.specs.Records.{HasRecords, rec_fault_record}
 use Rattle.terms.specs.Groups.{starts_outside}
-use Rattle.terms.specs.Statement.{Piece}
+use Rattle.terms.specs.Statement.{Piece, StFault, IsStFault}
 use Rattle.terms.specs.Statements.{Statement}
 use Rattle.terms.specs.Ptfin.{Begun, SoFar, sysmod_in, nothing, items_of, after, IsPlaced, HasValue, IsWithin}
 use Rattle.terms.specs.Ptfin.{HasGoodText}
@@ -16,7 +16,22 @@ use Rattle.terms.specs.Ptfin.{IsNextFault, IsPtfinFault}
 use Rattle.terms.specs.HoldFile.{IsGoodItem, IsItemFault, BeginsWithItems, IsHoldFile, IsNextItemFault, IsHoldFileFault}
 use Rattle.smpe_answers.specs.Answers.{IsRead}
 use Rattle.smpe_answers.proofs.CutUp.{records_read, statement_read, group_taken}
-use Rattle.terms.specs.Ptfin.{IsFileFault}
+use Rattle.terms.specs.Ptfin.{IsFileFault, IsUnknown}
+
+-- Records are no statement, or begin with no known word, or with a known one.
+no_statement : (records : Lines) → ¬ ((why : StFault) × IsStFault records why) → ¬ IsUnknown records
+    → ((w : StatementWord) (own : Option Text) (rest : List Piece) (inline : Lines)
+    → ¬ IsKnown records w own rest inline) → ⊥
+no_statement records fault unknown known = statement_read records (λ read. elim read [
+  | inr why ↦ fault why
+  | inl is ↦ unknown (record {
+    pieces = is.0;
+    inline = is.1;
+    statement = is.2;
+    unknown = λ w own rest takes.
+        known w own rest is.1 (record { pieces = is.0; statement = is.2; begins = takes });
+  })
+])
 
 -- ---- a statement of PTFIN
 
@@ -52,19 +67,9 @@ module _ (current : Option Begun) (later records : Lines) where
               ))
 
   good_or_fault : ¬ ¬ GoodOrFault
-  good_or_fault none = statement_read records (λ read. elim read [
-    | inr fault ↦ none (inr (Mc1, fault))
-    | inl is ↦ none (inr (
-      Mc2,
-      record {
-        pieces = is.0;
-        inline = is.1;
-        statement = is.2;
-        unknown = λ w own rest takes.
-            known_judged w own rest is.1 (record { pieces = is.0; statement = is.2; begins = takes }) none;
-      },
-    ))
-  ])
+  good_or_fault none =
+      no_statement records (λ fault. none (inr (Mc1, fault))) (λ unknown. none (inr (Mc2, unknown)))
+      (λ w own rest inline known. known_judged w own rest inline known none)
 
 -- ---- PTFIN
 
@@ -190,19 +195,9 @@ module _ (records : Lines) where
       ))
 
   good_item_or_fault : ¬ ¬ GoodItemOrFault
-  good_item_or_fault none = statement_read records (λ read. elim read [
-    | inr fault ↦ none (inr (Mc1, fault))
-    | inl is ↦ none (inr (
-      Mc2,
-      record {
-        pieces = is.0;
-        inline = is.1;
-        statement = is.2;
-        unknown = λ w own rest takes.
-            known_item w own rest is.1 (record { pieces = is.0; statement = is.2; begins = takes }) none;
-      },
-    ))
-  ])
+  good_item_or_fault none =
+      no_statement records (λ fault. none (inr (Mc1, fault))) (λ unknown. none (inr (Mc2, unknown)))
+      (λ w own rest inline known. known_item w own rest inline known none)
 
 abbrev BeginsItems : ℕ → Lines → Type 0
 BeginsItems n records =

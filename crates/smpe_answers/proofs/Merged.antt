@@ -22,6 +22,7 @@ use Rattle.terms.proofs.Controls.{begins_control}
 use Rattle.terms.proofs.Placing.{Rises_with_item, All_with_item}
 use Rattle.terms.proofs.RisingLists.{Rises_from_sorted}
 use Rattle.terms.proofs.Updates.{given_control, touches_cases}
+use Rattle.text80.proofs.Splitting.{given_numbered}
 use Rattle.sorted.proofs.InTurn.{in_turn_none, in_turn_some}
 use Rattle.smpe_upkeep.proofs.Lists.{line_at_itself}
 use Rattle.smpe_answers.proofs.Finitely.{is_so, so_exactly}
@@ -56,11 +57,6 @@ numbered_with (line ∷ lines) text fine numbers rises =
     numbered_with lines (with_item nat_cmp number_of text line) (All-tail IsNumberedLine line lines fine)
     (All_with_item nat_cmp number_of IsNumberedLine text line numbers (All-head IsNumberedLine line lines fine))
     (Rises_with_item nat_cmp_total number_of text line rises)
-
-given_numbered : (name : Text) (update : Lines) → IsUpdate name update → IsNumbered (given update)
-given_numbered name [] is = absurd is
-given_numbered name (line ∷ lines) is =
-    subst IsNumbered (sym (given_control line lines (begins_control _ _ line is.0))) is.1.numbered
 
 -- ---- the merge
 

@@ -32,11 +32,12 @@ pub trait Host {
     /// The text of `clap`'s error was shown on standard error.
     ghost shows: { Self → WordsError → Self → Type 0 };
 
-    /// Reads a file whole.
+    /// Reads a file whole. The error tells why it can't be read.
     fn read(&mut self, name: &str) -> io::Result<Vec<u8>>
         ensures ok { IfOk result (λ bytes. gives self.old name.now bytes.items self.new) }
         ensures err { IfErr result (λ error. withholds self.old name.now error self.new) };
 
+    /// Opens the database of this name, or makes it. The error tells why it can't be used.
     fn open(&mut self, name: &str) -> Result<Connection<Self::Disk>, sqlite::Error>
         ensures ok { IfOk result (λ conn. opens self.old name.now conn self.new) }
         ensures err { IfErr result (λ error. refuses self.old name.now error self.new) }
@@ -47,6 +48,7 @@ pub trait Host {
         ensures closed { IfSome conn.old (λ conn. closes self.old conn self.new) }
         ensures taken { conn.new ≡ None };
 
+    /// Shows the text of the error on standard error.
     fn show(&mut self, error: &clap::Error)
         ensures { shows self.old error.now self.new };
 }

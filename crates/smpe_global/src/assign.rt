@@ -9,7 +9,7 @@ ghost use Rattle.smpe_global.specs.Edits.{head_of, source_edits};
 ghost use Rattle.smpe_global.specs.Taken.{IsTaken};
 
 use crate::taken::Taken;
-use fields::{Id, Source};
+use fields::{Attest, Id, Source};
 use mcs::Assign;
 use report::{Line, Status, place_of};
 use std::alloc::{AllocError, Global};
@@ -64,6 +64,7 @@ fn assign_id(
 ) -> Result<(), AllocError>
     ensures { OnOk result (IsTaken (AssignsId source global.old id) global.old global.new taken.old taken.new) }
 {
+    global.attest();
     let place = place_of(global, id);
     let received = global.assign(source, id)?;
     write_sources(alloc, &mut taken.edits, global, id)?;

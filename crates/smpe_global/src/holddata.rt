@@ -150,7 +150,8 @@ fn take_hold_items(
     Ok(())
 }
 
-/// Takes the items of a hold file, in their order. Where memory runs out, the global zone may have some of them.
+/// Takes the items of a hold file, in their order. The error comes where memory runs out, and the global zone may have
+/// some of them then.
 pub fn receive_holds(
     alloc: Global,
     global: &mut GlobalZone,

@@ -12,7 +12,7 @@ ghost use Rattle.sysmods.specs.Edits.{EachFits, after_edits};
 ghost use Rattle.smpe_global.specs.Rejections.{AppliesAlike, IsAnswered, IsRejected};
 
 use crate::removals::write_rejected;
-use fields::{Id, IdList, ZoneName};
+use fields::{Attest, Id, IdList, ZoneName};
 use indexmap::IndexMap;
 use report::{Line, Status, place_of};
 use std::alloc::{AllocError, Global};
@@ -43,6 +43,7 @@ fn take_out(
 ) -> Result<Status, AllocError>
     ensures { IfOk result (IsAnswered zones.now global.old id global.new edits.old.items edits.new.items) }
 {
+    global.attest();
     if !global.is_received(id) {
         return Ok(Status::Refused(IdRefusal::Rj2));
     }
@@ -69,8 +70,8 @@ fn reject_one(
     Ok(())
 }
 
-/// Rejects the ids, in their order, each unless it is applied in one of the zones. Where memory runs out, some may be
-/// gone.
+/// Rejects the ids, in their order, each unless it is applied in one of the zones. The error comes where memory runs
+/// out, and some may be gone then.
 pub fn reject(
     alloc: Global,
     global: &mut GlobalZone,

@@ -12,7 +12,9 @@ use crate::values::{date, kind, optional_text, related, srel, text, zone_name};
 use clap::ArgMatches;
 use std::alloc::Global;
 
-/// Reads the words, of which the first is the program's name.
+/// Reads the words, of which the first is the program's name. `Memory` comes where memory runs out, `Clap` where `clap`
+/// refuses the words or has a text to show in place of them, as for `--help`, and `BadOperand` where a name, an SREL or
+/// a date has not its form.
 pub fn invocation<'a>(alloc: Global, words: &'a [&'a str]) -> Result<Invocation, ArgFault>
     ensures ok { IfOk result (IsRead (map (λ word. word.now) words.entry.now)) }
     ensures err { IfErr result (IsRefused (map (λ word. word.now) words.entry.now)) }

@@ -1,7 +1,10 @@
 //! A job that commits twice, and after how many of the two the zones are as they are found.
 
 use smpe::JobError;
-use smpe_play::{FIX, JOB, Step, compare, opened, run_step};
+use smpe_play::{
+    FIX, FUNCTION_INSTALLED, FUNCTION_RECEIVED, JOB, Step, compare, define_both, opened, play,
+    run_step,
+};
 use sqlite::{Alter, Connection};
 use std::alloc::Global;
 use std::test::Fail;
@@ -62,6 +65,18 @@ const ZONES: [&str; 3] = [
         ENTRY UA00024 APPLIED 24.138 SUPBY - DELBY - WAIVED -\n\
         ELEM MAC   M1       FMID HAA1100 RMID HAA1100 UMID - DISTLIB AMACLIB SYSLIB MACLIB\nRC 00\n",
 ];
+
+/// A store in which the function is installed.
+pub(crate) fn installed<S: Alter + Drop>(
+    alloc: Global,
+    conn: Connection<S>,
+) -> Result<Store<S>, Fail> {
+    let mut store = opened(alloc, conn)?;
+    define_both(alloc, &mut store)?;
+    play(alloc, &mut store, &FUNCTION_RECEIVED)?;
+    play(alloc, &mut store, &FUNCTION_INSTALLED)?;
+    Ok(store)
+}
 
 /// How many commands have their whole reports in so many bytes.
 pub(crate) fn whole_reports(len: usize) -> usize {

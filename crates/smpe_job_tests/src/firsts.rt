@@ -1,5 +1,6 @@
 //! First jobs, as text cards.
 
+use crate::checked::CHECKED;
 use smpe_play::{FIX, FUNCTION, FUNCTION_INSTALLED, FUNCTION_RECEIVED, JOB, RECEIVE, Step};
 
 /// A function with the same macro.
@@ -65,17 +66,20 @@ pub(crate) const NO_COMMAND: &[Step] = &[
     },
 ];
 
-/// A PTFIN whose length is no multiple of 80, and one whose statement has no period.
+/// A PTFIN whose length is no multiple of 80.
+pub(crate) const CUT_PTFIN: Step = Step {
+    cntl: RECEIVE,
+    ptfin: &[&[""]],
+    rest: "X",
+    report: "SET GLOBAL\nRC 00\nRECEIVE GLOBAL\nREFUSED Cm4 RECORD 2 Mc1\nRC 12\n",
+    code: 12,
+    ..JOB
+};
+
+/// That one, and one whose statement has no period.
 pub(crate) const BAD_PTFIN: &[Step] = &[
     FUNCTION_RECEIVED,
-    Step {
-        cntl: RECEIVE,
-        ptfin: &[&[""]],
-        rest: "X",
-        report: "SET GLOBAL\nRC 00\nRECEIVE GLOBAL\nREFUSED Cm4 RECORD 2 Mc1\nRC 12\n",
-        code: 12,
-        ..JOB
-    },
+    CUT_PTFIN,
     Step {
         cntl: RECEIVE,
         ptfin: &[&["++PTF(UA00001)"]],
@@ -90,23 +94,11 @@ pub(crate) const AGAIN: &[Step] = &[
     FUNCTION_RECEIVED,
     FUNCTION_INSTALLED,
     Step {
-        cntl: &[
-            "SET BDY(GLOBAL).",
-            "RECEIVE SYSMODS.",
-            "SET BDY(TGT1).",
-            "APPLY SELECT(UA00024) CHECK.",
-            "APPLY SELECT(UA00024).",
-            "APPLY SELECT(UA00024).",
-            "SET BDY(GLOBAL).",
-            "RECEIVE SYSMODS.",
-        ],
-        ptfin: &[FIX],
         report: "SET GLOBAL\nRC 00\nRECEIVE GLOBAL\nUA00024 PTF      RECEIVED\nRC 00\n\
             SET TGT1\nRC 00\nAPPLY TGT1 CHECK\nUA00024 PTF      APPLIED\nRC 00\n\
             APPLY TGT1\nUA00024 PTF      APPLIED\nRC 00\nAPPLY TGT1\nUA00024 PTF      ALREADY\nRC 04\n\
             SET GLOBAL\nRC 00\nRECEIVE GLOBAL\nUA00024 PTF      ALREADY\nRC 04\n",
-        code: 4,
-        ..JOB
+        ..CHECKED
     },
     Step {
         cntl: &["APPLY SELECT(UA00099)."],

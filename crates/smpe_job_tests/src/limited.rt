@@ -1,19 +1,10 @@
 //! A connection whose queries may take so many steps: what was reported is there, and no command is there in part.
 
-use crate::checked::{Ended, check_found, run_over};
-use smpe_play::{FUNCTION_INSTALLED, FUNCTION_RECEIVED, define_both, new_files, opened, play};
+use crate::checked::{Ended, check_found, installed, run_over};
+use smpe_play::new_files;
 use sqlite::{Alter, Connection};
 use std::alloc::Global;
 use std::test::Fail;
-
-/// The function is installed over the connection, which is given back.
-fn installed<S: Alter + Drop>(alloc: Global, conn: Connection<S>) -> Result<Connection<S>, Fail> {
-    let mut store = opened(alloc, conn)?;
-    define_both(alloc, &mut store)?;
-    play(alloc, &mut store, &FUNCTION_RECEIVED)?;
-    play(alloc, &mut store, &FUNCTION_INSTALLED)?;
-    Ok(store.close())
-}
 
 /// Runs the job over the connection with so many steps for each query.
 fn run_limited<S: Alter + Drop>(
@@ -21,7 +12,7 @@ fn run_limited<S: Alter + Drop>(
     conn: Connection<S>,
     steps: u64,
 ) -> Result<Ended, Fail> {
-    let mut conn = installed(alloc, conn)?;
+    let mut conn = installed(alloc, conn)?.close();
     conn.set_step_limit(Some(steps));
     let mut report = Vec::new(alloc);
     let (mut conn, how) = run_over(alloc, conn, &mut report)?;

@@ -1,5 +1,6 @@
 //! Jobs that look at zones by LIST and REPORT, as text cards.
 
+use crate::firsts::CUT_PTFIN;
 use smpe_play::{
     DELETER_INSTALLED, FUNCTION_INSTALLED, FUNCTION_LISTED, FUNCTION_RECEIVED, JOB, Step,
     UPDATE_INSTALLED,
@@ -9,14 +10,7 @@ use smpe_play::{
 pub(crate) const BROKEN_PTFIN: &[Step] = &[
     FUNCTION_RECEIVED,
     FUNCTION_INSTALLED,
-    Step {
-        cntl: &["SET BDY(GLOBAL).", "RECEIVE SYSMODS."],
-        ptfin: &[&[""]],
-        rest: "X",
-        report: "SET GLOBAL\nRC 00\nRECEIVE GLOBAL\nREFUSED Cm4 RECORD 2 Mc1\nRC 12\n",
-        code: 12,
-        ..JOB
-    },
+    CUT_PTFIN,
     Step {
         cntl: &["SET BDY(GLOBAL).", "LIST."],
         report: "SET GLOBAL\nRC 00\nLIST GLOBAL\nSYSMOD HAA1100 FUNCTION SOURCEID -\nRC 00\n",

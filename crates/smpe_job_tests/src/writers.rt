@@ -1,13 +1,11 @@
 //! A writer that takes so many bytes and no more: what went out is a beginning of the report, and each command before
 //! the one that it was cut in is there, with that one.
 
-use crate::checked::{AGAIN, CHECKED, REPORTS, commits_of, performed, whole_reports};
+use crate::checked::{AGAIN, CHECKED, REPORTS, commits_of, installed, performed, whole_reports};
 use fields::YyDdd;
 use report::Out;
 use smpe::{Answer, Job, JobError, run_jobs};
-use smpe_play::{
-    FIX, FUNCTION_INSTALLED, FUNCTION_RECEIVED, compare, define_both, opened, play, records,
-};
+use smpe_play::{FIX, compare, records};
 use sqlite::{Alter, Connection};
 use std::alloc::Global;
 use std::io::{self, ErrorKind, Write};
@@ -53,15 +51,6 @@ fn run_cut<S: Alter>(
         hold: b"",
     }];
     Ok(run_jobs(alloc, store, &job, &mut Out::new(writer)))
-}
-
-/// A store in which the function is installed.
-fn installed<S: Alter + Drop>(alloc: Global, conn: Connection<S>) -> Result<Store<S>, Fail> {
-    let mut store = opened(alloc, conn)?;
-    define_both(alloc, &mut store)?;
-    play(alloc, &mut store, &FUNCTION_RECEIVED)?;
-    play(alloc, &mut store, &FUNCTION_INSTALLED)?;
-    Ok(store)
 }
 
 /// The whole report.

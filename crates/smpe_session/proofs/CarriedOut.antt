@@ -1,17 +1,13 @@
 -- A planned change of a zone: with CHECK the state stays, else it is one with the zone changed.
-use Rattle.std.proofs.Common.{◌≡◌, Bool, true, false, Result, Ok, Err, subst, ap}
-use Rattle.std.specs.Prelude.{if◌then◌else◌, OnOk}
+use Rattle.std.proofs.Common.{◌≡◌, Bool, true, false, subst, ap}
+use Rattle.std.specs.Prelude.{if◌then◌else◌}
 use Rattle.std.proofs.lemmas.List.Elements.{All-weaker}
-use Rattle.sqlite.specs.Store.{Ghosts}
-use Rattle.sqlite.specs.Held.{Held}
 use Rattle.terms.specs.Types.{Text, Zone, NamedZone, Command}
 use Rattle.terms.specs.Lookups.{IsZone}
 use Rattle.zones.specs.Delta.{ZoneDelta, IsDelta, IsChanged}
 use Rattle.zones.specs.Changed.{changed_zone}
 use Rattle.zones.proofs.Changing.{zone_changes}
 use Rattle.store_schema.specs.Inventory.{IsInventory, IsZoneNamed}
-use Rattle.store.specs.BadRows.{OnlyLoads}
-use Rattle.store.proofs.NoState.{loads_then}
 use Rattle.machine.specs.Outcome.{Outcome}
 use Rattle.machine.specs.State.{State, with_zone}
 use Rattle.machine.specs.Machine.{Files, Performs}
@@ -34,9 +30,3 @@ module _ (date : Text) (files : Files) (c : Command) (s : State) (at : Session) 
       → Performs date files s c (with_zone s name new) outcome
   carries new changed unchecked = subst (λ t. Performs date files s c t outcome)
       (ap (λ b. if b then s else with_zone s name new) unchecked) (planned.performs new changed)
-
--- loads, and behind them a call that only loads where it answers
-pub answers_loads : {S X E : Type 0} (g : Ghosts S) (a b c : Held S) (r : Result X E) → OnlyLoads g a b
-    → OnOk r (OnlyLoads g b c) → OnOk r (OnlyLoads g a c)
-answers_loads g a b c (Ok x) one two = loads_then g a b c one two
-answers_loads g a b c (Err e) one two = two

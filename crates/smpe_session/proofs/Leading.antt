@@ -1,19 +1,23 @@
 -- Commands of the global zone: where they lead, and the session of that state.
-use Rattle.std.proofs.Common.{◌≡◌, ◌⊎◌, ◌∙◌, List, Option, Some, refl, sym, ap, subst, inl}
+use Rattle.std.proofs.Common.{◌≡◌, ◌⊎◌, ◌∙◌, List, Option, Some, Result, refl, sym, ap, subst, inl}
 use Rattle.std.specs.Prelude.{IsSome}
 use Rattle.std.specs.Str.{bytes_eq}
 use Rattle.indexmap.specs.IndexMap.{get}
+use Rattle.sqlite.specs.Store.{Ghosts}
+use Rattle.sqlite.specs.Held.{Held}
 use Rattle.terms.specs.Types.{Text, Global, Command}
 use Rattle.store_schema.specs.Inventory.{IsInventory}
+use Rattle.store_schema.specs.declared.error.StoreError.{StoreError}
 use Rattle.machine.specs.Outcome.{Header, Line, Outcome, Refusal, Ran, Refused, header_of}
 use Rattle.machine.specs.State.{State, global_name, misplaced}
-use Rattle.machine.specs.Machine.{Files, Performs}
+use Rattle.machine.specs.Machine.{Files, Perform, Performs}
 use Rattle.sysmods.specs.declared.edit.GlobalEdit.{GlobalEdit}
 use Rattle.sysmods.specs.Edits.{EachFits, after_edits}
 use Rattle.smpe_zones.specs.Kept.{kept}
 use Rattle.smpe_session.specs.declared.session.Session.{Session}
 use Rattle.smpe_session.specs.Sessions.{IsSessionOf}
-use Rattle.smpe_session.specs.Steps.{LeadsToGlobal}
+use Rattle.smpe_session.specs.Steps.{LeadsToGlobal, EndsCommitted, HasRun}
+use Rattle.smpe_session.proofs.Stepping.{run_committed}
 
 -- the change that is committed, and where it leads
 pub record LeadsBy (date : Text) (files : Files) (c : Command) (s : State) (new : Global) (edits : List GlobalEdit)
@@ -34,6 +38,16 @@ leads_by date files c s old new edits lines global fits after inventory leads = 
   inventory = inventory;
   leads = leads;
 }
+
+-- a commit of it
+pub run_led : {S V : Type 0} (g : Ghosts S) (old at : Held S) (date : Text) (files : Files) (c : Command) (s : State)
+    (new : Global) (edits : List GlobalEdit) (lines : V → List Line) (answer : V)
+    → LeadsBy date files c s new edits (lines answer) → (r : Result V StoreError)
+    → EndsCommitted g old at s (record s { global = new }) answer r
+    → HasRun g old at s (Perform date files c) (λ v t. LeadsToGlobal date files c s new t (lines v)) r
+run_led g old at date files c s new edits lines answer led r ended =
+    run_committed g old at s date files c (record s { global = new }) (Ran (header_of c s.boundary) (lines answer))
+    led.leads.performs (λ v t. LeadsToGlobal date files c s new t (lines v)) answer led.leads r ended
 
 -- the header under the session's boundary
 pub headed : (date : Text) (files : Files) (c : Command) (s t : State) (boundary : Option Text)

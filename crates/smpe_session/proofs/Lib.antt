@@ -11,3 +11,4 @@ mod Restored
 mod Seeking
 mod StateZones
 mod Stepping
+mod Using

@@ -1,5 +1,5 @@
 -- How loads and commits leave a store that keeps a state.
-use Rattle.std.proofs.Common.{◌≡◌, ◌⊎◌, ◌∙◌, List, [], ◌∷◌, refl, sym, ap, subst, inl, inr}
+use Rattle.std.proofs.Common.{◌≡◌, ◌⊎◌, ◌∙◌, [], ◌∷◌, refl, sym, ap, subst, inl, inr}
 use Rattle.std.specs.Prelude.{IfErr, IsErrAnd, IsErrOf, OnOk, OnErr, Result, Ok, Err}
 use Rattle.std.proofs.lemmas.Result.{err_from_is_err_and}
 use Rattle.sqlite.specs.Store.{Ghosts}
@@ -17,9 +17,9 @@ use Rattle.machine.specs.Outcome as machine
 use Rattle.machine.specs.Report.{text}
 use Rattle.std.specs.List.{flat_map}
 use Rattle.report.specs.declared.outcome.Outcome.{Outcome}
+use Rattle.report.specs.Views.{outcome_view}
 use Rattle.terms.specs.Types.{Text, Command}
 use Rattle.store.specs.declared.change.Change.{Change}
-use Rattle.store.specs.BadRows.{OnlyLoads, TellsNoState}
 use Rattle.store.specs.Changes.{Makes}
 use Rattle.store.specs.Causes.{IsLater, HasCause}
 use Rattle.smpe_zones.specs.Kept.{kept, Keeps, IsAround, IsStopped, IsFaulted}
@@ -27,17 +27,20 @@ use Rattle.store.specs.Loads.{Loads}
 use Rattle.smpe_zones.proofs.Keeping.{leaves_more, cause_more, cause_since}
 use Rattle.store.specs.View.{Tables, TablesIfOpen, MayLeave, Leaves}
 use Rattle.smpe_session.specs.declared.session.Session.{Session}
-use Rattle.smpe_session.specs.declared.session.Performed.{Performed}
-use Rattle.smpe_session.specs.Sessions.{HasBegun, HasPerformed, HasDone, told}
+use Rattle.smpe_session.specs.Sessions.{IsSessionOf, HasBegun, HasPerformed}
 use Rattle.smpe_session.specs.Steps.{Unmoved, Unsettled, EndsUnmoved, EndsUnsettled, EndsStaying, HasLoaded}
 use Rattle.smpe_session.specs.Steps.{EndsCommitted, HasRun}
 
 module _ {S : Type 0} (g : Ghosts S) (at : Held S) (s : State) where
-  pub stays_unmoved : (a : Act) → Unmoved g at s → IsStopped g at s a
+  stays_unmoved : (a : Act) → Unmoved g at s → IsStopped g at s a
   stays_unmoved a un = record { now = un.now; crash = leaves_more g at _ _ (λ c is. inl is) un.crash }
 
   pub unmoved_kept : Keeps g at s → Unmoved g at s
   unmoved_kept keeps = record { now = λ shown. (keeps.now, keeps.crash); crash = keeps.crash }
+
+  -- want of memory before the store is asked
+  pub stopped : (a : Act) → Keeps g at s → IsStopped g at s a
+  stopped a keeps = stays_unmoved a (unmoved_kept keeps)
 
   -- what the store keeps is an inventory
   pub kept_inventory : HasCleanDisk (state g at) → Keeps g at s → IsInventory (kept s)
@@ -65,54 +68,29 @@ module _ {S : Type 0} (g : Ghosts S) (old at : Held S) (s : State) where
       in subst (λ q. HasBegun g old at s q) (sym (p.1 ∙ ap Err p.2)) (begun_by e un)
 
   module _ (session : Session) (date : Text) (files : Files) (c : Command) where
-    performs_by : (e : StoreError) → EndsUnmoved g old at s e → HasPerformed g old at s session date files c (Err e)
-    performs_by Fault un = faults_unmoved (Perform date files c) un
-    performs_by OtherSchema un = un
-    performs_by NoState un = un
-    performs_by Memory un = stays_unmoved g at s (Perform date files c) un
-
-    pub performs_unmoved : (r : Result Outcome StoreError) (e : StoreError) → IsErrAnd r (λ y. y ≡ e)
-        → EndsUnmoved g old at s e → HasPerformed g old at s session date files c r
-    performs_unmoved r e is un = let p = err_from_is_err_and r is
-        in subst (λ q. HasPerformed g old at s session date files c q) (sym (p.1 ∙ ap Err p.2)) (performs_by e un)
-
-    -- want of memory before the store is asked
-    pub performs_short : (r : Result Outcome StoreError) → IsErrAnd r (λ y. y ≡ Memory) → Keeps g at s
-        → HasPerformed g old at s session date files c r
-    performs_short r is keeps = performs_unmoved r Memory is (unmoved_kept g at s keeps)
-
-    -- a command that is no LIST
-    done_told : (r : Result Outcome StoreError) → HasPerformed g old at s session date files c r
-        → HasDone g old at s session date files c (told r)
-    done_told (Ok outcome) performed = performed
-    done_told (Err error) performed = performed
-
-    pub done_by : (r : Result Outcome StoreError) (told_so : Result Performed StoreError) → told_so ≡ told r
-        → HasPerformed g old at s session date files c r → HasDone g old at s session date files c told_so
-    done_by r told_so is performed = subst (λ q. HasDone g old at s session date files c q) (sym is)
-        (done_told r performed)
-
-    -- want of memory before the store is asked
-    pub done_short : (r : Result Performed StoreError) → IsErrAnd r (λ y. y ≡ Memory) → Keeps g at s
-        → HasDone g old at s session date files c r
-    done_short r is keeps = let p = err_from_is_err_and r is
-        in subst (λ q. HasDone g old at s session date files c q) (sym (p.1 ∙ ap Err p.2))
-        (stays_unmoved g at s (Perform date files c) (unmoved_kept g at s keeps))
+    pub performs_unmoved : (e : StoreError) → EndsUnmoved g old at s e
+        → HasPerformed g old at s session date files c (Err e)
+    performs_unmoved Fault un = faults_unmoved (Perform date files c) un
+    performs_unmoved OtherSchema un = un
+    performs_unmoved NoState un = un
+    performs_unmoved Memory un = stays_unmoved g at s (Perform date files c) un
 
     -- what a command that ran part of the way ends with
-    staying_by : (e : StoreError) → EndsStaying g old at s (Perform date files c) e
+    pub performs_staying : (e : StoreError) → EndsStaying g old at s (Perform date files c) e
         → HasPerformed g old at s session date files c (Err e)
-    staying_by Fault stays = stays
-    staying_by OtherSchema stays = stays
-    staying_by NoState stays = stays
-    staying_by Memory stays = stays
+    performs_staying Fault stays = stays
+    performs_staying OtherSchema stays = stays
+    performs_staying NoState stays = stays
+    performs_staying Memory stays = stays
 
-    pub performs_staying : (r : Result Outcome StoreError) (e : StoreError) → IsErrAnd r (λ y. y ≡ e)
-        → EndsStaying g old at s (Perform date files c) e → HasPerformed g old at s session date files c r
-    performs_staying r e is stays = let p = err_from_is_err_and r is
-        in subst (λ q. HasPerformed g old at s session date files c q) (sym (p.1 ∙ ap Err p.2)) (staying_by e stays)
+    pub performs_ran : (r : Result Outcome StoreError)
+        → HasRun g old at s (Perform date files c)
+        (λ o t. Performs date files s c t (outcome_view o) × IsSessionOf t session) r
+        → HasPerformed g old at s session date files c r
+    performs_ran (Ok outcome) ran = (ran.0, ran.1.0, ran.1.1, ran.2)
+    performs_ran (Err e) stays = performs_staying e stays
 
-  -- where the commit of what a command leads to failed
+  -- the commit of what a command leads to
   module _ (date : Text) (files : Files) (c : Command) (t : State) (outcome : machine.Outcome)
       (performs : Performs date files s c t outcome) where
     around : (d : Inventory) → (d ≡ kept s) ⊎ (d ≡ kept t) → IsAround s (Perform date files c) d
@@ -122,7 +100,7 @@ module _ {S : Type 0} (g : Ghosts S) (old at : Held S) (s : State) where
     stays_unsettled : Unsettled g at s t → IsStopped g at s (Perform date files c)
     stays_unsettled un = record { now = un.now; crash = leaves_more g at _ _ around un.crash }
 
-    pub staying_unsettled : (e : StoreError) → EndsUnsettled g old at s t e
+    staying_unsettled : (e : StoreError) → EndsUnsettled g old at s t e
         → EndsStaying g old at s (Perform date files c) e
     staying_unsettled Fault (un, cause) = record {
       stopped = stays_unsettled un;
@@ -132,26 +110,11 @@ module _ {S : Type 0} (g : Ghosts S) (old at : Held S) (s : State) where
     staying_unsettled NoState un = un
     staying_unsettled Memory un = stays_unsettled un
 
-  module _ (a : Act) (LeadsTo : State → List machine.Line → Type 0) {V : Type 0} (lines : V → List machine.Line) where
-    pub run_staying : (r : Result V StoreError) (e : StoreError) → IsErrAnd r (λ y. y ≡ e) → EndsStaying g old at s a e
-        → HasRun g old at s a LeadsTo lines r
-    run_staying r e is stays = let p = err_from_is_err_and r is
-        in subst (λ q. HasRun g old at s a LeadsTo lines q) (sym (p.1 ∙ ap Err p.2)) stays
-
-    -- want of memory before the store is asked
-    pub run_short : (r : Result V StoreError) → IsErrAnd r (λ y. y ≡ Memory) → Keeps g at s
-        → HasRun g old at s a LeadsTo lines r
-    run_short r is keeps = run_staying r Memory is (stays_unmoved g at s a (unmoved_kept g at s keeps))
-
-  pub loaded_err : {X : Type 0} (Found : X → Type 0) (r : Result X StoreError) (e : StoreError)
-      → IsErrAnd r (λ y. y ≡ e) → EndsUnmoved g old at s e → HasLoaded g old at s Found r
-  loaded_err Found r e is un = let p = err_from_is_err_and r is
-      in subst (λ q. HasLoaded g old at s Found q) (sym (p.1 ∙ ap Err p.2)) un
-
-  pub committed_err : (t : State) (r : Result Unit StoreError) (e : StoreError) → IsErrAnd r (λ y. y ≡ e)
-      → EndsUnsettled g old at s t e → EndsCommitted g old at s t r
-  committed_err t r e is un = let p = err_from_is_err_and r is
-      in subst (λ q. EndsCommitted g old at s t q) (sym (p.1 ∙ ap Err p.2)) un
+    pub run_committed : {V : Type 0} (LeadsTo : V → State → Type 0) (answer : V) → LeadsTo answer t
+        → (r : Result V StoreError) → EndsCommitted g old at s t answer r
+        → HasRun g old at s (Perform date files c) LeadsTo r
+    run_committed LeadsTo answer leads (Ok v) done = (t, subst (λ x. LeadsTo x t) (sym done.0) leads, done.1)
+    run_committed LeadsTo answer leads (Err e) un = staying_unsettled e un
 
 -- a call that is behind others of one that began at `old`
 module _ {S : Type 0} (g : Ghosts S) (old mid at : Held S) (s : State) (later : IsLater g old mid) where
@@ -177,20 +140,6 @@ module _ {S : Type 0} (g : Ghosts S) (old mid at : Held S) (s : State) (later : 
   performs_since session date files c (Err OtherSchema) none = none
   performs_since session date files c (Err NoState) none = none
   performs_since session date files c (Err Memory) stopped = stopped
-
--- no state is told of a command but where it ended so
-pub told_none : {S : Type 0} (g : Ghosts S) (old new : Held S) (r : Result Outcome StoreError)
-    (told_so : Result Performed StoreError) → told_so ≡ told r → TellsNoState g old new r
-    → TellsNoState g old new told_so
-told_none g old new (Ok outcome) told_so is none clean bad = absurd (cc (is, bad))
-told_none g old new (Err e) told_so is none clean bad = none clean (cc (is, bad))
-
--- nor loads alone, but where it was so
-pub told_loads : {S : Type 0} (g : Ghosts S) (old new : Held S) (r : Result Outcome StoreError)
-    (told_so : Result Performed StoreError) → told_so ≡ told r → OnOk r (OnlyLoads g old new)
-    → OnOk told_so (OnlyLoads g old new)
-told_loads g old new (Ok outcome) told_so is loads = subst (λ q. OnOk q (OnlyLoads g old new)) (sym is) loads
-told_loads g old new (Err e) told_so is loads = subst (λ q. OnOk q (OnlyLoads g old new)) (sym is) loads
 
 module _ {S : Type 0} (g : Ghosts S) (old new : Held S) (s : State) where
   -- what a load leaves
@@ -238,7 +187,7 @@ module _ {S : Type 0} (g : Ghosts S) (old new : Held S) (s : State) where
       ];
     }
 
-    pub committed : (result : Result Unit StoreError)
+    pub committed : (result : Result (Unit {0}) StoreError)
         → OnOk result ((i j : Inventory) → Makes change i j → IsInventory j → Tables g old i → Tables g new j)
         → OnOk result ((i j : Inventory) → Makes change i j → IsInventory j → Tables g old i
         → Leaves g new (λ c. c ≡ j))
@@ -246,11 +195,14 @@ module _ {S : Type 0} (g : Ghosts S) (old new : Held S) (s : State) where
         → CommitsOnce
         → IfErr result (λ e. (e ≡ Fault) ⊎ (e ≡ Memory))
         → (IsErrOf result Fault → HasCause g old new (λ c. (c ≡ kept s) ⊎ (c ≡ kept t)))
-        → EndsCommitted g old new s t result
-    committed (Ok x) ok durable err lost which cause = record {
-      now = ok (kept s) (kept t) makes is keeps.now;
-      crash = durable (kept s) (kept t) makes is keeps.now;
-    }
+        → EndsCommitted g old new s t tt result
+    committed (Ok x) ok durable err lost which cause = (
+      refl,
+      record {
+        now = ok (kept s) (kept t) makes is keeps.now;
+        crash = durable (kept s) (kept t) makes is keeps.now;
+      },
+    )
     committed (Err Fault) ok durable err lost which cause = (unsettled lost (err (kept s) keeps.now), cause refl)
     committed (Err OtherSchema) ok durable err lost which cause = elim which [
       | inl e ↦ absurd (cc e)

@@ -3,4 +3,5 @@ pub mod Received
 pub mod Restored
 pub mod Sessions
 pub mod Steps
+pub mod Uses
 pub mod Writing

@@ -45,10 +45,10 @@ module _ {S : Type 0} (g : Ghosts S) (old at : Held S) (s : State) where
   HasLoaded Found (Ok x) = Found x × Keeps g at s
   HasLoaded Found (Err error) = EndsUnmoved error
 
-  -- The tables stand for t.
-  abbrev pub EndsCommitted : State → Result Unit StoreError → Type 0
-  EndsCommitted t (Ok x) = Keeps g at t
-  EndsCommitted t (Err error) = EndsUnsettled t error
+  -- The answer is this one, and the tables stand for t.
+  abbrev pub EndsCommitted : {X : Type 0} → State → X → Result X StoreError → Type 0
+  EndsCommitted t answer (Ok x) = (x ≡ answer) × Keeps g at t
+  EndsCommitted t answer (Err error) = EndsUnsettled t error
 
 -- whether SET may name it
 abbrev pub is_known : List NamedZone → Text → Bool
@@ -71,17 +71,17 @@ pub record HasAllZones (s : State) (at : Session) : Type 0 where
   pub session : IsSessionOf s at
   pub zones : (name : Text) → get bytes_eq at.zones name ≡ zone_named s.zones name
 
--- How a command ends that runs where it may, before its outcome is made of its lines.
+-- How a command ends that runs where it may, before its outcome is made of what it answers.
 module _ {S : Type 0} (g : Ghosts S) (old at : Held S) (s : State) (a : Act) where
   abbrev pub EndsStaying : StoreError → Type 0
   EndsStaying Fault = IsFaulted g old at s a
   EndsStaying Memory = IsStopped g at s a
   EndsStaying _ = ⊥
 
-  -- The command leads to a state with these lines, and the tables stand for it.
-  abbrev pub HasRun : (State → List Line → Type 0) → {V : Type 0} → (V → List Line) → Result V StoreError → Type 0
-  HasRun LeadsTo lines (Ok v) = (t : State) × LeadsTo t (lines v) × Keeps g at t
-  HasRun LeadsTo lines (Err error) = EndsStaying error
+  -- The command leads so to a state with this answer, and the tables stand for it.
+  abbrev pub HasRun : {V : Type 0} → (V → State → Type 0) → Result V StoreError → Type 0
+  HasRun LeadsTo (Ok v) = (t : State) × LeadsTo v t × Keeps g at t
+  HasRun LeadsTo (Err error) = EndsStaying error
 
 -- The command leads so to a state that has this global zone.
 pub record LeadsToGlobal (date : Text) (files : Files) (c : Command) (s : State) (new : Global) (t : State)

@@ -1,21 +1,19 @@
 //! APPLY and ACCEPT: what is selected comes into the zone of the boundary.
-ghost use Rattle.std.specs.Prelude.{◌≡◌, ◌≤◌, IfOk, OnOk, IsTrue, map, option_copied};
+ghost use Rattle.std.specs.Prelude.{◌≡◌, IfOk, IsTrue, map, option_copied, ⊤};
 ghost use Rattle.std.specs.Option.{option_and_then};
 ghost use Rattle.std.specs.Str.{bytes_eq};
 ghost use Rattle.indexmap.specs.IndexMap.{get};
-ghost use Rattle.sqlite.specs.Held.{state};
-ghost use Rattle.sqlite.specs.State.{HasCleanDisk};
 ghost use Rattle.terms.specs.Types.{Install as AnInstall};
 ghost use Rattle.store_schema.specs.Inventory.{IsInventory};
 ghost use Rattle.machine.specs.Outcome.{header_of};
 ghost use Rattle.machine.specs.State.{State};
 ghost use Rattle.machine.specs.Machine.{Files};
 ghost use Rattle.report.specs.Views.{line_view, header_view};
-ghost use Rattle.store.specs.BadRows.{OnlyLoads, TellsNoState};
-ghost use Rattle.smpe_zones.specs.Kept.{kept, Keeps};
+ghost use Rattle.smpe_zones.specs.Kept.{kept};
 ghost use Rattle.smpe_session.specs.Sessions.{IsSessionOf, HasPerformed};
 ghost use Rattle.smpe_session.specs.Steps.{HasLoaded};
 ghost use Rattle.smpe_session.specs.Places.{install_command, HasRelated, HasPlace, IsPlan};
+ghost use Rattle.smpe_session.specs.Uses.{UsesStore};
 
 use crate::lines::or_nothing;
 use crate::load::load_heads;
@@ -106,15 +104,9 @@ impl Session {
         &mut self,
         store: &mut Store<S>,
     ) -> Result<Option<ZoneName>, StoreError>
-        ensures clean { HasCleanDisk (state S.Store store.new) → HasCleanDisk (state S.Store store.old) }
-        ensures faults { (state S.Store store.old).faults ≤ (state S.Store store.new).faults }
-        ensures limit { store.new.step_limit ≡ store.old.step_limit }
-        ensures loads { OnOk result (OnlyLoads S.Store store.old store.new) }
-        ensures none { TellsNoState S.Store store.old store.new result }
-        ensures ended { HasCleanDisk (state S.Store store.new) → (s : State) → IsSessionOf s self.old
-            → Keeps S.Store store.old s
+        ensures { UsesStore S.Store store.old store.new ⊤ (λ s ended. IsSessionOf s self.old
             → HasLoaded S.Store store.old store.new s (λ related. HasRelated s self.new ZoneKind.Distribution related)
-            result }
+            ended) result }
     {
         let Some(name) = self.boundary else {
             return Ok(None);
@@ -133,14 +125,8 @@ impl Session {
         store: &mut Store<S>,
         kind: ZoneKind,
     ) -> Result<Option<ZoneName>, StoreError>
-        ensures clean { HasCleanDisk (state S.Store store.new) → HasCleanDisk (state S.Store store.old) }
-        ensures faults { (state S.Store store.old).faults ≤ (state S.Store store.new).faults }
-        ensures limit { store.new.step_limit ≡ store.old.step_limit }
-        ensures loads { OnOk result (OnlyLoads S.Store store.old store.new) }
-        ensures none { TellsNoState S.Store store.old store.new result }
-        ensures ended { HasCleanDisk (state S.Store store.new) → (s : State) → IsSessionOf s self.old
-            → Keeps S.Store store.old s
-            → HasLoaded S.Store store.old store.new s (λ related. HasRelated s self.new kind related) result }
+        ensures { UsesStore S.Store store.old store.new ⊤ (λ s ended. IsSessionOf s self.old
+            → HasLoaded S.Store store.old store.new s (λ related. HasRelated s self.new kind related) ended) result }
     {
         match kind {
             ZoneKind::Target => Ok(None),
@@ -157,16 +143,10 @@ impl Session {
         kind: ZoneKind,
         install: &Install,
     ) -> Result<Outcome<'static>, StoreError>
-        ensures clean { HasCleanDisk (state S.Store store.new) → HasCleanDisk (state S.Store store.old) }
-        ensures faults { (state S.Store store.old).faults ≤ (state S.Store store.new).faults }
-        ensures limit { store.new.step_limit ≡ store.old.step_limit }
-        ensures loads { IsTrue install.now.check → OnOk result (OnlyLoads S.Store store.old store.new) }
-        ensures none { TellsNoState S.Store store.old store.new result }
-        ensures ended { HasCleanDisk (state S.Store store.new) → (s : State) → IsSessionOf s self.old
-            → Keeps S.Store store.old s
+        ensures { UsesStore S.Store store.old store.new (IsTrue install.now.check) (λ s ended. IsSessionOf s self.old
             → (files : Files)
-            → HasPerformed S.Store store.old store.new s self.new date files (install_command kind install.now)
-            result }
+            → HasPerformed S.Store store.old store.new s self.new date files
+            (install_command kind install.now) ended) result }
     {
         let header = header(kind, self.boundary, install.check);
         let related = self.seek_related(store, kind)?;

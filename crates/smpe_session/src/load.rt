@@ -1,16 +1,14 @@
 //! What a command asks of the store, as steps between states.
-ghost use Rattle.std.specs.Prelude.{◌≡◌, ◌≤◌, map};
-ghost use Rattle.sqlite.specs.Held.{state};
-ghost use Rattle.sqlite.specs.State.{HasCleanDisk};
+ghost use Rattle.std.specs.Prelude.{◌≡◌, map, ⊤};
 ghost use Rattle.machine.specs.State.{State, zone_named};
 ghost use Rattle.store_rows.specs.Reads.{OnlyReads};
 ghost use Rattle.store_schema.specs.Inventory.{IsInventory};
 ghost use Rattle.store_schema.specs.Tables.{store_schema};
 ghost use Rattle.store_zone_loads.specs.Found.{head_of};
-ghost use Rattle.store.specs.BadRows.{TellsNoState};
 ghost use Rattle.store.specs.Changes.{Makes};
-ghost use Rattle.smpe_zones.specs.Kept.{kept, Keeps};
+ghost use Rattle.smpe_zones.specs.Kept.{kept};
 ghost use Rattle.smpe_session.specs.Steps.{HasLoaded, EndsCommitted};
+ghost use Rattle.smpe_session.specs.Uses.{UsesStore};
 
 use fields::ZoneName;
 use sqlite::Alter;
@@ -19,12 +17,8 @@ use sysmods::GlobalZone;
 use zones::Zone;
 
 pub(crate) fn load_global<S: Alter>(store: &mut Store<S>) -> Result<GlobalZone, StoreError>
-    ensures clean { HasCleanDisk (state S.Store store.new) → HasCleanDisk (state S.Store store.old) }
-    ensures faults { (state S.Store store.old).faults ≤ (state S.Store store.new).faults }
-    ensures limit { store.new.step_limit ≡ store.old.step_limit }
-    ensures none { TellsNoState S.Store store.old store.new result }
-    ensures ended { HasCleanDisk (state S.Store store.new) → (s : State) → Keeps S.Store store.old s
-        → HasLoaded S.Store store.old store.new s (λ global. global ≡ s.global) result }
+    ensures uses { UsesStore S.Store store.old store.new ⊤
+        (λ s ended. HasLoaded S.Store store.old store.new s (λ global. global ≡ s.global) ended) result }
     ensures reads { OnlyReads S.Store store_schema StoreError.NoState StoreError.Fault store.old store.new result }
 {
     store.load_global()
@@ -34,53 +28,37 @@ pub(crate) fn load_zone<S: Alter>(
     store: &mut Store<S>,
     name: ZoneName,
 ) -> Result<Option<Zone>, StoreError>
-    ensures clean { HasCleanDisk (state S.Store store.new) → HasCleanDisk (state S.Store store.old) }
-    ensures faults { (state S.Store store.old).faults ≤ (state S.Store store.new).faults }
-    ensures limit { store.new.step_limit ≡ store.old.step_limit }
-    ensures none { TellsNoState S.Store store.old store.new result }
-    ensures ended { HasCleanDisk (state S.Store store.new) → (s : State) → Keeps S.Store store.old s
-        → HasLoaded S.Store store.old store.new s (λ zone. zone ≡ zone_named s.zones name) result }
-    ensures reads { OnlyReads S.Store store_schema StoreError.NoState StoreError.Fault store.old store.new result }
+    ensures { UsesStore S.Store store.old store.new ⊤
+        (λ s ended. HasLoaded S.Store store.old store.new s (λ zone. zone ≡ zone_named s.zones name) ended) result }
 {
     store.load_zone(name)
 }
 
 pub(crate) fn load_names<S: Alter>(store: &mut Store<S>) -> Result<Vec<ZoneName>, StoreError>
-    ensures clean { HasCleanDisk (state S.Store store.new) → HasCleanDisk (state S.Store store.old) }
-    ensures faults { (state S.Store store.old).faults ≤ (state S.Store store.new).faults }
-    ensures limit { store.new.step_limit ≡ store.old.step_limit }
-    ensures none { TellsNoState S.Store store.old store.new result }
-    ensures ended { HasCleanDisk (state S.Store store.new) → (s : State) → Keeps S.Store store.old s
-        → HasLoaded S.Store store.old store.new s (λ names. names.items ≡ map (λ z. z.name) s.zones) result }
-    ensures reads { OnlyReads S.Store store_schema StoreError.NoState StoreError.Fault store.old store.new result }
+    ensures { UsesStore S.Store store.old store.new ⊤
+        (λ s ended. HasLoaded S.Store store.old store.new s (λ names. names.items ≡ map (λ z. z.name) s.zones) ended)
+        result }
 {
     store.zone_names()
 }
 
 pub(crate) fn load_heads<S: Alter>(store: &mut Store<S>) -> Result<Vec<ZoneHead>, StoreError>
-    ensures clean { HasCleanDisk (state S.Store store.new) → HasCleanDisk (state S.Store store.old) }
-    ensures faults { (state S.Store store.old).faults ≤ (state S.Store store.new).faults }
-    ensures limit { store.new.step_limit ≡ store.old.step_limit }
-    ensures none { TellsNoState S.Store store.old store.new result }
-    ensures ended { HasCleanDisk (state S.Store store.new) → (s : State) → Keeps S.Store store.old s
-        → HasLoaded S.Store store.old store.new s (λ heads. heads.items ≡ map head_of s.zones) result }
-    ensures reads { OnlyReads S.Store store_schema StoreError.NoState StoreError.Fault store.old store.new result }
+    ensures { UsesStore S.Store store.old store.new ⊤
+        (λ s ended. HasLoaded S.Store store.old store.new s (λ heads. heads.items ≡ map head_of s.zones) ended)
+        result }
 {
     store.zone_heads()
 }
 
-/// Commits what leads from one state to another.
-pub(crate) fn commit_change<S: Alter>(
+/// Commits what leads from one state to another, and answers what comes of that.
+pub(crate) fn commit_change<S: Alter, T: Drop>(
     store: &mut Store<S>,
     change: &Change,
-) -> Result<(), StoreError>
-    ensures clean { HasCleanDisk (state S.Store store.new) → HasCleanDisk (state S.Store store.old) }
-    ensures faults { (state S.Store store.old).faults ≤ (state S.Store store.new).faults }
-    ensures limit { store.new.step_limit ≡ store.old.step_limit }
-    ensures none { TellsNoState S.Store store.old store.new result }
-    ensures ended { HasCleanDisk (state S.Store store.new) → (s t : State) → Keeps S.Store store.old s
-        → Makes change.now (kept s) (kept t) → IsInventory (kept t)
-        → EndsCommitted S.Store store.old store.new s t result }
+    answer: T,
+) -> Result<T, StoreError>
+    ensures { UsesStore S.Store store.old store.new ⊥ (λ s ended. (t : State) → Makes change.now (kept s) (kept t)
+        → IsInventory (kept t) → EndsCommitted S.Store store.old store.new s t answer ended) result }
 {
-    store.commit(change)
+    store.commit(change)?;
+    Ok(answer)
 }

@@ -1,19 +1,15 @@
 //! What an APPLY, ACCEPT or RESTORE comes to, and how it is carried out.
-ghost use Rattle.std.specs.Prelude.{◌≡◌, ◌≤◌, IsTrue, OnOk, Some, map};
+ghost use Rattle.std.specs.Prelude.{◌≡◌, IsTrue, OnOk, Some, map};
 ghost use Rattle.std.specs.Str.{bytes_eq};
 ghost use Rattle.indexmap.specs.IndexMap.{get, Updates};
-ghost use Rattle.sqlite.specs.Held.{state};
-ghost use Rattle.sqlite.specs.State.{HasCleanDisk};
 ghost use Rattle.terms.specs.Types.{Text, Command, Zone as AZone};
 ghost use Rattle.zones.specs.Delta.{IsChanged};
 ghost use Rattle.machine.specs.Machine.{Files};
 ghost use Rattle.machine.specs.Outcome.{Ran};
-ghost use Rattle.machine.specs.State.{State};
 ghost use Rattle.report.specs.Views.{line_view, header_view};
-ghost use Rattle.store.specs.BadRows.{OnlyLoads, TellsNoState};
-ghost use Rattle.smpe_zones.specs.Kept.{Keeps};
 ghost use Rattle.smpe_session.specs.Sessions.{IsSessionOf, HasPerformed};
 ghost use Rattle.smpe_session.specs.Places.{ChangesZone};
+ghost use Rattle.smpe_session.specs.Uses.{UsesStore};
 
 use crate::load::commit_change;
 use crate::session::Session;
@@ -60,17 +56,11 @@ impl Session {
         name: ZoneName,
         planned: Planned,
     ) -> Result<Outcome<'static>, StoreError>
-        ensures clean { HasCleanDisk (state S.Store store.new) → HasCleanDisk (state S.Store store.old) }
-        ensures faults { (state S.Store store.old).faults ≤ (state S.Store store.new).faults }
-        ensures limit { store.new.step_limit ≡ store.old.step_limit }
-        ensures loads { IsTrue header.check → OnOk result (OnlyLoads S.Store store.old store.new) }
-        ensures none { TellsNoState S.Store store.old store.new result }
-        ensures ended { HasCleanDisk (state S.Store store.new) → (s : State) → IsSessionOf s self.old
-            → Keeps S.Store store.old s
+        ensures { UsesStore S.Store store.old store.new (IsTrue header.check) (λ s ended. IsSessionOf s self.old
             → (date : Text) (files : Files) (c : Command)
             → ChangesZone date files c s self.old name planned.delta header.check
             (Ran (header_view header) (map line_view planned.lines.items))
-            → HasPerformed S.Store store.old store.new s self.new date files c result }
+            → HasPerformed S.Store store.old store.new s self.new date files c ended) result }
     {
         let Planned { delta, lines } = planned;
         if header.check {
@@ -78,7 +68,10 @@ impl Session {
             return Ok(Outcome::Ran { header, lines });
         }
         change_zone(alloc, &mut self.zones, name, &delta)?;
-        commit_change(store, &Change::Zone(name, delta))?;
-        Ok(Outcome::Ran { header, lines })
+        commit_change(
+            store,
+            &Change::Zone(name, delta),
+            Outcome::Ran { header, lines },
+        )
     }
 }

@@ -1,22 +1,19 @@
 //! RECEIVE: the items of PTFIN and of the hold file come into the global zone.
-ghost use Rattle.std.specs.Prelude.{◌≡◌, ◌≤◌, ◌++◌, All, None, IfOk, IfSome, OnOk, map};
-ghost use Rattle.sqlite.specs.Held.{state};
-ghost use Rattle.sqlite.specs.State.{HasCleanDisk};
+ghost use Rattle.std.specs.Prelude.{◌≡◌, ◌++◌, All, None, IfOk, IfSome, OnOk, map};
 ghost use Rattle.terms.specs.Types.{Text, ReceiveWhat as AWhat, Receive};
 ghost use Rattle.terms.specs.Forms.{IsSource};
 ghost use Rattle.terms.specs.Ptfin.{IsPtfin};
 ghost use Rattle.terms.specs.HoldFile.{IsHoldFile};
-ghost use Rattle.machine.specs.State.{State, misplaced};
+ghost use Rattle.machine.specs.State.{misplaced};
 ghost use Rattle.machine.specs.Machine.{Files as AllFiles, HasItems, Perform};
 ghost use Rattle.mcs.specs.Files.{items};
 ghost use Rattle.mcs.specs.HoldItems.{items as hold_items};
 ghost use Rattle.smpe_global.specs.External.{IsExternal};
 ghost use Rattle.report.specs.Views.{line_view};
-ghost use Rattle.store.specs.BadRows.{TellsNoState};
-ghost use Rattle.smpe_zones.specs.Kept.{Keeps};
 ghost use Rattle.smpe_session.specs.Sessions.{IsSessionOf, HasPerformed};
 ghost use Rattle.smpe_session.specs.Steps.{HasRun, LeadsToGlobal};
 ghost use Rattle.smpe_session.specs.Received.{AreTaken};
+ghost use Rattle.smpe_session.specs.Uses.{UsesStore};
 
 use crate::boundary::unless_global;
 use crate::files::Files;
@@ -75,22 +72,16 @@ fn take_items<S: Alter>(
     source: Option<Source>,
 ) -> Result<Vec<Line>, StoreError>
     requires { All IsExternal (hold_items found.holds.items) }
-    ensures clean { HasCleanDisk (state S.Store store.new) → HasCleanDisk (state S.Store store.old) }
-    ensures faults { (state S.Store store.old).faults ≤ (state S.Store store.new).faults }
-    ensures limit { store.new.step_limit ≡ store.old.step_limit }
-    ensures none { TellsNoState S.Store store.old store.new result }
-    ensures ended { HasCleanDisk (state S.Store store.new) → (s : State) → s.global ≡ global.old
-        → Keeps S.Store store.old s
+    ensures { UsesStore S.Store store.old store.new ⊥ (λ s ended. s.global ≡ global.old
         → (date : Text) (files : AllFiles) (what : AWhat) → misplaced s (Receive what) ≡ None → what.source ≡ source
         → HasItems IsPtfin what.sysmods files.ptfin (items found.items.items)
         → HasItems IsHoldFile what.holddata files.holds (hold_items found.holds.items)
         → HasRun S.Store store.old store.new s (Perform date files (Receive what))
-        (LeadsToGlobal date files (Receive what) s global.new) (λ v. map line_view v.items) result }
+        (λ v t. LeadsToGlobal date files (Receive what) s global.new t (map line_view v.items)) ended) result }
 {
     let Taken { edits, lines } = take_found(alloc, global, found, source)?;
     let lines = or_nothing(lines)?;
-    commit_change(store, &Change::Global(edits))?;
-    Ok(lines)
+    commit_change(store, &Change::Global(edits), lines)
 }
 
 impl Session {
@@ -101,14 +92,8 @@ impl Session {
         files: &Files<'_>,
         what: &ReceiveWhat,
     ) -> Result<Outcome<'static>, StoreError>
-        ensures clean { HasCleanDisk (state S.Store store.new) → HasCleanDisk (state S.Store store.old) }
-        ensures faults { (state S.Store store.old).faults ≤ (state S.Store store.new).faults }
-        ensures limit { store.new.step_limit ≡ store.old.step_limit }
-        ensures none { TellsNoState S.Store store.old store.new result }
-        ensures ended { HasCleanDisk (state S.Store store.new) → (s : State) → IsSessionOf s self.old
-            → Keeps S.Store store.old s
-            → (date : Text)
-            → HasPerformed S.Store store.old store.new s self.new date files.now (Receive what.now) result }
+        ensures { UsesStore S.Store store.old store.new ⊥ (λ s ended. IsSessionOf s self.old → (date : Text)
+            → HasPerformed S.Store store.old store.new s self.new date files.now (Receive what.now) ended) result }
     {
         let header = Header {
             word: CommandWord::Receive,

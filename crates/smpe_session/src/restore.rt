@@ -1,20 +1,18 @@
 //! RESTORE: SYSMODs go off the target zone of the boundary, back to what its distribution zone holds.
-ghost use Rattle.std.specs.Prelude.{◌≡◌, ◌≤◌, IsTrue, OnOk};
+ghost use Rattle.std.specs.Prelude.{◌≡◌, IsTrue, ⊤};
 ghost use Rattle.std.specs.Option.{option_and_then};
 ghost use Rattle.std.specs.Str.{bytes_eq};
 ghost use Rattle.indexmap.specs.IndexMap.{get};
-ghost use Rattle.sqlite.specs.Held.{state};
-ghost use Rattle.sqlite.specs.State.{HasCleanDisk};
 ghost use Rattle.terms.specs.Types.{Text, Restore};
 ghost use Rattle.cntl.specs.Views.{restore_list_of};
 ghost use Rattle.store_schema.specs.Inventory.{IsInventory};
 ghost use Rattle.machine.specs.State.{State};
 ghost use Rattle.machine.specs.Machine.{Files};
-ghost use Rattle.store.specs.BadRows.{OnlyLoads, TellsNoState};
-ghost use Rattle.smpe_zones.specs.Kept.{kept, Keeps};
+ghost use Rattle.smpe_zones.specs.Kept.{kept};
 ghost use Rattle.smpe_session.specs.Sessions.{IsSessionOf, HasPerformed};
 ghost use Rattle.smpe_session.specs.Steps.{HasLoaded};
 ghost use Rattle.smpe_session.specs.Restored.{HasAccepted, HasTarget};
+ghost use Rattle.smpe_session.specs.Uses.{UsesStore};
 
 use crate::planned::Planned;
 use crate::session::Session;
@@ -53,14 +51,8 @@ impl Session {
         &mut self,
         store: &mut Store<S>,
     ) -> Result<Option<ZoneName>, StoreError>
-        ensures clean { HasCleanDisk (state S.Store store.new) → HasCleanDisk (state S.Store store.old) }
-        ensures faults { (state S.Store store.old).faults ≤ (state S.Store store.new).faults }
-        ensures limit { store.new.step_limit ≡ store.old.step_limit }
-        ensures loads { OnOk result (OnlyLoads S.Store store.old store.new) }
-        ensures none { TellsNoState S.Store store.old store.new result }
-        ensures ended { HasCleanDisk (state S.Store store.new) → (s : State) → IsSessionOf s self.old
-            → Keeps S.Store store.old s
-            → HasLoaded S.Store store.old store.new s (λ accepted. HasAccepted s self.new accepted) result }
+        ensures { UsesStore S.Store store.old store.new ⊤ (λ s ended. IsSessionOf s self.old
+            → HasLoaded S.Store store.old store.new s (λ accepted. HasAccepted s self.new accepted) ended) result }
     {
         let Some(accepted) = self.related_name() else {
             return Ok(None);
@@ -95,15 +87,10 @@ impl Session {
         list: &RestoreList,
         check: bool,
     ) -> Result<Outcome<'static>, StoreError>
-        ensures clean { HasCleanDisk (state S.Store store.new) → HasCleanDisk (state S.Store store.old) }
-        ensures faults { (state S.Store store.old).faults ≤ (state S.Store store.new).faults }
-        ensures limit { store.new.step_limit ≡ store.old.step_limit }
-        ensures loads { IsTrue check → OnOk result (OnlyLoads S.Store store.old store.new) }
-        ensures none { TellsNoState S.Store store.old store.new result }
-        ensures ended { HasCleanDisk (state S.Store store.new) → (s : State) → IsSessionOf s self.old
-            → Keeps S.Store store.old s
-            → (date : Text) (files : Files) → HasPerformed S.Store store.old store.new s self.new date files
-            (Restore (restore_list_of list.now) check) result }
+        ensures { UsesStore S.Store store.old store.new (IsTrue check) (λ s ended. IsSessionOf s self.old
+            → (date : Text) (files : Files)
+            → HasPerformed S.Store store.old store.new s self.new date files (Restore (restore_list_of list.now) check)
+            ended) result }
     {
         let header = Header {
             word: CommandWord::Restore,

@@ -9,6 +9,7 @@ ghost use Rattle.store_schema.specs.Tables.{store_schema};
 ghost use Rattle.store.specs.BadRows.{OnlyLoads, TellsNoState};
 ghost use Rattle.smpe_zones.specs.Kept.{Keeps};
 ghost use Rattle.smpe_session.specs.Sessions.{IsSessionOf, HasBegun, HasDone, LooksOnly, told};
+ghost use Rattle.smpe_session.specs.Uses.{UsesStore};
 ghost use Rattle.smpe_session.specs.Writing.{WritesNothing};
 
 use crate::files::Files;
@@ -88,6 +89,24 @@ impl Session {
         ensures ended { HasCleanDisk (state S.Store store.new) → (s : State) → IsSessionOf s self.old
             → Keeps S.Store store.old s
             → HasDone S.Store store.old store.new s self.new date files.now (command_of command.now) result }
+        ensures looks { LooksOnly (command_of command.now) → (store.new ≡ store.old)
+            × ¬ IsErrOf result StoreError.Fault }
+    {
+        self.run(alloc, store, date, files, command)
+    }
+
+    /// The command, as `perform` has it.
+    fn run<S: Alter>(
+        &mut self,
+        alloc: Global,
+        store: &mut Store<S>,
+        date: YyDdd,
+        files: &Files<'_>,
+        command: &Command,
+    ) -> Result<Performed, StoreError>
+        ensures uses { UsesStore S.Store store.old store.new (WritesNothing (command_of command.now))
+            (λ s ended. IsSessionOf s self.old → HasDone S.Store store.old store.new s self.new date files.now
+            (command_of command.now) ended) result }
         ensures looks { LooksOnly (command_of command.now) → (store.new ≡ store.old)
             × ¬ IsErrOf result StoreError.Fault }
     {

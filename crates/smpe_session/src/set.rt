@@ -1,16 +1,12 @@
 //! SET: the boundary is another zone.
-ghost use Rattle.std.specs.Prelude.{◌≡◌, ◌≤◌, is_some, IsSome, OnOk, OnErr, None, Some};
+ghost use Rattle.std.specs.Prelude.{◌≡◌, is_some, IsSome, OnOk, OnErr, None, Some, ⊤};
 ghost use Rattle.std.specs.Str.{bytes_eq};
 ghost use Rattle.indexmap.specs.IndexMap.{get, Updates};
-ghost use Rattle.sqlite.specs.Held.{state};
-ghost use Rattle.sqlite.specs.State.{HasCleanDisk};
 ghost use Rattle.terms.specs.Types.{Text, Set};
-ghost use Rattle.machine.specs.State.{State};
 ghost use Rattle.machine.specs.Machine.{Files};
-ghost use Rattle.store.specs.BadRows.{OnlyLoads, TellsNoState};
-ghost use Rattle.smpe_zones.specs.Kept.{Keeps};
 ghost use Rattle.smpe_session.specs.Sessions.{IsSessionOf, HasPerformed};
 ghost use Rattle.smpe_session.specs.Steps.{HasLoaded, IsSought};
+ghost use Rattle.smpe_session.specs.Uses.{UsesStore};
 
 use crate::load::load_zone;
 use crate::session::Session;
@@ -49,14 +45,8 @@ impl Session {
         store: &mut Store<S>,
         name: ZoneName,
     ) -> Result<bool, StoreError>
-        ensures clean { HasCleanDisk (state S.Store store.new) → HasCleanDisk (state S.Store store.old) }
-        ensures faults { (state S.Store store.old).faults ≤ (state S.Store store.new).faults }
-        ensures limit { store.new.step_limit ≡ store.old.step_limit }
-        ensures loads { OnOk result (OnlyLoads S.Store store.old store.new) }
-        ensures none { TellsNoState S.Store store.old store.new result }
-        ensures ended { HasCleanDisk (state S.Store store.new) → (s : State) → IsSessionOf s self.old
-            → Keeps S.Store store.old s
-            → HasLoaded S.Store store.old store.new s (IsSought s self.new name) result }
+        ensures uses { UsesStore S.Store store.old store.new ⊤ (λ s ended. IsSessionOf s self.old
+            → HasLoaded S.Store store.old store.new s (IsSought s self.new name) ended) result }
         ensures stay { OnOk result ((q : Text) → IsSome (get bytes_eq self.old.zones q)
             → IsSome (get bytes_eq self.new.zones q)) }
     {
@@ -76,15 +66,9 @@ impl Session {
         store: &mut Store<S>,
         name: ZoneName,
     ) -> Result<Outcome<'static>, StoreError>
-        ensures clean { HasCleanDisk (state S.Store store.new) → HasCleanDisk (state S.Store store.old) }
-        ensures faults { (state S.Store store.old).faults ≤ (state S.Store store.new).faults }
-        ensures limit { store.new.step_limit ≡ store.old.step_limit }
-        ensures loads { OnOk result (OnlyLoads S.Store store.old store.new) }
-        ensures none { TellsNoState S.Store store.old store.new result }
-        ensures ended { HasCleanDisk (state S.Store store.new) → (s : State) → IsSessionOf s self.old
-            → Keeps S.Store store.old s
+        ensures { UsesStore S.Store store.old store.new ⊤ (λ s ended. IsSessionOf s self.old
             → (date : Text) (files : Files)
-            → HasPerformed S.Store store.old store.new s self.new date files (Set name) result }
+            → HasPerformed S.Store store.old store.new s self.new date files (Set name) ended) result }
     {
         let header = Header {
             word: CommandWord::Set,

@@ -4,7 +4,8 @@ use fields::YyDdd;
 use report::Out;
 use smpe::{Answer, Job, run_jobs};
 use smpe_play::{
-    FUNCTION_INSTALLED, FUNCTION_RECEIVED, compare, define_both, new_files, opened, play, records,
+    FUNCTION_INSTALLED, FUNCTION_RECEIVED, RECEIVE, compare, define_both, new_files, opened, play,
+    records,
 };
 use sqlite::{Alter, Connection};
 use std::alloc::Global;
@@ -27,29 +28,14 @@ enum Chain {
 
 /// The `++VER` of the PTF of this number.
 fn ver(alloc: Global, chain: Chain, k: u32) -> Result<String, Fail> {
-    let text = match (chain, k) {
-        (Chain::Back, 1) => format!(in alloc; "++VER(Z038) FMID(HAA1100).")?,
-        (Chain::Back, _) => {
-            format!(in alloc;
-                "++VER(Z038) FMID(HAA1100) PRE(UB{:05}).",
-                k.saturating_sub(1)
-            )?
-        }
-        (Chain::Circle, LEN) => format!(in alloc; "++VER(Z038) FMID(HAA1100) REQ(UB00001).")?,
-        (Chain::Circle, _) => {
-            format!(in alloc;
-                "++VER(Z038) FMID(HAA1100) REQ(UB{:05}).",
-                k.saturating_add(1)
-            )?
-        }
-        (Chain::Open, _) => {
-            format!(in alloc;
-                "++VER(Z038) FMID(HAA1100) PRE(UB{:05}).",
-                k.saturating_add(1)
-            )?
-        }
+    let (operand, other) = match (chain, k) {
+        (Chain::Back, 1) => return Ok(format!(in alloc; "++VER(Z038) FMID(HAA1100).")?),
+        (Chain::Back, _) => ("PRE", k.saturating_sub(1)),
+        (Chain::Circle, LEN) => ("REQ", 1),
+        (Chain::Circle, _) => ("REQ", k.saturating_add(1)),
+        (Chain::Open, _) => ("PRE", k.saturating_add(1)),
     };
-    Ok(text)
+    Ok(format!(in alloc; "++VER(Z038) FMID(HAA1100) {operand}(UB{other:05}).")?)
 }
 
 /// The PTFs of a chain, from this number on.
@@ -86,6 +72,14 @@ enum Said {
     OpenEnd,
 }
 
+/// It fails for want of this PTF, for which that one is the cause.
+fn failed(alloc: Global, k: u32, needed: u32, causer: u32) -> Result<String, Fail> {
+    let text = format!(in alloc;
+        "UB{k:05} PTF      FAILED\n  NEED PRE UB{needed:05}\n  CAUSER UB{causer:05}\n"
+    )?;
+    Ok(text)
+}
+
 fn said_of(alloc: Global, said: Said, k: u32) -> Result<String, Fail> {
     let text = match (said, k) {
         (Said::Received, _) => format!(in alloc; "UB{k:05} PTF      RECEIVED\n")?,
@@ -93,24 +87,14 @@ fn said_of(alloc: Global, said: Said, k: u32) -> Result<String, Fail> {
         (Said::HeldFirst, 1) => {
             format!(in alloc; "UB00001 PTF      FAILED\n  TEST J2\n  CAUSER UB00001\n")?
         }
-        (Said::HeldFirst, _) => {
-            let before = k.saturating_sub(1);
-            format!(in alloc;
-                "UB{k:05} PTF      FAILED\n  NEED PRE UB{before:05}\n  CAUSER UB00001\n"
-            )?
-        }
-        (Said::OpenEnd, _) => {
-            let behind = k.saturating_add(1);
-            format!(in alloc;
-                "UB{k:05} PTF      FAILED\n  NEED PRE UB{behind:05}\n  CAUSER UB05000\n"
-            )?
-        }
+        (Said::HeldFirst, _) => failed(alloc, k, k.saturating_sub(1), 1)?,
+        (Said::OpenEnd, _) => failed(alloc, k, k.saturating_add(1), LEN)?,
     };
     Ok(text)
 }
 
 /// Runs a job over these files, and compares what it prints.
-pub(crate) fn run<S: Alter>(
+fn run<S: Alter>(
     alloc: Global,
     store: &mut Store<S>,
     cntl: &[&str],
@@ -145,6 +129,38 @@ fn run_over<'a, S: Alter>(
     }];
     let answers = run_jobs(alloc, store, &job, &mut Out::new(report))?;
     Ok(answers.as_slice().first().copied())
+}
+
+/// Receives SYSMODs.
+pub(crate) fn receive<S: Alter>(
+    alloc: Global,
+    store: &mut Store<S>,
+    ptfin: &[u8],
+    wanted: &str,
+) -> Result<(), Fail> {
+    run(alloc, store, RECEIVE, ptfin, b"", wanted)
+}
+
+/// Runs a command in the target zone.
+pub(crate) fn run_in_target<S: Alter>(
+    alloc: Global,
+    store: &mut Store<S>,
+    command: &str,
+    wanted: &str,
+) -> Result<(), Fail> {
+    run(alloc, store, &["SET BDY(TGT1).", command], b"", b"", wanted)
+}
+
+/// A store over a new database in which the function is installed.
+pub(crate) fn installed<S: Alter + Drop>(
+    alloc: Global,
+    conn: Connection<S>,
+) -> Result<Store<S>, Fail> {
+    let mut store = opened(alloc, conn)?;
+    define_both(alloc, &mut store)?;
+    play(alloc, &mut store, &FUNCTION_RECEIVED)?;
+    play(alloc, &mut store, &FUNCTION_INSTALLED)?;
+    Ok(store)
 }
 
 /// A chain that is received with a hold file, and what an APPLY makes of it.
@@ -194,6 +210,8 @@ const OPEN: Case = Case {
 
 const RECEIVED: &str = "SET GLOBAL\nRC 00\nRECEIVE GLOBAL\n";
 
+const INSTALLED: &str = "SET TGT1\nRC 00\nAPPLY TGT1\n";
+
 /// Plays a case over a store in which the function is installed.
 fn play_case<S: Alter>(alloc: Global, store: &mut Store<S>, case: Case) -> Result<(), Fail> {
     let ptfs = ptfin(alloc, case.chain, 1)?;
@@ -208,24 +226,20 @@ fn play_case<S: Alter>(alloc: Global, store: &mut Store<S>, case: Case) -> Resul
         hold.as_slice(),
         received.as_str(),
     )?;
-    let install = &["SET BDY(TGT1).", case.install];
-    let said = report(
-        alloc,
-        "SET TGT1\nRC 00\nAPPLY TGT1\n",
-        case.said,
-        1,
-        case.code,
-    )?;
-    run(alloc, store, install, b"", b"", said.as_str())
+    let said = report(alloc, INSTALLED, case.said, 1, case.code)?;
+    run_in_target(alloc, store, case.install, said.as_str())
 }
 
 /// Plays a case over a new database.
 fn play_new<S: Alter + Drop>(alloc: Global, conn: Connection<S>, case: Case) -> Result<(), Fail> {
-    let mut store = opened(alloc, conn)?;
-    define_both(alloc, &mut store)?;
-    play(alloc, &mut store, &FUNCTION_RECEIVED)?;
-    play(alloc, &mut store, &FUNCTION_INSTALLED)?;
+    let mut store = installed(alloc, conn)?;
     play_case(alloc, &mut store, case)
+}
+
+/// Plays a case in memory and over files.
+fn play_both(alloc: Global, case: Case) -> Result<(), Fail> {
+    play_new(alloc, Connection::open_in_memory(alloc)?, case)?;
+    play_new(alloc, new_files(alloc)?, case)
 }
 
 /// Receives all but the first PTF of a chain, and then the first, which would close a loop.
@@ -233,51 +247,35 @@ fn close_loop<S: Alter + Drop>(alloc: Global, conn: Connection<S>) -> Result<(),
     let mut store = opened(alloc, conn)?;
     define_both(alloc, &mut store)?;
     play(alloc, &mut store, &FUNCTION_RECEIVED)?;
-    let receive = &["SET BDY(GLOBAL).", "RECEIVE SYSMODS."];
     let ptfs = ptfin(alloc, Chain::Back, 2)?;
     let received = report(alloc, RECEIVED, Said::Received, 2, "RC 00\n")?;
-    run(
-        alloc,
-        &mut store,
-        receive,
-        ptfs.as_slice(),
-        b"",
-        received.as_str(),
-    )?;
+    receive(alloc, &mut store, ptfs.as_slice(), received.as_str())?;
     let first = records(
         alloc,
         &["++PTF(UB00001).", "++VER(Z038) FMID(HAA1100) PRE(UB05000)."],
     )?;
     let refused = "SET GLOBAL\nRC 00\nRECEIVE GLOBAL\nUB00001 PTF      REFUSED Rc2\nRC 08\n";
-    run(alloc, &mut store, receive, first.as_slice(), b"", refused)
+    receive(alloc, &mut store, first.as_slice(), refused)
 }
 
 #[test]
 fn brought_in(rt: HostRuntime) -> Result<(), Fail> {
-    let alloc = rt.alloc();
-    play_new(alloc, Connection::open_in_memory(alloc)?, BROUGHT_IN)?;
-    play_new(alloc, new_files(alloc)?, BROUGHT_IN)
+    play_both(rt.alloc(), BROUGHT_IN)
 }
 
 #[test]
 fn held(rt: HostRuntime) -> Result<(), Fail> {
-    let alloc = rt.alloc();
-    play_new(alloc, Connection::open_in_memory(alloc)?, HELD)?;
-    play_new(alloc, new_files(alloc)?, HELD)
+    play_both(rt.alloc(), HELD)
 }
 
 #[test]
 fn circle(rt: HostRuntime) -> Result<(), Fail> {
-    let alloc = rt.alloc();
-    play_new(alloc, Connection::open_in_memory(alloc)?, CIRCLE)?;
-    play_new(alloc, new_files(alloc)?, CIRCLE)
+    play_both(rt.alloc(), CIRCLE)
 }
 
 #[test]
 fn open_end(rt: HostRuntime) -> Result<(), Fail> {
-    let alloc = rt.alloc();
-    play_new(alloc, Connection::open_in_memory(alloc)?, OPEN)?;
-    play_new(alloc, new_files(alloc)?, OPEN)
+    play_both(rt.alloc(), OPEN)
 }
 
 #[test]

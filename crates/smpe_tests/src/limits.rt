@@ -1,15 +1,11 @@
 //! A list that is too long, and a zone of 1,000 entries and 1,000 elements, of which one PTF changes one row.
 
-use crate::chains::run;
-use smpe_play::{
-    FUNCTION_INSTALLED, FUNCTION_RECEIVED, define_both, new_files, opened, play, records,
-};
+use crate::chains::{installed, receive, run_in_target};
+use smpe_play::{new_files, opened, records};
 use sqlite::{Alter, Connection};
 use std::alloc::Global;
 use std::test::Fail;
 use store::Store;
-
-const RECEIVE: &[&str] = &["SET BDY(GLOBAL).", "RECEIVE SYSMODS."];
 
 fn push_card(alloc: Global, bytes: &mut Vec<u8>, card: &str) -> Result<(), Fail> {
     let cards = records(alloc, &[card])?;
@@ -36,7 +32,7 @@ fn refuse_list<S: Alter + Drop>(alloc: Global, conn: Connection<S>) -> Result<()
     let mut store = opened(alloc, conn)?;
     let ptfin = long_list(alloc)?;
     let wanted = "SET GLOBAL\nRC 00\nRECEIVE GLOBAL\nREFUSED Cm4 RECORD 2 Mc6\nRC 12\n";
-    run(alloc, &mut store, RECEIVE, ptfin.as_slice(), b"", wanted)
+    receive(alloc, &mut store, ptfin.as_slice(), wanted)
 }
 
 /// A function with 999 data elements, and 998 PTFs for it.
@@ -56,24 +52,30 @@ fn many(alloc: Global) -> Result<Vec<u8>, Fail> {
     Ok(bytes)
 }
 
-fn received(alloc: Global) -> Result<String, Fail> {
+/// A report of these first lines, and what is said of each PTF.
+fn said(alloc: Global, front: &str, word: &str) -> Result<String, Fail> {
     let mut text = String::new(alloc);
-    text.push_str("SET GLOBAL\nRC 00\nRECEIVE GLOBAL\nHBB1100 FUNCTION RECEIVED\n")?;
+    text.push_str(front)?;
     for k in 1..=998u32 {
-        text.push_str(format!(in alloc; "UC{k:05} PTF      RECEIVED\n")?.as_str())?;
+        text.push_str(format!(in alloc; "UC{k:05} PTF      {word}\n")?.as_str())?;
     }
     text.push_str("RC 00\n")?;
     Ok(text)
 }
 
-fn applied(alloc: Global) -> Result<String, Fail> {
-    let mut text = String::new(alloc);
-    text.push_str("SET TGT1\nRC 00\nAPPLY TGT1\nHBB1100 FUNCTION APPLIED\n")?;
-    for k in 1..=998u32 {
-        text.push_str(format!(in alloc; "UC{k:05} PTF      APPLIED\n")?.as_str())?;
-    }
-    text.push_str("RC 00\n")?;
-    Ok(text)
+const RECEIVED: &str = "SET GLOBAL\nRC 00\nRECEIVE GLOBAL\nHBB1100 FUNCTION RECEIVED\n";
+
+fn receive_many<S: Alter>(alloc: Global, store: &mut Store<S>) -> Result<(), Fail> {
+    let ptfin = many(alloc)?;
+    let wanted = said(alloc, RECEIVED, "RECEIVED")?;
+    receive(alloc, store, ptfin.as_slice(), wanted.as_str())
+}
+
+const APPLIED: &str = "SET TGT1\nRC 00\nAPPLY TGT1\nHBB1100 FUNCTION APPLIED\n";
+
+fn apply_many<S: Alter>(alloc: Global, store: &mut Store<S>) -> Result<(), Fail> {
+    let wanted = said(alloc, APPLIED, "APPLIED")?;
+    run_in_target(alloc, store, "APPLY FUNCTIONS PTFS.", wanted.as_str())
 }
 
 /// The zone with so many of the PTFs.
@@ -101,52 +103,20 @@ fn listed(alloc: Global, ptfs: u32) -> Result<String, Fail> {
 
 fn list<S: Alter>(alloc: Global, store: &mut Store<S>, ptfs: u32) -> Result<(), Fail> {
     let wanted = listed(alloc, ptfs)?;
-    run(
-        alloc,
-        store,
-        &["SET BDY(TGT1).", "LIST."],
-        b"",
-        b"",
-        wanted.as_str(),
-    )
+    run_in_target(alloc, store, "LIST.", wanted.as_str())
 }
 
 /// One PTF more comes into a zone of 1,000 entries and 1,000 elements, over a new database.
 fn add_one<S: Alter + Drop>(alloc: Global, conn: Connection<S>) -> Result<(), Fail> {
-    let mut store = opened(alloc, conn)?;
-    define_both(alloc, &mut store)?;
-    play(alloc, &mut store, &FUNCTION_RECEIVED)?;
-    play(alloc, &mut store, &FUNCTION_INSTALLED)?;
-    run(
-        alloc,
-        &mut store,
-        RECEIVE,
-        many(alloc)?.as_slice(),
-        b"",
-        received(alloc)?.as_str(),
-    )?;
-    let install = &["SET BDY(TGT1).", "APPLY FUNCTIONS PTFS."];
-    run(
-        alloc,
-        &mut store,
-        install,
-        b"",
-        b"",
-        applied(alloc)?.as_str(),
-    )?;
+    let mut store = installed(alloc, conn)?;
+    receive_many(alloc, &mut store)?;
+    apply_many(alloc, &mut store)?;
     list(alloc, &mut store, 998)?;
     let one = records(alloc, &["++PTF(UC00999).", "++VER(Z038) FMID(HBB1100)."])?;
     let wanted = "SET GLOBAL\nRC 00\nRECEIVE GLOBAL\nUC00999 PTF      RECEIVED\nRC 00\n";
-    run(alloc, &mut store, RECEIVE, one.as_slice(), b"", wanted)?;
+    receive(alloc, &mut store, one.as_slice(), wanted)?;
     let wanted = "SET TGT1\nRC 00\nAPPLY TGT1\nUC00999 PTF      APPLIED\nRC 00\n";
-    run(
-        alloc,
-        &mut store,
-        &["SET BDY(TGT1).", "APPLY PTFS."],
-        b"",
-        b"",
-        wanted,
-    )?;
+    run_in_target(alloc, &mut store, "APPLY PTFS.", wanted)?;
     list(alloc, &mut store, 999)
 }
 

@@ -171,16 +171,19 @@ pub(crate) const OPEN_ERROR: &[Step] = &[
     },
 ];
 
+/// A fix, and one that supersedes it.
+const SUPERSEDING: &[&[&str]] = &[
+    &["++PTF(UA00011).", "++VER(Z038) FMID(HAA1100)."],
+    &["++PTF(UA00012).", "++VER(Z038) FMID(HAA1100) SUP(UA00011)."],
+];
+
 /// What a held SYSMOD would supersede is applied.
 pub(crate) const HELD_SUPERSEDER: &[Step] = &[
     FUNCTION_RECEIVED,
     FUNCTION_INSTALLED,
     Step {
         cntl: &["SET BDY(GLOBAL).", "RECEIVE SYSMODS HOLDDATA."],
-        ptfin: &[
-            &["++PTF(UA00011).", "++VER(Z038) FMID(HAA1100)."],
-            &["++PTF(UA00012).", "++VER(Z038) FMID(HAA1100) SUP(UA00011)."],
-        ],
+        ptfin: SUPERSEDING,
         hold: &["++HOLD(UA00012) USER FMID(HAA1100) REASON(WAIT)."],
         report: "SET GLOBAL\nRC 00\nRECEIVE GLOBAL\nUA00011 PTF      RECEIVED\nUA00012 PTF      RECEIVED\n\
             UA00012 USER     HELD WAIT\nRC 00\n",
@@ -201,10 +204,7 @@ pub(crate) const SUPERSEDED: &[Step] = &[
     FUNCTION_INSTALLED,
     Step {
         cntl: &["SET BDY(GLOBAL).", "RECEIVE SYSMODS."],
-        ptfin: &[
-            &["++PTF(UA00011).", "++VER(Z038) FMID(HAA1100)."],
-            &["++PTF(UA00012).", "++VER(Z038) FMID(HAA1100) SUP(UA00011)."],
-        ],
+        ptfin: SUPERSEDING,
         report: "SET GLOBAL\nRC 00\nRECEIVE GLOBAL\nUA00011 PTF      RECEIVED\nUA00012 PTF      RECEIVED\n\
             RC 00\n",
         ..JOB

@@ -63,18 +63,21 @@ pub(crate) const SECOND_FITS: &[Step] = &[
     },
 ];
 
+/// A fix for both that brings a macro.
+const MACRO_FOR_BOTH: &[&str] = &[
+    "++PTF(UA00042).",
+    "++VER(Z038) FMID(HAA1100).",
+    "++VER(Z038) FMID(HEE1300).",
+    "++MAC(M2) DISTLIB(AMACLIB) SYSLIB(MACLIB).",
+    "         MACRO 42                                                       00000010",
+];
+
 /// A second function, a fix for both that brings a macro, and a later one that replaces the macro for the first.
 const LEVELS_RECEIVED: Step = Step {
     cntl: &["SET BDY(GLOBAL).", "RECEIVE SYSMODS."],
     ptfin: &[
         &["++FUNCTION(HEE1300).", "++VER(Z038)."],
-        &[
-            "++PTF(UA00042).",
-            "++VER(Z038) FMID(HAA1100).",
-            "++VER(Z038) FMID(HEE1300).",
-            "++MAC(M2) DISTLIB(AMACLIB) SYSLIB(MACLIB).",
-            "         MACRO 42                                                       00000010",
-        ],
+        MACRO_FOR_BOTH,
         &[
             "++PTF(UA00043).",
             "++VER(Z038) FMID(HAA1100) PRE(UA00042).",
@@ -201,13 +204,7 @@ const ALL_RECEIVED: Step = Step {
             "++VER(Z038) DELETE(HAA1100,HEE1300).",
         ],
         &["++FUNCTION(HEE1300).", "++VER(Z038)."],
-        &[
-            "++PTF(UA00042).",
-            "++VER(Z038) FMID(HAA1100).",
-            "++VER(Z038) FMID(HEE1300).",
-            "++MAC(M2) DISTLIB(AMACLIB) SYSLIB(MACLIB).",
-            "         MACRO 42                                                       00000010",
-        ],
+        MACRO_FOR_BOTH,
         &[
             "++PTF(UA00044).",
             "++VER(Z038) FMID(HEE1300) PRE(UA00042).",

@@ -1,4 +1,4 @@
-mod Adding
+pub mod Adding
 pub mod Ending
 mod Found
 pub mod Keeping

@@ -91,13 +91,13 @@ search_drop p due settled settled' standing standing' living dropped dropped' st
       struck = search.struck;
     }
 
--- a demand that has a living member is settled
+-- of the demands with no living member no other is settled
 pub search_pass : (p : Problem) (due : List ℕ) (settled settled' : ℕ → Type 0) (standing : List Bool)
-    (living dropped : List ℕ) (strikes room k : ℕ)
-    → (get_or living k 0 ≡ 0 → ⊥) → ((j : ℕ) → settled' j → settled j ⊎ (j ≡ k))
+    (living dropped : List ℕ) (strikes room : ℕ)
+    → ((j : ℕ) → j < length p.demands → get_or living j 0 ≡ 0 → settled' j → settled j)
     → IsSearch p due settled standing living dropped strikes room
     → IsSearch p due settled' standing living dropped strikes room
-search_pass p due settled settled' standing living dropped strikes room k some more search = record {
+search_pass p due settled settled' standing living dropped strikes room before search = record {
   size = search.size;
   needs = search.needs;
   members = search.members;
@@ -106,10 +106,7 @@ search_pass p due settled settled' standing living dropped strikes room k some m
   every = search.every;
   within = search.within;
   counts = search.counts;
-  bare = λ j small is zero_left. elim (more j is) [
-    | inl before ↦ search.bare j small before zero_left
-    | inr same ↦ absurd (some (ap (λ n. get_or living n 0) (sym same) ∙ zero_left))
-  ];
+  bare = λ j small is zero_left. search.bare j small (before j small zero_left is) zero_left;
   struck = search.struck;
 }
 
@@ -195,11 +192,10 @@ pub strike_pass : (p : Problem) (k : ℕ) (rest : List ℕ) (standing : List Boo
     → IsSearch p (k ∷ rest) (λ j. Unit {0}) standing living dropped strikes room
     → IsSearch p rest (λ j. Unit {0}) standing (set living k (get_or living k 0 - 1)) dropped (strikes + 1) room
 strike_pass p k rest standing living dropped strikes room below some search =
+    let less = set living k (get_or living k 0 - 1) in
     let same = get_or-set_same living k (get_or living k 0 - 1) 0 (omega (arith, search.needs, below)) in
-    search_pass p rest (λ j. Unit {0} × (j ≡ k → ⊥)) (λ j. Unit {0}) standing (set living k (get_or living k 0 - 1))
-    dropped (strikes + 1) room k
-    (λ none. some (sym same ∙ none))
-    (λ j _. either k j)
+    search_pass p rest (λ j. Unit {0} × (j ≡ k → ⊥)) (λ j. Unit {0}) standing less dropped (strikes + 1) room
+    (λ j small none _. (tt, λ at. some (sym same ∙ ap (λ n. get_or less n 0) (sym at) ∙ none)))
     (search_strike p k rest (λ j. Unit {0}) standing living dropped strikes room below search)
 
 below_next : (k j : ℕ) → j < k + 1 → (j < k) ⊎ (j ≡ k)
@@ -220,23 +216,18 @@ pub settle_pass : (p : Problem) (standing : List Bool) (living dropped : List �
     → IsSearch p [] (λ j. j < k) standing living dropped strikes room
     → IsSearch p [] (λ j. j < k + 1) standing living dropped strikes room
 settle_pass p standing living dropped strikes room k some search =
-    search_pass p [] (λ j. j < k) (λ j. j < k + 1) standing living dropped strikes room k some (below_next k) search
+    search_pass p [] (λ j. j < k) (λ j. j < k + 1) standing living dropped strikes room
+    (λ j small none less. elim (below_next k j less) [
+      | inl before ↦ before
+      | inr at ↦ absurd (some (ap (λ n. get_or living n 0) (sym at) ∙ none))
+    ]) search
 
 pub settled_all : (p : Problem) (standing : List Bool) (living dropped : List ℕ) (strikes room k : ℕ)
     → length p.demands ≤ k → IsSearch p [] (λ j. j < k) standing living dropped strikes room
     → IsSearch p [] (λ j. Unit {0}) standing living dropped strikes room
-settled_all p standing living dropped strikes room k all search = record {
-  size = search.size;
-  needs = search.needs;
-  members = search.members;
-  total = search.total;
-  fits = search.fits;
-  every = search.every;
-  within = search.within;
-  counts = search.counts;
-  bare = λ j low _ zero_left. search.bare j low (omega (arith, low, all)) zero_left;
-  struck = search.struck;
-}
+settled_all p standing living dropped strikes room k all search =
+    search_pass p [] (λ j. j < k) (λ j. Unit {0}) standing living dropped strikes room
+    (λ j low none _. omega (arith, low, all)) search
 
 times_push : (x y : ℕ) (dropped : List ℕ) → times y (dropped ++ x ∷ []) ≡ times y dropped + one_if (y == x)
 times_push x y dropped = elim (cases_eq y x) [

@@ -105,7 +105,8 @@ fn reaching(
     Ok(list)
 }
 
-/// For each candidate its causers, rising: the roots that it reaches. One that is kept has none.
+/// For each candidate its causers, rising: the roots that it reaches. One that is kept has none. The error comes where
+/// memory runs out.
 pub fn causers(alloc: Global, s: &System, kept: &Kept) -> Result<Vec<Vec<u32>>, AllocError>
     requires { length kept.now ≡ s.now.size }
     ensures size { IfOk result (λ rows. length rows.items ≡ s.now.size) }

@@ -45,7 +45,8 @@ fn turned(alloc: Global, flags: &[bool]) -> Result<Vec<bool>, AllocError>
 }
 
 impl Rules {
-    /// A set of numbers below `start.len()` that starts with the flagged ones, and no rules yet.
+    /// A set of numbers below `start.len()` that starts with the flagged ones, and no rules yet. The error comes where
+    /// memory runs out.
     pub fn new(alloc: Global, start: &[bool]) -> Result<Rules, AllocError>
         requires { length start.now < 2 ^ 32 }
         ensures { IfOk result (λ rules. rules ≡ record { start = start.now; rules = [] }) }
@@ -63,7 +64,8 @@ impl Rules {
         self.outside.size()
     }
 
-    /// Adds a number, the next one, and whether the set starts with it.
+    /// Adds a number, the next one, and whether the set starts with it. The error comes where memory runs out, and
+    /// changes nothing.
     pub fn add_number(&mut self, starts: bool) -> Result<(), AllocError>
         requires { length self.old.start + 1 < 2 ^ 32 }
         ensures ok { OnOk result (self.new ≡ record self.old { start = self.old.start ++ starts ∷ [] }) }
@@ -79,7 +81,7 @@ impl Rules {
         self.outside.admits(that, these)
     }
 
-    /// Adds a rule. `admits` tests what is asked of it.
+    /// Adds a rule. `admits` tests what is asked of it. The error comes where memory runs out, and changes nothing.
     pub fn add_rule(&mut self, rule: Rule) -> Result<(), AllocError>
         requires { IsRule (length self.old.start) (as_rule rule) }
         ensures ok { OnOk result (self.new ≡ record self.old { rules = self.old.rules ++ as_rule rule ∷ [] }) }
@@ -92,7 +94,7 @@ impl Rules {
     }
 }
 
-/// The least set that holds its start and is closed under the rules.
+/// The least set that holds its start and is closed under the rules. The error comes where memory runs out.
 pub fn least(alloc: Global, rules: &Rules) -> Result<Vec<bool>, AllocError>
     ensures { IfOk result (λ set. IsLeast rules.now set.items) }
 {

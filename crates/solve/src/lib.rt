@@ -25,7 +25,7 @@ pub use worklist::{Count, Worklist};
 
 /// Gives the kept set of a system.
 pub trait Solver {
-    /// The union of all self-supporting sets.
+    /// The union of all self-supporting sets. The error comes where memory runs out.
     fn greatest(&self, alloc: Global, s: &System) -> Result<Kept, AllocError>
         ensures { IfOk result (λ kept. AreKept s.now kept) };
 }

@@ -83,7 +83,7 @@ impl System {
         &self.needs
     }
 
-    /// Adds a candidate, the next number, with no need yet.
+    /// Adds a candidate, the next number, with no need yet. The error comes where memory runs out, and changes nothing.
     pub fn add_candidate(&mut self, eligible: bool) -> Result<(), AllocError>
         requires { self.old.size + 1 < 2 ^ 32 }
         ensures ok { OnOk result (self.new ≡ record {
@@ -105,7 +105,7 @@ impl System {
         of < self.size && any.iter().all(|y| *y < self.size) && rises(any)
     }
 
-    /// Adds a need. `admits` tests what is asked of it.
+    /// Adds a need. `admits` tests what is asked of it. The error comes where memory runs out, and changes nothing.
     pub fn add_need(&mut self, need: Need) -> Result<(), AllocError>
         requires { IsDemand self.old.size (demand need) }
         ensures ok { OnOk result (self.new

@@ -160,7 +160,7 @@ fn prepare(alloc: Global, s: &System) -> Result<(Board, Vec<Vec<usize>>), AllocE
 }
 
 impl Worklist {
-    /// The kept set, and how much work it took.
+    /// The kept set, and how much work it took. The error comes where memory runs out.
     pub fn count(alloc: Global, s: &System) -> Result<(Kept, Count), AllocError>
         ensures kept { IfOk result (λ r. AreKept s.now r.0) }
         ensures strikes { IfOk result (λ r. r.1.strikes ≡ strikes_of s.now r.0) }

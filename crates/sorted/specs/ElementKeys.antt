@@ -4,15 +4,11 @@ use Rattle.std.specs.Ordering.{nat_cmp, ordering_then}
 use Rattle.std.specs.Cmp.Lexicographic.{slice_cmp}
 use Rattle.terms.specs.declared.kinds.ElemType.{ElemType}
 use Rattle.terms.specs.contracts.kinds.ElemTypeOrd.TheImpl as type_order
-use Rattle.terms.specs.Types.{Text, Change}
+use Rattle.terms.specs.Types.{Text}
 
 -- the type and the name of an element
 abbrev pub Key : Type 0
 Key = ElemType × Text
-
--- those of the element that a statement is about
-abbrev pub change_key : Change → Key
-change_key h = (h.elem_type, h.name)
 
 -- their derived order
 abbrev pub key_cmp : Key → Key → Ordering

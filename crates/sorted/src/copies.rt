@@ -5,11 +5,12 @@ use std::alloc::{AllocError, Global};
 
 /// What can be copied where memory lasts.
 pub trait TryClone: Drop {
+    /// A copy. The error comes where memory runs out.
     fn try_clone(&self, alloc: Global) -> Result<Self, AllocError>
         ensures { IfOk result (λ copy. copy ≡ self.now) };
 }
 
-/// A copy of each item.
+/// A copy of each item. The error comes where memory runs out.
 pub fn copied<T: TryClone>(alloc: Global, items: &[T]) -> Result<Vec<T>, AllocError>
     ensures { IfOk result (λ copies. copies.items ≡ items.now) }
 {

@@ -9,11 +9,12 @@ pub trait Keyed {
 
     ghost key_of: { Self → Self.Key };
 
+    /// The key that it stands under.
     fn key(&self) -> Self::Key
         ensures { result ≡ key_of self.now };
 }
 
-/// Where the key is, or where it would come in.
+/// Where the item of the key is. The error comes where there is none, and is the place where one would come in.
 pub fn place<T: Keyed>(items: &[T], key: T::Key) -> Result<usize, usize>
     requires { Rises T.Key.cmp T.key_of items.now }
     ensures found { IfOk result

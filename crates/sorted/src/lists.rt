@@ -8,7 +8,7 @@ use std::collections::BTreeMap;
 /// For each key some values.
 pub type Lists<K, V> = BTreeMap<K, Vec<V>>;
 
-/// Adds the value behind those of the key.
+/// Adds the value behind those of the key. The error comes where memory runs out.
 pub fn add<K: Ord + Copy, V: Drop>(
     alloc: Global,
     lists: &mut Lists<K, V>,
@@ -25,7 +25,8 @@ pub fn add<K: Ord + Copy, V: Drop>(
     Ok(())
 }
 
-/// Adds the value once for each of these keys, behind those of the key.
+/// Adds the value once for each of these keys, behind those of the key. The error comes where memory runs out, and some
+/// keys may have the value then.
 pub fn add_to_all<K: Ord + Copy, V: Copy>(
     alloc: Global,
     lists: &mut Lists<K, V>,

@@ -31,6 +31,7 @@ impl<T: Keyed + Drop> Model for Table<T> {
 }
 
 impl<T: Keyed + Drop> Table<T> {
+    /// A table of no items.
     pub fn new(alloc: Global) -> Self
         ensures { result ≡ [] }
     {
@@ -53,6 +54,7 @@ impl<T: Keyed + Drop> Table<T> {
         Some(Table { items })
     }
 
+    /// Its items, which rise by their keys.
     pub fn into_vec(self) -> Vec<T>
         ensures items { result.items ≡ self }
         ensures rising { Rises T.Key.cmp T.key_of result.items }
@@ -60,6 +62,7 @@ impl<T: Keyed + Drop> Table<T> {
         self.items
     }
 
+    /// Its items, which rise by their keys.
     pub fn as_slice(&self) -> &[T]
         ensures items { result.now ≡ self.now }
         ensures rising { Rises T.Key.cmp T.key_of result.now }
@@ -67,6 +70,7 @@ impl<T: Keyed + Drop> Table<T> {
         self.items.as_slice()
     }
 
+    /// The item of the key, if there is one.
     pub fn get(&self, key: T::Key) -> Option<&T>
         ensures { option_copied result ≡ find (λ x. T.Key.eq (T.key_of x) key) self.now }
     {
@@ -76,7 +80,8 @@ impl<T: Keyed + Drop> Table<T> {
         }
     }
 
-    /// The item comes in at its place, where it takes the place of one of its key.
+    /// The item comes in at its place, where it takes the place of one of its key. The error comes where memory runs
+    /// out, and changes nothing.
     pub fn put(&mut self, item: T) -> Result<(), AllocError>
         ensures ok { OnOk result (self.new ≡ with_item T.Key.cmp T.key_of self.old item) }
         ensures err { OnErr result (self.new ≡ self.old) }
@@ -93,7 +98,8 @@ impl<T: Keyed + Drop> Table<T> {
         }
     }
 
-    /// Adds an item whose key is behind all others, and answers whether it is.
+    /// Adds an item whose key is behind all others, and answers whether it is. The error comes where memory runs out,
+    /// and changes nothing.
     pub fn push_last(&mut self, item: T) -> Result<bool, AllocError>
         ensures fits { IfOk result
             (λ fits. IsTrue fits
@@ -111,6 +117,7 @@ impl<T: Keyed + Drop> Table<T> {
 }
 
 impl<T: Keyed + TryClone> Table<T> {
+    /// A table of the same items. The error comes where memory runs out.
     pub fn try_clone(&self, alloc: Global) -> Result<Self, AllocError>
         ensures { IfOk result (λ copy. copy ≡ self.now) }
     {
@@ -120,7 +127,7 @@ impl<T: Keyed + TryClone> Table<T> {
     }
 
     /// Makes the edits, in time that goes with the number of items and edits. What stays is moved, and what an edit
-    /// puts is copied. Where memory runs out, the table is empty afterwards.
+    /// puts is copied. The error comes where memory runs out, and the table is empty then.
     pub fn edit(&mut self, alloc: Global, edits: &Table<Edit<T, T::Key>>) -> Result<(), AllocError>
         ensures ok { OnOk result (self.new ≡ edited T.Key.cmp T.key_of self.old edits.now) }
         ensures err { OnErr result (self.new ≡ []) }

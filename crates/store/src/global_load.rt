@@ -29,7 +29,8 @@ pub struct Lists {
     pub holds: Vec<Hold>,
 }
 
-/// The SYSMODs and holds of a database of this release.
+/// The SYSMODs and holds of a database of this release. `BadRow` comes where the rows stand for no such lists, `Memory`
+/// where memory is short, and `Fault` where the disk fails or the tables are others.
 pub fn load_lists<S: Alter>(
     alloc: Global,
     conn: &mut Connection<S>,
@@ -50,7 +51,8 @@ pub fn load_lists<S: Alter>(
     Ok(Lists { sysmods, holds })
 }
 
-/// The global zone of these, if they are one.
+/// The global zone of these, if they are one. `BadRow` comes where they are none, `Memory` where memory runs out, and
+/// `Fault` never.
 pub fn joined(alloc: Global, lists: Lists) -> Result<GlobalZone, ReadError>
     ensures same { IfOk result (λ global. global ≡ a_global lists.sysmods.items lists.holds.items) }
     ensures whole { OnOk result (IsGlobal (a_global lists.sysmods.items lists.holds.items)) }

@@ -25,7 +25,7 @@ fn store_error(error: ReadError) -> StoreError
     }
 }
 
-/// How an answer of reading is told.
+/// How an answer of reading is told: `Memory` and `Fault` stay, and for `BadRow` `NoState` comes.
 pub fn told<T>(read: Result<T, ReadError>) -> Result<T, StoreError>
     ensures { result ≡ told read }
 {
@@ -36,7 +36,8 @@ pub fn told<T>(read: Result<T, ReadError>) -> Result<T, StoreError>
 }
 
 impl<S: Alter> Store<S> {
-    /// The global zone.
+    /// The global zone. `Memory` comes where memory runs out, `Fault` where the database fails, and `NoState` where the
+    /// rows stand for none.
     pub fn load_global(&mut self) -> Result<GlobalZone, StoreError>
         ensures { Loads S.Store self.old self.new (λ i global. global ≡ i.global) result }
     {
@@ -45,7 +46,8 @@ impl<S: Alter> Store<S> {
         told(load_global(self.alloc, &mut self.conn))
     }
 
-    /// The zone of this name, if there is one.
+    /// The zone of this name, if there is one. `Memory` comes where memory runs out, `Fault` where the database fails,
+    /// and `NoState` where its rows stand for none.
     pub fn load_zone(&mut self, name: ZoneName) -> Result<Option<Zone>, StoreError>
         ensures { Loads S.Store self.old self.new (λ i zone. zone ≡ zone_in i name) result }
     {
@@ -54,7 +56,8 @@ impl<S: Alter> Store<S> {
         told(store_zone_loads::load_zone(self.alloc, &mut self.conn, Release::Third, name))
     }
 
-    /// All zones without their entries and elements, rising by name.
+    /// All zones without their entries and elements, rising by name. `Memory` comes where memory runs out, `Fault`
+    /// where the database fails, and `NoState` where the rows stand for no zones that are related as they must be.
     pub fn zone_heads(&mut self) -> Result<Vec<ZoneHead>, StoreError>
         ensures { Loads S.Store self.old self.new (λ i heads. heads.items ≡ map head_of i.zones) result }
     {
@@ -63,7 +66,8 @@ impl<S: Alter> Store<S> {
         told(store_zone_loads::zone_heads(self.alloc, &mut self.conn))
     }
 
-    /// The names of all zones, rising.
+    /// The names of all zones, rising. `Memory` comes where memory runs out, `Fault` where the database fails, and
+    /// `NoState` where the rows stand for no zones that are related as they must be.
     pub fn zone_names(&mut self) -> Result<Vec<ZoneName>, StoreError>
         ensures { Loads S.Store self.old self.new (λ i names. names.items ≡ map (λ z. z.name) i.zones) result }
     {

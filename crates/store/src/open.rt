@@ -48,7 +48,10 @@ impl<S: Alter> Model for Store<S> {
 }
 
 impl<S: Alter> Store<S> {
-    /// Makes the tables in a database that has none, and knows those of another schema.
+    /// Makes the tables in a database that has none, and knows those of another schema. The error hands the connection
+    /// back: `OtherSchema` comes where `meta` gives another number than the store's, `NoState` where the tables are
+    /// else not the store's, `Fault` where the database fails or has tables but no `meta` with its columns, and
+    /// `Memory` where memory runs out.
     pub fn open(
         alloc: Global,
         mut conn: Connection<S>,
@@ -92,7 +95,9 @@ impl<S: Alter> Store<S> {
         Store { conn, alloc }
     }
 
-    /// Makes the change in one transaction. It writes the rows that change, and loads none.
+    /// Makes the change in one transaction. It writes the rows that change, and loads none. `Memory` comes where memory
+    /// runs out, and `Fault` where the disk fails or the database refuses a row; the tables then stand for what they
+    /// stood for.
     pub fn commit(&mut self, change: &Change) -> Result<(), StoreError>
         ensures only { OnlyCommits S.Store (calls_of change.now) self.old self.new result }
         ensures ok { OnOk result ((i j : Inventory) → Makes change.now i j → IsInventory j → Tables S.Store self.old i

@@ -19,7 +19,8 @@ pub fn is_updated(elem_type: ElemType) -> bool
     matches!(elem_type, ElemType::Mac | ElemType::Src)
 }
 
-/// The records of an element of this type: those of macros and sources are numbered.
+/// The records of an element of this type: those of macros and sources are numbered. `Memory` comes where memory runs
+/// out, `BadRow` where the column has no such records.
 pub fn element_text_in(
     alloc: Global,
     row: &Row,

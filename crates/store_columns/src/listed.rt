@@ -46,7 +46,8 @@ pub trait Query {
             → Self.Rows.row_of a ≡ Self.Rows.row_of b → a ≡ b };
 }
 
-/// What the rows that the query asks for stand for, whose first columns are the key.
+/// What the rows that the query asks for stand for, whose first columns are the key. `BadRow` comes where a row stands
+/// for nothing, `Memory` where memory is short, and `Fault` where the disk fails or the tables are others.
 pub fn load_listed<S: Alter, Q: Query>(
     alloc: Global,
     conn: &mut Connection<S>,

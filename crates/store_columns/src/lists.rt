@@ -58,7 +58,7 @@ fn source_list(alloc: Global, parts: &[&[u8]]) -> Result<SourceList, ReadError>
     Ok(list)
 }
 
-/// The ids of a list that rises.
+/// The ids of a list that rises. `Memory` comes where memory runs out, `BadRow` where the column has no such list.
 pub fn ids_in(alloc: Global, row: &Row, at: usize) -> Result<IdList, ReadError>
     ensures some { IfOk result (λ list. (column row.now at ≡ ids list) × AreSorted IsId list) }
     ensures none { IsErrOf result ReadError.BadRow → (list : List (List ℕ)) → AreSorted IsId list
@@ -72,7 +72,7 @@ pub fn ids_in(alloc: Global, row: &Row, at: usize) -> Result<IdList, ReadError>
     id_list(alloc, &parts)
 }
 
-/// The sources of a list that rises.
+/// The sources of a list that rises. `Memory` comes where memory runs out, `BadRow` where the column has no such list.
 pub fn sources_in(alloc: Global, row: &Row, at: usize) -> Result<SourceList, ReadError>
     ensures some { IfOk result (λ list. (column row.now at ≡ ids list) × AreSorted IsSource list) }
     ensures none { IsErrOf result ReadError.BadRow → (list : List (List ℕ)) → AreSorted IsSource list
@@ -99,7 +99,8 @@ fn lines_in(alloc: Global, bytes: &[u8]) -> Result<Vec<Line>, ReadError>
     Ok(lines_of(alloc, bytes)?)
 }
 
-/// The records of a text, one after the other in a blob.
+/// The records of a text, one after the other in a blob. `Memory` comes where memory runs out, `BadRow` where the
+/// column has no blob, or one of no whole records.
 pub fn records_in(alloc: Global, row: &Row, at: usize) -> Result<Vec<Line>, ReadError>
     ensures some { IfOk result (λ lines. (column row.now at ≡ records lines.items) × AreRecords lines.items) }
     ensures none { IsErrOf result ReadError.BadRow → (lines : List (List ℕ)) → AreRecords lines

@@ -10,7 +10,7 @@ use fields::Id;
 use sqlite_value::value::ValueRef;
 use std::alloc::{AllocError, Global};
 
-/// The ids, with a comma between each two.
+/// The ids, with a comma between each two. The error comes where memory runs out.
 pub fn joined_ids(alloc: Global, ids: &[Id]) -> Result<Vec<u8>, AllocError>
     ensures { IfOk result (λ text. text.items ≡ join_with_byte 44 ids.now) }
 {

@@ -25,6 +25,7 @@ use Rattle.sqlite_rules.proofs.ListLemmas.{all_has, some_has}
 use Rattle.sqlite_rules.proofs.KeyLemmas.{agree_back}
 use Rattle.store_rows.specs.Rows.{Contents, HasContents, AreRows, has_key, shown}
 use Rattle.store_rows.proofs.RowLemmas.{has_permuted, mapped, unmapped}
+use Rattle.lemmas.proofs.Booleans.{false_from_not}
 use Rattle.terms.specs.Types.{NamedZone}
 use Rattle.store_schema.specs.declared.release.Release.{Release}
 use Rattle.store_schema.specs.declared.release.Release.TheVariants.{First, Second, Third}
@@ -110,29 +111,25 @@ module _ (r : Release) (t : Table) (f : Refers r t) where
         ap (has_key (name_key z.0.name)) (own.2 ∙ f.first own.0) ∙ rw same refl,
       )
 
-not_null : (b : Bool) → not b ≡ true → b ≡ false
-not_null true e = sym e
-not_null false e = refl
-
 pub entry_refers : (r : Release) → Refers r entry
 entry_refers First = record {
   listed = inr (inr (inr (inr (inr (inr (inr (inl refl)))))));
   refers = refl;
-  filled = λ db row h. not_null _ (and_parts _ _ h).0;
+  filled = λ db row h. false_from_not _ (and_parts _ _ h).0;
   rest = λ row. drop 1 (shown entry row);
   first = λ row. refl;
 }
 entry_refers Second = record {
   listed = inr (inr (inr (inr (inr (inr (inr (inl refl)))))));
   refers = refl;
-  filled = λ db row h. not_null _ (and_parts _ _ h).0;
+  filled = λ db row h. false_from_not _ (and_parts _ _ h).0;
   rest = λ row. drop 1 (shown entry row);
   first = λ row. refl;
 }
 entry_refers Third = record {
   listed = inr (inr (inr (inr (inr (inr (inr (inl refl)))))));
   refers = refl;
-  filled = λ db row h. not_null _ (and_parts _ _ h).0;
+  filled = λ db row h. false_from_not _ (and_parts _ _ h).0;
   rest = λ row. drop 1 (shown entry row);
   first = λ row. refl;
 }
@@ -141,21 +138,21 @@ pub element_refers : (r : Release) → Refers r zelem
 element_refers First = record {
   listed = inr (inr (inr (inr (inr (inr (inr (inr (inl refl))))))));
   refers = refl;
-  filled = λ db row h. not_null _ (and_parts _ _ h).0;
+  filled = λ db row h. false_from_not _ (and_parts _ _ h).0;
   rest = λ row. drop 1 (shown zelem row);
   first = λ row. refl;
 }
 element_refers Second = record {
   listed = inr (inr (inr (inr (inr (inr (inr (inr (inl refl))))))));
   refers = refl;
-  filled = λ db row h. not_null _ (and_parts _ _ h).0;
+  filled = λ db row h. false_from_not _ (and_parts _ _ h).0;
   rest = λ row. drop 1 (shown zelem row);
   first = λ row. refl;
 }
 element_refers Third = record {
   listed = inr (inr (inr (inr (inr (inr (inr (inr (inl refl))))))));
   refers = refl;
-  filled = λ db row h. not_null _ (and_parts _ _ h).0;
+  filled = λ db row h. false_from_not _ (and_parts _ _ h).0;
   rest = λ row. drop 1 (shown zelem row);
   first = λ row. refl;
 }
@@ -164,7 +161,7 @@ pub chosen_refers : Refers Third chosen
 chosen_refers = record {
   listed = inr (inr (inr (inr (inr (inr (inr (inr (inr (inr (inr (inr (inl refl))))))))))));
   refers = refl;
-  filled = λ db row h. not_null _ (and_parts _ _ h).0;
+  filled = λ db row h. false_from_not _ (and_parts _ _ h).0;
   rest = λ row. drop 1 (shown chosen row);
   first = λ row. refl;
 }

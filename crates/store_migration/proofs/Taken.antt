@@ -1,22 +1,24 @@
 -- What the tables hold once all is moved.
 use Rattle.std.proofs.Common.{◌≡◌, ◌==◌, ℕ, ℤ, pos, List, [], ◌∷◌, ◌++◌, map, fold, false, if◌then◌else◌, codes}
-use Rattle.std.proofs.Common.{IsPermutation, refl, sym, ap, subst, ◌∙◌, append-nil}
-use Rattle.std.specs.List.{flat_map}
+use Rattle.std.proofs.Common.{IsPermutation, refl, sym, ap, subst, ◌∙◌, append-nil, drop}
+use Rattle.std.specs.List.{flat_map, AllByRecursion}
 use Rattle.std.proofs.lemmas.List.{append_assoc}
 use Rattle.std.proofs.lemmas.List.Sorted.{IsPermutation-refl, IsPermutation-sym, IsPermutation-trans}
 use Rattle.std.proofs.lemmas.List.Sorted.{IsPermutation-middle, IsPermutation-append_left, IsPermutation-append_right}
 use Rattle.std.proofs.lemmas.List.Sorted.{IsPermutation-append_comm}
+use Rattle.lemmas.proofs.Each.{recursion_append}
 use Rattle.lemmas.proofs.Texts.{same_itself}
 use Rattle.sqlite.specs.declared.types.Value.TheVariants.{Int, Text}
 use Rattle.sqlite.specs.Effect.{Database}
 use Rattle.sqlite.specs.Order.{Row}
+use Rattle.sqlite.specs.Table.{Table}
 use Rattle.terms.specs.Types.{Text as Word, Id, Sysmod}
 use Rattle.store_rows.specs.Rows.{Contents, HasContents, in_place, with_row}
 use Rattle.store_rows.proofs.ContentsLemmas.{permuted}
 use Rattle.store_schema.specs.declared.release.Release.{Release}
 use Rattle.store_schema.specs.declared.release.Release.TheVariants.{First, Second, Third}
 use Rattle.store_schema.specs.Create.{with_new}
-use Rattle.store_schema.specs.Earlier.{IsOfEarlier, StandsUnder, missing_tables}
+use Rattle.store_schema.specs.Earlier.{IsOfEarlier, StandsUnder, missing_tables, tables_under}
 use Rattle.store_schema.specs.Inventory.{Inventory, IsInventory}
 use Rattle.store_schema.specs.Rows.{setting_row, number_row, source_row, sources_of, morevers_of, moreifs_of}
 use Rattle.store_schema.specs.Rows.{chosen_of}
@@ -108,10 +110,25 @@ numbered n =
     ap (λ b. (if b then number_row else setting_row n) ∷ [])
     (begins (codes "schema") (codes "schema") (Int n ∷ []) ∙ same_itself (codes "schema"))
 
-first_taken : (i : Inventory) (db : Database) → IsInventory i → IsOfEarlier i
-    → HasContents store_schema (with_number (fold with_moved (made_under First i) (map head_of i.global.sysmods))) db
+same_in : (c : Contents) (tables : List Table) → AllByRecursion (λ t. IsPermutation (c t.tree) (c t.tree)) tables
+same_in c [] = tt
+same_in c (t ∷ tables) = (IsPermutation-refl (c t.tree), same_in c tables)
+
+-- what an inventory of a release is besides
+abbrev pub IsOf : Release → Inventory → Type 0
+IsOf First i = IsOfEarlier i
+IsOf Second i = IsOfEarlier i
+IsOf Third i = Unit {0}
+
+pub stands_own : (r : Release) (i : Inventory) (db : Database) → StandsUnder r i db → IsOf r i
+stands_own First i db h = h.earlier
+stands_own Second i db h = h.earlier
+stands_own Third i db h = tt
+
+taken : (r : Release) (i : Inventory) (db : Database) → IsInventory i → IsOf r i
+    → HasContents store_schema (with_number (fold with_moved (made_under r i) (heads_under r i))) db
     → HasContents store_schema (rows_of i) db
-first_taken i db inventory earlier =
+taken First i db inventory earlier =
     let ss = i.global.sysmods in
     let heads = map head_of ss in
     let was = made_under First i in
@@ -159,108 +176,27 @@ first_taken i db inventory earlier =
         ),
       ),
     )
-
--- only the number is another
-second_taken : (i : Inventory) (db : Database) → IsOfEarlier i
-    → HasContents store_schema (with_number (made_under Second i)) db
-    → HasContents store_schema (rows_of i) db
-second_taken i db earlier =
+-- The number is another, and there are tables that it lacks.
+taken Second i db inventory earlier =
+    let own = drop 1 (tables_under Second) in
     permuted store_schema (with_number (made_under Second i)) (rows_of i) db (
       same_rows (sym (numbered (pos 2))),
-      (
-        IsPermutation-refl _,
-        (
-          IsPermutation-refl _,
-          (
-            IsPermutation-refl _,
-            (
-              IsPermutation-refl _,
-              (
-                IsPermutation-refl _,
-                (
-                  IsPermutation-refl _,
-                  (
-                    IsPermutation-refl _,
-                    (
-                      IsPermutation-refl _,
-                      (
-                        IsPermutation-refl _,
-                        (
-                          same_rows (no_morevers i earlier),
-                          (same_rows (no_moreifs i earlier), (same_rows (no_chosen i earlier), tt)),
-                        ),
-                      ),
-                    ),
-                  ),
-                ),
-              ),
-            ),
+      recursion_append (λ t. IsPermutation (rows_of i t.tree) (with_number (made_under Second i) t.tree)) own
+          (missing_tables Second) (same_in (rows_of i) own) (
+            same_rows (no_morevers i earlier),
+            (same_rows (no_moreifs i earlier), (same_rows (no_chosen i earlier), tt)),
           ),
-        ),
-      ),
     )
-
-third_taken : (i : Inventory) (db : Database) → HasContents store_schema (with_number (made_under Third i)) db
-    → HasContents store_schema (rows_of i) db
-third_taken i db =
-    permuted store_schema (with_number (made_under Third i)) (rows_of i) db (
-      same_rows (sym (numbered (pos 3))),
-      (
-        IsPermutation-refl _,
-        (
-          IsPermutation-refl _,
-          (
-            IsPermutation-refl _,
-            (
-              IsPermutation-refl _,
-              (
-                IsPermutation-refl _,
-                (
-                  IsPermutation-refl _,
-                  (
-                    IsPermutation-refl _,
-                    (
-                      IsPermutation-refl _,
-                      (
-                        IsPermutation-refl _,
-                        (IsPermutation-refl _, (IsPermutation-refl _, (IsPermutation-refl _, tt))),
-                      ),
-                    ),
-                  ),
-                ),
-              ),
-            ),
-          ),
-        ),
-      ),
-    )
-
--- what an inventory of a release is besides
-abbrev pub IsOf : Release → Inventory → Type 0
-IsOf First i = IsOfEarlier i
-IsOf Second i = IsOfEarlier i
-IsOf Third i = Unit {0}
-
-pub stands_own : (r : Release) (i : Inventory) (db : Database) → StandsUnder r i db → IsOf r i
-stands_own First i db h = h.earlier
-stands_own Second i db h = h.earlier
-stands_own Third i db h = tt
+-- Only the number is another.
+taken Third i db inventory own =
+    permuted store_schema (with_number (made_under Third i)) (rows_of i) db
+    (same_rows (sym (numbered (pos 3))), same_in (rows_of i) (drop 1 (tables_under Third)))
 
 pub all_taken : (r : Release) (i : Inventory) (heads : List Head) (db : Database) → heads ≡ heads_under r i
     → IsInventory i → IsOf r i → HasContents store_schema (with_number (fold with_moved (made_under r i) heads)) db
     → StandsFor i db
-all_taken First i heads db are inventory own held = record {
-  tables = first_taken i db inventory own (subst (λ hs. HasContents store_schema
-      (with_number (fold with_moved (made_under First i) hs)) db) are held);
-  inventory = inventory;
-}
-all_taken Second i heads db are inventory own held = record {
-  tables = second_taken i db own (subst (λ hs. HasContents store_schema
-      (with_number (fold with_moved (made_under Second i) hs)) db) are held);
-  inventory = inventory;
-}
-all_taken Third i heads db are inventory own held = record {
-  tables = third_taken i db (subst (λ hs. HasContents store_schema
-      (with_number (fold with_moved (made_under Third i) hs)) db) are held);
+all_taken r i heads db are inventory own held = record {
+  tables = taken r i db inventory own
+      (subst (λ hs. HasContents store_schema (with_number (fold with_moved (made_under r i) hs)) db) are held);
   inventory = inventory;
 }

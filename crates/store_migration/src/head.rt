@@ -39,7 +39,8 @@ fn all_heads(alloc: Global, sysmods: &[Sysmod]) -> Result<Vec<Head>, AllocError>
     Ok(heads)
 }
 
-/// What is moved of all SYSMODs, which these are, where the tables are those of the release.
+/// What is moved of all SYSMODs, which these are, where the tables are those of the release. The error comes where
+/// memory runs out.
 pub fn heads_of(
     alloc: Global,
     release: Release,

@@ -42,7 +42,9 @@ fn migrated<S: Alter>(alloc: Global, conn: &mut Connection<S>) -> Result<(), Sto
 
 /// Takes the tables of an earlier schema over to the store's, in one transaction, and makes them in a database that has
 /// none. Before that all rows are read, those of one zone at a time, so that bad ones stay as they are. Like
-/// `Store::open` it hands the connection back with its error.
+/// `Store::open` it hands the connection back with its error: `OtherSchema` comes where `meta` gives a number that no
+/// release has, `NoState` where the tables are else those of no release, or the rows stand for no state, `Fault` where
+/// the database fails or has tables but no `meta` with its columns, and `Memory` where memory runs out.
 pub fn migrate<S: Alter>(
     alloc: Global,
     mut conn: Connection<S>,

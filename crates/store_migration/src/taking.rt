@@ -27,7 +27,8 @@ fn write<S: Alter>(
     write_number(tx)
 }
 
-/// Makes the tables of the release the store's. Of schema 1 the sources of all SYSMODs are moved, which these are.
+/// Makes the tables of the release the store's. Of schema 1 the sources of all SYSMODs are moved, which these are. An
+/// error comes where the database refuses a table or a row, where the disk fails or memory is short.
 pub fn take_over<S: Alter>(
     conn: &mut Connection<S>,
     release: Release,

@@ -30,11 +30,6 @@ pub if_ok : {A E : Type 0} (r : Result A E) (P Q : A → Type 0) → ((a : A) �
 if_ok (Ok a) P Q f h = f a h
 if_ok (Err e) P Q f h = tt
 
-pub if_ok_both : {A E : Type 0} (r : Result A E) (P Q R : A → Type 0) → ((a : A) → P a → Q a → R a) → IfOk r P
-    → IfOk r Q → IfOk r R
-if_ok_both (Ok a) P Q R f h k = f a h k
-if_ok_both (Err e) P Q R f h k = tt
-
 module _ {S : Type 0} (g : Ghosts S) where
   pub stays : (old : Held S) → StaysInside g old old
   stays old = record {

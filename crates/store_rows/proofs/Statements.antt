@@ -6,6 +6,7 @@ use Rattle.std.proofs.Common.{ap, subst, subst₂, ◌∙◌, append-nil, fold}
 use Rattle.std.proofs.lemmas.Bool.{cases_Bool, and_parts, not-true}
 use Rattle.std.specs.List.{flat_map, list_all}
 use Rattle.std.proofs.lemmas.List.Sorted.{IsPermutation-map}
+use Rattle.lemmas.proofs.Lists.{flat_if_single}
 use Rattle.sqlite.specs.declared.error.Error.{Error}
 use Rattle.sqlite.specs.declared.error.Error.TheVariants.{SqliteFailure}
 use Rattle.sqlite.specs.declared.error.ErrorCode.TheVariants.{TransactionState}
@@ -234,17 +235,6 @@ puts_one schema table db next sources new is w =
       a,
     )
 
--- one item for each that passes a test
-pub scanned : {A B : Type 0} (p : A → Bool) (f : A → B) (xs : List A)
-    → flat_map (λ x. if p x then f x ∷ [] else []) xs ≡ map f (filter p xs)
-scanned p f [] = refl
-scanned p f (x ∷ xs) = go (p x) refl (scanned p f xs)
-  where
-    go : (b : Bool) → p x ≡ b → flat_map (λ y. if p y then f y ∷ [] else []) xs ≡ map f (filter p xs)
-        → flat_map (λ y. if p y then f y ∷ [] else []) (x ∷ xs) ≡ map f (filter p (x ∷ xs))
-    go true e later = rw e (ap (λ ys. f x ∷ ys) later)
-    go false e later = rw e later
-
 abbrev no_tables : List (List Row)
 no_tables = []
 
@@ -264,7 +254,7 @@ scans tree tests project order db params rows h =
     let staged : a.staged ≡ map (λ r. params ∷ r ∷ []) (filter (λ r. list_all (holds (params ∷ r ∷ [])) tests)
     (db tree)) =
     a.grouped ∙ ap (flat_map (λ r. if list_all (holds (params ∷ r ∷ [])) tests then (params ∷ r ∷ []) ∷ [] else []))
-    (not_given _ (tree - 2 ^ 31) (db tree)) ∙ scanned _ _ (db tree) in
+    (not_given _ (tree - 2 ^ 31) (db tree)) ∙ flat_if_single _ _ (db tree) in
     let kept : map (λ (o : Output). o.1) a.kept ≡ map (λ r. eval_all project (params ∷ r ∷ []))
     (filter (λ r. list_all (holds (params ∷ r ∷ [])) tests) (db tree)) =
     ap (map (λ (o : Output). o.1)) (a.distinct ∙ ap (map (output q)) staged) ∙ map-map _ _ _ ∙ map-map _ _ _ in

@@ -28,6 +28,8 @@ pub trait FromRow {
     // Whether the item has the forms that are looked for in a row.
     ghost has_form: { Self.Item → Type 0 };
 
+    /// What the row stands for. `BadRow` comes where it stands for nothing, `Memory` where memory runs out, and `Fault`
+    /// never.
     fn read(alloc: Global, row: &Row) -> Result<Self::Item, ReadError>
         ensures read { IfOk result (λ item. (row.now ≡ row_of item) × has_form item) }
         ensures none { IsErrOf result ReadError.BadRow → (item : Self.Item) → has_form item → row.now ≢ row_of item }
@@ -52,7 +54,8 @@ fn read_all<T: FromRow>(alloc: Global, rows: &[Row]) -> Result<Vec<T::Item>, Rea
     Ok(items)
 }
 
-/// What the rows that the query finds stand for, whose first columns are the key.
+/// What the rows that the query finds stand for, whose first columns are the key. `BadRow` comes where a row stands for
+/// nothing, `Memory` where memory is short, and `Fault` where the disk fails or the database refuses the query.
 pub fn load<S: Alter, T: FromRow>(
     alloc: Global,
     conn: &mut Connection<S>,

@@ -32,7 +32,8 @@ fn run<S: Alter>(
     Ok(())
 }
 
-/// Puts one more row into the table that the text names, whose columns are the parameters.
+/// Puts one more row into the table that the text names, whose columns are the parameters. An error comes where the
+/// database refuses the statement, as for a row whose key is there, where the disk fails or memory is short.
 pub fn insert<S: Alter>(
     tx: &mut Transaction<'_, S>,
     sql: &str,
@@ -49,7 +50,8 @@ pub fn insert<S: Alter>(
     run(tx, sql, row)
 }
 
-/// Takes out of the table that the text names the rows whose first columns are the parameters.
+/// Takes out of the table that the text names the rows whose first columns are the parameters. An error comes where the
+/// database refuses the statement, where the disk fails or memory is short.
 pub fn remove<S: Alter>(
     tx: &mut Transaction<'_, S>,
     sql: &str,
@@ -68,7 +70,8 @@ pub fn remove<S: Alter>(
 
 /// Puts a row, whose columns are the parameters, into the table that the text names. Where a row has its key, that row
 /// is updated and keeps its rowid; `INSERT OR REPLACE` would take it out, and might take out the row of another key,
-/// whose rowid the new one gets.
+/// whose rowid the new one gets. An error comes where the database refuses the statement, where the disk fails or
+/// memory is short.
 pub fn put<S: Alter>(
     tx: &mut Transaction<'_, S>,
     sql: &str,
@@ -87,7 +90,7 @@ pub fn put<S: Alter>(
 
 /// Puts the parameters, as the columns of a row, in place of each row of the table that the text
 /// names whose first columns are so many of the parameters. Rows that refer to it stay, where a removal would take
-/// them along.
+/// them along. An error comes where the database refuses the statement, where the disk fails or memory is short.
 pub fn replace<S: Alter>(
     tx: &mut Transaction<'_, S>,
     sql: &str,
@@ -105,7 +108,8 @@ pub fn replace<S: Alter>(
 }
 
 /// Takes out of the table that the text names the rows whose first column is the one parameter,
-/// where the tables that refer to it hold no row of theirs.
+/// where the tables that refer to it hold no row of theirs. An error comes where the database refuses the statement,
+/// where the disk fails or memory is short.
 pub fn remove_parent<S: Alter>(
     tx: &mut Transaction<'_, S>,
     sql: &str,

@@ -125,6 +125,7 @@ fn add_more<S: Alter>(tx: &mut Transaction<'_, S>) -> Result<(), Error>
 }
 
 /// Makes the tables of the store that the release has not, in a transaction that is open. The rows of the others stay.
+/// An error comes where the database refuses a table, as one that is there, where the disk fails or memory is short.
 pub fn add_tables<S: Alter>(tx: &mut Transaction<'_, S>, release: Release) -> Result<(), Error>
     ensures same_reference { tx.new.conn.ghost_name ≡ tx.old.conn.ghost_name }
     ensures inside { StaysInside S.Store tx.old.conn.now tx.new.conn.now }

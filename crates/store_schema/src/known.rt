@@ -50,8 +50,10 @@ fn check<S: Alter>(alloc: Global, conn: &mut Connection<S>) -> Result<(), StoreE
     check_own(alloc, conn)
 }
 
-/// Makes the tables in a database that has none, and knows those of another. It changes nothing
-/// where they are the store's, and nothing where it fails.
+/// Makes the tables in a database that has none, and knows those of another. It changes nothing where they are the
+/// store's, and nothing where it fails. `OtherSchema` comes where `meta` gives another number than the store's,
+/// `NoState` where the tables are else not the store's, `Fault` where the database fails or has tables but no `meta`
+/// with its columns, and `Memory` where memory runs out.
 pub fn set_up<S: Alter>(alloc: Global, conn: &mut Connection<S>) -> Result<(), StoreError>
     requires { conn.old.in_transaction ≡ false }
     ensures stands { HasCleanDisk (state S.Store conn.new) → OnOk result

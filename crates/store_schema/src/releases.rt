@@ -54,8 +54,9 @@ fn known_release<S: Alter>(alloc: Global, conn: &mut Connection<S>) -> Result<Re
     release_by_tables(alloc, conn)
 }
 
-/// The release that the tables are of, and none where there are no tables. It changes nothing. `OtherSchema` is for a
-/// number that no release has, `NoState` for any other tables.
+/// The release that the tables are of, and none where there are no tables. It changes nothing. `OtherSchema` comes
+/// where `meta` gives a number that no release has, `NoState` where the tables are else those of no release, `Fault`
+/// where the database fails or has tables but no `meta` with its columns, and `Memory` where memory runs out.
 pub fn release_of<S: Alter>(
     alloc: Global,
     conn: &mut Connection<S>,

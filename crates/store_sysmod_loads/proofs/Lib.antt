@@ -5,6 +5,7 @@ pub mod RunLemmas
 pub mod FlatLemmas
 pub mod RiseLemmas
 pub mod Parted
+pub mod Both
 pub mod Further
 pub mod VersApart
 pub mod PartLemmas

@@ -1,5 +1,6 @@
--- What the texts mean.
+-- What the texts mean, under each schema that has their tables.
 use Rattle.std.proofs.Common.{◌≡◌, ◌≢◌, ◌++◌, ℕ, List, codes, refl}
+use Rattle.std.specs.Prelude.{⊤}
 use Rattle.std.proofs.Math.Dec.{lit≤}
 use Rattle.sqlite.specs.Listing.{understood}
 use Rattle.sqlite.specs.Table.{Table}
@@ -14,151 +15,88 @@ use Rattle.store_schema.specs.Tables.{sysmod, ver, ifreq, elem, source, morever,
 use Rattle.store_schema.specs.Tables.{schema_of, store_schema}
 use Rattle.store_columns.proofs.Releases.{under_each, under_later, under_third}
 
--- ---- heads
+-- The text asks for all rows of the table, in each release that has it.
+pub record Lists (knows : Release → Type 0) (at : ℕ) (table : Table) (sql : List ℕ) : Type 0 where
+  pub reads : (r : Release) → knows r → ReadsRows (schema_under r) table 0 sql
+  pub there : (r : Release) → knows r → IsTableOf (schema_under r) at table
+  pub selects : IsSelect sql
 
-pub heads_there : (r : Release) → IsTableOf (schema_under r) 1 sysmod
-heads_there First = record { found = refl; alone = refl }
-heads_there Second = record { found = refl; alone = refl }
-heads_there Third = record { found = refl; alone = refl }
+module _ {at : ℕ} {table : Table} {sql : List ℕ} where
+  -- of a table that each release has
+  lists_each : ((more : List Table) → ReadsRows (schema_of (first_tables ++ more)) table 0 sql)
+      → IsTableOf (schema_under First) at table → IsTableOf (schema_under Second) at table
+      → IsTableOf (schema_under Third) at table → IsSelect sql → Lists (λ r. ⊤) at table sql
+  lists_each reads first second third selects = record {
+    reads = λ r known. under_each (λ schema. ReadsRows schema table 0 sql) reads r;
+    there = λ r known. by r;
+    selects = selects;
+  }
+    where
+      by : (r : Release) → IsTableOf (schema_under r) at table
+      by First = first
+      by Second = second
+      by Third = third
 
-abbrev pub select_heads : List ℕ
-select_heads = codes "SELECT id, kind, sources FROM sysmod"
+  -- of one that came with schema 2
+  lists_later : ((more : List Table) → ReadsRows (schema_of (second_tables ++ more)) table 0 sql)
+      → IsTableOf (schema_under Second) at table → IsTableOf (schema_under Third) at table → IsSelect sql
+      → Lists (λ r. r ≢ First) at table sql
+  lists_later reads second third selects = record {
+    reads = under_later (λ schema. ReadsRows schema table 0 sql) reads;
+    there = by;
+    selects = selects;
+  }
+    where
+      by : (r : Release) → r ≢ First → IsTableOf (schema_under r) at table
+      by First later = absurd (later refl)
+      by Second later = second
+      by Third later = third
 
-heads_before : (more : List Table) → ReadsRows (schema_of (first_tables ++ more)) sysmod 0 select_heads
+  -- and of one that came with schema 3
+  lists_third : ReadsRows store_schema table 0 sql → IsTableOf store_schema at table → IsSelect sql
+      → Lists (λ r. r ≡ Third) at table sql
+  lists_third reads there selects = record {
+    reads = under_third (λ schema. ReadsRows schema table 0 sql) reads;
+    there = under_third (λ schema. IsTableOf schema at table) there;
+    selects = selects;
+  }
+
+pub heads : Lists (λ r. ⊤) 1 sysmod (codes "SELECT id, kind, sources FROM sysmod")
 unfolding understood everything
-heads_before more = reads_all refl (refl, refl) refl (lit≤ tt) refl refl
+heads =
+    lists_each (λ more. reads_all refl (refl, refl) refl (lit≤ tt) refl refl) (record { found = refl; alone = refl })
+    (record { found = refl; alone = refl }) (record { found = refl; alone = refl }) refl
 
-pub reads_heads : (r : Release) → ReadsRows (schema_under r) sysmod 0 select_heads
-reads_heads r = under_each (λ schema. ReadsRows schema sysmod 0 select_heads) heads_before r
-
-pub selects_heads : IsSelect select_heads
-unfolding everything
-selects_heads = refl
-
--- ---- vers
-
-pub vers_there : (r : Release) → IsTableOf (schema_under r) 2 ver
-vers_there First = record { found = refl; alone = refl }
-vers_there Second = record { found = refl; alone = refl }
-vers_there Third = record { found = refl; alone = refl }
-
-abbrev pub select_vers : List ℕ
-select_vers = codes "SELECT id, srel, fmid, pre, req, sup, npre, del FROM ver"
-
-vers_before : (more : List Table) → ReadsRows (schema_of (first_tables ++ more)) ver 0 select_vers
+pub vers : Lists (λ r. ⊤) 2 ver (codes "SELECT id, srel, fmid, pre, req, sup, npre, del FROM ver")
 unfolding understood everything
-vers_before more = reads_all refl (refl, refl) refl (lit≤ tt) refl refl
+vers =
+    lists_each (λ more. reads_all refl (refl, refl) refl (lit≤ tt) refl refl) (record { found = refl; alone = refl })
+    (record { found = refl; alone = refl }) (record { found = refl; alone = refl }) refl
 
-pub reads_vers : (r : Release) → ReadsRows (schema_under r) ver 0 select_vers
-reads_vers r = under_each (λ schema. ReadsRows schema ver 0 select_vers) vers_before r
-
-pub selects_vers : IsSelect select_vers
-unfolding everything
-selects_vers = refl
-
--- ---- ifs
-
-pub ifs_there : (r : Release) → IsTableOf (schema_under r) 3 ifreq
-ifs_there First = record { found = refl; alone = refl }
-ifs_there Second = record { found = refl; alone = refl }
-ifs_there Third = record { found = refl; alone = refl }
-
-abbrev pub select_ifs : List ℕ
-select_ifs = codes "SELECT id, srel, n, fmid, req FROM ifreq"
-
-ifs_before : (more : List Table) → ReadsRows (schema_of (first_tables ++ more)) ifreq 0 select_ifs
+pub ifs : Lists (λ r. ⊤) 3 ifreq (codes "SELECT id, srel, n, fmid, req FROM ifreq")
 unfolding understood everything
-ifs_before more = reads_all refl (refl, refl) refl (lit≤ tt) refl refl
+ifs =
+    lists_each (λ more. reads_all refl (refl, refl) refl (lit≤ tt) refl refl) (record { found = refl; alone = refl })
+    (record { found = refl; alone = refl }) (record { found = refl; alone = refl }) refl
 
-pub reads_ifs : (r : Release) → ReadsRows (schema_under r) ifreq 0 select_ifs
-reads_ifs r = under_each (λ schema. ReadsRows schema ifreq 0 select_ifs) ifs_before r
-
-pub selects_ifs : IsSelect select_ifs
-unfolding everything
-selects_ifs = refl
-
--- ---- elems
-
-pub elems_there : (r : Release) → IsTableOf (schema_under r) 5 elem
-elems_there First = record { found = refl; alone = refl }
-elems_there Second = record { found = refl; alone = refl }
-elems_there Third = record { found = refl; alone = refl }
-
-abbrev pub select_elems : List ℕ
-select_elems = codes "SELECT id, type, name, upd, distlib, syslib, text FROM elem"
-
-elems_before : (more : List Table) → ReadsRows (schema_of (first_tables ++ more)) elem 0 select_elems
+pub elems : Lists (λ r. ⊤) 5 elem (codes "SELECT id, type, name, upd, distlib, syslib, text FROM elem")
 unfolding understood everything
-elems_before more = reads_all refl (refl, refl) refl (lit≤ tt) refl refl
+elems =
+    lists_each (λ more. reads_all refl (refl, refl) refl (lit≤ tt) refl refl) (record { found = refl; alone = refl })
+    (record { found = refl; alone = refl }) (record { found = refl; alone = refl }) refl
 
-pub reads_elems : (r : Release) → ReadsRows (schema_under r) elem 0 select_elems
-reads_elems r = under_each (λ schema. ReadsRows schema elem 0 select_elems) elems_before r
-
-pub selects_elems : IsSelect select_elems
-unfolding everything
-selects_elems = refl
-
--- ---- sources
-
-pub sources_there : (r : Release) → r ≢ First → IsTableOf (schema_under r) 9 source
-sources_there First later = absurd (later refl)
-sources_there Second later = record { found = refl; alone = refl }
-sources_there Third later = record { found = refl; alone = refl }
-
-abbrev pub select_sources : List ℕ
-select_sources = codes "SELECT id, name FROM source"
-
-sources_before : (more : List Table) → ReadsRows (schema_of (second_tables ++ more)) source 0 select_sources
+pub sources : Lists (λ r. r ≢ First) 9 source (codes "SELECT id, name FROM source")
 unfolding understood everything
-sources_before more = reads_all refl (refl, refl) refl (lit≤ tt) refl refl
+sources =
+    lists_later (λ more. reads_all refl (refl, refl) refl (lit≤ tt) refl refl) (record { found = refl; alone = refl })
+    (record { found = refl; alone = refl }) refl
 
-pub reads_sources : (r : Release) → r ≢ First → ReadsRows (schema_under r) source 0 select_sources
-reads_sources r later = under_later (λ schema. ReadsRows schema source 0 select_sources) sources_before r later
-
-pub selects_sources : IsSelect select_sources
-unfolding everything
-selects_sources = refl
-
--- ---- more_vers
-
-more_vers_last : IsTableOf store_schema 10 morever
-more_vers_last = record { found = refl; alone = refl }
-
-pub more_vers_there : (r : Release) → r ≡ Third → IsTableOf (schema_under r) 10 morever
-more_vers_there r is = under_third (λ schema. IsTableOf schema 10 morever) more_vers_last r is
-
-abbrev pub select_more_vers : List ℕ
-select_more_vers = codes "SELECT id, srel, n, fmid, pre, req, sup FROM morever"
-
-more_vers_read : ReadsRows store_schema morever 0 select_more_vers
+pub more_vers : Lists (λ r. r ≡ Third) 10 morever (codes "SELECT id, srel, n, fmid, pre, req, sup FROM morever")
 unfolding understood everything
-more_vers_read = reads_all refl (refl, refl) refl (lit≤ tt) refl refl
+more_vers =
+    lists_third (reads_all refl (refl, refl) refl (lit≤ tt) refl refl) (record { found = refl; alone = refl }) refl
 
-pub reads_more_vers : (r : Release) → r ≡ Third → ReadsRows (schema_under r) morever 0 select_more_vers
-reads_more_vers r is = under_third (λ schema. ReadsRows schema morever 0 select_more_vers) more_vers_read r is
-
-pub selects_more_vers : IsSelect select_more_vers
-unfolding everything
-selects_more_vers = refl
-
--- ---- more_ifs
-
-more_ifs_last : IsTableOf store_schema 11 moreif
-more_ifs_last = record { found = refl; alone = refl }
-
-pub more_ifs_there : (r : Release) → r ≡ Third → IsTableOf (schema_under r) 11 moreif
-more_ifs_there r is = under_third (λ schema. IsTableOf schema 11 moreif) more_ifs_last r is
-
-abbrev pub select_more_ifs : List ℕ
-select_more_ifs = codes "SELECT id, srel, v, n, fmid, req FROM moreif"
-
-more_ifs_read : ReadsRows store_schema moreif 0 select_more_ifs
+pub more_ifs : Lists (λ r. r ≡ Third) 11 moreif (codes "SELECT id, srel, v, n, fmid, req FROM moreif")
 unfolding understood everything
-more_ifs_read = reads_all refl (refl, refl) refl (lit≤ tt) refl refl
-
-pub reads_more_ifs : (r : Release) → r ≡ Third → ReadsRows (schema_under r) moreif 0 select_more_ifs
-reads_more_ifs r is = under_third (λ schema. ReadsRows schema moreif 0 select_more_ifs) more_ifs_read r is
-
-pub selects_more_ifs : IsSelect select_more_ifs
-unfolding everything
-selects_more_ifs = refl
+more_ifs =
+    lists_third (reads_all refl (refl, refl) refl (lit≤ tt) refl refl) (record { found = refl; alone = refl }) refl

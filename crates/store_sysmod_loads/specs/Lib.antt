@@ -1,6 +1,7 @@
 pub mod Flat
 pub mod Runs
 pub mod Joined
+pub mod Both
 pub mod Built
 pub mod Flats
 pub mod Gathered

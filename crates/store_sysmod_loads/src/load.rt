@@ -19,7 +19,8 @@ use sysmods_records::Sysmod;
 
 /// All SYSMODs with their sources, `++VER`s, `++IF`s and element statements, by their ids, in the
 /// tables of the release. A row that belongs to no other is bad, and so is a `++VER` or an `++IF` whose
-/// number is not the next.
+/// number is not the next. `BadRow` comes where a row is bad, `Memory` where memory is short, and `Fault` where the
+/// disk fails or the tables are others.
 pub fn load_sysmods<S: Alter>(
     alloc: Global,
     conn: &mut Connection<S>,

@@ -1,6 +1,6 @@
-//! The rows of a table, sorted.
+//! The rows of a table or of two, sorted.
 
-ghost use Rattle.std.specs.Prelude.{◌≡◌, ◌++◌, List, map, IfOk, IsErrOf, IsPermutation};
+ghost use Rattle.std.specs.Prelude.{◌≡◌, ◌⊎◌, ◌++◌, List, map, IfOk, IsErrOf, IsPermutation};
 ghost use Rattle.std.specs.List.{AllByRecursion};
 ghost use Rattle.sqlite.specs.Held.{state};
 ghost use Rattle.sqlite.specs.State.{HasCleanDisk};
@@ -9,6 +9,7 @@ ghost use Rattle.store_rows.specs.Rows.{Contents, HasContents};
 ghost use Rattle.store_schema.specs.declared.release.Release.{Release};
 ghost use Rattle.store_schema.specs.Earlier.{schema_under};
 ghost use Rattle.terms.specs.Rising.{Rises};
+ghost use Rattle.store_sysmod_loads.specs.Both.{AreOfBoth};
 
 use sqlite::{Alter, Connection};
 use std::alloc::{AllocError, Global};
@@ -29,6 +30,17 @@ pub(crate) trait Listed: Query {
     ghost whole: { Self.width ≡ 0 };
 }
 
+/// A row of which two tables have some each, of the same keys.
+pub(crate) trait InTwo: Drop {
+    ghost use Rattle.std.specs.Prelude.{◌≡◌};
+
+    type Firsts: FromRow<Item = Self> + Listed<Rows = Self::Firsts>;
+
+    type Furthers: FromRow<Item = Self> + Query<Rows = Self::Furthers>;
+
+    ghost whole: { Self.Furthers.width ≡ 0 };
+}
+
 /// The items by their keys.
 fn sorted<T: Listed>(mut items: Vec<<T::Rows as FromRow>::Item>) -> Vec<<T::Rows as FromRow>::Item>
     ensures same { IsPermutation items.items result.items }
@@ -40,7 +52,7 @@ fn sorted<T: Listed>(mut items: Vec<<T::Rows as FromRow>::Item>) -> Vec<<T::Rows
 }
 
 /// The items of both lists, by their keys.
-pub(crate) fn merged<T: Listed>(
+fn merged<T: Listed>(
     mut items: Vec<<T::Rows as FromRow>::Item>,
     mut more: Vec<<T::Rows as FromRow>::Item>,
 ) -> Result<Vec<<T::Rows as FromRow>::Item>, AllocError>
@@ -75,4 +87,34 @@ pub(crate) fn load_sorted<S: Alter, T: Listed>(
 {
     let items = load_listed::<S, T>(alloc, conn, &[])?;
     Ok(sorted::<T>(items))
+}
+
+/// What the rows of both tables stand for, by their keys.
+pub(crate) fn load_both<S: Alter, T: InTwo>(
+    alloc: Global,
+    conn: &mut Connection<S>,
+) -> Result<Vec<T>, ReadError>
+    ensures found { HasCleanDisk (state S.Store conn.new) → (r : Release) → T.Firsts.knows r → T.Furthers.knows r
+        → (contents : Contents) → HasContents (schema_under r) contents (state S.Store conn.old).now
+        → IfOk result (λ rows. (firsts : List T) × (furthers : List T) × AreOfBoth T.Firsts.row_of T.Furthers.row_of
+        T.Firsts.has_form T.Furthers.has_form (contents T.Firsts.table.tree) (contents T.Furthers.table.tree) firsts
+        furthers rows.items) }
+    ensures forms { IfOk result (λ rows. AllByRecursion (λ x. T.Firsts.has_form x ⊎ T.Furthers.has_form x) rows.items) }
+    ensures only { HasCleanDisk (state S.Store conn.new) → (r : Release) → T.Firsts.knows r → T.Furthers.knows r
+        → (contents : Contents) → HasContents (schema_under r) contents (state S.Store conn.old).now
+        → IfOk result (λ rows. (firsts furthers xs : List T) → AreOfBoth T.Firsts.row_of T.Furthers.row_of
+        T.Firsts.has_form T.Furthers.has_form (contents T.Firsts.table.tree) (contents T.Furthers.table.tree) firsts
+        furthers xs → Rises T.Firsts.Key.cmp T.Firsts.key_of xs → rows.items ≡ xs) }
+    ensures none { HasCleanDisk (state S.Store conn.new) → IsErrOf result ReadError.BadRow → (r : Release)
+        → T.Firsts.knows r → T.Furthers.knows r → (contents : Contents)
+        → HasContents (schema_under r) contents (state S.Store conn.old).now → (firsts furthers xs : List T)
+        → ¬ AreOfBoth T.Firsts.row_of T.Furthers.row_of T.Firsts.has_form T.Furthers.has_form
+        (contents T.Firsts.table.tree) (contents T.Furthers.table.tree) firsts furthers xs }
+    ensures reads { (r : Release) → T.Firsts.knows r → T.Furthers.knows r
+        → OnlyReads S.Store (schema_under r) ReadError.BadRow ReadError.Fault conn.old conn.new result }
+{
+    let firsts = load_listed::<S, T::Firsts>(alloc, conn, &[])?;
+    let furthers = load_listed::<S, T::Furthers>(alloc, conn, &[])?;
+    let rows = merged::<T::Firsts>(firsts, furthers)?;
+    Ok(rows)
 }

@@ -5,6 +5,7 @@ use Rattle.std.proofs.Common.{Err, IsErrAnd, refl, sym, ap, ◌∙◌}
 use Rattle.std.specs.List.{flat_map, enumerate_from}
 use Rattle.std.proofs.lemmas.List.{append_assoc, length-append, take_more, take_all, take-append-drop}
 use Rattle.std.proofs.lemmas.List.Concat.{flat_map_single}
+use Rattle.lemmas.proofs.Lists.{flat_if}
 use Rattle.sqlite.specs.Store.{Ghosts}
 use Rattle.sqlite.specs.Order.{Row}
 use Rattle.sqlite.specs.Table.{Table}
@@ -35,17 +36,6 @@ pub numbered_rows : (rows : ℕ × Ver → List Row) (front vs : List Ver)
 numbered_rows rows front [] = refl
 numbered_rows rows front (v ∷ vs) =
     ap (λ more. of_numbered rows front v ++ more) (numbered_rows rows (front ++ v ∷ []) vs)
-
--- items that pass a test have some rows, and the others have none
-pub flat_if : {X Y : Type 0} (p : X → Bool) (f : X → List Y) (xs : List X)
-    → flat_map (λ x. if p x then f x else []) xs ≡ flat_map f (filter p xs)
-flat_if p f [] = refl
-flat_if p f (x ∷ xs) = go (p x) refl (flat_if p f xs)
-  where
-    go : (b : Bool) → p x ≡ b → flat_map (λ x. if p x then f x else []) xs ≡ flat_map f (filter p xs)
-        → flat_map (λ x. if p x then f x else []) (x ∷ xs) ≡ flat_map f (filter p (x ∷ xs))
-    go true e later = rw e (ap (λ rows. f x ++ rows) later)
-    go false e later = rw e later
 
 -- ---- the rows of a SYSMOD's ++VERs and of their ++IFs
 

@@ -1,5 +1,5 @@
 //! Rows edited by hand that stand for no state.
-use crate::known::{FURTHER, doubled, filled, joined, opened, run_all, zone_name};
+use crate::known::{FURTHER, doubled, filled, joined, opened, run, run_all, zone_name};
 use sqlite::{Alter, Connection};
 use sqlite_value::value::ValueRef;
 use std::alloc::Global;
@@ -45,40 +45,12 @@ const VERS: &[&str] = &[
     "UPDATE ver SET srel = 'z038' WHERE id = 'AAA0003'",
     "UPDATE ver SET srel = 'ZZ38' WHERE id = 'AAA0003'",
     "UPDATE ver SET srel = '' WHERE id = 'AAA0003'",
-    "UPDATE ver SET fmid = 'HAA110' WHERE id = 'AAA0003'",
-    "UPDATE ver SET fmid = 'haa1100' WHERE id = 'AAA0003'",
-    "UPDATE ver SET fmid = '' WHERE id = 'AAA0003'",
     "UPDATE ver SET fmid = NULL WHERE id = 'AAA0003'",
     "UPDATE ver SET fmid = id WHERE id = 'HAA1100'",
-    "UPDATE ver SET pre = 'UZZ0002,UZZ0001' WHERE id = 'HAA1200'",
-    "UPDATE ver SET pre = 'UZZ0001,UZZ0001' WHERE id = 'HAA1200'",
-    "UPDATE ver SET pre = 'UZZ001' WHERE id = 'HAA1200'",
-    "UPDATE ver SET pre = 'UZZ0001,' WHERE id = 'HAA1200'",
-    "UPDATE ver SET pre = 'UZZ0001 UZZ0002' WHERE id = 'HAA1200'",
     "UPDATE ver SET pre = id WHERE id = 'HAA1200'",
-    "UPDATE ver SET req = 'UZZ0002,UZZ0001' WHERE id = 'HAA1200'",
-    "UPDATE ver SET req = 'UZZ0001,UZZ0001' WHERE id = 'HAA1200'",
-    "UPDATE ver SET req = 'UZZ001' WHERE id = 'HAA1200'",
-    "UPDATE ver SET req = 'UZZ0001,' WHERE id = 'HAA1200'",
-    "UPDATE ver SET req = 'UZZ0001 UZZ0002' WHERE id = 'HAA1200'",
     "UPDATE ver SET req = id WHERE id = 'HAA1200'",
-    "UPDATE ver SET sup = 'UZZ0002,UZZ0001' WHERE id = 'HAA1200'",
-    "UPDATE ver SET sup = 'UZZ0001,UZZ0001' WHERE id = 'HAA1200'",
-    "UPDATE ver SET sup = 'UZZ001' WHERE id = 'HAA1200'",
-    "UPDATE ver SET sup = 'UZZ0001,' WHERE id = 'HAA1200'",
-    "UPDATE ver SET sup = 'UZZ0001 UZZ0002' WHERE id = 'HAA1200'",
     "UPDATE ver SET sup = id WHERE id = 'HAA1200'",
-    "UPDATE ver SET npre = 'UZZ0002,UZZ0001' WHERE id = 'HAA1200'",
-    "UPDATE ver SET npre = 'UZZ0001,UZZ0001' WHERE id = 'HAA1200'",
-    "UPDATE ver SET npre = 'UZZ001' WHERE id = 'HAA1200'",
-    "UPDATE ver SET npre = 'UZZ0001,' WHERE id = 'HAA1200'",
-    "UPDATE ver SET npre = 'UZZ0001 UZZ0002' WHERE id = 'HAA1200'",
     "UPDATE ver SET npre = id WHERE id = 'HAA1200'",
-    "UPDATE ver SET del = 'UZZ0002,UZZ0001' WHERE id = 'HAA1200'",
-    "UPDATE ver SET del = 'UZZ0001,UZZ0001' WHERE id = 'HAA1200'",
-    "UPDATE ver SET del = 'UZZ001' WHERE id = 'HAA1200'",
-    "UPDATE ver SET del = 'UZZ0001,' WHERE id = 'HAA1200'",
-    "UPDATE ver SET del = 'UZZ0001 UZZ0002' WHERE id = 'HAA1200'",
     "UPDATE ver SET del = id WHERE id = 'HAA1200'",
     "UPDATE ver SET npre = 'HBB0001' WHERE id = 'AAA0003'",
     "UPDATE ver SET del = 'HBB0001' WHERE id = 'AAA0003'",
@@ -97,15 +69,8 @@ const IFS: &[&str] = &[
     "UPDATE ifreq SET n = 9223372036854775807 WHERE srel = 'Z039'",
     "UPDATE ifreq SET n = 3 WHERE n = 2",
     "DELETE FROM ifreq WHERE n = 1 AND srel = 'Z038'",
-    "UPDATE ifreq SET fmid = 'HCC110' WHERE srel = 'Z039'",
-    "UPDATE ifreq SET fmid = 'hcc1100' WHERE srel = 'Z039'",
-    "UPDATE ifreq SET fmid = '' WHERE srel = 'Z039'",
     "UPDATE ifreq SET req = '' WHERE srel = 'Z039'",
     "UPDATE ifreq SET req = id WHERE srel = 'Z039'",
-    "UPDATE ifreq SET req = 'UCC0002,UCC0001' WHERE srel = 'Z039'",
-    "UPDATE ifreq SET req = 'UCC0001,UCC0001' WHERE srel = 'Z039'",
-    "UPDATE ifreq SET req = 'UCC001' WHERE srel = 'Z039'",
-    "UPDATE ifreq SET req = 'UCC0001,' WHERE srel = 'Z039'",
 ];
 
 /// Edits of further `++VER`s that move only within what may stand: eight `++VER`s in all, a further one for each of two
@@ -134,29 +99,11 @@ const MOREVERS: &[&str] = &[
     "DELETE FROM moreif; UPDATE morever SET srel = '' WHERE n = 3",
     "DELETE FROM moreif; UPDATE morever SET id = 'AAA0003' WHERE n = 3",
     "UPDATE morever SET fmid = NULL WHERE n = 3",
-    "UPDATE morever SET fmid = '' WHERE n = 3",
-    "UPDATE morever SET fmid = 'HCC110' WHERE n = 3",
-    "UPDATE morever SET fmid = 'hcc1100' WHERE n = 3",
     "UPDATE morever SET fmid = id WHERE n = 3",
     "UPDATE morever SET fmid = 'HAA1100' WHERE n = 3",
     "UPDATE morever SET fmid = 'HAA1200' WHERE n = 3",
-    "UPDATE morever SET pre = 'UZZ0002,UZZ0001' WHERE n = 3",
-    "UPDATE morever SET pre = 'UZZ0001,UZZ0001' WHERE n = 3",
-    "UPDATE morever SET pre = 'UZZ001' WHERE n = 3",
-    "UPDATE morever SET pre = 'UZZ0001,' WHERE n = 3",
-    "UPDATE morever SET pre = 'UZZ0001 UZZ0002' WHERE n = 3",
     "UPDATE morever SET pre = id WHERE n = 3",
-    "UPDATE morever SET req = 'UZZ0002,UZZ0001' WHERE n = 3",
-    "UPDATE morever SET req = 'UZZ0001,UZZ0001' WHERE n = 3",
-    "UPDATE morever SET req = 'UZZ001' WHERE n = 3",
-    "UPDATE morever SET req = 'UZZ0001,' WHERE n = 3",
-    "UPDATE morever SET req = 'UZZ0001 UZZ0002' WHERE n = 3",
     "UPDATE morever SET req = id WHERE n = 3",
-    "UPDATE morever SET sup = 'UZZ0002,UZZ0001' WHERE n = 3",
-    "UPDATE morever SET sup = 'UZZ0001,UZZ0001' WHERE n = 3",
-    "UPDATE morever SET sup = 'UZZ001' WHERE n = 3",
-    "UPDATE morever SET sup = 'UZZ0001,' WHERE n = 3",
-    "UPDATE morever SET sup = 'UZZ0001 UZZ0002' WHERE n = 3",
     "UPDATE morever SET sup = id WHERE n = 3",
     "INSERT INTO morever (id, srel, n, fmid, pre, req, sup) VALUES ('LLL0001', 'Z038', 4, 'HDD1104', '', '', ''); INSERT INTO morever (id, srel, n, fmid, pre, req, sup) VALUES ('LLL0001', 'Z038', 5, 'HDD1105', '', '', ''); INSERT INTO morever (id, srel, n, fmid, pre, req, sup) VALUES ('LLL0001', 'Z038', 6, 'HDD1106', '', '', ''); INSERT INTO morever (id, srel, n, fmid, pre, req, sup) VALUES ('LLL0001', 'Z038', 7, 'HDD1107', '', '', ''); INSERT INTO morever (id, srel, n, fmid, pre, req, sup) VALUES ('LLL0001', 'Z038', 8, 'HDD1108', '', '', ''); INSERT INTO morever (id, srel, n, fmid, pre, req, sup) VALUES ('LLL0001', 'Z038', 9, 'HDD1109', '', '', '')",
     "INSERT INTO morever (id, srel, n, fmid, pre, req, sup) VALUES ('HAA1200', 'Z038', 2, 'HCC1100', '', '', '')",
@@ -179,16 +126,9 @@ const MOREIFS: &[&str] = &[
     "UPDATE moreif SET n = 9223372036854775807 WHERE v = 3",
     "UPDATE moreif SET n = 3 WHERE n = 2",
     "DELETE FROM moreif WHERE v = 2 AND n = 1",
-    "UPDATE moreif SET fmid = 'HBB110' WHERE v = 3",
-    "UPDATE moreif SET fmid = 'hbb1100' WHERE v = 3",
-    "UPDATE moreif SET fmid = '' WHERE v = 3",
     "UPDATE moreif SET fmid = 'AAA0003' WHERE v = 3",
     "UPDATE moreif SET req = '' WHERE v = 3",
     "UPDATE moreif SET req = id WHERE v = 3",
-    "UPDATE moreif SET req = 'UBB0002,UBB0001' WHERE v = 3",
-    "UPDATE moreif SET req = 'UBB0001,UBB0001' WHERE v = 3",
-    "UPDATE moreif SET req = 'UBB001' WHERE v = 3",
-    "UPDATE moreif SET req = 'UBB0001,' WHERE v = 3",
 ];
 
 /// Element statements.
@@ -196,25 +136,13 @@ const ELEMS: &[&str] = &[
     "UPDATE elem SET type = 'mac' WHERE id = 'HAA1100' AND type = 'MAC'",
     "UPDATE elem SET type = 'MACUPD' WHERE id = 'HAA1100' AND type = 'MAC'",
     "UPDATE elem SET type = '' WHERE id = 'HAA1100' AND type = 'MAC'",
-    "UPDATE elem SET name = '1CLS' WHERE type = 'CLIST'",
-    "UPDATE elem SET name = 'cls1' WHERE type = 'CLIST'",
-    "UPDATE elem SET name = 'CLS123456' WHERE type = 'CLIST'",
-    "UPDATE elem SET name = '' WHERE type = 'CLIST'",
     "UPDATE elem SET upd = 1 WHERE type = 'CLIST'",
     "UPDATE elem SET upd = 2 WHERE type = 'CLIST'",
     "UPDATE elem SET upd = -1 WHERE type = 'CLIST'",
     "UPDATE elem SET upd = 0 WHERE upd = 1",
     "UPDATE elem SET distlib = NULL WHERE type = 'CLIST'",
-    "UPDATE elem SET distlib = '' WHERE type = 'CLIST'",
-    "UPDATE elem SET distlib = 'A B' WHERE type = 'CLIST'",
-    "UPDATE elem SET distlib = '1LIB' WHERE type = 'CLIST'",
-    "UPDATE elem SET distlib = 'LIBRARY01' WHERE type = 'CLIST'",
     "UPDATE elem SET distlib = 'ALIB' WHERE upd = 1",
     "UPDATE elem SET syslib = NULL WHERE type = 'CLIST'",
-    "UPDATE elem SET syslib = '' WHERE type = 'CLIST'",
-    "UPDATE elem SET syslib = 'A B' WHERE type = 'CLIST'",
-    "UPDATE elem SET syslib = '1LIB' WHERE type = 'CLIST'",
-    "UPDATE elem SET syslib = 'LIBRARY01' WHERE type = 'CLIST'",
     "UPDATE elem SET syslib = 'ALIB' WHERE upd = 1",
     "UPDATE elem SET text = x'' WHERE type = 'CLIST'",
     "UPDATE elem SET text = x'41' WHERE type = 'CLIST'",
@@ -227,9 +155,6 @@ const ELEMS: &[&str] = &[
 
 /// Holds.
 const HOLDS: &[&str] = &[
-    "UPDATE hold SET id = 'UZZ999' WHERE kind = 'USER'",
-    "UPDATE hold SET id = 'uzz9999' WHERE kind = 'USER'",
-    "UPDATE hold SET id = '' WHERE kind = 'USER'",
     "UPDATE hold SET kind = 'user' WHERE kind = 'USER'",
     "UPDATE hold SET kind = 'HOLD' WHERE kind = 'USER'",
     "UPDATE hold SET kind = '' WHERE kind = 'USER'",
@@ -241,9 +166,6 @@ const HOLDS: &[&str] = &[
     "UPDATE hold SET reason = 'NOID' WHERE kind = 'ERROR'",
     "UPDATE hold SET reason = 'aaa0009' WHERE kind = 'ERROR'",
     "UPDATE hold SET reason = '' WHERE kind = 'ERROR'",
-    "UPDATE hold SET fmid = 'HAA110' WHERE kind = 'USER'",
-    "UPDATE hold SET fmid = 'haa1100' WHERE kind = 'USER'",
-    "UPDATE hold SET fmid = '' WHERE kind = 'USER'",
     "UPDATE hold SET class = '' WHERE kind = 'ERROR'",
     "UPDATE hold SET class = 'LONGERTHAN' WHERE kind = 'ERROR'",
     "UPDATE hold SET class = 'hiper' WHERE kind = 'ERROR'",
@@ -293,10 +215,6 @@ const ZONE: &[&str] = &[
     "UPDATE zone SET related = '' WHERE name = 'TGT1'",
     "UPDATE zone SET related = 'DLB12345' WHERE name = 'TGT1'",
     "UPDATE zone SET kind = 'distribution' WHERE name = 'TGT1'",
-    "UPDATE entry SET id = 'UAA001' WHERE id = 'UAA0001'",
-    "UPDATE entry SET id = 'UAA00011' WHERE id = 'UAA0001'",
-    "UPDATE entry SET id = 'uaa0001' WHERE id = 'UAA0001'",
-    "UPDATE entry SET id = '' WHERE id = 'UAA0001'",
     "UPDATE entry SET date = '24138' WHERE id = 'UAA0001'",
     "UPDATE entry SET date = '24.000' WHERE id = 'UAA0001'",
     "UPDATE entry SET date = '24.367' WHERE id = 'UAA0001'",
@@ -305,18 +223,6 @@ const ZONE: &[&str] = &[
     "UPDATE entry SET date = '24-138' WHERE id = 'UAA0001'",
     "UPDATE entry SET date = '-' WHERE id = 'UAA0001'",
     "UPDATE entry SET date = '' WHERE id = 'UAA0001'",
-    "UPDATE entry SET supby = 'UAA0004,UAA0001' WHERE id = 'AAA0001'",
-    "UPDATE entry SET supby = 'UAA0004,UAA0004' WHERE id = 'AAA0001'",
-    "UPDATE entry SET supby = '-' WHERE id = 'AAA0001'",
-    "UPDATE entry SET supby = 'UAA0004,' WHERE id = 'AAA0001'",
-    "UPDATE entry SET supby = 'UAA004' WHERE id = 'AAA0001'",
-    "UPDATE entry SET waived = 'UAA0002,UAA0001' WHERE id = 'UAA0001'",
-    "UPDATE entry SET waived = 'UAA0002,UAA0002' WHERE id = 'UAA0001'",
-    "UPDATE entry SET waived = 'UAA002' WHERE id = 'UAA0001'",
-    "UPDATE entry SET waived = ',UAA0002' WHERE id = 'UAA0001'",
-    "UPDATE entry SET delby = '' WHERE id = 'HAA1000'",
-    "UPDATE entry SET delby = 'HAA120' WHERE id = 'HAA1000'",
-    "UPDATE entry SET delby = 'haa1200' WHERE id = 'HAA1000'",
     "UPDATE entry SET supby = '' WHERE id = 'AAA0001'",
     "UPDATE entry SET delby = NULL WHERE id = 'HAA1000'",
     "UPDATE entry SET date = NULL WHERE id = 'HAA1100'",
@@ -325,28 +231,6 @@ const ZONE: &[&str] = &[
     "UPDATE zelem SET type = 'Mac' WHERE zone = 'TGT1' AND name = 'MAC2'",
     "UPDATE zelem SET type = 'MEMBER' WHERE zone = 'TGT1' AND name = 'MAC2'",
     "UPDATE zelem SET type = '' WHERE zone = 'TGT1' AND name = 'MAC2'",
-    "UPDATE zelem SET name = '2MAC' WHERE zone = 'TGT1' AND name = 'MAC2'",
-    "UPDATE zelem SET name = 'mac2' WHERE zone = 'TGT1' AND name = 'MAC2'",
-    "UPDATE zelem SET name = 'MAC234567' WHERE zone = 'TGT1' AND name = 'MAC2'",
-    "UPDATE zelem SET name = '' WHERE zone = 'TGT1' AND name = 'MAC2'",
-    "UPDATE zelem SET fmid = '' WHERE zone = 'TGT1' AND name = 'MAC2'",
-    "UPDATE zelem SET fmid = 'HAA11000' WHERE zone = 'TGT1' AND name = 'MAC2'",
-    "UPDATE zelem SET fmid = 'haa1100' WHERE zone = 'TGT1' AND name = 'MAC2'",
-    "UPDATE zelem SET rmid = '' WHERE zone = 'TGT1' AND name = 'MAC2'",
-    "UPDATE zelem SET rmid = 'HAA11000' WHERE zone = 'TGT1' AND name = 'MAC2'",
-    "UPDATE zelem SET rmid = 'haa1100' WHERE zone = 'TGT1' AND name = 'MAC2'",
-    "UPDATE zelem SET umid = 'UAA0002,UAA0001' WHERE zone = 'TGT1' AND name = 'MAC2'",
-    "UPDATE zelem SET umid = 'UAA0001,UAA0001' WHERE zone = 'TGT1' AND name = 'MAC2'",
-    "UPDATE zelem SET umid = 'UAA001' WHERE zone = 'TGT1' AND name = 'MAC2'",
-    "UPDATE zelem SET umid = ',' WHERE zone = 'TGT1' AND name = 'MAC2'",
-    "UPDATE zelem SET distlib = '' WHERE zone = 'TGT1' AND name = 'MAC2'",
-    "UPDATE zelem SET distlib = 'A,B' WHERE zone = 'TGT1' AND name = 'MAC2'",
-    "UPDATE zelem SET distlib = '1LIB' WHERE zone = 'TGT1' AND name = 'MAC2'",
-    "UPDATE zelem SET distlib = 'LIBRARY01' WHERE zone = 'TGT1' AND name = 'MAC2'",
-    "UPDATE zelem SET syslib = '' WHERE zone = 'TGT1' AND name = 'MAC2'",
-    "UPDATE zelem SET syslib = 'A,B' WHERE zone = 'TGT1' AND name = 'MAC2'",
-    "UPDATE zelem SET syslib = '1LIB' WHERE zone = 'TGT1' AND name = 'MAC2'",
-    "UPDATE zelem SET syslib = 'LIBRARY01' WHERE zone = 'TGT1' AND name = 'MAC2'",
     "UPDATE zelem SET text = x'41' WHERE zone = 'TGT1' AND name = 'MAC2'",
 ];
 
@@ -427,10 +311,77 @@ const NUMBERLESS: &[&str] = &[
     "DROP TABLE meta; CREATE TABLE meta (name TEXT, number INTEGER)",
 ];
 
+/// Columns of one id each, by the statements that set them, and texts that are no id.
+const IDS: &[&str] = &[
+    "UPDATE ver SET fmid = ?1 WHERE id = 'AAA0003'",
+    "UPDATE ifreq SET fmid = ?1 WHERE srel = 'Z039'",
+    "UPDATE morever SET fmid = ?1 WHERE n = 3",
+    "UPDATE moreif SET fmid = ?1 WHERE v = 3",
+    "UPDATE hold SET id = ?1 WHERE kind = 'USER'",
+    "UPDATE hold SET fmid = ?1 WHERE kind = 'USER'",
+];
+
+const ZONE_IDS: &[&str] = &[
+    "UPDATE entry SET id = ?1 WHERE id = 'UAA0001'",
+    "UPDATE entry SET delby = ?1 WHERE id = 'HAA1000'",
+    "UPDATE zelem SET fmid = ?1 WHERE zone = 'TGT1' AND name = 'MAC2'",
+    "UPDATE zelem SET rmid = ?1 WHERE zone = 'TGT1' AND name = 'MAC2'",
+];
+
+const NO_IDS: &[&str] = &["UAA001", "UAA00011", "uaa0001", ""];
+
+/// Columns of lists of ids, and texts that are no list whose ids rise.
+const LISTS: &[&str] = &[
+    "UPDATE ver SET pre = ?1 WHERE id = 'HAA1200'",
+    "UPDATE ver SET req = ?1 WHERE id = 'HAA1200'",
+    "UPDATE ver SET sup = ?1 WHERE id = 'HAA1200'",
+    "UPDATE ver SET npre = ?1 WHERE id = 'HAA1200'",
+    "UPDATE ver SET del = ?1 WHERE id = 'HAA1200'",
+    "UPDATE ifreq SET req = ?1 WHERE srel = 'Z039'",
+    "UPDATE morever SET pre = ?1 WHERE n = 3",
+    "UPDATE morever SET req = ?1 WHERE n = 3",
+    "UPDATE morever SET sup = ?1 WHERE n = 3",
+    "UPDATE moreif SET req = ?1 WHERE v = 3",
+];
+
+const ZONE_LISTS: &[&str] = &[
+    "UPDATE entry SET supby = ?1 WHERE id = 'AAA0001'",
+    "UPDATE entry SET waived = ?1 WHERE id = 'UAA0001'",
+    "UPDATE zelem SET umid = ?1 WHERE zone = 'TGT1' AND name = 'MAC2'",
+];
+
+const NO_LISTS: &[&str] = &[
+    "UZZ0002,UZZ0001",
+    "UZZ0001,UZZ0001",
+    "UZZ001",
+    "UZZ0001,",
+    ",UZZ0001",
+    "UZZ0001 UZZ0002",
+    ",",
+    "-",
+];
+
+/// Columns of names, and texts that are no name.
+const NAMES: &[&str] = &[
+    "UPDATE elem SET name = ?1 WHERE type = 'CLIST'",
+    "UPDATE elem SET distlib = ?1 WHERE type = 'CLIST'",
+    "UPDATE elem SET syslib = ?1 WHERE type = 'CLIST'",
+];
+
+const ZONE_NAMES: &[&str] = &[
+    "UPDATE zelem SET name = ?1 WHERE zone = 'TGT1' AND name = 'MAC2'",
+    "UPDATE zelem SET distlib = ?1 WHERE zone = 'TGT1' AND name = 'MAC2'",
+    "UPDATE zelem SET syslib = ?1 WHERE zone = 'TGT1' AND name = 'MAC2'",
+];
+
+const NO_NAMES: &[&str] = &["1CLS", "cls1", "LIBRARY01", "A B", "A,B", ""];
+
 /// What is loaded of a store.
 #[derive(Clone, Copy)]
 enum Part {
     Global,
+    /// The global zone, once there are further `++VER`s too.
+    Further,
     Zone,
     Names,
     Heads,
@@ -438,7 +389,7 @@ enum Part {
 
 fn fault_of_part<S: Alter>(store: &mut Store<S>, part: Part) -> Result<Option<StoreError>, Fail> {
     Ok(match part {
-        Part::Global => store.load_global().err(),
+        Part::Global | Part::Further => store.load_global().err(),
         Part::Zone => store.load_zone(zone_name(b"TGT1")?).err(),
         Part::Names => store.zone_names().err(),
         Part::Heads => store.zone_heads().err(),
@@ -460,19 +411,36 @@ fn fault<S: Alter + Drop>(
     }
 }
 
+/// The known rows, those of further `++VER`s among them where the part needs them.
+fn known<S: Alter + Drop>(
+    alloc: Global,
+    conn: Connection<S>,
+    part: Part,
+) -> Result<Connection<S>, Fail> {
+    let mut conn = filled(alloc, conn)?;
+    if matches!(part, Part::Further) {
+        run_all(&mut conn, FURTHER)?;
+    }
+    Ok(conn)
+}
+
 /// What is told of the part, once these statements have changed the known rows.
 fn fault_after(alloc: Global, sql: &str, part: Part) -> Result<Option<StoreError>, Fail> {
-    let mut conn = filled(alloc, Connection::open_in_memory(alloc)?)?;
+    let mut conn = known(alloc, Connection::open_in_memory(alloc)?, part)?;
     conn.execute_batch(sql)?;
     fault(alloc, conn, part)
 }
 
-/// What is told of the global zone, once these statements have changed the known rows with further `++VER`s.
-fn fault_after_further(alloc: Global, sql: &str) -> Result<Option<StoreError>, Fail> {
-    let mut conn = filled(alloc, Connection::open_in_memory(alloc)?)?;
-    run_all(&mut conn, FURTHER)?;
-    conn.execute_batch(sql)?;
-    fault(alloc, conn, Part::Global)
+/// What is told of the part, once the statement with this value has changed the known rows.
+fn fault_with(
+    alloc: Global,
+    sql: &str,
+    value: ValueRef<'_>,
+    part: Part,
+) -> Result<Option<StoreError>, Fail> {
+    let mut conn = known(alloc, Connection::open_in_memory(alloc)?, part)?;
+    run(&mut conn, sql, &[value])?;
+    fault(alloc, conn, part)
 }
 
 /// The first of the edits after which something else is told of the part.
@@ -526,20 +494,6 @@ fn other_rows_are_told(rt: HostRuntime) -> Result<(), Fail> {
     Ok(())
 }
 
-/// The first of the edits of known rows with further `++VER`s after which something else is told of the global zone.
-fn first_other_further(
-    alloc: Global,
-    edits: &[&'static str],
-    wanted: Option<StoreError>,
-) -> Result<Option<&'static str>, Fail> {
-    for sql in edits {
-        if fault_after_further(alloc, sql)? != wanted {
-            return Ok(Some(sql));
-        }
-    }
-    Ok(None)
-}
-
 #[test]
 fn further_vers_are_told(rt: HostRuntime) -> Result<(), Fail> {
     for (edits, told) in [
@@ -547,7 +501,40 @@ fn further_vers_are_told(rt: HostRuntime) -> Result<(), Fail> {
         (MOREVERS, Some(StoreError::NoState)),
         (MOREIFS, Some(StoreError::NoState)),
     ] {
-        assert_eq!(rt; first_other_further(rt.alloc(), edits, told)?, None);
+        assert_eq!(rt; first_other(rt.alloc(), edits, Part::Further, told)?, None);
+    }
+    Ok(())
+}
+
+/// The first column and text after which it is not told that the rows stand for no state, and what is told.
+fn first_told(
+    alloc: Global,
+    columns: &[&'static str],
+    texts: &[&'static str],
+    part: Part,
+) -> Result<Option<(&'static str, &'static str, Option<StoreError>)>, Fail> {
+    for sql in columns {
+        for text in texts {
+            let told = fault_with(alloc, sql, ValueRef::Text(text.as_bytes()), part)?;
+            if told != Some(StoreError::NoState) {
+                return Ok(Some((sql, text, told)));
+            }
+        }
+    }
+    Ok(None)
+}
+
+#[test]
+fn texts_of_no_form_are_told(rt: HostRuntime) -> Result<(), Fail> {
+    for (columns, texts, part) in [
+        (IDS, NO_IDS, Part::Further),
+        (ZONE_IDS, NO_IDS, Part::Zone),
+        (LISTS, NO_LISTS, Part::Further),
+        (ZONE_LISTS, NO_LISTS, Part::Zone),
+        (NAMES, NO_NAMES, Part::Global),
+        (ZONE_NAMES, NO_NAMES, Part::Zone),
+    ] {
+        assert_eq!(rt; first_told(rt.alloc(), columns, texts, part)?, None);
     }
     Ok(())
 }
@@ -595,83 +582,35 @@ const UPDATED: &str = "UPDATE elem SET text = ?1 WHERE upd = 1";
 
 const INSTALLED: &str = "UPDATE zelem SET text = ?1 WHERE zone = 'TGT1' AND type = 'SRC'";
 
+/// The first record of an update of MAC1.
+const CHANGE: (&str, &str) = ("./ CHANGE NAME=MAC1", "");
+
+const NOWHERE: [bool; 3] = [false, false, false];
+
 /// Texts and numbers of records, and whether they are a text of a macro, an update of MAC1 and a text
 /// of an installed source.
 const TEXTS: &[(&[(&str, &str)], [bool; 3])] = &[
     (&[], [false, false, true]),
     (&[("A", "00000010"), ("B", "00000020")], [true, false, true]),
+    (&[("A", "00000020"), ("B", "00000010")], NOWHERE),
+    (&[("A", "00000010"), ("B", "00000010")], NOWHERE),
+    (&[("A", "")], NOWHERE),
+    (&[("A", "0000001A")], NOWHERE),
+    (&[CHANGE, ("A", "00000010")], [false, true, false]),
+    (&[CHANGE, ("A", "")], NOWHERE),
+    (&[CHANGE, ("A", "00000020"), ("B", "00000010")], NOWHERE),
+    (&[CHANGE, ("A", "00000010"), ("B", "00000010")], NOWHERE),
+    (&[("./ CHANGE NAME=MAC2", ""), ("A", "00000010")], NOWHERE),
+    (&[("./ CHANGE MAC1", ""), ("A", "00000010")], NOWHERE),
     (
-        &[("A", "00000020"), ("B", "00000010")],
-        [false, false, false],
+        &[CHANGE, ("./ DELETE SEQ1=00000020,SEQ2=00000010", "")],
+        NOWHERE,
     ),
-    (
-        &[("A", "00000010"), ("B", "00000010")],
-        [false, false, false],
-    ),
-    (&[("A", "")], [false, false, false]),
-    (&[("A", "0000001A")], [false, false, false]),
-    (
-        &[("./ CHANGE NAME=MAC1", ""), ("A", "00000010")],
-        [false, true, false],
-    ),
-    (
-        &[("./ CHANGE NAME=MAC1", ""), ("A", "")],
-        [false, false, false],
-    ),
-    (
-        &[
-            ("./ CHANGE NAME=MAC1", ""),
-            ("A", "00000020"),
-            ("B", "00000010"),
-        ],
-        [false, false, false],
-    ),
-    (
-        &[
-            ("./ CHANGE NAME=MAC1", ""),
-            ("A", "00000010"),
-            ("B", "00000010"),
-        ],
-        [false, false, false],
-    ),
-    (
-        &[("./ CHANGE NAME=MAC2", ""), ("A", "00000010")],
-        [false, false, false],
-    ),
-    (
-        &[("./ CHANGE MAC1", ""), ("A", "00000010")],
-        [false, false, false],
-    ),
-    (
-        &[
-            ("./ CHANGE NAME=MAC1", ""),
-            ("./ DELETE SEQ1=00000020,SEQ2=00000010", ""),
-        ],
-        [false, false, false],
-    ),
-    (
-        &[
-            ("./ CHANGE NAME=MAC1", ""),
-            ("./ DELETE SEQ1=10,SEQ2=20", ""),
-        ],
-        [false, false, false],
-    ),
+    (&[CHANGE, ("./ DELETE SEQ1=10,SEQ2=20", "")], NOWHERE),
 ];
 
-/// What is told of the part, once the statement with this text has changed the known rows.
-fn fault_with(
-    alloc: Global,
-    sql: &str,
-    text: &[u8],
-    part: Part,
-) -> Result<Option<StoreError>, Fail> {
-    let mut conn = filled(alloc, Connection::open_in_memory(alloc)?)?;
-    conn.execute(sql, &[ValueRef::Blob(text)])?;
-    fault(alloc, conn, part)
-}
-
 fn is_loaded_with(alloc: Global, sql: &str, text: &[u8], part: Part) -> Result<bool, Fail> {
-    match fault_with(alloc, sql, text, part)? {
+    match fault_with(alloc, sql, ValueRef::Blob(text), part)? {
         None => Ok(true),
         Some(StoreError::NoState) => Ok(false),
         Some(_) => Err(Fail::from("another fault")),

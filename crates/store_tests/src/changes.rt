@@ -111,12 +111,12 @@ fn applied_on(date: &[u8]) -> Option<Applied> {
     Some(Applied::on(YyDdd::read(date)?))
 }
 
-/// One of the entries has another date.
-fn one_entry(alloc: Global) -> Result<Change, Fail> {
+/// This entry of DLB1 is installed so.
+fn put_applied(alloc: Global, id: Id, applied: Option<Applied>) -> Result<Change, Fail> {
     let mut delta = ZoneDelta::new(alloc);
     let entry = Entry {
-        id: id(b"U100500")?,
-        applied: applied_on(b"24.139"),
+        id,
+        applied,
         supby: IdList::new(alloc),
         delby: None,
         waived: IdList::new(alloc),
@@ -134,7 +134,8 @@ const OTHERS: &str =
 const CHANGED: &str = "SELECT zone || ' ' || id || ' ' || date FROM entry WHERE id = 'U100500'";
 
 fn commit_entry<S: Alter>(alloc: Global, store: &mut Store<S>) -> Result<(), Fail> {
-    let change = one_entry(alloc)?;
+    // One of the entries has another date.
+    let change = put_applied(alloc, id(b"U100500")?, applied_on(b"24.139"))?;
     committed(store.commit(&change))
 }
 
@@ -162,19 +163,8 @@ fn other_rows_stay(rt: HostRuntime) -> Result<(), Fail> {
 
 /// The entry of DLB1, installed by the `++VER` of this number.
 fn numbered(alloc: Global, number: usize) -> Result<Change, Fail> {
-    let mut delta = ZoneDelta::new(alloc);
     let date = YyDdd::read(b"23.001").ok_or("no date")?;
-    let entry = Entry {
-        id: id(b"HAA1100")?,
-        applied: Some(Applied { date, number }),
-        supby: IdList::new(alloc),
-        delby: None,
-        waived: IdList::new(alloc),
-    };
-    if entry.has_content() && entry.waives_applied() {
-        delta.put_entry(entry)?;
-    }
-    Ok(Change::Zone(zone_name(b"DLB1")?, delta))
+    put_applied(alloc, id(b"HAA1100")?, Some(Applied { date, number }))
 }
 
 /// That entry goes.

@@ -24,11 +24,6 @@ pub held_after : (r : Release) (contents : Contents) (a b : State) → IsUnchang
     → HasContents (schema_under r) contents a.now → HasContents (schema_under r) contents b.now
 held_after r contents a b same was = subst (HasContents (schema_under r) contents) (sym same.0.now_is) was
 
-pub third_held : (r : Release) (contents : Contents) (a b : State) → r ≡ Third → IsUnchanged a b
-    → HasContents (schema_under r) contents a.now → HasContents (schema_under Third) contents b.now
-third_held r contents a b is same was =
-    subst (λ s. HasContents (schema_under s) contents b.now) is (held_after r contents a b same was)
-
 -- the numbers of entries under a release that has them
 pub numbers_third : (r : Release) (contents : Contents) (name : Text) (ns : List EntryNumber) → r ≡ Third
     → HasNumbers r contents name ns → HoldsChosen contents name ns

@@ -1,11 +1,13 @@
 -- Rows that name their zone, and the items that they are in the zone of a name.
 use Rattle.std.proofs.Common.{◌≡◌, List, [], ◌∷◌, map, filter, IsPermutation, sym, ap, ap₂, refl, subst, ◌∙◌}
+use Rattle.std.specs.Prelude.{drop}
 use Rattle.std.specs.List.{AllByRecursion}
 use Rattle.std.specs.declared.cmp.Ordering.{Ordering}
 use Rattle.std.specs.Cmp.{IsTotalOrder}
 use Rattle.std.specs.Str.{bytes_eq}
 use Rattle.std.proofs.lemmas.List.{map-id}
 use Rattle.std.proofs.lemmas.List.Sorted.{IsPermutation-map, IsPermutation-sym, IsPermutation-trans}
+use Rattle.sqlite.specs.declared.types.Value.TheVariants as value
 use Rattle.sqlite.specs.Order.{Row}
 use Rattle.sqlite.specs.Table.{Table}
 use Rattle.sqlite_rules.proofs.ListLemmas.{all_from, all_has, has_filtered}
@@ -18,15 +20,37 @@ use Rattle.lemmas.proofs.Each.{recursion_map, recursion_unmap}
 use Rattle.lemmas.proofs.Texts.{same_from}
 use Rattle.terms.specs.Rising.{Rises}
 use Rattle.terms.specs.Types.{Text}
+use Rattle.terms.proofs.RisingAlike.{rises_alike}
 use Rattle.store_schema.proofs.Lists.{rising_same}
 use Rattle.store_zone_loads.specs.declared.rows.ZoneRow.{ZoneRow}
 use Rattle.store_zone_loads.specs.Held.{name_key, rows_named, HoldsItems}
+use Rattle.store_zone_loads.specs.Read.{in_zone}
+use Rattle.store_zone_loads.proofs.ZoneRows.{first_cell}
 
 abbrev pub with_zone : {X : Type 0} → Text → X → ZoneRow X
 with_zone name x = record { zone = name; item = x }
 
 abbrev item_of : {X : Type 0} → ZoneRow X → X
 item_of r = r.item
+
+-- a row that begins with the name of its zone has the name as its key
+pub meets_named : {X : Type 0} (row_of : ZoneRow X → Row)
+    → ((r : ZoneRow X) → row_of r ≡ value.Text r.zone ∷ drop 1 (row_of r)) → (name other : Text) (x : X)
+    → has_key (name_key name) (in_zone row_of other x) ≡ bytes_eq other name
+meets_named row_of named name other x =
+    ap (has_key (name_key name)) (named (with_zone other x))
+    ∙ first_cell name other (drop 1 (row_of (with_zone other x)))
+
+-- by an order that answers alike they rise too
+pub held_alike : {X K : Type 0} {table : Table} {row : Text → X → Row} {HasForm : ZoneRow X → Type 0}
+    (R S : K → K → Ordering) → ((a b : K) → R a b ≡ S a b) → {key : X → K} (contents : Contents) (name : Text)
+    (xs : List X) → HoldsItems table row HasForm S key contents name xs
+    → HoldsItems table row HasForm R key contents name xs
+held_alike R S same {key} contents name xs h = record {
+  rows = h.rows;
+  forms = h.forms;
+  rise = rises_alike R S same key xs h.rise;
+}
 
 -- rows in any order, without the name of their zone
 pub without_zone : {X : Type 0} (name : Text) (rs : List (ZoneRow X)) (xs : List X)

@@ -1,7 +1,6 @@
 -- What the texts mean, under each schema that has their tables.
-use Rattle.std.proofs.Common.{◌≡◌, ◌++◌, ℕ, List, codes, refl}
+use Rattle.std.proofs.Common.{◌≡◌, ℕ, List, codes, refl}
 use Rattle.sqlite.specs.Listing.{understood}
-use Rattle.sqlite.specs.Table.{Table}
 use Rattle.std.proofs.Math.Dec.{lit≤}
 use Rattle.sqlite_tied.specs.Compute.{everything}
 use Rattle.store_rows.specs.Selects.{IsSelect}
@@ -11,7 +10,7 @@ use Rattle.store_columns.proofs.Releases.{under_each, under_third}
 use Rattle.store_schema.specs.declared.release.Release.{Release}
 use Rattle.store_schema.specs.declared.release.Release.TheVariants.{First, Second, Third}
 use Rattle.store_schema.specs.Earlier.{schema_under}
-use Rattle.store_schema.specs.Tables.{zone, entry, zelem, chosen, first_tables, schema_of, store_schema}
+use Rattle.store_schema.specs.Tables.{zone, entry, zelem, chosen}
 
 pub has_zone : (r : Release) → IsTableOf (schema_under r) 6 zone
 has_zone First = record { found = refl; alone = refl }
@@ -31,12 +30,10 @@ has_zelem Third = record { found = refl; alone = refl }
 abbrev pub select_head : List ℕ
 select_head = codes "SELECT name, kind, srel, related FROM zone WHERE name = ?1"
 
-head_first : (more : List Table) → ReadsRows (schema_of (first_tables ++ more)) zone 1 select_head
-unfolding understood everything
-head_first more = reads_of_one refl (refl, refl) refl (lit≤ tt) refl (λ t. refl) (lit≤ tt)
-
 pub reads_head : (r : Release) → ReadsRows (schema_under r) zone 1 select_head
-reads_head = under_each (λ schema. ReadsRows schema zone 1 select_head) head_first
+unfolding understood everything
+reads_head = under_each (λ schema. ReadsRows schema zone 1 select_head) (λ more.
+    reads_of_one refl (refl, refl) refl (lit≤ tt) refl (λ t. refl) (lit≤ tt))
 
 pub selects_head : IsSelect select_head
 unfolding everything
@@ -45,12 +42,10 @@ selects_head = refl
 abbrev pub select_heads : List ℕ
 select_heads = codes "SELECT name, kind, srel, related FROM zone ORDER BY name"
 
-heads_first : (more : List Table) → ReadsRows (schema_of (first_tables ++ more)) zone 0 select_heads
-unfolding understood everything
-heads_first more = reads_all refl (refl, refl) refl (lit≤ tt) refl refl
-
 pub reads_heads : (r : Release) → ReadsRows (schema_under r) zone 0 select_heads
-reads_heads = under_each (λ schema. ReadsRows schema zone 0 select_heads) heads_first
+unfolding understood everything
+reads_heads = under_each (λ schema. ReadsRows schema zone 0 select_heads) (λ more.
+    reads_all refl (refl, refl) refl (lit≤ tt) refl refl)
 
 pub selects_heads : IsSelect select_heads
 unfolding everything
@@ -59,12 +54,10 @@ selects_heads = refl
 abbrev pub select_entries : List ℕ
 select_entries = codes "SELECT zone, id, date, supby, delby, waived FROM entry WHERE zone = ?1 ORDER BY id"
 
-entries_first : (more : List Table) → ReadsRows (schema_of (first_tables ++ more)) entry 1 select_entries
-unfolding understood everything
-entries_first more = reads_of_one refl (refl, refl) refl (lit≤ tt) refl (λ t. refl) (lit≤ tt)
-
 pub reads_entries : (r : Release) → ReadsRows (schema_under r) entry 1 select_entries
-reads_entries = under_each (λ schema. ReadsRows schema entry 1 select_entries) entries_first
+unfolding understood everything
+reads_entries = under_each (λ schema. ReadsRows schema entry 1 select_entries) (λ more.
+    reads_of_one refl (refl, refl) refl (lit≤ tt) refl (λ t. refl) (lit≤ tt))
 
 pub selects_entries : IsSelect select_entries
 unfolding everything
@@ -73,12 +66,10 @@ selects_entries = refl
 abbrev pub select_elements : List ℕ
 select_elements = codes "SELECT zone, type, name, fmid, rmid, umid, distlib, syslib, text FROM zelem WHERE zone = ?1 ORDER BY type, name"
 
-elements_first : (more : List Table) → ReadsRows (schema_of (first_tables ++ more)) zelem 1 select_elements
-unfolding understood everything
-elements_first more = reads_of_one refl (refl, refl) refl (lit≤ tt) refl (λ t. refl) (lit≤ tt)
-
 pub reads_elements : (r : Release) → ReadsRows (schema_under r) zelem 1 select_elements
-reads_elements = under_each (λ schema. ReadsRows schema zelem 1 select_elements) elements_first
+unfolding understood everything
+reads_elements = under_each (λ schema. ReadsRows schema zelem 1 select_elements) (λ more.
+    reads_of_one refl (refl, refl) refl (lit≤ tt) refl (λ t. refl) (lit≤ tt))
 
 pub selects_elements : IsSelect select_elements
 unfolding everything
@@ -89,12 +80,10 @@ selects_elements = refl
 abbrev pub select_chosen : List ℕ
 select_chosen = codes "SELECT zone, id, n FROM chosen WHERE zone = ?1 ORDER BY id"
 
-chosen_third : ReadsRows store_schema chosen 1 select_chosen
-unfolding understood everything
-chosen_third = reads_of_one refl (refl, refl) refl (lit≤ tt) refl (λ t. refl) (lit≤ tt)
-
 pub reads_chosen : (r : Release) → r ≡ Third → ReadsRows (schema_under r) chosen 1 select_chosen
-reads_chosen = under_third (λ schema. ReadsRows schema chosen 1 select_chosen) chosen_third
+unfolding understood everything
+reads_chosen = under_third (λ schema. ReadsRows schema chosen 1 select_chosen)
+    (reads_of_one refl (refl, refl) refl (lit≤ tt) refl (λ t. refl) (lit≤ tt))
 
 pub has_chosen : (r : Release) → r ≡ Third → IsTableOf (schema_under r) 12 chosen
 has_chosen = under_third (λ schema. IsTableOf schema 12 chosen) (record { found = refl; alone = refl })

@@ -24,6 +24,10 @@ pub record HasHeadForms (h : ZoneHead) : Type 0 where
   pub not_global : h.name ≢ codes "GLOBAL"
   pub suits : is_some h.related ≡ (zone_number h.kind == 0)
 
+-- the row of an item in the zone of a name
+abbrev pub in_zone : {X : Type 0} → (ZoneRow X → Row) → Text → X → Row
+in_zone row_of name x = row_of (record { zone = name; item = x })
+
 abbrev pub row_of_entry : ZoneRow Entry → Row
 row_of_entry r = entry_row r.zone r.item
 

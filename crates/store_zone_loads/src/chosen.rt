@@ -1,25 +1,19 @@
 //! The table of `++VER`s by which entries were installed, where that was not the first of its SREL.
 
-ghost use Rattle.std.specs.Prelude.{◌≡◌, ◌≢◌, ◌≤◌, ◌<◌, ◌^◌, ℕ, List, pos, IfOk, IfSome, IfNone, IsErrOf};
+ghost use Rattle.std.specs.Prelude.{◌≡◌, ◌≢◌, ◌≤◌, ◌<◌, ◌^◌, ℕ, pos, IfOk, IfSome, IfNone, IsErrOf};
 ghost use Rattle.sqlite.specs.declared.types.Value.TheVariants.{Int};
-ghost use Rattle.sqlite.specs.Held.{state};
 ghost use Rattle.sqlite.specs.Order.{column};
-ghost use Rattle.sqlite.specs.State.{HasCleanDisk};
-ghost use Rattle.store_rows.specs.Reads.{OnlyReads};
-ghost use Rattle.store_rows.specs.Rows.{Contents, HasContents};
-ghost use Rattle.store_schema.specs.Tables.{store_schema};
 ghost use Rattle.store_zone_loads.specs.declared.chosen.EntryNumber.{EntryNumber as ANumber};
 ghost use Rattle.store_zone_loads.specs.declared.rows.ZoneRow.{ZoneRow as AZoneRow};
-ghost use Rattle.store_zone_loads.specs.Held.{HoldsChosen};
 
-use crate::rows::{ZoneRow, zone_table};
-use fields::{Id, ZoneName};
-use sqlite::{Alter, Connection, Row};
-use sqlite_value::value::ValueRef;
+use crate::items::ZoneItem;
+use crate::rows::ZoneRow;
+use fields::Id;
+use sqlite::Row;
 use std::alloc::Global;
-use store_columns::{Query, id_in, load_listed, zone_name_in};
+use store_columns::{Query, id_in, zone_name_in};
 use store_rows::{FromRow, ReadError, whole};
-use zones::{Keyed, Table};
+use zones::Keyed;
 
 /// The id of an entry, and by which `++VER` it was installed, which was not the first.
 #[derive(Clone, Copy, Debug, PartialEq, Eq)]
@@ -51,7 +45,7 @@ fn number_in(row: &Row, at: usize) -> Option<usize>
 }
 
 /// Reads the rows of numbers.
-struct Numbers;
+pub(crate) struct Numbers;
 
 impl FromRow for Numbers {
     ghost use Rattle.store_zone_loads.specs.Read.{row_of_number, HasNumberForms};
@@ -107,20 +101,12 @@ impl Query for Numbers {
     }
 }
 
-/// The numbers of the entries of the zone of this name, where they are not 1.
-pub(crate) fn load_numbers<S: Alter>(
-    alloc: Global,
-    conn: &mut Connection<S>,
-    name: &ZoneName,
-) -> Result<Table<EntryNumber>, ReadError>
-    ensures found { HasCleanDisk (state S.Store conn.new) → (contents : Contents)
-        → HasContents store_schema contents (state S.Store conn.old).now
-        → IfOk result (HoldsChosen contents name.now) }
-    ensures none { HasCleanDisk (state S.Store conn.new) → IsErrOf result ReadError.BadRow → (contents : Contents)
-        → HasContents store_schema contents (state S.Store conn.old).now
-        → (numbers : List ANumber) → ¬ HoldsChosen contents name.now numbers }
-    ensures reads { OnlyReads S.Store store_schema ReadError.BadRow ReadError.Fault conn.old conn.new result }
-{
-    let rows = load_listed::<S, Numbers>(alloc, conn, &[ValueRef::Text(name.as_bytes())])?;
-    zone_table(alloc, rows)
+impl ZoneItem for EntryNumber {
+    ghost use Rattle.std.specs.Prelude.{refl};
+
+    type Rows = Numbers;
+
+    ghost by_zone = { refl };
+
+    ghost named = { λ r. refl };
 }

@@ -1,29 +1,19 @@
 //! The table of element entries.
 
-ghost use Rattle.std.specs.Prelude.{◌≡◌, ◌≢◌, List, IfOk, IsErrOf};
-ghost use Rattle.sqlite.specs.Held.{state};
-ghost use Rattle.sqlite.specs.State.{HasCleanDisk};
-ghost use Rattle.store_rows.specs.Reads.{OnlyReads};
-ghost use Rattle.store_rows.specs.Rows.{Contents, HasContents};
+ghost use Rattle.std.specs.Prelude.{◌≡◌, ◌≢◌, IfOk, IsErrOf};
 ghost use Rattle.terms.specs.Types.{Element as ElementTerm};
-ghost use Rattle.store_schema.specs.declared.release.Release.{Release};
-ghost use Rattle.store_schema.specs.Earlier.{schema_under};
 ghost use Rattle.store_zone_loads.specs.declared.rows.ZoneRow.{ZoneRow as AZoneRow};
-ghost use Rattle.store_zone_loads.specs.Held.{HoldsElements};
 
-use crate::rows::{ZoneRow, zone_table};
-use fields::ZoneName;
-use sqlite::{Alter, Connection, Row};
-use sqlite_value::value::ValueRef;
+use crate::items::ZoneItem;
+use crate::rows::ZoneRow;
+use sqlite::Row;
 use std::alloc::Global;
-use store_columns::{
-    Query, elem_type_in, element_text_in, id_in, ids_in, load_listed, name_in, zone_name_in,
-};
+use store_columns::{Query, elem_type_in, element_text_in, id_in, ids_in, name_in, zone_name_in};
 use store_rows::{FromRow, ReadError};
-use zones::{Element, Table};
+use zones::Element;
 
 /// Reads the rows of elements.
-struct Elements;
+pub(crate) struct Elements;
 
 impl FromRow for Elements {
     ghost use Rattle.store_zone_loads.specs.Read.{row_of_element, HasElementRowForms};
@@ -101,21 +91,12 @@ impl Query for Elements {
     }
 }
 
-/// The elements of the zone of this name.
-pub(crate) fn load_elements<S: Alter>(
-    alloc: Global,
-    conn: &mut Connection<S>,
-    name: &ZoneName,
-) -> Result<Table<Element>, ReadError>
-    ensures found { HasCleanDisk (state S.Store conn.new) → (r : Release) (contents : Contents)
-        → HasContents (schema_under r) contents (state S.Store conn.old).now
-        → IfOk result (HoldsElements contents name.now) }
-    ensures none { HasCleanDisk (state S.Store conn.new) → IsErrOf result ReadError.BadRow → (r : Release)
-        → (contents : Contents) → HasContents (schema_under r) contents (state S.Store conn.old).now
-        → (elements : List ElementTerm) → ¬ HoldsElements contents name.now elements }
-    ensures reads { (r : Release) → OnlyReads S.Store (schema_under r) ReadError.BadRow ReadError.Fault conn.old
-        conn.new result }
-{
-    let rows = load_listed::<S, Elements>(alloc, conn, &[ValueRef::Text(name.as_bytes())])?;
-    zone_table(alloc, rows)
+impl ZoneItem for Element {
+    ghost use Rattle.std.specs.Prelude.{refl};
+
+    type Rows = Elements;
+
+    ghost by_zone = { refl };
+
+    ghost named = { λ r. refl };
 }

@@ -1,31 +1,23 @@
 //! The table of SYSMOD entries.
 
-ghost use Rattle.std.specs.Prelude.{◌≡◌, ◌≢◌, List, Option, IfSome, IfNone, IfOk, IsErrOf, option_map};
+ghost use Rattle.std.specs.Prelude.{◌≡◌, ◌≢◌, Option, IfSome, IfNone, IfOk, IsErrOf, option_map};
 ghost use Rattle.sqlite.specs.declared.types.Value.TheVariants.{Text};
-ghost use Rattle.sqlite.specs.Held.{state};
 ghost use Rattle.sqlite.specs.Order.{column};
-ghost use Rattle.sqlite.specs.State.{HasCleanDisk};
 ghost use Rattle.sqlite.specs.Values.{or_null};
-ghost use Rattle.store_rows.specs.Reads.{OnlyReads};
-ghost use Rattle.store_rows.specs.Rows.{Contents, HasContents};
 ghost use Rattle.terms.specs.Types.{Applied as AppliedTerm, Entry as EntryTerm};
 ghost use Rattle.store_schema.specs.Forms.{HasAppliedForms};
-ghost use Rattle.store_schema.specs.declared.release.Release.{Release};
-ghost use Rattle.store_schema.specs.Earlier.{schema_under};
 ghost use Rattle.store_zone_loads.specs.declared.rows.ZoneRow.{ZoneRow as AZoneRow};
-ghost use Rattle.store_zone_loads.specs.Held.{HoldsEntries};
 
-use crate::rows::{ZoneRow, zone_table};
-use fields::ZoneName;
-use sqlite::{Alter, Connection, Row};
-use sqlite_value::value::ValueRef;
+use crate::items::ZoneItem;
+use crate::rows::ZoneRow;
+use sqlite::Row;
 use std::alloc::Global;
-use store_columns::{Query, date_in, id_in, ids_in, load_listed, optional_id_in, zone_name_in};
+use store_columns::{Query, date_in, id_in, ids_in, optional_id_in, zone_name_in};
 use store_rows::{FromRow, ReadError};
-use zones::{Applied, Entry, Table};
+use zones::{Applied, Entry};
 
 /// Reads the rows of entries.
-struct Entries;
+pub(crate) struct Entries;
 
 impl FromRow for Entries {
     ghost use Rattle.store_zone_loads.specs.Read.{row_of_entry, HasEntryRowForms};
@@ -104,21 +96,12 @@ impl Query for Entries {
     }
 }
 
-/// The entries of the zone of this name, as if each was installed by the first `++VER`.
-pub(crate) fn load_entries<S: Alter>(
-    alloc: Global,
-    conn: &mut Connection<S>,
-    name: &ZoneName,
-) -> Result<Table<Entry>, ReadError>
-    ensures found { HasCleanDisk (state S.Store conn.new) → (r : Release) (contents : Contents)
-        → HasContents (schema_under r) contents (state S.Store conn.old).now
-        → IfOk result (HoldsEntries contents name.now) }
-    ensures none { HasCleanDisk (state S.Store conn.new) → IsErrOf result ReadError.BadRow → (r : Release)
-        → (contents : Contents) → HasContents (schema_under r) contents (state S.Store conn.old).now
-        → (entries : List EntryTerm) → ¬ HoldsEntries contents name.now entries }
-    ensures reads { (r : Release) → OnlyReads S.Store (schema_under r) ReadError.BadRow ReadError.Fault conn.old
-        conn.new result }
-{
-    let rows = load_listed::<S, Entries>(alloc, conn, &[ValueRef::Text(name.as_bytes())])?;
-    zone_table(alloc, rows)
+impl ZoneItem for Entry {
+    ghost use Rattle.std.specs.Prelude.{refl};
+
+    type Rows = Entries;
+
+    ghost by_zone = { refl };
+
+    ghost named = { λ r. refl };
 }

@@ -186,7 +186,8 @@ pub(crate) fn zone_head<S: Alter>(
 }
 
 /// The heads of all zones, by name. A target zone names a distribution zone of its SREL, which no
-/// other names.
+/// other names. `BadRow` comes where a row is no head, or the rows are not related so, `Memory` where memory is short,
+/// and `Fault` where the disk fails or the tables are others.
 pub fn zone_heads<S: Alter>(
     alloc: Global,
     conn: &mut Connection<S>,
@@ -220,7 +221,8 @@ fn names_of(alloc: Global, heads: &[ZoneHead]) -> Result<Vec<ZoneName>, AllocErr
     Ok(names)
 }
 
-/// The names of all zones, rising.
+/// The names of all zones, rising. `BadRow` comes where `zone_heads` has it, `Memory` where memory is short, and
+/// `Fault` where the disk fails or the tables are others.
 pub fn zone_names<S: Alter>(
     alloc: Global,
     conn: &mut Connection<S>,

@@ -8,6 +8,7 @@ mod chosen;
 mod element;
 mod entry;
 mod head;
+mod items;
 mod numbering;
 mod related;
 mod rows;

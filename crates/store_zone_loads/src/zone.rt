@@ -11,10 +11,9 @@ ghost use Rattle.store_schema.specs.Inventory.{Inventory};
 ghost use Rattle.store_zone_loads.specs.Found.{zone_in, MayBeZone};
 ghost use Rattle.store_zone_loads.specs.Held.{HoldsHead, HoldsNumbered, HoldsUnder};
 
-use crate::chosen::load_numbers;
-use crate::element::load_elements;
-use crate::entry::load_entries;
+use crate::chosen::EntryNumber;
 use crate::head::{ZoneHead, zone_head};
+use crate::items::load_items;
 use crate::numbering::numbered;
 use fields::ZoneName;
 use sqlite::{Alter, Connection};
@@ -51,11 +50,11 @@ fn load_numbered<S: Alter>(
         → (entries : List EntryTerm) → ¬ HoldsNumbered release contents name.now entries }
     ensures reads { OnlyReads S.Store (schema_under release) ReadError.BadRow ReadError.Fault conn.old conn.new result }
 {
-    let entries = load_entries(alloc, conn, name)?;
+    let entries = load_items::<S, Entry>(alloc, conn, name)?;
     match release {
         Release::First | Release::Second => Ok(entries),
         Release::Third => {
-            let numbers = load_numbers(alloc, conn, name)?;
+            let numbers = load_items::<S, EntryNumber>(alloc, conn, name)?;
             numbered(alloc, entries, numbers)
         }
     }
@@ -79,7 +78,7 @@ fn load_rest<S: Alter>(
     ensures reads { OnlyReads S.Store (schema_under release) ReadError.BadRow ReadError.Fault conn.old conn.new result }
 {
     let entries = load_numbered(alloc, conn, release, &head.name)?;
-    let elements = load_elements(alloc, conn, &head.name)?;
+    let elements = load_items::<S, Element>(alloc, conn, &head.name)?;
     join(head, entries, elements)
 }
 
@@ -105,7 +104,8 @@ fn load_under<S: Alter>(
 }
 
 /// The zone of this name, if there is one, where the tables are those of this release. Under earlier schemas each entry
-/// was installed by the first `++VER` of the SREL.
+/// was installed by the first `++VER` of the SREL. `BadRow` comes where its rows stand for no zone, `Memory` where
+/// memory is short, and `Fault` where the disk fails or the tables are others.
 pub fn load_zone<S: Alter>(
     alloc: Global,
     conn: &mut Connection<S>,

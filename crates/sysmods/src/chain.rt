@@ -5,7 +5,7 @@ ghost use Rattle.sysmods.specs.Choices.{choice};
 ghost use Rattle.terms.specs.Over.{chain};
 
 use crate::choice::VerChoice;
-use fields::Id;
+use fields::{Attest, Id};
 use std::marker::Model;
 
 /// The walk from an id to its FMID, and on from FMID to FMID, by the `++VER`s that count. A contract sees it as the
@@ -33,6 +33,7 @@ impl<'a, 'b> Chain<'a, 'b> {
     pub(crate) fn new(vers: &'a VerChoice<'b>, id: Id) -> Chain<'a, 'b>
         ensures { result ≡ chain vers.now.global.now (choice vers.now) id }
     {
+        vers.global().attest();
         Chain {
             vers,
             next: Some(id),

@@ -119,14 +119,14 @@ impl<'a> VerChoice<'a> {
         self.chain(id).any(|x| is_in(ids, x))
     }
 
-    /// Whether x is over z: a list leads from x to z by PRE, SUP and FMID.
+    /// Whether x is over z: a list leads from x to z by PRE, SUP and FMID. The error comes where memory runs out.
     pub fn over(&self, alloc: Global, x: Id, z: Id) -> Result<bool, AllocError>
         ensures { IfOk result (λ over. IsTrue over ↔ IsOver (choice self.now) x z) }
     {
         leads(alloc, &AllNames { choice: self }, x, z)
     }
 
-    /// The ids that x supersedes, directly or through others.
+    /// The ids that x supersedes, directly or through others. The error comes where memory runs out.
     pub fn sup_all(&self, alloc: Global, x: Id) -> Result<IdList, AllocError>
         ensures { IfOk result (λ ids. (z : List ℕ) → Contains ids z ↔ Supersedes (choice self.now) x z) }
     {

@@ -75,7 +75,7 @@ impl GlobalZone {
         }
     }
 
-    /// The global zone of these SYSMODs and holds, if they are those of one.
+    /// The global zone of these SYSMODs and holds, if they are those of one. The error comes where memory runs out.
     pub fn from_parts(
         alloc: Global,
         sysmods: Vec<Sysmod>,
@@ -97,8 +97,7 @@ impl GlobalZone {
 
     /// How many SYSMODs are received.
     pub fn len(&self) -> usize
-        ensures len { result ≡ length self.now.sysmods }
-        ensures form { IsGlobal self.now }
+        ensures { result ≡ length self.now.sysmods }
     {
         self.sysmods.len()
     }
@@ -135,14 +134,13 @@ impl GlobalZone {
 
     /// Whether a SYSMOD of this id is received.
     pub fn is_received(&self, id: Id) -> bool
-        ensures received { result ≡ is_received self.now id }
-        ensures form { IsGlobal self.now }
+        ensures { result ≡ is_received self.now id }
     {
         self.sysmods.get(id).is_some()
     }
 
     /// Appends the ids of the received SYSMODs that name the id in PRE, SUP or FMID of a `++VER` for the
-    /// SREL. It looks at those alone that name it in some way.
+    /// SREL. It looks at those alone that name it in some way. The error comes where memory runs out.
     pub fn append_namers(&self, srel: Srel, id: Id, found: &mut Vec<Id>) -> Result<(), AllocError>
         ensures { OnOk result (found.new.items ≡ found.old.items ++ namers_for self.now.sysmods srel id) }
     {
@@ -150,7 +148,7 @@ impl GlobalZone {
     }
 
     /// Appends the ids of the received SYSMODs that name the id as a function: in DELETE, in FMID or in an
-    /// `++IF`. It looks at those alone that name it in some way.
+    /// `++IF`. It looks at those alone that name it in some way. The error comes where memory runs out.
     pub fn append_function_namers(&self, id: Id, found: &mut Vec<Id>) -> Result<(), AllocError>
         ensures { OnOk result (found.new.items ≡ found.old.items ++ function_namers self.now.sysmods id) }
     {
@@ -182,7 +180,7 @@ impl GlobalZone {
         self.holds.of(id, kind)
     }
 
-    /// The first fault by which RECEIVE refuses the SYSMOD, if there is one.
+    /// The first fault by which RECEIVE refuses the SYSMOD, if there is one. The error comes where memory runs out.
     pub fn refusal(
         &self,
         alloc: Global,
@@ -193,7 +191,8 @@ impl GlobalZone {
         refusal(alloc, &self.sysmods, sysmod)
     }
 
-    /// RECEIVE of a SYSMOD that nothing refuses, whose holds come in among the others.
+    /// RECEIVE of a SYSMOD that nothing refuses, whose holds come in among the others. The error comes where memory
+    /// runs out, and changes nothing.
     pub fn receive(&mut self, alloc: Global, sysmod: Sysmod) -> Result<(), AllocError>
         requires { IsRefusal self.old sysmod None }
         ensures ok { OnOk result (self.new ≡ received self.old sysmod) }
@@ -204,7 +203,8 @@ impl GlobalZone {
         Ok(())
     }
 
-    /// Puts a hold in place of the one of its key, whose mark as internal stays.
+    /// Puts a hold in place of the one of its key, whose mark as internal stays. The error comes where memory runs out,
+    /// and changes nothing.
     pub fn hold(&mut self, hold: Hold) -> Result<Placed, AllocError>
         requires { IsTrue hold.internal → (hold.kind ≡ System) × IsTrue (is_received self.old hold.id) }
         ensures placed { IfOk result
@@ -215,7 +215,8 @@ impl GlobalZone {
         self.holds.put(hold)
     }
 
-    /// Takes away a hold that is not internal.
+    /// Takes away a hold that is not internal. `NoHold` comes where no hold has the key, `Internal` where the hold is
+    /// internal, and then nothing changes.
     pub fn release(&mut self, id: Id, kind: HoldKind, reason: Reason) -> Result<(), ReleaseError>
         ensures ok { OnOk result
             ((fmid : AnId) → released self.old (a_release id kind reason fmid) ≡ Ok self.new) }
@@ -228,19 +229,19 @@ impl GlobalZone {
     }
 
     /// Gives a received SYSMOD the source, and answers whether the id is received. If it is not, nothing
-    /// changes.
+    /// changes. The error comes where memory runs out, and changes nothing.
     pub fn assign(&mut self, source: Source, id: Id) -> Result<bool, AllocError>
         ensures received { IfOk result (λ there. there ≡ is_received self.old id) }
         ensures ok { OnOk result (self.new ≡ assigned self.old source id) }
         ensures err { OnErr result (self.new ≡ self.old) }
-        ensures form { IsGlobal self.old }
     {
         let there = self.is_received(id);
         self.sysmods.add_source(id, source)?;
         Ok(there)
     }
 
-    /// Takes a received SYSMOD out, and with it the holds on it that are marked as internal.
+    /// Takes a received SYSMOD out, and with it the holds on it that are marked as internal. `NotReceived` comes where
+    /// no SYSMOD of the id is received, and then nothing changes.
     pub fn reject(&mut self, id: Id) -> Result<(), RejectError>
         ensures received { IsOk result ↔ IsTrue (is_received self.old id) }
         ensures ok { OnOk result (self.new ≡ without_sysmod self.old id) }

@@ -67,7 +67,7 @@ impl Holds {
         }
     }
 
-    /// These holds, if they rise by id, kind and reason, no key twice.
+    /// These holds, if they rise by id, kind and reason, no key twice. The error comes where memory runs out.
     pub fn from_vec(alloc: Global, holds: Vec<Hold>) -> Result<Option<Self>, AllocError>
         ensures some { IfOk result (λ made. IfSome made (λ all. all ≡ holds.items)) }
         ensures none { IfOk result (λ made. IsSome made ↔ Rises hold_cmp (λ h. h) holds.items) }
@@ -127,7 +127,8 @@ impl Holds {
         Iter::new(self.map.range(first..last))
     }
 
-    /// Puts a hold in place of the one of its key, whose mark as internal stays.
+    /// Puts a hold in place of the one of its key, whose mark as internal stays. The error comes where memory runs out,
+    /// and changes nothing.
     pub fn put(&mut self, hold: Hold) -> Result<Placed, AllocError>
         ensures placed { IfOk result
             (λ placed. placed ≡ (if is_some (held self.old hold.id hold.kind hold.reason) then Placed.Replaced else
@@ -141,7 +142,7 @@ impl Holds {
         }
     }
 
-    /// Puts one hold after another. It takes in all or, after an error, none.
+    /// Puts one hold after another. The error comes where memory runs out, and then none has come in.
     pub fn put_all(&mut self, alloc: Global, holds: Vec<Hold>) -> Result<(), AllocError>
         ensures ok { OnOk result (self.new ≡ with_holds self.old holds.items) }
         ensures err { OnErr result (self.new ≡ self.old) }
@@ -156,7 +157,8 @@ impl Holds {
         }
     }
 
-    /// Takes away a hold that is not internal.
+    /// Takes away a hold that is not internal. `NoHold` comes where no hold has the key, `Internal` where the hold is
+    /// internal, and then nothing changes.
     pub fn release(&mut self, id: Id, kind: HoldKind, reason: Reason) -> Result<(), ReleaseError>
         ensures no_hold { (result ≡ Err ReleaseError.NoHold) ↔ (held self.old id kind reason ≡ None) }
         ensures internal { (result ≡ Err ReleaseError.Internal)

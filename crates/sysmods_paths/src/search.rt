@@ -13,7 +13,7 @@ use std::alloc::{AllocError, Global};
 pub trait Names {
     ghost named: { Self → List ℕ → List (List ℕ) };
 
-    /// Appends what the id names. One that is not known names nothing.
+    /// Appends what the id names. One that is not known names nothing. The error comes where memory runs out.
     fn append_named(&self, id: Id, found: &mut Vec<Id>) -> Result<(), AllocError>
         ensures { OnOk result (found.new.items ≡ found.old.items ++ named self.now id) };
 }
@@ -87,7 +87,7 @@ fn reached<N: Names>(
 }
 
 /// Whether x leads to z by a list of ids, each naming the next, in one step or more. With z being x it
-/// is whether x stands in a loop.
+/// is whether x stands in a loop. The error comes where memory runs out.
 pub fn leads<N: Names>(alloc: Global, names: &N, x: Id, z: Id) -> Result<bool, AllocError>
     ensures { IfOk result (λ found. IsTrue found ↔ Reaches (N.named names.now) x z) }
 {
@@ -103,7 +103,8 @@ fn have_met(ahead: &IndexSet<Id>, behind: &IndexSet<Id>, x: Id, z: Id) -> bool
 }
 
 /// Whether x leads to z, where `namers` gives for each id those that name it. It goes on from the end
-/// that has seen less, and stops once either end has seen the other one or has nothing left.
+/// that has seen less, and stops once either end has seen the other one or has nothing left. The error comes where
+/// memory runs out.
 pub fn leads_from_both_ends<F: Names, B: Names>(
     alloc: Global,
     names: &F,
@@ -136,7 +137,7 @@ pub fn leads_from_both_ends<F: Names, B: Names>(
     Ok(have_met(&ahead, &behind, x, z))
 }
 
-/// The ids that x leads to by such lists.
+/// The ids that x leads to by such lists. The error comes where memory runs out.
 pub fn ends<N: Names>(alloc: Global, names: &N, x: Id) -> Result<IdList, AllocError>
     ensures { IfOk result (λ ends. (z : List ℕ) → Contains ends z ↔ Reaches (N.named names.now) x z) }
 {

@@ -84,7 +84,8 @@ impl Received {
         self.by_id.values()
     }
 
-    /// Takes a SYSMOD in. Where one of its id is there already, it comes back.
+    /// Takes a SYSMOD in. Where one of its id is there already, it comes back. The error comes where memory runs out,
+    /// and changes nothing.
     pub fn insert(&mut self, sysmod: Sysmod) -> Result<Option<Sysmod>, AllocError>
         ensures back { IfOk result (λ back. back ≡ (if is_some (found self.old sysmod.id) then Some sysmod else None)) }
         ensures ok { OnOk result (self.new ≡ (if is_some (found self.old sysmod.id) then self.old else with_item
@@ -116,7 +117,8 @@ impl Received {
         }
     }
 
-    /// Gives the SYSMOD of this id the source, where it is there.
+    /// Gives the SYSMOD of this id the source, where it is there. The error comes where memory runs out, and changes
+    /// nothing.
     pub fn add_source(&mut self, id: Id, source: Source) -> Result<(), AllocError>
         ensures ok { OnOk result (self.new ≡ map (λ s. if bytes_eq s.id id then with_source source s else s) self.old) }
         ensures err { OnErr result (self.new ≡ self.old) }
@@ -190,7 +192,7 @@ impl Received {
     }
 
     /// Appends the ids of the received SYSMODs that name the id in PRE, SUP or FMID of a `++VER` for
-    /// the SREL. It looks at those alone that name it in some way.
+    /// the SREL. It looks at those alone that name it in some way. The error comes where memory runs out.
     pub fn append_namers(&self, srel: Srel, id: Id, found: &mut Vec<Id>) -> Result<(), AllocError>
         ensures { OnOk result (found.new.items ≡ found.old.items ++ namers_for self.now srel id) }
     {
@@ -219,7 +221,7 @@ impl Received {
     }
 
     /// Appends the ids of the received SYSMODs that name the id as a function: in DELETE, in FMID or in
-    /// an `++IF`. It looks at those alone that name it in some way.
+    /// an `++IF`. It looks at those alone that name it in some way. The error comes where memory runs out.
     pub fn append_function_namers(&self, id: Id, found: &mut Vec<Id>) -> Result<(), AllocError>
         ensures { OnOk result (found.new.items ≡ found.old.items ++ function_namers self.now id) }
     {

@@ -15,7 +15,8 @@ use sysmods_records::Sysmod;
 const MOST: usize = 65_535;
 
 /// The first fault by which RECEIVE refuses the SYSMOD, if there is one. That there is no loop and roles
-/// fit among the received ones is the caller's to keep: what `refusal` passes keeps it.
+/// fit among the received ones is the caller's to keep: what `refusal` passes keeps it. The error comes where memory
+/// runs out.
 pub fn refusal(
     alloc: Global,
     received: &Received,

@@ -47,7 +47,8 @@ impl Sysmod {
         self.changes.iter().any(|change| change.elem_type == elem_type && change.name == name)
     }
 
-    /// The `++VER` comes in behind those of its release and of earlier ones. The answer is its place.
+    /// The `++VER` comes in behind those of its release and of earlier ones. The answer is its place. The error comes
+    /// where memory runs out.
     pub fn add_ver(&mut self, ver: Ver) -> Result<usize, AllocError>
         ensures ok { IfOk result (λ n. (n ≡ place_of ver self.old.vers)
             × (self.new ≡ record self.old { vers = with_ver_at n ver self.old.vers })) }
@@ -57,7 +58,8 @@ impl Sysmod {
         Ok(place)
     }
 
-    /// The `++IF` comes in behind those of the `++VER` at the place, where there is one.
+    /// The `++IF` comes in behind those of the `++VER` at the place, where there is one. The error comes where memory
+    /// runs out.
     pub fn add_if(&mut self, place: usize, condition: IfReq) -> Result<(), AllocError>
         ensures ok { IfOk result (λ u. self.new
             ≡ record self.old { vers = with_if_at condition self.old.vers place }) }
@@ -68,7 +70,7 @@ impl Sysmod {
         Ok(())
     }
 
-    /// The hold comes in behind the others.
+    /// The hold comes in behind the others. The error comes where memory runs out, and changes nothing.
     pub fn add_hold(&mut self, hold: Hold) -> Result<(), AllocError>
         requires { IsTrue hold.internal × (hold.kind ≡ System) × (hold.id ≡ self.old.id) }
         ensures ok { OnOk result (self.new ≡ record self.old { holds = self.old.holds ++ hold ∷ [] }) }
@@ -78,7 +80,8 @@ impl Sysmod {
         Ok(())
     }
 
-    /// The element statement comes in at its place, where it takes the place of one for its element.
+    /// The element statement comes in at its place, where it takes the place of one for its element. The error comes
+    /// where memory runs out, and changes nothing.
     pub fn add_change(&mut self, change: ElemChange) -> Result<(), AllocError>
         ensures ok { OnOk result (self.new ≡ record self.old {
           changes = with_item change_cmp

@@ -75,7 +75,7 @@ impl TryClone for Hold {
 }
 
 impl Sysmod {
-    /// A copy, with the holds that came inside it.
+    /// A copy, with the holds that came inside it. The error comes where memory runs out.
     pub fn try_clone(&self, alloc: Global) -> Result<Self, AllocError>
         ensures { IfOk result (λ copy. copy ≡ self.now) }
     {

@@ -48,7 +48,7 @@ impl Attest for Sysmod {
 }
 
 impl Sysmod {
-    /// Adds a source.
+    /// Adds a source. The error comes where memory runs out, and changes nothing.
     pub fn add_source(&mut self, source: Source) -> Result<(), AllocError>
         ensures ok { OnOk result (self.new ≡ with_source source self.old) }
         ensures err { OnErr result (self.new ≡ self.old) }
@@ -65,7 +65,7 @@ impl Sysmod {
         mem::replace(&mut self.holds, Vec::new(alloc))
     }
 
-    /// Appends the ids that its `++VER`s for the SREL name in PRE, SUP and FMID.
+    /// Appends the ids that its `++VER`s for the SREL name in PRE, SUP and FMID. The error comes where memory runs out.
     pub fn append_named(&self, srel: Srel, found: &mut Vec<Id>) -> Result<(), AllocError>
         ensures { OnOk result (found.new.items ≡ found.old.items ++ flat_map named (filter
             (λ v. bytes_eq v.srel srel) self.now.vers)) }

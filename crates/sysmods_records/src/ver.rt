@@ -53,7 +53,7 @@ impl Model for Ver {
 }
 
 impl Ver {
-    /// The `++IF` comes in behind the others.
+    /// The `++IF` comes in behind the others. The error comes where memory runs out.
     pub(crate) fn add_if(&mut self, condition: IfReq) -> Result<(), AllocError>
         ensures ok { OnOk result (self.new ≡ record self.old { ifs = self.old.ifs ++ condition ∷ [] }) }
         ensures err { OnErr result (self.new ≡ self.old) }
@@ -62,7 +62,7 @@ impl Ver {
         Ok(())
     }
 
-    /// Appends the ids that it names in PRE, SUP and FMID.
+    /// Appends the ids that it names in PRE, SUP and FMID. The error comes where memory runs out.
     pub fn append_named(&self, found: &mut Vec<Id>) -> Result<(), AllocError>
         ensures { OnOk result (found.new.items ≡ found.old.items ++ named self.now) }
     {

@@ -10,7 +10,7 @@ use Rattle.std.proofs.lemmas.List.{append-nil, drop_more, drop_all, append_assoc
 use Rattle.std.proofs.lemmas.List.Elements.{All-tail, All-head}
 use Rattle.std.proofs.lemmas.List.Folds.{list_any_none}
 use Rattle.std.proofs.lemmas.List.Sorted.{IsNonDecreasingBy-drop}
-use Rattle.lemmas.proofs.Booleans.{or_false}
+use Rattle.lemmas.proofs.Booleans.{or_assoc, or_false}
 use Rattle.terms.specs.Types.{Lines}
 use Rattle.terms.specs.Texts.{IsNumberedLine, number_of, IsNumbered}
 use Rattle.terms.proofs.Texts.{Rises, Rises_numbered, Rises_lower}
@@ -31,10 +31,6 @@ swept_later all from later left reach h s = record {
   covered = λ n above. s.covered n (omega (arith, h, above));
 }
 
-joins : (b c d : Bool) → (b || (c || d)) ≡ ((b || c) || d)
-joins true c d = refl
-joins false c d = refl
-
 reaches : (n reach high : ℕ) → (nat_lt n reach || nat_le n high) ≡ nat_lt n (max reach (high + 1))
 reaches n reach high =
     elim (cases_lt n reach) [
@@ -53,7 +49,7 @@ swept_step all from r rs reach low s = record {
   covered = λ n above.
       s.covered n above
       ∙ ap (λ b. nat_lt n reach || ((b && nat_le n r.high) || covers rs n)) (le-leb r.low n (omega (arith, low, above)))
-      ∙ joins (nat_lt n reach) (nat_le n r.high) (covers rs n)
+      ∙ or_assoc (nat_lt n reach) (nat_le n r.high) (covers rs n)
       ∙ ap (λ b. b || covers rs n) (reaches n reach r.high);
 }
 

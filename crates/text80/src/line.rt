@@ -87,7 +87,7 @@ pub(crate) fn number_in(text: &[u8]) -> Option<u32>
     Some(number)
 }
 
-/// The records that the bytes are, one after the other.
+/// The records that the bytes are, 80 each, one after the other. The error comes where memory runs out.
 pub fn lines_of(alloc: Global, bytes: &[u8]) -> Result<Vec<Line>, AllocError>
     requires { length bytes.now % 80 ≡ 0 }
     ensures { IfOk result (λ lines. HasLines bytes.now lines.items) }
@@ -104,7 +104,7 @@ pub fn lines_of(alloc: Global, bytes: &[u8]) -> Result<Vec<Line>, AllocError>
     Ok(lines)
 }
 
-/// The bytes of the records, one after the other.
+/// The bytes of the records, one after the other. The error comes where memory runs out.
 pub fn bytes_of(alloc: Global, lines: &[Line]) -> Result<Vec<u8>, AllocError>
     ensures { IfOk result (λ bytes. HasLines bytes.items lines.now) }
 {

@@ -11,7 +11,7 @@ use crate::update::Update;
 use std::alloc::{AllocError, Global};
 
 /// The text with the update made: the update's record at each number that it gives, none at the
-/// others that it deletes, and elsewhere the old record.
+/// others that it deletes, and elsewhere the old record. The error comes where memory runs out.
 pub fn merge(alloc: Global, old: &Numbered, update: &Update) -> Result<Numbered, AllocError>
     ensures { IfOk result (IsMerge old.now update.now) }
 {

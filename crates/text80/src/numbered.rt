@@ -35,7 +35,8 @@ impl Numbered {
         }
     }
 
-    /// The records as a numbered text. The fault tells the first bad record, counted from 1: `Tx1` or `Tx2`.
+    /// The records as a numbered text. The error tells the first bad record, counted from 1: `Tx1` where it has no
+    /// number, `Tx2` where its number does not rise.
     pub fn read(lines: Vec<Line>) -> Result<Numbered, TextFault>
         ensures text { IfOk result (λ text. text ≡ lines.items) }
         ensures fault { IfErr result (IsNumberedFault lines.items) }
@@ -87,7 +88,8 @@ impl Clone for Numbered {
     }
 }
 
-/// The number of a record, which is not to be below the least one that may come.
+/// The number of a record, which is not to be below the least one that may come. The error is `Tx1` where it has none,
+/// and `disorder` where it is below.
 pub(crate) fn rising_number(line: &Line, least: u32, disorder: TextCode) -> Result<u32, TextCode>
     ensures numbered { IfOk result (λ n. IsNumberedLine line.now × (n ≡ number_of line.now)) }
     ensures from { IfOk result (λ n. least ≤ n) }

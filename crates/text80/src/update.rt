@@ -32,9 +32,10 @@ impl Model for Update {
 }
 
 impl Update {
-    /// The records, CHANGE and all, as an update of the element of this name. `Fault` tells the first bad record,
-    /// counted from 1: `Tx3` or `Tx4` where it should be the CHANGE (`Tx3` also where there are no records), and behind
-    /// that `Tx1`, `Tx5` or `Tx6`.
+    /// The records, CHANGE and all, as an update of the element of this name. `Memory` comes where memory runs out.
+    /// `Fault` tells the first bad record, counted from 1. Of the first one it is `Tx3` where it is no CHANGE, or there
+    /// are no records, and `Tx4` where it names another element; behind that it is `Tx1` where a record has no number,
+    /// `Tx5` where a `./` record is no DELETE, and `Tx6` where a number does not rise.
     pub fn read(alloc: Global, records: Vec<Line>, name: &[u8]) -> Result<Update, TextError>
         ensures update { IfOk result (λ update. (update ≡ records.items) × IsUpdate name.now records.items) }
         ensures fault { IfErr result (IsUpdateError name.now records.items) }
@@ -52,7 +53,7 @@ impl Update {
         &self.records
     }
 
-    /// A copy of the records that the update gives.
+    /// A copy of the records that the update gives. The error comes where memory runs out.
     pub fn given(&self, alloc: Global) -> Result<Numbered, AllocError>
         ensures { IfOk result (λ given. given ≡ given_of self.now) }
     {

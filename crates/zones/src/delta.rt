@@ -86,7 +86,8 @@ impl ZoneDelta {
         &self.elements
     }
 
-    /// Puts an entry in place of the one of its id. At ids that rise it takes the least time.
+    /// Puts an entry in place of the one of its id. At ids that rise it takes the least time. The error comes where
+    /// memory runs out, and changes nothing.
     pub fn put_entry(&mut self, entry: Entry) -> Result<(), AllocError>
         requires held { IsTrue (has_content entry) }
         requires waived { IsTrue (waives_applied entry) }
@@ -100,7 +101,7 @@ impl ZoneDelta {
         Ok(())
     }
 
-    /// The entry of this id goes.
+    /// The entry of this id goes. The error comes where memory runs out, and changes nothing.
     pub fn remove_entry(&mut self, id: Id) -> Result<(), AllocError>
         ensures ok { OnOk result
             (self.new ≡ record self.old {
@@ -112,7 +113,8 @@ impl ZoneDelta {
         Ok(())
     }
 
-    /// Puts an element in place of the one of its type and name.
+    /// Puts an element in place of the one of its type and name. The error comes where memory runs out, and changes
+    /// nothing.
     pub fn put_element(&mut self, element: Element) -> Result<(), AllocError>
         ensures ok { OnOk result
             (self.new ≡ record self.old {
@@ -124,7 +126,7 @@ impl ZoneDelta {
         Ok(())
     }
 
-    /// The element of this type and name goes.
+    /// The element of this type and name goes. The error comes where memory runs out, and changes nothing.
     pub fn remove_element(&mut self, elem_type: ElemType, name: Name) -> Result<(), AllocError>
         ensures ok { OnOk result
             (self.new ≡ record self.old {

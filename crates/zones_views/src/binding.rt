@@ -14,7 +14,7 @@ use sysmods_records::{IfReq, Ver};
 use zones::Zone;
 
 /// The requisites that hold a SYSMOD applied in the zone: its PRE and REQ and those by ++IF whose function is applied,
-/// less what it waives.
+/// less what it waives. The error comes where memory runs out.
 pub fn requisites_held(
     alloc: Global,
     vers: &VerChoice<'_>,

@@ -14,7 +14,7 @@ use sysmods_records::{Sysmod, Ver};
 use zones::{Entry, Zone};
 
 /// The `++VER`s that count in the zone for a command with these candidates. It goes over the entries and over the
-/// received SYSMODs once.
+/// received SYSMODs once. The error comes where memory runs out.
 pub fn choose<'a>(
     alloc: Global,
     global: &'a GlobalZone,

@@ -12,7 +12,7 @@ use std::alloc::{AllocError, Global};
 use sysmods::VerChoice;
 use zones::Zone;
 
-/// What these SYSMODs name in DELETE, in their order.
+/// What these SYSMODs name in DELETE, in their order. The error comes where memory runs out.
 pub fn deletions(alloc: Global, vers: &VerChoice<'_>, ids: &[Id]) -> Result<Vec<Id>, AllocError>
     ensures { IfOk result (λ dels. dels.items ≡ deletions (choice vers.now) ids.now) }
 {
@@ -23,7 +23,8 @@ pub fn deletions(alloc: Global, vers: &VerChoice<'_>, ids: &[Id]) -> Result<Vec<
     Ok(dels)
 }
 
-/// What the candidates in the chain of this one name in DELETE: its view is the zone less these.
+/// What the candidates in the chain of this one name in DELETE: its view is the zone less these. The error comes where
+/// memory runs out.
 pub fn view_deletions(
     alloc: Global,
     vers: &VerChoice<'_>,
@@ -40,7 +41,8 @@ pub fn view_deletions(
     Ok(dels)
 }
 
-/// A candidate's view: the zone without what the DELETEs of candidates in its own chain take out.
+/// A candidate's view: the zone without what the DELETEs of candidates in its own chain take out. The error comes where
+/// memory runs out.
 pub fn view(
     alloc: Global,
     vers: &VerChoice<'_>,

@@ -16,6 +16,7 @@ pub trait TakesOut {
 
     ghost is_gone: { Self → AnId → Bool };
 
+    /// Whether it takes the SYSMOD of this id out.
     fn takes_out(&self, id: Id) -> bool
         ensures { result ≡ is_gone self.now id };
 }
@@ -58,7 +59,7 @@ fn list_left<T: TakesOut>(alloc: Global, taking: &T, ids: &IdList) -> Result<IdL
     Ok(left)
 }
 
-/// The entry without what is taken out.
+/// The entry without what is taken out. The error comes where memory runs out.
 pub fn entry_less<T: TakesOut>(
     alloc: Global,
     taking: &T,

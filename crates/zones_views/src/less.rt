@@ -13,7 +13,7 @@ use std::alloc::{AllocError, Global};
 use sysmods::VerChoice;
 use zones::{Element, Entry, Zone};
 
-/// The zone less what the DELETEs of these ids take out of it.
+/// The zone less what the DELETEs of these ids take out of it. The error comes where memory runs out.
 pub fn zone_less(
     alloc: Global,
     vers: &VerChoice<'_>,

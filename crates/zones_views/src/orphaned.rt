@@ -14,7 +14,8 @@ use std::alloc::{AllocError, Global};
 use sysmods::VerChoice;
 use zones::{Entry, Zone};
 
-/// The requisites of SYSMODs that stay applied, as far as this one's own DELETE takes their suppliers.
+/// The requisites of SYSMODs that stay applied, as far as this one's own DELETE takes their suppliers. The error comes
+/// where memory runs out.
 pub fn orphans(
     alloc: Global,
     vers: &VerChoice<'_>,

@@ -3,21 +3,15 @@ use Rattle.std.specs.Option.{option_copied}
 use Rattle.std.proofs.lemmas.List.Elements.{All-drop}
 use Rattle.std.proofs.lemmas.Result.{IfOk-weaker}
 use Rattle.sysmods.specs.Choices.{choice}
-use Rattle.sysmods.specs.declared.choice.VerChoice.{VerChoice}
 use Rattle.terms.specs.Changes.{has_replacement}
-use Rattle.terms.specs.Global.{IsGlobal}
 use Rattle.terms.specs.Lookups.{has_change}
 use Rattle.terms.specs.Over.{IsOver}
 use Rattle.terms.specs.Types.{Id}
 use Rattle.change.specs.Folding.{IsFolded}
-use Rattle.change.proofs.ChosenVers.{looked_up, names_no_loop}
+use Rattle.change.proofs.ChosenVers.{not_over_itself}
 use Rattle.change.proofs.FoldEnd.{folded_after, folded_behind}
 use Rattle.change.proofs.Ordered.{pairs_drop}
 use Rattle.change.proofs.folding.element_after.Goals as goal
-
--- nothing is over itself
-itself : (vers : VerChoice) → IsGlobal vers.global.now → (x : Id) → ¬ IsOver (choice vers) x x
-itself vers is = names_no_loop vers.global.now vers.srel (choice vers) (looked_up vers) is.no_loop
 
 pub folded-requires-clause-changers : goal.folded-requires-clause-changers
 folded-requires-clause-changers c =
@@ -42,7 +36,7 @@ returns-in-Some-clause-element c =
     let base = option_copied c.args.base in
     IfOk-weaker c.folded.result _ _
     (λ e fold. λ i are. folded_after g chosen c.args.elem_type c.args.name xs base e c.requires.order
-    (itself c.args.vers.now (rw c.global.ensures at c.len.ensures.form))
+    (not_over_itself c.args.vers.now (rw c.global.ensures at c.attest.ensures))
     (folded_behind g chosen c.args.elem_type c.args.name xs c.in-Some.place base e
     (subst (λ l. IsFolded g chosen c.args.elem_type c.args.name l None (Some e)) c.from.ensures fold)) i are)
     c.folded.ensures.folded
@@ -55,7 +49,7 @@ returns-in_ok-copy_of-in-None-clause-element c =
     let base = option_copied c.args.base in
     IfOk-weaker c.folded-in-None.result _ _
     (λ e fold. λ i are. folded_after g chosen c.args.elem_type c.args.name xs base e c.requires.order
-    (itself c.args.vers.now (rw c.global.ensures at c.len.ensures.form))
+    (not_over_itself c.args.vers.now (rw c.global.ensures at c.attest.ensures))
     (subst (λ o. IsFolded g chosen c.args.elem_type c.args.name xs o (Some e)) c.in_ok-copy_of-in-None.ensures.same
     fold) i are)
     c.folded-in-None.ensures.folded

@@ -1,20 +1,13 @@
 use Rattle.std.proofs.Common.{◌∙◌, [], ◌∷◌, ◌++◌, sym, ap, subst, take}
 use Rattle.std.proofs.lemmas.List.{take_more, take_all}
-use Rattle.sysmods.specs.declared.choice.VerChoice.{VerChoice}
 use Rattle.sysmods.specs.Choices.{choice}
-use Rattle.terms.specs.Global.{IsGlobal}
-use Rattle.terms.specs.Types.{Id}
 use Rattle.terms.specs.Over.{IsOver}
 use Rattle.change.specs.Folding.{IsFolded}
-use Rattle.change.proofs.ChosenVers.{looked_up, names_no_loop}
+use Rattle.change.proofs.ChosenVers.{not_over_itself}
 use Rattle.change.proofs.FoldEnd.{folded_none, folded_some}
 use Rattle.change.proofs.FoldSteps.{fold_more}
 use Rattle.change.proofs.Ordered.{newest}
 use Rattle.change.proofs.folding.folded.Goals as goal
-
--- nothing is over itself
-itself : (vers : VerChoice) → IsGlobal vers.global.now → (x : Id) → ¬ IsOver (choice vers) x x
-itself vers is = names_no_loop vers.global.now vers.srel (choice vers) (looked_up vers) is.no_loop
 
 pub loop-id-init : goal.loop-id-init
 loop-id-init c = record {
@@ -38,7 +31,7 @@ loop-id-preserved c =
           (fold_more g chosen c.args.elem_type c.args.name (take k xs) x c.args.start c.loop-id.element
           c.in_ok-element.element
           (newest (λ v w. IsOver chosen w v) xs k x c.requires.order below c.id-item.is)
-          (itself c.args.vers.now (rw c.global.ensures at c.len.ensures.form) x) c.loop-id.invariant.folded
+          (not_over_itself c.args.vers.now (rw c.global.ensures at c.attest.ensures) x) c.loop-id.invariant.folded
           c.in_ok-element.ensures.step);
       keyed = c.in_ok-element.ensures.new;
     }

@@ -1,4 +1,6 @@
 use Rattle.std.proofs.Common.{◌∙◌, sym}
+use Rattle.terms.specs.Types.{Command}
+use Rattle.terms.specs.CommandForms.{IsCommand}
 use Rattle.terms.proofs.CommandLines.{of_command, is_command}
 use Rattle.cntl.specs.Views.{command_of}
 use Rattle.cntl.proofs.Bypassing.{single_words}
@@ -11,40 +13,25 @@ returns-then-has_double-clause-fault c = λ pieces h.
 
 pub returns-then-is_unchosen-clause-fault : goal.returns-then-is_unchosen-clause-fault
 returns-then-is_unchosen-clause-fault c = λ pieces h.
-    let t = c.in-Some.ensures.word pieces h in (
-      c.in-Some.word,
-      t.0,
-      t.1,
-      sym (c.has_double.ensures t.0 t.2) ∙ c.if-has_double.false,
-      sym (c.is_unchosen.ensures t.0 t.2) ∙ c.if-is_unchosen.true,
-    )
+    let t = c.in-Some.ensures.word pieces h in
+    (c.in-Some.word, t.0, t.1, cc (c.has_double.ensures t.0 t.2), cc (c.is_unchosen.ensures t.0 t.2))
 
 pub returns-then-not-are_operands-clause-fault : goal.returns-then-not-are_operands-clause-fault
 returns-then-not-are_operands-clause-fault c = λ pieces h.
-    let t = c.in-Some.ensures.word pieces h in (
-      c.in-Some.word,
-      t.0,
-      t.1,
-      sym (c.has_double.ensures t.0 t.2) ∙ c.if-has_double.false,
-      sym (c.is_unchosen.ensures t.0 t.2) ∙ c.if-is_unchosen.false,
-      λ d k.
-          let o = of_command pieces c.in-Some.word t.0 d t.1 k in
-          c.are_operands.ensures.unknown c.if-not-are_operands.true o.1.0 (t.0, t.2, o.1.1) o.1.2,
-    )
+    let t = c.in-Some.ensures.word pieces h in
+    let none : (d : Command) → IsCommand pieces d → ⊥ = λ d k.
+    let o = of_command pieces c.in-Some.word t.0 d t.1 k in
+    c.are_operands.ensures.unknown c.if-not-are_operands.true o.1.0 (t.0, t.2, o.1.1) o.1.2 in
+    (c.in-Some.word, t.0, t.1, cc (c.has_double.ensures t.0 t.2), cc (c.is_unchosen.ensures t.0 t.2), none)
 
 pub returns-in-Err-Bad-clause-fault : goal.returns-in-Err-Bad-clause-fault
 returns-in-Err-Bad-clause-fault c = λ pieces h.
-    let t = c.in-Some.ensures.word pieces h in (
-      c.in-Some.word,
-      t.0,
-      t.1,
-      sym (c.has_double.ensures t.0 t.2) ∙ c.if-has_double.false,
-      sym (c.is_unchosen.ensures t.0 t.2) ∙ c.if-is_unchosen.false,
-      λ d k.
-          let o = of_command pieces c.in-Some.word t.0 d t.1 k in
-          let bad = rw c.in-Err-Bad.field-0-is at c.in-Err-Bad.ensures.bad o.1.0 (t.0, t.2, o.1.1) in
-          bad (d, (o.0, o.1.3)),
-    )
+    let t = c.in-Some.ensures.word pieces h in
+    let none : (d : Command) → IsCommand pieces d → ⊥ = λ d k.
+    let o = of_command pieces c.in-Some.word t.0 d t.1 k in
+    let bad = rw c.in-Err-Bad.field-0-is at c.in-Err-Bad.ensures.bad o.1.0 (t.0, t.2, o.1.1) in
+    bad (d, (o.0, o.1.3)) in
+    (c.in-Some.word, t.0, t.1, cc (c.has_double.ensures t.0 t.2), cc (c.is_unchosen.ensures t.0 t.2), none)
 
 pub returns-in-Ok-clause-command : goal.returns-in-Ok-clause-command
 returns-in-Ok-clause-command c = λ pieces h.

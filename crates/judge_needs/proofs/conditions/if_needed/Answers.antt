@@ -6,7 +6,7 @@ use Rattle.terms.specs.Over.{chain}
 use Rattle.terms.specs.Deleted.{deletions, zone_less}
 use Rattle.terms.specs.Conditions.{if_needed, if_reqs}
 use Rattle.judge_needs.specs.declared.stated.Requisite.{Requisite}
-use Rattle.judge_needs.specs.Conditions.{is_there, listed}
+use Rattle.judge_needs.specs.Conditions.{is_there, requisites_of}
 use Rattle.zones_views.specs.Scopes.{choice_of}
 use Rattle.judge_needs.proofs.Stating.{stated_left}
 use Rattle.judge_needs.proofs.conditions.if_needed.Goals as goal
@@ -27,7 +27,7 @@ returns c =
     subst (λ l. (z : Id) → Contains c.from_vec.result z ↔ Contains l z)
     (c.in_ok-append_for_function.ensures
     ∙ ap (λ l. l ++ cond (is_function g x) (map (λ (r : Requisite). r.id) (filter (λ r. is_applied left r.by)
-    (listed c.args.stated.now x))) [])
+    (requisites_of c.args.stated.now x))) [])
     (c.in_ok-append_own.ensures ∙ ap (λ l. l ++ own) c.new-found.ensures.items)
     ∙ ap (λ l. own ++ cond (is_function g x) (map (λ (r : Requisite). r.id) (filter (λ r. is_applied left r.by) l)) [])
     (c.requires x)

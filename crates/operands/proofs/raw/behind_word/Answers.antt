@@ -7,29 +7,21 @@ use Rattle.operands.proofs.raw.behind_word.Goals as goal
 
 pub returns-then-is_named-clause-found : goal.returns-then-is_named-clause-found
 returns-then-is_named-clause-found c = λ pieces h.
-    let name = c.args.name.now in
     let i = c.loop-piece.invariant pieces h in
-    let t = c.in-Some.ensures.piece i.0 i.1 in (
-      t.0,
-      t.2,
-      i.2 ∙ ap (λ ps. count name (words_in ps)) t.1
-          ∙ named name (piece_of c.in-Some.piece) t.0 (sym c.is_named.ensures ∙ c.if-is_named.true),
-      i.3 ∙ ap (list_behind name) t.1
-          ∙ list_here name (piece_of c.in-Some.piece) t.0 (sym c.is_named.ensures ∙ c.if-is_named.true),
-    )
+    let t = c.in-Some.ensures.piece i.0 i.1 in
+    let is = sym c.is_named.ensures ∙ c.if-is_named.true in
+    let n = named c.args.name.now (piece_of c.in-Some.piece) t.0 is in
+    let l = list_here c.args.name.now (piece_of c.in-Some.piece) t.0 is in
+    (t.0, t.2, (rw t.1 at i.2) ∙ n, (rw t.1 at i.3) ∙ l)
 
 pub loop-piece-preserved : goal.loop-piece-preserved
 loop-piece-preserved c = λ pieces h.
-    let name = c.args.name.now in
     let i = c.loop-piece.invariant pieces h in
-    let t = c.in-Some.ensures.piece i.0 i.1 in (
-      t.0,
-      t.2,
-      i.2 ∙ ap (λ ps. count name (words_in ps)) t.1
-          ∙ not_named name (piece_of c.in-Some.piece) t.0 (sym c.is_named.ensures ∙ c.if-is_named.false),
-      i.3 ∙ ap (list_behind name) t.1
-          ∙ list_later name (piece_of c.in-Some.piece) t.0 (sym c.is_named.ensures ∙ c.if-is_named.false),
-    )
+    let t = c.in-Some.ensures.piece i.0 i.1 in
+    let is = sym c.is_named.ensures ∙ c.if-is_named.false in
+    let n = not_named c.args.name.now (piece_of c.in-Some.piece) t.0 is in
+    let l = list_later c.args.name.now (piece_of c.in-Some.piece) t.0 is in
+    (t.0, t.2, (rw t.1 at i.2) ∙ n, (rw t.1 at i.3) ∙ l)
 
 pub returns-clause-none : goal.returns-clause-none
 returns-clause-none c = λ pieces h.

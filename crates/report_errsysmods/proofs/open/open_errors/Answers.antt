@@ -1,7 +1,8 @@
 use Rattle.std.proofs.Common.{◌++◌, ◌∙◌, ap, sym, take_all, arith}
 use Rattle.std.specs.List.{flat_map}
+use Rattle.lemmas.proofs.Lists.{flat_next}
 use Rattle.report_errsysmods.specs.Open.{open_in}
-use Rattle.report_errsysmods.proofs.OpenHolds.{flat_map_one, open_entries}
+use Rattle.report_errsysmods.proofs.OpenHolds.{open_entries}
 use Rattle.report_errsysmods.proofs.open.open_errors.Goals as goal
 
 pub loop-entry-preserved : goal.loop-entry-preserved
@@ -9,7 +10,7 @@ loop-entry-preserved c =
     let f = open_in c.args.global.now c.args.zone.now in
     c.in_ok-append_of_entry.ensures
     ∙ ap (λ l. l ++ f c.entry-item.result) c.loop-entry.invariant
-    ∙ sym (flat_map_one f c.entries-entry-items.result.now c.loop-entry.entry-index c.entry-item.result (omega arith)
+    ∙ sym (flat_next f c.entries-entry-items.result.now c.loop-entry.entry-index c.entry-item.result (omega arith)
     c.entry-item.is)
 
 pub returns : goal.returns

@@ -6,5 +6,4 @@ use Rattle.select.proofs.asking.append_conditional.Given as goal
 abbrev pub invariant-loop-condition : goal.invariant-loop-condition
 invariant-loop-condition l =
     l.found.items ≡ l.fn.found.items
-    ++ reqs_where (is_there l.scope.global.now l.scope.zone.now l.scope.selection.now l.seen.keys)
-    (take l.condition-index l.conditions)
+    ++ reqs_where (is_there l.scope l.seen.keys) (take l.condition-index l.conditions)

@@ -8,4 +8,4 @@ use Rattle.select.proofs.asking.append_error_reasons.Given as goal
 abbrev pub invariant-loop-hold : goal.invariant-loop-hold
 invariant-loop-hold l =
     l.found.items ++ flat_map error_reason l.hold-iterator
-    ≡ l.fn.found.items ++ map (λ h. h.reason) (holds_of l.scope.global.now Error l.fn.id)
+    ≡ l.fn.found.items ++ map (λ h. h.reason) (holds_of l.scope.global Error l.fn.id)

@@ -12,9 +12,8 @@ use Rattle.std.proofs.Common.{sym}
 
 pub returns : goal.returns
 returns c =
-    let zone = c.args.scope.now.zone.now in
-    let cands : Id → Bool = taken_up c.args.scope.now.global.now zone c.args.scope.now.selection.now c.args.seen.now.keys
-    in
+    let zone = c.args.scope.now.zone in
+    let cands : Id → Bool = taken_up c.args.scope.now c.args.seen.now.keys in
     subst (λ l. OnOk c.append_all_required.result
     (c.append_all_required.new.found.items ≡ c.args.found.now.items ++ flat_map (required_by zone cands) l))
     (sym (filter_twice (λ v. bytes_eq v.srel zone.srel) (fits zone cands) c.vers.result.now)

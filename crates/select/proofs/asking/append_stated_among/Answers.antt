@@ -7,5 +7,5 @@ use Rattle.select.proofs.asking.append_stated_among.Goals as goal
 
 pub loop-namer-preserved : goal.loop-namer-preserved
 loop-namer-preserved c =
-    flat_more (if_reqs (kept_ver c.args.scope.now.global.now c.args.scope.now.zone.now) (bytes_eq c.args.function))
-    _ _ _ (omega arith) c.namer-item.is _ _ _ c.in_ok-append_stated_by.ensures c.loop-namer.invariant
+    flat_more (if_reqs (kept_ver c.args.scope.now) (bytes_eq c.args.function)) _ _ _ (omega arith) c.namer-item.is _ _ _
+    c.in_ok-append_stated_by.ensures c.loop-namer.invariant

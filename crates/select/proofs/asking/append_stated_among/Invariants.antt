@@ -5,5 +5,4 @@ use Rattle.select.proofs.asking.append_stated_among.Given as goal
 
 abbrev pub invariant-loop-namer : goal.invariant-loop-namer
 invariant-loop-namer l =
-    l.found.items ≡ l.fn.found.items
-    ++ stated_for (kept_ver l.scope.global.now l.scope.zone.now) (take l.namer-index l.namers) l.function
+    l.found.items ≡ l.fn.found.items ++ stated_for (kept_ver l.scope) (take l.namer-index l.namers) l.function

@@ -11,9 +11,8 @@ use Rattle.std.proofs.Common.{sym}
 
 pub returns : goal.returns
 returns c =
-    let zone = c.args.scope.now.zone.now in
-    let cands : Id → Bool = taken_up c.args.scope.now.global.now zone c.args.scope.now.selection.now c.args.seen.now.keys
-    in
+    let zone = c.args.scope.now.zone in
+    let cands : Id → Bool = taken_up c.args.scope.now c.args.seen.now.keys in
     subst (λ l. OnOk c.append_all_through.result
     (c.append_all_through.new.found.items ≡ c.args.found.now.items
     ++ flat_map (required_through zone cands c.args.function) l))

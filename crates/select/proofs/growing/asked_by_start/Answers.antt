@@ -10,6 +10,5 @@ loop-id-init c = subst (AddsAll [] []) (sym c.new-seen.ensures.empty) (adds_none
 
 pub loop-id-preserved : goal.loop-id-preserved
 loop-id-preserved c =
-    adds_flat (asked_first c.args.scope.now.global.now c.args.scope.now.zone.now c.args.scope.now.selection.now) []
-    c.args.start.now c.loop-id.seen.keys c.see_first.new.seen.keys c.loop-id.id-index c.id-item.result (omega arith)
-    c.id-item.is c.in_ok-see_first.ensures c.loop-id.invariant
+    adds_flat (asked_first c.args.scope.now) [] c.args.start.now c.loop-id.seen.keys c.see_first.new.seen.keys
+    c.loop-id.id-index c.id-item.result (omega arith) c.id-item.is c.in_ok-see_first.ensures c.loop-id.invariant

@@ -1,9 +1,10 @@
-use Rattle.std.proofs.Common.{◌++◌, Contains, Some, ◌≡◌, map, sym, subst, ◌↔◌}
+use Rattle.std.proofs.Common.{Contains, Some, ◌≡◌, map, sym, subst, ◌↔◌}
 use Rattle.std.proofs.lemmas.Result.{IfOk-weaker}
 use Rattle.terms.specs.declared.not_chosen.NotChosen.{NotChosen}
 use Rattle.terms.specs.Types.{Id}
 use Rattle.terms.specs.Lookups.{IsRising}
-use Rattle.terms.specs.Candidates.{not_chosen}
+use Rattle.select.specs.Scopes.{Scope, named_ids}
+use Rattle.select.specs.Reasons.{reason_in}
 use Rattle.select.proofs.Reasoned.{found_rising, found_members}
 use Rattle.select.proofs.left_out.not_chosen.Goals as goal
 
@@ -11,22 +12,22 @@ pub returns-clause-rising : goal.returns-clause-rising
 returns-clause-rising c =
     IfOk-weaker c.with_reasons.result _ _
     (λ found same. subst (λ ps. IsRising (map (λ p. p.0) ps)) (sym same)
-    (found_rising c.new.result.global.now c.new.result.zone.now c.new.result.selection.now c.as_slice.result.now
-    c.as_slice.ensures.rising))
+    (found_rising _ c.as_slice.result.now c.as_slice.ensures.rising))
     c.with_reasons.ensures
 
 pub returns-clause-members : goal.returns-clause-members
 returns-clause-members c =
-    let g = c.args.global.now in
-    let zone = c.args.zone.now in
-    let sel = c.args.selection.now in
+    let scope : Scope = record {
+      global = c.args.global.now;
+      zone = c.args.zone.now;
+      selection = c.args.selection.now;
+    } in
     let ids = c.as_slice.result.now in
-    let named : (x : Id) → Contains ids x ↔ Contains (sel.select ++ sel.group) x = λ x.
-    subst (λ xs. Contains xs x ↔ Contains (sel.select ++ sel.group) x) (sym c.as_slice.ensures.items)
+    let named : (x : Id) → Contains ids x ↔ Contains (named_ids scope.selection) x = λ x.
+    subst (λ xs. Contains xs x ↔ Contains (named_ids scope.selection) x) (sym c.as_slice.ensures.items)
     (subst (λ ys. Contains c.from_vec-named.result x ↔ Contains ys x) c.in_ok-named_ids.ensures
     (c.from_vec-named.ensures x)) in
     IfOk-weaker c.with_reasons.result _ _
-    (λ found same x why. subst (λ ps. Contains {X = Id × NotChosen} ps (x, why) ↔ (not_chosen g zone sel x ≡ Some why))
-    (sym same)
-    (found_members g zone sel ids named x why))
-    (rw (c.new.ensures.global, c.new.ensures.zone, c.new.ensures.selection) at c.with_reasons.ensures)
+    (λ found same x why. subst (λ ps. Contains {X = Id × NotChosen} ps (x, why) ↔ (reason_in scope x ≡ Some why))
+    (sym same) (found_members scope ids named x why))
+    c.with_reasons.ensures

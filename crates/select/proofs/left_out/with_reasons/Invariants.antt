@@ -4,5 +4,4 @@ use Rattle.select.specs.Reasons.{with_reason}
 use Rattle.select.proofs.left_out.with_reasons.Given as goal
 
 abbrev pub invariant-loop-id : goal.invariant-loop-id
-invariant-loop-id l = l.found.items ≡ filter_map (with_reason l.scope.global.now l.scope.zone.now l.scope.selection.now)
-    (take l.id-index l.ids)
+invariant-loop-id l = l.found.items ≡ filter_map (with_reason l.scope) (take l.id-index l.ids)

@@ -13,21 +13,21 @@ returns-then-not-is_received c =
     let zones = c.args.zones.now in
     left_in zones c.args.global.now c.args.id c.args.edits.now.items false
     (list_any (λ zone. is_applied zone c.args.id) (values zones)) Rj2 (Refused refusal.Rj2)
-    (sym c.is_received.ensures.received ∙ c.if-not-is_received.true) refl refl refl
+    (sym c.is_received.ensures ∙ c.if-not-is_received.true) refl refl refl
 
 pub returns-then-is_applied : goal.returns-then-is_applied
 returns-then-is_applied c =
     left_in c.args.zones.now c.args.global.now c.args.id c.args.edits.now.items true true Rj1 (Refused refusal.Rj1)
-    (sym c.is_received.ensures.received ∙ c.if-not-is_received.false)
+    (sym c.is_received.ensures ∙ c.if-not-is_received.false)
     (sym c.is_applied.ensures ∙ c.if-is_applied.true) refl refl
 
 pub returns : goal.returns
 returns c =
     let g = c.args.global.now in
     let x = c.args.id in
-    let there : is_received g x ≡ true = sym c.is_received.ensures.received ∙ c.if-not-is_received.false in
+    let there : is_received g x ≡ true = sym c.is_received.ensures ∙ c.if-not-is_received.false in
     let free : list_any (λ zone. is_applied zone x) (values c.args.zones.now) ≡ false =
     sym c.is_applied.ensures ∙ c.if-is_applied.false in
     taken_out c.args.zones.now g x c.reject.new.self c.args.edits.now.items c.write_rejected.new.edits.items
-    c.is_received.ensures.form there free c.in_ok-write_rejected.ensures
+    c.attest.ensures there free c.in_ok-write_rejected.ensures
     (on_ok _ c.reject.result (c.reject.ensures.received.1 there) c.reject.ensures.ok)

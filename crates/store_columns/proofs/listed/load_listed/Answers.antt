@@ -2,7 +2,8 @@ use Rattle.std.proofs.lemmas.List.Sorted.{IsPermutation-sym, IsPermutation-trans
 use Rattle.sqlite.specs.Held.{state}
 use Rattle.sqlite.specs.Values.{bound}
 use Rattle.store_rows.proofs.ContentsLemmas.{held_at}
-use Rattle.store_rows.proofs.InsideLemmas.{if_ok, if_ok_both}
+use Rattle.lemmas.proofs.Results.{if_ok_both}
+use Rattle.store_rows.proofs.InsideLemmas.{if_ok}
 use Rattle.store_rows.proofs.Unmapped.{unmapped_permutation}
 use Rattle.store_schema.specs.Earlier.{schema_under}
 use Rattle.store_columns.proofs.Found.{found_asked, asked_found, reads_by}

@@ -1,6 +1,12 @@
 use Rattle.std.proofs.Common.{◌≡◌, arith, refl, sym, ◌∙◌}
+use Rattle.sqlite.specs.Held.{state}
+use Rattle.sqlite.specs.State.{HasCleanDisk}
+use Rattle.store_schema.specs.Known.{HasTablesUnder}
+use Rattle.store_migration.specs.Checked.{Checks}
 use Rattle.store_migration.proofs.Ending.{no_release, tables_made, checks_then, not_checked, has_read, own_kept}
 use Rattle.store_migration.proofs.Ending.{all_taken, not_taken}
+use Rattle.store_migration.proofs.migration.migrated.Given.{Over}
+use Rattle.store_migration.proofs.migration.migrated.Goals.{After-check_all}
 use Rattle.store_migration.proofs.migration.migrated.Goals as goal
 
 pub returns-in_err-release : goal.returns-in_err-release
@@ -20,71 +26,53 @@ returns-in_default g c =
     tables_made s c.args.conn.now c.attest.ensures new c.set_up.result none.0 made.stands made.is_open made.was_open
     made.other made.none made.unchanged made.crash made.mode
 
-pub returns-in_err-heads : goal.returns-in_err-heads
-returns-in_err-heads g c =
-    let checks = checks_then g.S.Store c.args.conn.now c.attest.ensures c.in-Some.release c.release_of.new.conn
+-- what was read before anything is written
+known : (g : Over) (c : After-check_all g) → HasCleanDisk (state g.S.Store c.check_all.new.conn)
+    → HasTablesUnder c.in-Some.release (state g.S.Store c.args.conn.now).now
+known g c clean =
+    rw c.in-Some.is at (c.in_ok-release.ensures.known (omega (arith, clean, c.check_all.ensures.reads.crash.clean)))
+
+checks : (g : Over) (c : After-check_all g)
+    → Checks g.S.Store c.in-Some.release c.args.conn.now c.check_all.new.conn c.check_all.result
+checks g c =
+    checks_then g.S.Store c.args.conn.now c.attest.ensures c.in-Some.release c.release_of.new.conn
     c.check_all.new.conn c.check_all.result
     (λ clean. rw c.in-Some.is at (c.in_ok-release.ensures.same clean)) c.release_of.ensures.crash
-    c.release_of.ensures.mode c.check_all.ensures in
-    not_checked g.S.Store c.args.conn.now c.attest.ensures c.in-Some.release c.check_all.new.conn
-    (λ clean. rw c.in-Some.is at (c.in_ok-release.ensures.known (omega (
-      arith,
-      clean,
-      c.check_all.ensures.reads.crash.clean,
-    ))))
-    c.check_all.result checks _ c.from_residual-in_err-heads.result (sym c.told.ensures ∙ c.in_err-heads.was)
+    c.release_of.ensures.mode c.check_all.ensures
+
+pub returns-in_err-heads : goal.returns-in_err-heads
+returns-in_err-heads g c =
+    let read = (goal.at.returns-in_err-heads g c).After-check_all in
+    not_checked g.S.Store c.args.conn.now c.attest.ensures c.in-Some.release c.check_all.new.conn (known g read)
+    c.check_all.result (checks g read) _ c.from_residual-in_err-heads.result (sym c.told.ensures ∙ c.in_err-heads.was)
     c.from_residual-in_err-heads.ensures.1 (c.check_all.ensures.reads.mode c.release_of.ensures.mode)
 
 pub returns-in-Third : goal.returns-in-Third
 returns-in-Third g c =
-    let checks = checks_then g.S.Store c.args.conn.now c.attest.ensures c.in-Some.release c.release_of.new.conn
-    c.check_all.new.conn c.check_all.result
-    (λ clean. rw c.in-Some.is at (c.in_ok-release.ensures.same clean)) c.release_of.ensures.crash
-    c.release_of.ensures.mode c.check_all.ensures in
-    own_kept g.S.Store c.args.conn.now c.attest.ensures c.in-Some.release c.check_all.new.conn
-    (λ clean. rw c.in-Some.is at (c.in_ok-release.ensures.known (omega (
-      arith,
-      clean,
-      c.check_all.ensures.reads.crash.clean,
-    ))))
-    c.check_all.result checks c.in_ok-heads.heads (has_read c.check_all.result c.in_ok-heads.heads (sym c.told.ensures ∙
-    c.in_ok-heads.was))
-    (tt {0}) c.in-Third.is (c.if-prove.ensures.settled refl) (c.check_all.ensures.reads.mode c.release_of.ensures.mode)
+    let read = (goal.at.returns-in-Third g c).After-check_all in
+    own_kept g.S.Store c.args.conn.now c.attest.ensures c.in-Some.release c.check_all.new.conn (known g read)
+    c.check_all.result (checks g read) c.in_ok-heads.heads
+    (has_read c.check_all.result c.in_ok-heads.heads (sym c.told.ensures ∙ c.in_ok-heads.was)) (tt {0}) c.in-Third.is
+    (c.if-prove.ensures.settled refl) (c.check_all.ensures.reads.mode c.release_of.ensures.mode)
 
 pub returns-in_err-take_over-in_default-release : goal.returns-in_err-take_over-in_default-release
 returns-in_err-take_over-in_default-release g c =
+    let read = (goal.at.returns-in_err-take_over-in_default-release g c).After-check_all in
     let made = rw c.as_slice.ensures.value at c.take_over.ensures in
-    let checks = checks_then g.S.Store c.args.conn.now c.attest.ensures c.in-Some.release c.release_of.new.conn
-    c.check_all.new.conn c.check_all.result
-    (λ clean. rw c.in-Some.is at (c.in_ok-release.ensures.same clean)) c.release_of.ensures.crash
-    c.release_of.ensures.mode c.check_all.ensures in
-    not_taken g.S.Store c.args.conn.now c.attest.ensures c.in-Some.release c.check_all.new.conn
-    (λ clean. rw c.in-Some.is at (c.in_ok-release.ensures.known (omega (
-      arith,
-      clean,
-      c.check_all.ensures.reads.crash.clean,
-    ))))
-    c.check_all.result checks c.in_ok-heads.heads (has_read c.check_all.result c.in_ok-heads.heads (sym c.told.ensures ∙
-    c.in_ok-heads.was))
+    not_taken g.S.Store c.args.conn.now c.attest.ensures c.in-Some.release c.check_all.new.conn (known g read)
+    c.check_all.result (checks g read) c.in_ok-heads.heads
+    (has_read c.check_all.result c.in_ok-heads.heads (sym c.told.ensures ∙ c.in_ok-heads.was))
     c.take_over.new.conn c.in_default-release.not-Third made.crash made.mode c.take_over.result _
     c.from_residual-in_err-take_over-in_default-release.result c.in_err-take_over-in_default-release.was
     c.from_residual-in_err-take_over-in_default-release.ensures.1 made.unchanged made.was_open
 
 pub returns : goal.returns
 returns g c =
+    let read = (goal.at.returns g c).After-check_all in
     let made = rw c.as_slice.ensures.value at c.take_over.ensures in
     let done = rw c.as_slice.ensures.value at c.in_ok-take_over-in_default-release.ensures in
-    let checks = checks_then g.S.Store c.args.conn.now c.attest.ensures c.in-Some.release c.release_of.new.conn
-    c.check_all.new.conn c.check_all.result
-    (λ clean. rw c.in-Some.is at (c.in_ok-release.ensures.same clean)) c.release_of.ensures.crash
-    c.release_of.ensures.mode c.check_all.ensures in
-    all_taken g.S.Store c.args.conn.now c.attest.ensures c.in-Some.release c.check_all.new.conn
-    (λ clean. rw c.in-Some.is at (c.in_ok-release.ensures.known (omega (
-      arith,
-      clean,
-      c.check_all.ensures.reads.crash.clean,
-    ))))
-    c.check_all.result checks c.in_ok-heads.heads (has_read c.check_all.result c.in_ok-heads.heads (sym c.told.ensures ∙
-    c.in_ok-heads.was))
+    all_taken g.S.Store c.args.conn.now c.attest.ensures c.in-Some.release c.check_all.new.conn (known g read)
+    c.check_all.result (checks g read) c.in_ok-heads.heads
+    (has_read c.check_all.result c.in_ok-heads.heads (sym c.told.ensures ∙ c.in_ok-heads.was))
     c.take_over.new.conn c.in_default-release.not-Third made.crash made.mode (tt {0}) done.made done.is_open
     made.was_open

@@ -3,7 +3,8 @@ use Rattle.std.proofs.lemmas.Cmp.{nat_list_cmp_total}
 use Rattle.std.proofs.lemmas.List.Sorted.{IsPermutation-sym, IsPermutation-trans}
 use Rattle.store_rows.proofs.Queries.{reads_err, reads_more}
 use Rattle.store_rows.specs.declared.error.ReadError.TheVariants.{BadRow}
-use Rattle.store_rows.proofs.InsideLemmas.{if_ok, if_ok_both}
+use Rattle.lemmas.proofs.Results.{if_ok_both}
+use Rattle.store_rows.proofs.InsideLemmas.{if_ok}
 use Rattle.store_columns.proofs.Releases.{rows_under, stands_rows, stands_inventory}
 use Rattle.store_schema.proofs.Lists.{rising_same}
 use Rattle.store_zone_loads.specs.declared.head.ZoneHead.{ZoneHead}

@@ -4,7 +4,7 @@ use Rattle.std.proofs.lemmas.Grind.{common_steps}
 use Rattle.std.proofs.Common.{arith}
 use Rattle.std.proofs.lemmas.List.{nil_from_length}
 use Rattle.std.proofs.lemmas.List.Sorted.{IsPermutation-refl, IsPermutation-sym}
-use Rattle.store_rows.proofs.InsideLemmas.{if_ok_both}
+use Rattle.lemmas.proofs.Results.{if_ok_both}
 use Rattle.store_schema.proofs.Lists.{rising_same}
 use Rattle.terms.specs.Types.{Entry}
 use Rattle.store_zone_loads.specs.Numbered.{numbered}

@@ -10,5 +10,6 @@ returns c =
     let other = c.args.other in
     c.any_supersedes.ensures
     ∙ any_kept (λ v. bytes_eq v.srel c.srel.result) (λ v. v.sup) (bytes_eq other) c.vers.result.now
-    ∙ ap (λ t. is_in (flat_map (λ v. v.sup) (filter (λ v. bytes_eq v.srel t) c.vers.result.now)) other) c.srel.ensures
+    ∙ ap (λ t. is_in (flat_map (λ v. v.sup) (filter (λ v. bytes_eq v.srel t) c.vers.result.now)) other)
+    (c.srel.ensures ∙ ap (λ s. s.zone.srel) c.self.view_is)
     ∙ ap (λ vs. is_in (flat_map (λ v. v.sup) vs) other) c.vers.ensures

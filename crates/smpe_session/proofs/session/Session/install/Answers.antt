@@ -1,37 +1,35 @@
-use Rattle.std.proofs.Common.{◌∙◌, Err, map, sym, ap}
+use Rattle.std.proofs.Common.{◌∙◌, map, sym, ap}
+use Rattle.machine.specs.Machine.{Perform}
 use Rattle.machine.specs.Outcome.{header_of}
 use Rattle.report.specs.Views.{line_view, header_view, refusal_view}
-use Rattle.store.proofs.NoState.{found_after, loads_none, tells_after, tells_short}
 use Rattle.smpe_session.specs.Places.{install_command}
-use Rattle.smpe_session.proofs.CarriedOut.{answers_loads}
 use Rattle.smpe_session.proofs.Installed.{install_changes, install_refused}
 use Rattle.smpe_session.proofs.Places.{install_at}
-use Rattle.smpe_session.proofs.Stepping.{kept_inventory, performs_unmoved, performs_short, performs_since}
+use Rattle.smpe_session.proofs.Stepping.{performs_unmoved, performs_since, stopped}
+use Rattle.smpe_session.proofs.Using.{after, answered, handed_on, ran_short, weaker}
 use Rattle.smpe_session.proofs.session.Session.install.Goals as goal
 
-pub returns-in_err-related-clause-ended : goal.returns-in_err-related-clause-ended
-returns-in_err-related-clause-ended g c = λ clean s is keeps files.
+pub returns-in_err-related : goal.returns-in_err-related
+returns-in_err-related g c = handed_on c.from_residual.ensures.1 c.in_err-related.ensures (λ s inventory un is files.
     performs_unmoved g.S.Store c.args.store.now c.seek_related.new.store s c.seek_related.new.self c.args.date files
-    (install_command c.args.kind c.args.install.now) c.from_residual.result c.in_err-related.field-0.0
-    c.from_residual.ensures.1 (c.in_err-related.ensures.ended clean s is keeps)
+    (install_command c.args.kind c.args.install.now) c.in_err-related.field-0.0 (un is))
 
-pub returns-in_err-planned-in-Ok-clause-ended : goal.returns-in_err-planned-in-Ok-clause-ended
-returns-in_err-planned-in-Ok-clause-ended g c = λ clean s is keeps files.
-    performs_short g.S.Store c.args.store.now c.seek_related.new.store s c.seek_related.new.self c.args.date files
-    (install_command c.args.kind c.args.install.now) c.from_residual-in_err-planned-in-Ok.result
-    c.from_residual-in_err-planned-in-Ok.ensures.1 (c.in_ok-related.ensures.ended clean s is keeps).1
+pub returns-in_err-planned-in-Ok : goal.returns-in_err-planned-in-Ok
+returns-in_err-planned-in-Ok g c = ran_short c.from_residual-in_err-planned-in-Ok.ensures.1 c.in_ok-related.ensures
+    (λ s inventory sought is files. stopped g.S.Store c.seek_related.new.store s
+    (Perform c.args.date files (install_command c.args.kind c.args.install.now)) (sought is).1)
 
-pub returns-in_ok-planned-in-Ok-clause-ended : goal.returns-in_ok-planned-in-Ok-clause-ended
-returns-in_ok-planned-in-Ok-clause-ended g c = λ clean s is keeps files.
+pub returns-in_ok-planned-in-Ok : goal.returns-in_ok-planned-in-Ok
+returns-in_ok-planned-in-Ok g c = weaker (after c.in_ok-related.ensures c.carry_out.ensures)
+    (λ checked. c.header-header.ensures.check ∙ ap (λ w. w.check) c.install.view_is ∙ checked)
+    (λ s inventory both is files.
     let at = c.seek_related.new.self in
     let kind = c.args.kind in
     let i = c.args.install.now in
     let command = install_command kind i in
     let place = c.in-Ok.place in
     let p = c.in_ok-planned-in-Ok.planned in
-    let before = c.carry_out.ensures.clean clean in
-    let sought = c.in_ok-related.ensures.ended before s is keeps in
-    let inventory = kept_inventory g.S.Store c.seek_related.new.store s before sought.1 in
+    let sought = both.0 is in
     let there = c.in-Ok.ensures s sought.0.session inventory in
     let checks = sym (ap (λ w. w.check) c.install.view_is) ∙ sym c.header-header.ensures.check in
     let changes = install_changes c.args.date kind i s at place.name place.zone.now _ c.install.inside.selection
@@ -41,21 +39,14 @@ returns-in_ok-planned-in-Ok-clause-ended g c = λ clean s is keeps files.
     c.in_ok-planned-in-Ok.ensures files c.header-header.result.check (header_view c.header-header.result) checks
     (c.header-header.ensures.view i (sym (ap (λ w. w.check) c.install.view_is)) ∙ ap (header_of command) is.boundary) in
     performs_since g.S.Store c.args.store.now c.seek_related.new.store c.carry_out.new.store s
-    (c.seek_related.ensures.faults, c.seek_related.ensures.limit) _ c.args.date files command c.carry_out.result
-    (c.carry_out.ensures.ended clean s sought.0.session sought.1 c.args.date files command changes)
+    c.seek_related.ensures.later _ c.args.date files command c.carry_out.result
+    (both.1 sought.1 sought.0.session c.args.date files command changes))
 
-pub returns-in_ok-planned-in-Ok-clause-loads : goal.returns-in_ok-planned-in-Ok-clause-loads
-returns-in_ok-planned-in-Ok-clause-loads g c = λ checked.
-    answers_loads g.S.Store c.args.store.now c.seek_related.new.store c.carry_out.new.store c.carry_out.result
-    c.in_ok-related.ensures.loads
-    (c.carry_out.ensures.loads (c.header-header.ensures.check ∙ ap (λ w. w.check) c.install.view_is ∙ checked))
-
-pub returns-in-Err-clause-ended : goal.returns-in-Err-clause-ended
-returns-in-Err-clause-ended g c = λ clean s is keeps files.
+pub returns-in-Err : goal.returns-in-Err
+returns-in-Err g c = answered c.in_ok-related.ensures (λ looks. tt) (λ s inventory found is files.
     let i = c.args.install.now in
     let command = install_command c.args.kind i in
-    let sought = c.in_ok-related.ensures.ended clean s is keeps in
-    let inventory = kept_inventory g.S.Store c.seek_related.new.store s clean sought.1 in (
+    let sought = found is in (
       s,
       install_refused c.args.date files command s (header_view c.header-header.result) (refusal_view c.in-Err.refusal)
           (c.header-header.ensures.view i (sym (ap (λ w. w.check) c.install.view_is))
@@ -63,21 +54,4 @@ returns-in-Err-clause-ended g c = λ clean s is keeps files.
           (install_at s c.args.kind i ∙ c.in-Err.ensures s sought.0.session inventory),
       sought.0.session,
       sought.1,
-    )
-
-pub returns-in_err-related-clause-none : goal.returns-in_err-related-clause-none
-returns-in_err-related-clause-none g c =
-    tells_after g.S.Store c.args.store.now c.args.store.now c.seek_related.new.store c.from_residual.result
-    c.in_err-related.field-0.0
-    (loads_none g.S.Store c.args.store.now) c.from_residual.ensures.1
-    (λ clean is. c.in_err-related.ensures.none clean (ap Err is))
-
-pub returns-in_err-planned-in-Ok-clause-none : goal.returns-in_err-planned-in-Ok-clause-none
-returns-in_err-planned-in-Ok-clause-none g c =
-    tells_short g.S.Store c.args.store.now c.seek_related.new.store c.from_residual-in_err-planned-in-Ok.result
-    c.from_residual-in_err-planned-in-Ok.ensures.1
-
-pub returns-in_ok-planned-in-Ok-clause-none : goal.returns-in_ok-planned-in-Ok-clause-none
-returns-in_ok-planned-in-Ok-clause-none g c = λ clean bad.
-    found_after g.S.Store c.args.store.now c.seek_related.new.store c.carry_out.new.store c.in_ok-related.ensures.loads
-    clean (c.carry_out.ensures.none clean bad)
+    ))

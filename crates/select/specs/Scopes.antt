@@ -1,0 +1,53 @@
+-- What an APPLY chooses from and by, and the rules of the candidates over it.
+use Rattle.std.specs.Prelude.{◌&&◌, ◌++◌, Bool, List}
+use Rattle.std.specs.Str.{bytes_eq}
+use Rattle.terms.specs.Types.{Id, Ver, Global, Zone, Selection}
+use Rattle.terms.specs.Choice.{vers_of, fits}
+use Rattle.terms.specs.Candidates.{is_installable, is_open, is_mass_chosen, is_start, is_growing_start, IsClosedPair}
+use Rattle.terms.specs.Candidates.{needed_ids, open_reasons, sups_for}
+
+-- the global zone, the zone that the SYSMODs go to, and the operands that choose among them
+pub record Scope : Type 0 where
+  pub global : Global
+  pub zone : Zone
+  pub selection : Selection
+
+abbrev pub is_installable_in : Scope → Id → Bool
+is_installable_in scope x = is_installable scope.global scope.zone x
+
+abbrev pub is_open_in : Scope → Id → Bool
+is_open_in scope x = is_open scope.global scope.zone scope.selection x
+
+abbrev pub is_mass_chosen_in : Scope → Id → Bool
+is_mass_chosen_in scope x = is_mass_chosen scope.global scope.zone scope.selection x
+
+abbrev pub is_start_in : Scope → Id → Bool
+is_start_in scope x = is_start scope.global scope.zone scope.selection x
+
+abbrev pub is_growing_start_in : Scope → Id → Bool
+is_growing_start_in scope x = is_growing_start scope.global scope.zone scope.selection x
+
+abbrev pub IsClosed : Scope → (Id → Bool) → (Id → Bool) → Type 0
+IsClosed scope cands growing = IsClosedPair scope.global scope.zone scope.selection cands growing
+
+abbrev pub needed_in : Scope → (Id → Bool) → Id → List Id
+needed_in scope cands x = needed_ids scope.global scope.zone cands x
+
+abbrev pub open_reasons_in : Scope → Id → List Id
+open_reasons_in scope x = open_reasons scope.global scope.zone x
+
+-- its ++VERs for the zone's SREL
+abbrev pub vers_in : Scope → Id → List Ver
+vers_in scope x = vers_of scope.global scope.zone.srel x
+
+-- what it supersedes directly by those
+abbrev pub sups_in : Scope → Id → List Id
+sups_in scope x = sups_for scope.global scope.zone.srel x
+
+-- whether a ++VER is for the zone's SREL and fits
+abbrev pub is_for_and_fits : Zone → (Id → Bool) → Ver → Bool
+is_for_and_fits zone cands v = bytes_eq v.srel zone.srel && fits zone cands v
+
+-- the ids of SELECT and GROUP
+abbrev pub named_ids : Selection → List Id
+named_ids sel = sel.select ++ sel.group
