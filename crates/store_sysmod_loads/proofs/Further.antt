@@ -199,24 +199,6 @@ singles_from ss built none = All-from_recursion HasSingles ss (all_from HasSingl
 
 -- ---- under each schema
 
-pub early_held : (r : Release) → r ≢ Third → (rows : List VerRow) (contents : Contents) → rows ≡ []
-    → HoldMoreVers r rows contents
-early_held First early rows contents none = none
-early_held Second early rows contents none = none
-early_held Third early rows contents none = absurd (early refl)
-
-pub early_ifs_held : (r : Release) → r ≢ Third → (rows : List IfRow) (contents : Contents) → rows ≡ []
-    → HoldMoreIfs r rows contents
-early_ifs_held First early rows contents none = none
-early_ifs_held Second early rows contents none = none
-early_ifs_held Third early rows contents none = absurd (early refl)
-
-pub early_singles : (r : Release) → r ≢ Third → (ss : List Sysmod) (contents : Contents)
-    → AreMoreRowsOf r ss contents → All HasSingles ss
-early_singles First early ss contents more = more
-early_singles Second early ss contents more = more
-early_singles Third early ss contents more = absurd (early refl)
-
 pub more_held : (r : Release) (ss : List Sysmod) (contents : Contents) → AreWhole ss
     → HoldMoreVers r (others is_first_row (all_vers ss)) contents
     → HoldMoreIfs r (others is_first_if (all_ifs ss)) contents → AreMoreRowsOf r ss contents

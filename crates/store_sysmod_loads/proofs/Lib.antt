@@ -6,6 +6,7 @@ pub mod FlatLemmas
 pub mod RiseLemmas
 pub mod Parted
 pub mod Both
+pub mod Apart
 pub mod Further
 pub mod VersApart
 pub mod PartLemmas

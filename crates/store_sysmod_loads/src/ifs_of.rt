@@ -9,7 +9,7 @@ ghost use Rattle.store_sysmod_loads.specs.Gathered.{HoldIfs};
 ghost use Rattle.store_sysmod_loads.specs.Parts.{LoadsPart};
 
 use crate::flat::IfRow;
-use crate::loading::{InTwo, load_both, load_sorted};
+use crate::loading::{InTwo, load_parted};
 use crate::reading::{Ifs, MoreIfs};
 use sqlite::{Alter, Connection};
 use std::alloc::Global;
@@ -24,6 +24,10 @@ impl InTwo for IfRow {
     type Furthers = MoreIfs;
 
     ghost whole = { refl };
+
+    ghost each = { λ r. tt };
+
+    ghost third = { refl };
 }
 
 /// All `++IF`s of SYSMODs, in the tables of the release. Under an earlier schema each `++VER` is the first for its
@@ -37,8 +41,5 @@ pub(crate) fn load_ifs<S: Alter>(
         (λ rows sysmods. rows.items ≡ all_ifs sysmods) conn.old conn.new result }
     ensures forms { IfOk result (λ rows. AllByRecursion HasIfRowForms rows.items) }
 {
-    match release {
-        Release::First | Release::Second => load_sorted::<S, Ifs>(alloc, conn),
-        Release::Third => load_both::<S, IfRow>(alloc, conn),
-    }
+    load_parted::<S, IfRow>(alloc, conn, release)
 }

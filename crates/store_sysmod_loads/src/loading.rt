@@ -6,15 +6,16 @@ ghost use Rattle.sqlite.specs.Held.{state};
 ghost use Rattle.sqlite.specs.State.{HasCleanDisk};
 ghost use Rattle.store_rows.specs.Reads.{OnlyReads};
 ghost use Rattle.store_rows.specs.Rows.{Contents, HasContents};
-ghost use Rattle.store_schema.specs.declared.release.Release.{Release};
+ghost use Rattle.store_schema.specs.declared.release.Release.{Release as ARelease};
 ghost use Rattle.store_schema.specs.Earlier.{schema_under};
 ghost use Rattle.terms.specs.Rising.{Rises};
-ghost use Rattle.store_sysmod_loads.specs.Both.{AreOfBoth};
+ghost use Rattle.store_sysmod_loads.specs.Both.{AreOfBoth, AreRowsIn, LoadsRows};
 
 use sqlite::{Alter, Connection};
 use std::alloc::{AllocError, Global};
 use store_columns::{Query, load_listed};
 use store_rows::{FromRow, ReadError};
+use store_schema::Release;
 
 /// A query of a whole table, whose rows keys tell apart.
 pub(crate) trait Listed: Query {
@@ -30,15 +31,21 @@ pub(crate) trait Listed: Query {
     ghost whole: { Self.width ≡ 0 };
 }
 
-/// A row of which two tables have some each, of the same keys.
+/// A row of which two tables have some each, of the same keys, where the second came with schema 3.
 pub(crate) trait InTwo: Drop {
     ghost use Rattle.std.specs.Prelude.{◌≡◌};
+    ghost use Rattle.store_schema.specs.declared.release.Release.{Release as ARelease};
+    ghost use Rattle.store_schema.specs.declared.release.Release.TheVariants.{Third};
 
     type Firsts: FromRow<Item = Self> + Listed<Rows = Self::Firsts>;
 
     type Furthers: FromRow<Item = Self> + Query<Rows = Self::Furthers>;
 
     ghost whole: { Self.Furthers.width ≡ 0 };
+
+    ghost each: { (r : ARelease) → Self.Firsts.knows r };
+
+    ghost third: { Self.Furthers.knows Third };
 }
 
 /// The items by their keys.
@@ -69,20 +76,20 @@ pub(crate) fn load_sorted<S: Alter, T: Listed>(
     alloc: Global,
     conn: &mut Connection<S>,
 ) -> Result<Vec<<T::Rows as FromRow>::Item>, ReadError>
-    ensures found { HasCleanDisk (state S.Store conn.new) → (r : Release) → T.knows r → (contents : Contents)
+    ensures found { HasCleanDisk (state S.Store conn.new) → (r : ARelease) → T.knows r → (contents : Contents)
         → HasContents (schema_under r) contents (state S.Store conn.old).now
         → IfOk result (λ items. IsPermutation (map T.Rows.row_of items.items) (contents T.table.tree)) }
     ensures forms { IfOk result (λ items. AllByRecursion T.Rows.has_form items.items) }
-    ensures only { HasCleanDisk (state S.Store conn.new) → (r : Release) → T.knows r → (contents : Contents)
+    ensures only { HasCleanDisk (state S.Store conn.new) → (r : ARelease) → T.knows r → (contents : Contents)
         → HasContents (schema_under r) contents (state S.Store conn.old).now
         → IfOk result (λ items. (xs : List T.Rows.Item) → AllByRecursion T.Rows.has_form xs
         → Rises T.Key.cmp T.key_of xs → IsPermutation (map T.Rows.row_of xs) (contents T.table.tree)
         → items.items ≡ xs) }
-    ensures none { HasCleanDisk (state S.Store conn.new) → IsErrOf result ReadError.BadRow → (r : Release)
+    ensures none { HasCleanDisk (state S.Store conn.new) → IsErrOf result ReadError.BadRow → (r : ARelease)
         → T.knows r → (contents : Contents) → HasContents (schema_under r) contents (state S.Store conn.old).now
         → (xs : List T.Rows.Item) → AllByRecursion T.Rows.has_form xs → ¬ IsPermutation (map T.Rows.row_of xs)
         (contents T.table.tree) }
-    ensures reads { (r : Release) → T.knows r
+    ensures reads { (r : ARelease) → T.knows r
         → OnlyReads S.Store (schema_under r) ReadError.BadRow ReadError.Fault conn.old conn.new result }
 {
     let items = load_listed::<S, T>(alloc, conn, &[])?;
@@ -90,31 +97,48 @@ pub(crate) fn load_sorted<S: Alter, T: Listed>(
 }
 
 /// What the rows of both tables stand for, by their keys.
-pub(crate) fn load_both<S: Alter, T: InTwo>(
+fn load_both<S: Alter, T: InTwo>(
     alloc: Global,
     conn: &mut Connection<S>,
 ) -> Result<Vec<T>, ReadError>
-    ensures found { HasCleanDisk (state S.Store conn.new) → (r : Release) → T.Firsts.knows r → T.Furthers.knows r
+    ensures found { HasCleanDisk (state S.Store conn.new) → (r : ARelease) → T.Firsts.knows r → T.Furthers.knows r
         → (contents : Contents) → HasContents (schema_under r) contents (state S.Store conn.old).now
         → IfOk result (λ rows. (firsts : List T) × (furthers : List T) × AreOfBoth T.Firsts.row_of T.Furthers.row_of
         T.Firsts.has_form T.Furthers.has_form (contents T.Firsts.table.tree) (contents T.Furthers.table.tree) firsts
         furthers rows.items) }
     ensures forms { IfOk result (λ rows. AllByRecursion (λ x. T.Firsts.has_form x ⊎ T.Furthers.has_form x) rows.items) }
-    ensures only { HasCleanDisk (state S.Store conn.new) → (r : Release) → T.Firsts.knows r → T.Furthers.knows r
+    ensures only { HasCleanDisk (state S.Store conn.new) → (r : ARelease) → T.Firsts.knows r → T.Furthers.knows r
         → (contents : Contents) → HasContents (schema_under r) contents (state S.Store conn.old).now
         → IfOk result (λ rows. (firsts furthers xs : List T) → AreOfBoth T.Firsts.row_of T.Furthers.row_of
         T.Firsts.has_form T.Furthers.has_form (contents T.Firsts.table.tree) (contents T.Furthers.table.tree) firsts
         furthers xs → Rises T.Firsts.Key.cmp T.Firsts.key_of xs → rows.items ≡ xs) }
-    ensures none { HasCleanDisk (state S.Store conn.new) → IsErrOf result ReadError.BadRow → (r : Release)
+    ensures none { HasCleanDisk (state S.Store conn.new) → IsErrOf result ReadError.BadRow → (r : ARelease)
         → T.Firsts.knows r → T.Furthers.knows r → (contents : Contents)
         → HasContents (schema_under r) contents (state S.Store conn.old).now → (firsts furthers xs : List T)
         → ¬ AreOfBoth T.Firsts.row_of T.Furthers.row_of T.Firsts.has_form T.Furthers.has_form
         (contents T.Firsts.table.tree) (contents T.Furthers.table.tree) firsts furthers xs }
-    ensures reads { (r : Release) → T.Firsts.knows r → T.Furthers.knows r
+    ensures reads { (r : ARelease) → T.Firsts.knows r → T.Furthers.knows r
         → OnlyReads S.Store (schema_under r) ReadError.BadRow ReadError.Fault conn.old conn.new result }
 {
     let firsts = load_listed::<S, T::Firsts>(alloc, conn, &[])?;
     let furthers = load_listed::<S, T::Furthers>(alloc, conn, &[])?;
     let rows = merged::<T::Firsts>(firsts, furthers)?;
     Ok(rows)
+}
+
+/// What the rows that the tables of the release have stand for, by their keys.
+pub(crate) fn load_parted<S: Alter, T: InTwo>(
+    alloc: Global,
+    conn: &mut Connection<S>,
+    release: Release,
+) -> Result<Vec<T>, ReadError>
+    ensures rows { LoadsRows S.Store release (λ rows. rows.items) (λ xs contents. AreRowsIn release T.Firsts.row_of
+        T.Furthers.row_of T.Firsts.has_form T.Furthers.has_form (contents T.Firsts.table.tree)
+        (contents T.Furthers.table.tree) xs) (Rises T.Firsts.Key.cmp T.Firsts.key_of) conn.old conn.new result }
+    ensures forms { IfOk result (λ rows. AllByRecursion (λ x. T.Firsts.has_form x ⊎ T.Furthers.has_form x) rows.items) }
+{
+    match release {
+        Release::First | Release::Second => load_sorted::<S, T::Firsts>(alloc, conn),
+        Release::Third => load_both::<S, T>(alloc, conn),
+    }
 }

@@ -8,7 +8,7 @@ ghost use Rattle.store_sysmod_loads.specs.Gathered.{HoldVers};
 ghost use Rattle.store_sysmod_loads.specs.Parts.{LoadsPart};
 
 use crate::flat::VerRow;
-use crate::loading::{InTwo, load_both, load_sorted};
+use crate::loading::{InTwo, load_parted};
 use crate::reading::{MoreVers, Vers};
 use sqlite::{Alter, Connection};
 use std::alloc::Global;
@@ -23,6 +23,10 @@ impl InTwo for VerRow {
     type Furthers = MoreVers;
 
     ghost whole = { refl };
+
+    ghost each = { λ r. tt };
+
+    ghost third = { refl };
 }
 
 /// All `++VER`s of SYSMODs, in the tables of the release. Under an earlier schema each is the first for its release.
@@ -35,8 +39,5 @@ pub(crate) fn load_vers<S: Alter>(
         (λ rows sysmods. rows.items ≡ all_vers sysmods) conn.old conn.new result }
     ensures forms { IfOk result (λ rows. AllByRecursion HasVerRowForms rows.items) }
 {
-    match release {
-        Release::First | Release::Second => load_sorted::<S, Vers>(alloc, conn),
-        Release::Third => load_both::<S, VerRow>(alloc, conn),
-    }
+    load_parted::<S, VerRow>(alloc, conn, release)
 }
