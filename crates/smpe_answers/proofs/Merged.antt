@@ -18,10 +18,9 @@ use Rattle.lemmas.proofs.Searches.{find_gives}
 use Rattle.terms.specs.Types.{Text, Lines}
 use Rattle.terms.specs.Rising.{Rises, with_item}
 use Rattle.terms.specs.Texts.{number_of, line_at, given, Touches, IsNumberedLine, IsNumbered, IsUpdate, IsMerge}
-use Rattle.terms.proofs.Controls.{begins_control}
 use Rattle.terms.proofs.Placing.{Rises_with_item, All_with_item}
 use Rattle.terms.proofs.RisingLists.{Rises_from_sorted}
-use Rattle.terms.proofs.Updates.{given_control, touches_cases}
+use Rattle.terms.proofs.Updates.{touches_cases}
 use Rattle.text80.proofs.Splitting.{given_numbered}
 use Rattle.sorted.proofs.InTurn.{in_turn_none, in_turn_some}
 use Rattle.smpe_upkeep.proofs.Lists.{line_at_itself}

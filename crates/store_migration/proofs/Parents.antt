@@ -1,5 +1,5 @@
 -- Each row of entries, of elements and of chosen ++VERs names a zone that is there.
-use Rattle.std.proofs.Common.{◌≡◌, inl, inr, Bool, true, false, not, ◌||◌, List, [], ◌∷◌, drop, map, codes, Option}
+use Rattle.std.proofs.Common.{◌≡◌, inl, inr, true, false, ◌||◌, List, [], ◌∷◌, drop, map, codes, Option}
 use Rattle.std.proofs.Common.{Some, None, IsPermutation, refl, sym, ap, subst, ◌∙◌, true≢false}
 use Rattle.std.specs.List.{AllByRecursion, list_all}
 use Rattle.std.proofs.lemmas.Bool.{and_parts, or_cases}
