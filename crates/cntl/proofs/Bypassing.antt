@@ -1,12 +1,10 @@
 -- The members of BYPASS, and why there are none.
 use Rattle.std.proofs.Common.{◌≡◌, false, List, [], get_or, Option, Some, None, sym, ◌∙◌, ap, subst}
-use Rattle.std.proofs.Common.{arith}
 use Rattle.std.specs.Prelude.{All, Contains, IsSomeAnd, codes}
 use Rattle.std.specs.List.{list_any}
 use Rattle.std.proofs.lemmas.Bool.{or_parts}
 use Rattle.std.proofs.lemmas.List.Elements.{All-weaker, Contains-get_or}
 use Rattle.terms.specs.declared.kinds.HoldKind.{HoldKind}
-use Rattle.terms.specs.declared.kinds.HoldKind.TheVariants.{Error, System, User}
 use Rattle.terms.specs.declared.codes.CommandWord.{CommandWord}
 use Rattle.terms.specs.Types.{Text, Bypass}
 use Rattle.terms.specs.Forms.{IsClass, IsReason}

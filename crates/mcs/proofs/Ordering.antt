@@ -1,5 +1,5 @@
 -- Second ++VERs and second changes.
-use Rattle.std.proofs.Common.{◌≡◌, ◌⊎◌, Bool, true, List, [], ◌∷◌, Option, Some, None, sym, ◌∙◌, ap, subst, inl, inr}
+use Rattle.std.proofs.Common.{◌≡◌, ◌⊎◌, Bool, true, List, Option, Some, None, sym, ◌∙◌, ap, subst, inl, inr}
 use Rattle.std.proofs.Common.{eq-eqb}
 use Rattle.std.specs.Prelude.{◌&&◌, ◌==◌, ◌↔◌, IsTrue, Any, IsSomeAnd, IfSome, IfNone, codes}
 use Rattle.std.specs.List.{list_any}
@@ -21,7 +21,7 @@ use Rattle.terms.specs.Ptfin.{NamesFmid, IsSecond}
 use Rattle.lemmas.proofs.Texts.{same_from, same_itself}
 use Rattle.terms.proofs.ElementOrder.{type_from_number}
 use Rattle.terms.proofs.ExactOperands.{own_only}
-use Rattle.lemmas.proofs.Each.{any_here, any_later, any_cases, any_none, any_weaker}
+use Rattle.lemmas.proofs.Each.{any_weaker}
 
 -- FMID names that id just where it was read
 read_names : (rest : List Piece) (named : Option Text) (f : Text) → IfSome named (NamesFmid rest) → named ≡ Some f

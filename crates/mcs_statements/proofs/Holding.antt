@@ -1,7 +1,6 @@
 -- What ++HOLD and ++RELEASE say, from their key.
-use Rattle.std.proofs.Common.{List, Option, Some, None, subst, arith}
+use Rattle.std.proofs.Common.{List, Option, Some, None, subst}
 use Rattle.terms.specs.declared.kinds.HoldKind.{HoldKind}
-use Rattle.terms.specs.declared.kinds.HoldKind.TheVariants.{Error, System, User}
 use Rattle.terms.specs.Types.{Text, Hold, Release}
 use Rattle.terms.specs.Forms.{IsClass, IsReason}
 use Rattle.terms.specs.Words.{Word}

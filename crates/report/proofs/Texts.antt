@@ -3,8 +3,6 @@ use Rattle.std.proofs.Common.{◌≡◌, ◌<◌, ◌+◌, ℕ, List, [], ◌∷
 use Rattle.std.proofs.Common.{refl, sym, ◌∙◌, ap, arith, append_assoc, map, add-one, drop-cons}
 use Rattle.std.specs.Prelude.{max, codes, if◌then◌else◌}
 use Rattle.std.specs.List.{flat_map, join_with_byte}
-use Rattle.std.proofs.lemmas.List.{append-nil, take_more}
-use Rattle.std.proofs.lemmas.Grind.{flat_map-append}
 use Rattle.lemmas.proofs.Lists.{joined}
 use Rattle.machine.specs.Outcome.{line_code, lines_code}
 use Rattle.report.specs.declared.outcome.Line.{Line}

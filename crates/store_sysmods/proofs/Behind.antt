@@ -1,6 +1,6 @@
 -- The rows of the items of a list, each behind those before it.
 use Rattle.std.proofs.Common.{◌≡◌, ℕ, ◌+◌, ◌<◌, ◌≤◌, arith, List, [], ◌∷◌, ◌++◌, append-nil, map, filter, length}
-use Rattle.std.proofs.Common.{take, drop, Bool, true, false, not, if◌then◌else◌, get_or, Result, Ok}
+use Rattle.std.proofs.Common.{take, drop, not, get_or, Result, Ok}
 use Rattle.std.proofs.Common.{Err, IsErrAnd, refl, sym, ap, ◌∙◌}
 use Rattle.std.specs.List.{flat_map, enumerate_from}
 use Rattle.std.proofs.lemmas.List.{append_assoc, length-append, take_more, take_all, take-append-drop}

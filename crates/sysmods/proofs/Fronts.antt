@@ -1,8 +1,7 @@
 -- The front of a global zone's list of SYSMODs, and one more behind it.
-use Rattle.std.proofs.Common.{◌≡◌, ◌∙◌, Bool, true, false, not, ◌&&◌, ◌==◌, List, [], ◌∷◌, ◌++◌, fold, filter, get_or}
+use Rattle.std.proofs.Common.{◌≡◌, ◌∙◌, Bool, true, false, not, ◌&&◌, ◌==◌, List, [], ◌∷◌, ◌++◌, fold, filter}
 use Rattle.std.proofs.Common.{refl, sym, ap, subst, Option, None, Some, is_some, IsTrue, All, Contains, true≢false}
 use Rattle.std.proofs.Common.{arith, append-nil, length-append}
-use Rattle.std.specs.Prelude.{AllPairs}
 use Rattle.std.specs.declared.cmp.Ordering.TheVariants.{Less}
 use Rattle.std.specs.Ordering.{is_lt, is_eq, nat_cmp}
 use Rattle.std.specs.Cmp.Lexicographic.{slice_cmp}
@@ -11,7 +10,6 @@ use Rattle.std.specs.Option.{option_map_or, option_or}
 use Rattle.std.specs.Str.{bytes_eq}
 use Rattle.std.proofs.lemmas.Cmp.{nat_list_cmp_total}
 use Rattle.std.proofs.lemmas.Map.Text.{is_eq-slice_cmp}
-use Rattle.std.proofs.lemmas.List.{get_or_append_left}
 use Rattle.std.proofs.lemmas.List.Folds.{find-append}
 use Rattle.std.proofs.lemmas.List.Elements.{All-nil, All-weaker}
 use Rattle.lemmas.proofs.Each.{All_front}
