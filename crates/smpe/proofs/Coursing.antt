@@ -23,6 +23,7 @@ use Rattle.store_schema.specs.declared.error.StoreError.{StoreError}
 use Rattle.store_schema.specs.declared.error.StoreError.TheVariants as store
 use Rattle.store.specs.BadRows.{OnlyLoads, FoundNoState}
 use Rattle.store.proofs.NoState.{loads_none}
+use Rattle.smpe_session.specs.Writing.{WritesNothing}
 use Rattle.smpe.specs.declared.error.JobError.{JobError}
 use Rattle.smpe.specs.declared.error.JobError.TheVariants.{Memory, Store, Write}
 use Rattle.smpe.specs.Commands.{job_error}
