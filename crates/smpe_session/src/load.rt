@@ -50,7 +50,7 @@ pub(crate) fn load_heads<S: Alter>(store: &mut Store<S>) -> Result<Vec<ZoneHead>
     store.zone_heads()
 }
 
-/// Commits what leads from one state to another, and answers what comes of that.
+/// Commits what leads from one state to another, and hands this answer back once that is done.
 pub(crate) fn commit_change<S: Alter, T: Drop>(
     store: &mut Store<S>,
     change: &Change,

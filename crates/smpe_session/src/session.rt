@@ -95,7 +95,7 @@ impl Session {
         self.run(alloc, store, date, files, command)
     }
 
-    /// The command, as `perform` has it.
+    /// What `perform` does; its contract says the clauses of the store as one record.
     fn run<S: Alter>(
         &mut self,
         alloc: Global,
