@@ -1,15 +1,22 @@
-# make            proves and builds the program, bin/smpe (./build says how far it is)
-# make install    installs the program, cards, the manual pages and the completion for bash below DESTDIR and PREFIX;
-#                 where bin/smpe is there, it is taken as it is, so that root needs no toolchain
+# make            proves and builds the programs, bin/smpe and bin/smpe-intake (./build says how far it is)
+# make install    installs the programs, the tools, the manual pages, the pages and the completion for bash below
+#                 DESTDIR and PREFIX; where bin/smpe and bin/smpe-intake are there, they are taken as they are, so that
+#                 root needs no toolchain
 # make uninstall  takes all of these away again
 # make check      runs all tests
 PREFIX = /usr/local
 DESTDIR =
-# The built program.
+# The built programs.
 PROGRAM = bin/smpe
+INTAKE = bin/smpe-intake
 
 root = $(DESTDIR)$(PREFIX)
 completions = $(root)/share/bash-completion/completions
+man = $(root)/share/man
+doc = $(root)/share/doc/smpe
+# Those of tools/NAME are installed as smpe-NAME.
+tools = cards query job failures
+commands = smpe smpe-intake $(tools:%=smpe-%)
 
 .PHONY: all check install uninstall
 
@@ -20,16 +27,25 @@ check:
 	./check
 
 bin/smpe:
-	./build
+	./build smpe
 
-install: $(PROGRAM)
-	install -d $(root)/bin $(root)/share/man/man1 $(root)/share/man/man5 $(completions)
+bin/smpe-intake:
+	./build smpe-intake
+
+install: $(PROGRAM) $(INTAKE)
+	install -d $(root)/bin $(root)/share/smpe $(man)/man1 $(man)/man5 $(doc)/docs $(completions)
 	install -m 755 $(PROGRAM) $(root)/bin/smpe
-	install -m 755 tools/cards $(root)/bin/cards
-	install -m 644 docs/smpe.1 $(root)/share/man/man1
-	install -m 644 docs/smpe-cards.5 docs/smpe-db.5 $(root)/share/man/man5
+	install -m 755 $(INTAKE) $(root)/bin/smpe-intake
+	for tool in $(tools); do install -m 755 tools/$$tool $(root)/bin/smpe-$$tool || exit; done
+	install -m 644 tools/queries.sql $(root)/share/smpe
+	install -m 644 docs/*.1 $(man)/man1
+	install -m 644 docs/*.5 $(man)/man5
+	install -m 644 README.md CHANGELOG.md SECURITY.md $(doc)
+	install -m 644 docs/*.md docs/*.svg $(doc)/docs
 	install -m 644 tools/smpe.bash-completion $(completions)/smpe
+	install -m 644 tools/smpe-intake.bash-completion $(completions)/smpe-intake
 
 uninstall:
-	rm -f $(root)/bin/smpe $(root)/bin/cards $(root)/share/man/man1/smpe.1 $(completions)/smpe \
-	  $(root)/share/man/man5/smpe-cards.5 $(root)/share/man/man5/smpe-db.5
+	rm -f $(commands:%=$(root)/bin/%) $(commands:%=$(man)/man1/%.1) $(man)/man5/smpe-cards.5 $(man)/man5/smpe-db.5 \
+	  $(completions)/smpe $(completions)/smpe-intake
+	rm -rf $(root)/share/smpe $(doc)

@@ -5,6 +5,14 @@
 --
 -- A list in a column is split by json_each; its members are names, which need no escapes.
 
+-- The zones, with the zone that each is related to (a target zone to its distribution zone, and the other way round),
+-- the number of SYSMODs that it has applied or accepted, and that of its elements.
+CREATE TEMP VIEW zones AS
+SELECT zone.name AS zone, zone.kind, zone.srel, coalesce(zone.related, target.name) AS related,
+  (SELECT count(*) FROM entry WHERE entry.zone = zone.name AND date IS NOT NULL) AS installed,
+  (SELECT count(*) FROM zelem WHERE zelem.zone = zone.name) AS elements
+FROM zone LEFT JOIN zone AS target ON target.related = zone.name;
+
 -- The ++VERs of each SYSMOD, numbered from 1 among those of one SREL.
 CREATE TEMP VIEW vers AS
 SELECT id, srel, 1 AS number, fmid, pre, req, sup, npre, del FROM ver

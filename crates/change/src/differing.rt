@@ -7,9 +7,10 @@ ghost use Rattle.sorted.specs.declared.edits.Edit.TheVariants.{Put, Remove};
 ghost use Rattle.zones.specs.Differing.{AddsEntryEdit, AddsElementEdit, HasEditedElements};
 
 use fields::{Id, Name};
+use sorted::Edit;
 use std::alloc::AllocError;
 use terms::ElemType;
-use zones::{Edit, Element, Entry, Zone, ZoneDelta, is_element, is_same_entry};
+use zones::{Element, Entry, Zone, ZoneDelta, is_element, is_same_entry};
 
 /// What is put or removed of elements.
 pub(crate) type ElementEdit = Edit<Element, (ElemType, Name)>;

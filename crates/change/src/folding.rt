@@ -10,12 +10,13 @@ ghost use Rattle.terms.specs.Texts.{IsMerge, IsNumbered};
 ghost use Rattle.change.specs.Folding.{AreChangers, IsFolded, IsMadeBy, IsStep, IsUpdateOf, is_for};
 
 use fields::{Attest, Id, IdList, Name};
+use sorted::TryClone;
 use std::alloc::{AllocError, Global};
+use sysmod::{Action, ElemChange};
 use sysmods::{GlobalZone, VerChoice};
-use sysmods_records::{Action, ElemChange};
 use terms::ElemType;
 use text80::{Line, Numbered, Update, merge};
-use zones::{Element, TryClone};
+use zones::Element;
 
 /// The element after all these SYSMODs, which change it and of which each later one is over each earlier one. The zone
 /// has it already, as `base`, or one of them replaces it.
@@ -39,7 +40,7 @@ pub(crate) fn element_after(
 {
     vers.global().attest();
     match last_replacement(vers.global(), elem_type, name, changers) {
-        Some(place) => folded(alloc, vers, None, elem_type, name, from(changers, place)),
+        Some(place) => folded(alloc, vers, None, elem_type, name, &changers[place..]),
         None => folded(
             alloc,
             vers,
@@ -74,14 +75,6 @@ fn last_replacement(
         place -= 1;
     }
     None
-}
-
-/// Those from this place on.
-fn from(ids: &[Id], place: usize) -> &[Id]
-    requires { place < length ids.now }
-    ensures { result.now ≡ drop place ids.now }
-{
-    &ids[place..]
 }
 
 /// Whether the SYSMOD, which changes the element, replaces it.

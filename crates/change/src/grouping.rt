@@ -7,8 +7,8 @@ use fields::{Attest, Id, Name};
 use sorted::lists::{Lists, add};
 use std::alloc::{AllocError, Global};
 use std::collections::BTreeMap;
+use sysmod::ElemChange;
 use sysmods::GlobalZone;
-use sysmods_records::ElemChange;
 use terms::ElemType;
 
 /// The elements that these SYSMODs change, each with those of them that change it, in their order.

@@ -18,9 +18,10 @@ use crate::elements::elements_after;
 use crate::entries::put_entries;
 use crate::plan::planned;
 use fields::{Attest, Id, IdList, YyDdd};
+use sorted::{Edit, Table};
 use std::alloc::{AllocError, Global};
 use sysmods::Overs;
-use zones::{Edit, Element, Table, Zone, ZoneDelta};
+use zones::{Element, Zone, ZoneDelta};
 use zones_views::deletions;
 
 /// What is installed into which zone. `superseded` has each kept SYSMOD with each id that it supersedes, and `bypassed`

@@ -1,20 +1,8 @@
 -- Commands as the definitions see them.
 use Rattle.terms.specs.Types as terms
-use Rattle.cntl.specs.declared.bypass.Reasons.{Reasons}
-use Rattle.cntl.specs.declared.bypass.Reasons.TheVariants.{None, Any, These}
-use Rattle.cntl.specs.declared.command.RestoreList.{RestoreList}
-use Rattle.cntl.specs.declared.command.RestoreList.TheVariants.{Select, Group}
 use Rattle.cntl.specs.declared.command.Command.{Command}
 use Rattle.cntl.specs.declared.command.Command.TheVariants.{Set, Receive, Reject, Apply, Accept, Restore, List, Report}
-
-abbrev pub reasons_in : Reasons → terms.Reasons
-reasons_in None = terms.NoReason
-reasons_in Any = terms.AnyReason
-reasons_in (These reasons) = terms.TheseReasons reasons
-
-abbrev pub restore_list_of : RestoreList → terms.RestoreList
-restore_list_of (Select ids) = terms.RestoreSelect ids
-restore_list_of (Group ids) = terms.RestoreGroup ids
+use Rattle.fields.specs.Choices.{restore_list_of}
 
 abbrev pub command_of : Command → terms.Command
 command_of (Set zone) = terms.Set zone

@@ -13,13 +13,12 @@ ghost use Rattle.rec80.specs.Cursors.{text_of};
 ghost use Rattle.rec80.specs.Views.{word_of};
 ghost use Rattle.operands.specs.Left.{LeavesWords};
 ghost use Rattle.operands.specs.Failing.{Excludes};
-ghost use Rattle.cntl.specs.Views.{reasons_in};
+ghost use Rattle.fields.specs.Choices.{reasons_in};
 ghost use Rattle.cntl.specs.Singles.{AreSingle};
 
-use crate::bypass::{Bypass, Reasons};
 use crate::tables::members_of;
 use crate::values::short_list;
-use fields::{Class, ClassList, Reason, ReasonList};
+use fields::{Bypass, Class, ClassList, Reason, ReasonList, Reasons};
 use operands::{BadOperand, OperandError, are_members, flag, named_member, operand};
 use rec80::{Text, Word, Words};
 use std::alloc::Global;

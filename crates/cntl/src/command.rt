@@ -1,58 +1,6 @@
 //! The values of the commands: what each one asks for.
-use crate::bypass::Bypass;
-use fields::{IdList, Source, SourceList, ZoneName};
+use fields::{Bypass, IdList, ReceiveWhat, RestoreList, Selection, ZoneName};
 use std::marker::Model;
-
-/// What RECEIVE reads: PTFIN for `sysmods`, the hold file for `holddata`, one of them or both. It adds
-/// the source to SYSMODs.
-#[derive(Drop)]
-pub struct ReceiveWhat {
-    pub sysmods: bool,
-    pub holddata: bool,
-    pub source: Option<Source>,
-}
-
-impl Model for ReceiveWhat {
-    ghost use Rattle.terms.specs.Types as terms;
-
-    ghost Value = { terms.ReceiveWhat };
-
-    ghost view = { λ a. record { sysmods = a.sysmods; holddata = a.holddata; source = a.source } };
-}
-
-/// What APPLY or ACCEPT chooses. An operand that is absent is an empty list.
-#[derive(Drop)]
-pub struct Selection {
-    pub functions: bool,
-    pub ptfs: bool,
-    pub apars: bool,
-    pub usermods: bool,
-    pub select: IdList,
-    pub exclude: IdList,
-    pub sourceid: SourceList,
-    pub forfmid: IdList,
-    pub group: IdList,
-    pub groupextend: bool,
-}
-
-impl Model for Selection {
-    ghost use Rattle.terms.specs.Types as terms;
-
-    ghost Value = { terms.Selection };
-
-    ghost view = { λ a. record {
-      functions = a.functions;
-      ptfs = a.ptfs;
-      apars = a.apars;
-      usermods = a.usermods;
-      select = a.select;
-      exclude = a.exclude;
-      sourceid = a.sourceid;
-      forfmid = a.forfmid;
-      group = a.group;
-      groupextend = a.groupextend;
-    } };
-}
 
 /// The operands of APPLY or ACCEPT.
 #[derive(Drop)]
@@ -68,13 +16,6 @@ impl Model for Install {
     ghost Value = { terms.Install };
 
     ghost view = { λ a. record { selection = a.selection; bypass = a.bypass; check = a.check } };
-}
-
-/// The SYSMODs that RESTORE is to take off: those of SELECT, or those of GROUP and all that these make it take.
-#[derive(Drop)]
-pub enum RestoreList {
-    Select(IdList),
-    Group(IdList),
 }
 
 /// A command.

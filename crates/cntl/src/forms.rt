@@ -7,13 +7,14 @@ ghost use Rattle.terms.specs.CommandForms.{HasReceive, HasSelection, HasInstall,
 ghost use Rattle.terms.specs.CommandForms.{command_word};
 ghost use Rattle.operands.specs.Left.{LeavesWords};
 ghost use Rattle.operands.specs.Failing.{Excludes};
-ghost use Rattle.cntl.specs.Views.{restore_list_of, command_of};
+ghost use Rattle.fields.specs.Choices.{restore_list_of};
+ghost use Rattle.cntl.specs.Views.{command_of};
 ghost use Rattle.cntl.specs.Singles.{AreSingle};
 
 use crate::bypassed::bypass;
-use crate::command::{Command, Install, ReceiveWhat, RestoreList, Selection};
+use crate::command::{Command, Install};
 use crate::values::{flag_of, id_list, is_absent, some_ids, source_list, zone};
-use fields::Source;
+use fields::{ReceiveWhat, RestoreList, Selection, Source};
 use operands::{BadOperand, OperandError, optional};
 use rec80::Words;
 use std::alloc::Global;

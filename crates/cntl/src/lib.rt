@@ -4,7 +4,6 @@
 #![tactic(auto)]
 
 mod at;
-mod bypass;
 mod bypassed;
 mod command;
 mod doubles;
@@ -18,7 +17,6 @@ mod tables;
 mod unchosen;
 mod values;
 
-pub use bypass::{Bypass, Reasons};
-pub use command::{Command, Install, ReceiveWhat, RestoreList, Selection};
+pub use command::{Command, Install};
 pub use errors::CntlError;
 pub use file::read_cntl;

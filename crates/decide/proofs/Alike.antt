@@ -105,11 +105,11 @@ module _ (F : Id → Test → Type 0) (E : Id → Type 0) (N : Id → NeedKind �
   turned x = ((eligible x).1, (eligible x).0)
 
   needs : (x z : Id) (kind : NeedKind) → Contains s.cands x → N x kind z ↔ Needs s x kind z
-  needs x z kind own = ((h.wants x z kind own).1, (h.wants x z kind own).0)
+  needs x z kind own = ((h.needs x z kind own).1, (h.needs x z kind own).0)
 
   said_serves : (x y z : Id) (kind : NeedKind) → Contains s.cands x → Needs s x kind z → Contains s.cands y
       → Serves s.superseded kind y z ↔ S kind y z
-  said_serves x y z kind own need there = h.serves x y z kind own ((h.wants x z kind own).0 need) there
+  said_serves x y z kind own need there = h.serves x y z kind own ((h.needs x z kind own).0 need) there
 
   own_serves : (x y z : Id) (kind : NeedKind) → Contains s.cands x → N x kind z → Contains s.cands y
       → S kind y z ↔ Serves s.superseded kind y z
@@ -123,7 +123,7 @@ module _ (F : Id → Test → Type 0) (E : Id → Type 0) (N : Id → NeedKind �
   stays : (x : Id) → Contains kept x ↔ StaysKept E N S x
   stays x = (
     λ k. stays_too s.cands kept within (IsEligible s) (Needs s) (Serves s.superseded) E N S (λ y e. e.0) eligible
-        h.wants said_serves x ((d.members x).0 k),
+        h.needs said_serves x ((d.members x).0 k),
     λ u. (d.members x).1 (stays_too s.cands kept within E N S (IsEligible s) (Needs s) (Serves s.superseded)
         (λ y e. ((h.eligible y).0 e).0) turned needs own_serves x u),
   )
@@ -144,7 +144,7 @@ module _ (F : Id → Test → Type 0) (E : Id → Type 0) (N : Id → NeedKind �
     are_open = λ kind z.
         let was = i.are_open kind z in (
           λ there. open_too s.cands kept within (IsEligible s) (Needs s) (Serves s.superseded) E N S (λ y e. e.0)
-              eligible h.wants said_serves x z kind own (was.0 there),
+              eligible h.needs said_serves x z kind own (was.0 there),
           λ o. was.1 (open_too s.cands kept within E N S (IsEligible s) (Needs s) (Serves s.superseded)
               (λ y e. ((h.eligible y).0 e).0) turned needs own_serves x z kind own o),
         );
@@ -152,7 +152,7 @@ module _ (F : Id → Test → Type 0) (E : Id → Type 0) (N : Id → NeedKind �
     causers = λ y.
         let was = i.causers y in (
           λ there. causer_too s.cands kept within (IsEligible s) (Needs s) (Serves s.superseded) E N S (λ y e. e.0)
-              eligible h.wants said_serves x y (was.0 there),
+              eligible h.needs said_serves x y (was.0 there),
           λ c. was.1 (causer_too s.cands kept within E N S (IsEligible s) (Needs s) (Serves s.superseded)
               (λ y e. ((h.eligible y).0 e).0) turned needs own_serves x y c),
         );

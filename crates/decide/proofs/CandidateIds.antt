@@ -19,7 +19,7 @@ use Rattle.terms.specs.declared.codes.Test.{Test}
 use Rattle.terms.specs.Types.{Id}
 use Rattle.terms.specs.Kept.{StaysKept}
 use Rattle.terms.specs.Lookups.{IsRising, is_before, is_in}
-use Rattle.solve.specs.Problem.{Demand, Problem, IsDemand, holds}
+use Rattle.solve.specs.Problem.{NumberedNeed, Problem, IsNumberedNeed, holds}
 use Rattle.solve.specs.Numbered.{IsProblemOf}
 use Rattle.solve.specs.Causes as numbered
 use Rattle.terms.specs.Failures.{IsOpenNeed, IsCauser, all_tests}
@@ -92,25 +92,25 @@ module _ (ids kept : List Id) (E : Id → Type 0) (N : Id → NeedKind → Id �
   once = one_number ids rising
 
   -- the id of each number that serves
-  id_of : (d : Demand) (i : ℕ) → slice_get p.demands i ≡ Some d → (m : ℕ) → Contains d.any m
+  id_of : (d : NumberedNeed) (i : ℕ) → slice_get p.needs i ≡ Some d → (m : ℕ) → Contains d.any m
       → (y : Id) × (slice_get ids m ≡ Some y)
   id_of d i at m there =
       let found = found_at d.any m there in
       let below = All-found (λ k. k < p.size) d.any found.0 m
-      (All-found (IsDemand p.size) p.demands i d h.numbers.demands at).any found.1 in
+      (All-found (IsNumberedNeed p.size) p.needs i d h.numbers.needs at).any found.1 in
       (slice_index_or ids m [], slice_get-get_or ids m [] (subst (λ k. m < k) h.size below))
 
-  unserved_id : (d : Demand) (i : ℕ) (kind : NeedKind) (z : Id) → slice_get p.demands i ≡ Some d
+  unserved_id : (d : NumberedNeed) (i : ℕ) (kind : NeedKind) (z : Id) → slice_get p.needs i ≡ Some d
       → slice_get needed i ≡ Some (kind, z)
       → list_any (holds flags) d.any ≡ false → (y : Id) → Contains kept y → ¬ S kind y z
   unserved_id d i kind z at need none y there serves =
       let place = found_at ids y (within y there) in
-      let spot = found_at d.any place.0 (((h.demands i d (kind, z) at need).any place.0 y place.1).1 serves) in
+      let spot = found_at d.any place.0 (((h.needs i d (kind, z) at need).any place.0 y place.1).1 serves) in
       let off = All-found (λ j. holds flags j ≡ false) d.any spot.0 place.0
       (All_from_no_list_any (holds flags) d.any none) spot.1 in
       true≢false (sym ((same place.0 y place.1).0 there) ∙ off)
 
-  unserved_number : (d : Demand) (i : ℕ) (kind : NeedKind) (z : Id) → slice_get p.demands i ≡ Some d
+  unserved_number : (d : NumberedNeed) (i : ℕ) (kind : NeedKind) (z : Id) → slice_get p.needs i ≡ Some d
       → slice_get needed i ≡ Some (kind, z)
       → ((y : Id) → Contains kept y → ¬ S kind y z) → list_any (holds flags) d.any ≡ false
   unserved_number d i kind z at need unserved =
@@ -119,10 +119,10 @@ module _ (ids kept : List Id) (E : Id → Type 0) (N : Id → NeedKind → Id �
       let there : Contains d.any v = contains_at d.any k v (slice_get-get_or d.any k m below) in
       let y = id_of d i at v there in
       false_from_ne_true (holds flags v) (λ on. unserved y.0 ((same v y.0 y.1).1 on)
-      (((h.demands i d (kind, z) at need).any v y.0 y.1).0 there)))
+      (((h.needs i d (kind, z) at need).any v y.0 y.1).0 there)))
 
   module _ (rows : List (Vec (NeedKind × Id) Heap)) (opened :
-      HaveOpen flags p.demands needed (length needed) rows) where
+      HaveOpen flags p.needs needed (length needed) rows) where
     -- the open needs of a number are those of its id
     pub open_needs : (n : ℕ) (x : Id) → slice_get ids n ≡ Some x → (kind : NeedKind) (z : Id)
         → Contains (row_at rows n) (kind, z) ↔ IsOpenNeed ids kept E N S x kind z
@@ -130,7 +130,7 @@ module _ (ids kept : List Id) (E : Id → Type 0) (N : Id → NeedKind → Id �
       λ there.
           let w = (opened n (kind, z)).0 there in
           let both = and_parts (w.1.of == n) (not (list_any (holds flags) w.1.any)) w.5 in
-          let meant = (h.demands w.0 w.1 (kind, z) w.3 w.4).of in
+          let meant = (h.needs w.0 w.1 (kind, z) w.3 w.4).of in
           let whose : meant.0 ≡ x = same_Some meant.0 x (sym meant.1 ∙ ap (slice_get ids) (eqb-true w.1.of n both.0)
           ∙ at) in
           record {
@@ -179,9 +179,9 @@ causers_within p flags rows exact n k d below = ((exact n (get_or (row_at rows n
 
 -- What is found of the candidates by their places decides all that is said of them.
 module _ (s : Said) (rising : IsRising s.cands) (p : Problem)
-    (h : IsProblemOf (IsEligible s) (Needs s) (Serves s.superseded) s.cands p (map need_of s.wants))
+    (h : IsProblemOf (IsEligible s) (Needs s) (Serves s.superseded) s.cands p (map need_of s.needs))
     (tests : List (List Test)) (tested : AreTests s.fails s.cands tests) (kept : List Id)
-    (failed : List (Id × Failure)) (by : IsDecidedBy s.cands p (map need_of s.wants) tests kept failed) where
+    (failed : List (Id × Failure)) (by : IsDecidedBy s.cands p (map need_of s.needs) tests kept failed) where
   abbrev ids : List Id
   ids = s.cands
 
@@ -195,7 +195,7 @@ module _ (s : Said) (rising : IsRising s.cands) (p : Problem)
   S = Serves s.superseded
 
   abbrev needed : List (NeedKind × Id)
-  needed = map need_of s.wants
+  needed = map need_of s.needs
 
   stays : (x : Id) → Contains kept x ↔ StaysKept E N S x
   stays x = (

@@ -6,15 +6,15 @@ use Rattle.terms.specs.declared.codes.Test.{Test}
 use Rattle.terms.specs.Types.{Id}
 use Rattle.terms.specs.Failures.{all_tests}
 use Rattle.machine.specs.Outcome.{Failure}
-use Rattle.decide.specs.declared.wants.Want.{Want}
+use Rattle.decide.specs.declared.stated.Need.{Need}
 use Rattle.decide.specs.Said.{AreTests}
 use Rattle.decide.specs.Judged.{AreJudged}
 use Rattle.decide.specs.Decided.{AreDecided, Decides}
 use Rattle.decide.proofs.Alike.{decided_as}
 
 module _ (F : Id → Test → Type 0) (E : Id → Type 0) (N : Id → NeedKind → Id → Type 0)
-    (S : NeedKind → Id → Id → Type 0) (cands : List Id) (tests : List (List Test)) (wants : List Want)
-    (superseded : List (Id × Id)) (j : AreJudged F E N S cands tests wants superseded) where
+    (S : NeedKind → Id → Id → Type 0) (cands : List Id) (tests : List (List Test)) (needs : List Need)
+    (superseded : List (Id × Id)) (j : AreJudged F E N S cands tests needs superseded) where
   -- there is a row of tests for each
   pub rows_of : length tests ≡ length cands
   rows_of = ap length j.tests_are ∙ length-map cands (λ x. filter (j.fails x) all_tests)
@@ -23,13 +23,13 @@ module _ (F : Id → Test → Type 0) (E : Id → Type 0) (N : Id → NeedKind �
       → ((fails : Id → Test → Bool) → AreTests fails cands tests → Decides (record {
         cands = cands;
         fails = fails;
-        wants = wants;
+        needs = needs;
         superseded = superseded;
       }) kept failed)
       → AreDecided F E N S cands kept failed
   decided_of kept failed by = decided_as F E N S (record {
     cands = cands;
     fails = j.fails;
-    wants = wants;
+    needs = needs;
     superseded = superseded;
   }) j.said kept failed (by j.fails j.tests_are)

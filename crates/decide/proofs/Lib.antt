@@ -1,7 +1,7 @@
 pub mod Alike
 pub mod CandidateIds
 pub mod Choosing
-pub mod Demands
+pub mod NumberedNeeds
 pub mod EachKind
 pub mod Failing
 pub mod Greatest

@@ -10,7 +10,7 @@ use Rattle.std.proofs.lemmas.List.{get_or-set_same, get_or-set_other, length-map
 use Rattle.std.proofs.lemmas.List.Elements.{Contains-append_left, Contains-append_right, Contains-append_cases}
 use Rattle.terms.specs.declared.codes.NeedKind.{NeedKind}
 use Rattle.terms.specs.Types.{Id}
-use Rattle.solve.specs.Problem.{Demand, holds}
+use Rattle.solve.specs.Problem.{NumberedNeed, holds}
 use Rattle.solve.specs.Rows.{row_at}
 use Rattle.solve.proofs.Added.{row_at_get_or}
 use Rattle.solve.proofs.Times.{eqb_other}
@@ -42,18 +42,20 @@ and-true true b e = e
 and-true false b e = refl
 
 -- a need that nothing kept serves is one of its candidate alone, and one that is served is none
-pub open_where : (kept : List Bool) (d : Demand) (need : NeedKind × Id) (x : ℕ) → list_any (holds kept) d.any ≡ false
+pub open_where : (kept : List Bool) (d : NumberedNeed) (need : NeedKind × Id) (x : ℕ)
+    → list_any (holds kept) d.any ≡ false
     → open_of kept d need x ≡ cond (d.of == x) (need ∷ []) []
 open_where kept d need x unserved = ap (λ b. cond b (need ∷ []) [])
     (and-true (d.of == x) (not (list_any (holds kept) d.any)) (ap not unserved))
 
 -- one more need
-pub open_next : (kept : List Bool) (demands : List Demand) (needed : List (NeedKind × Id)) (i : ℕ) (d : Demand)
+pub open_next : (kept : List Bool) (needs : List NumberedNeed) (needed : List (NeedKind × Id)) (i : ℕ)
+    (d : NumberedNeed)
     (need : NeedKind × Id)
-    (old new : List (Vec (NeedKind × Id) Global)) → slice_get demands i ≡ Some d → slice_get needed i ≡ Some need
-    → ((x : ℕ) → row_at new x ≡ row_at old x ++ open_of kept d need x) → HaveOpen kept demands needed i old
-    → HaveOpen kept demands needed (i + 1) new
-open_next kept demands needed i d need old new at_d at_need added so_far x z = (
+    (old new : List (Vec (NeedKind × Id) Global)) → slice_get needs i ≡ Some d → slice_get needed i ≡ Some need
+    → ((x : ℕ) → row_at new x ≡ row_at old x ++ open_of kept d need x) → HaveOpen kept needs needed i old
+    → HaveOpen kept needs needed (i + 1) new
+open_next kept needs needed i d need old new at_d at_need added so_far x z = (
   λ h. elim (Contains-append_cases (row_at old x) (open_of kept d need x) z (subst (λ l. Contains l z) (added x) h)) [
     | inl before ↦ let w = (so_far x z).0 before in (w.0, w.1, omega (arith, w.2), w.3, w.4, w.5)
     | inr here ↦ let t = taken (is_open_of kept d x) need z here
@@ -65,7 +67,7 @@ open_next kept demands needed i d need old new at_d at_need added so_far x z = (
     | inr past ↦
         let here : w.0 ≡ i = omega (arith, past, w.2) in
         let same : need ≡ z = sym (same_at needed w.0 i z need here w.4 at_need) in
-        let same_d : w.1 ≡ d = same_at demands w.0 i w.1 d here w.3 at_d in
+        let same_d : w.1 ≡ d = same_at needs w.0 i w.1 d here w.3 at_d in
         let on : IsTrue (is_open_of kept d x) = subst (λ e. IsTrue (is_open_of kept e x)) same_d w.5 in
         Contains-append_right (row_at old x) (open_of kept d need x) z
         (subst (Contains (open_of kept d need x)) same (take_one (is_open_of kept d x) need on))

@@ -22,7 +22,7 @@ pub record IsDecidedBy (ids : List Id) (p : Problem) (needed : List (NeedKind ×
   pub members : (x : Id) → Contains kept x ↔ ((n : ℕ) × (slice_get ids n ≡ Some x) × IsTrue (holds flags n))
   pub found : Findings
   pub tests_are : map (λ row. row.items) found.tests.items ≡ tests
-  pub opened : HaveOpen flags p.demands needed (length needed) found.unserved.items
+  pub opened : HaveOpen flags p.needs needed (length needed) found.unserved.items
   pub causers : (x y : ℕ) → Contains (row_at found.causers.items x) y ↔ numbered.IsCauser p flags x y
   pub causers_rise : (x : ℕ) → AllPairs (λ a b. a < b) (row_at found.causers.items x)
   pub failures : AreFailures ids kept found (length ids) failed

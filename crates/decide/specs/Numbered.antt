@@ -3,35 +3,36 @@ use Rattle.std.specs.Prelude.{◌≡◌, ℕ, Bool, List, [], ◌∷◌, ◌++�
 use Rattle.lemmas.specs.Beside.{Beside}
 use Rattle.terms.specs.declared.codes.NeedKind.{NeedKind}
 use Rattle.terms.specs.Types.{Id}
-use Rattle.solve.specs.Problem.{Demand, Problem}
-use Rattle.decide.specs.declared.wants.Want.{Want}
+use Rattle.solve.specs.Problem.{NumberedNeed, Problem}
+use Rattle.decide.specs.declared.stated.Need.{Need}
 use Rattle.decide.specs.Serving.{AreServed, IsServedIn}
 
 -- the kind and the id that is needed
-abbrev pub need_of : Want → NeedKind × Id
+abbrev pub need_of : Need → NeedKind × Id
 need_of w = (w.kind, w.id)
 
--- the demand is the need: of the place of who needs, with all that serve it
-pub record IsDemandFor (ids : List Id) (pairs : List (Id × ℕ)) (w : Want) (d : Demand) : Type 0 where
+-- the numbered need is the need: of the place of who needs, with all that serve it
+pub record IsNumberedNeedFor (ids : List Id) (pairs : List (Id × ℕ)) (w : Need) (d : NumberedNeed) : Type 0 where
   pub of : slice_get ids d.of ≡ Some w.of
   pub any : IsServedIn ids w.kind w.id pairs d.any
 
 -- the problem of the candidates with these flags has these needs
-pub record HasDemands (ids : List Id) (pairs : List (Id × ℕ)) (flags : List Bool) (wants : List Want) (p : Problem) :
+pub record HasNumberedNeeds (ids : List Id) (pairs : List (Id × ℕ)) (flags : List Bool) (stated : List Need)
+    (p : Problem) :
     Type 0 where
   pub size : p.size ≡ length ids
   pub eligible : p.eligible ≡ flags
-  pub demands : Beside (λ n w d. IsDemandFor ids pairs w d) wants p.demands
+  pub needs : Beside (λ n w d. IsNumberedNeedFor ids pairs w d) stated p.needs
 
 -- the problem with one more
-pub record AddsDemand (ids : List Id) (pairs : List (Id × ℕ)) (w : Want) (old new : Problem) : Type 0 where
-  pub demand : Demand
-  pub for : IsDemandFor ids pairs w demand
-  pub problem : new ≡ record old { demands = old.demands ++ demand ∷ [] }
+pub record AddsNumberedNeed (ids : List Id) (pairs : List (Id × ℕ)) (w : Need) (old new : Problem) : Type 0 where
+  pub numbered : NumberedNeed
+  pub for : IsNumberedNeedFor ids pairs w numbered
+  pub problem : new ≡ record old { needs = old.needs ++ numbered ∷ [] }
 
 -- the problem of the candidates with these flags has these needs, served by who stands for an id
-pub record HasProblem (ids : List Id) (superseded : List (Id × Id)) (flags : List Bool) (wants : List Want)
+pub record HasProblem (ids : List Id) (superseded : List (Id × Id)) (flags : List Bool) (stated : List Need)
     (p : Problem) : Type 0 where
   pub pairs : List (Id × ℕ)
   pub served : AreServed ids superseded pairs
-  pub demands : HasDemands ids pairs flags wants p
+  pub needs : HasNumberedNeeds ids pairs flags stated p

@@ -6,23 +6,24 @@ use Rattle.std.specs.declared.alloc.Global.{Global}
 use Rattle.terms.specs.declared.codes.NeedKind.{NeedKind}
 use Rattle.terms.specs.Types.{Id}
 use Rattle.terms.specs.Lookups.{IsRising}
-use Rattle.solve.specs.Problem.{Demand, holds}
+use Rattle.solve.specs.Problem.{NumberedNeed, holds}
 use Rattle.solve.specs.Rows.{row_at}
 use Rattle.machine.specs.Outcome.{OpenNeed}
 use Rattle.terms.specs.Failures.{all_needs}
 
--- whether the demand is of x, and nothing kept serves it
-abbrev pub is_open_of : List Bool → Demand → ℕ → Bool
+-- whether the numbered need is of x, and nothing kept serves it
+abbrev pub is_open_of : List Bool → NumberedNeed → ℕ → Bool
 is_open_of kept d x = (d.of == x) && not (list_any (holds kept) d.any)
 
 -- the need as one of x, if it is open and of x
-abbrev pub open_of : List Bool → Demand → NeedKind × Id → ℕ → List (NeedKind × Id)
+abbrev pub open_of : List Bool → NumberedNeed → NeedKind × Id → ℕ → List (NeedKind × Id)
 open_of kept d need x = if is_open_of kept d x then need ∷ [] else []
 
 -- each candidate's row has its open needs among those in front of a place
-abbrev pub HaveOpen : List Bool → List Demand → List (NeedKind × Id) → ℕ → List (Vec (NeedKind × Id) Global) → Type 0
-HaveOpen kept demands needed end rows = (x : ℕ) (need : NeedKind × Id) → Contains (row_at rows x) need
-    ↔ ((i : ℕ) × (d : Demand) × (i < end) × (slice_get demands i ≡ Some d) × (slice_get needed i ≡ Some need)
+abbrev pub HaveOpen : List Bool → List NumberedNeed → List (NeedKind × Id) → ℕ → List (Vec (NeedKind × Id) Global)
+    → Type 0
+HaveOpen kept needs needed end rows = (x : ℕ) (need : NeedKind × Id) → Contains (row_at rows x) need
+    ↔ ((i : ℕ) × (d : NumberedNeed) × (i < end) × (slice_get needs i ≡ Some d) × (slice_get needed i ≡ Some need)
     × IsTrue (is_open_of kept d x))
 
 -- the needs of a kind, by their ids

@@ -5,17 +5,17 @@ use Rattle.terms.specs.declared.codes.Test.{Test}
 use Rattle.terms.specs.Types.{Id}
 use Rattle.terms.specs.Needs.{takes_superseder}
 use Rattle.terms.specs.Failures.{all_tests}
-use Rattle.decide.specs.declared.wants.Want.{Want}
+use Rattle.decide.specs.declared.stated.Need.{Need}
 
 -- x needs z
-abbrev pub a_want : Id → NeedKind → Id → Want
-a_want x kind z = record { of = x; kind = kind; id = z }
+abbrev pub a_need : Id → NeedKind → Id → Need
+a_need x kind z = record { of = x; kind = kind; id = z }
 
 -- The tests that candidates fail, what they need, and pairs of a candidate and one that it supersedes.
 pub record Said : Type 0 where
   pub cands : List Id
   pub fails : Id → Test → Bool
-  pub wants : List Want
+  pub needs : List Need
   pub superseded : List (Id × Id)
 
 abbrev pub FailsTest : Said → Id → Test → Type 0
@@ -26,7 +26,7 @@ abbrev pub IsEligible : Said → Id → Type 0
 IsEligible s x = Contains s.cands x × ((test : Test) → IsFalse (s.fails x test))
 
 abbrev pub Needs : Said → Id → NeedKind → Id → Type 0
-Needs s x kind z = Contains s.wants (a_want x kind z)
+Needs s x kind z = Contains s.needs (a_need x kind z)
 
 -- y serves a need for z: it is z, or supersedes it where that serves
 abbrev pub Serves : List (Id × Id) → NeedKind → Id → Id → Type 0
@@ -37,11 +37,12 @@ abbrev pub AreTests : (Id → Test → Bool) → List Id → List (List Test) �
 AreTests fails ids rows = rows ≡ map (λ x. filter (fails x) all_tests) ids
 
 -- So it is by a command's own tests, needs, and what serves a need.
-module _ (Fails : Id → Test → Type 0) (Eligible : Id → Type 0) (Wants : Id → NeedKind → Id → Type 0)
+module _ (Fails : Id → Test → Type 0) (Eligible : Id → Type 0) (Requires : Id → NeedKind → Id → Type 0)
     (ServedBy : NeedKind → Id → Id → Type 0) where
   pub record IsSaid (s : Said) : Type 0 where
     pub fails : (x : Id) (test : Test) → Contains s.cands x → IsTrue (s.fails x test) ↔ Fails x test
     pub eligible : (x : Id) → Eligible x ↔ (Contains s.cands x × ((test : Test) → ¬ Fails x test))
-    pub wants : (x z : Id) (kind : NeedKind) → Contains s.cands x → Contains s.wants (a_want x kind z) ↔ Wants x kind z
-    pub serves : (x y z : Id) (kind : NeedKind) → Contains s.cands x → Wants x kind z → Contains s.cands y
+    pub needs : (x z : Id) (kind : NeedKind) → Contains s.cands x → Contains s.needs (a_need x kind z)
+        ↔ Requires x kind z
+    pub serves : (x y z : Id) (kind : NeedKind) → Contains s.cands x → Requires x kind z → Contains s.cands y
         → Serves s.superseded kind y z ↔ ServedBy kind y z

@@ -13,9 +13,9 @@ use crate::failures::{Findings, failures};
 use crate::kept::kept_ids;
 use crate::needs::open_needs;
 use crate::numbered::{all_eligible, numbered};
-use crate::wants::Want;
+use crate::stated::Need;
 use fields::{Attest, Id, IdList};
-use solve::{Solver, System, Worklist, causers};
+use solve::{Problem, Solver, Worklist, causers};
 use std::alloc::{AllocError, Global};
 use terms::Test;
 
@@ -33,19 +33,19 @@ pub fn decide(
     alloc: Global,
     ids: &IdList,
     tests: Vec<Vec<Test>>,
-    wants: &[Want],
+    needs: &[Need],
     superseded: &[(Id, Id)],
 ) -> Result<Decided, AllocError>
     requires rows { length tests.items ≡ length ids.now }
-    requires of { All (λ w. Contains ids.now w.of) wants.now }
-    requires once { AllPairs (λ v w. v ≢ w) wants.now }
+    requires of { All (λ w. Contains ids.now w.of) needs.now }
+    requires once { AllPairs (λ v w. v ≢ w) needs.now }
     requires by { All (λ p. Contains ids.now p.0) superseded.now }
     ensures { IfOk result (λ d. (fails : AnId → ATest → Bool)
         → AreTests fails ids.now (map (λ row. row.items) tests.items)
         → Decides (record {
           cands = ids.now;
           fails = fails;
-          wants = wants.now;
+          needs = needs.now;
           superseded = superseded.now;
         }) d.kept (map why_failed d.failed.items)) }
 {
@@ -54,8 +54,8 @@ pub fn decide(
     }
     ids.attest();
     let eligible = all_eligible(alloc, tests.as_slice())?;
-    let system = numbered(alloc, ids, superseded, wants, eligible)?;
-    let decided = by_number(alloc, ids, &system, wants, tests)?;
+    let problem = numbered(alloc, ids, superseded, needs, eligible)?;
+    let decided = by_number(alloc, ids, &problem, needs, tests)?;
     Ok(decided)
 }
 
@@ -63,19 +63,19 @@ pub fn decide(
 fn by_number(
     alloc: Global,
     ids: &IdList,
-    system: &System,
-    wants: &[Want],
+    problem: &Problem,
+    needs: &[Need],
     tests: Vec<Vec<Test>>,
 ) -> Result<Decided, AllocError>
-    requires size { system.now.size ≡ length ids.now }
-    requires wants { length wants.now ≡ length system.now.demands }
+    requires size { problem.now.size ≡ length ids.now }
+    requires needs { length needs.now ≡ length problem.now.needs }
     requires tests { length tests.items ≡ length ids.now }
-    ensures { IfOk result (λ d. IsDecidedBy ids.now system.now (map need_of wants.now)
+    ensures { IfOk result (λ d. IsDecidedBy ids.now problem.now (map need_of needs.now)
         (map (λ row. row.items) tests.items) d.kept d.failed.items) }
 {
-    let set = Worklist.greatest(alloc, system)?;
-    let causers = causers(alloc, system, &set)?;
-    let unserved = open_needs(alloc, system, wants, set.flags())?;
+    let set = Worklist.greatest(alloc, problem)?;
+    let causers = causers(alloc, problem, &set)?;
+    let unserved = open_needs(alloc, problem, needs, set.flags())?;
     let kept = kept_ids(alloc, ids.as_slice(), set.flags())?;
     let found = Findings {
         tests,

@@ -12,8 +12,8 @@ mod kept;
 mod needs;
 mod numbered;
 mod serving;
-mod wants;
+mod stated;
 
 pub use decided::{Decided, decide};
 pub use failure::{Failure, OpenNeed};
-pub use wants::Want;
+pub use stated::Need;

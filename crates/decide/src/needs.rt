@@ -1,76 +1,55 @@
 //! The needs that nothing kept serves.
-ghost use Rattle.std.specs.Prelude.{◌≡◌, ◌↔◌, ◌⊎◌, ◌<◌, ◌++◌, [], ℕ, All, Contains, IfOk, OnOk, length, map};
-ghost use Rattle.std.specs.List.{list_any};
+ghost use Rattle.std.specs.Prelude.{◌≡◌, ◌↔◌, ◌⊎◌, ◌<◌, ◌++◌, ℕ, All, Contains, IfOk, OnOk, length, map};
 ghost use Rattle.terms.specs.Types.{Id as AnId};
-ghost use Rattle.solve.specs.Problem.{holds};
-ghost use Rattle.solve.specs.Need.{demand};
+ghost use Rattle.solve.specs.NumberedNeed.{numbered};
 ghost use Rattle.solve.specs.Rows.{row_at};
 ghost use Rattle.decide.specs.Views.{need_view};
 ghost use Rattle.decide.specs.Numbered.{need_of};
 ghost use Rattle.decide.specs.Open.{open_of, HaveOpen, AddsKind, AreNeedsOf};
 
 use crate::failure::OpenNeed;
-use crate::wants::{Want, want_at};
+use crate::stated::{Need, need_at};
 use fields::{Id, IdList};
-use solve::{Need, System};
+use solve::{NumberedNeed, Problem, empty_rows, serves};
 use std::alloc::{AllocError, Global};
 use terms::NeedKind;
-
-// Whether a kept candidate serves the need.
-fn is_served(kept: &[bool], any: &[u32]) -> bool
-    requires { All (λ y. y < length kept.now) any.now }
-    ensures { result ≡ list_any (holds kept.now) any.now }
-{
-    any.iter().any(|y| kept[*y as usize])
-}
 
 // Adds the need to the row of its candidate, unless it is served.
 fn add_open(
     rows: &mut [Vec<(NeedKind, Id)>],
     kept: &[bool],
-    need: &Need,
+    need: &NumberedNeed,
     meant: (NeedKind, Id),
 ) -> Result<(), AllocError>
     requires of { need.now.of < length rows.old }
     requires any { All (λ y. y < length kept.now) need.now.any.items }
     ensures { OnOk result ((x : ℕ) → row_at rows.new x
-        ≡ row_at rows.old x ++ open_of kept.now (demand need.now) (meant.0, meant.1) x) }
+        ≡ row_at rows.old x ++ open_of kept.now (numbered need.now) (meant.0, meant.1) x) }
 {
-    if !is_served(kept, &need.any) {
+    if !serves(kept, &need.any) {
         rows[need.of as usize].push(meant)?;
     }
     Ok(())
 }
 
-fn empty_rows(alloc: Global, size: u32) -> Result<Vec<Vec<(NeedKind, Id)>>, AllocError>
-    ensures size { IfOk result (λ rows. length rows.items ≡ size) }
-    ensures empty { IfOk result (λ rows. (x : ℕ) → row_at rows.items x ≡ []) }
-{
-    let mut rows = Vec::new(alloc);
-    for _row in 0..size {
-        rows.push(Vec::new(alloc))?;
-    }
-    Ok(rows)
-}
-
 /// For each candidate the kinds and ids of its needs that no kept one serves.
 pub(crate) fn open_needs(
     alloc: Global,
-    system: &System,
-    wants: &[Want],
+    problem: &Problem,
+    stated: &[Need],
     kept: &[bool],
 ) -> Result<Vec<Vec<(NeedKind, Id)>>, AllocError>
-    requires kept { length kept.now ≡ system.now.size }
-    requires wants { length wants.now ≡ length system.now.demands }
-    ensures size { IfOk result (λ rows. length rows.items ≡ system.now.size) }
-    ensures unserved { IfOk result (λ rows. HaveOpen kept.now system.now.demands (map need_of wants.now)
-        (length wants.now) rows.items) }
+    requires kept { length kept.now ≡ problem.now.size }
+    requires stated { length stated.now ≡ length problem.now.needs }
+    ensures size { IfOk result (λ rows. length rows.items ≡ problem.now.size) }
+    ensures unserved { IfOk result (λ rows. HaveOpen kept.now problem.now.needs (map need_of stated.now)
+        (length stated.now) rows.items) }
 {
-    let mut rows = empty_rows(alloc, system.size())?;
-    let needs = system.needs();
+    let mut rows = empty_rows(alloc, problem.size())?;
+    let needs = problem.needs();
     for i in 0..needs.len() {
-        let want = want_at(wants, i);
-        add_open(&mut rows, kept, &needs[i], (want.kind, want.id))?;
+        let need = need_at(stated, i);
+        add_open(&mut rows, kept, &needs[i], (need.kind, need.id))?;
     }
     Ok(rows)
 }

@@ -2,12 +2,12 @@
 ghost use Rattle.std.specs.Prelude.{◌≡◌, ◌<◌, ◌^◌, length, map, All, Contains, OnOk, IfOk};
 ghost use Rattle.terms.specs.Lookups.{is_nil};
 ghost use Rattle.solve.specs.Problem.{IsProblem};
-ghost use Rattle.decide.specs.Numbered.{AddsDemand, HasDemands, HasProblem};
+ghost use Rattle.decide.specs.Numbered.{AddsNumberedNeed, HasNumberedNeeds, HasProblem};
 
 use crate::serving::{own_place, places_of, served};
-use crate::wants::{Want, want_at};
+use crate::stated::{Need, need_at};
 use fields::{Id, IdList};
-use solve::{Need, System};
+use solve::{NumberedNeed, Problem};
 use std::alloc::{AllocError, Global};
 use std::collections::BTreeSet;
 use terms::Test;
@@ -24,45 +24,45 @@ pub(crate) fn all_eligible(alloc: Global, rows: &[Vec<Test>]) -> Result<Vec<bool
 }
 
 // Adds one need.
-fn add_want(
+fn number_need(
     alloc: Global,
     ids: &IdList,
     served: &BTreeSet<(Id, u32)>,
-    want: Want,
-    system: &mut System,
+    need: Need,
+    problem: &mut Problem,
 ) -> Result<(), AllocError>
     requires fits { length ids.now < 2 ^ 32 }
-    requires size { system.old.size ≡ length ids.now }
-    requires of { Contains ids.now want.of }
-    ensures { OnOk result (AddsDemand ids.now served.now.keys want system.old system.new) }
+    requires size { problem.old.size ≡ length ids.now }
+    requires of { Contains ids.now need.of }
+    ensures { OnOk result (AddsNumberedNeed ids.now served.now.keys need problem.old problem.new) }
 {
-    let any = places_of(alloc, ids, served, want.kind, want.id)?;
-    let of = own_place(ids, want.of);
-    system.add_need(Need { of, any })?;
+    let any = places_of(alloc, ids, served, need.kind, need.id)?;
+    let of = own_place(ids, need.of);
+    problem.add_need(NumberedNeed { of, any })?;
     Ok(())
 }
 
 // The problem of candidates with these flags and these needs.
-fn with_wants(
+fn with_needs(
     alloc: Global,
     ids: &IdList,
     served: &BTreeSet<(Id, u32)>,
-    wants: &[Want],
+    stated: &[Need],
     eligible: Vec<bool>,
-) -> Result<System, AllocError>
+) -> Result<Problem, AllocError>
     requires fits { length ids.now < 2 ^ 32 }
-    requires within { All (λ w. Contains ids.now w.of) wants.now }
+    requires within { All (λ w. Contains ids.now w.of) stated.now }
     requires flags { length eligible.items ≡ length ids.now }
-    ensures valid { IfOk result (λ system. IsProblem system) }
-    ensures demands { IfOk result (λ system. HasDemands ids.now served.now.keys eligible.items wants.now system) }
+    ensures valid { IfOk result (λ problem. IsProblem problem) }
+    ensures needs { IfOk result (λ problem. HasNumberedNeeds ids.now served.now.keys eligible.items stated.now problem) }
 {
-    let mut system = System::new(alloc, eligible);
-    for i in 0..wants.len() {
-        let want = want_at(wants, i);
-        add_want(alloc, ids, served, want, &mut system)?;
+    let mut problem = Problem::new(alloc, eligible);
+    for i in 0..stated.len() {
+        let need = need_at(stated, i);
+        number_need(alloc, ids, served, need, &mut problem)?;
     }
-    let _ = system.size();
-    Ok(system)
+    let _ = problem.size();
+    Ok(problem)
 }
 
 /// The problem of candidates with these flags and these needs, of which some supersede what is needed.
@@ -70,17 +70,17 @@ pub(crate) fn numbered(
     alloc: Global,
     ids: &IdList,
     superseded: &[(Id, Id)],
-    wants: &[Want],
+    stated: &[Need],
     eligible: Vec<bool>,
-) -> Result<System, AllocError>
+) -> Result<Problem, AllocError>
     requires fits { length ids.now < 2 ^ 32 }
     requires by { All (λ p. Contains ids.now p.0) superseded.now }
-    requires within { All (λ w. Contains ids.now w.of) wants.now }
+    requires within { All (λ w. Contains ids.now w.of) stated.now }
     requires flags { length eligible.items ≡ length ids.now }
-    ensures valid { IfOk result (λ system. IsProblem system) }
-    ensures problem { IfOk result (λ system. HasProblem ids.now superseded.now eligible.items wants.now system) }
+    ensures valid { IfOk result (λ problem. IsProblem problem) }
+    ensures problem { IfOk result (λ problem. HasProblem ids.now superseded.now eligible.items stated.now problem) }
 {
     let served = served(alloc, ids, superseded)?;
-    let system = with_wants(alloc, ids, &served, wants, eligible)?;
-    Ok(system)
+    let problem = with_needs(alloc, ids, &served, stated, eligible)?;
+    Ok(problem)
 }

@@ -2,6 +2,7 @@
 ghost use Rattle.std.specs.Prelude.{◌≡◌, ◌↔◌, IsSome, IfSome, ◌≤◌, IsTrue};
 ghost use Rattle.terms.specs.Forms.{IsDottedDate, dotted_date, last_digit};
 
+use crate::attest::Attest;
 use crate::forms::{are_digits, is_day};
 use crate::lists::Field;
 use crate::padded::Short;
@@ -30,6 +31,16 @@ impl Field for YyDdd {
     ghost use Rattle.std.proofs.lemmas.Map.Lookups.{exact_bytes};
 
     ghost exact = { exact_bytes };
+}
+
+impl Attest for YyDdd {
+    ghost use Rattle.terms.specs.Forms.{IsDottedDate};
+
+    ghost form = { IsDottedDate };
+
+    fn attest(&self) {
+        let _ = self.as_bytes();
+    }
 }
 
 impl YyDdd {

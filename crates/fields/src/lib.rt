@@ -4,6 +4,8 @@
 #![tactic(auto)]
 
 mod attest;
+mod bypass;
+mod choices;
 mod dates;
 mod forms;
 mod holds;
@@ -14,6 +16,8 @@ mod padded;
 pub mod spelling;
 
 pub use attest::Attest;
+pub use bypass::{Bypass, Reasons};
+pub use choices::{ReceiveWhat, RestoreList, Selection};
 pub use dates::YyDdd;
 pub use holds::{HoldDate, Reason};
 pub use ids::{Class, Id, Source};

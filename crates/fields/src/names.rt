@@ -2,6 +2,7 @@
 ghost use Rattle.std.specs.Prelude.{◌≡◌, ◌↔◌, IsSome, IfSome, IsTrue, codes};
 ghost use Rattle.terms.specs.Forms.{IsName, IsZoneName, IsSrel};
 
+use crate::attest::Attest;
 use crate::forms::{are_digits, is_digit, is_letter, is_run};
 use crate::lists::Field;
 use crate::padded::Short;
@@ -80,6 +81,16 @@ impl Field for ZoneName {
     ghost exact = { exact_bytes };
 }
 
+impl Attest for ZoneName {
+    ghost use Rattle.terms.specs.Forms.{IsZoneName};
+
+    ghost form = { IsZoneName };
+
+    fn attest(&self) {
+        let _ = self.as_bytes();
+    }
+}
+
 impl ZoneName {
     /// The value of this text, where it has the form.
     pub fn read(text: &[u8]) -> Option<ZoneName>
@@ -133,6 +144,16 @@ impl Field for Srel {
     ghost use Rattle.std.proofs.lemmas.Map.Lookups.{exact_bytes};
 
     ghost exact = { exact_bytes };
+}
+
+impl Attest for Srel {
+    ghost use Rattle.terms.specs.Forms.{IsSrel};
+
+    ghost form = { IsSrel };
+
+    fn attest(&self) {
+        let _ = self.as_bytes();
+    }
 }
 
 impl Srel {

@@ -9,7 +9,7 @@ use Rattle.terms.specs.Tests.{Setting}
 use Rattle.terms.specs.Needs.{Needs, asked, orphans, is_bypassed, is_met, zone_left}
 use Rattle.zones_views.specs.declared.scope.Scope.{Scope}
 use Rattle.zones_views.specs.Scopes.{setting_with, setting_of}
-use Rattle.judge_needs.specs.Wanted.{IsOpen}
+use Rattle.judge_needs.specs.Needed.{IsOpen}
 
 module _ (scope : Scope) (related : Option Zone) where
   abbrev s : Setting

@@ -14,10 +14,10 @@ use Rattle.terms.specs.Tests.{Setting, Fails, FailsAlone, IsEligible, AreSurvivo
 use Rattle.terms.specs.Failures.{all_tests}
 use Rattle.zones_views.specs.declared.scope.Scope.{Scope}
 use Rattle.zones_views.specs.Scopes.{setting_with, setting_of}
-use Rattle.decide.specs.declared.wants.Want.{Want}
+use Rattle.decide.specs.declared.stated.Need.{Need}
 use Rattle.decide.specs.Said.{AreTests}
 use Rattle.judge_faults.specs.Failed.{AreFailedTests}
-use Rattle.judge_needs.specs.Wanted.{AreNeeds}
+use Rattle.judge_needs.specs.Needed.{AreNeeds}
 use Rattle.judge_needs.specs.Pairs.{AreSuperseded}
 use Rattle.judge.specs.InstallJudged.{IsInstallJudged}
 use Rattle.judge.proofs.Needed.{needs_open}
@@ -79,28 +79,28 @@ module _ (scope : Scope) (related : Option Zone) where
   s = setting_with scope related
 
   pub install_judged : (survivors : List Id) → AreSurvivors s survivors → (rows : List (List Test))
-      → AreFailedTests s rows → (wants : List Want) → AreNeeds (setting_of scope) survivors wants
+      → AreFailedTests s rows → (needs : List Need) → AreNeeds (setting_of scope) survivors needs
       → (superseded : List (Id × Id)) → AreSuperseded s.choice s.cands superseded
-      → IsInstallJudged s rows wants superseded
-  install_judged survivors are rows failed wants needs superseded over = record {
+      → IsInstallJudged s rows needs superseded
+  install_judged survivors are rows failed needs are_needs superseded over = record {
     survivors = survivors;
     are_survivors = are;
     are_judged = record {
       fails = failed.fails;
       tests_are = tests_are s rows failed;
       of = λ k d below.
-          let v = get_or wants k d in
-          ((needs.members v.of v.kind v.id).0 (Contains-get_or wants k d below)).0;
-      once = needs.once;
+          let v = get_or needs k d in
+          ((are_needs.members v.of v.kind v.id).0 (Contains-get_or needs k d below)).0;
+      once = are_needs.once;
       by = λ k d below.
           let p = get_or superseded k d in
           ((over p.0 p.1).0 (Contains-get_or superseded k d below)).0;
       said = record {
         fails = λ x t own. let at = found_at s.cands x own in failed.failed at.0 x at.1 t;
         eligible = eligible_is s;
-        wants = λ x z kind own.
+        needs = λ x z kind own.
             let open_is = needs_open scope related survivors x kind z own in
-            let member = needs.members x kind z in (
+            let member = are_needs.members x kind z in (
               λ there. open_is.1 (member.0 there).1,
               λ need. member.1 (own, open_is.0 need),
             );

@@ -8,10 +8,10 @@ ghost use Rattle.judge.specs.InstallJudged.{IsInstallJudged};
 ghost use Rattle.zones_views.specs.Scopes.{choice_of, global_of, setting_with};
 
 use crate::surviving::survivors;
-use decide::Want;
+use decide::Need;
 use fields::Id;
 use judge_faults::{Tested, test_all};
-use judge_needs::{bypassed_pairs, superseded_pairs, wants_of};
+use judge_needs::{bypassed_pairs, needs_of, superseded_pairs};
 use std::alloc::{AllocError, Global};
 use sysmods::Overs;
 use terms::Test;
@@ -24,7 +24,7 @@ use zones_views::Scope;
 #[derive(Drop)]
 pub struct Judged<'a, 'b> {
     pub tests: Vec<Vec<Test>>,
-    pub wants: Vec<Want>,
+    pub needs: Vec<Need>,
     pub superseded: Vec<(Id, Id)>,
     pub bypassed: Vec<(Id, Id)>,
     pub overs: Overs<'a, 'b>,
@@ -39,7 +39,7 @@ pub fn judge_install<'a, 'b>(
 ) -> Result<Judged<'a, 'b>, AllocError>
     requires { All (λ x. IsTrue (is_installable (global_of scope.now) scope.now.zone.now x)) scope.now.ids.now }
     ensures judged { IfOk result (λ j. IsInstallJudged (setting_with scope.now (option_copied related.entry))
-        (map (λ row. row.items) j.tests.items) j.wants.items j.superseded.items) }
+        (map (λ row. row.items) j.tests.items) j.needs.items j.superseded.items) }
     ensures superseded { IfOk result (λ j. (x z : AnId) → Contains {X = AnId × AnId} j.superseded.items (x, z)
         ↔ (Contains scope.now.ids.now x × Supersedes (choice_of scope.now) x z)) }
     ensures bypassed { IfOk result (λ j. (x z : AnId) → Contains {X = AnId × AnId} j.bypassed.items (x, z)
@@ -49,12 +49,12 @@ pub fn judge_install<'a, 'b>(
 {
     let Tested { tests, overs } = test_all(alloc, scope, related)?;
     let survivors = survivors(alloc, scope.ids, tests.as_slice())?;
-    let wants = wants_of(alloc, scope, &survivors)?;
+    let needs = needs_of(alloc, scope, &survivors)?;
     let superseded = superseded_pairs(alloc, scope.vers, scope.ids)?;
     let bypassed = bypassed_pairs(alloc, scope)?;
     Ok(Judged {
         tests,
-        wants,
+        needs,
         superseded,
         bypassed,
         overs,

@@ -1,7 +1,7 @@
 -- What candidates fail by themselves: those of J1 to J8 and J13 that their faults say.
 use Rattle.std.proofs.Common.{◌≡◌, ◌≢◌, Bool, true, false, not, List, [], ◌∷◌, Option, None, Some, IsTrue}
 use Rattle.std.proofs.Common.{refl, sym, ap, ◌∙◌, subst, true≢false, filter, find, Contains}
-use Rattle.std.specs.Prelude.{◌↔◌, ◌==◌, ◌&&◌, is_some}
+use Rattle.std.specs.Prelude.{◌↔◌, ◌&&◌, is_some}
 use Rattle.std.specs.List.{list_any}
 use Rattle.std.specs.Option.{option_map_or}
 use Rattle.std.specs.Str.{bytes_eq}
@@ -14,7 +14,7 @@ use Rattle.terms.specs.declared.kinds.ZoneKind.{ZoneKind}
 use Rattle.terms.specs.declared.kinds.ZoneKind.TheVariants.{Target, Distribution}
 use Rattle.terms.specs.declared.codes.Test.{Test}
 use Rattle.terms.specs.declared.codes.Test.TheVariants.{J1, J2, J3, J4, J5, J6, J7, J8, J9, J10, J11, J12, J13}
-use Rattle.terms.specs.Types.{Text, Id, Change, Element, Global, Zone, zone_number}
+use Rattle.terms.specs.Types.{Text, Id, Change, Element, Global, Zone, is_distribution}
 use Rattle.terms.specs.Lookups.{change_key, changes_of, change_of, element_cmp, element_of, holds_of}
 use Rattle.terms.specs.Lookups.{is_applied}
 use Rattle.terms.specs.Rising.{Rises}
@@ -72,7 +72,7 @@ change_own g is_global x h of =
     (Splits_around element_cmp_total change_key (change_key h) p.0 p.1 h
     (subst (Rises element_cmp change_key) p.2 (changes_rise g x is_global)) tie) tie
 
-distribution_from : (k : ZoneKind) → (zone_number k == 1) ≡ true → k ≡ Distribution
+distribution_from : (k : ZoneKind) → is_distribution k ≡ true → k ≡ Distribution
 distribution_from Target e = absurd (true≢false (sym e))
 distribution_from Distribution e = refl
 
@@ -215,16 +215,16 @@ module _ (s : Setting) (is_global : IsGlobal s.global) where
       seven : IsTrue a.unapplied ↔ FailsJ7 s x
       seven = (
         λ unapplied.
-            let p = and_parts ((zone_number s.zone.kind == 1) && not s.bypass.applycheck)
+            let p = and_parts (is_distribution s.zone.kind && not s.bypass.applycheck)
             (not (has_applied s.related x)) (sym own.unapplied ∙ unapplied) in
-            let q = and_parts (zone_number s.zone.kind == 1) (not s.bypass.applycheck) p.0 in (
+            let q = and_parts (is_distribution s.zone.kind) (not s.bypass.applycheck) p.0 in (
               distribution_from s.zone.kind q.0,
               not-true s.bypass.applycheck q.1,
               not-true (has_applied s.related x) p.1,
             ),
         λ fails.
             own.unapplied
-            ∙ ap (λ k. (zone_number k == 1) && not s.bypass.applycheck && not (has_applied s.related x)) fails.0
+            ∙ ap (λ k. is_distribution k && not s.bypass.applycheck && not (has_applied s.related x)) fails.0
             ∙ ap (λ b. not b && not (has_applied s.related x)) fails.1
             ∙ ap not fails.2,
       )

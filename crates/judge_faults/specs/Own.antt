@@ -1,12 +1,12 @@
 -- What a candidate fails by itself, as the code tests it.
-use Rattle.std.specs.Prelude.{◌≡◌, ◌↔◌, ◌==◌, ◌&&◌, Bool, false, not, List, ◌∷◌, Any, IsTrue, IsFalse, Option, Some}
+use Rattle.std.specs.Prelude.{◌≡◌, ◌↔◌, ◌&&◌, Bool, false, not, List, ◌∷◌, Any, IsTrue, IsFalse, Option, Some}
 use Rattle.std.specs.Prelude.{is_some}
 use Rattle.std.specs.List.{list_any}
 use Rattle.std.specs.Option.{option_map_or}
 use Rattle.std.specs.Str.{bytes_eq}
 use Rattle.terms.specs.declared.kinds.HoldKind.{HoldKind}
 use Rattle.terms.specs.declared.kinds.HoldKind.TheVariants.{System, User}
-use Rattle.terms.specs.Types.{Id, Change, Element, Global, Zone, zone_number}
+use Rattle.terms.specs.Types.{Id, Change, Element, Global, Zone, is_distribution}
 use Rattle.terms.specs.Lookups.{changes_of, element_of, holds_of, is_applied, is_in}
 use Rattle.terms.specs.Choice.{Choice, fmid_of}
 use Rattle.terms.specs.Over.{IsOver}
@@ -46,7 +46,7 @@ is_bare_at g zone cands fmid h =
 -- whether x is accepted, and no related target zone has it applied
 abbrev pub is_unapplied : Setting → Id → Bool
 is_unapplied s x =
-    (zone_number s.zone.kind == 1) && not s.bypass.applycheck
+    is_distribution s.zone.kind && not s.bypass.applycheck
     && not (option_map_or (λ target. is_applied target x) s.related false)
 
 -- J1 to J7 and J13, each as the code tests it

@@ -8,8 +8,8 @@ ghost use Rattle.judge_faults.specs.Claims.{a_claim, AreClaims, AreGrouped};
 use crate::own::{OwnFaults, changes_of, own_at};
 use fields::{Id, Name};
 use std::alloc::{AllocError, Global};
+use sysmod::ElemChange;
 use sysmods::GlobalZone;
-use sysmods_records::ElemChange;
 use terms::ElemType;
 
 /// A candidate, with its place, changes an element.

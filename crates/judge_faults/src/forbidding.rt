@@ -1,5 +1,5 @@
 //! J9: which candidates clash with another one, by an element that they share or by NPRE.
-ghost use Rattle.std.specs.Prelude.{◌≡◌, ◌↔◌, ◌<◌, ◌^◌, ℕ, Some, IsTrue, length, slice_get, OnOk, IfOk};
+ghost use Rattle.std.specs.Prelude.{◌≡◌, ◌↔◌, ◌<◌, ◌^◌, ℕ, Some, length, slice_get, OnOk, IfOk};
 ghost use Rattle.terms.specs.Lookups.{IsRising};
 ghost use Rattle.sysmods.specs.Choices.{choice};
 ghost use Rattle.judge_faults.specs.Claims.{PassesAt};
@@ -45,12 +45,6 @@ fn passing_place(ids: &[Id], faults: &[OwnFaults], id: Id) -> Option<usize>
     Some(place)
 }
 
-fn is_same(x: Id, y: Id) -> bool
-    ensures { IsTrue result ↔ (x ≡ y) }
-{
-    x == y
-}
-
 // Marks a candidate and this one that it names, if that is another one and passes by itself.
 fn mark_named(
     ids: &[Id],
@@ -65,7 +59,7 @@ fn mark_named(
     requires fits { length ids.now < 2 ^ 32 }
     ensures { OnOk result (Marks (IsOfNamed ids.now faults.now place id named) marked.old.keys marked.new.keys) }
 {
-    if is_same(id, named) {
+    if id == named {
         return Ok(());
     }
     let Some(other) = passing_place(ids, faults, named) else {

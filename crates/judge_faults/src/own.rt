@@ -4,7 +4,7 @@ ghost use Rattle.std.specs.Prelude.{[], filter, length, slice_get, option_copied
 ghost use Rattle.std.specs.Str.{bytes_eq};
 ghost use Rattle.std.specs.List.{list_any};
 ghost use Rattle.std.specs.Option.{option_map_or};
-ghost use Rattle.terms.specs.Types.{zone_number};
+ghost use Rattle.terms.specs.Types.{is_distribution};
 ghost use Rattle.terms.specs.Lookups.{changes_of, holds_of, is_applied, is_in, sysmod_of};
 ghost use Rattle.terms.specs.Choice.{fits};
 ghost use Rattle.terms.specs.Tests.{FailsJ13, is_bypassed_hold};
@@ -18,11 +18,10 @@ ghost use Rattle.judge_faults.specs.Views.{seen};
 use crate::elements::{has_bare_update, is_foreign, is_lower_somewhere};
 use crate::forbidden::{Forbidders, forbidders, is_forbidden};
 use crate::view::View;
-use cntl::Bypass;
-use fields::{Id, IdList};
+use fields::{Bypass, Id, IdList};
 use std::alloc::{AllocError, Global};
+use sysmod::{ElemChange, Ver};
 use sysmods::{GlobalZone, Overs};
-use sysmods_records::{ElemChange, Ver};
 use terms::{HoldKind, ZoneKind};
 use zones::Zone;
 use zones_views::{Scope, fits, is_bypassed_hold, view_deletions};
@@ -116,7 +115,7 @@ fn has_applied(related: Option<&Zone>, id: Id) -> bool
 
 // Whether it is accepted and no related target zone has it applied. BYPASS(APPLYCHECK) does not ask.
 fn is_unapplied(zone: &Zone, related: Option<&Zone>, bypass: &Bypass, id: Id) -> bool
-    ensures { result ≡ ((zone_number zone.now.kind == 1) && not bypass.now.applycheck && not
+    ensures { result ≡ (is_distribution zone.now.kind && not bypass.now.applycheck && not
         (option_map_or (λ target. is_applied target id) (option_copied related.entry) false)) }
 {
     zone.kind() == ZoneKind::Distribution && !bypass.applycheck && !has_applied(related, id)

@@ -2,4 +2,4 @@ pub mod Growing
 pub mod Paired
 pub mod Errors
 pub mod Stating
-pub mod Wants
+pub mod AllNeeds

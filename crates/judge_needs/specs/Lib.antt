@@ -1,4 +1,4 @@
 pub mod Left
 pub mod Conditions
-pub mod Wanted
+pub mod Needed
 pub mod Pairs

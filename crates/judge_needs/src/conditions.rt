@@ -13,7 +13,7 @@ use crate::left::Left;
 use crate::stated::{Stated, append_stated};
 use fields::{Attest, Id, IdList};
 use std::alloc::{AllocError, Global};
-use sysmods_records::IfReq;
+use sysmod::IfReq;
 use zones_views::{Scope, view_deletions};
 
 fn append_if_there(

@@ -4,7 +4,7 @@ ghost use Rattle.terms.specs.Needs.{is_met};
 ghost use Rattle.terms.specs.Lookups.{is_applied};
 ghost use Rattle.judge_needs.specs.Conditions.{is_there};
 ghost use Rattle.judge_needs.specs.Left.{left_of};
-ghost use Rattle.judge_needs.specs.Wanted.{is_open};
+ghost use Rattle.judge_needs.specs.Needed.{is_open};
 
 use fields::Id;
 use terms::NeedKind;

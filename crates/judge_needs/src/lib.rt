@@ -1,5 +1,5 @@
 //! What each candidate of an APPLY or ACCEPT needs, and whom it supersedes.
-//! For candidates of which these survive, `wants_of` answers what each one needs, `superseded_pairs` whom each one
+//! For candidates of which these survive, `needs_of` answers what each one needs, `superseded_pairs` whom each one
 //! supersedes, and `bypassed_pairs` the requisites that BYPASS covers. What applied SYSMODs state in their `++IF`s is
 //! gathered in one pass over the zone. Seen in the code alone: what survivors leave of the zone is no copy but a list
 //! of deletions beside it.
@@ -8,11 +8,11 @@
 mod bypassed;
 mod conditions;
 mod left;
+mod needed;
 mod reasons;
 mod stated;
 mod superseded;
-mod wanted;
 
 pub use bypassed::bypassed_pairs;
+pub use needed::needs_of;
 pub use superseded::superseded_pairs;
-pub use wanted::wants_of;

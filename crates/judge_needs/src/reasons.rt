@@ -6,10 +6,9 @@ ghost use Rattle.terms.specs.Lookups.{holds_of};
 ghost use Rattle.terms.specs.Tests.{is_bypassed_hold};
 ghost use Rattle.zones_views.specs.Scopes.{global_of};
 
-use cntl::Bypass;
-use fields::{Id, IdList};
+use fields::{Bypass, Id, IdList};
 use std::alloc::{AllocError, Global};
-use sysmods_records::Hold;
+use sysmod::Hold;
 use terms::HoldKind;
 use zones_views::{Scope, is_bypassed_hold};
 

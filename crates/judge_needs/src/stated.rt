@@ -12,7 +12,7 @@ use fields::Id;
 use sorted::lists::{Lists, add, listed};
 use std::alloc::{AllocError, Global};
 use std::collections::BTreeMap;
-use sysmods_records::IfReq;
+use sysmod::IfReq;
 use zones::Entry;
 use zones_views::Scope;
 

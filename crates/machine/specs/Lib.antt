@@ -1,4 +1,5 @@
 pub mod Errsysmods
+pub mod FactText
 pub mod Installing
 pub mod Machine
 pub mod Outcome

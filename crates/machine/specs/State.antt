@@ -10,7 +10,7 @@ use Rattle.std.specs.Ordering.{nat_cmp}
 use Rattle.terms.specs.declared.kinds.ZoneKind.{ZoneKind}
 use Rattle.terms.specs.declared.kinds.ZoneKind.TheVariants.{Target, Distribution}
 use Rattle.terms.specs.Types.{Text, zone_number, Global, Zone, a_zone, NamedZone, Command, Set, Receive, Reject, Apply}
-use Rattle.terms.specs.Types.{Accept, Restore, ListZone, Report}
+use Rattle.terms.specs.Types.{Accept, Restore, ListZone, Report, is_distribution}
 use Rattle.terms.specs.Rising.{with_item}
 use Rattle.machine.specs.Outcome.{Refusal, Cm1, Cm2, Cm3}
 
@@ -89,7 +89,7 @@ is_related zones name = list_any (λ z. option_map_or (bytes_eq name) z.zone.rel
 -- whether it is a distribution zone to which no target zone is related
 abbrev pub is_free : List NamedZone → Text → Bool
 is_free zones name =
-    option_map_or (λ z. zone_number z.kind == zone_number Distribution) (zone_named zones name) false
+    option_map_or (λ z. is_distribution z.kind) (zone_named zones name) false
     && not (is_related zones name)
 
 -- whether the related zone is as the kind asks: a free distribution zone for a target zone, and none for a distribution

@@ -10,7 +10,7 @@ use Rattle.terms.specs.Ptfin.{Begun, sysmod_in, HasValue}
 use Rattle.operands.specs.declared.errors.OperandError.{OperandError}
 use Rattle.operands.specs.declared.errors.OperandError.TheVariants.{Memory, Bad}
 use Rattle.operands.specs.Failing.{Excludes}
-use Rattle.mcs_statements.specs.Faults.{value_error}
+use Rattle.mcs.specs.Faults.{value_error}
 use Rattle.mcs.specs.Said.{IsSaid, IsSaidError}
 use Rattle.mcs.proofs.Saying.{assign_excludes}
 

@@ -16,8 +16,8 @@ use Rattle.terms.specs.Texts.{IsNumbered, IsReplacement, IsActionOf, IsUpdate, I
 use Rattle.terms.specs.Statements.{changed_type, Statement, SaysChange, HasAction, IsChangeOf}
 use Rattle.terms.specs.Ptfin.{Begun, sysmod_in, IsUpdateWord, HasValue, IsWithin}
 use Rattle.terms.proofs.Updates.{numbered_no_fault, update_no_fault}
-use Rattle.mcs_statements.specs.declared.fault.StatementError.{StatementError}
-use Rattle.mcs_statements.specs.declared.fault.StatementError.TheVariants.{Memory, Fault}
+use Rattle.mcs.specs.declared.fault.StatementError.{StatementError}
+use Rattle.mcs.specs.declared.fault.StatementError.TheVariants.{Memory, Fault}
 use Rattle.mcs.specs.Elements.{HasNames, IsTextError, IsUpdateTextError}
 use Rattle.mcs.specs.Said.{IsSaidFault, IsSaidError}
 use Rattle.mcs.proofs.Saying.{change_excludes}

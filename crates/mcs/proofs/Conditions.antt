@@ -15,7 +15,7 @@ use Rattle.terms.proofs.ExactWords.{words_only}
 use Rattle.operands.specs.declared.errors.OperandError.{OperandError}
 use Rattle.operands.specs.declared.errors.OperandError.TheVariants.{Memory, Bad}
 use Rattle.operands.specs.Failing.{Excludes}
-use Rattle.mcs_statements.specs.Faults.{value_error}
+use Rattle.mcs.specs.Faults.{value_error}
 use Rattle.mcs.specs.Said.{IsSaid, IsSaidError}
 use Rattle.mcs.proofs.Saying.{if_excludes}
 

@@ -13,11 +13,11 @@ use Rattle.terms.specs.Statements.{IsOwnHoldOf}
 use Rattle.terms.specs.Ptfin.{Begun, sysmod_in, with_if_at, with_if, SoFar, nothing, after, IsGoodStatement}
 use Rattle.terms.specs.Ptfin.{IsStatementFault, BeginsWithStatements, IsPtfin}
 use Rattle.terms.proofs.ExactPtfin.{ptfin_fault_no_items}
-use Rattle.mcs_statements.specs.declared.fault.StatementError.{StatementError}
-use Rattle.mcs_statements.specs.declared.fault.StatementError.TheVariants as statement
-use Rattle.mcs_statements.specs.Files.{error_at, IsFileError}
-use Rattle.mcs_statements.specs.declared.error.McsError.{McsError}
-use Rattle.mcs_statements.specs.declared.error.McsError.TheVariants.{Memory, Fault}
+use Rattle.mcs.specs.declared.fault.StatementError.{StatementError}
+use Rattle.mcs.specs.declared.fault.StatementError.TheVariants as statement
+use Rattle.mcs.specs.FileFaults.{error_at, IsFileError}
+use Rattle.mcs.specs.declared.error.McsError.{McsError}
+use Rattle.mcs.specs.declared.error.McsError.TheVariants.{Memory, Fault}
 use Rattle.mcs.specs.Files.{Suits, IsPtfinError, IsRestError}
 use Rattle.mcs.specs.Said.{IsStatementError}
 

@@ -10,11 +10,11 @@ use Rattle.terms.specs.Groups.{Group, TakesGroup}
 use Rattle.terms.specs.HoldFile.{IsGoodItem, IsItemFault, BeginsWithItems, IsHoldFile}
 use Rattle.terms.proofs.ExactHoldFile.{hold_file_fault_no_items}
 use Rattle.lemmas.proofs.Each.{All_front, All_back}
-use Rattle.mcs_statements.specs.declared.fault.StatementError.{StatementError}
-use Rattle.mcs_statements.specs.declared.fault.StatementError.TheVariants as statement
-use Rattle.mcs_statements.specs.Files.{error_at, IsFileError}
-use Rattle.mcs_statements.specs.declared.error.McsError.{McsError}
-use Rattle.mcs_statements.specs.declared.error.McsError.TheVariants.{Memory, Fault}
+use Rattle.mcs.specs.declared.fault.StatementError.{StatementError}
+use Rattle.mcs.specs.declared.fault.StatementError.TheVariants as statement
+use Rattle.mcs.specs.FileFaults.{error_at, IsFileError}
+use Rattle.mcs.specs.declared.error.McsError.{McsError}
+use Rattle.mcs.specs.declared.error.McsError.TheVariants.{Memory, Fault}
 use Rattle.mcs.specs.declared.hold_item.HoldItem.{HoldItem}
 use Rattle.mcs.specs.HoldItems.{item_of, items, IsHoldFileError, IsItemError, IsRestError}
 

@@ -14,9 +14,9 @@ use Rattle.terms.specs.Ptfin.{IsKnown}
 use Rattle.operands.specs.declared.errors.OperandError.{OperandError}
 use Rattle.operands.specs.declared.errors.OperandError.TheVariants as operand
 use Rattle.operands.specs.Failing.{Excludes}
-use Rattle.mcs_statements.specs.declared.fault.StatementError.{StatementError}
-use Rattle.mcs_statements.specs.declared.fault.StatementError.TheVariants.{Memory, Fault}
-use Rattle.mcs_statements.specs.Faults.{value_error}
+use Rattle.mcs.specs.declared.fault.StatementError.{StatementError}
+use Rattle.mcs.specs.declared.fault.StatementError.TheVariants.{Memory, Fault}
+use Rattle.mcs.specs.Faults.{value_error}
 use Rattle.mcs.specs.declared.hold_item.HoldItem.{HoldItem}
 use Rattle.mcs.specs.HoldItems.{item_of, IsSaid, IsSaidError, IsItemError}
 

@@ -10,8 +10,8 @@ use Rattle.terms.specs.Statement.{Piece}
 use Rattle.terms.specs.Ptfin.{Begun, sysmod_in, MayStand, IsKnown, IsPlaced, IsMisplaced, Disorder, CannotStand}
 use Rattle.terms.specs.Ptfin.{IsGoodStatement}
 use Rattle.mcs.specs.declared.said.Statement.{Statement as Read}
-use Rattle.mcs_statements.specs.declared.fault.StatementError.{StatementError}
-use Rattle.mcs_statements.specs.declared.fault.StatementError.TheVariants.{Memory, Fault}
+use Rattle.mcs.specs.declared.fault.StatementError.{StatementError}
+use Rattle.mcs.specs.declared.fault.StatementError.TheVariants.{Memory, Fault}
 use Rattle.mcs.specs.Said.{IsSaid, IsSaidError, IsStatementError}
 use Rattle.mcs.specs.Statements.{statement_of}
 

@@ -1,3 +1,10 @@
+pub mod Beginning
+pub mod Remaining
+pub mod Finding
+pub mod KindWords
+pub mod Printables
+pub mod Trimming
+pub mod HoldKeys
 pub mod Ordering
 pub mod NotNaming
 pub mod Saying

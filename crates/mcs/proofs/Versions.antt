@@ -17,7 +17,7 @@ use Rattle.operands.specs.declared.errors.OperandError.TheVariants.{Memory, Bad}
 use Rattle.operands.specs.Failing.{Excludes}
 use Rattle.mcs.specs.VerOperands.{HasLists}
 use Rattle.mcs.specs.Said.{IsSaid, IsSaidError}
-use Rattle.mcs_statements.specs.Faults.{value_error}
+use Rattle.mcs.specs.Faults.{value_error}
 use Rattle.mcs.proofs.Saying.{ver_excludes}
 
 -- the operands of a ++VER, before any is compared with the SYSMOD

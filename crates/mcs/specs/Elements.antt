@@ -7,8 +7,8 @@ use Rattle.terms.specs.Forms.{IsName}
 use Rattle.terms.specs.Words.{Word}
 use Rattle.terms.specs.Operands.{operand, AreOperands, HasOwn, HasRequired}
 use Rattle.terms.specs.Texts.{IsReplacement, IsUpdate}
-use Rattle.mcs_statements.specs.declared.fault.StatementError.{StatementError}
-use Rattle.mcs_statements.specs.declared.fault.StatementError.TheVariants.{Memory, Fault}
+use Rattle.mcs.specs.declared.fault.StatementError.{StatementError}
+use Rattle.mcs.specs.declared.fault.StatementError.TheVariants.{Memory, Fault}
 
 -- DISTLIB and SYSLIB alone, and these names
 pub record HasNames (own : Option Text) (ws : List Word) (element distlib syslib : Text) : Type 0 where

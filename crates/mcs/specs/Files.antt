@@ -10,8 +10,8 @@ use Rattle.mcs.specs.declared.file.Item.{Item}
 use Rattle.mcs.specs.declared.file.Item.TheVariants.{Sysmod, Assign}
 use Rattle.mcs.specs.declared.file.Begun.{Begun}
 use Rattle.mcs.specs.declared.file.SoFar.{SoFar}
-use Rattle.mcs_statements.specs.declared.error.McsError.{McsError}
-use Rattle.mcs_statements.specs.declared.error.McsError.TheVariants.{Memory, Fault}
+use Rattle.mcs.specs.declared.error.McsError.{McsError}
+use Rattle.mcs.specs.declared.error.McsError.TheVariants.{Memory, Fault}
 
 abbrev pub item_of : Item → terms.Item
 item_of (Sysmod s) = terms.ASysmod s

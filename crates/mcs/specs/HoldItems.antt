@@ -7,10 +7,10 @@ use Rattle.terms.specs.Types as terms
 use Rattle.terms.specs.Types.{Text, Lines}
 use Rattle.terms.specs.Statement.{Piece}
 use Rattle.terms.specs.HoldFile.{HasItem, IsWithin, IsItemFault, BeginsWithItems, IsNextItemFault, IsHoldFileFault}
-use Rattle.mcs_statements.specs.declared.error.McsError.{McsError}
-use Rattle.mcs_statements.specs.declared.error.McsError.TheVariants as file
-use Rattle.mcs_statements.specs.declared.fault.StatementError.{StatementError}
-use Rattle.mcs_statements.specs.declared.fault.StatementError.TheVariants.{Memory, Fault}
+use Rattle.mcs.specs.declared.error.McsError.{McsError}
+use Rattle.mcs.specs.declared.error.McsError.TheVariants as file
+use Rattle.mcs.specs.declared.fault.StatementError.{StatementError}
+use Rattle.mcs.specs.declared.fault.StatementError.TheVariants.{Memory, Fault}
 use Rattle.mcs.specs.declared.hold_item.HoldItem.{HoldItem}
 use Rattle.mcs.specs.declared.hold_item.HoldItem.TheVariants.{Hold, Release}
 

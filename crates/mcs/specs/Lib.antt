@@ -1,3 +1,9 @@
+pub mod Forms
+pub mod KnownWords
+pub mod Faults
+pub mod Holds
+pub mod Trimmed
+pub mod FileFaults
 pub mod Said
 pub mod Statements
 pub mod Elements

@@ -8,15 +8,15 @@ use Rattle.terms.specs.Statement.{Piece, HasSolid}
 use Rattle.terms.specs.Statements.{Statement}
 use Rattle.terms.specs.Ptfin.{Begun, sysmod_in, HasValue, IsWithin, HasGoodText, IsStatementFault}
 use Rattle.rec80.specs.Views.{left_of}
-use Rattle.mcs_statements.specs.declared.begin.Known.{Known}
-use Rattle.mcs_statements.specs.KnownWords.{own_list}
-use Rattle.mcs_statements.specs.Holds.{ArePrintable}
+use Rattle.mcs.specs.declared.begin.Known.{Known}
+use Rattle.mcs.specs.KnownWords.{own_list}
+use Rattle.mcs.specs.Holds.{ArePrintable}
 use Rattle.mcs.specs.declared.file.Begun as file
 use Rattle.mcs.specs.declared.said.Statement.{Statement as Said}
 use Rattle.mcs.specs.Files.{begun_in}
 use Rattle.mcs.specs.Statements.{statement_of}
-use Rattle.mcs_statements.specs.declared.fault.StatementError.{StatementError}
-use Rattle.mcs_statements.specs.declared.fault.StatementError.TheVariants.{Memory, Fault}
+use Rattle.mcs.specs.declared.fault.StatementError.{StatementError}
+use Rattle.mcs.specs.declared.fault.StatementError.TheVariants.{Memory, Fault}
 
 -- The statement says so, within its limits and with a good text.
 pub record IsSaid (current : Option Begun) (w : StatementWord) (own : Option Text) (rest : List Piece) (inline : Lines)

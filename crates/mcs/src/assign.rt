@@ -10,16 +10,18 @@ ghost use Rattle.terms.specs.Statements.{IsAssignOf};
 ghost use Rattle.operands.specs.Left.{LeavesWords};
 ghost use Rattle.operands.specs.Failing.{Excludes};
 ghost use Rattle.rec80.specs.Views.{left_of};
-ghost use Rattle.mcs_statements.specs.KnownWords.{own_list};
+ghost use Rattle.mcs.specs.KnownWords.{own_list};
 ghost use Rattle.mcs.specs.Said.{Says, Fails};
 
+use crate::begin::Known;
+use crate::fault::{StatementError, no_value};
 use crate::file::{Assign, Begun};
 use crate::said::Statement;
-use mcs_statements::{Known, StatementError, are_operands, no_value};
+use crate::values::are_operands;
+use fields::{Id, Source};
 use operands::{OperandError, listed_ids, operand, required};
 use rec80::Words;
 use std::alloc::Global;
-use sysmods_records::{Id, Source};
 use terms::McCode;
 
 /// The operands of `++ASSIGN`.

@@ -7,20 +7,23 @@ ghost use Rattle.terms.specs.Words as grammar;
 ghost use Rattle.terms.specs.Statement.{Piece, HasSolid};
 ghost use Rattle.terms.specs.Texts.{IsReplacement, IsUpdate};
 ghost use Rattle.rec80.specs.Views.{left_of};
-ghost use Rattle.mcs_statements.specs.KnownWords.{own_list};
+ghost use Rattle.mcs.specs.KnownWords.{own_list};
 ghost use Rattle.mcs.specs.Elements.{HasNames, IsTextError, IsUpdateTextError};
 ghost use Rattle.mcs.specs.Files.{begun_in};
 ghost use Rattle.mcs.specs.Said.{Says, Fails};
 
+use crate::begin::Known;
 use crate::ended::is_ended;
+use crate::fault::StatementError;
 use crate::file::Begun;
 use crate::said::Statement;
-use mcs_statements::{Known, StatementError, are_operands};
+use crate::values::are_operands;
+use fields::Name;
 use operands::{one, required};
 use rec80::Record;
 use std::alloc::{AllocError, Global};
-use sysmods_records::{Action, ElemChange, ElemType, Name};
-use terms::McCode;
+use sysmod::{Action, ElemChange};
+use terms::{ElemType, McCode};
 use text80::{Line, Numbered, TextError, Update};
 
 /// The operands of a replacement.

@@ -8,9 +8,10 @@ ghost use Rattle.mcs.specs.Statements.{statement_of};
 ghost use Rattle.mcs.specs.Files.{Suits, begun_in, so_far, items};
 
 use crate::said::Statement;
+use fields::{Id, Source};
 use std::alloc::{AllocError, Global};
 use std::marker::Model;
-use sysmods_records::{ElemChange, Hold, Id, IfReq, Source, Sysmod, Ver};
+use sysmod::{ElemChange, Hold, IfReq, Sysmod, Ver};
 
 /// `++ASSIGN`: the source that the ids get, as the statement has them.
 #[derive(Drop)]
@@ -85,7 +86,7 @@ fn with_ver(current: Option<Begun>, ver: Ver) -> Result<Option<Begun>, AllocErro
         return Ok(None);
     };
     let mut sysmod = begun.sysmod;
-    let place = sysmod.add_ver(ver)?;
+    let place = sysmod.insert_ver(ver)?;
     Ok(Some(Begun {
         sysmod,
         last: Some(place),
@@ -102,7 +103,7 @@ fn with_if(current: Option<Begun>, condition: IfReq) -> Result<Option<Begun>, Al
         return Ok(Some(begun));
     };
     let mut sysmod = begun.sysmod;
-    sysmod.add_if(place, condition)?;
+    sysmod.push_if(place, condition)?;
     Ok(Some(Begun {
         sysmod,
         last: Some(place),
@@ -118,7 +119,7 @@ fn with_hold(current: Option<Begun>, hold: Hold) -> Result<Option<Begun>, AllocE
     };
     let last = begun.last;
     let mut sysmod = begun.sysmod;
-    sysmod.add_hold(hold)?;
+    sysmod.push_hold(hold)?;
     Ok(Some(Begun { sysmod, last }))
 }
 
@@ -130,7 +131,7 @@ fn with_change(current: Option<Begun>, change: ElemChange) -> Result<Option<Begu
     };
     let last = begun.last;
     let mut sysmod = begun.sysmod;
-    sysmod.add_change(change)?;
+    sysmod.insert_change(change)?;
     Ok(Some(Begun { sysmod, last }))
 }
 

@@ -3,11 +3,12 @@ ghost use Rattle.std.specs.Prelude.{◌≡◌};
 ghost use Rattle.terms.specs.declared.statement_words.StatementWord.TheVariants as word;
 ghost use Rattle.mcs.specs.Said.{Says, Fails};
 
+use crate::begin::Known;
 use crate::ended::is_ended;
+use crate::fault::StatementError;
 use crate::file::Begun;
 use crate::said::Statement;
 use fields::Id;
-use mcs_statements::{Known, StatementError};
 use operands::one;
 use terms::{Kind, McCode};
 

@@ -3,11 +3,12 @@ ghost use Rattle.std.specs.Prelude.{◌≡◌, ℕ, List, [], All, IfOk, IfErr};
 ghost use Rattle.terms.specs.Types.{HoldItem as AnyItem};
 ghost use Rattle.terms.specs.Records.{IsRecord};
 ghost use Rattle.terms.specs.HoldFile.{BeginsWithItems, IsHoldFile};
-ghost use Rattle.mcs_statements.specs.declared.error.McsError.TheVariants.{Memory};
+ghost use Rattle.mcs.specs.declared.error.McsError.TheVariants.{Memory};
 ghost use Rattle.mcs.specs.HoldItems.{items, IsHoldFileError, IsRestError};
 
+use crate::error::McsError;
+use crate::file_faults::{error_at, statements};
 use crate::hold_item::{HoldItem, read_item};
-use mcs_statements::{McsError, error_at, statements};
 use rec80::Groups;
 use std::alloc::Global;
 

@@ -5,16 +5,16 @@ ghost use Rattle.terms.specs.Records.{IsRecord};
 ghost use Rattle.terms.specs.Statement.{Piece, HasSolid};
 ghost use Rattle.terms.specs.HoldFile.{IsGoodItem};
 ghost use Rattle.rec80.specs.Views.{left_of};
-ghost use Rattle.mcs_statements.specs.KnownWords.{own_list};
-ghost use Rattle.mcs_statements.specs.Holds.{ArePrintable};
+ghost use Rattle.mcs.specs.KnownWords.{own_list};
+ghost use Rattle.mcs.specs.Holds.{ArePrintable};
 ghost use Rattle.mcs.specs.HoldItems.{item_of, IsSaid, IsSaidError, IsItemError};
 
-use mcs_statements::{
-    Known, Release, StatementError, begun, has_short_comment, no_value, read_hold, read_release,
-};
+use crate::begin::{Known, begun};
+use crate::fault::{StatementError, no_value};
+use crate::hold_operands::{Release, has_short_comment, hold_of_operands, release_of_operands};
 use rec80::Group;
 use std::alloc::Global;
-use sysmods_records::Hold;
+use sysmod::Hold;
 use terms::{McCode, StatementWord};
 
 /// An item of a hold file.
@@ -32,7 +32,7 @@ fn hold_item(alloc: Global, known: &Known<'_>) -> Result<HoldItem, StatementErro
     ensures fault { (rest : List Piece) → HasSolid (left_of known.now.rest) rest → ArePrintable rest
         → IfErr result (IsSaidError known.now.word (own_list known.now) rest) }
 {
-    let hold = match read_hold(alloc, known, false) {
+    let hold = match hold_of_operands(alloc, known, false) {
         Ok(hold) => hold,
         Err(error) => return Err(no_value(error)),
     };
@@ -50,7 +50,7 @@ fn release_item(known: &Known<'_>) -> Result<HoldItem, StatementError>
     ensures fault { (rest : List Piece) → HasSolid (left_of known.now.rest) rest
         → IfErr result (IsSaidError known.now.word (own_list known.now) rest) }
 {
-    match read_release(known) {
+    match release_of_operands(known) {
         Ok(release) => Ok(HoldItem::Release(release)),
         Err(_) => Err(StatementError::Fault(McCode::Mc3)),
     }

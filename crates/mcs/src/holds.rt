@@ -8,17 +8,19 @@ ghost use Rattle.terms.specs.Statement.{Piece, HasSolid};
 ghost use Rattle.terms.specs.Statements.{IsOwnHoldOf};
 ghost use Rattle.operands.specs.Failing.{Excludes};
 ghost use Rattle.rec80.specs.Views.{left_of};
-ghost use Rattle.mcs_statements.specs.KnownWords.{own_list};
-ghost use Rattle.mcs_statements.specs.Holds.{ArePrintable};
+ghost use Rattle.mcs.specs.KnownWords.{own_list};
+ghost use Rattle.mcs.specs.Holds.{ArePrintable};
 ghost use Rattle.mcs.specs.Said.{Says, FailsPrintable};
 
+use crate::begin::Known;
+use crate::fault::{StatementError, no_value};
 use crate::file::Begun;
+use crate::hold_operands::{has_short_comment, hold_of_operands};
 use crate::said::Statement;
-use mcs_statements::{Known, StatementError, has_short_comment, no_value, read_hold};
 use operands::OperandError;
 use std::alloc::Global;
-use sysmods_records::{Hold, HoldKind, Sysmod};
-use terms::McCode;
+use sysmod::{Hold, Sysmod};
+use terms::{HoldKind, McCode};
 
 /// Whether it is a SYSTEM hold of the SYSMOD.
 fn is_own(sysmod: &Sysmod, hold: &Hold) -> bool
@@ -36,7 +38,7 @@ fn read_own_hold(alloc: Global, sysmod: &Sysmod, known: &Known<'_>) -> Result<Ho
         → IfErr result (λ e. Excludes e ((h : AnyHold) × ((ws : List grammar.Word) × grammar.HasWords rest ws
         × IsOwnHoldOf sysmod.now (own_list known.now) ws h))) }
 {
-    let hold = match read_hold(alloc, known, true) {
+    let hold = match hold_of_operands(alloc, known, true) {
         Ok(hold) => hold,
         Err(error) => return Err(error),
     };

@@ -9,19 +9,20 @@ ghost use Rattle.terms.specs.Statements.{IsIfOf};
 ghost use Rattle.terms.specs.Ptfin.{last_of};
 ghost use Rattle.operands.specs.Failing.{Excludes};
 ghost use Rattle.rec80.specs.Views.{left_of, word_of};
-ghost use Rattle.mcs_statements.specs.KnownWords.{own_list};
+ghost use Rattle.mcs.specs.KnownWords.{own_list};
 ghost use Rattle.mcs.specs.Files.{begun_of};
 ghost use Rattle.mcs.specs.Said.{Says, Fails};
 
+use crate::begin::Known;
 use crate::ended::is_ended;
+use crate::fault::{StatementError, no_value};
 use crate::file::Begun;
 use crate::said::Statement;
 use fields::Id;
-use mcs_statements::{Known, StatementError, no_value};
 use operands::{OperandError, ids, one};
 use rec80::{Word, Words};
 use std::alloc::Global;
-use sysmods_records::{IfReq, Sysmod, Ver};
+use sysmod::{IfReq, Sysmod, Ver};
 use terms::McCode;
 
 /// Whether the word is this one.

@@ -5,22 +5,32 @@
 #![tactic(auto)]
 
 mod assign;
+mod begin;
 mod change;
+mod comment;
 mod ended;
+mod error;
+mod fault;
 mod file;
+mod file_faults;
 mod header;
 mod hold_file;
 mod hold_item;
+mod hold_operands;
 mod holds;
 mod ifs;
+mod kind;
 mod order;
 mod ptfin;
 mod said;
 mod statement;
+mod values;
 mod ver;
+mod words;
 
+pub use error::McsError;
 pub use file::{Assign, Item};
 pub use hold_file::read_hold;
 pub use hold_item::HoldItem;
-pub use mcs_statements::{McsError, Release};
+pub use hold_operands::Release;
 pub use ptfin::read_ptfin;

@@ -6,16 +6,16 @@ ghost use Rattle.terms.specs.Statements.{changed_type};
 ghost use Rattle.terms.specs.Statement.{Piece, HasSolid};
 ghost use Rattle.terms.specs.Ptfin.{MayStand, NamesFmid, IsSecond, IsUpdateWord, Disorder, IsMisplaced, sysmod_in};
 ghost use Rattle.rec80.specs.Views.{left_of};
-ghost use Rattle.mcs_statements.specs.KnownWords.{own_list};
+ghost use Rattle.mcs.specs.KnownWords.{own_list};
 ghost use Rattle.mcs.specs.Files.{begun_in};
 
+use crate::begin::Known;
 use crate::file::Begun;
 use fields::{Id, Name, Srel};
-use mcs_statements::Known;
 use operands::{any_twice, list_behind, one};
 use rec80::{Record, Word, Words};
-use sysmods_records::{Kind, Sysmod, Ver};
-use terms::{ElemType, StatementWord};
+use sysmod::{Sysmod, Ver};
+use terms::{ElemType, Kind, StatementWord};
 
 /// The type of the element that a statement of the word changes.
 fn changed_type(word: StatementWord) -> Option<ElemType>

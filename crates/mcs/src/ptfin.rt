@@ -4,12 +4,13 @@ ghost use Rattle.terms.specs.Records.{IsRecord};
 ghost use Rattle.terms.specs.Statements.{Statement as AnyStatement};
 ghost use Rattle.terms.specs.Ptfin.{nothing, BeginsWithStatements, IsPtfin};
 ghost use Rattle.terms.specs.Types.{Item as AnyItem};
-ghost use Rattle.mcs_statements.specs.declared.error.McsError.TheVariants.{Memory};
+ghost use Rattle.mcs.specs.declared.error.McsError.TheVariants.{Memory};
 ghost use Rattle.mcs.specs.Files.{items, so_far, IsPtfinError, IsRestError};
 
+use crate::error::McsError;
 use crate::file::{Item, SoFar};
+use crate::file_faults::{error_at, statements};
 use crate::statement::read_statement;
-use mcs_statements::{McsError, error_at, statements};
 use rec80::Groups;
 use std::alloc::Global;
 

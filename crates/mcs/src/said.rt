@@ -1,6 +1,8 @@
 //! What one statement of a PTFIN says.
 use crate::file::Assign;
-use sysmods_records::{ElemChange, Hold, Id, IfReq, Kind, Ver};
+use fields::Id;
+use sysmod::{ElemChange, Hold, IfReq, Ver};
+use terms::Kind;
 
 /// What one statement says. A `++VER` stands here without its `++IF`s.
 #[derive(Drop)]

@@ -8,7 +8,9 @@ ghost use Rattle.mcs.specs.Said.{Says, FailsPrintable, IsStatementError};
 ghost use Rattle.mcs.specs.Statements.{statement_of};
 
 use crate::assign::assign_statement;
+use crate::begin::{Known, begun};
 use crate::change::{change_statement, update_statement};
+use crate::fault::StatementError;
 use crate::file::Begun;
 use crate::header::header_statement;
 use crate::holds::hold_statement;
@@ -16,7 +18,6 @@ use crate::ifs::if_statement;
 use crate::order::is_misplaced;
 use crate::said::Statement;
 use crate::ver::ver_statement;
-use mcs_statements::{Known, StatementError, begun};
 use rec80::{Group, Record};
 use std::alloc::Global;
 use terms::{ElemType, McCode, StatementWord};

@@ -10,19 +10,21 @@ ghost use Rattle.terms.specs.Operands.{AreOperands};
 ghost use Rattle.terms.specs.Words.{IsShort};
 ghost use Rattle.operands.specs.Left.{LeavesWords};
 ghost use Rattle.operands.specs.Failing.{Excludes};
-ghost use Rattle.mcs_statements.specs.KnownWords.{own_list};
+ghost use Rattle.mcs.specs.KnownWords.{own_list};
 ghost use Rattle.mcs.specs.VerOperands.{HasLists};
 ghost use Rattle.mcs.specs.Said.{Says, Fails};
 
+use crate::begin::Known;
+use crate::fault::{StatementError, no_value};
 use crate::file::Begun;
 use crate::said::Statement;
+use crate::values::{are_operands, listed_ids};
 use fields::{Id, IdList, Srel};
-use mcs_statements::{Known, StatementError, are_operands, listed_ids, no_value};
 use operands::{OperandError, one, operand, optional};
 use rec80::Words;
 use std::alloc::Global;
-use sysmods_records::{Kind, Sysmod, Ver};
-use terms::McCode;
+use sysmod::{Sysmod, Ver};
+use terms::{Kind, McCode};
 
 /// The operands of `++VER`.
 const OPERANDS: &[&[u8]] = &[b"FMID", b"PRE", b"REQ", b"SUP", b"NPRE", b"DELETE"];

@@ -1,6 +1,6 @@
 //! Lists without doubles: in rising order, or as they stand.
 ghost use Rattle.std.specs.Prelude.{ℕ, List, map, IfOk, IfErr};
-ghost use Rattle.terms.specs.Forms.{IsId, IsSource};
+ghost use Rattle.terms.specs.Forms.{IsId};
 ghost use Rattle.terms.specs.Operands.{HasListed, HasSorted};
 ghost use Rattle.rec80.specs.Views.{word_of};
 ghost use Rattle.operands.specs.Failing.{Excludes};
@@ -8,7 +8,7 @@ ghost use Rattle.operands.specs.Failing.{Excludes};
 use crate::errors::OperandError;
 use crate::member::Member;
 use crate::members::read_members;
-use fields::{Id, IdList, Rising, Source, SourceList};
+use fields::{Id, IdList, Rising};
 use rec80::Word;
 use std::alloc::Global;
 
@@ -66,14 +66,4 @@ pub fn ids(alloc: Global, word: &Word<'_>) -> Result<IdList, OperandError>
     ensures bad { IfErr result (λ e. Excludes e ((values : List (List ℕ)) × HasSorted IsId (word_of word.now) values)) }
 {
     rising::<Id>(alloc, word)
-}
-
-/// The sources of the word's list in rising order. `Memory` comes where memory runs out, `Bad` where the word has no
-/// list of sources, or one stands there twice.
-pub fn sources(alloc: Global, word: &Word<'_>) -> Result<SourceList, OperandError>
-    ensures sorted { IfOk result (λ list. HasSorted IsSource (word_of word.now) list) }
-    ensures bad { IfErr result (λ e. Excludes e ((values : List (List ℕ))
-        × HasSorted IsSource (word_of word.now) values)) }
-{
-    rising::<Source>(alloc, word)
 }

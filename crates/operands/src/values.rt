@@ -28,8 +28,8 @@ pub fn flag(found: &Option<Word<'_>>) -> Result<bool, BadOperand>
     }
 }
 
-/// The only member of the word's list.
-pub fn one_member<'a>(word: &Word<'a>) -> Option<&'a [u8]>
+// The only member of the word's list.
+fn one_member<'a>(word: &Word<'a>) -> Option<&'a [u8]>
     ensures one { IfSome result (λ m. IsSomeAnd (word_of word.now).list (λ text. HasMembers text (plain m.now ∷ []))) }
     ensures none { IfNone result ((m : List ℕ) → IsSomeAnd (word_of word.now).list
         (λ text. HasMembers text (plain m ∷ [])) → ⊥) }

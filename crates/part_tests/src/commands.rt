@@ -1,9 +1,10 @@
 //! Operands and command files.
 
 use crate::cards::{Spelled, file, record};
-use cntl::{Bypass, CntlError, Command, Install, Reasons, ReceiveWhat, RestoreList, read_cntl};
+use cntl::{CntlError, Command, Install, read_cntl};
 use fields::spelling::cn_text;
-use operands::{flag, ids, one_member, operand, sources};
+use fields::{Bypass, Reasons, ReceiveWhat, RestoreList, Source, ZoneName};
+use operands::{flag, ids, one, operand, rising};
 use rec80::{Record, Records, Word};
 use std::alloc::{AllocError, Global};
 use std::test::Fail;
@@ -33,7 +34,7 @@ fn sources_in(alloc: Global, cards: &[Record], name: &[u8]) -> Spelled {
     let Some(word) = operand_in(cards, name) else {
         return spelled;
     };
-    if let Ok(list) = sources(alloc, &word) {
+    if let Ok(list) = rising::<Source>(alloc, &word) {
         for source in list.iter() {
             spelled.put(source.as_bytes());
         }
@@ -41,7 +42,7 @@ fn sources_in(alloc: Global, cards: &[Record], name: &[u8]) -> Spelled {
     spelled
 }
 
-/// What the operand is without a list, and the only member of its list.
+/// What the operand is without a list, and the name of a zone that is all its list has.
 fn flag_in(cards: &[Record], name: &[u8]) -> Spelled {
     let mut spelled = Spelled::new();
     let found = operand_in(cards, name);
@@ -51,9 +52,9 @@ fn flag_in(cards: &[Record], name: &[u8]) -> Spelled {
         Err(_) => b"list ",
     });
     if let Some(word) = found
-        && let Some(member) = one_member(&word)
+        && let Some(name) = one::<ZoneName>(&word)
     {
-        spelled.put(member);
+        spelled.put(name.as_bytes());
     }
     spelled
 }

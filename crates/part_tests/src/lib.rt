@@ -20,6 +20,6 @@ mod records_read;
 #[cfg(test)]
 mod solving;
 #[cfg(test)]
-mod sysmod;
+mod sysmod_values;
 #[cfg(test)]
 mod texts;

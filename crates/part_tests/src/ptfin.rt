@@ -6,7 +6,7 @@ use fields::spelling::{kind_text, type_text};
 use mcs::{Assign, Item, read_ptfin};
 use std::alloc::{AllocError, Global};
 use std::test::Fail;
-use sysmods_records::{Action, ElemChange, Sysmod, Ver};
+use sysmod::{Action, ElemChange, Sysmod, Ver};
 
 fn put_ver(spelled: &mut Spelled, ver: &Ver) {
     spelled.put_words(&[ver.srel.as_bytes()]);

@@ -1,22 +1,22 @@
 //! The greatest set that supports itself, who causes failures, and the least set that grows.
-use solve::{Need, Rule, Rules, Solver, Sweep, System, Worklist, causers, least};
+use solve::{NumberedNeed, Problem, Rule, Rules, Solver, Sweep, Worklist, causers, least};
 use std::alloc::{AllocError, Global};
 use std::process::Abort;
 
 /// A list of candidates with their needs: who needs which of these.
 type Needs<'a> = &'a [(u32, &'a [u32])];
 
-fn add_need(alloc: Global, s: &mut System, of: u32, any: &[u32]) -> Result<(), AllocError> {
+fn add_need(alloc: Global, s: &mut Problem, of: u32, any: &[u32]) -> Result<(), AllocError> {
     if s.admits(of, any) {
         let any = any.to_vec(alloc)?;
-        s.add_need(Need { of, any })?;
+        s.add_need(NumberedNeed { of, any })?;
     }
     Ok(())
 }
 
-/// A system of these candidates and needs.
-fn system(alloc: Global, eligible: &[bool], needs: Needs<'_>) -> Result<System, AllocError> {
-    let mut s = System::new(alloc, Vec::new(alloc));
+/// A problem of these candidates and needs.
+fn problem(alloc: Global, eligible: &[bool], needs: Needs<'_>) -> Result<Problem, AllocError> {
+    let mut s = Problem::new(alloc, Vec::new(alloc));
     for flag in eligible {
         if s.size() < 100 {
             s.add_candidate(*flag)?;
@@ -89,7 +89,7 @@ const CASES: [Case<'static>; 6] = [
 ];
 
 fn check(rt: &impl Abort, alloc: Global, case: &Case<'_>) -> Result<(), AllocError> {
-    let s = system(alloc, case.eligible, case.needs)?;
+    let s = problem(alloc, case.eligible, case.needs)?;
     let swept = Sweep.greatest(alloc, &s)?;
     let (kept, count) = Worklist::count(alloc, &s)?;
     assert_eq!(rt; swept.flags(), case.kept);
@@ -112,8 +112,8 @@ fn each_case(rt: HostRuntime) -> Result<(), AllocError> {
 }
 
 /// So many eligible candidates, each of which needs the next one, and the last one `end`.
-fn chain(alloc: Global, n: u32, end: &[u32]) -> Result<System, AllocError> {
-    let mut s = System::new(alloc, vec![in alloc; true; n as usize]?);
+fn chain(alloc: Global, n: u32, end: &[u32]) -> Result<Problem, AllocError> {
+    let mut s = Problem::new(alloc, vec![in alloc; true; n as usize]?);
     for k in 0..n {
         let next = [k.saturating_add(1)];
         let any = if next[0] < n { &next } else { end };

@@ -10,7 +10,8 @@ use crate::pieces::put_left;
 use crate::sink::Sink;
 use fields::Source;
 use fields::spelling::{hold_text, kind_text};
-use sysmods::{GlobalZone, Hold, Sysmod};
+use sysmod::{Hold, Sysmod};
+use sysmods::GlobalZone;
 
 /// Sources joined by commas, each behind one.
 fn put_more_sources<W: Sink>(sources: &[Source], page: &mut Page<'_, W>)

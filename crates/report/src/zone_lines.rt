@@ -13,7 +13,8 @@ use crate::sink::Sink;
 use fields::Id;
 use fields::spelling::type_text;
 use terms::ZoneKind;
-use zones::{Applied, Element, Entry, Line, Zone};
+use text80::Line;
+use zones::{Applied, Element, Entry, Zone};
 
 fn applied_word(kind: ZoneKind) -> &'static [u8]
     ensures { result.now ≡ applied_word kind }

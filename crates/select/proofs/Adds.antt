@@ -4,8 +4,8 @@ use Rattle.std.proofs.Common.{sym, subst, ap, ◌∙◌, append_assoc}
 use Rattle.std.specs.List.{flat_map}
 use Rattle.std.proofs.lemmas.List.Elements.{Contains-append_left, Contains-append_right, Contains-append_cases}
 use Rattle.terms.specs.Types.{Id}
-use Rattle.sysmods_paths.specs.Seen.{AddsAll}
-use Rattle.sysmods_paths.proofs.Growth.{adds_keeps}
+use Rattle.sysmods.specs.Seen.{AddsAll}
+use Rattle.sysmods.proofs.Growth.{adds_keeps}
 use Rattle.lemmas.proofs.Lists.{flat_next}
 
 -- one list and then another

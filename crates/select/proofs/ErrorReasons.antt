@@ -4,8 +4,9 @@ use Rattle.std.proofs.Common.{if◌then◌else◌}
 use Rattle.std.specs.List.{flat_map}
 use Rattle.std.specs.Str.{bytes_eq}
 use Rattle.terms.specs.declared.kinds.HoldKind.TheVariants.{Error}
-use Rattle.terms.specs.Types.{Id, Hold, Global, hold_number}
+use Rattle.terms.specs.Types.{Id, Hold, Global, hold_number, is_error}
 use Rattle.terms.specs.Lookups.{holds_of}
+use Rattle.terms.proofs.HoldOrder.{error_by_number}
 use Rattle.select.specs.Growing.{error_reason}
 
 abbrev is_error_on : Id → Hold → Bool
@@ -18,10 +19,10 @@ error_reasons g x = by g.holds
     by : (hs : List Hold) → flat_map error_reason (filter (is_error_on x) hs)
         ≡ map (λ h. h.reason) (filter (is_error_on x) hs)
     by [] = refl
-    by (h ∷ hs) = at (by hs) (bytes_eq h.id x) (hold_number h.kind == 0) refl
+    by (h ∷ hs) = at (by hs) (bytes_eq h.id x) (hold_number h.kind == 0) (error_by_number h.kind)
       where
         at : flat_map error_reason (filter (is_error_on x) hs) ≡ map (λ h. h.reason) (filter (is_error_on x) hs)
-            → (b k : Bool) → (hold_number h.kind == 0) ≡ k
+            → (b k : Bool) → is_error h.kind ≡ k
             → flat_map error_reason (cond (b && k) (h ∷ filter (is_error_on x) hs) (filter (is_error_on x) hs))
             ≡ map (λ h. h.reason) (cond (b && k) (h ∷ filter (is_error_on x) hs) (filter (is_error_on x) hs))
         at rest true true e =

@@ -15,9 +15,9 @@ use Rattle.terms.proofs.Ids.{is_in_from_Contains, Contains_from_is_in}
 use Rattle.terms.proofs.Leads.{reaches_named, reaches_last}
 use Rattle.lemmas.proofs.Members.{none_in, here, filter_in, in_filter, flat_in, in_flat}
 use Rattle.terms.proofs.Applied.{AppliedAre}
-use Rattle.sysmods_paths.specs.Seen.{AddsAll}
-use Rattle.sysmods_paths.proofs.Growth.{adds_keeps, adds_cases, take_adds}
-use Rattle.sysmods_received.specs.Namers.{namers_for}
+use Rattle.sysmods.specs.Seen.{AddsAll}
+use Rattle.sysmods.proofs.Growth.{adds_keeps, adds_cases, take_adds}
+use Rattle.sysmods.specs.Namers.{namers_for}
 use Rattle.select.specs.Scopes.{Scope, is_installable_in, is_open_in, is_start_in, is_growing_start_in, IsClosed}
 use Rattle.select.specs.Scopes.{needed_in, open_reasons_in, sups_in}
 use Rattle.select.specs.Growing.{WillDo, IsAsked, is_open_among, taken_up, has_grown, asked_by, HasAsked, AreAsked}

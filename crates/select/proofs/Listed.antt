@@ -15,8 +15,8 @@ use Rattle.terms.specs.Global.{named, named_functions, names_for}
 use Rattle.lemmas.proofs.Members.{here, none_in, in_map, in_filter, filter_in, flat_in, in_flat}
 use Rattle.lemmas.proofs.Searches.{find_gives}
 use Rattle.lemmas.proofs.Texts.{same_from}
-use Rattle.sysmods_received.specs.Held.{zone_of}
-use Rattle.sysmods_received.specs.Namers.{namers_for, names_as_function, function_namers}
+use Rattle.sysmods.specs.Held.{zone_of}
+use Rattle.sysmods.specs.Namers.{namers_for, names_as_function, function_namers}
 use Rattle.terms.proofs.Ids.{is_in_from_Contains}
 use Rattle.lemmas.proofs.Searches.{passes_some}
 

@@ -1,17 +1,17 @@
 -- What GROUP and GROUPEXTEND ask for beside the start.
-use Rattle.std.specs.Prelude.{◌≡◌, ◌==◌, ◌⊎◌, ◌++◌, ◌-◌, ◌||◌, ◌&&◌, Bool, not, List, [], ◌∷◌, filter, map, Contains}
+use Rattle.std.specs.Prelude.{◌≡◌, ◌⊎◌, ◌++◌, ◌-◌, ◌||◌, ◌&&◌, Bool, not, List, [], ◌∷◌, filter, map, Contains}
 use Rattle.std.specs.Prelude.{IsTrue, slice_get, if◌then◌else◌}
 use Rattle.std.specs.List.{flat_map, list_any}
 use Rattle.std.specs.Option.{option_and_then}
 use Rattle.std.specs.Str.{bytes_eq}
 use Rattle.terms.specs.declared.kinds.HoldKind.TheVariants.{Error}
-use Rattle.terms.specs.Types.{Id, hold_number, Ver, Hold, Zone, Selection}
+use Rattle.terms.specs.Types.{Id, Ver, Hold, Zone, Selection, is_error}
 use Rattle.terms.specs.Lookups.{is_applied, applied_of, is_supplied, is_function, is_in, at_most_one, holds_of}
 use Rattle.terms.specs.Choice.{Choice, fits}
 use Rattle.terms.specs.Over.{Reaches}
 use Rattle.terms.specs.Candidates.{fmids_for, required_by}
 use Rattle.terms.specs.Conditions.{reqs_where, stated_for}
-use Rattle.sysmods_received.specs.Namers.{namers_for, function_namers}
+use Rattle.sysmods.specs.Namers.{namers_for, function_namers}
 use Rattle.select.specs.Scopes.{Scope, is_open_in, is_start_in, is_growing_start_in, IsClosed}
 use Rattle.select.specs.Scopes.{needed_in, open_reasons_in, vers_in, sups_in}
 
@@ -82,7 +82,7 @@ stated scope x = if is_function scope.global x then stated_for (kept_ver scope) 
 
 -- the reason of an ERROR hold
 abbrev pub error_reason : Hold → List Id
-error_reason h = if hold_number h.kind == 0 then h.reason ∷ [] else []
+error_reason h = if is_error h.kind then h.reason ∷ [] else []
 
 -- the reasons of its ERROR holds, under GROUPEXTEND
 abbrev pub reasons : Scope → Id → List Id

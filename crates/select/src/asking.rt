@@ -14,11 +14,10 @@ ghost use Rattle.select.specs.Growing.{kept_ver, namers_in, stated, error_reason
 
 use crate::scope::Scope;
 use crate::start::is_start;
-use cntl::Selection;
-use fields::{Id, Srel};
+use fields::{Id, Selection, Srel};
 use indexmap::IndexSet;
 use std::alloc::{AllocError, Global};
-use sysmods_records::{Hold, IfReq, Ver};
+use sysmod::{Hold, IfReq, Ver};
 use terms::HoldKind;
 use zones::Zone;
 

@@ -17,7 +17,7 @@ use crate::start::is_start;
 use fields::Id;
 use indexmap::IndexSet;
 use std::alloc::{AllocError, Global};
-use sysmods_records::Ver;
+use sysmod::Ver;
 
 fn has_fmid(ver: &Ver, id: Id) -> bool
     ensures { result ≡ is_in (at_most_one ver.now.fmid) id }

@@ -6,18 +6,11 @@ ghost use Rattle.terms.specs.Lookups.{at_most_one, is_function, is_in, is_nil, m
 ghost use Rattle.terms.specs.Choice.{vers_of};
 ghost use Rattle.terms.specs.Candidates.{takes_kind, forfmid_ids, passes_filters, has_mass_choice};
 
-use cntl::Selection;
-use fields::{Id, IdList, SourceList, Srel};
+use fields::{Id, IdList, Selection, SourceList, Srel};
+use sysmod::{Sysmod, Ver};
 use sysmods::GlobalZone;
-use sysmods_records::{Sysmod, Ver};
 use terms::Kind;
 use zones::Zone;
-
-fn is_nil<T>(items: &[T]) -> bool
-    ensures { result ≡ is_nil items.now }
-{
-    items.is_empty()
-}
 
 fn takes_kind(selection: &Selection, kind: Kind) -> bool
     ensures { result ≡ takes_kind selection.now kind }
@@ -40,7 +33,7 @@ fn meets_sources(sources: &SourceList, wanted: &SourceList) -> bool
 fn passes_sources(wanted: &SourceList, sources: &SourceList) -> bool
     ensures { result ≡ (is_nil wanted.now || meets sources.now wanted.now) }
 {
-    is_nil(wanted.as_slice()) || meets_sources(sources, wanted)
+    wanted.is_empty() || meets_sources(sources, wanted)
 }
 
 fn has_fmid_among(ver: &Ver, wanted: &IdList) -> bool
@@ -89,7 +82,7 @@ fn meets_forfmid(global: &GlobalZone, zone: &Zone, id: Id, wanted: &IdList) -> b
 fn passes_forfmid(global: &GlobalZone, zone: &Zone, id: Id, wanted: &IdList) -> bool
     ensures { result ≡ (is_nil wanted.now || meets (forfmid_ids global.now zone.now id) wanted.now) }
 {
-    is_nil(wanted.as_slice()) || meets_forfmid(global, zone, id, wanted)
+    wanted.is_empty() || meets_forfmid(global, zone, id, wanted)
 }
 
 /// Whether the SYSMOD passes all filters of the mass choice.
@@ -109,7 +102,7 @@ pub(crate) fn passes_filters(
 fn names_none(selection: &Selection) -> bool
     ensures { result ≡ (is_nil selection.now.select && is_nil selection.now.group) }
 {
-    is_nil(selection.select.as_slice()) && is_nil(selection.group.as_slice())
+    selection.select.is_empty() && selection.group.is_empty()
 }
 
 /// Whether the mass choice is made: a filter is given, or neither SELECT nor GROUP.
@@ -120,7 +113,7 @@ pub(crate) fn has_mass_choice(selection: &Selection) -> bool
         || selection.ptfs
         || selection.apars
         || selection.usermods
-        || !is_nil(selection.sourceid.as_slice())
-        || !is_nil(selection.forfmid.as_slice())
+        || !selection.sourceid.is_empty()
+        || !selection.forfmid.is_empty()
         || names_none(selection)
 }

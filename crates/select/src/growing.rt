@@ -7,7 +7,7 @@ ghost use Rattle.std.specs.Prelude.{◌≡◌, ◌++◌, ◌↔◌, [], filter, 
 ghost use Rattle.std.specs.List.{flat_map};
 ghost use Rattle.terms.specs.Types.{Id as AnId};
 ghost use Rattle.terms.specs.Lookups.{is_in};
-ghost use Rattle.sysmods_paths.specs.Seen.{AddsAll};
+ghost use Rattle.sysmods.specs.Seen.{AddsAll};
 ghost use Rattle.select.specs.Scopes.{is_start_in, sups_in};
 ghost use Rattle.select.specs.Growing.{AreAsked, brought_if_open, asked_first, superseders, next_asked};
 

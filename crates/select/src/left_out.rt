@@ -11,8 +11,7 @@ ghost use Rattle.select.specs.Reasons.{reason_in, with_reason};
 
 use crate::scope::Scope;
 use crate::start::{is_named, named_ids};
-use cntl::Selection;
-use fields::{Id, IdList};
+use fields::{Id, IdList, Selection};
 use std::alloc::{AllocError, Global};
 use sysmods::GlobalZone;
 use terms::NotChosen;

@@ -7,11 +7,10 @@ ghost use Rattle.sysmods.specs.Choices.{has_ver};
 ghost use Rattle.select.specs.Scopes.{is_installable_in, is_open_in, vers_in, sups_in};
 ghost use Rattle.select.specs.Growing.{kept_ver};
 
-use cntl::Selection;
-use fields::{Id, Srel};
+use fields::{Id, Selection, Srel};
 use std::marker::Model;
+use sysmod::Ver;
 use sysmods::{GlobalZone, has_ver, numbered_ver};
-use sysmods_records::Ver;
 use zones::Zone;
 
 /// What an APPLY chooses from and by.

@@ -8,8 +8,7 @@ ghost use Rattle.select.specs.Scopes.{is_mass_chosen_in, is_start_in, named_ids}
 
 use crate::filters::{has_mass_choice, passes_filters};
 use crate::scope::Scope;
-use cntl::Selection;
-use fields::Id;
+use fields::{Id, Selection};
 use std::alloc::{AllocError, Global};
 use sysmods::GlobalZone;
 

@@ -19,14 +19,13 @@ use Rattle.store_schema.specs.Inventory.{Inventory}
 use Rattle.store_schema.specs.Stands.{StandsFor}
 use Rattle.store_schema.specs.Tables.{store_schema}
 use Rattle.store_schema.proofs.OneState.{one_state}
-use Rattle.store.specs.Causes.{LeavesFaulted}
 use Rattle.smpe_zones.specs.Kept.{kept, Keeps, IsAround, IsStopped}
 use Rattle.store.specs.View.{Tables, TablesIfOpen, Leaves}
 use Rattle.smpe_zones.proofs.Adding.{prints_none}
 use Rattle.smpe_zones.proofs.Keeping.{inventory_kept, leaves_more}
-use Rattle.smpe_upkeep.proofs.StepForms.{HasActForms, HasJobForms}
-use Rattle.smpe_closed.proofs.StepKeeps.{IsClosedState}
-use Rattle.smpe_closed.proofs.JobsKeep.{first_formed, printed_keeps, prints_keep, job_keeps}
+use Rattle.machine_keeps.specs.Storable.{HasActForms, HasJobForms}
+use Rattle.machine_closed.proofs.StepKeeps.{IsClosedState}
+use Rattle.machine_closed.proofs.JobsKeep.{first_formed, printed_keeps, prints_keep, job_keeps}
 use Rattle.smpe_zones.specs.declared.error.ZoneError.{ZoneError}
 use Rattle.smpe_zones.specs.declared.error.ZoneError.TheVariants as zone
 use Rattle.smpe_zones.specs.Definitions.{HasDefined}
@@ -72,10 +71,9 @@ module _ {S : Type 0} (g : Ghosts S) (at : Held S) (clean : HasCleanDisk (state 
     after_next (next ∷ rest) t c forms of_t (m, text, prints, same) =
         subst HasClosedZones (sym same) (printed_keeps t next m text forms.0 prints of_t).closed
 
-    stopped : (Left : (Inventory → Type 0) → Type 0) → ((Among : Inventory → Type 0) → Left Among → Leaves g at Among)
-        → (acts : List Act) (a b : Option (List ℕ)) → AllByRecursion HasActForms acts
-        → Stopped Prints kept s acts (TablesIfOpen g at) Left a b → StaysClosed g at
-    stopped Left leaves acts a b forms stop =
+    stopped : (acts : List Act) (a b : Option (List ℕ)) → AllByRecursion HasActForms acts
+        → Stopped Prints kept s acts (TablesIfOpen g at) (Leaves g at) a b → StaysClosed g at
+    stopped acts a b forms stop =
         let all = subst (AllByRecursion HasActForms) stop.acts_are forms in
         let end = prints_keep stop.done s stop.end stop.bytes
         (recursion_front HasActForms stop.done stop.rest all) stop.runs is in
@@ -84,7 +82,7 @@ module _ {S : Type 0} (g : Ghosts S) (at : Held S) (clean : HasCleanDisk (state 
         (λ c either. elim either [
           | inl same ↦ subst HasClosedZones (sym same) end.closed
           | inr after ↦ after_next stop.rest stop.end c (recursion_back HasActForms stop.done stop.rest all) end after
-        ]) (leaves _ stop.crash))
+        ]) stop.crash)
 
     broke : (acts : List Act) (a b : Option (List ℕ)) → AllByRecursion HasActForms acts
         → BrokeOff Prints kept s acts (Tables g at) (Leaves g at) a b → StaysClosed g at
@@ -98,9 +96,8 @@ module _ {S : Type 0} (g : Ghosts S) (at : Held S) (clean : HasCleanDisk (state 
 
     early : (began : Held S) (acts : List Act) (a b : Option (List ℕ)) (e : JobError)
         → AllByRecursion HasActForms acts → EndsEarly g began at s acts a b e → StaysClosed g at
-    early began acts a b Memory forms ends = stopped (Leaves g at) (λ Among left. left) acts a b forms ends
-    early began acts a b (Store store.Fault) forms ends =
-        stopped (LeavesFaulted g began at) (λ Among left. left.0) acts a b forms ends
+    early began acts a b Memory forms ends = stopped acts a b forms ends
+    early began acts a b (Store store.Fault) forms ends = stopped acts a b forms ends.stopped
     early began acts a b (Store store.OtherSchema) forms ends = absurd ends
     early began acts a b (Store store.NoState) forms ends = absurd ends
     early began acts a b (Store store.Memory) forms ends = absurd ends

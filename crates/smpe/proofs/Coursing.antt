@@ -1,5 +1,5 @@
 -- The course of a call, from those of its parts.
-use Rattle.std.proofs.Common.{◌≡◌, ℕ, List, [], ◌∷◌, ◌++◌, Option, Result, Ok, Err, map, refl, sym, ◌∙◌, ap, subst}
+use Rattle.std.proofs.Common.{◌≡◌, ◌≢◌, ℕ, List, [], ◌∷◌, ◌++◌, Option, Result, Ok, Err, map, refl, sym, ◌∙◌, ap, subst}
 use Rattle.std.proofs.Common.{append_assoc, append-nil, inl, inr}
 use Rattle.std.specs.List.{flat_map}
 use Rattle.std.specs.Io.KnownBytes.{Appends}
@@ -21,21 +21,22 @@ use Rattle.machine.specs.Machine.{AreFirstActs}
 use Rattle.machine.proofs.Joined.{runs_append, runs_one}
 use Rattle.store_schema.specs.declared.error.StoreError.{StoreError}
 use Rattle.store_schema.specs.declared.error.StoreError.TheVariants as store
-use Rattle.store.specs.BadRows.{OnlyLoads, FoundNoState}
+use Rattle.report.specs.Sent.{WrotePart}
+use Rattle.store.specs.BadRows.{FoundNoState}
+use Rattle.store.specs.Courses.{GoesOver}
+use Rattle.store.specs.declared.change.Change.{Change}
+use Rattle.store.proofs.Going.{goes_err, goes_ok}
 use Rattle.store.proofs.NoState.{loads_none}
-use Rattle.smpe_session.specs.Writing.{WritesNothing}
+use Rattle.smpe_zones.specs.Own.{IsOwn, IsOwnOf}
+use Rattle.smpe_session.specs.declared.session.Performed.{Performed}
+use Rattle.smpe_session.specs.Writing.{IsRan, AnswersRun}
 use Rattle.smpe.specs.declared.error.JobError.{JobError}
 use Rattle.smpe.specs.declared.error.JobError.TheVariants.{Memory, Store, Write}
 use Rattle.smpe.specs.Commands.{job_error}
-use Rattle.smpe.specs.Course.{HaveActs, Passes, Passed, FoundNone, TellsNone, Goes, JobGoes, JobsGo}
+use Rattle.smpe.specs.Course.{HaveActs, Passes, Passed, Breaks, FailsBy, GoesEarly, Goes, JobGoes, JobsGo}
+use Rattle.smpe.proofs.Early.{none_begun}
 use Rattle.smpe.proofs.Listing.{first_more}
-
--- of the store's errors NoState alone is told so
-pub none_told : (e : StoreError) → job_error e ≡ Store store.NoState → e ≡ store.NoState
-none_told store.Fault is = absurd (cc is)
-none_told store.OtherSchema is = absurd (cc is)
-none_told store.NoState is = refl
-none_told store.Memory is = absurd (cc is)
+use Rattle.smpe.proofs.Single.{one_job}
 
 -- jobs, and then one more
 have_more : (jobs more : List Job) (acts back : List Act) → HaveActs jobs acts → HaveActs more back
@@ -95,73 +96,119 @@ module _ {S : Type 0} (g : Ghosts S) where
           back.appends);
     }
 
-  pub found_first : (at new : Held S) (next : Act) (rest : List Act) (taken : Option (List ℕ)) → FoundNoState g at new
-      → FoundNone g at new (next ∷ rest) taken taken
-  found_first at new next rest taken found = record {
-    done = [];
-    next = next;
-    rest = rest;
-    acts_are = refl;
-    before = at;
-    passed = passed_none at taken;
-    found = found;
-  }
+  -- ---- acts that end early
 
-  -- acts that ran, and then some that found none
-  pub found_after : (old mid new : Held S) (xs ys : List Act) (a b c : Option (List ℕ)) → Passed g old mid xs a b
-      → FoundNone g mid new ys b c → FoundNone g old new (xs ++ ys) a c
-  found_after old mid new xs ys a b c front back = record {
-    done = xs ++ back.done;
-    next = back.next;
-    rest = back.rest;
-    acts_are = ap (λ zs. xs ++ zs) back.acts_are ∙ sym (append_assoc xs back.done (back.next ∷ back.rest));
-    before = back.before;
-    passed = passed_more old mid back.before xs back.done a b c front back.passed;
-    found = back.found;
-  }
+  module _ (Ends : Held S → Option (List ℕ) → Act → Type 0) where
+    breaks_first : (at : Held S) (next : Act) (rest : List Act) (taken : Option (List ℕ)) → Ends at taken next
+        → Breaks g Ends at (next ∷ rest) taken
+    breaks_first at next rest taken ends = record {
+      done = [];
+      next = next;
+      rest = rest;
+      acts_are = refl;
+      before = at;
+      had = taken;
+      passed = passed_none at taken;
+      ends = ends;
+    }
+
+    breaks_after : (old mid : Held S) (xs ys : List Act) (a b : Option (List ℕ)) → Passed g old mid xs a b
+        → Breaks g Ends mid ys b → Breaks g Ends old (xs ++ ys) a
+    breaks_after old mid xs ys a b front back = record {
+      done = xs ++ back.done;
+      next = back.next;
+      rest = back.rest;
+      acts_are = ap (λ zs. xs ++ zs) back.acts_are ∙ sym (append_assoc xs back.done (back.next ∷ back.rest));
+      before = back.before;
+      had = back.had;
+      passed = passed_more old mid back.before xs back.done a b back.had front back.passed;
+      ends = back.ends;
+    }
+
+    breaks_more : (old : Held S) (xs ys : List Act) (a : Option (List ℕ)) → Breaks g Ends old xs a
+        → Breaks g Ends old (xs ++ ys) a
+    breaks_more old xs ys a breaks = record {
+      done = breaks.done;
+      next = breaks.next;
+      rest = breaks.rest ++ ys;
+      acts_are = ap (λ zs. zs ++ ys) breaks.acts_are ∙ append_assoc breaks.done (breaks.next ∷ breaks.rest) ys;
+      before = breaks.before;
+      had = breaks.had;
+      passed = breaks.passed;
+      ends = breaks.ends;
+    }
+
+  -- the first act failed so
+  pub early_first : (old new : Held S) (act : Act) (more : List Act) (a b : Option (List ℕ)) (e : JobError)
+      → FailsBy g new b e old a act → GoesEarly g old new (act ∷ more) a b e
+  early_first old new act more a b e fails = inl (breaks_first (FailsBy g new b e) old act more a fails)
+
+  -- memory was short before the first one
+  pub early_none : (at : Held S) (acts : List Act) (taken : Option (List ℕ)) → GoesEarly g at at acts taken taken Memory
+  early_none at acts taken = inr (refl, [], acts, refl, passed_none at taken)
+
+  -- acts that ran, and then some that ended early
+  pub early_after : (old mid new : Held S) (xs ys : List Act) (a b c : Option (List ℕ)) (e : JobError)
+      → Passed g old mid xs a b → GoesEarly g mid new ys b c e → GoesEarly g old new (xs ++ ys) a c e
+  early_after old mid new xs ys a b c e front (inl breaks) =
+      inl (breaks_after (FailsBy g new c e) old mid xs ys a b front breaks)
+  early_after old mid new xs ys a b c e front (inr (short, done, rest, are, passed)) = inr (
+    short,
+    xs ++ done,
+    rest,
+    ap (λ zs. xs ++ zs) are ∙ sym (append_assoc xs done rest),
+    passed_more old mid new xs done a b c front passed,
+  )
 
   -- with acts behind that were never begun
-  pub found_more : (old new : Held S) (xs ys : List Act) (a b : Option (List ℕ)) → FoundNone g old new xs a b
-      → FoundNone g old new (xs ++ ys) a b
-  found_more old new xs ys a b found = record {
-    done = found.done;
-    next = found.next;
-    rest = found.rest ++ ys;
-    acts_are = ap (λ zs. zs ++ ys) found.acts_are ∙ append_assoc found.done (found.next ∷ found.rest) ys;
-    before = found.before;
-    passed = found.passed;
-    found = found.found;
-  }
+  early_more : (old new : Held S) (xs ys : List Act) (a c : Option (List ℕ)) (e : JobError)
+      → GoesEarly g old new xs a c e → GoesEarly g old new (xs ++ ys) a c e
+  early_more old new xs ys a c e (inl breaks) = inl (breaks_more (FailsBy g new c e) old xs ys a breaks)
+  early_more old new xs ys a c e (inr (short, done, rest, are, passed)) =
+      inr (short, done, rest ++ ys, ap (λ zs. zs ++ ys) are ∙ append_assoc done rest ys, passed)
 
-  -- ---- errors
+  -- ---- how one act fails
 
-  module _ (new : Held S) (Found : Type 0) where
-    pub tells_none : (e : JobError) → (e ≡ Store store.NoState → HasCleanDisk (state g new) → Found)
-        → TellsNone g new e Found
-    tells_none Memory found = tt
-    tells_none (Store store.Fault) found = tt
-    tells_none (Store store.OtherSchema) found = tt
-    tells_none (Store store.NoState) found = found refl
-    tells_none (Store store.Memory) found = tt
-    tells_none Write found = tt
+  -- by an error of the store
+  pub fails_by : {X E : Type 0} (IsMine : Change → Type 0) (old new : Held S) (act : Act) (taken : Option (List ℕ))
+      (e : StoreError) (f : E) → ((change : Change) → IsMine change → IsOwn act change)
+      → GoesOver g old new IsMine {X = X} {E = E} (Err f)
+      → (HasCleanDisk (state g new) → e ≡ store.NoState → FoundNoState g old new) → e ≢ store.OtherSchema
+      → FailsBy g new taken (job_error e) old taken act
+  fails_by IsMine old new act taken store.Fault f more goes none which =
+      (goes_err g old new IsMine (IsOwn act) f (Store store.Fault) more goes, refl)
+  fails_by IsMine old new act taken store.OtherSchema f more goes none which = absurd (which refl)
+  fails_by IsMine old new act taken store.NoState f more goes none which =
+      ((goes_err g old new IsMine (IsOwn act) f (Store store.NoState) more goes, refl), λ clean. none clean refl)
+  fails_by IsMine old new act taken store.Memory f more goes none which =
+      (goes_err g old new IsMine (IsOwn act) f Memory more goes, refl)
 
-    pub none_found : (e : JobError) → TellsNone g new e Found → e ≡ Store store.NoState → HasCleanDisk (state g new)
-        → Found
-    none_found e tells is = subst (λ q. TellsNone g new q Found) is tells
-
-  -- what one tells of one thing it tells of what follows
-  tells_more : (new : Held S) (P Q : Type 0) → (P → Q) → (e : JobError) → TellsNone g new e P → TellsNone g new e Q
-  tells_more new P Q more e tells = tells_none new Q e (λ is clean. more (none_found new P e tells is clean))
+  -- by its report, which broke off
+  pub fails_told : (old new : Held S) (act : Act) (outcome : Outcome) (a b : Option (List ℕ))
+      → Passes g old act new (outcome ∷ []) → WrotePart a b (text outcome) → FailsBy g new b Write old a act
+  fails_told old new act outcome a b passes part =
+      (outcome ∷ [], passes, subst (WrotePart a b) (sym (append-nil (text outcome))) part)
 
   -- ---- commands
 
+  -- what a command does is told by this outcome
+  pub performs_passes : (old new : Held S) (date : Text) (files : Files) (c : Command) (performed : Performed)
+      (outcome : Outcome) → (AnswersRun performed → IsRan outcome)
+      → GoesOver g old new (λ change. IsOwnOf c change × AnswersRun performed) {E = StoreError} (Ok performed)
+      → Passes g old (Perform date files c) new (outcome ∷ [])
+  performs_passes old new date files c performed outcome ran goes = (
+    outcome,
+    refl,
+    goes_ok g old new (λ change. IsOwnOf c change × AnswersRun performed)
+        (λ change. IsOwnOf c change × IsRan outcome) performed outcome (λ change own. (own.0, ran own.1)) goes,
+  )
+
   -- the exit of a `?`
-  pub goes_err : {X : Type 0} (old new : Held S) (acts : List Act) (a b : Option (List ℕ)) (r : Result X JobError)
-      (e : JobError) → IsErrAnd r (λ y. y ≡ e) → TellsNone g new e (FoundNone g old new acts a b)
-      → Goes g old new acts a b r
-  goes_err old new acts a b r e failed tells =
+  pub goes_early : {X : Type 0} (old new : Held S) (acts : List Act) (a b : Option (List ℕ)) (r : Result X JobError)
+      (e : JobError) → IsErrAnd r (λ y. y ≡ e) → GoesEarly g old new acts a b e → Goes g old new acts a b r
+  goes_early old new acts a b r e failed early =
       let p = err_from_is_err_and r failed in
-      subst (λ q. Goes g old new acts a b q) (sym (p.1 ∙ ap (λ y. Err y) p.2)) tells
+      subst (λ q. Goes g old new acts a b q) (sym (p.1 ∙ ap (λ y. Err y) p.2)) early
 
   module _ (date : Text) (files : Files) (old mid new : Held S) (xs ys : List Command) (a b c : Option (List ℕ))
       (front : Passed g old mid (map (Perform date files) xs) a b) where
@@ -171,21 +218,16 @@ module _ {S : Type 0} (g : Ghosts S) where
     commands_passed back = subst (λ acts. Passed g old new acts a c) (sym (map-append (Perform date files) xs ys))
         (passed_more old mid new (map (Perform date files) xs) (map (Perform date files) ys) a b c front back)
 
-    -- commands, and then some that found none, with others behind that were never begun
-    commands_found : (more : List Command) → FoundNone g mid new (map (Perform date files) ys) b c
-        → FoundNone g old new (map (Perform date files) ((xs ++ ys) ++ more)) a c
-    commands_found more back =
+    -- commands, and then some that ended early, with others behind that were never begun
+    pub early_commands : (more : List Command) (e : JobError)
+        → GoesEarly g mid new (map (Perform date files) ys) b c e
+        → GoesEarly g old new (map (Perform date files) ((xs ++ ys) ++ more)) a c e
+    early_commands more e back =
         let perform = Perform date files in
-        subst (λ acts. FoundNone g old new acts a c) (sym (map-append perform (xs ++ ys) more))
-        (found_more old new (map perform (xs ++ ys)) (map perform more) a c
-        (subst (λ acts. FoundNone g old new acts a c) (sym (map-append perform xs ys))
-        (found_after old mid new (map perform xs) (map perform ys) a b c front back)))
-
-    pub commands_tell : (more : List Command) (e : JobError)
-        → TellsNone g new e (FoundNone g mid new (map (Perform date files) ys) b c)
-        → TellsNone g new e (FoundNone g old new (map (Perform date files) ((xs ++ ys) ++ more)) a c)
-    commands_tell more = tells_more new (FoundNone g mid new (map (Perform date files) ys) b c)
-        (FoundNone g old new (map (Perform date files) ((xs ++ ys) ++ more)) a c) (commands_found more)
+        subst (λ acts. GoesEarly g old new acts a c e) (sym (map-append perform (xs ++ ys) more))
+        (early_more old new (map perform (xs ++ ys)) (map perform more) a c e
+        (subst (λ acts. GoesEarly g old new acts a c e) (sym (map-append perform xs ys))
+        (early_after old mid new (map perform xs) (map perform ys) a b c e front back)))
 
   -- ---- jobs
 
@@ -193,18 +235,25 @@ module _ {S : Type 0} (g : Ghosts S) where
   abbrev pub JobWent : Held S → Held S → Job → Option (List ℕ) → Option (List ℕ) → Type 0
   JobWent old new job a b = (acts : List Act) × HasActs job acts × Passed g old new acts a b
 
-  -- one that found none
-  abbrev pub JobFound : Held S → Held S → Job → Option (List ℕ) → Option (List ℕ) → Type 0
-  JobFound old new job a b = (acts : List Act) × HasActs job acts × FoundNone g old new acts a b
+  -- jobs that ended early
+  abbrev pub JobsStopped : Held S → Held S → List Job → Option (List ℕ) → Option (List ℕ) → JobError → Type 0
+  JobsStopped old new jobs a b e = (acts : List Act) × AreFirstActs jobs acts × GoesEarly g old new acts a b e
 
-  pub job_goes_err : {X : Type 0} (old new : Held S) (job : Job) (a b : Option (List ℕ)) (r : Result X JobError)
-      (e : JobError) → IsErrAnd r (λ y. y ≡ e) → TellsNone g new e (JobFound old new job a b)
-      → JobGoes g old new job a b r
-  job_goes_err old new job a b r e failed tells =
+  pub job_early : {X : Type 0} (old new : Held S) (job : Job) (a b : Option (List ℕ)) (r : Result X JobError)
+      (e : JobError) → IsErrAnd r (λ y. y ≡ e) → JobsStopped old new (job ∷ []) a b e → JobGoes g old new job a b r
+  job_early old new job a b r e failed stopped =
       let p = err_from_is_err_and r failed in
-      subst (λ q. JobGoes g old new job a b q) (sym (p.1 ∙ ap (λ y. Err y) p.2)) tells
+      subst (λ q. JobGoes g old new job a b q) (sym (p.1 ∙ ap (λ y. Err y) p.2)) stopped
+
+  -- memory was short before the first job
+  pub jobs_unbegun : (at : Held S) (jobs : List Job) (taken : Option (List ℕ)) → JobsStopped at at jobs taken taken Memory
+  jobs_unbegun at jobs taken = ([], none_begun jobs, early_none at [] taken)
 
   module _ (date : Text) (cntl : List ℕ) (files : Files) where
+    -- A job that has not asked the store begins.
+    begun_unasked : (at : Held S) (taken : Option (List ℕ)) → Passed g at at (Begin ∷ []) taken taken
+    begun_unasked at taken = passed_quiet at at Begin taken (loads_none g at, refl, inl refl)
+
     -- the command file is at fault, and that is reported
     pub faulty_goes : (at : Held S) (fault : CntlFault) (a b : Option (List ℕ)) → IsCommandFileFault cntl fault
         → Appends a b (text (Control (record { number = fault.number; code = fault.code })))
@@ -213,54 +262,65 @@ module _ {S : Type 0} (g : Ghosts S) where
         let control : ControlFault = record { number = fault.number; code = fault.code } in (
           Begin ∷ Faulty control ∷ [],
           inr (fault, is, refl),
-          passed_more at at at (Begin ∷ []) (Faulty control ∷ []) a a b
-              (passed_quiet at at Begin a (loads_none g at, refl))
+          passed_more at at at (Begin ∷ []) (Faulty control ∷ []) a a b (begun_unasked at a)
               (passed_one at at (Faulty control) (Control control) a b (loads_none g at, refl) appends),
         )
 
-    -- the job did not begin
-    pub begin_found : (old new : Held S) (cs : List Command) (taken : Option (List ℕ)) → IsCommandFile cntl cs
-        → FoundNoState g old new → JobFound old new (RunFiles date cntl files) taken taken
-    begin_found old new cs taken is found = (
-      Begin ∷ map (Perform date files) cs,
-      inl (cs, is, refl),
-      found_first old new Begin (map (Perform date files) cs) taken found,
-    )
+    -- or the report of that broke off
+    pub faulty_early : (at : Held S) (fault : CntlFault) (a b : Option (List ℕ)) → IsCommandFileFault cntl fault
+        → WrotePart a b (text (Control (record { number = fault.number; code = fault.code })))
+        → JobsStopped at at (RunFiles date cntl files ∷ []) a b Write
+    faulty_early at fault a b is part =
+        let control : ControlFault = record { number = fault.number; code = fault.code } in (
+          Begin ∷ Faulty control ∷ [],
+          one_job (RunFiles date cntl files) (Begin ∷ Faulty control ∷ []) (inr (fault, is, refl)),
+          early_after at at at (Begin ∷ []) (Faulty control ∷ []) a a b Write (begun_unasked at a)
+              (early_first at at (Faulty control) [] a b Write
+              (fails_told at at (Faulty control) (Control control) a b (loads_none g at, refl) part)),
+        )
+
+    -- the job could not begin
+    pub begin_early : (old new : Held S) (cs : List Command) (taken : Option (List ℕ)) (e : JobError)
+        → IsCommandFile cntl cs → FailsBy g new taken e old taken Begin
+        → JobsStopped old new (RunFiles date cntl files ∷ []) taken taken e
+    begin_early old new cs taken e is fails =
+        let acts = map (Perform date files) cs in (
+          Begin ∷ acts,
+          one_job (RunFiles date cntl files) (Begin ∷ acts) (inl (cs, is, refl)),
+          early_first old new Begin acts taken taken e fails,
+        )
 
     -- it began, and its commands went so
     pub begun_goes : {X : Type 0} (old at new : Held S) (cs : List Command) (a b : Option (List ℕ))
-        (r : Result X JobError) → IsCommandFile cntl cs → OnlyLoads g old at
+        (r : Result X JobError) → IsCommandFile cntl cs → Passes g old Begin at []
         → Goes g at new (map (Perform date files) cs) a b r → JobGoes g old new (RunFiles date cntl files) a b r
-    begun_goes old at new cs a b (Ok x) is loads went = (
-      Begin ∷ map (Perform date files) cs,
-      inl (cs, is, refl),
-      passed_more old at new (Begin ∷ []) (map (Perform date files) cs) a a b (passed_quiet old at Begin a (loads, refl))
-          went,
-    )
-    begun_goes old at new cs a b (Err e) is loads tells =
-        tells_more new (FoundNone g at new (map (Perform date files) cs) a b)
-        (JobFound old new (RunFiles date cntl files) a b) (λ found. (
-          Begin ∷ map (Perform date files) cs,
+    begun_goes old at new cs a b (Ok x) is began went =
+        let acts = map (Perform date files) cs in (
+          Begin ∷ acts,
           inl (cs, is, refl),
-          found_after old at new (Begin ∷ []) (map (Perform date files) cs) a a b
-              (passed_quiet old at Begin a (loads, refl)) found,
-        )) e tells
+          passed_more old at new (Begin ∷ []) acts a a b (passed_quiet old at Begin a began) went,
+        )
+    begun_goes old at new cs a b (Err e) is began early =
+        let acts = map (Perform date files) cs in (
+          Begin ∷ acts,
+          one_job (RunFiles date cntl files) (Begin ∷ acts) (inl (cs, is, refl)),
+          early_after old at new (Begin ∷ []) acts a a b e (passed_quiet old at Begin a began) early,
+        )
 
   -- the definition of a zone
   pub define_goes : (old new : Held S) (d : ZoneDefinition) (taken : Option (List ℕ))
+      → GoesOver g old new (IsOwn (Define d)) {X = List Outcome} {E = JobError} (Ok [])
       → JobWent old new (NewZone d) taken taken
-  define_goes old new d taken = (Define d ∷ [], refl, passed_quiet old new (Define d) taken refl)
+  define_goes old new d taken goes = (Define d ∷ [], refl, passed_quiet old new (Define d) taken (refl, goes))
 
-  -- or it told that no state is there
-  pub define_none : (old new : Held S) (d : ZoneDefinition) (taken : Option (List ℕ)) (e : StoreError)
-      (told : JobError) → told ≡ job_error e → (e ≡ store.NoState → HasCleanDisk (state g new) → FoundNoState g old new)
-      → TellsNone g new told (JobFound old new (NewZone d) taken taken)
-  define_none old new d taken e told is found =
-      tells_none new (JobFound old new (NewZone d) taken taken) told (λ bad clean. (
-        Define d ∷ [],
-        refl,
-        found_first old new (Define d) [] taken (found (none_told e (sym is ∙ bad)) clean),
-      ))
+  -- or it failed
+  pub define_early : (old new : Held S) (d : ZoneDefinition) (taken : Option (List ℕ)) (e : JobError)
+      → FailsBy g new taken e old taken (Define d) → JobsStopped old new (NewZone d ∷ []) taken taken e
+  define_early old new d taken e fails = (
+    Define d ∷ [],
+    one_job (NewZone d) (Define d ∷ []) refl,
+    early_first old new (Define d) [] taken taken e fails,
+  )
 
   -- ---- lists of jobs
 
@@ -268,20 +328,15 @@ module _ {S : Type 0} (g : Ghosts S) where
   abbrev pub JobsWent : Held S → Held S → List Job → Option (List ℕ) → Option (List ℕ) → Type 0
   JobsWent old new jobs a b = (acts : List Act) × HaveActs jobs acts × Passed g old new acts a b
 
-  -- jobs of which one found none
-  abbrev pub JobsFound : Held S → Held S → List Job → Option (List ℕ) → Option (List ℕ) → Type 0
-  JobsFound old new jobs a b = (acts : List Act) × AreFirstActs jobs acts × FoundNone g old new acts a b
-
-  pub jobs_go_err : {X : Type 0} (old new : Held S) (jobs : List Job) (a b : Option (List ℕ)) (r : Result X JobError)
-      (e : JobError) → IsErrAnd r (λ y. y ≡ e) → TellsNone g new e (JobsFound old new jobs a b)
-      → JobsGo g old new jobs a b r
-  jobs_go_err old new jobs a b r e failed tells =
+  pub jobs_early : {X : Type 0} (old new : Held S) (jobs : List Job) (a b : Option (List ℕ)) (r : Result X JobError)
+      (e : JobError) → IsErrAnd r (λ y. y ≡ e) → JobsStopped old new jobs a b e → JobsGo g old new jobs a b r
+  jobs_early old new jobs a b r e failed stopped =
       let p = err_from_is_err_and r failed in
-      subst (λ q. JobsGo g old new jobs a b q) (sym (p.1 ∙ ap (λ y. Err y) p.2)) tells
+      subst (λ q. JobsGo g old new jobs a b q) (sym (p.1 ∙ ap (λ y. Err y) p.2)) stopped
 
   module _ (old mid new : Held S) (jobs : List Job) (job : Job) (a b c : Option (List ℕ))
       (front : JobsWent old mid jobs a b) where
-    -- and then one more
+    -- jobs, and then one more
     pub went_more : JobWent mid new job b c → JobsWent old new (jobs ++ job ∷ []) a c
     went_more back = (
       front.0 ++ back.0,
@@ -289,14 +344,12 @@ module _ {S : Type 0} (g : Ghosts S) where
       passed_more old mid new front.0 back.0 a b c front.2 back.2,
     )
 
-    -- or one that found none, with others behind that were never begun
-    pub jobs_tell : (more : List Job) (e : JobError) → TellsNone g new e (JobFound mid new job b c)
-        → TellsNone g new e (JobsFound old new ((jobs ++ job ∷ []) ++ more) a c)
-    jobs_tell more =
-        tells_more new (JobFound mid new job b c) (JobsFound old new ((jobs ++ job ∷ []) ++ more) a c) (λ back. (
-          front.0 ++ back.0,
-          first_more (jobs ++ job ∷ []) more (front.0 ++ back.0)
-              (have_first jobs (job ∷ []) front.0 back.0 front.1
-              (inr (back.0, [], back.1, refl, sym (append-nil back.0)))),
-          found_after old mid new front.0 back.0 a b c front.2 back.2,
-        ))
+    -- or one that ended early, with others behind that were never begun
+    pub went_early : (more : List Job) (e : JobError) → JobsStopped mid new (job ∷ []) b c e
+        → JobsStopped old new ((jobs ++ job ∷ []) ++ more) a c e
+    went_early more e back = (
+      front.0 ++ back.0,
+      first_more (jobs ++ job ∷ []) more (front.0 ++ back.0)
+          (have_first jobs (job ∷ []) front.0 back.0 front.1 back.1),
+      early_after old mid new front.0 back.0 a b c e front.2 back.2,
+    )

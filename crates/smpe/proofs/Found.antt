@@ -8,7 +8,6 @@ use Rattle.machine.specs.Machine.{Act, Prints}
 use Rattle.machine.specs.Runs.{Stopped, BrokeOff}
 use Rattle.store_schema.specs.declared.error.StoreError.TheVariants as store
 use Rattle.store_schema.specs.Inventory.{Inventory}
-use Rattle.store.specs.Causes.{LeavesFaulted}
 use Rattle.store.specs.View.{Tables, TablesIfOpen, MayLeave, Leaves}
 use Rattle.store.proofs.Reopening.{found_left}
 use Rattle.smpe_zones.specs.Kept.{kept}
@@ -23,10 +22,9 @@ module _ {S T : Type 0} (g : Ghosts S) (h : Ghosts T) (began at : Held S) (again
     one_of : (Among : Inventory → Type 0) → Leaves g at Among → ShowsOne h again Among
     one_of Among leaves = found_left g h at again Among leaves shows.live left shows.is_open
 
-    stopped : (Left : (Inventory → Type 0) → Type 0) → ((Among : Inventory → Type 0) → Left Among → Leaves g at Among)
-        → Stopped Prints kept s acts (TablesIfOpen g at) Left old new
+    stopped : Stopped Prints kept s acts (TablesIfOpen g at) (Leaves g at) old new
         → Stopped Prints kept s acts (λ c. Unit {0}) (ShowsOne h again) old new
-    stopped Left leaves stop = record {
+    stopped stop = record {
       done = stop.done;
       rest = stop.rest;
       acts_are = stop.acts_are;
@@ -34,7 +32,7 @@ module _ {S T : Type 0} (g : Ghosts S) (h : Ghosts T) (began at : Held S) (again
       bytes = stop.bytes;
       runs = stop.runs;
       now = tt;
-      crash = one_of _ (leaves _ stop.crash);
+      crash = one_of _ stop.crash;
       appends = stop.appends;
     }
 
@@ -59,8 +57,8 @@ module _ {S T : Type 0} (g : Ghosts S) (h : Ghosts T) (began at : Held S) (again
     }
 
     early : (e : JobError) → EndsEarly g began at s acts old new e → FindsEarly h again s acts old new e
-    early Memory ends = stopped (Leaves g at) (λ Among leaves. leaves) ends
-    early (Store store.Fault) ends = stopped (λ Among. LeavesFaulted g began at Among) (λ Among faulted. faulted.0) ends
+    early Memory ends = stopped ends
+    early (Store store.Fault) ends = stopped ends.stopped
     early (Store store.OtherSchema) ends = ends
     early (Store store.NoState) ends = ends
     early (Store store.Memory) ends = ends

@@ -1,6 +1,6 @@
 -- How one job ends.
-use Rattle.std.proofs.Common.{◌≡◌, ℕ, List, [], ◌∷◌, Option, None, Result, Ok, Err, map, refl, sym, ◌∙◌, ap, subst}
-use Rattle.std.proofs.Common.{append-nil, inl, inr}
+use Rattle.std.proofs.Common.{◌≡◌, ℕ, List, [], ◌∷◌, Option, None, Result, Ok, Err, IsTrue, map, refl, sym, ◌∙◌}
+use Rattle.std.proofs.Common.{ap, subst, append-nil, inl, inr}
 use Rattle.std.specs.List.{flat_map}
 use Rattle.std.specs.Io.KnownBytes.{Appends}
 use Rattle.std.specs.Result.{IsErrAnd}
@@ -27,15 +27,20 @@ use Rattle.smpe_session.specs.Sessions.{HasBegun}
 use Rattle.smpe_zones.specs.declared.error.ZoneFault.{ZoneFault}
 use Rattle.smpe_zones.specs.declared.error.ZoneError.{ZoneError}
 use Rattle.smpe_zones.specs.declared.error.ZoneError.TheVariants as zone_error
-use Rattle.smpe_zones.specs.Definitions.{HasDefined, fault_of}
+use Rattle.smpe_zones.specs.Definitions.{HasDefined, fault_of, is_refused}
 use Rattle.smpe.specs.declared.error.JobError.{JobError}
 use Rattle.smpe.specs.declared.error.JobError.TheVariants.{Memory, Write}
 use Rattle.smpe.specs.Ending.{EndsEarly, EndsAmong, EndsJob}
 use Rattle.smpe.specs.Commands.{EndsCommands, job_error}
 use Rattle.smpe.proofs.Early.{stopped_first, faulted_first, early_after}
 
+-- an error that is a refusal
+pub refused_so : (U : Type 0) {e : ZoneError} {why : ZoneFault} → e ≡ zone_error.Refused why
+    → IsTrue (is_refused {U = U} (Err e))
+refused_so U is = subst (λ e. IsTrue (is_refused {U = U} (Err e))) (sym is) refl
+
 -- the acts of the only job
-one_job : (job : Job) (acts : List Act) → HasActs job acts → AreFirstActs (job ∷ []) acts
+pub one_job : (job : Job) (acts : List Act) → HasActs job acts → AreFirstActs (job ∷ []) acts
 one_job job acts has = inr (acts, [], has, refl, sym (append-nil acts))
 
 abbrev unset : State → State

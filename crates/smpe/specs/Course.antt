@@ -1,19 +1,24 @@
 -- The course of a call, whatever its tables are: they need not stand for a state.
-use Rattle.std.specs.Prelude.{◌≡◌, ℕ, List, [], ◌∷◌, ◌++◌, Option, Result, Ok, Err}
+use Rattle.std.specs.Prelude.{◌≡◌, ◌⊎◌, ℕ, List, [], ◌∷◌, ◌++◌, Option, Result, Ok, Err}
 use Rattle.std.specs.List.{flat_map}
 use Rattle.std.specs.Io.KnownBytes.{Appends}
 use Rattle.sqlite.specs.Store.{Ghosts}
 use Rattle.sqlite.specs.Held.{Held, state}
 use Rattle.sqlite.specs.State.{HasCleanDisk}
+use Rattle.terms.specs.Types as terms
 use Rattle.machine.specs.Outcome.{Outcome, Control}
 use Rattle.machine.specs.Report.{text}
 use Rattle.machine.specs.Machine.{Act, Begin, Perform, Faulty, Define, Job, HasActs, AreFirstActs}
 use Rattle.machine.specs.Runs.{Runs}
+use Rattle.report.specs.Sent.{WrotePart}
 use Rattle.store_schema.specs.declared.error.StoreError.TheVariants as store
 use Rattle.store.specs.BadRows.{OnlyLoads, FoundNoState}
-use Rattle.smpe_session.specs.Writing.{WritesNothing}
+use Rattle.store.specs.Courses.{GoesOver}
+use Rattle.store.specs.Whole.{ShowsGlobal}
+use Rattle.smpe_zones.specs.Own.{IsOwn}
+use Rattle.smpe_session.specs.Writing.{IsRan}
 use Rattle.smpe.specs.declared.error.JobError.{JobError}
-use Rattle.smpe.specs.declared.error.JobError.TheVariants.{Store}
+use Rattle.smpe.specs.declared.error.JobError.TheVariants.{Memory, Store, Write}
 
 -- the acts are those of the jobs
 abbrev pub HaveActs : List Job → List Act → Type 0
@@ -22,15 +27,18 @@ HaveActs (job ∷ more) acts =
     (front back : List Act) × HasActs job front × HaveActs more back × (acts ≡ front ++ back)
 
 module _ {S : Type 0} (g : Ghosts S) where
-  -- The store before an act that ran, the store after it, and what was reported. A command that writes nothing, a job's
-  -- beginning and the fault of a command file have left the store as it was. What the others commit is said where the
-  -- tables stand for a state.
+  -- The store before an act that ran, the store after it, and what was reported. A job's beginning has found the rows of
+  -- a global zone; or it has not asked the store, as where the command file is at fault. It and that fault have left the
+  -- store as it was, and so has a command that was refused; one that ran, or the definition of a zone, has made no more
+  -- than one change of its own.
   abbrev pub Passes : Held S → Act → Held S → List Outcome → Type 0
   Passes old Begin new outcomes = OnlyLoads g old new × (outcomes ≡ [])
-  Passes old (Perform date files c) new outcomes =
-      (WritesNothing c → OnlyLoads g old new) × ((outcome : Outcome) × (outcomes ≡ outcome ∷ []))
+      × ((new ≡ old) ⊎ (HasCleanDisk (state g new) → (global : terms.Global) × ShowsGlobal g old global))
   Passes old (Faulty fault) new outcomes = OnlyLoads g old new × (outcomes ≡ Control fault ∷ [])
-  Passes old (Define d) new outcomes = outcomes ≡ []
+  Passes old (Perform date files c) new outcomes = (outcome : Outcome) × (outcomes ≡ outcome ∷ [])
+      × GoesOver g old new (λ change. IsOwn (Perform date files c) change × IsRan outcome) {E = JobError} (Ok outcome)
+  Passes old (Define d) new outcomes =
+      (outcomes ≡ []) × GoesOver g old new (IsOwn (Define d)) {E = JobError} (Ok outcomes)
 
   -- The acts ran one after the other, and the sink took the report of each.
   pub record Passed (old new : Held S) (acts : List Act) (taken taken' : Option (List ℕ)) : Type 0 where
@@ -38,36 +46,55 @@ module _ {S : Type 0} (g : Ghosts S) where
     pub passes : Runs Passes old acts new outcomes
     pub appends : Appends taken taken' (flat_map text outcomes)
 
-  -- Some first acts ran and are reported. The next one told that no state is there: no inventory stands for what was
-  -- committed before it, and since the last report nothing has changed, and nothing was reported.
-  pub record FoundNone (old new : Held S) (acts : List Act) (taken taken' : Option (List ℕ)) : Type 0 where
+  -- Some first acts ran and are reported, and the next one ended so: from the store before it, and what the sink had.
+  pub record Breaks (Ends : Held S → Option (List ℕ) → Act → Type 0) (old : Held S) (acts : List Act)
+      (taken : Option (List ℕ)) : Type 0 where
     pub done : List Act
     pub next : Act
     pub rest : List Act
     pub acts_are : acts ≡ done ++ next ∷ rest
     pub before : Held S
-    pub passed : Passed old before done taken taken'
-    pub found : FoundNoState g before new
+    pub had : Option (List ℕ)
+    pub passed : Passed old before done taken had
+    pub ends : Ends before had next
 
-  -- an error that tells that no state is there
-  abbrev pub TellsNone : Held S → JobError → Type 0 → Type 0
-  TellsNone new (Store store.NoState) Found = HasCleanDisk (state g new) → Found
-  TellsNone new _ Found = Unit {0}
+  module _ (new : Held S) (taken' : Option (List ℕ)) where
+    -- The act failed. It has loaded, or failed to commit one of its own changes, and is not reported.
+    abbrev pub Fails : JobError → Held S → Option (List ℕ) → Act → Type 0
+    Fails error before had act =
+        GoesOver g before new (IsOwn act) {X = Unit {0}} (Err error) × (had ≡ taken')
+
+    -- Its error was this one. No state is there, if that is what it tells; and none tells of another schema. Where the
+    -- report could not be written, the act ran, and a beginning of its report went out.
+    abbrev pub FailsBy : JobError → Held S → Option (List ℕ) → Act → Type 0
+    FailsBy Memory before had act = Fails Memory before had act
+    FailsBy (Store store.Fault) before had act = Fails (Store store.Fault) before had act
+    FailsBy (Store store.NoState) before had act = Fails (Store store.NoState) before had act
+        × (HasCleanDisk (state g new) → FoundNoState g before new)
+    FailsBy (Store _) before had act = ⊥
+    FailsBy Write before had act =
+        (outcomes : List Outcome) × Passes before act new outcomes × WrotePart had taken' (flat_map text outcomes)
+
+  module _ (old new : Held S) (acts : List Act) (taken taken' : Option (List ℕ)) where
+    -- The acts ended early, by this error. Memory may also be short before the next act is begun.
+    abbrev pub GoesEarly : JobError → Type 0
+    GoesEarly error = Breaks (FailsBy new taken' error) old acts taken
+        ⊎ ((error ≡ Memory) × (done rest : List Act) × (acts ≡ done ++ rest) × Passed old new done taken taken')
+
+    -- So acts go, to their end or to an error.
+    abbrev pub Goes : {X : Type 0} → Result X JobError → Type 0
+    Goes (Ok x) = Passed old new acts taken taken'
+    Goes (Err error) = GoesEarly error
 
   module _ (old new : Held S) where
-    -- So the commands of a job go, to their end or to one that told that no state is there.
-    abbrev pub Goes : List Act → Option (List ℕ) → Option (List ℕ) → {X : Type 0} → Result X JobError → Type 0
-    Goes acts taken taken' (Ok x) = Passed old new acts taken taken'
-    Goes acts taken taken' (Err error) = TellsNone new error (FoundNone old new acts taken taken')
-
     -- so a job
     abbrev pub JobGoes : Job → Option (List ℕ) → Option (List ℕ) → {X : Type 0} → Result X JobError → Type 0
     JobGoes job taken taken' (Ok x) = (acts : List Act) × HasActs job acts × Passed old new acts taken taken'
     JobGoes job taken taken' (Err error) =
-        TellsNone new error ((acts : List Act) × HasActs job acts × FoundNone old new acts taken taken')
+        (acts : List Act) × AreFirstActs (job ∷ []) acts × GoesEarly old new acts taken taken' error
 
     -- and so jobs
     abbrev pub JobsGo : List Job → Option (List ℕ) → Option (List ℕ) → {X : Type 0} → Result X JobError → Type 0
     JobsGo jobs taken taken' (Ok x) = (acts : List Act) × HaveActs jobs acts × Passed old new acts taken taken'
     JobsGo jobs taken taken' (Err error) =
-        TellsNone new error ((acts : List Act) × AreFirstActs jobs acts × FoundNone old new acts taken taken')
+        (acts : List Act) × AreFirstActs jobs acts × GoesEarly old new acts taken taken' error

@@ -13,8 +13,8 @@ use Rattle.machine.specs.Runs.{Stopped, BrokeOff}
 use Rattle.store_schema.specs.declared.error.StoreError.TheVariants as store
 use Rattle.store_schema.specs.Inventory.{Inventory}
 use Rattle.store_schema.specs.Stands.{StandsFor}
-use Rattle.store.specs.Causes.{LeavesFaulted}
-use Rattle.smpe_zones.specs.Kept.{kept, Keeps}
+use Rattle.store.specs.Causes.{HasCause}
+use Rattle.smpe_zones.specs.Kept.{kept, Keeps, LeadsOn}
 use Rattle.store.specs.View.{Tables, TablesIfOpen, Leaves}
 use Rattle.smpe_zones.specs.Definitions.{definition, fault_of}
 use Rattle.smpe.specs.declared.error.JobError.{JobError}
@@ -45,18 +45,28 @@ pub record StaysClosed {S : Type 0} (g : Ghosts S) (at : Held S) : Type 0 where
   pub crash : (db : Trees) → (state g at).may_leave db → (schema : Schema) (i : Inventory)
       → StandsFor i (record { schema = schema; trees = db }) → AreClosed i.global i.zones
 
+-- In a call that began at `began`, the first of these acts met a fault. The cause is since then, while the tables stood for
+-- the state before the act.
+abbrev pub IsCaused : {S : Type 0} → Ghosts S → Held S → Held S → State → List Act → Type 0
+IsCaused g began at before [] = ⊥
+IsCaused g began at before (next ∷ rest) = HasCause g began at (kept before) (LeadsOn before next)
+
 -- A call began at the store `began`, found the tables standing for s, and left the store as it is now. The sink had
 -- taken `old`, and now has `new`.
 module _ {S : Type 0} (g : Ghosts S) (began at : Held S) (s : State) where
+  -- Some first acts ran, and there is a cause for the fault of the next one.
+  pub record StoppedFaulted (acts : List Act) (old new : Option (List ℕ)) : Type 0 where
+    pub stopped : Stopped Prints kept s acts (TablesIfOpen g at) (Leaves g at) old new
+    pub cause : IsCaused g began at stopped.end stopped.rest
+
   -- The call could not go on to the end of these acts.
   -- For want of memory, or after a fault of the store: some first acts ran and are reported, and the next one had no
   -- effect and no report. A crash may leave its effect; where the connection is still open, the store keeps what the
-  -- first acts led to, and the caller may go on from there. A fault has a cause in this call, in that next act.
+  -- first acts led to, and the caller may go on from there. A fault has a cause in this call, of that next act.
   -- After a fault of the sink: some first acts ran, and of the last one's report a beginning went out.
   abbrev pub EndsEarly : List Act → Option (List ℕ) → Option (List ℕ) → JobError → Type 0
   EndsEarly acts old new Memory = Stopped Prints kept s acts (TablesIfOpen g at) (Leaves g at) old new
-  EndsEarly acts old new (Store store.Fault) =
-      Stopped Prints kept s acts (TablesIfOpen g at) (LeavesFaulted g began at) old new
+  EndsEarly acts old new (Store store.Fault) = StoppedFaulted acts old new
   EndsEarly acts old new (Store _) = ⊥
   EndsEarly acts old new Write = BrokeOff Prints kept s acts (Tables g at) (Leaves g at) old new
 

@@ -8,26 +8,18 @@ ghost use Rattle.cntl.specs.Views.{command_of};
 ghost use Rattle.smpe_session.specs.Sessions.{IsSessionOf};
 ghost use Rattle.smpe_zones.specs.Kept.{Keeps};
 ghost use Rattle.smpe.specs.Ending.{EndsJob, StaysClosed, is_write};
-ghost use Rattle.terms.specs.Forms.{IsDottedDate};
 ghost use Rattle.terms.specs.Closed.{AreClosed};
 ghost use Rattle.smpe.specs.Commands.{EndsCommands};
 ghost use Rattle.smpe.specs.Course.{Goes, JobGoes};
 
 use crate::error::JobError;
 use cntl::{CntlError, Command, read_cntl};
-use fields::YyDdd;
+use fields::{Attest, YyDdd};
 use report::{Outcome, Sink, write_report};
 use smpe_session::{Files, Performed, Session};
 use sqlite::Alter;
 use std::alloc::Global;
 use store::Store;
-
-// That the date has its form, which no other call here would say.
-fn is_known(date: YyDdd)
-    ensures { IsDottedDate date }
-{
-    prove!(date.as_bytes().len() == 6);
-}
 
 /// Performs a command, and reports it once it is committed.
 fn run_command<S: Alter, W: Sink>(
@@ -116,7 +108,7 @@ pub fn run_job<S: Alter, W: Sink>(
         → AreClosed s.global s.zones → StaysClosed S.Store store.new }
     ensures fault { W.has_failed w.old ≡ false → W.has_failed w.new ≡ is_write result }
 {
-    is_known(date);
+    date.attest();
     let commands = match read_cntl(alloc, cntl) {
         Ok(commands) => commands,
         Err(CntlError::Memory) => return Err(JobError::Memory),

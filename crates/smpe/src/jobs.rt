@@ -1,5 +1,5 @@
 //! A list of jobs.
-ghost use Rattle.std.specs.Prelude.{◌≡◌, ◌≤◌, ℕ, List, Option, false, map};
+ghost use Rattle.std.specs.Prelude.{◌≡◌, ◌≤◌, ℕ, List, Option, false, map, length, IfOk};
 ghost use Rattle.sqlite.specs.Held.{state};
 ghost use Rattle.sqlite.specs.State.{HasCleanDisk};
 ghost use Rattle.machine.specs.State.{State};
@@ -130,6 +130,7 @@ pub fn run_jobs<S: Alter, W: Sink>(
     ensures closed { HasCleanDisk (state S.Store store.new) → (s : State) → Keeps S.Store store.old s
         → AreClosed s.global s.zones → StaysClosed S.Store store.new }
     ensures fault { W.has_failed w.old ≡ false → W.has_failed w.new ≡ is_write result }
+    ensures count { IfOk result (λ answers. length answers.items ≡ length jobs.now) }
 {
     let mut answers = Vec::with_capacity(alloc, jobs.len())?;
     for job in jobs {

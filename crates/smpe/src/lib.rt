@@ -4,8 +4,8 @@
 //! was reported. Zones that were closed stay so, also after an error and a crash (`closed`). The program's lines and
 //! its exit status are `zone_line` and `fault_line`. A fault of the database has a cause in the call that answers it;
 //! no contract says when want of memory comes. What the next open finds after an error is a law, `next_open_finds`.
-//! Whatever the tables are (`course`), the answer that they stand for no state has changed nothing since the last
-//! command that was reported.
+//! Whatever the tables are (`course`), each command has loaded, or made one change of its own besides; and the answer
+//! that they stand for no state has changed nothing since the last command that was reported.
 #![tactic(auto)]
 
 mod error;
@@ -20,8 +20,8 @@ pub use error::JobError;
 pub use job::run_job;
 pub use jobs::{Answer, Job, run_jobs};
 pub use law::next_open_finds;
-pub use list_job::list_commands;
-pub use messages::{FAULT_STATUS, Fault, fault_line, migrated_line, zone_line};
-pub use smpe_invocation::{ArgFault, Invocation, invocation};
+pub use list_job::{list_commands, two_commands};
+pub use messages::{FAULT_STATUS, Fault, fault_line, migrated_line, status_of, zone_line};
+pub use smpe_invocation::{ArgFault, Commands, Invocation, invocation};
 pub use smpe_zones::{ZoneError, ZoneFault};
 pub use zone::define_zone;

@@ -48,6 +48,17 @@ fn write_refused<W: Sink>(fault: ZoneFault, w: &mut W) -> Result<u8, WriteFault>
     Ok(12)
 }
 
+/// The program's status where this is the answer: of a job its return code.
+pub fn status_of(answer: &Answer) -> u8
+    ensures { result ≡ answer_status (answer_of answer.now) }
+{
+    match answer {
+        Answer::Code(code) => *code,
+        Answer::Defined => 0,
+        Answer::Refused(_) => 12,
+    }
+}
+
 /// Writes the line of a defined or refused zone, and answers the program's status: of a job its return code, which has
 /// no line here. The error comes where the line can't be written.
 pub fn zone_line<W: Sink>(name: ZoneName, answer: &Answer, w: &mut W) -> Result<u8, WriteFault>

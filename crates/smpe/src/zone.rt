@@ -1,30 +1,18 @@
 //! The definition of a zone.
-ghost use Rattle.std.specs.Prelude.{◌≡◌, ◌≤◌, IsErrOf};
+ghost use Rattle.std.specs.Prelude.{◌≡◌, ◌≤◌};
 ghost use Rattle.sqlite.specs.Held.{state};
 ghost use Rattle.sqlite.specs.State.{HasCleanDisk};
-ghost use Rattle.terms.specs.Forms.{IsSrel, IsZoneName};
 ghost use Rattle.terms.specs.Closed.{AreClosed};
 ghost use Rattle.machine.specs.State.{State};
 ghost use Rattle.smpe_zones.specs.Kept.{Keeps};
-ghost use Rattle.store_schema.specs.declared.error.StoreError.{StoreError};
-ghost use Rattle.store.specs.BadRows.{FoundNoState};
-ghost use Rattle.smpe_zones.specs.Definitions.{HasDefined, definition};
+ghost use Rattle.smpe_zones.specs.Definitions.{HasCourse, HasDefined, definition};
 ghost use Rattle.smpe.specs.Ending.{StaysClosed};
 
-use fields::{Srel, ZoneName};
+use fields::{Attest, Srel, ZoneName};
 use smpe_zones::ZoneError;
 use sqlite::Alter;
 use store::Store;
 use terms::ZoneKind;
-
-// That the values have their forms, which no other call here would say.
-fn are_known(name: ZoneName, srel: Srel)
-    ensures name { IsZoneName name }
-    ensures srel { IsSrel srel }
-{
-    prove!(name.as_bytes().len() >= 1);
-    prove!(srel.as_bytes().len() == 4);
-}
 
 /// Adds a zone without entries. `Refused` has the first that applies of `NameTaken`, `WrongRelated`, `OtherSrel` and
 /// `TooMany`; `Memory` comes where memory runs out, and `Store` has `Fault` where the database fails, or `NoState`
@@ -41,11 +29,11 @@ pub fn define_zone<S: Alter>(
     ensures limit { store.new.step_limit ≡ store.old.step_limit }
     ensures ended { HasCleanDisk (state S.Store store.new) → (s : State) → Keeps S.Store store.old s
         → HasDefined S.Store store.old store.new s (definition name kind srel related) result }
-    ensures none { HasCleanDisk (state S.Store store.new) → IsErrOf result (ZoneError.Store StoreError.NoState)
-        → FoundNoState S.Store store.old store.new }
+    ensures course { HasCourse S.Store store.old store.new (definition name kind srel related) result }
     ensures closed { HasCleanDisk (state S.Store store.new) → (s : State) → Keeps S.Store store.old s
         → AreClosed s.global s.zones → StaysClosed S.Store store.new }
 {
-    are_known(name, srel);
+    name.attest();
+    srel.attest();
     smpe_zones::define_zone(store, name, kind, srel, related)
 }

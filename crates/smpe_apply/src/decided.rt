@@ -3,32 +3,23 @@ ghost use Rattle.std.specs.Prelude.{◌≡◌, ◌↔◌, All, Contains, IsTrue,
 ghost use Rattle.terms.specs.Types.{Id as AnId};
 ghost use Rattle.terms.specs.Candidates.{is_installable};
 ghost use Rattle.terms.specs.Needs.{bypassed_ids};
-ghost use Rattle.terms.specs.Judged.{setting};
 ghost use Rattle.terms.specs.Over.{Supersedes};
 ghost use Rattle.zones_views.specs.Scopes.{choice_of, global_of, setting_with};
 ghost use Rattle.smpe_apply.specs.Decided.{IsDecided};
 ghost use Rattle.decide.specs.Views.{why_failed};
 
 use change::pairs_of;
-use cntl::Bypass;
 use decide::Failure;
 use fields::{Id, IdList};
 use judge::{Judged, judge_install};
 use std::alloc::{AllocError, Global};
-use sysmods::{GlobalZone, Overs};
+use sysmods::Overs;
 use zones::Zone;
-use zones_views::{Scope, choose};
+use zones_views::Scope;
 
-/// The kept candidates, each other one with the reason, in their order, and the bypassed requisites of the kept ones.
-#[derive(Drop)]
-pub struct Decided {
-    pub kept: IdList,
-    pub failed: Vec<(Id, Failure)>,
-    pub bypassed: Vec<(Id, Id)>,
-}
-
-/// What is decided, and what an install asks besides: each candidate with each id that it supersedes, and what was
-/// found of who is over whom.
+/// The kept candidates, each other one with the reason, in their order, and the bypassed requisites of the kept ones;
+/// and what an install asks besides: each candidate with each id that it supersedes, and what was found of who is over
+/// whom.
 #[derive(Drop)]
 pub(crate) struct Deciding<'a, 'b> {
     pub(crate) kept: IdList,
@@ -38,40 +29,8 @@ pub(crate) struct Deciding<'a, 'b> {
     pub(crate) overs: Overs<'a, 'b>,
 }
 
-/// Decides which candidates of an APPLY or ACCEPT in this zone are kept, for ACCEPT with the related target zone: those
-/// of the greatest self-supporting set. The error comes where memory runs out.
-pub fn decide(
-    alloc: Global,
-    global: &GlobalZone,
-    zone: &Zone,
-    related: Option<&Zone>,
-    ids: &IdList,
-    bypass: &Bypass,
-) -> Result<Decided, AllocError>
-    requires { All (λ x. IsTrue (is_installable global.now zone.now x)) ids.now }
-    ensures decided { IfOk result (λ d. IsDecided
-        (setting global.now zone.now (option_copied related.entry) ids.now bypass.now) d.kept
-        (map why_failed d.failed.items)) }
-    ensures bypassed { IfOk result (λ d. (x z : AnId) → Contains {X = AnId × AnId} d.bypassed.items (x, z)
-        ↔ (Contains d.kept x × Contains (bypassed_ids
-        (setting global.now zone.now (option_copied related.entry) ids.now bypass.now) x) z)) }
-{
-    let vers = choose(alloc, global, zone, ids)?;
-    let scope = Scope {
-        vers: &vers,
-        zone,
-        ids,
-        bypass,
-    };
-    let deciding = decide_by(alloc, &scope, related)?;
-    Ok(Decided {
-        kept: deciding.kept,
-        failed: deciding.failed,
-        bypassed: deciding.bypassed,
-    })
-}
-
-/// The same by the `++VER`s of the scope.
+/// Decides which candidates of an APPLY or ACCEPT in the scope's zone are kept, for ACCEPT with the related target zone:
+/// those of the greatest self-supporting set. The error comes where memory runs out.
 pub(crate) fn decide_by<'a, 'b>(
     alloc: Global,
     scope: &Scope<'a, 'b>,
@@ -88,7 +47,7 @@ pub(crate) fn decide_by<'a, 'b>(
 {
     let Judged {
         tests,
-        wants,
+        needs,
         superseded,
         bypassed,
         overs,
@@ -97,7 +56,7 @@ pub(crate) fn decide_by<'a, 'b>(
         alloc,
         scope.ids,
         tests,
-        wants.as_slice(),
+        needs.as_slice(),
         superseded.as_slice(),
     )?;
     let bypassed = pairs_of(alloc, &decided.kept, bypassed.as_slice())?;

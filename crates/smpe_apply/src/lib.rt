@@ -10,4 +10,3 @@ mod lines;
 mod statuses;
 
 pub use applied::{Applied, apply};
-pub use decided::{Decided, decide};

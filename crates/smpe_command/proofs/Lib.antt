@@ -1,1 +1,3 @@
+mod Greatest
+mod OneJob
 mod Texts

@@ -1,12 +1,12 @@
 -- A job over the database of a name.
-use Rattle.std.specs.Prelude.{◌≡◌, ◌⊎◌, ℕ, false, IsTrue, Result, Ok, Err}
+use Rattle.std.specs.Prelude.{◌≡◌, ◌⊎◌, List, [], ◌∷◌, false, IsTrue, Result, Ok, Err}
 use Rattle.sqlite.specs.declared.error.Error.{Error}
 use Rattle.sqlite.specs.Store.{Ghosts}
 use Rattle.sqlite.specs.Held.{Held, state}
 use Rattle.sqlite.specs.State.{HasCleanDisk, IsUnchanged, Survives}
 use Rattle.terms.specs.Types.{Text}
 use Rattle.terms.specs.Closed.{AreClosed}
-use Rattle.machine.specs.State.{State, ZoneDefinition}
+use Rattle.machine.specs.State.{State}
 use Rattle.machine.specs.Machine as machine
 use Rattle.machine.specs.Runs.{Stands}
 use Rattle.report.specs.declared.sink.Sink.{Ghosts as SinkGhosts}
@@ -17,32 +17,14 @@ use Rattle.store_schema.specs.Inventory.{Inventory}
 use Rattle.store_schema.specs.Known.{HasOtherNumber, HasNoState, HasOwnTables, told}
 use Rattle.store_schema.specs.Stands.{IsSetUp}
 use Rattle.smpe_zones.specs.Kept.{kept}
-use Rattle.store.specs.BadRows.{FoundNoState}
 use Rattle.store_migration.specs.Migrated.{Migrated, Unmigrated}
 use Rattle.store.specs.View.{Tables, Leaves, LeavesFound, IsFound}
-use Rattle.smpe_zones.specs.declared.error.ZoneError.{ZoneError}
-use Rattle.smpe_zones.specs.declared.error.ZoneError.TheVariants as zone
-use Rattle.smpe_zones.specs.Definitions.{HasDefined}
 use Rattle.smpe.specs.declared.error.JobError.{JobError}
-use Rattle.smpe.specs.declared.error.JobError.TheVariants.{Memory}
 use Rattle.smpe.specs.declared.jobs.Answer.{Answer}
-use Rattle.smpe.specs.declared.jobs.Answer.TheVariants.{Defined, Refused}
 use Rattle.smpe.specs.Commands.{job_error}
-use Rattle.smpe.specs.Course.{JobGoes}
-use Rattle.smpe.specs.Ending.{EndsJob, StaysClosed}
+use Rattle.smpe.specs.Course.{JobsGo}
+use Rattle.smpe.specs.Ending.{EndsJobs, StaysClosed, answer_of, is_write}
 use Rattle.smpe_command.specs.declared.host.Host.{Ghosts as HostGhosts}
-
--- what the definition of a zone is answered
-abbrev pub answer_to : {U : Type 0} → Result U ZoneError → Result Answer JobError
-answer_to (Ok done) = Ok Defined
-answer_to (Err (zone.Refused why)) = Ok (Refused why)
-answer_to (Err (zone.Store why)) = Err (job_error why)
-answer_to (Err zone.Memory) = Err Memory
-
--- an answer that no state is there has changed nothing
-abbrev pub TellsNone : {D U : Type 0} → Ghosts D → Held D → Held D → Result U ZoneError → Type 0
-TellsNone g begun store defined =
-    HasCleanDisk (state g store) → defined ≡ Err (zone.Store NoState) → FoundNoState g begun store
 
 module _ {H D : Type 0} (host : HostGhosts H D) (g : Ghosts D) where
   -- The database could not be made the store's, for this reason, and was closed. So it was left: what was last
@@ -89,22 +71,21 @@ module _ {H D : Type 0} (host : HostGhosts H D) (g : Ghosts D) where
     pub goes : Goes begun store
     pub closes : host.closes opened store after
 
-  -- commands were run so, or the database was not opened
-  abbrev pub RunsOver : {O : Type 0} → SinkGhosts O → H → Text → machine.Job → O → Result ℕ JobError → H → O → Type 0
-  RunsOver sink h db job out r after out' =
+  -- The jobs ran so over the database of this name, from the first one on, or it was not opened. They are answered so.
+  abbrev pub JobsOver : {O : Type 0} → SinkGhosts O → H → Text → List machine.Job → O → {V : Type 0}
+      → (V → List machine.Answer) → Result V JobError → H → O → Type 0
+  JobsOver sink h db jobs out answers r after out' =
       ((why : StoreError) × FailsToOpen h db why after × (r ≡ Err (job_error why)) × (out' ≡ out))
-      ⊎ Works h db
-      (λ conn store s. EndsJob g conn store s job (sink.taken out) (sink.taken out') machine.Code r)
-      (λ begun store. JobGoes g begun store job (sink.taken out) (sink.taken out') r) after
+      ⊎ (Works h db
+      (λ conn store s. EndsJobs g conn store s jobs (sink.taken out) (sink.taken out') answers r)
+      (λ begun store. JobsGo g begun store jobs (sink.taken out) (sink.taken out') r) after
+      × (sink.has_failed out ≡ false → sink.has_failed out' ≡ is_write r))
 
-  -- a zone was defined so, or the database was not opened
-  abbrev pub DefinesOver : H → Text → ZoneDefinition → Result Answer JobError → H → Type 0
-  DefinesOver h db d r after =
-      ((why : StoreError) × FailsToOpen h db why after × (r ≡ Err (job_error why)))
-      ⊎ ((defined : Result (Unit {0}) ZoneError)
-      × Works h db (λ conn store s. HasDefined g conn store s d defined)
-      (λ begun store. TellsNone g begun store defined) after
-      × (r ≡ answer_to defined))
+  -- so one job, with its answer
+  abbrev pub JobOver : {O : Type 0} → SinkGhosts O → H → Text → machine.Job → O → Result Answer JobError → H → O
+      → Type 0
+  JobOver sink h db job out r after out' =
+      JobsOver sink h db (job ∷ []) out (λ answer. answer_of answer ∷ []) r after out'
 
   -- The database of this name was opened, taken over to the store's schema or left as it was, and closed; or it was not
   -- opened.

@@ -1,16 +1,18 @@
 -- What is done where something is asked for: the status, or the fault, and what was printed.
-use Rattle.std.specs.Prelude.{◌≡◌, ◌⊎◌, ◌<◌, ℕ, length, List, [], ◌∷◌, Option, Some, option_map}
+use Rattle.std.specs.Prelude.{◌≡◌, ◌⊎◌, ◌<◌, ℕ, length, List, [], ◌∷◌, max, Option, Some, None, option_map}
 use Rattle.std.specs.Prelude.{Result, Ok, Err, is_err, MatchResult}
 use Rattle.std.specs.String.{string_bytes}
 use Rattle.sqlite.specs.Store.{Ghosts}
 use Rattle.terms.specs.Types.{Text}
 use Rattle.machine.specs.State.{ZoneDefinition}
-use Rattle.machine.specs.Machine.{RunFiles}
+use Rattle.machine.specs.Machine as machine
+use Rattle.machine.specs.Machine.{Files, NewZone, RunFiles}
 use Rattle.report.specs.declared.sink.Sink.{Ghosts as SinkGhosts}
 use Rattle.report.specs.Sent.{Sent}
 use Rattle.smpe_zones.specs.Definitions.{definition}
+use Rattle.smpe_invocation.specs.declared.asked.Commands.{Commands}
 use Rattle.smpe_invocation.specs.declared.asked.Invocation.{Invocation}
-use Rattle.smpe_invocation.specs.declared.asked.Invocation.TheVariants.{Zone, Run, List as ListOf, Migrate}
+use Rattle.smpe_invocation.specs.declared.asked.Invocation.TheVariants.{Zone, Run, List as ListOf, Check, Migrate}
 use Rattle.smpe.specs.declared.error.JobError.{JobError}
 use Rattle.smpe.specs.declared.error.JobError.TheVariants.{Memory, Write}
 use Rattle.smpe.specs.declared.jobs.Answer.{Answer}
@@ -22,13 +24,38 @@ use Rattle.smpe.specs.Commands.{job_error}
 use Rattle.smpe.specs.Messages.{answer_status, migrated_text, zone_text}
 use Rattle.smpe_command.specs.declared.host.Host.{Ghosts as HostGhosts}
 use Rattle.smpe_command.specs.Reading.{ReadsAll}
+use Rattle.smpe_command.specs.ServiceSet.{JobsInMemory, apply_records, set_jobs}
 use Rattle.store_schema.specs.declared.error.StoreError.{StoreError}
-use Rattle.smpe_command.specs.Database.{RunsOver, DefinesOver, MigratesOver}
+use Rattle.smpe_command.specs.Database.{JobOver, MigratesOver}
+
+-- the status of a job's answer is the program's, and its error the program's fault
+abbrev pub status_told : Result Answer JobError → Result ℕ Fault
+status_told (Ok answer) = Ok (answer_status (answer_of answer))
+status_told (Err error) = Err (Job error)
 
 -- the error of a job is the program's fault
 abbrev pub job_told : Result ℕ JobError → Result ℕ Fault
 job_told (Ok status) = Ok status
 job_told (Err error) = Err (Job error)
+
+-- the greatest status of these answers
+abbrev pub greatest : List machine.Answer → ℕ
+greatest [] = 0
+greatest (answer ∷ more) = max (answer_status answer) (greatest more)
+
+abbrev pub greatest_told : Result (List machine.Answer) JobError → Result ℕ JobError
+greatest_told (Ok answers) = Ok (greatest answers)
+greatest_told (Err error) = Err error
+
+-- the commands that a service set is tried with: those of the file, or those that try to apply all of it
+abbrev pub tried_with : Option Commands → List ℕ → List ℕ
+tried_with None cntl = apply_records
+tried_with (Some commands) cntl = cntl
+
+-- and on which date: where no file was given, nothing that is printed has it
+abbrev pub IsTriedOn : Option Commands → Text → Type 0
+IsTriedOn None date = Unit {0}
+IsTriedOn (Some commands) date = date ≡ commands.date
 
 module _ {O : Type 0} (sink : SinkGhosts O) (out out' : O) where
   -- The answer's line goes to the sink, and the status is the answer's, or a fault where the line did not go out whole.
@@ -46,28 +73,60 @@ module _ {O : Type 0} (sink : SinkGhosts O) (out out' : O) where
 
 module _ {H D O : Type 0} (host : HostGhosts H D) (g : Ghosts D) (sink : SinkGhosts O) (h : H) (db : Text) (out : O)
   where
+    -- A zone is defined by a job of its own, which prints nothing, and its line is printed.
     abbrev pub ServesZone : ZoneDefinition → Result ℕ JobError → H → O → Type 0
-    ServesZone d r after out' = (answer : Result Answer JobError) × DefinesOver host g h db d answer after
-        × TellsZone sink out out' d.name answer r
+    ServesZone d r after out' = (answer : Result Answer JobError) × (m : O)
+        × JobOver host g sink h db (NewZone d) out answer after m × TellsZone sink m out' d.name answer r
 
     -- The files are read in this order, or the first that can't be read is told, and nothing else is done.
     abbrev pub ServesRun : Text → List (Option Text) → Result ℕ Fault → H → O → Type 0
     ServesRun date names r after out' =
         ((fault : Fault) × ReadsAll host h names (Err fault) after × (r ≡ Err fault) × (out' ≡ out))
         ⊎ ((m : H) × (cntl ptfin hold : List ℕ) × ReadsAll host h names (Ok (cntl ∷ ptfin ∷ hold ∷ [])) m
-        × (code : Result ℕ JobError)
-        × RunsOver host g sink m db (RunFiles date cntl (record { ptfin = ptfin; holds = hold })) out code after out'
-        × (r ≡ job_told code))
+        × (answer : Result Answer JobError)
+        × JobOver host g sink m db (RunFiles date cntl (record { ptfin = ptfin; holds = hold })) out answer after out'
+        × (r ≡ status_told answer))
 
     -- A listing is the job of its two commands, of whatever date, or memory was wanting for these.
-    abbrev pub ServesList : Text → Result ℕ JobError → H → O → Type 0
-    ServesList zone r after out' = ((r ≡ Err Memory) × (after ≡ h) × (out' ≡ out))
-        ⊎ ((date : Text) × RunsOver host g sink h db
-        (RunFiles date (list_records zone) (record { ptfin = []; holds = [] })) out r after out')
+    abbrev pub ServesList : Text → Result ℕ Fault → H → O → Type 0
+    ServesList zone r after out' = ((r ≡ Err (Job Memory)) × (after ≡ h) × (out' ≡ out))
+        ⊎ ((date : Text) × (answer : Result Answer JobError) × JobOver host g sink h db
+        (RunFiles date (list_records zone) (record { ptfin = []; holds = [] })) out answer after out'
+        × (r ≡ status_told answer))
 
     abbrev pub ServesMigrate : Result ℕ JobError → H → O → Type 0
     ServesMigrate r after out' = (done : Result (Unit {0}) StoreError) × MigratesOver host g h db done after
         × TellsMigrated sink out out' done r
+
+module _ {O : Type 0} (sink : SinkGhosts O) (out : O) (srel : Text) where
+  -- The jobs of a service set with these commands ran over an empty system in memory; or memory was wanting for the
+  -- command that receives it.
+  abbrev pub TriesWith : Text → List ℕ → Files → {V : Type 0} → (V → List machine.Answer) → Result V JobError → O
+      → Type 0
+  TriesWith date cntl files answers r out' = ((r ≡ Err Memory) × (out' ≡ out))
+      ⊎ JobsInMemory sink (set_jobs srel date cntl files) out answers r out'
+
+  -- So a service set is tried with the commands that were given, on their date, or with those that apply all of it, on
+  -- whatever date.
+  abbrev pub TriesSet : Option Commands → List ℕ → Files → {V : Type 0} → (V → List machine.Answer)
+      → Result V JobError → O → Type 0
+  TriesSet commands cntl files answers r out' = ((r ≡ Err Memory) × (out' ≡ out))
+      ⊎ ((date : Text) × IsTriedOn commands date × TriesWith date (tried_with commands cntl) files answers r out')
+
+  -- It is tried, and the status is the greatest one.
+  abbrev pub ChecksSet : Option Commands → List ℕ → Files → Result ℕ JobError → O → Type 0
+  ChecksSet commands cntl files r out' = (answers : Result (List machine.Answer) JobError)
+      × TriesSet commands cntl files (λ all. all) answers out' × (r ≡ greatest_told answers)
+
+-- The set's files are read, or the first that can't be read is told and nothing else done.
+abbrev pub ServesCheck : {H D O : Type 0} → HostGhosts H D → SinkGhosts O → H → O → Text → Option Text → Option Text
+    → Option Commands → Result ℕ Fault → H → O → Type 0
+ServesCheck host sink h out srel ptfin hold commands r after out' =
+    let names = option_map (λ c. string_bytes c.cntl) commands ∷ ptfin ∷ hold ∷ [] in
+    ((fault : Fault) × ReadsAll host h names (Err fault) after × (r ≡ Err fault) × (out' ≡ out))
+    ⊎ ((cntl sysmods holds : List ℕ) × ReadsAll host h names (Ok (cntl ∷ sysmods ∷ holds ∷ [])) after
+    × (status : Result ℕ JobError) × ChecksSet sink out srel commands cntl (record { ptfin = sysmods; holds = holds })
+    status out' × (r ≡ job_told status))
 
 module _ {H D O : Type 0} (host : HostGhosts H D) (g : Ghosts D) (sink : SinkGhosts O) where
   abbrev pub Serves : H → Invocation → O → Result ℕ Fault → H → O → Type 0
@@ -77,7 +136,8 @@ module _ {H D O : Type 0} (host : HostGhosts H D) (g : Ghosts D) (sink : SinkGho
   Serves h (Run db date cntl ptfin hold) out r after out' =
       ServesRun host g sink h (string_bytes db) out date
       (Some (string_bytes cntl) ∷ option_map string_bytes ptfin ∷ option_map string_bytes hold ∷ []) r after out'
-  Serves h (ListOf db zone) out r after out' = (told : Result ℕ JobError)
-      × ServesList host g sink h (string_bytes db) out zone told after out' × (r ≡ job_told told)
+  Serves h (ListOf db zone) out r after out' = ServesList host g sink h (string_bytes db) out zone r after out'
+  Serves h (Check srel ptfin hold commands) out r after out' =
+      ServesCheck host sink h out srel (Some (string_bytes ptfin)) (option_map string_bytes hold) commands r after out'
   Serves h (Migrate db) out r after out' = (told : Result ℕ JobError)
       × ServesMigrate host g sink h (string_bytes db) out told after out' × (r ≡ job_told told)

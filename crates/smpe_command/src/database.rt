@@ -1,72 +1,46 @@
-//! A job over the database of a name, which is closed behind it, also where it is refused.
-ghost use Rattle.std.specs.Prelude.{◌≡◌, IfOk, IfErr};
-ghost use Rattle.machine.specs.Machine.{RunFiles};
-ghost use Rattle.smpe_zones.specs.Definitions.{definition};
-ghost use Rattle.smpe_command.specs.Database.{DefinesOver, FailsToOpen, MigratesOver, Opens, RunsOver, answer_to};
+//! Jobs over the database of a name, which is closed behind them, also where it is refused.
+ghost use Rattle.std.specs.Prelude.{◌≡◌, ◌∷◌, [], length, map, IfOk, IfErr};
+ghost use Rattle.smpe.specs.Ending.{answer_of, job_of};
+ghost use Rattle.smpe_command.specs.Database.{FailsToOpen, JobsOver, MigratesOver, Opens};
 
-use crate::files::JobFiles;
 use crate::host::Host;
-use fields::{Srel, YyDdd, ZoneName};
 use report::Sink;
-use smpe::{Answer, JobError, ZoneError, define_zone, run_job};
+use smpe::{Answer, Job, JobError, run_jobs};
 use std::alloc::Global;
 use store::{Store, StoreError};
 use store_migration::migrate;
-use terms::ZoneKind;
 
-/// Runs the commands of a command file.
-pub(crate) fn run_over<H: Host, O: Sink>(
+/// Runs the one job of the list, and answers how that ended.
+pub(crate) fn job_over<H: Host, O: Sink>(
     alloc: Global,
     host: &mut H,
     db: &str,
-    date: YyDdd,
-    files: &JobFiles,
+    jobs: &[Job<'_>],
     out: &mut O,
-) -> Result<u8, JobError>
-    ensures { RunsOver H.Host H.Disk.Store O.Sink host.old db.now (RunFiles date files.now.cntl.items
-        (record { ptfin = files.now.ptfin.items; holds = files.now.hold.items })) out.old result host.new out.new }
+) -> Result<Answer, JobError>
+    requires { length jobs.now ≡ 1 }
+    ensures { JobsOver H.Host H.Disk.Store O.Sink host.old db.now (map job_of jobs.now) out.old
+        (λ answer. answer_of answer ∷ []) result host.new out.new }
 {
-    let mut store = opened(alloc, host, db)?;
-    let code = run_job(
-        alloc,
-        &mut store,
-        date,
-        files.cntl.as_slice(),
-        files.ptfin.as_slice(),
-        files.hold.as_slice(),
-        out,
-    );
-    host.close(&mut Some(store.close()));
-    code
+    let answers = jobs_over(alloc, host, db, jobs, out)?;
+    Ok(answers[0])
 }
 
-/// Defines a zone, and answers how that ended.
-pub(crate) fn define_over<H: Host>(
+fn jobs_over<H: Host, O: Sink>(
     alloc: Global,
     host: &mut H,
     db: &str,
-    name: ZoneName,
-    kind: ZoneKind,
-    srel: Srel,
-    related: Option<ZoneName>,
-) -> Result<Answer, JobError>
-    ensures { DefinesOver H.Host H.Disk.Store host.old db.now (definition name kind srel related) result host.new }
+    jobs: &[Job<'_>],
+    out: &mut O,
+) -> Result<Vec<Answer>, JobError>
+    ensures over { JobsOver H.Host H.Disk.Store O.Sink host.old db.now (map job_of jobs.now) out.old
+        (λ v. map answer_of v.items) result host.new out.new }
+    ensures count { IfOk result (λ answers. length answers.items ≡ length jobs.now) }
 {
     let mut store = opened(alloc, host, db)?;
-    let defined = define_zone(&mut store, name, kind, srel, related);
+    let answers = run_jobs(alloc, &mut store, jobs, out);
     host.close(&mut Some(store.close()));
-    answer(defined)
-}
-
-fn answer(defined: Result<(), ZoneError>) -> Result<Answer, JobError>
-    ensures { result ≡ answer_to defined }
-{
-    match defined {
-        Ok(()) => Ok(Answer::Defined),
-        Err(ZoneError::Refused(why)) => Ok(Answer::Refused(why)),
-        Err(ZoneError::Store(error)) => Err(JobError::from(error)),
-        Err(ZoneError::Memory) => Err(JobError::Memory),
-    }
+    answers
 }
 
 /// Takes the tables of a database over to the store's schema.

@@ -4,7 +4,7 @@ ghost use Rattle.std.specs.String.{string_bytes};
 ghost use Rattle.smpe_command.specs.Reading.{Reads, ReadsAll};
 
 use crate::host::Host;
-use smpe::{Fault, JobError};
+use smpe::{Commands, Fault, JobError};
 use std::alloc::Global;
 use std::io::ErrorKind;
 
@@ -16,7 +16,7 @@ pub(crate) struct JobFiles {
     pub(crate) hold: Vec<u8>,
 }
 
-/// Reads the files in this order, so that the first that cannot be read is told.
+/// Reads the files of a job in this order, so that the first that cannot be read is told.
 pub(crate) fn read_files<'a, H: Host>(
     alloc: Global,
     host: &mut H,
@@ -34,6 +34,43 @@ pub(crate) fn read_files<'a, H: Host>(
     let ptfin = read_given(alloc, host, ptfin)?;
     let hold = read_given(alloc, host, hold)?;
     Ok(JobFiles { cntl, ptfin, hold })
+}
+
+/// The same of a service set, which has SYSMODs and may have commands.
+pub(crate) fn read_set<'a, H: Host>(
+    alloc: Global,
+    host: &mut H,
+    commands: &'a Option<Commands>,
+    ptfin: &'a str,
+    hold: &'a Option<String>,
+) -> Result<JobFiles, Fault<'a>>
+    ensures ok { IfOk result (λ files. ReadsAll H.Host host.old (option_map (λ c. string_bytes c.cntl)
+        commands.entry.now ∷ Some ptfin.entry.now ∷ option_map string_bytes hold.entry.now ∷ [])
+        (Ok (files.cntl.items ∷ files.ptfin.items ∷ files.hold.items ∷ [])) host.new) }
+    ensures err { IfErr result (λ fault. ReadsAll H.Host host.old (option_map (λ c. string_bytes c.cntl)
+        commands.entry.now ∷ Some ptfin.entry.now ∷ option_map string_bytes hold.entry.now ∷ []) (Err fault)
+        host.new) }
+{
+    let cntl = read_commands(alloc, host, commands)?;
+    let ptfin = read_file(host, ptfin)?;
+    let hold = read_given(alloc, host, hold)?;
+    Ok(JobFiles { cntl, ptfin, hold })
+}
+
+fn read_commands<'a, H: Host>(
+    alloc: Global,
+    host: &mut H,
+    commands: &'a Option<Commands>,
+) -> Result<Vec<u8>, Fault<'a>>
+    ensures ok { IfOk result (λ bytes. Reads H.Host host.old (option_map (λ c. string_bytes c.cntl)
+        commands.entry.now) (Ok bytes.items) host.new) }
+    ensures err { IfErr result (λ fault. Reads H.Host host.old (option_map (λ c. string_bytes c.cntl)
+        commands.entry.now) (Err fault) host.new) }
+{
+    match commands {
+        Some(commands) => read_file(host, commands.cntl.as_str()),
+        None => Ok(Vec::new(alloc)),
+    }
 }
 
 // The bytes of a file that may be left out, and has none then.

@@ -32,6 +32,9 @@ pub trait Host {
     /// The text of `clap`'s error was shown on standard error.
     ghost shows: { Self → WordsError → Self → Type 0 };
 
+    /// The text that `clap` has in place of an answer, as for `--help`, was shown on standard output.
+    ghost prints: { Self → WordsError → Self → Type 0 };
+
     /// Reads a file whole. The error tells why it can't be read.
     fn read(&mut self, name: &str) -> io::Result<Vec<u8>>
         ensures ok { IfOk result (λ bytes. gives self.old name.now bytes.items self.new) }
@@ -51,4 +54,8 @@ pub trait Host {
     /// Shows the text of the error on standard error.
     fn show(&mut self, error: &clap::Error)
         ensures { shows self.old error.now self.new };
+
+    /// Shows the text of the error on standard output.
+    fn print(&mut self, error: &clap::Error)
+        ensures { prints self.old error.now self.new };
 }

@@ -1,16 +1,26 @@
 //! What is asked for is done.
-ghost use Rattle.std.specs.Prelude.{◌≡◌, [], ◌∷◌, Some, Ok, option_map};
+ghost use Rattle.std.specs.Prelude.{◌≡◌, [], ◌∷◌, Some, None, Ok, map, option_map, IfOk, IfErr};
 ghost use Rattle.std.specs.String.{string_bytes};
+ghost use Rattle.machine.specs.Machine.{RunFiles};
+ghost use Rattle.smpe.specs.Ending.{answer_of};
+ghost use Rattle.smpe.specs.ListJob.{list_records};
+ghost use Rattle.smpe.specs.declared.error.JobError.TheVariants.{Memory};
 ghost use Rattle.smpe_zones.specs.Definitions.{definition};
-ghost use Rattle.smpe_command.specs.Serving.{Serves, ServesList, ServesMigrate, ServesRun, ServesZone};
-ghost use Rattle.smpe_command.specs.Serving.{TellsMigrated, TellsZone, job_told};
+ghost use Rattle.smpe_command.specs.Database.{JobOver};
+ghost use Rattle.smpe_command.specs.Serving.{ChecksSet, Serves, ServesCheck, ServesList, ServesMigrate, ServesRun};
+ghost use Rattle.smpe_command.specs.Serving.{ServesZone, TellsMigrated, TellsZone, TriesSet, TriesWith, job_told};
+ghost use Rattle.smpe_command.specs.Serving.{status_told};
 
-use crate::database::{define_over, migrate_over, run_over};
-use crate::files::{JobFiles, read_files};
+use crate::database::{job_over, migrate_over};
+use crate::files::{JobFiles, read_files, read_set};
 use crate::host::Host;
+use crate::service_set::{apply_commands, greatest_status, receive_commands, tried};
 use fields::{Srel, YyDdd, ZoneName};
 use report::Sink;
-use smpe::{Answer, Fault, Invocation, JobError, list_commands, migrated_line, zone_line};
+use smpe::{
+    Answer, Commands, Fault, Invocation, Job, JobError, list_commands, migrated_line, status_of,
+    zone_line,
+};
 use std::alloc::Global;
 use terms::ZoneKind;
 
@@ -47,7 +57,13 @@ pub(crate) fn served<'a, H: Host, O: Sink>(
             hold,
             out,
         ),
-        Invocation::List { db, zone } => told(list(alloc, host, db.as_str(), *zone, out)),
+        Invocation::List { db, zone } => list(alloc, host, db.as_str(), *zone, out),
+        Invocation::Check {
+            srel,
+            ptfin,
+            hold,
+            commands,
+        } => check(alloc, host, *srel, ptfin.as_str(), hold, commands, out),
         Invocation::Migrate { db } => told(migrate(alloc, host, db.as_str(), out)),
     }
 }
@@ -56,6 +72,13 @@ fn told<'a>(code: Result<u8, JobError>) -> Result<u8, Fault<'a>>
     ensures { result ≡ job_told code }
 {
     Ok(code?)
+}
+
+fn answered<'a>(answer: Result<Answer, JobError>) -> Result<u8, Fault<'a>>
+    ensures { result ≡ status_told answer }
+{
+    let answer = answer?;
+    Ok(status_of(&answer))
 }
 
 fn zone<H: Host, O: Sink>(
@@ -71,7 +94,13 @@ fn zone<H: Host, O: Sink>(
     ensures { ServesZone H.Host H.Disk.Store O.Sink host.old db.now out.old (definition name kind srel related) result
         host.new out.new }
 {
-    let answer = define_over(alloc, host, db, name, kind, srel, related)?;
+    let jobs = [Job::Zone {
+        name,
+        kind,
+        srel,
+        related,
+    }];
+    let answer = job_over(alloc, host, db, &jobs, out)?;
     zone_told(name, &answer, out)
 }
 
@@ -97,25 +126,147 @@ fn run<'a, H: Host, O: Sink>(
         out.new }
 {
     let files = read_files(alloc, host, cntl, ptfin, hold)?;
-    told(run_over(alloc, host, db, date, &files, out))
+    answered(run_over(alloc, host, db, date, &files, out))
+}
+
+fn run_over<H: Host, O: Sink>(
+    alloc: Global,
+    host: &mut H,
+    db: &str,
+    date: YyDdd,
+    files: &JobFiles,
+    out: &mut O,
+) -> Result<Answer, JobError>
+    ensures { JobOver H.Host H.Disk.Store O.Sink host.old db.now (RunFiles date files.now.cntl.items
+        (record { ptfin = files.now.ptfin.items; holds = files.now.hold.items })) out.old result host.new out.new }
+{
+    let jobs = [Job::Run {
+        date,
+        cntl: files.cntl.as_slice(),
+        ptfin: files.ptfin.as_slice(),
+        hold: files.hold.as_slice(),
+    }];
+    job_over(alloc, host, db, &jobs, out)
 }
 
 // Nothing that a listing prints or changes has the job's date.
-fn list<H: Host, O: Sink>(
+fn list<'a, H: Host, O: Sink>(
     alloc: Global,
     host: &mut H,
     db: &str,
     zone: ZoneName,
     out: &mut O,
-) -> Result<u8, JobError>
+) -> Result<u8, Fault<'a>>
     ensures { ServesList H.Host H.Disk.Store O.Sink host.old db.now out.old zone result host.new out.new }
 {
-    let files = JobFiles {
+    let files = list_files(alloc, zone)?;
+    answered(run_over(alloc, host, db, YyDdd::new(2000, 1), &files, out))
+}
+
+fn list_files(alloc: Global, zone: ZoneName) -> Result<JobFiles, JobError>
+    ensures ok { IfOk result (λ files. (files.cntl.items ≡ list_records zone) × (files.ptfin.items ≡ [])
+        × (files.hold.items ≡ [])) }
+    ensures err { IfErr result (λ e. e ≡ Memory) }
+{
+    Ok(JobFiles {
         cntl: list_commands(alloc, zone)?,
         ptfin: Vec::new(alloc),
         hold: Vec::new(alloc),
-    };
-    run_over(alloc, host, db, YyDdd::new(2000, 1), &files, out)
+    })
+}
+
+// The files are read before anything is made.
+fn check<'a, H: Host, O: Sink>(
+    alloc: Global,
+    host: &mut H,
+    srel: Srel,
+    ptfin: &'a str,
+    hold: &'a Option<String>,
+    commands: &'a Option<Commands>,
+    out: &mut O,
+) -> Result<u8, Fault<'a>>
+    ensures { ServesCheck H.Host O.Sink host.old out.old srel (Some ptfin.entry.now)
+        (option_map string_bytes hold.entry.now) commands.entry.now result host.new out.new }
+{
+    let files = read_set(alloc, host, commands, ptfin, hold)?;
+    told(check_set(alloc, srel, commands, &files, out))
+}
+
+fn check_set<O: Sink>(
+    alloc: Global,
+    srel: Srel,
+    commands: &Option<Commands>,
+    files: &JobFiles,
+    out: &mut O,
+) -> Result<u8, JobError>
+    ensures { ChecksSet O.Sink out.old srel commands.now files.now.cntl.items (record {
+      ptfin = files.now.ptfin.items;
+      holds = files.now.hold.items;
+    }) result out.new }
+{
+    let answers = try_set(alloc, srel, commands, files, out)?;
+    Ok(greatest_status(answers.as_slice()))
+}
+
+fn try_set<O: Sink>(
+    alloc: Global,
+    srel: Srel,
+    commands: &Option<Commands>,
+    files: &JobFiles,
+    out: &mut O,
+) -> Result<Vec<Answer>, JobError>
+    ensures { TriesSet O.Sink out.old srel commands.now files.now.cntl.items (record {
+      ptfin = files.now.ptfin.items;
+      holds = files.now.hold.items;
+    }) (λ v. map answer_of v.items) result out.new }
+{
+    match commands {
+        Some(commands) => {
+            let cntl = files.cntl.as_slice();
+            try_with(alloc, srel, commands.date, cntl, files, out)
+        }
+        None => try_all(alloc, srel, files, out),
+    }
+}
+
+// Nothing that an APPLY with CHECK prints has the job's date.
+fn try_all<O: Sink>(
+    alloc: Global,
+    srel: Srel,
+    files: &JobFiles,
+    out: &mut O,
+) -> Result<Vec<Answer>, JobError>
+    ensures { TriesSet O.Sink out.old srel None [] (record {
+      ptfin = files.now.ptfin.items;
+      holds = files.now.hold.items;
+    }) (λ v. map answer_of v.items) result out.new }
+{
+    let apply = apply_commands(alloc)?;
+    try_with(
+        alloc,
+        srel,
+        YyDdd::new(2000, 1),
+        apply.as_slice(),
+        files,
+        out,
+    )
+}
+
+fn try_with<O: Sink>(
+    alloc: Global,
+    srel: Srel,
+    date: YyDdd,
+    cntl: &[u8],
+    files: &JobFiles,
+    out: &mut O,
+) -> Result<Vec<Answer>, JobError>
+    ensures { TriesWith O.Sink out.old srel date cntl.now (record {
+      ptfin = files.now.ptfin.items;
+      holds = files.now.hold.items;
+    }) (λ v. map answer_of v.items) result out.new }
+{
+    let receive = receive_commands(alloc)?;
+    tried(alloc, srel, date, receive.as_slice(), cntl, files, out)
 }
 
 fn migrate<H: Host, O: Sink>(

@@ -11,6 +11,7 @@ mod files;
 mod host;
 mod jobs;
 mod program;
+mod service_set;
 mod words;
 
 pub use host::Host;

@@ -2,17 +2,18 @@
 ghost use Rattle.std.specs.Prelude.{◌≡◌, map, IfOk, IfErr};
 ghost use Rattle.smpe_invocation.specs.declared.fault.ArgFault.TheVariants.{Memory};
 ghost use Rattle.smpe.specs.declared.messages.Fault.TheVariants.{Arg};
-ghost use Rattle.smpe_command.specs.Answering.{Answers, Shows, Tells};
+ghost use Rattle.smpe_command.specs.Answering.{Answers, Prints, Shows, Tells, TellsWords, is_text};
 
 use crate::host::Host;
 use crate::jobs::served;
 use crate::words::asked;
+use clap::error::ErrorKind;
 use report::Sink;
 use smpe::{ArgFault, FAULT_STATUS, Fault, fault_line};
 use std::alloc::{AllocError, Global};
 
 /// Does what the words ask for, of which the first is the program's name, and answers the status. Want of memory for
-/// the words themselves is a fault of the words.
+/// the words themselves is a fault of the words; `--help` and `--version` are none.
 pub fn command<H: Host, O: Sink, E: Sink>(
     alloc: Global,
     host: &mut H,
@@ -46,7 +47,44 @@ fn answered<H: Host, O: Sink, E: Sink>(
             Ok(status) => status,
             Err(fault) => told(host, &fault, err),
         },
-        Err(fault) => told(host, &Fault::Arg(fault), err),
+        Err(fault) => unasked(host, fault, err),
+    }
+}
+
+// Prints the text that the words ask for in place of an answer, or tells their fault.
+fn unasked<H: Host, E: Sink>(host: &mut H, fault: ArgFault, err: &mut E) -> u8
+    ensures { TellsWords H.Host E.Sink host.old err.old fault result host.new err.new }
+{
+    if is_text(&fault) {
+        print(host, &fault);
+        0
+    } else {
+        told(host, &Fault::Arg(fault), err)
+    }
+}
+
+fn is_text(fault: &ArgFault) -> bool
+    ensures { result ≡ is_text fault.now }
+{
+    match fault {
+        ArgFault::Clap(error) => {
+            matches!(
+                error.kind(),
+                ErrorKind::DisplayHelp | ErrorKind::DisplayVersion
+            )
+        }
+        ArgFault::Memory => false,
+        ArgFault::BadOperand => false,
+    }
+}
+
+fn print<H: Host>(host: &mut H, fault: &ArgFault)
+    ensures { Prints H.Host host.old fault.now host.new }
+{
+    match fault {
+        ArgFault::Clap(error) => host.print(error),
+        ArgFault::Memory => {}
+        ArgFault::BadOperand => {}
     }
 }
 

@@ -5,7 +5,7 @@ use Rattle.std.proofs.lemmas.List.Elements.{All-head, All-tail}
 use Rattle.terms.specs.Types.{Id, Hold, Release, Global}
 use Rattle.terms.specs.Global.{Rl2, hold_of, marked, hold, without_hold, release_found, release}
 use Rattle.machine.specs.Receiving.{global_after}
-use Rattle.sysmods_holds.specs.declared.holds.ReleaseError.{ReleaseError}
+use Rattle.sysmods.specs.declared.holds.ReleaseError.{ReleaseError}
 use Rattle.sysmods.specs.Faults.{a_release, release_fault}
 use Rattle.sysmods.specs.declared.edit.GlobalEdit.TheVariants.{PutHold, RemoveHold}
 use Rattle.sysmods.specs.Edits.{with_hold, EachFits, after_edits}

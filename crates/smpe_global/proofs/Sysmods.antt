@@ -4,12 +4,13 @@ use Rattle.terms.specs.Types.{Text, Global, Sysmod, ASysmod}
 use Rattle.terms.specs.Global.{IsSysmod, Rc1}
 use Rattle.machine.specs.Outcome.{OfKind, StatusLine}
 use Rattle.machine.specs.Receiving.{TakesItem, sourced, receive_status}
-use Rattle.sysmods_received.specs.declared.faults.ReceiveFault.{ReceiveFault}
-use Rattle.sysmods_received.specs.Refused.{fault_of}
+use Rattle.sysmods.specs.declared.faults.ReceiveFault.{ReceiveFault}
+use Rattle.sysmods.specs.Refused.{fault_of}
+use Rattle.sysmods.specs.Faults.{IsReceived}
 use Rattle.report.specs.declared.outcome.Line.{Line}
 use Rattle.report.specs.Views.{line_view}
 use Rattle.smpe_global.specs.declared.taken.Taken.{Taken}
-use Rattle.smpe_global.specs.Edits.{IsReceived, answer_of, edits_after}
+use Rattle.smpe_global.specs.Edits.{answer_of, edits_after}
 use Rattle.smpe_global.specs.Taken.{IsTaken}
 use Rattle.smpe_global.proofs.Fitting.{fits_none, sysmod_fits, sysmod_makes}
 

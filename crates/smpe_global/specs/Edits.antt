@@ -1,11 +1,11 @@
 -- By which edits the tables follow, and what the calls of the global zone answer.
-use Rattle.std.specs.Prelude.{◌≡◌, List, [], ◌∷◌, map, Option, None, Some, Result, Ok, Err}
+use Rattle.std.specs.Prelude.{List, [], ◌∷◌, map, Option, None, Some, Result, Ok, Err}
 use Rattle.terms.specs.declared.kinds.HoldKind.{HoldKind}
 use Rattle.terms.specs.Types.{Text, Id, Global, Sysmod}
 use Rattle.terms.specs.Global as rule
-use Rattle.sysmods_received.specs.declared.faults.ReceiveFault.{ReceiveFault}
-use Rattle.sysmods_received.specs.Refused.{fault_of}
-use Rattle.sysmods_holds.specs.declared.holds.ReleaseError.{ReleaseError}
+use Rattle.sysmods.specs.declared.faults.ReceiveFault.{ReceiveFault}
+use Rattle.sysmods.specs.Refused.{fault_of}
+use Rattle.sysmods.specs.declared.holds.ReleaseError.{ReleaseError}
 use Rattle.sysmods.specs.Faults.{release_fault}
 use Rattle.sysmods.specs.declared.edit.GlobalEdit.{GlobalEdit}
 use Rattle.sysmods.specs.declared.edit.GlobalEdit.TheVariants.{PutHold, RemoveHold, InsertSysmod, ReplaceSources}
@@ -14,11 +14,6 @@ use Rattle.sysmods.specs.declared.edit.GlobalEdit.TheVariants.{PutHold, RemoveHo
 abbrev pub answer_of : Global → Option ReceiveFault → Result Global rule.ReceiveFault
 answer_of new None = Ok new
 answer_of new (Some fault) = Err (fault_of fault)
-
--- What RECEIVE of the SYSMOD answers and leaves: the first fault and the zone as it was, or the zone with it.
-abbrev pub IsReceived : Global → Sysmod → Global → Option ReceiveFault → Type 0
-IsReceived g s new None = rule.Receives g s (Ok new)
-IsReceived g s new (Some fault) = rule.Receives g s (Err (fault_of fault)) × (new ≡ g)
 
 -- the SYSMOD, and then its holds
 abbrev pub edits_of : Sysmod → List GlobalEdit

@@ -3,8 +3,8 @@ ghost use Rattle.std.specs.Prelude.{◌≡◌, ◌++◌, map, OnOk};
 ghost use Rattle.smpe_global.specs.Edits.{edits_of};
 
 use std::alloc::{AllocError, Global};
+use sysmod::{Hold, Sysmod};
 use sysmods::GlobalEdit;
-use sysmods_records::{Hold, Sysmod};
 
 fn put_holds(edits: &mut Vec<GlobalEdit>, holds: Vec<Hold>) -> Result<(), AllocError>
     ensures { OnOk result (edits.new.items ≡ edits.old.items ++ map (λ h. GlobalEdit.PutHold h) holds.items) }

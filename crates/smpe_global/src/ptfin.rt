@@ -1,15 +1,13 @@
 //! The items of a PTFIN.
-ghost use Rattle.std.specs.Prelude.{◌≡◌, ◌++◌, None, IfOk, IfSome, OnOk, map};
+ghost use Rattle.std.specs.Prelude.{◌≡◌, ◌++◌, IfOk, IfSome, OnOk, map};
 ghost use Rattle.terms.specs.Types.{Global as AGlobal, ASysmod};
 ghost use Rattle.terms.specs.Forms.{IsSource};
-ghost use Rattle.terms.specs.Global.{received};
 ghost use Rattle.machine.specs.Runs.{Runs};
 ghost use Rattle.machine.specs.Receiving.{TakesItem, sourced, receive_status};
 ghost use Rattle.mcs.specs.Files.{item_of, items};
 ghost use Rattle.report.specs.Views.{line_view, status_view};
-ghost use Rattle.sysmods_received.specs.Refused.{IsRefusal};
 ghost use Rattle.sysmods.specs.Edits.{EachFits, after_edits};
-ghost use Rattle.smpe_global.specs.Edits.{IsReceived, answer_of, edits_after, edits_of};
+ghost use Rattle.smpe_global.specs.Edits.{answer_of, edits_after};
 ghost use Rattle.smpe_global.specs.Taken.{IsTaken};
 
 use crate::assign::take_assign;
@@ -19,15 +17,15 @@ use fields::{Attest, Source};
 use mcs::Item;
 use report::{Line, Place, Status};
 use std::alloc::{AllocError, Global};
+use sysmod::Sysmod;
 use sysmods::{GlobalEdit, GlobalZone, ReceiveFault};
-use sysmods_records::Sysmod;
 use terms::IdRefusal;
 
 fn with_source(mut sysmod: Sysmod, source: &Option<Source>) -> Result<Sysmod, AllocError>
     ensures { IfOk result (λ found. found ≡ sourced source.now sysmod) }
 {
     if let Some(source) = source {
-        sysmod.add_source(*source)?;
+        sysmod.insert_source(*source)?;
     }
     Ok(sysmod)
 }
@@ -44,37 +42,17 @@ fn status_of(refused: Option<ReceiveFault>) -> Status
     }
 }
 
-/// Receives a SYSMOD that nothing refuses. Its copy is for the tables, and is made first: once it is received, its
-/// holds stand among the others.
-fn take_new(
+/// Appends what writes a SYSMOD that is received, unless this refused it.
+fn write_unless(
     alloc: Global,
-    global: &mut GlobalZone,
-    sysmod: Sysmod,
-    edits: &mut Vec<GlobalEdit>,
-) -> Result<(), AllocError>
-    requires { IsRefusal global.old sysmod None }
-    ensures global { OnOk result (global.new ≡ received global.old sysmod) }
-    ensures edits { OnOk result (edits.new.items ≡ edits.old.items ++ edits_of sysmod) }
-{
-    let copy = sysmod.try_clone(alloc)?;
-    global.receive(alloc, sysmod)?;
-    write_received(alloc, edits, copy)
-}
-
-/// Receives a SYSMOD unless this refuses it. A refused one is neither copied nor written.
-fn take_unless(
-    alloc: Global,
-    global: &mut GlobalZone,
     refused: Option<ReceiveFault>,
     sysmod: Sysmod,
     edits: &mut Vec<GlobalEdit>,
 ) -> Result<(), AllocError>
-    requires { IsRefusal global.old sysmod refused }
-    ensures global { OnOk result (IsReceived global.old sysmod global.new refused) }
-    ensures edits { OnOk result (edits.new.items ≡ edits.old.items ++ edits_after refused sysmod) }
+    ensures { OnOk result (edits.new.items ≡ edits.old.items ++ edits_after refused sysmod) }
 {
     match refused {
-        None => take_new(alloc, global, sysmod, edits),
+        None => write_received(alloc, edits, sysmod),
         Some(_) => Ok(()),
     }
 }
@@ -94,8 +72,8 @@ fn take_sysmod(
     let kind = sysmod.kind;
     let sysmod = with_source(sysmod, source)?;
     sysmod.attest();
-    let refused = global.refusal(alloc, &sysmod)?;
-    take_unless(alloc, global, refused, sysmod, &mut taken.edits)?;
+    let refused = global.receive(alloc, &sysmod)?;
+    write_unless(alloc, refused, sysmod, &mut taken.edits)?;
     taken.lines.push(Line::Status {
         id,
         place: Place::Kind(kind),

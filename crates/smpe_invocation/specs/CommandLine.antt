@@ -40,11 +40,17 @@ run_shape = with_options (codes "run")
 abbrev pub list_shape : Shape
 list_shape = with_options (codes "list") (needed (codes "db") ∷ needed (codes "zone") ∷ [])
 
+-- `check --srel S --ptfin F [--hold F] [--cntl F --date YYYY-MM-DD]`
+abbrev pub check_shape : Shape
+check_shape = with_options (codes "check")
+    (needed (codes "srel") ∷ needed (codes "ptfin") ∷ option (codes "hold") ∷ option (codes "cntl")
+    ∷ option (codes "date") ∷ [])
+
 -- `migrate --db F`
 abbrev pub migrate_shape : Shape
 migrate_shape = with_options (codes "migrate") (needed (codes "db") ∷ [])
 
--- `smpe` with one of the four, and `--version`
+-- `smpe` with one of the five, and `--version`
 abbrev pub smpe : ValueParser → App
 smpe kinds = record {
   top = record (new_app (codes "smpe")).top {
@@ -53,7 +59,7 @@ smpe kinds = record {
     subcommand_required = true;
     disable_help_subcommand = true;
   };
-  subs = zone_shape kinds ∷ run_shape ∷ list_shape ∷ migrate_shape ∷ [];
+  subs = zone_shape kinds ∷ run_shape ∷ list_shape ∷ check_shape ∷ migrate_shape ∷ [];
 }
 
 abbrev pub IsCommandLine : App → Type 0

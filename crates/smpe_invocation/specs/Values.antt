@@ -1,5 +1,5 @@
 -- The values of the options, as clap's matches have them.
-use Rattle.std.specs.Prelude.{◌≡◌, ◌⊎◌, List, Option, Some, codes, option_map, IfSome}
+use Rattle.std.specs.Prelude.{◌≡◌, ◌⊎◌, List, Option, Some, None, codes, option_map, IfSome}
 use Rattle.std.specs.String.{string_bytes}
 use Rattle.terms.specs.Types.{Text}
 use Rattle.terms.specs.Forms.{IsZoneName, IsSrel}
@@ -7,6 +7,7 @@ use Rattle.terms.specs.Spelling.{zone_kind_text}
 use Rattle.terms.specs.declared.kinds.ZoneKind.{ZoneKind}
 use Rattle.clap.specs.Words.{Row, first_of}
 use Rattle.smpe_invocation.specs.Dates.{HasDateForm, IsCalendarDay, dotted}
+use Rattle.smpe_invocation.specs.declared.asked.Commands.{Commands}
 use Rattle.smpe_invocation.specs.declared.asked.Invocation.{Invocation}
 use Rattle.smpe_invocation.specs.declared.asked.Invocation.TheVariants as asked
 
@@ -47,6 +48,18 @@ abbrev pub HasList : List Row → Invocation → Type 0
 HasList rows (asked.List db zone) = HasText (codes "db") rows (string_bytes db) × HasZoneName (codes "zone") rows zone
 HasList rows _ = ⊥
 
+-- The commands, if the words have a file of them; then they have a date.
+abbrev pub HasCommands : List Row → Option Commands → Type 0
+HasCommands rows None = first_of (codes "cntl") rows ≡ None
+HasCommands rows (Some commands) =
+    HasText (codes "cntl") rows (string_bytes commands.cntl) × HasDate rows commands.date
+
+abbrev pub HasCheck : List Row → Invocation → Type 0
+HasCheck rows (asked.Check srel ptfin hold commands) = HasSrel rows srel
+    × HasText (codes "ptfin") rows (string_bytes ptfin)
+    × (first_of (codes "hold") rows ≡ option_map string_bytes hold) × HasCommands rows commands
+HasCheck rows _ = ⊥
+
 abbrev pub HasMigrate : List Row → Invocation → Type 0
 HasMigrate rows (asked.Migrate db) = HasText (codes "db") rows (string_bytes db)
 HasMigrate rows _ = ⊥
@@ -55,4 +68,5 @@ HasMigrate rows _ = ⊥
 abbrev pub HasValues : Text × List Row → Invocation → Type 0
 HasValues met invocation = ((met.0 ≡ codes "zone") × HasZone met.1 invocation)
     ⊎ ((met.0 ≡ codes "run") × HasRun met.1 invocation) ⊎ ((met.0 ≡ codes "list") × HasList met.1 invocation)
+    ⊎ ((met.0 ≡ codes "check") × HasCheck met.1 invocation)
     ⊎ ((met.0 ≡ codes "migrate") × HasMigrate met.1 invocation)

@@ -2,6 +2,13 @@
 use fields::{Srel, YyDdd, ZoneName};
 use terms::ZoneKind;
 
+/// A file of commands, by its name, and the date of the job that they make.
+#[derive(Drop)]
+pub struct Commands {
+    pub cntl: String,
+    pub date: YyDdd,
+}
+
 /// What `smpe` is asked to do. The texts are the names of files.
 #[derive(Drop)]
 pub enum Invocation {
@@ -25,6 +32,13 @@ pub enum Invocation {
     List {
         db: String,
         zone: ZoneName,
+    },
+    /// Tell what a service set would do in an empty system, without a database.
+    Check {
+        srel: Srel,
+        ptfin: String,
+        hold: Option<String>,
+        commands: Option<Commands>,
     },
     /// Take a database of an earlier schema over to the program's own.
     Migrate {

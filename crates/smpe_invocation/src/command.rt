@@ -4,7 +4,7 @@ ghost use Rattle.clap.specs.Words.{app_of, new_app, rule_of, shape_of};
 ghost use Rattle.clap.specs.declared.builder.command.Command.TheViews.{out-Command as fields_of};
 ghost use Rattle.clap.specs.declared.builder.value_parser.ValueParser.{ValueParser};
 ghost use Rattle.smpe_invocation.specs.CommandLine.{IsCommandLine, IsKindParser, kind_option, needed, option};
-ghost use Rattle.smpe_invocation.specs.CommandLine.{list_shape, migrate_shape, run_shape, zone_shape};
+ghost use Rattle.smpe_invocation.specs.CommandLine.{check_shape, list_shape, migrate_shape, run_shape, zone_shape};
 
 use clap::{Arg, Command};
 use std::alloc::{AllocError, Global};
@@ -30,6 +30,7 @@ pub(crate) fn command_line<'a>(alloc: Global) -> Result<Command<'a>, AllocError>
     .subcommand(zone_command(alloc)?)?
     .subcommand(run_command(alloc)?)?
     .subcommand(list_command(alloc)?)?
+    .subcommand(check_command(alloc)?)?
     .subcommand(migrate_command(alloc)?)
 }
 
@@ -87,6 +88,31 @@ fn list_command<'a>(alloc: Global) -> Result<Command<'a>, AllocError>
     )
     .arg(required(alloc, "db", "The database"))?
     .arg(required(alloc, "zone", "The zone, or GLOBAL"))
+}
+
+fn check_command<'a>(alloc: Global) -> Result<Command<'a>, AllocError>
+    ensures shape { IfOk result (λ c. shape_of c ≡ check_shape) }
+    ensures globals { IfOk result (λ c. (fields_of c).has_globals ≡ false) }
+{
+    command(
+        alloc,
+        "check",
+        "Tells what a service set would do in an empty system, without a database",
+        "Example: smpe check --srel Z038 --ptfin ptf.rec --hold hold.rec",
+    )
+    .arg(required(
+        alloc,
+        "srel",
+        "The SREL of the zones DLIB and TGT, in memory",
+    ))?
+    .arg(required(alloc, "ptfin", "The file of SYSMODs that are received"))?
+    .arg(optional(alloc, "hold", "The file of holds that are received"))?
+    .arg(optional(
+        alloc,
+        "cntl",
+        "The file of commands, in place of an APPLY CHECK of all",
+    ))?
+    .arg(optional(alloc, "date", "The job's date, as YYYY-MM-DD, for --cntl"))
 }
 
 fn migrate_command<'a>(alloc: Global) -> Result<Command<'a>, AllocError>

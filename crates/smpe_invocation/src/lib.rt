@@ -11,7 +11,7 @@ mod fault;
 mod read;
 mod values;
 
-pub use asked::Invocation;
+pub use asked::{Commands, Invocation};
 pub use date::read_date;
 pub use fault::ArgFault;
 pub use read::invocation;

@@ -2,13 +2,13 @@
 ghost use Rattle.std.specs.Prelude.{map, option_map, IfOk, IfErr};
 ghost use Rattle.clap.specs.Words.{found_of, rows_of};
 ghost use Rattle.smpe_invocation.specs.Answers.{Excludes, IsMet, IsRead, IsRefused};
-ghost use Rattle.smpe_invocation.specs.Values.{HasList, HasMigrate, HasRun, HasZone};
+ghost use Rattle.smpe_invocation.specs.Values.{HasCheck, HasList, HasMigrate, HasRun, HasZone};
 ghost use Rattle.smpe_invocation.specs.declared.asked.Invocation.{Invocation};
 
 use crate::asked::Invocation;
 use crate::command::command_line;
 use crate::fault::ArgFault;
-use crate::values::{date, kind, optional_text, related, srel, text, zone_name};
+use crate::values::{commands, date, kind, optional_text, related, srel, text, zone_name};
 use clap::ArgMatches;
 use std::alloc::Global;
 
@@ -38,6 +38,8 @@ fn met(alloc: Global, met: Option<(&str, &ArgMatches<'_>)>) -> Result<Invocation
         run(alloc, found)
     } else if name == "list" {
         list(alloc, found)
+    } else if name == "check" {
+        check(alloc, found)
     } else if name == "migrate" {
         migrate(alloc, found)
     } else {
@@ -91,6 +93,23 @@ fn list(alloc: Global, found: &ArgMatches<'_>) -> Result<Invocation, ArgFault>
     let zone = zone_name(found, "zone")?;
     let db = text(alloc, found, "db")?;
     Ok(Invocation::List { db, zone })
+}
+
+fn check(alloc: Global, found: &ArgMatches<'_>) -> Result<Invocation, ArgFault>
+    ensures ok { IfOk result (HasCheck (rows_of (found_of found.now))) }
+    ensures err { IfErr result (λ e. Excludes e ((invocation : Invocation)
+        × HasCheck (rows_of (found_of found.now)) invocation)) }
+{
+    let srel = srel(found)?;
+    let commands = commands(alloc, found)?;
+    let ptfin = text(alloc, found, "ptfin")?;
+    let hold = optional_text(alloc, found, "hold")?;
+    Ok(Invocation::Check {
+        srel,
+        ptfin,
+        hold,
+        commands,
+    })
 }
 
 fn migrate(alloc: Global, found: &ArgMatches<'_>) -> Result<Invocation, ArgFault>

@@ -1,12 +1,15 @@
 //! The values of the options.
-ghost use Rattle.std.specs.Prelude.{◌≡◌, Some, option_map, IfOk, IfErr};
+ghost use Rattle.std.specs.Prelude.{◌≡◌, Option, Some, option_map, IfOk, IfErr};
 ghost use Rattle.std.specs.String.{string_bytes};
 ghost use Rattle.terms.specs.Types.{Text};
 ghost use Rattle.terms.specs.declared.kinds.ZoneKind.{ZoneKind};
 ghost use Rattle.clap.specs.Words.{first_of, found_of, rows_of};
 ghost use Rattle.smpe_invocation.specs.Answers.{Excludes};
-ghost use Rattle.smpe_invocation.specs.Values.{HasDate, HasKind, HasRelated, HasSrel, HasText, HasZoneName};
+ghost use Rattle.smpe_invocation.specs.Values.{HasCommands, HasDate, HasKind, HasRelated, HasSrel, HasText};
+ghost use Rattle.smpe_invocation.specs.Values.{HasZoneName};
+ghost use Rattle.smpe_invocation.specs.declared.asked.Commands.{Commands};
 
+use crate::asked::Commands;
 use crate::date::read_date;
 use crate::fault::ArgFault;
 use clap::ArgMatches;
@@ -89,4 +92,20 @@ pub(crate) fn date(found: &ArgMatches<'_>) -> Result<YyDdd, ArgFault>
     ensures err { IfErr result (λ e. Excludes e ((date : Text) × HasDate (rows_of (found_of found.now)) date)) }
 {
     read_date(needed(found, "date")?).ok_or(ArgFault::BadOperand)
+}
+
+// The commands, if the words have a file of them; only these want a date.
+pub(crate) fn commands(alloc: Global, found: &ArgMatches<'_>) -> Result<Option<Commands>, ArgFault>
+    ensures ok { IfOk result (λ commands. HasCommands (rows_of (found_of found.now)) commands) }
+    ensures err { IfErr result (λ e. Excludes e ((commands : Option Commands)
+        × HasCommands (rows_of (found_of found.now)) commands)) }
+{
+    match value(found, "cntl") {
+        Some(name) => {
+            let date = date(found)?;
+            let cntl = String::from_str(alloc, name)?;
+            Ok(Some(Commands { cntl, date }))
+        }
+        None => Ok(None),
+    }
 }

@@ -34,6 +34,14 @@ const LINES: &[(&str, &str)] = &[
     ),
     ("smpe list --db F --zone TGT1", "F TGT1"),
     ("smpe list --zone=GLOBAL --db F", "F GLOBAL"),
+    ("smpe check --srel Z038 --ptfin P", "Z038 P - - -"),
+    (
+        "smpe check --ptfin P --hold H --srel Z038 --cntl C --date 2024-05-17",
+        "Z038 P H C 24.138",
+    ),
+    ("smpe check --srel Z038 --ptfin P --cntl C", "bad operand"),
+    ("smpe check --srel Z038", "clap"),
+    ("smpe check --ptfin P", "clap"),
     ("smpe migrate --db F", "F"),
     ("smpe", "clap"),
     ("smpe --help", "clap"),
@@ -123,6 +131,23 @@ fn shown(alloc: Global, invocation: &Invocation) -> Result<String, Fail> {
         Invocation::List { db, zone } => {
             let zone = std::str::from_utf8(zone.as_bytes())?;
             Ok(format!(in alloc; "{db} {zone}")?)
+        }
+        Invocation::Check {
+            srel,
+            ptfin,
+            hold,
+            commands,
+        } => {
+            let srel = std::str::from_utf8(srel.as_bytes())?;
+            let hold = hold.as_ref().map_or("-", |text| text.as_str());
+            let (cntl, date) = match commands {
+                Some(commands) => (
+                    commands.cntl.as_str(),
+                    std::str::from_utf8(commands.date.as_bytes())?,
+                ),
+                None => ("-", "-"),
+            };
+            Ok(format!(in alloc; "{srel} {ptfin} {hold} {cntl} {date}")?)
         }
         Invocation::Migrate { db } => Ok(format!(in alloc; "{db}")?),
     }

@@ -2,7 +2,7 @@
 
 ghost use Rattle.std.specs.Prelude.{IsTrue};
 
-use crate::steps::{Step, define_both, opened, play};
+use crate::steps::{Step, define_both, opened_at, place_of, play_at};
 use sqlite::{Connection, FileStore, Files, Options};
 use sqlite_disk::{Disk, Memory};
 use std::alloc::Global;
@@ -45,19 +45,35 @@ fn play_alone(
     alloc: Global,
     conn: Connection<FileStore<Memory>>,
     step: &Step,
+    place: &str,
 ) -> Result<Connection<FileStore<Memory>>, Fail> {
-    let mut store = opened(alloc, reopened(alloc, conn)?)?;
-    play(alloc, &mut store, step)?;
+    let mut store = opened_at(alloc, reopened(alloc, conn)?, place)?;
+    play_at(alloc, &mut store, step, place)?;
     Ok(store.close())
 }
 
-/// Plays the steps one after the other, with the files closed and opened again before each.
-pub fn play_reopened(alloc: Global, steps: &[Step]) -> Result<Connection<FileStore<Memory>>, Fail> {
-    let mut store = opened(alloc, new_files(alloc)?)?;
+/// Plays the steps of a list one after the other, with the files closed and opened again before each.
+pub(crate) fn play_closed(
+    alloc: Global,
+    steps: &[Step],
+    list: &str,
+) -> Result<Connection<FileStore<Memory>>, Fail> {
+    let mut store = opened_at(alloc, new_files(alloc)?, list)?;
     define_both(alloc, &mut store)?;
     let mut conn = store.close();
-    for step in steps {
-        conn = play_alone(alloc, conn, step)?;
+    for (index, step) in steps.iter().enumerate() {
+        let place = place_of(
+            alloc,
+            list,
+            index,
+            "on disks that are closed and opened before it",
+        )?;
+        conn = play_alone(alloc, conn, step, place.as_str())?;
     }
     Ok(conn)
+}
+
+/// The same for steps that stand in no list.
+pub fn play_reopened(alloc: Global, steps: &[Step]) -> Result<Connection<FileStore<Memory>>, Fail> {
+    play_closed(alloc, steps, "steps")
 }

@@ -12,6 +12,5 @@ pub use cards::{
 };
 pub use disks::{connected, new_files, play_reopened};
 pub use steps::{
-    JOB, Step, compare, define_both, opened, play, play_each, play_lists, play_over, records,
-    run_step, zone_name,
+    JOB, Step, compare, define_both, opened, play, play_lists, records, run_step, zone_name,
 };

@@ -1,6 +1,6 @@
 //! How jobs are played against a store.
 
-use crate::disks::{new_files, play_reopened};
+use crate::disks::{new_files, play_closed};
 use fields::{Srel, YyDdd, ZoneName};
 use report::Out;
 use smpe::{Answer, Job, JobError, run_jobs};
@@ -122,41 +122,81 @@ pub fn define_both<S: Alter>(alloc: Global, store: &mut Store<S>) -> Result<(), 
     }
 }
 
-/// Plays a step, and compares what it prints and answers.
-pub fn play<S: Alter>(alloc: Global, store: &mut Store<S>, step: &Step) -> Result<(), Fail> {
+/// The name of a step for failures: its list, its index there, and the disk.
+pub(crate) fn place_of(
+    alloc: Global,
+    list: &str,
+    index: usize,
+    disk: &str,
+) -> Result<String, Fail> {
+    Ok(format!(in alloc; "{list}[{index}] {disk}")?)
+}
+
+/// Plays a step, and compares what it prints and answers. A failure begins with the place.
+pub(crate) fn play_at<S: Alter>(
+    alloc: Global,
+    store: &mut Store<S>,
+    step: &Step,
+    place: &str,
+) -> Result<(), Fail> {
     let mut report = Vec::new(alloc);
-    let answers = run_step(alloc, store, step, &mut report)??;
-    compare(report.as_slice(), step.report)?;
+    let answers = match run_step(alloc, store, step, &mut report)? {
+        Ok(answers) => answers,
+        Err(error) => return Err(Fail::new(format_args!("{place}: {error:?}"))),
+    };
+    if report.as_slice() != step.report.as_bytes() {
+        let got = std::str::from_utf8(report.as_slice())?;
+        let wanted = step.report;
+        return Err(Fail::new(format_args!("{place}: got {got}, wanted {wanted}")));
+    }
     let [Answer::Code(code)] = answers.as_slice() else {
-        return Err(Fail::from("no return code"));
+        return Err(Fail::new(format_args!("{place}: no return code")));
     };
     if *code == step.code {
         return Ok(());
     }
-    Err(Fail::new(format_args!("got {code}, wanted {}", step.code)))
+    let wanted = step.code;
+    Err(Fail::new(format_args!("{place}: got {code}, wanted {wanted}")))
 }
 
-/// A store over the connection.
-pub fn opened<S: Alter + Drop>(alloc: Global, conn: Connection<S>) -> Result<Store<S>, Fail> {
+/// The same for a step that stands in no list.
+pub fn play<S: Alter>(alloc: Global, store: &mut Store<S>, step: &Step) -> Result<(), Fail> {
+    play_at(alloc, store, step, "a step alone")
+}
+
+/// A store over the connection. A failure begins with the place.
+pub(crate) fn opened_at<S: Alter + Drop>(
+    alloc: Global,
+    conn: Connection<S>,
+    place: &str,
+) -> Result<Store<S>, Fail> {
     if !conn.is_autocommit() {
-        return Err(Fail::from("a transaction is under way"));
+        return Err(Fail::new(format_args!("{place}: a transaction is under way")));
     }
     match Store::open(alloc, conn) {
         Ok(store) => Ok(store),
-        Err((_conn, error)) => Err(Fail::from(error)),
+        Err((_conn, error)) => Err(Fail::new(format_args!("{place}: {error:?}"))),
     }
 }
 
+/// The same for what is opened for no list.
+pub fn opened<S: Alter + Drop>(alloc: Global, conn: Connection<S>) -> Result<Store<S>, Fail> {
+    opened_at(alloc, conn, "a store alone")
+}
+
 /// Plays the steps over a new database, one after the other over one store.
-pub fn play_over<S: Alter + Drop>(
+fn play_over<S: Alter + Drop>(
     alloc: Global,
     conn: Connection<S>,
     steps: &[Step],
+    list: &str,
+    disk: &str,
 ) -> Result<(), Fail> {
-    let mut store = opened(alloc, conn)?;
+    let mut store = opened_at(alloc, conn, list)?;
     define_both(alloc, &mut store)?;
-    for step in steps {
-        play(alloc, &mut store, step)?;
+    for (index, step) in steps.iter().enumerate() {
+        let place = place_of(alloc, list, index, disk)?;
+        play_at(alloc, &mut store, step, place.as_str())?;
     }
     Ok(())
 }
@@ -166,35 +206,41 @@ fn play_anew<S: Alter + Drop>(
     alloc: Global,
     conn: Connection<S>,
     step: &Step,
+    place: &str,
 ) -> Result<Connection<S>, Fail> {
-    let mut store = opened(alloc, conn)?;
-    play(alloc, &mut store, step)?;
+    let mut store = opened_at(alloc, conn, place)?;
+    play_at(alloc, &mut store, step, place)?;
     Ok(store.close())
 }
 
-/// Plays the steps over a new database, each over a store that is opened for it.
-pub fn play_each<S: Alter + Drop>(
-    alloc: Global,
-    conn: Connection<S>,
-    steps: &[Step],
-) -> Result<(), Fail> {
-    let mut store = opened(alloc, conn)?;
+/// Plays the steps over a new database in memory, each over a store that is opened for it.
+fn play_each(alloc: Global, steps: &[Step], list: &str) -> Result<(), Fail> {
+    let mut store = opened_at(alloc, Connection::open_in_memory(alloc)?, list)?;
     define_both(alloc, &mut store)?;
     let mut conn = store.close();
-    for step in steps {
-        conn = play_anew(alloc, conn, step)?;
+    for (index, step) in steps.iter().enumerate() {
+        let place = place_of(alloc, list, index, "in memory, opened for each")?;
+        conn = play_anew(alloc, conn, step, place.as_str())?;
     }
     Ok(())
 }
 
 /// Plays each list of steps in memory and on disks in memory: over one store, and over one for each step, for which the
-/// files are closed and opened again.
+/// files are closed and opened again. A failure says which step of which list it was, on which disk.
 pub fn play_lists(alloc: Global, lists: &[&[Step]]) -> Result<(), Fail> {
-    for steps in lists {
-        play_over(alloc, Connection::open_in_memory(alloc)?, steps)?;
-        play_each(alloc, Connection::open_in_memory(alloc)?, steps)?;
-        play_over(alloc, new_files(alloc)?, steps)?;
-        let _conn = play_reopened(alloc, steps)?;
+    for (index, steps) in lists.iter().enumerate() {
+        let name = format!(in alloc; "lists[{index}]")?;
+        let list = name.as_str();
+        play_over(
+            alloc,
+            Connection::open_in_memory(alloc)?,
+            steps,
+            list,
+            "in memory",
+        )?;
+        play_each(alloc, steps, list)?;
+        play_over(alloc, new_files(alloc)?, steps, list, "on disks")?;
+        let _conn = play_closed(alloc, steps, list)?;
     }
     Ok(())
 }

@@ -7,13 +7,44 @@ ghost use Rattle.sqlite.specs.State.{HasCleanDisk};
 
 use clap::Error as WordsError;
 use smpe_command::Host;
-use sqlite::{Connection, FileFrom, FileStore, Wary};
+use sqlite::{Connection, Error, ErrorCode, FileFrom, FileStore, Wary};
 use std::{fs, io};
+
+/// The bytes of a record.
+const RECORD: usize = 80;
 
 /// The system, by what the program was started with.
 #[derive(Drop)]
 pub(crate) struct System<'a> {
-    pub(crate) rt: &'a HostRuntime,
+    rt: &'a HostRuntime,
+    /// Why a database was not opened.
+    cause: Option<Error>,
+}
+
+impl System<'_> {
+    pub(crate) fn new<'a>(rt: &'a HostRuntime) -> System<'a> {
+        System { rt, cause: None }
+    }
+
+    /// Says on standard error why a database was not opened, where the library has named a cause that a user can end.
+    pub(crate) fn tell_cause(&self) {
+        if let Some(Error::SqliteFailure(code)) = self.cause {
+            if let Some(text) = cause_text(code) {
+                let _ = self.rt.eprintln(text);
+            }
+        }
+    }
+}
+
+fn cause_text(code: ErrorCode) -> Option<&'static str> {
+    match code {
+        ErrorCode::DatabaseBusy => Some("smpe: another program has the database"),
+        ErrorCode::CannotOpen => Some("smpe: the database can't be opened"),
+        ErrorCode::NotADatabase => Some("smpe: the file is no database"),
+        ErrorCode::DatabaseCorrupt => Some("smpe: the database breaks its own rules"),
+        ErrorCode::DiskFull => Some("smpe: the disk is full"),
+        _ => None,
+    }
 }
 
 // Of a database, what `sqlite` promises where it opens one. No more is said of the system: the other relations hold of
@@ -33,14 +64,26 @@ impl Host for System<'_> {
 
     ghost shows = { λ _ _ _. Unit {0} };
 
+    ghost prints = { λ _ _ _. Unit {0} };
+
+    // A file that is no whole records is refused by RECEIVE, or as a command file, and typed text is the usual cause.
     fn read(&mut self, name: &str) -> io::Result<Vec<u8>> {
-        fs::read(self.rt, name)
+        let bytes = fs::read(self.rt, name)?;
+        if bytes.len() % RECORD != 0 {
+            let _ = eprintln!(self.rt;
+                "smpe: {name} is no file of 80-byte records; smpe-cards makes one of text"
+            );
+        }
+        Ok(bytes)
     }
 
     fn open(&mut self, name: &str) -> Result<Connection<Self::Disk>, sqlite::Error> {
         match Connection::open_from(self.rt, name, false, Wary) {
             Ok(conn) => Ok(conn),
-            Err((error, _)) => Err(error),
+            Err((error, _)) => {
+                self.cause = Some(error);
+                Err(error)
+            }
         }
     }
 
@@ -53,5 +96,9 @@ impl Host for System<'_> {
 
     fn show(&mut self, error: &WordsError) {
         let _ = self.rt.eprint(error);
+    }
+
+    fn print(&mut self, error: &WordsError) {
+        let _ = self.rt.print(error);
     }
 }

@@ -1,4 +1,5 @@
-//! `smpe`: defines a zone of a database, runs a job over it, lists a zone, or takes the database over to its schema.
+//! `smpe`: defines a zone of a database, runs a job over it, lists a zone, takes the database over to its schema, or
+//! tells what a service set would do without one.
 //! What it does is `smpe_command::command`; here is the input and output that it asks for, which is proved safe.
 #![tactic(auto)]
 
@@ -13,8 +14,10 @@ use words::words;
 
 fn main(rt: HostRuntime) -> ExitCode {
     let words = words(&rt);
-    let mut host = System { rt: &rt };
+    let mut host = System::new(&rt);
     let mut out = Out::new(rt.stdout());
     let mut err = Out::new(rt.stderr());
-    ExitCode::from(command(rt.alloc(), &mut host, &words, &mut out, &mut err))
+    let status = command(rt.alloc(), &mut host, &words, &mut out, &mut err);
+    host.tell_cause();
+    ExitCode::from(status)
 }

@@ -3,13 +3,12 @@ ghost use Rattle.std.specs.Prelude.{IfOk, map};
 ghost use Rattle.terms.specs.Types.{Zone as AZone};
 ghost use Rattle.zones.specs.Delta.{IsChanged};
 ghost use Rattle.machine.specs.Restoring.{RestoresListed};
-ghost use Rattle.cntl.specs.Views.{restore_list_of};
+ghost use Rattle.fields.specs.Choices.{restore_list_of};
 ghost use Rattle.report.specs.Views.{line_view};
 
 use crate::lines::lines_of;
-use cntl::RestoreList;
 use decide::{Decided, decide};
-use fields::{Attest, IdList};
+use fields::{Attest, IdList, RestoreList};
 use report::Line;
 use std::alloc::{AllocError, Global};
 use sysmods::GlobalZone;
@@ -50,10 +49,10 @@ pub fn restore(
     let Judged {
         cands,
         tests,
-        wants,
+        needs,
     } = judge_restore(alloc, &scope, &ids)?;
     cands.attest();
-    let Decided { kept, failed } = decide(alloc, &cands, tests, wants.as_slice(), &[])?;
+    let Decided { kept, failed } = decide(alloc, &cands, tests, needs.as_slice(), &[])?;
     let lines = lines_of(alloc, global, ids.as_slice(), &kept, failed.as_slice())?;
     let delta = undo::restore(alloc, global, zone, accepted, &kept)?;
     Ok(Restored { delta, lines })

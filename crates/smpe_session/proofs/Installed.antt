@@ -24,9 +24,11 @@ use Rattle.machine.specs.Installing.{InstallsSelected}
 use Rattle.machine.specs.Outcome.{Header, Line, Refusal, Outcome, Ran, Refused, header_of, or_nothing}
 use Rattle.machine.specs.State.{State, zone_named, with_zone, misplaced}
 use Rattle.machine.specs.Machine.{Files, InstallsThere, RunsThere, Performs}
+use Rattle.store.specs.declared.change.Change.TheVariants.{Zone as ZoneChange}
 use Rattle.smpe_zones.specs.Kept.{kept}
-use Rattle.smpe_upkeep.proofs.ZonesKept.{stands_among}
-use Rattle.smpe_upkeep.proofs.InstallForms.{apply_kept}
+use Rattle.smpe_zones.specs.Own.{IsOwnOf}
+use Rattle.machine_keeps.proofs.ZonesKept.{stands_among}
+use Rattle.machine_keeps.proofs.InstallForms.{apply_kept}
 use Rattle.smpe_session.specs.declared.session.Session.{Session}
 use Rattle.smpe_session.specs.Sessions.{IsSessionOf}
 use Rattle.smpe_session.specs.Places.{install_command, related_for, IsPlace, IsPlan, ChangesZone}
@@ -156,6 +158,7 @@ install_changes date kind i s at name zone related sel bypass delta lines here p
       zone = zone;
       has = place.has;
       is_there = place.is_there;
+      owns = λ unchecked. owns kind (checks ∙ unchecked);
       performs = λ new changed. inr (
         install_at s kind i ∙ place.fits,
         runs_there date files kind i s (if check then s else with_zone s name new) (Ran header lines) record {
@@ -174,6 +177,10 @@ install_changes date kind i s at name zone related sel bypass delta lines here p
           i.bypass date plan.printed inventory place.is_there (installs new changed) plan.dated;
     }
   where
+    owns : (kind : ZoneKind) → i.check ≡ false → IsOwnOf (install_command kind i) (ZoneChange name delta)
+    owns Target unchecked = (tt, unchecked)
+    owns Distribution unchecked = (tt, unchecked)
+
     installs : (new : Zone) → IsChanged delta zone new
         → InstallsSelected s.global zone (related_for kind s.zones name) i.selection i.bypass date new plan.printed
     installs new changed =

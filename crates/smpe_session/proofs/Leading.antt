@@ -13,7 +13,10 @@ use Rattle.machine.specs.State.{State, global_name, misplaced}
 use Rattle.machine.specs.Machine.{Files, Perform, Performs}
 use Rattle.sysmods.specs.declared.edit.GlobalEdit.{GlobalEdit}
 use Rattle.sysmods.specs.Edits.{EachFits, after_edits}
+use Rattle.store.specs.Changes.{Makes}
+use Rattle.store.specs.declared.change.Change.{Change}
 use Rattle.smpe_zones.specs.Kept.{kept}
+use Rattle.smpe_zones.specs.Own.{IsOwnOf}
 use Rattle.smpe_session.specs.declared.session.Session.{Session}
 use Rattle.smpe_session.specs.Sessions.{IsSessionOf}
 use Rattle.smpe_session.specs.Steps.{LeadsToGlobal, EndsCommitted, HasRun}
@@ -42,12 +45,13 @@ leads_by date files c s old new edits lines global fits after inventory leads = 
 -- a commit of it
 pub run_led : {S V : Type 0} (g : Ghosts S) (old at : Held S) (date : Text) (files : Files) (c : Command) (s : State)
     (new : Global) (edits : List GlobalEdit) (lines : V → List Line) (answer : V)
-    → LeadsBy date files c s new edits (lines answer) → (r : Result V StoreError)
-    → EndsCommitted g old at s (record s { global = new }) answer r
+    → LeadsBy date files c s new edits (lines answer) → (change : Change) → IsOwnOf c change
+    → Makes change (kept s) (kept (record s { global = new })) → (r : Result V StoreError)
+    → EndsCommitted g old at s (record s { global = new }) change answer r
     → HasRun g old at s (Perform date files c) (λ v t. LeadsToGlobal date files c s new t (lines v)) r
-run_led g old at date files c s new edits lines answer led r ended =
+run_led g old at date files c s new edits lines answer led change own makes r ended =
     run_committed g old at s date files c (record s { global = new }) (Ran (header_of c s.boundary) (lines answer))
-    led.leads.performs (λ v t. LeadsToGlobal date files c s new t (lines v)) answer led.leads r ended
+    led.leads.performs change own makes (λ v t. LeadsToGlobal date files c s new t (lines v)) answer led.leads r ended
 
 -- the header under the session's boundary
 pub headed : (date : Text) (files : Files) (c : Command) (s t : State) (boundary : Option Text)

@@ -21,8 +21,8 @@ use Rattle.sysmods.specs.Edits.{after_edit, EachFits, after_edits}
 use Rattle.smpe_zones.specs.Kept.{kept}
 use Rattle.smpe_global.specs.External.{IsExternal}
 use Rattle.smpe_global.proofs.Fitting.{fits_append}
-use Rattle.smpe_upkeep.proofs.HoldFileForms.{IsHoldItem, hold_file_formed}
-use Rattle.smpe_upkeep.proofs.ReceivingForms.{take_forms}
+use Rattle.machine_keeps.proofs.HoldFileForms.{IsHoldItem, hold_file_formed}
+use Rattle.machine_keeps.proofs.ReceivingForms.{take_forms}
 use Rattle.smpe_session.specs.Received.{AreTaken}
 use Rattle.smpe_global.proofs.Fitting.{fits_append}
 use Rattle.smpe_session.proofs.Leading.{LeadsBy, leads_by, headed}

@@ -10,7 +10,7 @@ use Rattle.machine.specs.Machine.{Files}
 use Rattle.sysmods.specs.declared.edit.GlobalEdit.{GlobalEdit}
 use Rattle.sysmods.specs.Edits.{EachFits, after_edits}
 use Rattle.smpe_zones.specs.Kept.{kept}
-use Rattle.smpe_upkeep.proofs.RejectingForms.{reject_forms}
+use Rattle.machine_keeps.proofs.RejectingForms.{reject_forms}
 use Rattle.smpe_session.proofs.Leading.{LeadsBy, leads_by}
 
 pub rejected : (date : Text) (files : Files) (ids : List Id) (s : State) (old new : Global) (edits : List GlobalEdit)

@@ -14,7 +14,7 @@ use Rattle.machine.specs.Restoring.{RestoresListed}
 use Rattle.machine.specs.State.{State, zone_named, with_zone}
 use Rattle.machine.specs.Machine.{Files}
 use Rattle.smpe_zones.specs.Kept.{kept}
-use Rattle.smpe_upkeep.proofs.RestoreForms.{restore_kept}
+use Rattle.machine_keeps.proofs.RestoreForms.{restore_kept}
 use Rattle.smpe_session.specs.declared.session.Session.{Session}
 use Rattle.smpe_session.specs.Sessions.{IsSessionOf}
 use Rattle.smpe_session.specs.Steps.{IsSought}
@@ -122,6 +122,7 @@ restore_changes s at name zone accepted what delta lines is target plan date fil
   zone = zone;
   has = target.has;
   is_there = target.is_there;
+  owns = λ unchecked. (tt, unchecked);
   performs = λ new changed. headed date files (Restore what check) s (if check then s else with_zone s name new)
       boundary (λ h. Ran h lines) same (inr (
         restore_at s what check ∙ target.fits,

@@ -16,7 +16,7 @@ use Rattle.lemmas.proofs.Searches.{All_find}
 use Rattle.store_schema.specs.Inventory.{IsInventory}
 use Rattle.machine.specs.State.{State, global_name, zone_named}
 use Rattle.smpe_zones.specs.Kept.{kept}
-use Rattle.smpe_upkeep.proofs.Lists.{find_itself}
+use Rattle.machine_keeps.proofs.Lists.{find_itself}
 use Rattle.smpe_session.specs.declared.session.Session.{Session}
 use Rattle.smpe_session.specs.Steps.{IsSought}
 use Rattle.smpe_session.proofs.Places.{none_global}

@@ -22,7 +22,8 @@ use Rattle.terms.specs.Types.{Text, Command}
 use Rattle.store.specs.declared.change.Change.{Change}
 use Rattle.store.specs.Changes.{Makes}
 use Rattle.store.specs.Causes.{IsLater, HasCause}
-use Rattle.smpe_zones.specs.Kept.{kept, Keeps, IsAround, IsStopped, IsFaulted}
+use Rattle.smpe_zones.specs.Kept.{kept, Keeps, IsAround, IsStopped, IsFaulted, LeadsOn}
+use Rattle.smpe_zones.specs.Own.{IsOwnOf}
 use Rattle.store.specs.Loads.{Loads}
 use Rattle.smpe_zones.proofs.Keeping.{leaves_more, cause_more, cause_since}
 use Rattle.store.specs.View.{Tables, TablesIfOpen, MayLeave, Leaves}
@@ -51,7 +52,7 @@ module _ {S : Type 0} (g : Ghosts S) (old at : Held S) (s : State) where
   faults_unmoved : (a : Act) → EndsUnmoved g old at s Fault → IsFaulted g old at s a
   faults_unmoved a (un, cause) = record {
     stopped = stays_unmoved g at s a un;
-    cause = cause_more g old at _ _ (λ c is. inl is) cause;
+    cause = cause_more g old at (kept s) _ _ (λ own none. absurd none) cause;
   }
 
   -- errors at which nothing was committed
@@ -92,7 +93,11 @@ module _ {S : Type 0} (g : Ghosts S) (old at : Held S) (s : State) where
 
   -- the commit of what a command leads to
   module _ (date : Text) (files : Files) (c : Command) (t : State) (outcome : machine.Outcome)
-      (performs : Performs date files s c t outcome) where
+      (performs : Performs date files s c t outcome) (change : Change) (own : IsOwnOf c change)
+      (makes : Makes change (kept s) (kept t)) where
+    leads_on : LeadsOn s (Perform date files c) change
+    leads_on = (own, (t, flat_map text (outcome ∷ []), (outcome ∷ [], (outcome, performs, refl), refl), makes))
+
     around : (d : Inventory) → (d ≡ kept s) ⊎ (d ≡ kept t) → IsAround s (Perform date files c) d
     around d (inl same) = inl same
     around d (inr is) = inr (t, flat_map text (outcome ∷ []), (outcome ∷ [], (outcome, performs, refl), refl), is)
@@ -100,18 +105,19 @@ module _ {S : Type 0} (g : Ghosts S) (old at : Held S) (s : State) where
     stays_unsettled : Unsettled g at s t → IsStopped g at s (Perform date files c)
     stays_unsettled un = record { now = un.now; crash = leaves_more g at _ _ around un.crash }
 
-    staying_unsettled : (e : StoreError) → EndsUnsettled g old at s t e
+    staying_unsettled : (e : StoreError) → EndsUnsettled g old at s t change e
         → EndsStaying g old at s (Perform date files c) e
     staying_unsettled Fault (un, cause) = record {
       stopped = stays_unsettled un;
-      cause = cause_more g old at _ _ around cause;
+      cause = cause_more g old at (kept s) _ _ (λ made is. subst (LeadsOn s (Perform date files c)) (sym is) leads_on)
+          cause;
     }
     staying_unsettled OtherSchema un = un
     staying_unsettled NoState un = un
     staying_unsettled Memory un = stays_unsettled un
 
     pub run_committed : {V : Type 0} (LeadsTo : V → State → Type 0) (answer : V) → LeadsTo answer t
-        → (r : Result V StoreError) → EndsCommitted g old at s t answer r
+        → (r : Result V StoreError) → EndsCommitted g old at s t change answer r
         → HasRun g old at s (Perform date files c) LeadsTo r
     run_committed LeadsTo answer leads (Ok v) done = (t, subst (λ x. LeadsTo x t) (sym done.0) leads, done.1)
     run_committed LeadsTo answer leads (Err e) un = staying_unsettled e un
@@ -119,7 +125,7 @@ module _ {S : Type 0} (g : Ghosts S) (old at : Held S) (s : State) where
 -- a call that is behind others of one that began at `old`
 module _ {S : Type 0} (g : Ghosts S) (old mid at : Held S) (s : State) (later : IsLater g old mid) where
   pub unmoved_since : (e : StoreError) → EndsUnmoved g mid at s e → EndsUnmoved g old at s e
-  unmoved_since Fault (un, cause) = (un, cause_since g old mid at later _ cause)
+  unmoved_since Fault (un, cause) = (un, cause_since g old mid at later (kept s) _ cause)
   unmoved_since OtherSchema un = un
   unmoved_since NoState un = un
   unmoved_since Memory un = un
@@ -127,7 +133,7 @@ module _ {S : Type 0} (g : Ghosts S) (old mid at : Held S) (s : State) (later : 
   pub staying_since : (a : Act) (e : StoreError) → EndsStaying g mid at s a e → EndsStaying g old at s a e
   staying_since a Fault faulted = record {
     stopped = faulted.stopped;
-    cause = cause_since g old mid at later _ faulted.cause;
+    cause = cause_since g old mid at later (kept s) _ faulted.cause;
   }
   staying_since a OtherSchema stays = stays
   staying_since a NoState stays = stays
@@ -194,8 +200,8 @@ module _ {S : Type 0} (g : Ghosts S) (old new : Held S) (s : State) where
         → OnErr result ((i : Inventory) → Tables g old i → TablesIfOpen g new i)
         → CommitsOnce
         → IfErr result (λ e. (e ≡ Fault) ⊎ (e ≡ Memory))
-        → (IsErrOf result Fault → HasCause g old new (λ c. (c ≡ kept s) ⊎ (c ≡ kept t)))
-        → EndsCommitted g old new s t tt result
+        → (IsErrOf result Fault → HasCause g old new (kept s) (λ own. own ≡ change))
+        → EndsCommitted g old new s t change tt result
     committed (Ok x) ok durable err lost which cause = (
       refl,
       record {

@@ -1,6 +1,6 @@
 -- Calls over the store one after the other, and what becomes of their results.
-use Rattle.std.proofs.Common.{◌≡◌, ◌⊎◌, ◌∙◌, Result, Ok, Err, arith, refl, sym, ap, subst}
-use Rattle.std.specs.Prelude.{IfErr, IsErrAnd, IsErrOf, OnOk, OnErr, ⊤}
+use Rattle.std.proofs.Common.{◌≡◌, ◌≢◌, ◌⊎◌, ◌∙◌, Result, Ok, Err, arith, inl, inr, refl, sym, ap, subst}
+use Rattle.std.specs.Prelude.{IfOk, IfErr, IsErrAnd, IsErrOf, OnOk, OnErr}
 use Rattle.std.proofs.lemmas.Result.{err_from_is_err_and}
 use Rattle.sqlite.specs.Store.{Ghosts}
 use Rattle.sqlite.specs.Tree.{Trees}
@@ -10,25 +10,28 @@ use Rattle.terms.specs.Types.{Text, Command}
 use Rattle.machine.specs.State.{State}
 use Rattle.machine.specs.Machine.{Files}
 use Rattle.report.specs.declared.outcome.Outcome.{Outcome}
-use Rattle.store.specs.BadRows.{OnlyLoads}
-use Rattle.store.specs.Causes.{IsLater, HasCause}
+use Rattle.store.specs.Calls.{calls_of}
+use Rattle.store.specs.Causes.{HasCause}
 use Rattle.store.specs.Changes.{Makes}
+use Rattle.store.specs.Commits.{OnlyCommits}
 use Rattle.store.specs.declared.change.Change.{Change}
 use Rattle.store.specs.Loads.{Loads}
 use Rattle.store.specs.View.{Tables, TablesIfOpen, MayLeave, Leaves}
-use Rattle.store.proofs.NoState.{found_after, loads_none, loads_read, loads_then, tells_committed}
-use Rattle.store_rows.specs.Reads.{OnlyReads}
+use Rattle.store.proofs.Going.{loads_alone, alone_none, alone_short, goes_alone, goes_commit, goes_err, goes_ok}
+use Rattle.store.proofs.Going.{goes_own, goes_then}
+use Rattle.store.proofs.NoState.{found_after, tells_committed}
 use Rattle.store_schema.specs.Inventory.{Inventory, IsInventory}
 use Rattle.store_schema.specs.Stands.{StandsFor}
 use Rattle.store_schema.specs.Tables.{store_schema}
 use Rattle.store_schema.specs.declared.error.StoreError.{StoreError}
-use Rattle.store_schema.specs.declared.error.StoreError.TheVariants.{Fault, NoState, Memory}
+use Rattle.store_schema.specs.declared.error.StoreError.TheVariants.{Fault, OtherSchema, Memory}
 use Rattle.smpe_zones.specs.Kept.{kept, Keeps}
 use Rattle.smpe_session.specs.declared.session.Session.{Session}
 use Rattle.smpe_session.specs.declared.session.Performed.{Performed}
 use Rattle.smpe_session.specs.Sessions.{IsSessionOf, HasPerformed, HasDone, told}
 use Rattle.smpe_session.specs.Steps.{HasLoaded, EndsCommitted}
 use Rattle.smpe_session.specs.Uses.{UsesStore}
+use Rattle.smpe_session.specs.Writing.{TellsRun, AnswersRun}
 use Rattle.smpe_session.proofs.Stepping.{kept_inventory, loaded, committed}
 
 -- how calls end
@@ -36,146 +39,179 @@ abbrev pub Ending : Type 0 → Type 1
 Ending X = State → Result X StoreError → Type 0
 
 module _ {S : Type 0} {g : Ghosts S} {old new : Held S} where
-  -- the same result, of which less is said, or another that says as little of the store
-  pub weaker : {X : Type 0} {Looks More : Type 0} {P Q : Ending X} {r : Result X StoreError}
-      → UsesStore g old new Looks P r → (More → Looks)
+  -- the same result, of which less is said, with changes that are others too
+  pub weaker : {X : Type 0} {IsOwn More : Change → Type 0} {P Q : Ending X} {r : Result X StoreError}
+      → UsesStore g old new IsOwn P r → ((change : Change) → IsOwn change → More change)
       → ((s : State) → IsInventory (kept s) → P s r → Q s r) → UsesStore g old new More Q r
-  weaker call looks ends = record {
+  weaker {IsOwn = IsOwn} {More = More} {r = r} call more ends = record {
     clean = call.clean;
     later = call.later;
-    loads = λ more. call.loads (looks more);
+    goes = goes_own g old new IsOwn More r more call.goes;
     none = call.none;
+    which = call.which;
     ended = λ clean s keeps. ends s (kept_inventory g old s (call.clean clean) keeps) (call.ended clean s keeps);
   }
 
   -- something else is answered
-  pub answered : {X Y : Type 0} {Looks More : Type 0} {P : Ending X} {Q : Ending Y} {x : X} {y : Y}
-      → UsesStore g old new Looks P (Ok x) → (More → Looks)
+  pub answered : {X Y : Type 0} {IsOwn More : Change → Type 0} {P : Ending X} {Q : Ending Y} {x : X} {y : Y}
+      → UsesStore g old new IsOwn P (Ok x) → ((change : Change) → IsOwn change → More change)
       → ((s : State) → IsInventory (kept s) → P s (Ok x) → Q s (Ok y)) → UsesStore g old new More Q (Ok y)
-  answered call looks ends = record {
+  answered {IsOwn = IsOwn} {More = More} {x = x} {y = y} call more ends = record {
     clean = call.clean;
     later = call.later;
-    loads = λ more. call.loads (looks more);
+    goes = goes_ok g old new IsOwn More x y more call.goes;
     none = λ clean bad. absurd (cc bad);
+    which = tt;
     ended = λ clean s keeps. ends s (kept_inventory g old s (call.clean clean) keeps) (call.ended clean s keeps);
   }
 
-  failed : {X Y : Type 0} {Looks More : Type 0} {P : Ending X} {Q : Ending Y} {e : StoreError}
-      → UsesStore g old new Looks P (Err e)
+  failed : {X Y : Type 0} {IsOwn More : Change → Type 0} {P : Ending X} {Q : Ending Y} {e : StoreError}
+      → UsesStore g old new IsOwn P (Err e) → ((change : Change) → IsOwn change → More change)
       → ((s : State) → IsInventory (kept s) → P s (Err e) → Q s (Err e)) → UsesStore g old new More Q (Err e)
-  failed call ends = record {
+  failed {IsOwn = IsOwn} {More = More} {e = e} call more ends = record {
     clean = call.clean;
     later = call.later;
-    loads = λ more. tt;
+    goes = goes_err g old new IsOwn More e e more call.goes;
     none = λ clean bad. call.none clean (cc bad);
+    which = call.which;
     ended = λ clean s keeps. ends s (kept_inventory g old s (call.clean clean) keeps) (call.ended clean s keeps);
   }
 
   -- an error is handed on
-  pub handed_on : {X Y : Type 0} {Looks More : Type 0} {P : Ending X} {Q : Ending Y} {e : StoreError}
-      {r : Result Y StoreError} → IsErrAnd r (λ y. y ≡ e) → UsesStore g old new Looks P (Err e)
+  pub handed : {X Y : Type 0} {IsOwn More : Change → Type 0} {P : Ending X} {Q : Ending Y} {e : StoreError}
+      {r : Result Y StoreError} → IsErrAnd r (λ y. y ≡ e) → UsesStore g old new IsOwn P (Err e)
+      → ((change : Change) → IsOwn change → More change)
       → ((s : State) → IsInventory (kept s) → P s (Err e) → Q s (Err e)) → UsesStore g old new More Q r
-  handed_on {More = More} {Q = Q} {r = r} is call ends = let p = err_from_is_err_and r is
-      in subst (λ q. UsesStore g old new More Q q) (sym (p.1 ∙ ap Err p.2)) (failed call ends)
+  handed {More = More} {Q = Q} {r = r} is call more ends = let p = err_from_is_err_and r is
+      in subst (λ q. UsesStore g old new More Q q) (sym (p.1 ∙ ap Err p.2)) (failed call more ends)
 
-  short : {X Y : Type 0} {Looks More : Type 0} {P : Ending X} {Q : Ending Y} {x : X}
-      → UsesStore g old new Looks P (Ok x)
+  -- one of a load
+  pub handed_on : {X Y : Type 0} {More : Change → Type 0} {P : Ending X} {Q : Ending Y} {e : StoreError}
+      {r : Result Y StoreError} → IsErrAnd r (λ y. y ≡ e) → UsesStore g old new (λ _. ⊥) P (Err e)
+      → ((s : State) → IsInventory (kept s) → P s (Err e) → Q s (Err e)) → UsesStore g old new More Q r
+  handed_on is call ends = handed is call (λ change none. absurd none) ends
+
+  short : {X Y : Type 0} {More : Change → Type 0} {P : Ending X} {Q : Ending Y} {x : X}
+      → UsesStore g old new (λ _. ⊥) P (Ok x)
       → ((s : State) → IsInventory (kept s) → P s (Ok x) → Q s (Err Memory)) → UsesStore g old new More Q (Err Memory)
-  short call ends = record {
+  short {x = x} call ends = record {
     clean = call.clean;
     later = call.later;
-    loads = λ more. tt;
+    goes = inl (alone_short g old new x Memory (goes_alone g old new (Ok x) call.goes));
     none = λ clean bad. absurd (cc bad);
+    which = λ is. absurd (cc is);
     ended = λ clean s keeps. ends s (kept_inventory g old s (call.clean clean) keeps) (call.ended clean s keeps);
   }
 
-  -- memory runs out
-  pub ran_short : {X Y : Type 0} {Looks More : Type 0} {P : Ending X} {Q : Ending Y} {x : X} {r : Result Y StoreError}
-      → IsErrAnd r (λ y. y ≡ Memory) → UsesStore g old new Looks P (Ok x)
+  -- memory runs out behind loads
+  pub ran_short : {X Y : Type 0} {More : Change → Type 0} {P : Ending X} {Q : Ending Y} {x : X}
+      {r : Result Y StoreError} → IsErrAnd r (λ y. y ≡ Memory) → UsesStore g old new (λ _. ⊥) P (Ok x)
       → ((s : State) → IsInventory (kept s) → P s (Ok x) → Q s (Err Memory)) → UsesStore g old new More Q r
   ran_short {More = More} {Q = Q} {r = r} is call ends = let p = err_from_is_err_and r is
       in subst (λ q. UsesStore g old new More Q q) (sym (p.1 ∙ ap Err p.2)) (short call ends)
 
-  loaded_only : {X : Type 0} (r : Result X StoreError) → OnlyReads g store_schema NoState Fault old new r
-      → OnOk r (OnlyLoads g old new)
-  loaded_only (Ok x) reads = loads_read g old new x reads
-  loaded_only (Err e) reads = tt
-
   -- a load
   pub load_uses : {X : Type 0} {Found : Inventory → X → Type 0} {r : Result X StoreError} → Loads g old new Found r
-      → UsesStore g old new ⊤ (λ s ended. HasLoaded g old new s (Found (kept s)) ended) r
+      → UsesStore g old new (λ _. ⊥) (λ s ended. HasLoaded g old new s (Found (kept s)) ended) r
   load_uses {Found = Found} {r = r} loads = record {
     clean = loads.clean;
     later = (loads.reads.crash.counts, loads.reads.crash.limit);
-    loads = λ looks. loaded_only r loads.reads;
+    goes = inl (loads_alone g old new r loads.reads);
     none = loads.none;
+    which = loads.which;
     ended = λ clean s keeps. loaded g old new s Found r clean loads keeps;
   }
 
-  tells : {Looks More : Type 0} {P : Ending Outcome} {at session : Session} {date : Text} {files : Files} {c : Command}
-      (r : Result Outcome StoreError) → UsesStore g old new Looks P r → (More → Looks)
-      → ((s : State) → P s r → IsSessionOf s at → HasPerformed g old new s session date files c r)
-      → UsesStore g old new More (λ s ended. IsSessionOf s at → HasDone g old new s session date files c ended) (told r)
-  tells (Ok outcome) call looks ends = answered call looks (λ s inventory p is. ends s p is)
-  tells (Err e) call looks ends = failed call (λ s inventory p is. ends s p is)
+  module _ {IsMine IsOwn : Change → Type 0} {P : Ending Outcome} {at session : Session} {date : Text} {files : Files}
+      {c : Command} where
+    tells : (r : Result Outcome StoreError) → UsesStore g old new IsMine P r
+        → ((change : Change) → IsMine change → IsOwn change × IfOk r TellsRun)
+        → ((s : State) → P s r → IsSessionOf s at → HasPerformed g old new s session date files c r)
+        → UsesStore g old new (λ change. IsOwn change × IfOk (told r) AnswersRun)
+        (λ s ended. IsSessionOf s at → HasDone g old new s session date files c ended) (told r)
+    tells (Ok outcome) call more ends = answered call more (λ s inventory p is. ends s p is)
+    tells (Err e) call more ends = failed call more (λ s inventory p is. ends s p is)
 
-  -- what a command comes to is told
-  pub told_uses : {Looks More : Type 0} {P : Ending Outcome} {at session : Session} {date : Text} {files : Files}
-      {c : Command} {r : Result Outcome StoreError} {told_so : Result Performed StoreError} → told_so ≡ told r
-      → UsesStore g old new Looks P r → (More → Looks)
-      → ((s : State) → P s r → IsSessionOf s at → HasPerformed g old new s session date files c r)
-      → UsesStore g old new More (λ s ended. IsSessionOf s at → HasDone g old new s session date files c ended) told_so
-  told_uses {More = More} {at = at} {session = session} {date = date} {files = files} {c = c} {r = r} is call looks
-      ends = subst (λ q. UsesStore g old new More
-      (λ s ended. IsSessionOf s at → HasDone g old new s session date files c ended) q) (sym is)
-      (tells r call looks ends)
+    -- what a command comes to is told
+    pub told_uses : {r : Result Outcome StoreError} {told_so : Result Performed StoreError} → told_so ≡ told r
+        → UsesStore g old new IsMine P r → ((change : Change) → IsMine change → IsOwn change × IfOk r TellsRun)
+        → ((s : State) → P s r → IsSessionOf s at → HasPerformed g old new s session date files c r)
+        → UsesStore g old new (λ change. IsOwn change × IfOk told_so AnswersRun)
+        (λ s ended. IsSessionOf s at → HasDone g old new s session date files c ended) told_so
+    told_uses {r = r} is call more ends = subst (λ q. UsesStore g old new (λ change. IsOwn change × IfOk q AnswersRun)
+        (λ s ended. IsSessionOf s at → HasDone g old new s session date files c ended) q) (sym is)
+        (tells r call more ends)
+
+-- An error has no answer.
+pub no_answer : {X E : Type 0} (r : Result X E) (P : E → Type 0) (Q : X → Type 0) → IsErrAnd r P → IfOk r Q
+no_answer (Ok x) P Q is = absurd is
+no_answer (Err e) P Q is = tt
+
+-- the errors of a commit
+not_other : {X : Type 0} (r : Result X StoreError) → IfErr r (λ e. (e ≡ Fault) ⊎ (e ≡ Memory))
+    → IfErr r (λ e. e ≢ OtherSchema)
+not_other (Ok x) which = tt
+not_other (Err e) which = λ is. elim which [
+  | inl fault ↦ absurd (cc (fault, is))
+  | inr memory ↦ absurd (cc (memory, is))
+]
+
+-- an error that is none of another schema
+pub never_other : {X : Type 0} (r : Result X StoreError) → IfErr r (λ e. e ≢ OtherSchema) → ¬ IsErrOf r OtherSchema
+never_other (Ok x) which bad = absurd (cc bad)
+never_other (Err e) which bad = which (cc bad)
+
+-- the same of one that is handed on
+pub never_handed : {X : Type 0} (r : Result X StoreError) (e : StoreError) → IsErrAnd r (λ y. y ≡ e) → e ≢ OtherSchema
+    → ¬ IsErrOf r OtherSchema
+never_handed r e is which bad = let p = err_from_is_err_and r is in which (cc (p.1, p.2, bad))
 
 -- a commit
 pub commit_uses : {S : Type 0} (g : Ghosts S) (old new : Held S) (change : Change) (r : Result (Unit {0}) StoreError)
-    → (HasCleanDisk (state g new) → HasCleanDisk (state g old)) → IsLater g old new
+    → (HasCleanDisk (state g new) → HasCleanDisk (state g old)) → OnlyCommits g (calls_of change) old new r
     → OnOk r ((i j : Inventory) → Makes change i j → IsInventory j → Tables g old i → Tables g new j)
     → OnOk r ((i j : Inventory) → Makes change i j → IsInventory j → Tables g old i → Leaves g new (λ c. c ≡ j))
     → OnErr r ((i : Inventory) → Tables g old i → TablesIfOpen g new i)
     → ((i j : Inventory) → Makes change i j → IsInventory j → Tables g old i → (db : Trees) → MayLeave g new db
     → MayLeave g old db ⊎ StandsFor j (record { schema = store_schema; trees = db }))
     → IfErr r (λ e. (e ≡ Fault) ⊎ (e ≡ Memory))
-    → (HasCleanDisk (state g new) → IsErrOf r Fault → (i j : Inventory) → Makes change i j → Tables g old i
-    → HasCause g old new (λ c. (c ≡ i) ⊎ (c ≡ j)))
-    → UsesStore g old new ⊥ (λ s ended. (t : State) → Makes change (kept s) (kept t) → IsInventory (kept t)
-    → EndsCommitted g old new s t tt ended) r
-commit_uses g old new change r before later ok durable err crash which among = record {
-  clean = before;
-  later = later;
-  loads = λ looks. absurd looks;
+    → (HasCleanDisk (state g new) → IsErrOf r Fault → (i : Inventory) → Tables g old i
+    → HasCause g old new i (λ own. own ≡ change))
+    → UsesStore g old new (λ own. own ≡ change) (λ s ended. (t : State) → Makes change (kept s) (kept t)
+    → IsInventory (kept t) → EndsCommitted g old new s t change tt ended) r
+commit_uses g old new change r was only ok durable err crash which before = record {
+  clean = was;
+  later = (only.crash.counts, only.crash.limit);
+  goes = goes_commit g old new change r only;
   none = tells_committed g old new r which;
+  which = not_other r which;
   ended = λ clean s keeps t makes is. committed g old new s change t keeps makes is r ok durable err crash which
-      (λ failed. among clean failed (kept s) (kept t) makes keeps.now);
+      (λ failed. before clean failed (kept s) keeps.now);
 }
 
 module _ {S : Type 0} {g : Ghosts S} where
   -- no call at all
-  pub nothing : {at : Held S} → UsesStore {X = Unit {0}} g at at ⊤ (λ s ended. Keeps g at s) (Ok tt)
+  pub nothing : {at : Held S} → UsesStore {X = Unit {0}} g at at (λ _. ⊥) (λ s ended. Keeps g at s) (Ok tt)
   nothing {at = at} = record {
     clean = λ clean. clean;
     later = (omega arith, refl);
-    loads = λ looks. loads_none g at;
+    goes = inl (alone_none g at tt);
     none = λ clean bad. absurd (cc bad);
+    which = tt;
     ended = λ clean s keeps. keeps;
   }
 
-  answers_loads : {Y : Type 0} (a b c : Held S) (r : Result Y StoreError) → OnlyLoads g a b
-      → OnOk r (OnlyLoads g b c) → OnOk r (OnlyLoads g a c)
-  answers_loads a b c (Ok x) one two = loads_then g a b c one two
-  answers_loads a b c (Err e) one two = two
-
   -- a call behind one that has only loaded
-  pub after : {X Y : Type 0} {Looks : Type 0} {P : Ending X} {Q : Ending Y} {a b c : Held S} {x : X}
-      {r : Result Y StoreError} → UsesStore g a b ⊤ P (Ok x) → UsesStore g b c Looks Q r
-      → UsesStore g a c Looks (λ s ended. P s (Ok x) × (Keeps g b s → Q s ended)) r
-  after {a = a} {b = b} {c = c} {r = r} one two = record {
-    clean = λ clean. one.clean (two.clean clean);
-    later = (omega (arith, one.later.0, two.later.0), two.later.1 ∙ one.later.1);
-    loads = λ looks. answers_loads a b c r (one.loads tt) (two.loads looks);
-    none = λ clean bad. found_after g a b c (one.loads tt) clean (two.none clean bad);
-    ended = λ clean s keeps. (one.ended (two.clean clean) s keeps, two.ended clean s);
-  }
+  pub after : {X Y : Type 0} {IsOwn : Change → Type 0} {P : Ending X} {Q : Ending Y} {a b c : Held S} {x : X}
+      {r : Result Y StoreError} → UsesStore g a b (λ _. ⊥) P (Ok x) → UsesStore g b c IsOwn Q r
+      → UsesStore g a c IsOwn (λ s ended. P s (Ok x) × (Keeps g b s → Q s ended)) r
+  after {IsOwn = IsOwn} {a = a} {b = b} {c = c} {x = x} {r = r} one two =
+      let loads = goes_alone g a b (Ok x) one.goes in
+      record {
+        clean = λ clean. one.clean (two.clean clean);
+        later = (omega (arith, one.later.0, two.later.0), two.later.1 ∙ one.later.1);
+        goes = goes_then g a b c IsOwn x r loads two.goes;
+        none = λ clean bad. found_after g a b c loads.same clean (two.none clean bad);
+        which = two.which;
+        ended = λ clean s keeps. (one.ended (two.clean clean) s keeps, two.ended clean s);
+      }

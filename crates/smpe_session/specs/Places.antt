@@ -1,5 +1,5 @@
 -- Where APPLY, ACCEPT and RESTORE run, what they look at, and what they come to before it is committed.
-use Rattle.std.specs.Prelude.{◌≡◌, Bool, List, Option, None, Some, Result, Ok, Err, if◌then◌else◌}
+use Rattle.std.specs.Prelude.{◌≡◌, Bool, false, List, Option, None, Some, Result, Ok, Err, if◌then◌else◌}
 use Rattle.std.specs.Option.{option_and_then}
 use Rattle.std.specs.Str.{bytes_eq}
 use Rattle.indexmap.specs.IndexMap.{get}
@@ -15,7 +15,9 @@ use Rattle.machine.specs.State.{State, zone_named, with_zone, target_of, at_kind
 use Rattle.report.specs.declared.outcome.Refusal.{Refusal}
 use Rattle.report.specs.Views.{refusal_view}
 use Rattle.store_schema.specs.Inventory.{IsInventory}
+use Rattle.store.specs.declared.change.Change.TheVariants.{Zone as ZoneChange}
 use Rattle.smpe_zones.specs.Kept.{kept}
+use Rattle.smpe_zones.specs.Own.{IsOwnOf}
 use Rattle.smpe_session.specs.declared.session.Session.{Session}
 use Rattle.smpe_session.specs.Sessions.{IsSessionOf}
 
@@ -56,12 +58,14 @@ pub record IsPlan (g : Global) (zone : Zone) (related : Option Zone) (sel : Sele
   pub installs : (new : Zone) → IsChanged delta zone new → InstallsSelected g zone related sel bypass date new printed
   pub lines_are : lines ≡ or_nothing printed
 
--- The command changes this zone of the session so and has this outcome. Where it checks alone, the state stays.
+-- The command changes this zone of the session so and has this outcome. Where it checks alone, the state stays; else the
+-- change of the zone is its own.
 pub record ChangesZone (date : Text) (files : Files) (c : Command) (s : State) (at : Session) (name : Text)
     (delta : ZoneDelta) (check : Bool) (outcome : Outcome) : Type 0 where
   pub zone : Zone
   pub has : get bytes_eq at.zones name ≡ Some zone
   pub is_there : zone_named s.zones name ≡ Some zone
+  pub owns : check ≡ false → IsOwnOf c (ZoneChange name delta)
   pub performs : (new : Zone) → IsChanged delta zone new
       → Performs date files s c (if check then s else with_zone s name new) outcome
   pub inventory : (new : Zone) → IsChanged delta zone new → IsInventory (kept s)

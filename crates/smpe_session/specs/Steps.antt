@@ -11,6 +11,7 @@ use Rattle.machine.specs.State.{State, global_name, zone_named}
 use Rattle.store_schema.specs.declared.error.StoreError.{StoreError}
 use Rattle.store_schema.specs.declared.error.StoreError.TheVariants.{Fault, Memory}
 use Rattle.store.specs.Causes.{HasCause}
+use Rattle.store.specs.declared.change.Change.{Change}
 use Rattle.smpe_zones.specs.Kept.{kept, Keeps, IsStopped, IsFaulted}
 use Rattle.store.specs.View.{TablesIfOpen, Leaves}
 use Rattle.smpe_session.specs.declared.session.Session.{Session}
@@ -31,24 +32,24 @@ module _ {S : Type 0} (g : Ghosts S) (at : Held S) (s : State) where
 module _ {S : Type 0} (g : Ghosts S) (old at : Held S) (s : State) where
   -- No other error comes than want of memory and a fault of the store, which has a cause.
   abbrev pub EndsUnmoved : StoreError → Type 0
-  EndsUnmoved Fault = Unmoved g at s × HasCause g old at (λ c. c ≡ kept s)
+  EndsUnmoved Fault = Unmoved g at s × HasCause g old at (kept s) (λ _. ⊥)
   EndsUnmoved Memory = Unmoved g at s
   EndsUnmoved _ = ⊥
 
-  abbrev pub EndsUnsettled : State → StoreError → Type 0
-  EndsUnsettled t Fault = Unsettled g at s t × HasCause g old at (λ c. (c ≡ kept s) ⊎ (c ≡ kept t))
-  EndsUnsettled t Memory = Unsettled g at s t
-  EndsUnsettled t _ = ⊥
+  abbrev pub EndsUnsettled : State → Change → StoreError → Type 0
+  EndsUnsettled t change Fault = Unsettled g at s t × HasCause g old at (kept s) (λ own. own ≡ change)
+  EndsUnsettled t change Memory = Unsettled g at s t
+  EndsUnsettled t change _ = ⊥
 
   -- What is found is so, and the store is as it was.
   abbrev pub HasLoaded : {X : Type 0} → (X → Type 0) → Result X StoreError → Type 0
   HasLoaded Found (Ok x) = Found x × Keeps g at s
   HasLoaded Found (Err error) = EndsUnmoved error
 
-  -- The answer is this one, and the tables stand for t.
-  abbrev pub EndsCommitted : {X : Type 0} → State → X → Result X StoreError → Type 0
-  EndsCommitted t answer (Ok x) = (x ≡ answer) × Keeps g at t
-  EndsCommitted t answer (Err error) = EndsUnsettled t error
+  -- The change makes t. The answer is this one, and the tables stand for t.
+  abbrev pub EndsCommitted : {X : Type 0} → State → Change → X → Result X StoreError → Type 0
+  EndsCommitted t change answer (Ok x) = (x ≡ answer) × Keeps g at t
+  EndsCommitted t change answer (Err error) = EndsUnsettled t change error
 
 -- whether SET may name it
 abbrev pub is_known : List NamedZone → Text → Bool

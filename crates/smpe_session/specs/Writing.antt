@@ -1,14 +1,21 @@
--- Which commands write.
-use Rattle.std.specs.Prelude.{IsTrue}
-use Rattle.terms.specs.Types.{Command, Set, Receive, Reject, Apply, Accept, Restore, ListZone, Report}
+-- Commands that ran. What is refused has written nothing.
+use Rattle.machine.specs.Outcome as machine
+use Rattle.machine.specs.Outcome.{Ran}
+use Rattle.report.specs.declared.outcome.Outcome.{Outcome}
+use Rattle.report.specs.Views.{outcome_view}
+use Rattle.smpe_session.specs.declared.session.Performed.{Performed}
+use Rattle.smpe_session.specs.declared.session.Performed.TheVariants.{Told, Lists}
 
--- SET, LIST and REPORT write nothing, nor does a command with CHECK.
-abbrev pub WritesNothing : Command → Type 0
-WritesNothing (Set name) = Unit {0}
-WritesNothing (Receive what) = ⊥
-WritesNothing (Reject ids) = ⊥
-WritesNothing (Apply i) = IsTrue i.check
-WritesNothing (Accept i) = IsTrue i.check
-WritesNothing (Restore what check) = IsTrue check
-WritesNothing (ListZone text) = Unit {0}
-WritesNothing Report = Unit {0}
+-- an outcome with lines, and not a refusal
+abbrev pub IsRan : machine.Outcome → Type 0
+IsRan (Ran header lines) = Unit {0}
+IsRan _ = ⊥
+
+-- the same as it is told
+abbrev pub TellsRun : Outcome → Type 0
+TellsRun outcome = IsRan (outcome_view outcome)
+
+-- A LIST has no outcome yet.
+abbrev pub AnswersRun : Performed → Type 0
+AnswersRun (Told outcome) = TellsRun outcome
+AnswersRun (Lists text) = ⊥

@@ -9,8 +9,7 @@ ghost use Rattle.smpe_zones.specs.Kept.{kept};
 ghost use Rattle.smpe_session.specs.Sessions.{IsSessionOf};
 
 use crate::session::Session;
-use report::{Header, Outcome, Refusal};
-use report_errsysmods::errsysmods;
+use report::{Header, Outcome, Refusal, errsysmods};
 use std::alloc::{AllocError, Global};
 use terms::CommandWord;
 

@@ -1,5 +1,5 @@
 //! APPLY and ACCEPT: what is selected comes into the zone of the boundary.
-ghost use Rattle.std.specs.Prelude.{◌≡◌, IfOk, IsTrue, map, option_copied, ⊤};
+ghost use Rattle.std.specs.Prelude.{◌≡◌, false, IfOk, map, option_copied};
 ghost use Rattle.std.specs.Option.{option_and_then};
 ghost use Rattle.std.specs.Str.{bytes_eq};
 ghost use Rattle.indexmap.specs.IndexMap.{get};
@@ -14,14 +14,16 @@ ghost use Rattle.smpe_session.specs.Sessions.{IsSessionOf, HasPerformed};
 ghost use Rattle.smpe_session.specs.Steps.{HasLoaded};
 ghost use Rattle.smpe_session.specs.Places.{install_command, HasRelated, HasPlace, IsPlan};
 ghost use Rattle.smpe_session.specs.Uses.{UsesStore};
+ghost use Rattle.smpe_session.specs.Writing.{TellsRun};
+ghost use Rattle.smpe_zones.specs.Own.{IsOfZone};
 
 use crate::lines::or_nothing;
 use crate::load::load_heads;
 use crate::planned::Planned;
 use crate::related::target_name;
 use crate::session::Session;
-use cntl::{Bypass, Install, Selection};
-use fields::{YyDdd, ZoneName};
+use cntl::Install;
+use fields::{Bypass, Selection, YyDdd, ZoneName};
 use report::{Header, Outcome, Refusal};
 use smpe_apply::{Applied, apply};
 use sqlite::Alter;
@@ -104,7 +106,7 @@ impl Session {
         &mut self,
         store: &mut Store<S>,
     ) -> Result<Option<ZoneName>, StoreError>
-        ensures { UsesStore S.Store store.old store.new ⊤ (λ s ended. IsSessionOf s self.old
+        ensures { UsesStore S.Store store.old store.new (λ _. ⊥) (λ s ended. IsSessionOf s self.old
             → HasLoaded S.Store store.old store.new s (λ related. HasRelated s self.new ZoneKind.Distribution related)
             ended) result }
     {
@@ -125,7 +127,7 @@ impl Session {
         store: &mut Store<S>,
         kind: ZoneKind,
     ) -> Result<Option<ZoneName>, StoreError>
-        ensures { UsesStore S.Store store.old store.new ⊤ (λ s ended. IsSessionOf s self.old
+        ensures { UsesStore S.Store store.old store.new (λ _. ⊥) (λ s ended. IsSessionOf s self.old
             → HasLoaded S.Store store.old store.new s (λ related. HasRelated s self.new kind related) ended) result }
     {
         match kind {
@@ -143,8 +145,9 @@ impl Session {
         kind: ZoneKind,
         install: &Install,
     ) -> Result<Outcome<'static>, StoreError>
-        ensures { UsesStore S.Store store.old store.new (IsTrue install.now.check) (λ s ended. IsSessionOf s self.old
-            → (files : Files)
+        ensures { UsesStore S.Store store.old store.new
+            (λ own. IsOfZone own × (install.now.check ≡ false) × IfOk result TellsRun)
+            (λ s ended. IsSessionOf s self.old → (files : Files)
             → HasPerformed S.Store store.old store.new s self.new date files
             (install_command kind install.now) ended) result }
     {

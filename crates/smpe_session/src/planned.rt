@@ -1,5 +1,5 @@
 //! What an APPLY, ACCEPT or RESTORE comes to, and how it is carried out.
-ghost use Rattle.std.specs.Prelude.{◌≡◌, IsTrue, OnOk, Some, map};
+ghost use Rattle.std.specs.Prelude.{◌≡◌, IsTrue, false, IfOk, OnOk, OnErr, Some, map};
 ghost use Rattle.std.specs.Str.{bytes_eq};
 ghost use Rattle.indexmap.specs.IndexMap.{get, Updates};
 ghost use Rattle.terms.specs.Types.{Text, Command, Zone as AZone};
@@ -10,6 +10,8 @@ ghost use Rattle.report.specs.Views.{line_view, header_view};
 ghost use Rattle.smpe_session.specs.Sessions.{IsSessionOf, HasPerformed};
 ghost use Rattle.smpe_session.specs.Places.{ChangesZone};
 ghost use Rattle.smpe_session.specs.Uses.{UsesStore};
+ghost use Rattle.smpe_session.specs.Writing.{TellsRun};
+ghost use Rattle.smpe_zones.specs.Own.{IsOfZone};
 
 use crate::load::commit_change;
 use crate::session::Session;
@@ -28,15 +30,18 @@ pub(crate) struct Planned {
     pub lines: Vec<Line>,
 }
 
-/// Changes a zone of the session, if it has one of the name.
+/// Changes a zone of the session, if it has one of the name. The error comes where memory runs out, and leaves the zones
+/// as they were.
 fn change_zone(
     alloc: Global,
     zones: &mut IndexMap<ZoneName, Zone>,
     name: ZoneName,
     delta: &ZoneDelta,
 ) -> Result<(), AllocError>
-    ensures { OnOk result ((was : AZone) → get bytes_eq zones.old name ≡ Some was
+    ensures ok { OnOk result ((was : AZone) → get bytes_eq zones.old name ≡ Some was
         → (new : AZone) × IsChanged delta.now was new × Updates bytes_eq zones.old zones.new name (Some new)) }
+    ensures err { OnErr result ((was : AZone) → get bytes_eq zones.old name ≡ Some was
+        → Updates bytes_eq zones.old zones.new name (Some was)) }
 {
     let Some(zone) = zones.get_mut(&name) else {
         return Ok(());
@@ -56,8 +61,9 @@ impl Session {
         name: ZoneName,
         planned: Planned,
     ) -> Result<Outcome<'static>, StoreError>
-        ensures { UsesStore S.Store store.old store.new (IsTrue header.check) (λ s ended. IsSessionOf s self.old
-            → (date : Text) (files : Files) (c : Command)
+        ensures { UsesStore S.Store store.old store.new
+            (λ own. IsOfZone own × (header.check ≡ false) × IfOk result TellsRun)
+            (λ s ended. IsSessionOf s self.old → (date : Text) (files : Files) (c : Command)
             → ChangesZone date files c s self.old name planned.delta header.check
             (Ran (header_view header) (map line_view planned.lines.items))
             → HasPerformed S.Store store.old store.new s self.new date files c ended) result }

@@ -8,7 +8,7 @@ ghost use Rattle.mcs.specs.HoldItems.{items as hold_items};
 ghost use Rattle.smpe_session.specs.Received.{HasRead, HasFound};
 
 use crate::files::Files;
-use cntl::ReceiveWhat;
+use fields::ReceiveWhat;
 use mcs::{HoldItem, Item, McsError, read_hold, read_ptfin};
 use report::Refusal;
 use std::alloc::{AllocError, Global};

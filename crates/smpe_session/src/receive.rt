@@ -1,5 +1,5 @@
 //! RECEIVE: the items of PTFIN and of the hold file come into the global zone.
-ghost use Rattle.std.specs.Prelude.{◌≡◌, ◌++◌, All, None, IfOk, IfSome, OnOk, map};
+ghost use Rattle.std.specs.Prelude.{◌≡◌, All, None, IfOk, IfSome, map};
 ghost use Rattle.terms.specs.Types.{Text, ReceiveWhat as AWhat, Receive};
 ghost use Rattle.terms.specs.Forms.{IsSource};
 ghost use Rattle.terms.specs.Ptfin.{IsPtfin};
@@ -14,6 +14,8 @@ ghost use Rattle.smpe_session.specs.Sessions.{IsSessionOf, HasPerformed};
 ghost use Rattle.smpe_session.specs.Steps.{HasRun, LeadsToGlobal};
 ghost use Rattle.smpe_session.specs.Received.{AreTaken};
 ghost use Rattle.smpe_session.specs.Uses.{UsesStore};
+ghost use Rattle.smpe_session.specs.Writing.{TellsRun};
+ghost use Rattle.smpe_zones.specs.Own.{IsOfGlobal};
 
 use crate::boundary::unless_global;
 use crate::files::Files;
@@ -21,8 +23,7 @@ use crate::lines::or_nothing;
 use crate::load::commit_change;
 use crate::read::{Found, read_files};
 use crate::session::Session;
-use cntl::ReceiveWhat;
-use fields::Source;
+use fields::{ReceiveWhat, Source};
 use report::{Header, Line, Outcome};
 use smpe_global::{Taken, receive, receive_holds};
 use sqlite::Alter;
@@ -30,16 +31,6 @@ use std::alloc::{AllocError, Global};
 use store::{Change, Store, StoreError};
 use sysmods::GlobalZone;
 use terms::CommandWord;
-
-/// The second list behind the first.
-fn append<T: Drop>(front: &mut Vec<T>, back: Vec<T>) -> Result<(), AllocError>
-    ensures { OnOk result (front.new.items ≡ front.old.items ++ back.items) }
-{
-    for item in back {
-        front.push(item)?;
-    }
-    Ok(())
-}
 
 /// Takes in the items of PTFIN, and then those of the hold file.
 fn take_found(
@@ -57,9 +48,9 @@ fn take_found(
         mut edits,
         mut lines,
     } = receive(alloc, global, found.items, source)?;
-    let more = receive_holds(alloc, global, found.holds)?;
-    append(&mut edits, more.edits)?;
-    append(&mut lines, more.lines)?;
+    let mut more = receive_holds(alloc, global, found.holds)?;
+    edits.append(&mut more.edits)?;
+    lines.append(&mut more.lines)?;
     Ok(Taken { edits, lines })
 }
 
@@ -72,7 +63,7 @@ fn take_items<S: Alter>(
     source: Option<Source>,
 ) -> Result<Vec<Line>, StoreError>
     requires { All IsExternal (hold_items found.holds.items) }
-    ensures { UsesStore S.Store store.old store.new ⊥ (λ s ended. s.global ≡ global.old
+    ensures { UsesStore S.Store store.old store.new IsOfGlobal (λ s ended. s.global ≡ global.old
         → (date : Text) (files : AllFiles) (what : AWhat) → misplaced s (Receive what) ≡ None → what.source ≡ source
         → HasItems IsPtfin what.sysmods files.ptfin (items found.items.items)
         → HasItems IsHoldFile what.holddata files.holds (hold_items found.holds.items)
@@ -92,7 +83,8 @@ impl Session {
         files: &Files<'_>,
         what: &ReceiveWhat,
     ) -> Result<Outcome<'static>, StoreError>
-        ensures { UsesStore S.Store store.old store.new ⊥ (λ s ended. IsSessionOf s self.old → (date : Text)
+        ensures { UsesStore S.Store store.old store.new (λ own. IsOfGlobal own × IfOk result TellsRun)
+            (λ s ended. IsSessionOf s self.old → (date : Text)
             → HasPerformed S.Store store.old store.new s self.new date files.now (Receive what.now) ended) result }
     {
         let header = Header {

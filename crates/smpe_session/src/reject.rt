@@ -1,5 +1,5 @@
 //! REJECT: SYSMODs leave the global zone that no zone has applied.
-ghost use Rattle.std.specs.Prelude.{◌≡◌, None, map, ⊤};
+ghost use Rattle.std.specs.Prelude.{◌≡◌, None, IfOk, map};
 ghost use Rattle.std.specs.Str.{bytes_eq};
 ghost use Rattle.indexmap.specs.IndexMap.{IsUnique};
 ghost use Rattle.terms.specs.Types.{Text, Reject};
@@ -10,6 +10,8 @@ ghost use Rattle.report.specs.Views.{line_view};
 ghost use Rattle.smpe_session.specs.Sessions.{IsSessionOf, HasPerformed};
 ghost use Rattle.smpe_session.specs.Steps.{AreSought, HasAllZones, HasLoaded, HasRun, LeadsToGlobal};
 ghost use Rattle.smpe_session.specs.Uses.{UsesStore};
+ghost use Rattle.smpe_session.specs.Writing.{TellsRun};
+ghost use Rattle.smpe_zones.specs.Own.{IsOfGlobal};
 
 use crate::boundary::unless_global;
 use crate::load::{commit_change, load_names};
@@ -33,7 +35,7 @@ fn reject_ids<S: Alter>(
     zones: &IndexMap<ZoneName, Zone>,
     ids: &IdList,
 ) -> Result<Vec<Line>, StoreError>
-    ensures uses { UsesStore S.Store store.old store.new ⊥ (λ s ended. s.global ≡ global.old
+    ensures uses { UsesStore S.Store store.old store.new IsOfGlobal (λ s ended. s.global ≡ global.old
         → AppliesAlike zones.now s.zones → (date : Text) (files : Files) → misplaced s (Reject ids.now) ≡ None
         → HasRun S.Store store.old store.new s (Perform date files (Reject ids.now))
         (λ v t. LeadsToGlobal date files (Reject ids.now) s global.new t (map line_view v.items)) ended) result }
@@ -50,7 +52,7 @@ impl Session {
         store: &mut Store<S>,
         names: &[ZoneName],
     ) -> Result<(), StoreError>
-        ensures { UsesStore S.Store store.old store.new ⊤ (λ s ended. IsSessionOf s self.old
+        ensures { UsesStore S.Store store.old store.new (λ _. ⊥) (λ s ended. IsSessionOf s self.old
             → HasLoaded S.Store store.old store.new s (λ _. AreSought s self.new names.now) ended) result }
     {
         for name in names {
@@ -61,7 +63,7 @@ impl Session {
 
     /// Loads each zone that it does not have yet.
     fn load_zones<S: Alter>(&mut self, store: &mut Store<S>) -> Result<(), StoreError>
-        ensures { UsesStore S.Store store.old store.new ⊤ (λ s ended. IsSessionOf s self.old
+        ensures { UsesStore S.Store store.old store.new (λ _. ⊥) (λ s ended. IsSessionOf s self.old
             → HasLoaded S.Store store.old store.new s (λ _. HasAllZones s self.new) ended) result }
     {
         let names = load_names(store)?;
@@ -75,8 +77,8 @@ impl Session {
         store: &mut Store<S>,
         ids: &IdList,
     ) -> Result<Outcome<'static>, StoreError>
-        ensures { UsesStore S.Store store.old store.new ⊥ (λ s ended. IsSessionOf s self.old
-            → (date : Text) (files : Files)
+        ensures { UsesStore S.Store store.old store.new (λ own. IsOfGlobal own × IfOk result TellsRun)
+            (λ s ended. IsSessionOf s self.old → (date : Text) (files : Files)
             → HasPerformed S.Store store.old store.new s self.new date files (Reject ids.now) ended) result }
     {
         let header = Header {

@@ -1,10 +1,10 @@
 //! RESTORE: SYSMODs go off the target zone of the boundary, back to what its distribution zone holds.
-ghost use Rattle.std.specs.Prelude.{◌≡◌, IsTrue, ⊤};
+ghost use Rattle.std.specs.Prelude.{◌≡◌, false, IfOk};
 ghost use Rattle.std.specs.Option.{option_and_then};
 ghost use Rattle.std.specs.Str.{bytes_eq};
 ghost use Rattle.indexmap.specs.IndexMap.{get};
 ghost use Rattle.terms.specs.Types.{Text, Restore};
-ghost use Rattle.cntl.specs.Views.{restore_list_of};
+ghost use Rattle.fields.specs.Choices.{restore_list_of};
 ghost use Rattle.store_schema.specs.Inventory.{IsInventory};
 ghost use Rattle.machine.specs.State.{State};
 ghost use Rattle.machine.specs.Machine.{Files};
@@ -13,11 +13,12 @@ ghost use Rattle.smpe_session.specs.Sessions.{IsSessionOf, HasPerformed};
 ghost use Rattle.smpe_session.specs.Steps.{HasLoaded};
 ghost use Rattle.smpe_session.specs.Restored.{HasAccepted, HasTarget};
 ghost use Rattle.smpe_session.specs.Uses.{UsesStore};
+ghost use Rattle.smpe_session.specs.Writing.{TellsRun};
+ghost use Rattle.smpe_zones.specs.Own.{IsOfZone};
 
 use crate::planned::Planned;
 use crate::session::Session;
-use cntl::RestoreList;
-use fields::ZoneName;
+use fields::{RestoreList, ZoneName};
 use report::{Header, Outcome, Refusal};
 use smpe_restore::{Restored, restore};
 use sqlite::Alter;
@@ -51,7 +52,7 @@ impl Session {
         &mut self,
         store: &mut Store<S>,
     ) -> Result<Option<ZoneName>, StoreError>
-        ensures { UsesStore S.Store store.old store.new ⊤ (λ s ended. IsSessionOf s self.old
+        ensures { UsesStore S.Store store.old store.new (λ _. ⊥) (λ s ended. IsSessionOf s self.old
             → HasLoaded S.Store store.old store.new s (λ accepted. HasAccepted s self.new accepted) ended) result }
     {
         let Some(accepted) = self.related_name() else {
@@ -87,8 +88,8 @@ impl Session {
         list: &RestoreList,
         check: bool,
     ) -> Result<Outcome<'static>, StoreError>
-        ensures { UsesStore S.Store store.old store.new (IsTrue check) (λ s ended. IsSessionOf s self.old
-            → (date : Text) (files : Files)
+        ensures { UsesStore S.Store store.old store.new (λ own. IsOfZone own × (check ≡ false) × IfOk result TellsRun)
+            (λ s ended. IsSessionOf s self.old → (date : Text) (files : Files)
             → HasPerformed S.Store store.old store.new s self.new date files (Restore (restore_list_of list.now) check)
             ended) result }
     {

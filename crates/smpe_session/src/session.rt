@@ -1,16 +1,19 @@
 //! What a job has in memory, and how a command goes.
-ghost use Rattle.std.specs.Prelude.{◌≡◌, ◌≤◌, IsErrOf, OnOk};
+ghost use Rattle.std.specs.Prelude.{◌≡◌, ◌≤◌, IfOk, IsErrOf};
 ghost use Rattle.sqlite.specs.Held.{state};
 ghost use Rattle.sqlite.specs.State.{HasCleanDisk};
 ghost use Rattle.machine.specs.State.{State};
 ghost use Rattle.cntl.specs.Views.{command_of};
 ghost use Rattle.store_rows.specs.Reads.{OnlyReads};
 ghost use Rattle.store_schema.specs.Tables.{store_schema};
-ghost use Rattle.store.specs.BadRows.{OnlyLoads, TellsNoState};
+ghost use Rattle.store.specs.BadRows.{TellsNoState};
+ghost use Rattle.store.specs.Courses.{GoesOver};
+ghost use Rattle.store.specs.Whole.{ShowsGlobal};
 ghost use Rattle.smpe_zones.specs.Kept.{Keeps};
+ghost use Rattle.smpe_zones.specs.Own.{IsOwnOf};
 ghost use Rattle.smpe_session.specs.Sessions.{IsSessionOf, HasBegun, HasDone, LooksOnly, told};
 ghost use Rattle.smpe_session.specs.Uses.{UsesStore};
-ghost use Rattle.smpe_session.specs.Writing.{WritesNothing};
+ghost use Rattle.smpe_session.specs.Writing.{AnswersRun};
 
 use crate::files::Files;
 use crate::load::load_global;
@@ -58,6 +61,9 @@ impl Session {
         ensures faults { (state S.Store store.old).faults ≤ (state S.Store store.new).faults }
         ensures limit { store.new.step_limit ≡ store.old.step_limit }
         ensures none { TellsNoState S.Store store.old store.new result }
+        ensures which { ¬ IsErrOf result StoreError.OtherSchema }
+        ensures rows { HasCleanDisk (state S.Store store.new)
+            → IfOk result (λ session. ShowsGlobal S.Store store.old session.global) }
         ensures ended { HasCleanDisk (state S.Store store.new) → (s : State) → Keeps S.Store store.old s
             → HasBegun S.Store store.old store.new s result }
         ensures reads { OnlyReads S.Store store_schema StoreError.NoState StoreError.Fault store.old store.new result }
@@ -84,8 +90,10 @@ impl Session {
         ensures clean { HasCleanDisk (state S.Store store.new) → HasCleanDisk (state S.Store store.old) }
         ensures faults { (state S.Store store.old).faults ≤ (state S.Store store.new).faults }
         ensures limit { store.new.step_limit ≡ store.old.step_limit }
-        ensures loads { WritesNothing (command_of command.now) → OnOk result (OnlyLoads S.Store store.old store.new) }
+        ensures goes { GoesOver S.Store store.old store.new
+            (λ own. IsOwnOf (command_of command.now) own × IfOk result AnswersRun) result }
         ensures none { TellsNoState S.Store store.old store.new result }
+        ensures which { ¬ IsErrOf result StoreError.OtherSchema }
         ensures ended { HasCleanDisk (state S.Store store.new) → (s : State) → IsSessionOf s self.old
             → Keeps S.Store store.old s
             → HasDone S.Store store.old store.new s self.new date files.now (command_of command.now) result }
@@ -104,7 +112,8 @@ impl Session {
         files: &Files<'_>,
         command: &Command,
     ) -> Result<Performed, StoreError>
-        ensures uses { UsesStore S.Store store.old store.new (WritesNothing (command_of command.now))
+        ensures uses { UsesStore S.Store store.old store.new
+            (λ own. IsOwnOf (command_of command.now) own × IfOk result AnswersRun)
             (λ s ended. IsSessionOf s self.old → HasDone S.Store store.old store.new s self.new date files.now
             (command_of command.now) ended) result }
         ensures looks { LooksOnly (command_of command.now) → (store.new ≡ store.old)

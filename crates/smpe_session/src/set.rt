@@ -1,5 +1,5 @@
 //! SET: the boundary is another zone.
-ghost use Rattle.std.specs.Prelude.{◌≡◌, is_some, IsSome, OnOk, OnErr, None, Some, ⊤};
+ghost use Rattle.std.specs.Prelude.{◌≡◌, is_some, IsSome, OnOk, OnErr, None, Some};
 ghost use Rattle.std.specs.Str.{bytes_eq};
 ghost use Rattle.indexmap.specs.IndexMap.{get, Updates};
 ghost use Rattle.terms.specs.Types.{Text, Set};
@@ -45,7 +45,7 @@ impl Session {
         store: &mut Store<S>,
         name: ZoneName,
     ) -> Result<bool, StoreError>
-        ensures uses { UsesStore S.Store store.old store.new ⊤ (λ s ended. IsSessionOf s self.old
+        ensures uses { UsesStore S.Store store.old store.new (λ _. ⊥) (λ s ended. IsSessionOf s self.old
             → HasLoaded S.Store store.old store.new s (IsSought s self.new name) ended) result }
         ensures stay { OnOk result ((q : Text) → IsSome (get bytes_eq self.old.zones q)
             → IsSome (get bytes_eq self.new.zones q)) }
@@ -66,7 +66,7 @@ impl Session {
         store: &mut Store<S>,
         name: ZoneName,
     ) -> Result<Outcome<'static>, StoreError>
-        ensures { UsesStore S.Store store.old store.new ⊤ (λ s ended. IsSessionOf s self.old
+        ensures { UsesStore S.Store store.old store.new (λ _. ⊥) (λ s ended. IsSessionOf s self.old
             → (date : Text) (files : Files)
             → HasPerformed S.Store store.old store.new s self.new date files (Set name) ended) result }
     {

@@ -11,7 +11,8 @@ use Rattle.store_schema.specs.Stands.{StandsFor}
 use Rattle.store_schema.specs.Tables.{store_schema}
 use Rattle.store_schema.specs.declared.error.StoreError.{StoreError}
 use Rattle.store_schema.specs.declared.error.StoreError.TheVariants.{Fault, OtherSchema, NoState, Memory}
-use Rattle.store.specs.Causes.{IsLater, HasCause, LeavesFaulted}
+use Rattle.store.specs.Causes.{IsLater, HasCause}
+use Rattle.store.specs.declared.change.Change.{Change}
 use Rattle.smpe_zones.specs.Kept.{kept, Keeps, IsStopped}
 use Rattle.store.specs.View.{Tables, TablesIfOpen, MayLeave, Leaves}
 
@@ -25,40 +26,29 @@ pub leaves_more : {S : Type 0} (g : Ghosts S) (at : Held S) (P Q : Inventory →
     → Leaves g at P → Leaves g at Q
 leaves_more g at P Q more leaves db left = let it = leaves db left in (it.0, more it.0 it.1, it.2)
 
--- and so a cause
-pub cause_more : {S : Type 0} (g : Ghosts S) (old at : Held S) (P Q : Inventory → Type 0)
-    → ((c : Inventory) → P c → Q c) → HasCause g old at P → HasCause g old at Q
-cause_more g old at P Q more cause = record {
+-- a cause by changes that are others too
+pub cause_more : {S : Type 0} (g : Ghosts S) (old at : Held S) (i : Inventory) (IsOwn More : Change → Type 0)
+    → ((change : Change) → IsOwn change → More change) → HasCause g old at i IsOwn → HasCause g old at i More
+cause_more g old at i IsOwn More more cause = record {
   moment = cause.moment;
   since = cause.since;
   is_open = cause.is_open;
-  inventory = cause.inventory;
-  is_among = more cause.inventory cause.is_among;
   stands = cause.stands;
   kept = cause.kept;
   why = elim cause.why [
     | inl failed ↦ inl failed
     | inr (inl limited) ↦ inr (inl limited)
-    | inr (inr (change, next, among, makes, refused)) ↦ inr (inr (change, next, more next among, makes, refused))
+    | inr (inr (change, own, refused)) ↦ inr (inr (change, more change own, refused))
   ];
 }
 
-pub faulted_more : {S : Type 0} (g : Ghosts S) (old at : Held S) (P Q : Inventory → Type 0)
-    → ((c : Inventory) → P c → Q c) → LeavesFaulted g old at P → LeavesFaulted g old at Q
-faulted_more g old at P Q more faulted = (
-  leaves_more g at P Q more faulted.0,
-  cause_more g old at P Q more faulted.1,
-)
-
 -- a cause since a later moment
-pub cause_since : {S : Type 0} (g : Ghosts S) (old mid at : Held S) → IsLater g old mid → (P : Inventory → Type 0)
-    → HasCause g mid at P → HasCause g old at P
-cause_since g old mid at later P cause = record {
+pub cause_since : {S : Type 0} (g : Ghosts S) (old mid at : Held S) → IsLater g old mid → (i : Inventory)
+    → (IsOwn : Change → Type 0) → HasCause g mid at i IsOwn → HasCause g old at i IsOwn
+cause_since g old mid at later i IsOwn cause = record {
   moment = cause.moment;
   since = (omega (arith, later.0, cause.since.0), cause.since.1 ∙ later.1);
   is_open = cause.is_open;
-  inventory = cause.inventory;
-  is_among = cause.is_among;
   stands = cause.stands;
   kept = cause.kept;
   why = elim cause.why [
@@ -67,10 +57,6 @@ cause_since g old mid at later P cause = record {
     | inr (inr refused) ↦ inr (inr refused)
   ];
 }
-
-pub faulted_since : {S : Type 0} (g : Ghosts S) (old mid at : Held S) → IsLater g old mid → (P : Inventory → Type 0)
-    → LeavesFaulted g mid at P → LeavesFaulted g old at P
-faulted_since g old mid at later P faulted = (faulted.0, cause_since g old mid at later P faulted.1)
 
 module _ {S : Type 0} (g : Ghosts S) (old new : Held S) (s : State) (keeps : Keeps g old s) where
   -- what was loaded

@@ -1,5 +1,5 @@
 -- What is found among zones is found among their heads.
-use Rattle.std.proofs.Common.{suc, ◌≡◌, ◌&&◌, ◌||◌, ◌==◌, Bool, true, false, not, List, [], ◌∷◌, map, length, Option}
+use Rattle.std.proofs.Common.{suc, ◌≡◌, ◌&&◌, ◌||◌, Bool, true, false, not, List, [], ◌∷◌, map, length, Option}
 use Rattle.std.proofs.Common.{Some, None, refl, ◌∙◌, ap}
 use Rattle.std.specs.Prelude.{find, option_map, is_some, if◌then◌else◌}
 use Rattle.std.specs.Option.{option_map_or}
@@ -7,7 +7,7 @@ use Rattle.std.specs.List.{list_any}
 use Rattle.std.specs.Str.{bytes_eq}
 use Rattle.terms.specs.declared.kinds.ZoneKind.{ZoneKind}
 use Rattle.terms.specs.declared.kinds.ZoneKind.TheVariants.{Target, Distribution}
-use Rattle.terms.specs.Types.{Text, zone_number, Zone, NamedZone}
+use Rattle.terms.specs.Types.{Text, Zone, NamedZone, is_distribution}
 use Rattle.machine.specs.State as state
 use Rattle.machine.specs.State.{zone_named}
 use Rattle.store_zone_loads.specs.declared.head.ZoneHead.{ZoneHead}
@@ -58,9 +58,9 @@ any_names (z ∷ zs) name = ap (λ b. option_map_or (bytes_eq name) z.zone.relat
 free_head : (zones : List NamedZone) (name : Text) → is_free (map head_of zones) name ≡ state.is_free zones name
 free_head zones name =
     ap (λ b. b && not (list_any (names_it name) (map head_of zones)))
-    (of_named (λ h. zone_number h.kind == zone_number Distribution)
-    (λ z. zone_number z.kind == zone_number Distribution) (λ z. refl) zones name)
-    ∙ ap (λ b. option_map_or (λ z. zone_number z.kind == zone_number Distribution) (zone_named zones name) false && not
+    (of_named (λ h. is_distribution h.kind)
+    (λ z. is_distribution z.kind) (λ z. refl) zones name)
+    ∙ ap (λ b. option_map_or (λ z. is_distribution z.kind) (zone_named zones name) false && not
     b) (any_names zones name)
 
 pub right_related : (zones : List NamedZone) (kind : ZoneKind) (related : Option Text)

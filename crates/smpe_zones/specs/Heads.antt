@@ -1,12 +1,12 @@
 -- The faults of a definition, looked for among the heads of the zones that are there.
-use Rattle.std.specs.Prelude.{◌&&◌, ◌||◌, ◌==◌, Bool, false, not, List, length, find, Option, None, Some, is_some}
+use Rattle.std.specs.Prelude.{◌&&◌, ◌||◌, Bool, false, not, List, length, find, Option, None, Some, is_some}
 use Rattle.std.specs.Prelude.{nat_le, if◌then◌else◌}
 use Rattle.std.specs.List.{list_any}
 use Rattle.std.specs.Option.{option_map_or}
 use Rattle.std.specs.Str.{bytes_eq}
 use Rattle.terms.specs.declared.kinds.ZoneKind.{ZoneKind}
 use Rattle.terms.specs.declared.kinds.ZoneKind.TheVariants.{Target, Distribution}
-use Rattle.terms.specs.Types.{Text, zone_number}
+use Rattle.terms.specs.Types.{Text, is_distribution}
 use Rattle.machine.specs.State.{ZoneDefinition, global_name}
 use Rattle.store_zone_loads.specs.declared.head.ZoneHead.{ZoneHead}
 use Rattle.smpe_zones.specs.declared.error.ZoneFault.{ZoneFault}
@@ -18,11 +18,11 @@ named heads name = find (λ h. bytes_eq h.name name) heads
 abbrev pub names_it : Text → ZoneHead → Bool
 names_it name h = option_map_or (bytes_eq name) h.related false
 
-abbrev pub is_distribution : Option ZoneHead → Bool
-is_distribution head = option_map_or (λ h. zone_number h.kind == zone_number Distribution) head false
+abbrev pub is_distribution_head : Option ZoneHead → Bool
+is_distribution_head head = option_map_or (λ h. is_distribution h.kind) head false
 
 abbrev pub is_free : List ZoneHead → Text → Bool
-is_free heads name = is_distribution (named heads name) && not (list_any (names_it name) heads)
+is_free heads name = is_distribution_head (named heads name) && not (list_any (names_it name) heads)
 
 abbrev pub has_right_related : List ZoneHead → ZoneKind → Option Text → Bool
 has_right_related heads Target related = option_map_or (is_free heads) related false

@@ -7,7 +7,10 @@ use Rattle.machine.specs.State.{State}
 use Rattle.machine.specs.Machine.{Act, Prints}
 use Rattle.machine.specs.Runs.{Stands}
 use Rattle.store.specs.Causes.{HasCause}
+use Rattle.store.specs.Changes.{Makes}
+use Rattle.store.specs.declared.change.Change.{Change}
 use Rattle.store.specs.View.{Tables, TablesIfOpen, Leaves}
+use Rattle.smpe_zones.specs.Own.{IsOwn}
 
 abbrev pub kept : State → Inventory
 kept s = record { global = s.global; zones = s.zones }
@@ -15,6 +18,11 @@ kept s = record { global = s.global; zones = s.zones }
 -- what is kept of the state, or of one to which the act leads
 abbrev pub IsAround : State → Act → Inventory → Type 0
 IsAround s a c = (c ≡ kept s) ⊎ ((m : State) × (text : List ℕ) × Prints s a m text × (c ≡ kept m))
+
+-- The change is one of the act's own, and makes of the state what the act leads to.
+abbrev pub LeadsOn : State → Act → Change → Type 0
+LeadsOn s a change =
+    IsOwn a change × ((m : State) × (text : List ℕ) × Prints s a m text × Makes change (kept s) (kept m))
 
 module _ {S : Type 0} (g : Ghosts S) (at : Held S) where
   -- The tables stand for the state, and a crash leaves it.
@@ -27,7 +35,8 @@ module _ {S : Type 0} (g : Ghosts S) (at : Held S) where
     pub now : TablesIfOpen g at (kept s)
     pub crash : Leaves g at (IsAround s a)
 
--- So an act of a call that began at `old` ends when it meets a fault, and there is a cause for it since then.
+-- So an act of a call that began at `old` ends when it meets a fault. The cause is since then, while the tables stood for
+-- the state.
 pub record IsFaulted {S : Type 0} (g : Ghosts S) (old at : Held S) (s : State) (a : Act) : Type 0 where
   pub stopped : IsStopped g at s a
-  pub cause : HasCause g old at (IsAround s a)
+  pub cause : HasCause g old at (kept s) (LeadsOn s a)

@@ -1,3 +1,4 @@
 pub mod Definitions
 pub mod Heads
 pub mod Kept
+pub mod Own

@@ -1,12 +1,10 @@
 //! A zone is defined in the store.
-ghost use Rattle.std.specs.Prelude.{◌≡◌, ◌≤◌, IsErrOf};
+ghost use Rattle.std.specs.Prelude.{◌≡◌, ◌≤◌};
 ghost use Rattle.sqlite.specs.Held.{state};
 ghost use Rattle.sqlite.specs.State.{HasCleanDisk};
 ghost use Rattle.machine.specs.State.{State};
-ghost use Rattle.store_schema.specs.declared.error.StoreError.{StoreError};
-ghost use Rattle.store.specs.BadRows.{FoundNoState};
 ghost use Rattle.smpe_zones.specs.Kept.{Keeps};
-ghost use Rattle.smpe_zones.specs.Definitions.{HasDefined, definition};
+ghost use Rattle.smpe_zones.specs.Definitions.{HasCourse, HasDefined, definition};
 
 use crate::error::ZoneError;
 use crate::faults::first_fault;
@@ -31,8 +29,7 @@ pub fn define_zone<S: Alter>(
     ensures limit { store.new.step_limit ≡ store.old.step_limit }
     ensures ended { HasCleanDisk (state S.Store store.new) → (s : State) → Keeps S.Store store.old s
         → HasDefined S.Store store.old store.new s (definition name kind srel related) result }
-    ensures none { HasCleanDisk (state S.Store store.new) → IsErrOf result (ZoneError.Store StoreError.NoState)
-        → FoundNoState S.Store store.old store.new }
+    ensures course { HasCourse S.Store store.old store.new (definition name kind srel related) result }
 {
     let heads = store.zone_heads()?;
     if let Some(fault) = first_fault(heads.as_slice(), name, kind, srel, &related) {

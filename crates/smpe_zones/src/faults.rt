@@ -3,7 +3,7 @@ ghost use Rattle.std.specs.Prelude.{◌≡◌, ◌==◌, option_copied, is_some}
 ghost use Rattle.std.specs.List.{list_any};
 ghost use Rattle.terms.specs.Forms.{IsSrel, IsZoneName};
 ghost use Rattle.smpe_zones.specs.Definitions.{definition};
-ghost use Rattle.smpe_zones.specs.Heads.{named, names_it, is_distribution, is_free, has_right_related, has_srel};
+ghost use Rattle.smpe_zones.specs.Heads.{named, names_it, is_distribution_head, is_free, has_right_related, has_srel};
 ghost use Rattle.smpe_zones.specs.Heads.{has_same_srel, is_taken, first_fault};
 
 use crate::error::ZoneFault;
@@ -35,8 +35,8 @@ fn is_related(heads: &[ZoneHead], name: ZoneName) -> bool
     heads.iter().any(|head| names_it(head, name))
 }
 
-fn is_distribution(head: Option<&ZoneHead>) -> bool
-    ensures { result ≡ is_distribution (option_copied head.entry) }
+fn is_distribution_head(head: Option<&ZoneHead>) -> bool
+    ensures { result ≡ is_distribution_head (option_copied head.entry) }
 {
     match head {
         Some(head) => head.kind == ZoneKind::Distribution,
@@ -48,7 +48,7 @@ fn is_distribution(head: Option<&ZoneHead>) -> bool
 fn is_free(heads: &[ZoneHead], name: ZoneName) -> bool
     ensures { result ≡ is_free heads.now name }
 {
-    is_distribution(named(heads, name)) && !is_related(heads, name)
+    is_distribution_head(named(heads, name)) && !is_related(heads, name)
 }
 
 fn has_right_related(heads: &[ZoneHead], kind: ZoneKind, related: &Option<ZoneName>) -> bool

@@ -13,7 +13,7 @@ use Rattle.std.proofs.lemmas.Bool.{cases_eq, cases_Bool, and_parts, and_from, lt
 use Rattle.solve.proofs.Passing.{clash}
 use Rattle.lemmas.proofs.Searches.{All_from_no_list_any}
 use Rattle.solve.proofs.Times.{times_from_Contains, Contains_from_times, Contains_from_is_in, is_in_from_Contains}
-use Rattle.solve.specs.Problem.{Problem, Demand, IsDemand, IsProblem, holds, IsSelfSupporting, IsGreatest}
+use Rattle.solve.specs.Problem.{Problem, NumberedNeed, IsNumberedNeed, IsProblem, holds, IsSelfSupporting, IsGreatest}
 use Rattle.solve.specs.Causes.{HasFailed, LeadsTo, LeadsOn, IsRoot, IsCauser}
 use Rattle.solve.specs.Rows.{row_at, times}
 use Rattle.solve.specs.Marks.{is_in}
@@ -152,17 +152,17 @@ uncaused_eligible p kept rows supported exact x member =
 -- the first of some that serve is an uncaused one, where the needing candidate is
 first_uncaused : (p : Problem) (kept : List Bool) (rows : List (Vec ℕ Global)) → IsProblem p
     → ((x y : ℕ) → Contains (row_at rows x) y ↔ IsCauser p kept x y)
-    → (d : Demand) → Contains p.demands d → HasFailed p kept d.of → is_nil (row_at rows d.of) ≡ true
+    → (d : NumberedNeed) → Contains p.needs d → HasFailed p kept d.of → is_nil (row_at rows d.of) ≡ true
     → All (λ z. holds kept z ≡ false) d.any
     → (ys : List ℕ) → d.any ≡ ys → Any (λ y. IsTrue (uncaused p kept rows y)) ys
-first_uncaused p kept rows valid exact d in_demands failed nil unmet [] bare =
+first_uncaused p kept rows valid exact d in_needs failed nil unmet [] bare =
     absurd (nil_has_none (row_at rows d.of) d.of nil ((exact d.of d.of).1
-    ((failed, inr (in_demands.0, d, in_demands.1, in_demands.2, (refl, bare))), ([], refl))))
-first_uncaused p kept rows valid exact d in_demands failed nil unmet (w ∷ ws) is =
+    ((failed, inr (in_needs.0, d, in_needs.1, in_needs.2, (refl, bare))), ([], refl))))
+first_uncaused p kept rows valid exact d in_needs failed nil unmet (w ∷ ws) is =
     let among : Contains d.any w = subst (λ ys. Contains ys w) (sym is) (0, omega arith, refl) in
     let below : w < p.size = All-contains (λ y. y < p.size) d.any w
-    (All-contains (IsDemand p.size) p.demands d valid.demands in_demands).any among in
-    let lead : LeadsTo p kept d.of w = (failed, (in_demands.0, d, in_demands.1, in_demands.2, (refl, unmet, among))) in
+    (All-contains (IsNumberedNeed p.size) p.needs d valid.needs in_needs).any among in
+    let lead : LeadsTo p kept d.of w = (failed, (in_needs.0, d, in_needs.1, in_needs.2, (refl, unmet, among))) in
     (0, w, omega arith, refl, no_row (row_at rows w) refl below lead)
   where
     no_row : (row : List ℕ) → row_at rows w ≡ row → w < p.size → LeadsTo p kept d.of w → IsTrue (uncaused p kept rows w)
@@ -173,9 +173,9 @@ first_uncaused p kept rows valid exact d in_demands failed nil unmet (w ∷ ws) 
 
 uncaused_served : (p : Problem) (kept : List Bool) (rows : List (Vec ℕ Global)) → IsProblem p
     → IsSelfSupporting p (holds kept) → ((x y : ℕ) → Contains (row_at rows x) y ↔ IsCauser p kept x y)
-    → (d : Demand) → Contains p.demands d → IsTrue (uncaused p kept rows d.of)
+    → (d : NumberedNeed) → Contains p.needs d → IsTrue (uncaused p kept rows d.of)
     → Any (λ y. IsTrue (uncaused p kept rows y)) d.any
-uncaused_served p kept rows valid supported exact d in_demands member =
+uncaused_served p kept rows valid supported exact d in_needs member =
     elim (cases_Bool (list_any (holds kept) d.any)) [
       | inl some ↦ let a = Any-from_list_any (holds kept) d.any some
           in (a.0, a.1, a.2, a.3, from_kept p kept rows a.1 a.4)
@@ -183,12 +183,12 @@ uncaused_served p kept rows valid supported exact d in_demands member =
           let unmet = All_from_no_list_any (holds kept) d.any none in
           elim (cases_Bool (holds kept d.of)) [
             | inl is_kept ↦ absurd (clash (holds kept) d.any
-                (All-contains (λ e. IsTrue (holds kept e.of) → Any (λ y. IsTrue (holds kept y)) e.any) p.demands d
-                supported.served in_demands is_kept) unmet)
+                (All-contains (λ e. IsTrue (holds kept e.of) → Any (λ y. IsTrue (holds kept y)) e.any) p.needs d
+                supported.served in_needs is_kept) unmet)
             | inr out ↦
                 let both = and_parts (nat_lt d.of p.size) (is_nil (row_at rows d.of))
                 (subst (λ b. (b || (nat_lt d.of p.size && is_nil (row_at rows d.of))) ≡ true) out member) in
-                first_uncaused p kept rows valid exact d in_demands (ltb-true d.of p.size both.0, out) both.1 unmet
+                first_uncaused p kept rows valid exact d in_needs (ltb-true d.of p.size both.0, out) both.1 unmet
                 d.any refl
           ]
     ]
@@ -198,8 +198,8 @@ uncaused_supported : (p : Problem) (kept : List Bool) (rows : List (Vec ℕ Glob
     → IsSelfSupporting p (uncaused p kept rows)
 uncaused_supported p kept rows valid supported exact = record {
   eligible = uncaused_eligible p kept rows supported exact;
-  served = λ k e below member. uncaused_served p kept rows valid supported exact (get_or p.demands k e)
-      (Contains-get_or p.demands k e below) member;
+  served = λ k e below member. uncaused_served p kept rows valid supported exact (get_or p.needs k e)
+      (Contains-get_or p.needs k e below) member;
 }
 
 -- where the kept set is the greatest, each failure has a cause

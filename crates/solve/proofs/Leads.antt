@@ -1,4 +1,4 @@
--- Rows of what leads to each candidate, over the demands seen so far.
+-- Rows of what leads to each candidate, over the needs seen so far.
 use Rattle.std.proofs.Common.{◌≡◌, ◌<◌, ℕ, Bool, false, List, [], ◌∷◌, ◌++◌, length, get_or}
 use Rattle.std.proofs.Common.{replicate, sym, subst, arith, inl, inr}
 use Rattle.std.specs.Prelude.{Vec, ◌↔◌}
@@ -8,14 +8,14 @@ use Rattle.std.proofs.lemmas.List.Elements.{Contains-append_left, Contains-appen
 use Rattle.std.proofs.lemmas.List.Elements.{Contains-get_or}
 use Rattle.std.proofs.lemmas.List.Quantifiers.{Any-push}
 use Rattle.lemmas.proofs.Each.{Any_push_cases, Any_append_left}
-use Rattle.solve.specs.Problem.{Problem, Demand, holds}
+use Rattle.solve.specs.Problem.{Problem, NumberedNeed, holds}
 use Rattle.solve.specs.Causes.{HasFailed, LeadsBy}
 use Rattle.solve.specs.Rows.{row_at, times}
 use Rattle.solve.specs.Marks.{AreLeads}
 use Rattle.solve.proofs.Times.{Contains_replicate, replicate_Contains, Contains_from_times, times_from_Contains}
 
--- the rows have what leads by the seen demands
-abbrev pub AreLeadsBy : Problem → List Bool → List Demand → List (Vec ℕ Global) → Type 0
+-- the rows have what leads by the seen needs
+abbrev pub AreLeadsBy : Problem → List Bool → List NumberedNeed → List (Vec ℕ Global) → Type 0
 AreLeadsBy p kept seen rows = (x y : ℕ) → Contains (row_at rows y) x ↔
     (HasFailed p kept x × Any (LeadsBy kept x y) seen)
 
@@ -26,8 +26,9 @@ leads_none p kept rows empty x y = (
   λ led. absurd (omega (arith, led.1.2)),
 )
 
--- one more demand, through which nothing leads
-pub leads_skip : (p : Problem) (kept : List Bool) (seen : List Demand) (d : Demand) (rows : List (Vec ℕ Global))
+-- one more need, through which nothing leads
+pub leads_skip : (p : Problem) (kept : List Bool) (seen : List NumberedNeed) (d : NumberedNeed)
+    (rows : List (Vec ℕ Global))
     → (HasFailed p kept d.of → All (λ z. holds kept z ≡ false) d.any → ⊥) → AreLeadsBy p kept seen rows
     → AreLeadsBy p kept (seen ++ d ∷ []) rows
 leads_skip p kept seen d rows nothing so_far x y = (
@@ -38,8 +39,9 @@ leads_skip p kept seen d rows nothing so_far x y = (
   ],
 )
 
--- one more demand, of a failed candidate and served by no kept one
-pub leads_add : (p : Problem) (kept : List Bool) (seen : List Demand) (d : Demand) (old new : List (Vec ℕ Global))
+-- one more need, of a failed candidate and served by no kept one
+pub leads_add : (p : Problem) (kept : List Bool) (seen : List NumberedNeed) (d : NumberedNeed)
+    (old new : List (Vec ℕ Global))
     → HasFailed p kept d.of → All (λ z. holds kept z ≡ false) d.any
     → ((y : ℕ) → row_at new y ≡ row_at old y ++ replicate (times y d.any) d.of)
     → AreLeadsBy p kept seen old → AreLeadsBy p kept (seen ++ d ∷ []) new

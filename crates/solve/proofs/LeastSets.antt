@@ -7,7 +7,7 @@ use Rattle.std.proofs.lemmas.List.{get_or-map, get_or_past, length-map}
 use Rattle.std.proofs.lemmas.List.Elements.{All-contains, All-map, Contains-get_or}
 use Rattle.std.proofs.lemmas.List.Sums.{AllPass-from_list_all}
 use Rattle.std.proofs.lemmas.Bool.{cases_Bool, cases_lt, and_parts, and_from, ltb-true, lt-ltb, not-true}
-use Rattle.solve.specs.Problem.{Problem, Demand, IsDemand, IsProblem, IsSelfSupporting, AreKept, holds}
+use Rattle.solve.specs.Problem.{Problem, NumberedNeed, IsNumberedNeed, IsProblem, IsSelfSupporting, AreKept, holds}
 use Rattle.solve.specs.Least.{Growth, IsClosed, IsLeast, rule_of, growth_of}
 use Rattle.solve.proofs.Greatest.{greatest_from_kept}
 
@@ -74,27 +74,27 @@ outside_supported p set valid closed = record {
         ))
       ];
   served = λ k e below member.
-      let d = get_or p.demands k e in
+      let d = get_or p.needs k e in
       let parts = outside_parts p set d.of member in
-      let among : Contains p.demands d = Contains-get_or p.demands k e below in
+      let among : Contains p.needs d = Contains-get_or p.needs k e below in
       let rule : All (λ y. IsTrue (set y)) d.any → IsTrue (set d.of) = rule_at p set closed d among in
       elim (cases_Bool (list_all set d.any)) [
         | inl all ↦ absurd (cc (parts.1, rule (AllPass-from_list_all set d.any all)))
         | inr fails ↦
             let some = some_fails set d.any fails in
             let low : some.1 < p.size = All-contains (λ y. y < p.size) d.any some.1
-            (All-contains (IsDemand p.size) p.demands d valid.demands among).any (some.0, some.2, some.3) in
+            (All-contains (IsNumberedNeed p.size) p.needs d valid.needs among).any (some.0, some.2, some.3) in
             (some.0, some.1, some.2, some.3, outside_from p set some.1 low some.4)
       ];
 }
   where
-    rule_at : (p : Problem) (set : ℕ → Bool) → IsClosed (growth_of p) set → (d : Demand) → Contains p.demands d
+    rule_at : (p : Problem) (set : ℕ → Bool) → IsClosed (growth_of p) set → (d : NumberedNeed) → Contains p.needs d
         → All (λ y. IsTrue (set y)) d.any → IsTrue (set d.of)
     rule_at p set closed d among = All-contains (λ r. All (λ y. IsTrue (set y)) r.these → IsTrue (set r.that))
-        (map rule_of p.demands) (rule_of d) closed.rules (
+        (map rule_of p.needs) (rule_of d) closed.rules (
           among.0,
           rw length-map among.1,
-          get_or-map rule_of p.demands among.0 d (rule_of d) among.1
+          get_or-map rule_of p.needs among.0 d (rule_of d) among.1
               ∙ ap rule_of among.2,
         )
 
@@ -113,10 +113,10 @@ least_from_kept p kept valid are_kept =
             | inr missing ↦ not_member kept x (omega (arith, are_kept.size, valid.flags, out.0)) missing
           ];
       rules = All-map (λ r. All (λ y. IsTrue (holds (map not kept) y)) r.these → IsTrue (holds (map not kept) r.that))
-          rule_of p.demands
+          rule_of p.needs
           (λ k e below all.
-          let d = get_or p.demands k e in
-          let low : d.of < p.size = (valid.demands k e below).of in
+          let d = get_or p.needs k e in
+          let low : d.of < p.size = (valid.needs k e below).of in
           elim (cases_Bool (holds kept d.of)) [
             | inl inside ↦ absurd (
                 let some = greatest.self_supporting.served k e below inside in

@@ -12,7 +12,7 @@ use Rattle.lemmas.proofs.Places.{All-found}
 use Rattle.terms.specs.Types.{Id}
 use Rattle.terms.specs.declared.codes.NeedKind.{NeedKind}
 use Rattle.terms.specs.declared.codes.NeedKind.TheVariants.{Fmid}
-use Rattle.solve.specs.Problem.{Demand, IsDemand, Problem, IsKept}
+use Rattle.solve.specs.Problem.{NumberedNeed, IsNumberedNeed, Problem, IsKept}
 use Rattle.terms.specs.Kept.{StaysKept}
 use Rattle.solve.specs.Numbered.{IsProblemOf}
 
@@ -55,14 +55,14 @@ stays_from_kept ids E N S p needed h n x is u = (
     served = λ y z kind m need.
         let g = ids_in_gives ids u.0 y m in
         let a = h.all g.0 y z kind g.1 need in
-        let demand = h.demands a.0 a.1 (kind, z) a.2 a.3 in
-        let P : Demand → Type 0 = λ d. IsTrue (u.0 d.of) → Any (λ k. IsTrue (u.0 k)) d.any in
-        let some = All-found P p.demands a.0 a.1 u.1.served a.2 (subst (λ k. IsTrue (u.0 k)) (sym a.4) g.2) in
-        let below = (All-found (IsDemand p.size) p.demands a.0 a.1 h.numbers.demands a.2).any in
+        let numbered = h.needs a.0 a.1 (kind, z) a.2 a.3 in
+        let P : NumberedNeed → Type 0 = λ d. IsTrue (u.0 d.of) → Any (λ k. IsTrue (u.0 k)) d.any in
+        let some = All-found P p.needs a.0 a.1 u.1.served a.2 (subst (λ k. IsTrue (u.0 k)) (sym a.4) g.2) in
+        let below = (All-found (IsNumberedNeed p.size) p.needs a.0 a.1 h.numbers.needs a.2).any in
         let within = subst (λ k. k < p.size) some.3 (below some.0 some.1 some.2) in
         let v = slice_index_or ids some.1 x in
         let number = slice_get-get_or ids some.1 x (subst (λ k. some.1 < k) h.size within) in
-        (v, ids_in_from ids u.0 some.1 v number some.4, (demand.any some.1 v number).0 (some.0, some.2, some.3));
+        (v, ids_in_from ids u.0 some.1 v number some.4, (numbered.any some.1 v number).0 (some.0, some.2, some.3));
   },
   ids_in_from ids u.0 n x is u.2,
 )
@@ -90,12 +90,12 @@ kept_from_stays ids E N S p needed h within n x is u = (
   record {
     eligible = λ k m. let g = option_gives u.0 (slice_get ids k) m in (h.eligible k g.0 g.1).1 (u.1.eligible g.0 g.2);
     served = λ i d below m.
-        let demand = slice_index_or p.demands i d in
-        let at = slice_get-get_or p.demands i d below in
+        let numbered = slice_index_or p.needs i d in
+        let at = slice_get-get_or p.needs i d below in
         let need = slice_index_or needed i (Fmid, x) in
         let at_need = slice_get-get_or needed i (Fmid, x) (subst (λ k. i < k) (sym h.lengths) below) in
-        let meant = h.demands i demand need at at_need in
-        let g = option_gives u.0 (slice_get ids demand.of) m in
+        let meant = h.needs i numbered need at at_need in
+        let g = option_gives u.0 (slice_get ids numbered.of) m in
         let member = subst (λ v. IsTrue (u.0 v)) (same_Some g.0 meant.of.0 (sym g.1 ∙ meant.of.1)) g.2 in
         let r = u.1.served meant.of.0 need.1 need.0 member meant.of.2 in
         let place = within r.0 (u.1.eligible r.0 r.1) in

@@ -8,7 +8,7 @@ use Rattle.lemmas.proofs.Places.{contains_at, found_at, any_at, any_found, All-f
 use Rattle.terms.specs.Types.{Id}
 use Rattle.terms.specs.declared.codes.NeedKind.{NeedKind}
 use Rattle.terms.specs.declared.codes.NeedKind.TheVariants.{Fmid}
-use Rattle.solve.specs.Problem.{Demand, IsDemand, Problem, holds}
+use Rattle.solve.specs.Problem.{NumberedNeed, IsNumberedNeed, Problem, holds}
 use Rattle.solve.specs.Numbered.{IsProblemOf}
 use Rattle.solve.specs.Causes as numbered
 use Rattle.terms.specs.Failures.{HasFailed, LeadsTo, LeadsThrough, HasBareNeed, IsRoot, IsCauser}
@@ -37,17 +37,17 @@ module _ (ids kept : List Id) (E : Id → Type 0) (N : Id → NeedKind → Id �
   }
 
   -- the id of each number in a list that serves
-  id_of : (d : Demand) (i : ℕ) → slice_get p.demands i ≡ Some d → (m : ℕ) → Contains d.any m
+  id_of : (d : NumberedNeed) (i : ℕ) → slice_get p.needs i ≡ Some d → (m : ℕ) → Contains d.any m
       → (y : Id) × (slice_get ids m ≡ Some y)
   id_of d i at m there =
       let found = found_at d.any m there in
       let below = All-found (λ k. k < p.size) d.any found.0 m
-      (All-found (IsDemand p.size) p.demands i d h.numbers.demands at).any found.1 in
+      (All-found (IsNumberedNeed p.size) p.needs i d h.numbers.needs at).any found.1 in
       let within = subst (λ k. m < k) h.size below in
       (slice_index_or ids m [], slice_get-get_or ids m [] within)
 
-  -- a demand's list has no kept number exactly if nothing kept serves its need
-  unserved_numbers : (d : Demand) (i : ℕ) (kind : NeedKind) (z : Id) → slice_get p.demands i ≡ Some d
+  -- a need's list has no kept number exactly if nothing kept serves its need
+  unserved_numbers : (d : NumberedNeed) (i : ℕ) (kind : NeedKind) (z : Id) → slice_get p.needs i ≡ Some d
       → slice_get needed i ≡ Some (kind, z)
       → ((y : Id) → Contains kept y → ¬ S kind y z) → All (λ k. holds flags k ≡ false) d.any
   unserved_numbers d i kind z at need unserved k m below =
@@ -56,36 +56,36 @@ module _ (ids kept : List Id) (E : Id → Type 0) (N : Id → NeedKind → Id �
       let y = id_of d i at (slice_index_or d.any k m) there in
       false_from_ne_true (holds flags (slice_index_or d.any k m)) (λ t.
       unserved y.0 ((same (slice_index_or d.any k m) y.0 y.1).1 t)
-      (((h.demands i d (kind, z) at need).any (slice_index_or d.any k m) y.0 y.1).0 there))
+      (((h.needs i d (kind, z) at need).any (slice_index_or d.any k m) y.0 y.1).0 there))
 
-  unserved_ids : (d : Demand) (i : ℕ) (kind : NeedKind) (z : Id) → slice_get p.demands i ≡ Some d
+  unserved_ids : (d : NumberedNeed) (i : ℕ) (kind : NeedKind) (z : Id) → slice_get p.needs i ≡ Some d
       → slice_get needed i ≡ Some (kind, z)
       → ((y : Id) → Contains kept y → Contains ids y) → All (λ k. holds flags k ≡ false) d.any → (y : Id)
       → Contains kept y → ¬ S kind y z
   unserved_ids d i kind z at need within none y k serves =
       let place = found_at ids y (within y k) in
-      let there = ((h.demands i d (kind, z) at need).any place.0 y place.1).1 serves in
+      let there = ((h.needs i d (kind, z) at need).any place.0 y place.1).1 serves in
       let spot = found_at d.any place.0 there in
       not_both (holds flags place.0) ((same place.0 y place.1).0 k)
       (All-found (λ j. holds flags j ≡ false) d.any spot.0 place.0 none spot.1)
 
-  -- the need of a demand
-  need_of : (d : Demand) (i : ℕ) → slice_get p.demands i ≡ Some d
+  -- the need of a need
+  need_of : (d : NumberedNeed) (i : ℕ) → slice_get p.needs i ≡ Some d
       → (kind : NeedKind) × (z : Id) × (slice_get needed i ≡ Some (kind, z))
   need_of d i at =
       let need = slice_index_or needed i (Fmid, []) in (
         need.0,
         need.1,
         slice_get-get_or needed i (Fmid, []) (subst (λ k. i < k) (sym h.lengths)
-            (slice_get_within p.demands i d at)),
+            (slice_get_within p.needs i d at)),
       )
 
   -- whose need it is
-  need_is : (d : Demand) (i n : ℕ) (x z : Id) (kind : NeedKind) → slice_get p.demands i ≡ Some d
+  need_is : (d : NumberedNeed) (i n : ℕ) (x z : Id) (kind : NeedKind) → slice_get p.needs i ≡ Some d
       → slice_get needed i ≡ Some (kind, z)
       → d.of ≡ n → slice_get ids n ≡ Some x → N x kind z
   need_is d i n x z kind at need of at_x =
-      let meant = (h.demands i d (kind, z) at need).of in
+      let meant = (h.needs i d (kind, z) at need).of in
       subst (λ v. N v kind z) (same_Some meant.0 x (sym meant.1 ∙ ap (slice_get ids) of ∙ at_x)) meant.2
 
   pub leads_number : (n m : ℕ) (x y : Id) → slice_get ids n ≡ Some x → slice_get ids m ≡ Some y
@@ -93,9 +93,9 @@ module _ (ids kept : List Id) (E : Id → Type 0) (N : Id → NeedKind → Id �
   leads_number n m x y at_x at_y leads =
       let s = leads.serves in
       let a = h.all n x s.1 s.0 at_x s.2.needs in
-      let listed = ((h.demands a.0 a.1 (s.0, s.1) a.2 a.3).any m y at_y).1 s.3 in (
+      let listed = ((h.needs a.0 a.1 (s.0, s.1) a.2 a.3).any m y at_y).1 s.3 in (
         failed_number n x at_x leads.failed,
-        any_at (numbered.LeadsBy flags n m) p.demands a.0 a.1 a.2
+        any_at (numbered.LeadsBy flags n m) p.needs a.0 a.1 a.2
             (a.4, unserved_numbers a.1 a.0 s.0 s.1 a.2 a.3 s.2.unserved, listed),
       )
 
@@ -103,7 +103,7 @@ module _ (ids kept : List Id) (E : Id → Type 0) (N : Id → NeedKind → Id �
     pub leads_id : (n m : ℕ) (x y : Id) → slice_get ids n ≡ Some x → slice_get ids m ≡ Some y
         → numbered.LeadsTo p flags n m → LeadsTo ids kept E N S x y
     leads_id n m x y at_x at_y leads =
-        let a = any_found (numbered.LeadsBy flags n m) p.demands leads.1 in
+        let a = any_found (numbered.LeadsBy flags n m) p.needs leads.1 in
         let need = need_of a.1 a.0 a.2 in
         record {
           failed = failed_id n x at_x leads.0;
@@ -115,13 +115,13 @@ module _ (ids kept : List Id) (E : Id → Type 0) (N : Id → NeedKind → Id �
               needs = need_is a.1 a.0 n x need.1 need.0 a.2 need.2 a.3.0 at_x;
               unserved = unserved_ids a.1 a.0 need.0 need.1 a.2 need.2 within a.3.1;
             },
-            ((h.demands a.0 a.1 (need.0, need.1) a.2 need.2).any m y at_y).0 a.3.2,
+            ((h.needs a.0 a.1 (need.0, need.1) a.2 need.2).any m y at_y).0 a.3.2,
           );
         }
 
     -- the number that a number leads to has an id
     led_id : (n m : ℕ) → numbered.LeadsTo p flags n m → (y : Id) × (slice_get ids m ≡ Some y)
-    led_id n m leads = let a = any_found (numbered.LeadsBy flags n m) p.demands leads.1 in id_of a.1 a.0 a.2 m a.3.2
+    led_id n m leads = let a = any_found (numbered.LeadsBy flags n m) p.needs leads.1 in id_of a.1 a.0 a.2 m a.3.2
 
     steps_id : (n m : ℕ) (steps : List ℕ) (x y : Id) → slice_get ids n ≡ Some x → slice_get ids m ≡ Some y
         → numbered.LeadsThrough p flags n steps m
@@ -134,25 +134,25 @@ module _ (ids kept : List Id) (E : Id → Type 0) (N : Id → NeedKind → Id �
 
     bare_id : (n : ℕ) (x : Id) → slice_get ids n ≡ Some x → numbered.HasBareNeed p n → HasBareNeed ids kept E N S x
     bare_id n x at_x bare =
-        let a = any_found (λ d. (d.of ≡ n) × (d.any ≡ [])) p.demands bare in
+        let a = any_found (λ d. (d.of ≡ n) × (d.any ≡ [])) p.needs bare in
         let need = need_of a.1 a.0 a.2 in (
           need.0,
           need.1,
           need_is a.1 a.0 n x need.1 need.0 a.2 need.2 a.3.0 at_x,
           λ y there serves.
               let place = found_at ids y there in
-              let listed = ((h.demands a.0 a.1 (need.0, need.1) a.2 need.2).any place.0 y place.1).1 serves in
+              let listed = ((h.needs a.0 a.1 (need.0, need.1) a.2 need.2).any place.0 y place.1).1 serves in
               absurd (omega (arith, subst (λ l. listed.0 < length l) a.3.1 listed.1)),
         )
 
     bare_number : (n : ℕ) (x : Id) → slice_get ids n ≡ Some x → HasBareNeed ids kept E N S x → numbered.HasBareNeed p n
     bare_number n x at_x bare =
         let a = h.all n x bare.1 bare.0 at_x bare.2 in
-        any_at (λ d. (d.of ≡ n) × (d.any ≡ [])) p.demands a.0 a.1 a.2 (
+        any_at (λ d. (d.of ≡ n) × (d.any ≡ [])) p.needs a.0 a.1 a.2 (
           a.4,
           none_within a.1.any (λ m there.
               let y = id_of a.1 a.0 a.2 m there in
-              bare.3 y.0 (contains_at ids m y.0 y.1) (((h.demands a.0 a.1 (bare.0, bare.1) a.2 a.3).any m y.0 y.1).0
+              bare.3 y.0 (contains_at ids m y.0 y.1) (((h.needs a.0 a.1 (bare.0, bare.1) a.2 a.3).any m y.0 y.1).0
               there)),
         )
 

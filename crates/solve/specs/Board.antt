@@ -1,23 +1,23 @@
--- A search for the greatest set that counts, for each demand, its living members.
+-- A search for the greatest set that counts, for each need, its living members.
 use Rattle.std.specs.Prelude.{◌≡◌, ◌<◌, ◌≤◌, ◌+◌, ℕ, Bool, false, List, [], length, All, Vec, count_by}
 use Rattle.std.specs.Prelude.{sum}
 use Rattle.std.specs.List.{slice_index_or, sum_by}
 use Rattle.std.specs.declared.alloc.Global.{Global}
-use Rattle.solve.specs.Problem.{Problem, Demand, holds}
+use Rattle.solve.specs.Problem.{Problem, NumberedNeed, holds}
 use Rattle.solve.specs.declared.worklist.Board.{Board}
 use Rattle.solve.specs.Parts.{HasEvery, IsWithin, count_of}
 use Rattle.solve.specs.Rows.{row_at, times, one_if}
 
--- a demand that nothing serves stands past the end
-abbrev pub demand_at : List Demand → ℕ → Demand
-demand_at demands k = slice_index_or demands k (record { of = 0; any = [] })
+-- a need that nothing serves stands past the end
+abbrev pub need_at : List NumberedNeed → ℕ → NumberedNeed
+need_at needs k = slice_index_or needs k (record { of = 0; any = [] })
 
--- row x names a demand as often as the demand's list names x
-abbrev pub AreServed : List Demand → List (Vec ℕ Global) → Type 0
-AreServed demands served = (x k : ℕ) → times k (row_at served x) ≡ times x (demand_at demands k).any
+-- row x names a need as often as the need's list names x
+abbrev pub AreServed : List NumberedNeed → List (Vec ℕ Global) → Type 0
+AreServed needs served = (x k : ℕ) → times k (row_at served x) ≡ times x (need_at needs k).any
 
--- how many of the demand's members are eligible
-abbrev pub eligible_in : Problem → Demand → ℕ
+-- how many of the need's members are eligible
+abbrev pub eligible_in : Problem → NumberedNeed → ℕ
 eligible_in p d = count_by (holds p.eligible) d.any
 
 -- a candidate that stands, and each strike of it that waits, count as one
@@ -34,28 +34,28 @@ pub record IsDrop (x : ℕ) (standing : List Bool) (dropped : List ℕ) (standin
   pub total : count_of standing' + length dropped' ≡ count_of standing + length dropped
   pub members : (n : ℕ) → x < n → All (λ y. y < n) dropped → All (λ y. y < n) dropped'
 
--- The strikes still due are on these demands. Of a settled demand with no living member the candidate does not stand.
+-- The strikes still due are on these needs. Of a settled need with no living member the candidate does not stand.
 pub record IsSearch (p : Problem) (due : List ℕ) (settled : ℕ → Type 0) (standing : List Bool) (living dropped : List ℕ)
     (strikes room : ℕ) : Type 0 where
   pub size : length standing ≡ p.size
-  pub needs : length living ≡ length p.demands
+  pub needs : length living ≡ length p.needs
   pub members : All (λ x. x < p.size) dropped
   pub total : count_of standing + length dropped ≤ p.size
   pub fits : p.size ≤ room
   pub every : HasEvery p standing
   pub within : IsWithin standing p.eligible
-  pub counts : (k : ℕ) → k < length p.demands → slice_index_or living k 0 ≡ sum_by (weight standing dropped)
-      (demand_at p.demands k).any + times k due
-  pub bare : (k : ℕ) → k < length p.demands → settled k → slice_index_or living k 0 ≡ 0
-      → holds standing (demand_at p.demands k).of ≡ false
-  pub struck : strikes + sum living ≡ sum_by (eligible_in p) p.demands
+  pub counts : (k : ℕ) → k < length p.needs → slice_index_or living k 0 ≡ sum_by (weight standing dropped)
+      (need_at p.needs k).any + times k due
+  pub bare : (k : ℕ) → k < length p.needs → settled k → slice_index_or living k 0 ≡ 0
+      → holds standing (need_at p.needs k).of ≡ false
+  pub struck : strikes + sum living ≡ sum_by (eligible_in p) p.needs
 
--- all demands are settled
+-- all needs are settled
 abbrev pub AtRest : Problem → List ℕ → Board → Type 0
 AtRest p due b = IsSearch p due (λ k. Unit {0}) b.standing.items b.living.items b.dropped.items b.count.strikes
     b.dropped.cap
 
--- the demands below k are settled
+-- the needs below k are settled
 abbrev pub SettledBelow : Problem → ℕ → Board → Type 0
 SettledBelow p k b = IsSearch p [] (λ j. j < k) b.standing.items b.living.items b.dropped.items b.count.strikes
     b.dropped.cap

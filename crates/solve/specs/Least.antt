@@ -1,6 +1,6 @@
 -- A set that grows: it holds its start, and by each rule one number more once it holds all that the rule asks for.
 use Rattle.std.specs.Prelude.{◌≡◌, ◌<◌, ◌↔◌, ℕ, Bool, not, List, length, map, All, AllPairs, IsTrue}
-use Rattle.solve.specs.Problem.{Problem, Demand, holds}
+use Rattle.solve.specs.Problem.{Problem, NumberedNeed, holds}
 
 -- where all of these are in the set, that is
 pub record Rule : Type 0 where
@@ -32,10 +32,10 @@ pub record IsLeast (g : Growth) (flags : List Bool) : Type 0 where
   pub size : length flags ≡ length g.start
   pub members : (x : ℕ) → IsTrue (holds flags x) ↔ IsGrown g x
 
--- a demand read as a rule: the candidate is out where all that serve the demand are out
-abbrev pub rule_of : Demand → Rule
+-- a need read as a rule: the candidate is out where all that serve the need are out
+abbrev pub rule_of : NumberedNeed → Rule
 rule_of d = record { these = d.any; that = d.of }
 
 -- what a problem's sets leave out grows: it starts with what is not eligible
 abbrev pub growth_of : Problem → Growth
-growth_of p = record { start = map not p.eligible; rules = map rule_of p.demands }
+growth_of p = record { start = map not p.eligible; rules = map rule_of p.needs }

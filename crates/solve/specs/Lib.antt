@@ -1,5 +1,5 @@
-pub mod Need
-pub mod System
+pub mod NumberedNeed
+pub mod Viewed
 pub mod Parts
 pub mod Rows
 pub mod Marks

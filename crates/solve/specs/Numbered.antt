@@ -2,12 +2,12 @@
 use Rattle.std.specs.Prelude.{◌≡◌, ◌↔◌, ℕ, List, Some, length, Contains, IsTrue, slice_get}
 use Rattle.terms.specs.declared.codes.NeedKind.{NeedKind}
 use Rattle.terms.specs.Types.{Id}
-use Rattle.solve.specs.Problem.{Demand, Problem, IsProblem, holds}
+use Rattle.solve.specs.Problem.{NumberedNeed, Problem, IsProblem, holds}
 
 module _ (Eligible : Id → Type 0) (Needs : Id → NeedKind → Id → Type 0) (Serves : NeedKind → Id → Id → Type 0) where
-  -- The demand is a need for z: it is of the number of an id that has the need, and lists all that serve it, eligible
+  -- The need is one for z: it is of the number of an id that has the need, and lists all that serve it, eligible
   -- or not.
-  pub record DemandsFor (ids : List Id) (d : Demand) (kind : NeedKind) (z : Id) : Type 0 where
+  pub record NumberedNeedFor (ids : List Id) (d : NumberedNeed) (kind : NeedKind) (z : Id) : Type 0 where
     pub of : (x : Id) × (slice_get ids d.of ≡ Some x) × Needs x kind z
     pub any : (n : ℕ) (y : Id) → slice_get ids n ≡ Some y → Contains d.any n ↔ Serves kind y z
 
@@ -17,12 +17,13 @@ module _ (Eligible : Id → Type 0) (Needs : Id → NeedKind → Id → Type 0) 
     pub numbers : IsProblem p
     pub size : p.size ≡ length ids
     pub eligible : (n : ℕ) (x : Id) → slice_get ids n ≡ Some x → IsTrue (holds p.eligible n) ↔ Eligible x
-    pub lengths : length needed ≡ length p.demands
-    pub demands : (i : ℕ) (d : Demand) (need : NeedKind × Id) → slice_get p.demands i ≡ Some d
+    pub lengths : length needed ≡ length p.needs
+    pub needs : (i : ℕ) (d : NumberedNeed) (need : NeedKind × Id) → slice_get p.needs i ≡ Some d
         → slice_get needed i ≡ Some need →
-        DemandsFor ids d need.0 need.1
+        NumberedNeedFor ids d need.0 need.1
     pub all : (n : ℕ) (x z : Id) (kind : NeedKind) → slice_get ids n ≡ Some x → Needs x kind z →
-        (i : ℕ) × (d : Demand) × (slice_get p.demands i ≡ Some d) × (slice_get needed i ≡ Some (kind, z)) × (d.of ≡ n)
-    pub once : (i j : ℕ) (d e : Demand) (need : NeedKind × Id) → slice_get p.demands i ≡ Some d
-        → slice_get p.demands j ≡ Some e →
+        (i : ℕ) × (d : NumberedNeed) × (slice_get p.needs i ≡ Some d) × (slice_get needed i ≡ Some (kind, z))
+        × (d.of ≡ n)
+    pub once : (i j : ℕ) (d e : NumberedNeed) (need : NeedKind × Id) → slice_get p.needs i ≡ Some d
+        → slice_get p.needs j ≡ Some e →
         slice_get needed i ≡ Some need → slice_get needed j ≡ Some need → d.of ≡ e.of → i ≡ j

@@ -1,18 +1,18 @@
 //! The causers of each candidate that failed.
 ghost use Rattle.std.specs.Prelude.{◌≡◌, ◌<◌, ◌↔◌, ◌≤◌, ◌&&◌, ℕ, List, Bool, false, not, IfOk, OnOk, IsTrue, length};
 ghost use Rattle.std.specs.Prelude.{All, AllPairs, Contains};
-ghost use Rattle.solve.specs.Problem.{Problem, AreKept, holds};
+ghost use Rattle.solve.specs.Problem.{Problem as AProblem, AreKept, holds};
 ghost use Rattle.solve.specs.Causes.{HasFailed, HasBareNeed, IsRoot, IsCauser, LeadsOn};
 ghost use Rattle.solve.specs.Rows.{row_at, times};
 ghost use Rattle.solve.specs.Marks.{AreLeads, AreClear, IsMarked, is_in};
 
+use crate::problem::Problem;
 use crate::rows::{add_under, empty_rows};
 use crate::sets::{Kept, serves};
-use crate::system::System;
 use std::alloc::{AllocError, Global};
 
 /// Which candidates have a need that no candidate serves.
-fn bare_needs(alloc: Global, s: &System) -> Result<Vec<bool>, AllocError>
+fn bare_needs(alloc: Global, s: &Problem) -> Result<Vec<bool>, AllocError>
     ensures size { IfOk result (λ bare. length bare.items ≡ s.now.size) }
     ensures exact { IfOk result (λ bare. (x : ℕ) → IsTrue (holds bare.items x) ↔ HasBareNeed s.now x) }
 {
@@ -26,7 +26,7 @@ fn bare_needs(alloc: Global, s: &System) -> Result<Vec<bool>, AllocError>
 }
 
 /// Whether a candidate has failed for a reason of its own: it is not eligible, or nobody serves a need of it.
-fn is_root(s: &System, kept: &[bool], bare: &[bool], x: u32) -> bool
+fn is_root(s: &Problem, kept: &[bool], bare: &[bool], x: u32) -> bool
     requires x { x < s.now.size }
     requires kept { length kept.now ≡ s.now.size }
     requires bare { length bare.now ≡ s.now.size }
@@ -38,7 +38,7 @@ fn is_root(s: &System, kept: &[bool], bare: &[bool], x: u32) -> bool
 }
 
 /// For each candidate those that lead to it.
-fn leads_to(alloc: Global, s: &System, kept: &[bool]) -> Result<Vec<Vec<u32>>, AllocError>
+fn leads_to(alloc: Global, s: &Problem, kept: &[bool]) -> Result<Vec<Vec<u32>>, AllocError>
     requires { length kept.now ≡ s.now.size }
     ensures { IfOk result (λ leads. AreLeads s.now kept.now leads.items) }
 {
@@ -87,7 +87,7 @@ fn reaching(
     requires clear { AreClear marks.old }
     requires rows { (z : ℕ) → All (λ x. x < length leads.now) (row_at leads.now z) }
     ensures once { IfOk result (λ list. (x : ℕ) → times x list.items ≤ 1) }
-    ensures exact { IfOk result (λ list. (p : Problem) (kept : List Bool) → AreLeads p kept leads.now →
+    ensures exact { IfOk result (λ list. (p : AProblem) (kept : List Bool) → AreLeads p kept leads.now →
         (x : ℕ) → Contains list.items x ↔ LeadsOn p kept x y) }
     ensures within { IfOk result (λ list. All (λ x. x < length leads.now) list.items) }
     ensures clear { OnOk result (AreClear marks.new) }
@@ -107,7 +107,7 @@ fn reaching(
 
 /// For each candidate its causers, rising: the roots that it reaches. One that is kept has none. The error comes where
 /// memory runs out.
-pub fn causers(alloc: Global, s: &System, kept: &Kept) -> Result<Vec<Vec<u32>>, AllocError>
+pub fn causers(alloc: Global, s: &Problem, kept: &Kept) -> Result<Vec<Vec<u32>>, AllocError>
     requires { length kept.now ≡ s.now.size }
     ensures size { IfOk result (λ rows. length rows.items ≡ s.now.size) }
     ensures exact { IfOk result (λ rows. (x y : ℕ) →

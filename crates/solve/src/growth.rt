@@ -5,7 +5,7 @@ ghost use Rattle.solve.specs.Least.{IsRule, IsLeast};
 ghost use Rattle.solve.specs.Rules.{as_rule};
 
 use crate::Solver;
-use crate::system::{Need, System};
+use crate::problem::{NumberedNeed, Problem};
 use crate::worklist::Worklist;
 use std::alloc::{AllocError, Global};
 use std::marker::Model;
@@ -23,7 +23,7 @@ pub struct Rule {
 /// start with it, and stays out while one of `these` is out in each rule for it.
 #[derive(Drop)]
 pub struct Rules {
-    outside: System,
+    outside: Problem,
 }
 
 impl Model for Rules {
@@ -53,7 +53,7 @@ impl Rules {
     {
         let eligible = turned(alloc, start)?;
         Ok(Rules {
-            outside: System::new(alloc, eligible),
+            outside: Problem::new(alloc, eligible),
         })
     }
 
@@ -87,7 +87,7 @@ impl Rules {
         ensures ok { OnOk result (self.new ≡ record self.old { rules = self.old.rules ++ as_rule rule ∷ [] }) }
         ensures err { OnErr result (self.new ≡ self.old) }
     {
-        self.outside.add_need(Need {
+        self.outside.add_need(NumberedNeed {
             of: rule.that,
             any: rule.these,
         })

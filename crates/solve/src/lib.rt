@@ -6,10 +6,10 @@
 
 mod causes;
 mod growth;
+mod problem;
 mod rows;
 mod sets;
 mod sweep;
-mod system;
 mod worklist;
 
 ghost use Rattle.std.specs.Prelude.{IfOk};
@@ -17,15 +17,16 @@ ghost use Rattle.solve.specs.Problem.{AreKept};
 
 pub use causes::causers;
 pub use growth::{Rule, Rules, least};
-pub use sets::Kept;
+pub use problem::{NumberedNeed, Problem};
+pub use rows::empty_rows;
+pub use sets::{Kept, serves};
 use std::alloc::{AllocError, Global};
 pub use sweep::Sweep;
-pub use system::{Need, System};
 pub use worklist::{Count, Worklist};
 
-/// Gives the kept set of a system.
+/// Gives the kept set of a problem.
 pub trait Solver {
     /// The union of all self-supporting sets. The error comes where memory runs out.
-    fn greatest(&self, alloc: Global, s: &System) -> Result<Kept, AllocError>
+    fn greatest(&self, alloc: Global, s: &Problem) -> Result<Kept, AllocError>
         ensures { IfOk result (λ kept. AreKept s.now kept) };
 }

@@ -5,9 +5,9 @@ ghost use Rattle.solve.specs.Problem.{AreKept, holds, pairs_of, strikes_of, most
 ghost use Rattle.solve.specs.Board.{AreServed, AtRest, SettledBelow, IsDrop, open_in};
 
 use crate::Solver;
+use crate::problem::Problem;
 use crate::rows::{add_under, empty_rows};
 use crate::sets::Kept;
-use crate::system::System;
 use std::alloc::{AllocError, Global};
 
 /// How much work a search did.
@@ -59,8 +59,8 @@ impl Board {
     }
 
     /// Takes a living member from a need, and drops the need's candidate with the last one.
-    fn strike(&mut self, s: &System, need: usize)
-        requires need { need < length s.now.demands }
+    fn strike(&mut self, s: &Problem, need: usize)
+        requires need { need < length s.now.needs }
         requires due { (rest : List ℕ) × AtRest s.now (need ∷ rest) self.old }
         requires strikes { self.old.count.strikes + 1 < 2 ^ 128 }
         ensures board { (rest : List ℕ) → AtRest s.now (need ∷ rest) self.old → AtRest s.now rest self.new }
@@ -77,10 +77,10 @@ impl Board {
     }
 
     /// Makes the strikes of one dropped candidate: `row` names the needs that it serves.
-    fn strike_row(&mut self, s: &System, row: &[usize])
-        requires row { All (λ k. k < length s.now.demands) row.now }
+    fn strike_row(&mut self, s: &Problem, row: &[usize])
+        requires row { All (λ k. k < length s.now.needs) row.now }
         requires board { AtRest s.now row.now self.old }
-        requires few { pairs_of s.now.demands < 2 ^ 96 }
+        requires few { pairs_of s.now.needs < 2 ^ 96 }
         requires turns { self.old.count.turns + length row.now < 2 ^ 128 }
         ensures board { AtRest s.now [] self.new }
         ensures open { open_in self.new ≡ open_in self.old }
@@ -94,13 +94,13 @@ impl Board {
     }
 
     /// Drops the candidates whose needs no eligible one serves.
-    fn drop_unserved(&mut self, s: &System)
+    fn drop_unserved(&mut self, s: &Problem)
         requires board { SettledBelow s.now 0 self.old }
-        requires turns { self.old.count.turns + length s.now.demands < 2 ^ 128 }
+        requires turns { self.old.count.turns + length s.now.needs < 2 ^ 128 }
         ensures board { AtRest s.now [] self.new }
         ensures open { open_in self.new ≡ open_in self.old }
         ensures strikes { self.new.count.strikes ≡ self.old.count.strikes }
-        ensures turns { self.new.count.turns ≡ self.old.count.turns + length s.now.demands }
+        ensures turns { self.new.count.turns ≡ self.old.count.turns + length s.now.needs }
     {
         for (k, need) in s.needs().iter().enumerate() {
             self.count.turns += 1;
@@ -111,11 +111,11 @@ impl Board {
     }
 
     /// Makes the strikes of all dropped candidates, and of those that are dropped by them.
-    fn run(&mut self, s: &System, served: &[Vec<usize>])
-        requires served { AreServed s.now.demands served.now }
+    fn run(&mut self, s: &Problem, served: &[Vec<usize>])
+        requires served { AreServed s.now.needs served.now }
         requires size { length served.now ≡ s.now.size }
         requires board { AtRest s.now [] self.old }
-        requires few { pairs_of s.now.demands < 2 ^ 96 }
+        requires few { pairs_of s.now.needs < 2 ^ 96 }
         requires turns { self.old.count.turns + s.now.size < 2 ^ 127 }
         ensures board { AtRest s.now [] self.new }
         ensures done { self.new.dropped.items ≡ [] }
@@ -130,15 +130,15 @@ impl Board {
 }
 
 /// The board at the start, and for each candidate the needs that it serves.
-fn prepare(alloc: Global, s: &System) -> Result<(Board, Vec<Vec<usize>>), AllocError>
+fn prepare(alloc: Global, s: &Problem) -> Result<(Board, Vec<Vec<usize>>), AllocError>
     ensures board { IfOk result (λ r. SettledBelow s.now 0 r.0) }
     ensures strikes { IfOk result (λ r. r.0.count.strikes ≡ 0) }
-    ensures turns { IfOk result (λ r. r.0.count.turns ≡ s.now.size + length s.now.demands + 2 * pairs_of
-        s.now.demands) }
-    ensures served { IfOk result (λ r. AreServed s.now.demands r.1.items) }
+    ensures turns { IfOk result (λ r. r.0.count.turns ≡ s.now.size + length s.now.needs + 2 * pairs_of
+        s.now.needs) }
+    ensures served { IfOk result (λ r. AreServed s.now.needs r.1.items) }
     ensures size { IfOk result (λ r. length r.1.items ≡ s.now.size) }
-    ensures few { IfOk result (λ r. pairs_of s.now.demands < 2 ^ 96) }
-    ensures needs { IfOk result (λ r. length s.now.demands < 2 ^ 64) }
+    ensures few { IfOk result (λ r. pairs_of s.now.needs < 2 ^ 96) }
+    ensures needs { IfOk result (λ r. length s.now.needs < 2 ^ 64) }
 {
     let needs = s.needs();
     let standing = s.eligible().to_vec(alloc)?;
@@ -161,7 +161,7 @@ fn prepare(alloc: Global, s: &System) -> Result<(Board, Vec<Vec<usize>>), AllocE
 
 impl Worklist {
     /// The kept set, and how much work it took. The error comes where memory runs out.
-    pub fn count(alloc: Global, s: &System) -> Result<(Kept, Count), AllocError>
+    pub fn count(alloc: Global, s: &Problem) -> Result<(Kept, Count), AllocError>
         ensures kept { IfOk result (λ r. AreKept s.now r.0) }
         ensures strikes { IfOk result (λ r. r.1.strikes ≡ strikes_of s.now r.0) }
         ensures turns { IfOk result (λ r. r.1.turns ≤ most_turns s.now) }
@@ -177,7 +177,7 @@ impl Worklist {
 }
 
 impl Solver for Worklist {
-    fn greatest(&self, alloc: Global, s: &System) -> Result<Kept, AllocError> {
+    fn greatest(&self, alloc: Global, s: &Problem) -> Result<Kept, AllocError> {
         let (kept, _count) = Worklist::count(alloc, s)?;
         Ok(kept)
     }

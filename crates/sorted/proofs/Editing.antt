@@ -12,9 +12,9 @@ use Rattle.std.proofs.lemmas.Bool.{false≢true}
 use Rattle.std.proofs.lemmas.List.Elements.{All-head, All-tail, All-cons, All-append, All-filter}
 use Rattle.std.proofs.lemmas.List.Elements.{filter-append}
 use Rattle.std.proofs.lemmas.List.Kept.{AllPairs-filter}
-use Rattle.std.proofs.lemmas.List.{append-nil, take_all, get_or-drop, get_or_default}
+use Rattle.std.proofs.lemmas.List.{append-nil, take_all, get_or-drop, get_or_default, length-append}
 use Rattle.std.proofs.lemmas.List.Sums.{fold_more}
-use Rattle.std.proofs.Math.Seq.{drop-cons}
+use Rattle.std.proofs.Math.Seq.{drop-cons, get_or-append_seam}
 use Rattle.lemmas.proofs.Orderings.{Equal_from_is_eq, Less_from_is_lt}
 use Rattle.lemmas.proofs.Searches.{find_filter_all, find_filter_none, find_second, find_first, filter_all, filter_none}
 use Rattle.lemmas.proofs.Searches.{find_over}
@@ -140,6 +140,18 @@ module _ {X K : Type 0} {R : K → K → Ordering} (o : IsTotalOrder R) (key : X
         low = All-append P (new ++ before R key k rest) (option_to_list (edit_put e))
             (All-append P new (before R key k rest) later between) (put_low e (drop (done + 1) edits) up);
       }
+
+  -- the same for edits that are walked through: those of the front are done
+  pub editing_walks_on : (items : List X) (edits front : List (Edit X K)) (e : Edit X K) (back : List (Edit X K))
+      (new rest : List X) → front ++ e ∷ back ≡ edits → Rises R (edit_key key) edits
+      → IsEditing R key items edits (length front) new rest → IsEditing R key items edits (length (front ++ e ∷ []))
+      ((new ++ before R key (edit_key key e) rest) ++ option_to_list (edit_put e)) (behind R key (edit_key key e) rest)
+  editing_walks_on items edits front e back new rest all rises s =
+      let here : get_or edits (length front) e ≡ e =
+      ap (λ es. get_or es (length front) e) (sym all) ∙ get_or-append_seam front e back e in
+      let long = ap length (sym all) ∙ length-append front (e ∷ back) in
+      rw (length-append front (e ∷ [])) (editing_goes_on items edits (length front) new rest e rises
+      (omega (arith, long)) (sym here) s)
 
   -- At an edit's key stands afterwards what it puts there, and at other keys what stood there.
   module _ (E : K → K → Bool) (ties : (a b : K) → E a b ≡ is_eq (R a b)) where

@@ -1,5 +1,5 @@
 -- Edits of a list that rises by a key: what is put and removed.
-use Rattle.std.specs.Prelude.{Bool, Option, None, Some, List, find, fold}
+use Rattle.std.specs.Prelude.{ℕ, Bool, Option, None, Some, List, find, fold}
 use Rattle.std.specs.declared.cmp.Ordering.{Ordering}
 use Rattle.std.specs.Option.{option_map_or}
 use Rattle.sorted.specs.declared.edits.Edit.{Edit}
@@ -29,3 +29,8 @@ edited cmp key xs edits = fold (after_edit cmp key) xs edits
 abbrev pub after_edits : {X K : Type 0} → (K → K → Bool) → (X → K) → List (Edit X K) → List X → K → Option X
 after_edits eq key edits old k =
     option_map_or edit_put (find (λ e. eq (edit_key key e) k) edits) (find (λ x. eq (key x) k) old)
+
+-- edits that can be made of a table, and how many items there is room for
+pub record PreparedEdits (X K : Type 0) : Type 0 where
+  pub edits : List (Edit X K)
+  pub room : ℕ

@@ -1,6 +1,7 @@
 //! Edits of items that rise by their keys.
-ghost use Rattle.std.specs.Prelude.{◌≡◌, ◌++◌, ◌∷◌, [], IfOk, IfSome, IfNone, IsTrue, OnOk};
+ghost use Rattle.std.specs.Prelude.{◌≡◌, ◌++◌, ◌∷◌, ◌+◌, ◌<◌, ◌≤◌, [], length, IfSome, IfNone, IsTrue, vec_len, vec_capacity};
 ghost use Rattle.std.specs.Option.{option_to_list};
+ghost use Rattle.std.specs.VecDeque.{deque_len};
 ghost use Rattle.std.specs.Ordering.{is_lt};
 ghost use Rattle.terms.specs.Rising.{Rises, before, behind};
 ghost use Rattle.sorted.specs.Edits.{edit_key, edit_put, edited};
@@ -9,6 +10,7 @@ use crate::copies::TryClone;
 use crate::keyed::Keyed;
 use std::alloc::{AllocError, Global};
 use std::collections::VecDeque;
+use std::mem;
 
 /// What a change does at a key: it puts an item there, or what stands there goes.
 #[derive(Drop)]
@@ -41,26 +43,26 @@ impl<T: Keyed + TryClone> TryClone for Edit<T, T::Key> {
     }
 }
 
-/// The items after the edits. What stays is moved and not copied.
-pub(crate) fn edited<T: Keyed + TryClone>(
-    alloc: Global,
-    items: Vec<T>,
-    edits: &[Edit<T, T::Key>],
-) -> Result<Vec<T>, AllocError>
-    requires items { Rises T.Key.cmp T.key_of items.items }
-    requires edits { Rises T.Key.cmp (edit_key T.key_of) edits.now }
-    ensures { IfOk result (λ new. new.items ≡ edited T.Key.cmp T.key_of items.items edits.now) }
+/// Makes the edits. What stays and what is put is moved, into the room. Nothing of it takes memory.
+pub(crate) fn make_edits<T: Keyed + Drop>(
+    items: &mut Vec<T>,
+    edits: Vec<Edit<T, T::Key>>,
+    room: Vec<T>,
+)
+    requires items { Rises T.Key.cmp T.key_of items.old.items }
+    requires edits { Rises T.Key.cmp (edit_key T.key_of) edits.items }
+    requires empty { room.items ≡ [] }
+    requires room { vec_len items.old + vec_len edits ≤ vec_capacity room }
+    ensures { items.new.items ≡ edited T.Key.cmp T.key_of items.old.items edits.items }
 {
-    let mut rest = VecDeque::from_vec(items);
-    let mut new = Vec::new(alloc);
+    let mut rest = VecDeque::from_vec(mem::replace(items, room));
     for edit in edits {
         let key = edit.key();
-        move_before(&mut rest, &mut new, key)?;
+        move_before(&mut rest, items, key);
         drop_at(&mut rest, key);
-        put(alloc, &mut new, edit)?;
+        put(items, edit);
     }
-    move_all(rest, &mut new)?;
-    Ok(new)
+    move_all(rest, items);
 }
 
 // Takes the first item, if it stands before the key.
@@ -70,6 +72,7 @@ fn pop_before<T: Keyed>(rest: &mut VecDeque<T>, key: T::Key) -> Option<T>
         × IsTrue (is_lt (T.Key.cmp (T.key_of x) key))) }
     ensures none { IfNone result ((rest.new.items ≡ rest.old.items)
         × (before T.Key.cmp T.key_of key rest.old.items ≡ [])) }
+    ensures len { deque_len rest.new + length (option_to_list result) ≡ deque_len rest.old }
 {
     if rest.front()?.key() < key {
         rest.pop_front()
@@ -79,29 +82,27 @@ fn pop_before<T: Keyed>(rest: &mut VecDeque<T>, key: T::Key) -> Option<T>
 }
 
 // Moves what stands before the key.
-fn move_before<T: Keyed + Drop>(
-    rest: &mut VecDeque<T>,
-    new: &mut Vec<T>,
-    key: T::Key,
-) -> Result<(), AllocError>
-    requires { Rises T.Key.cmp T.key_of rest.old.items }
-    ensures moved { OnOk result (new.new.items ≡ new.old.items ++ before T.Key.cmp T.key_of key rest.old.items) }
-    ensures kept { OnOk result (behind T.Key.cmp T.key_of key rest.new.items
-        ≡ behind T.Key.cmp T.key_of key rest.old.items) }
-    ensures none { OnOk result (before T.Key.cmp T.key_of key rest.new.items ≡ []) }
-    ensures rises { OnOk result (Rises T.Key.cmp T.key_of rest.new.items) }
+fn move_before<T: Keyed + Drop>(rest: &mut VecDeque<T>, new: &mut Vec<T>, key: T::Key)
+    requires rises { Rises T.Key.cmp T.key_of rest.old.items }
+    requires room { vec_len new.old + deque_len rest.old ≤ vec_capacity new.old }
+    ensures moved { new.new.items ≡ new.old.items ++ before T.Key.cmp T.key_of key rest.old.items }
+    ensures kept { behind T.Key.cmp T.key_of key rest.new.items ≡ behind T.Key.cmp T.key_of key rest.old.items }
+    ensures none { before T.Key.cmp T.key_of key rest.new.items ≡ [] }
+    ensures rises { Rises T.Key.cmp T.key_of rest.new.items }
+    ensures len { vec_len new.new + deque_len rest.new ≡ vec_len new.old + deque_len rest.old }
+    ensures capacity { vec_capacity new.new ≡ vec_capacity new.old }
 {
     while let Some(item) = pop_before(rest, key) {
-        new.push(item)?;
+        new.push_reserved(item);
     }
-    Ok(())
 }
 
 // What has the key goes, where nothing stands before it.
 fn drop_at<T: Keyed + Drop>(rest: &mut VecDeque<T>, key: T::Key)
     requires rises { Rises T.Key.cmp T.key_of rest.old.items }
     requires none { before T.Key.cmp T.key_of key rest.old.items ≡ [] }
-    ensures { rest.new.items ≡ behind T.Key.cmp T.key_of key rest.old.items }
+    ensures rest { rest.new.items ≡ behind T.Key.cmp T.key_of key rest.old.items }
+    ensures len { deque_len rest.new ≤ deque_len rest.old }
 {
     let Some(first) = rest.front() else {
         return;
@@ -112,28 +113,24 @@ fn drop_at<T: Keyed + Drop>(rest: &mut VecDeque<T>, key: T::Key)
 }
 
 // Moves all that is left.
-fn move_all<T: Drop>(mut rest: VecDeque<T>, new: &mut Vec<T>) -> Result<(), AllocError>
-    ensures { OnOk result (new.new.items ≡ new.old.items ++ rest.items) }
+fn move_all<T: Drop>(mut rest: VecDeque<T>, new: &mut Vec<T>)
+    requires { vec_len new.old + deque_len rest ≤ vec_capacity new.old }
+    ensures { new.new.items ≡ new.old.items ++ rest.items }
 {
     while let Some(item) = rest.pop_front() {
-        new.push(item)?;
+        new.push_reserved(item);
     }
-    Ok(())
 }
 
 // Adds what the edit puts, if it puts anything.
-fn put<T: Keyed + TryClone>(
-    alloc: Global,
-    new: &mut Vec<T>,
-    edit: &Edit<T, T::Key>,
-) -> Result<(), AllocError>
-    ensures { OnOk result (new.new.items ≡ new.old.items ++ option_to_list (edit_put edit.now)) }
+fn put<T: Keyed + Drop>(new: &mut Vec<T>, edit: Edit<T, T::Key>)
+    requires { vec_len new.old < vec_capacity new.old }
+    ensures items { new.new.items ≡ new.old.items ++ option_to_list (edit_put edit) }
+    ensures len { vec_len new.new ≤ vec_len new.old + 1 }
+    ensures capacity { vec_capacity new.new ≡ vec_capacity new.old }
 {
     match edit {
-        Edit::Put(item) => {
-            new.push(item.try_clone(alloc)?)?;
-            Ok(())
-        }
-        Edit::Remove(_) => Ok(()),
+        Edit::Put(item) => new.push_reserved(item),
+        Edit::Remove(_) => {}
     }
 }

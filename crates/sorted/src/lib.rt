@@ -10,4 +10,4 @@ mod table;
 pub use copies::{TryClone, copied};
 pub use edits::Edit;
 pub use keyed::{Keyed, are_rising, place};
-pub use table::Table;
+pub use table::{Prepared, Table};

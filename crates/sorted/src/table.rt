@@ -1,5 +1,5 @@
 //! Items in the order of their keys, no key twice.
-ghost use Rattle.std.specs.Prelude.{◌≡◌, ◌<◌, ◌↔◌, ◌++◌, [], ◌∷◌, IsTrue, All, IfOk};
+ghost use Rattle.std.specs.Prelude.{◌≡◌, ◌<◌, ◌≤◌, ◌↔◌, ◌+◌, ◌++◌, [], ◌∷◌, length, IsTrue, All, IfOk};
 ghost use Rattle.std.specs.Prelude.{IfSome, IfNone, OnOk, OnErr, List, IsPermutation, find, option_copied};
 ghost use Rattle.std.specs.Prelude.{if◌then◌else◌};
 ghost use Rattle.std.specs.Ordering.{is_lt};
@@ -7,11 +7,10 @@ ghost use Rattle.terms.specs.Rising.{Rises, with_item};
 ghost use Rattle.sorted.specs.Edits.{edited};
 
 use crate::copies::{TryClone, copied};
-use crate::edits::{Edit, edited};
+use crate::edits::{Edit, make_edits};
 use crate::keyed::{Keyed, are_rising, place, stands_last};
 use std::alloc::{AllocError, Global};
 use std::marker::Model;
-use std::mem;
 
 /// Items that rise by their keys, no key twice. A contract sees them as their list.
 #[derive(Drop)]
@@ -28,6 +27,24 @@ impl<T: Keyed + Drop> Model for Table<T> {
     ghost view = { λ a. a.items.items };
 
     ghost invariant = { λ a. Rises T.Key.cmp T.key_of a.items.items };
+}
+
+/// Edits that can be made of a table without memory: copies of them, and room for what comes of them.
+#[derive(Drop)]
+pub struct Prepared<T: Keyed + Drop> {
+    edits: Table<Edit<T, T::Key>>,
+    room: Vec<T>,
+}
+
+impl<T: Keyed + Drop> Model for Prepared<T> {
+    ghost use Rattle.std.specs.Prelude.{◌≡◌, [], vec_capacity};
+    ghost use Rattle.sorted.specs.Edits.{PreparedEdits};
+
+    ghost Value = { PreparedEdits T T.Key };
+
+    ghost view = { λ p. record { edits = p.edits; room = vec_capacity p.room } };
+
+    ghost invariant = { λ p. p.room.items ≡ [] };
 }
 
 impl<T: Keyed + Drop> Table<T> {
@@ -126,14 +143,28 @@ impl<T: Keyed + TryClone> Table<T> {
         })
     }
 
-    /// Makes the edits, in time that goes with the number of items and edits. What stays is moved, and what an edit
-    /// puts is copied. The error comes where memory runs out, and the table is empty then.
-    pub fn edit(&mut self, alloc: Global, edits: &Table<Edit<T, T::Key>>) -> Result<(), AllocError>
-        ensures ok { OnOk result (self.new ≡ edited T.Key.cmp T.key_of self.old edits.now) }
-        ensures err { OnErr result (self.new ≡ []) }
+    /// These edits, ready to be made of this table. The error comes where memory runs out.
+    pub fn prepare(
+        &self,
+        alloc: Global,
+        edits: &Table<Edit<T, T::Key>>,
+    ) -> Result<Prepared<T>, AllocError>
+        ensures { IfOk result (λ made. (made.edits ≡ edits.now) × (length self.now + length edits.now ≤ made.room)) }
     {
-        let items = mem::replace(&mut self.items, Vec::new(alloc));
-        self.items = edited(alloc, items, edits.as_slice())?;
-        Ok(())
+        let most = self.items.len().checked_add(edits.items.len());
+        Ok(Prepared {
+            edits: edits.try_clone(alloc)?,
+            room: Vec::with_capacity(alloc, most.ok_or(AllocError)?)?,
+        })
+    }
+
+    /// Makes the edits, in time that goes with the number of items and edits. What stays and what an edit puts is moved,
+    /// and nothing takes memory.
+    pub fn edit(&mut self, prepared: Prepared<T>)
+        requires { length self.old + length prepared.edits ≤ prepared.room }
+        ensures { self.new ≡ edited T.Key.cmp T.key_of self.old prepared.edits }
+    {
+        let Prepared { edits, room } = prepared;
+        make_edits(&mut self.items, edits.into_vec(), room);
     }
 }

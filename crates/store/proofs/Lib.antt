@@ -2,6 +2,7 @@ mod Committing
 mod DeltaLemmas
 mod EditLoop
 mod GlobalLemmas
+pub mod Going
 mod Loading
 pub mod NoState
 mod Parts

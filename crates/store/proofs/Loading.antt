@@ -1,5 +1,5 @@
 -- A load, from what its queries read.
-use Rattle.std.proofs.Common.{◌≡◌, ◌≢◌, Result, Ok, Err, IfOk, OnOk, arith, refl, sym, subst, inl, inr}
+use Rattle.std.proofs.Common.{◌≡◌, ◌≢◌, List, Result, Ok, Err, IfOk, OnOk, arith, refl, sym, subst, inl, inr}
 use Rattle.std.specs.Prelude.{IsErrOf, IfErr, OnErr}
 use Rattle.sqlite.specs.Store.{Ghosts}
 use Rattle.sqlite.specs.Tree.{Trees}
@@ -8,6 +8,10 @@ use Rattle.sqlite.specs.State.{HasCleanDisk, IsUnchanged, Survives}
 use Rattle.store_rows.specs.declared.error.ReadError.{ReadError}
 use Rattle.store_rows.specs.declared.error.ReadError.TheVariants as read
 use Rattle.store_rows.specs.Reads.{OnlyReads}
+use Rattle.store_rows.specs.Rows.{Contents, HasContents}
+use Rattle.terms.specs.Types.{Sysmod, Hold, Global, a_global}
+use Rattle.terms.specs.Global.{IsGlobal}
+use Rattle.store_schema.specs.declared.schema.Schema.TheVariants.{Third}
 use Rattle.store_schema.specs.declared.error.StoreError.{StoreError}
 use Rattle.store_schema.specs.declared.error.StoreError.TheVariants.{Fault, OtherSchema, NoState}
 use Rattle.store_schema.specs.Inventory.{Inventory}
@@ -16,6 +20,7 @@ use Rattle.store_schema.specs.Tables.{store_schema}
 use Rattle.store.specs.BadRows.{FoundNoState}
 use Rattle.store.specs.Loads.{Loads, told}
 use Rattle.store.specs.View.{Tables, TablesIfOpen, MayLeave}
+use Rattle.store.specs.Whole.{HoldsLists, HoldsGlobal, ShowsGlobal}
 use Rattle.store.proofs.ViewLemmas.{Settled, IsOutside, still_open}
 
 -- what the queries of a load say
@@ -121,8 +126,6 @@ module _ {S X : Type 0} (g : Ghosts S) (Found : Inventory → X → Type 0) (old
           moment = old;
           since = (omega arith, refl);
           is_open = was.0;
-          inventory = i;
-          is_among = refl;
           stands = stands;
           kept = reads.kept clean;
           why = elim (reads.cause clean (told_fault r failed) stands.tables.schema_is) [
@@ -137,6 +140,28 @@ module _ {S X : Type 0} (g : Ghosts S) (Found : Inventory → X → Type 0) (old
     crash = λ i tables. lost r reads;
     clean = was_clean r reads;
   }
+
+-- lists that are joined, as the rows of a global zone
+pub shows_joined : {S : Type 0} (g : Ghosts S) (at : Held S) (sysmods : List Sysmod) (holds : List Hold)
+    (r : Result Global ReadError)
+    → ((contents : Contents) → HasContents store_schema contents (state g at).now
+    → HoldsLists Third contents sysmods holds)
+    → IfOk r (λ global. global ≡ a_global sysmods holds) → OnOk r (IsGlobal (a_global sysmods holds))
+    → IfOk r (ShowsGlobal g at)
+shows_joined g at sysmods holds (Ok global) rows same whole = λ contents has.
+    subst (HoldsGlobal Third contents) (sym same) (record { lists = rows contents has; whole = whole })
+shows_joined g at sysmods holds (Err e) rows same whole = tt
+
+answer_told : {X : Type 0} (r : Result X ReadError) (P : X → Type 0) → IfOk r P → IfOk (told r) P
+answer_told (Ok x) P h = h
+answer_told (Err e) P h = tt
+
+-- what the rows say of an answer that is told
+pub rows_told : {S X : Type 0} (Says : Held S → X → Type 0) (conn old : Held S) → conn ≡ old → (r : Result X ReadError)
+    (result : Result X StoreError) → result ≡ told r → IfOk r (Says conn) → IfOk result (Says old)
+rows_told {X = X} Says conn old same r result is found =
+    subst (λ h. IfOk result (Says h)) same
+    (subst (λ (x : Result X StoreError). IfOk x (Says conn)) (sym is) (answer_told r (Says conn) found))
 
 -- a load of a store, whose connection it reads
 pub loads_by : {S X : Type 0} (g : Ghosts S) (Found : Inventory → X → Type 0) (conn old new : Held S) → conn ≡ old

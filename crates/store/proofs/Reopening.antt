@@ -10,9 +10,9 @@ use Rattle.sqlite.specs.declared.types.Value.TheVariants.{Null, Int, Real, Text,
 use Rattle.sqlite.specs.Order.{Row, column}
 use Rattle.sqlite.specs.Tree.{Trees, IsAscending}
 use Rattle.sqlite.specs.Table.{Table}
-use Rattle.sqlite.specs.Schema.{Schema}
+use Rattle.sqlite.specs.Schema.{Schema as SqliteSchema}
 use Rattle.sqlite.specs.Held.{Held, state}
-use Rattle.sqlite.specs.State.{HasCleanDisk, IsLive}
+use Rattle.sqlite.specs.State.{IsLive}
 use Rattle.sqlite_schema.specs.declared.schema.Index.{Index}
 use Rattle.sqlite_schema.specs.Names.{same_name}
 use Rattle.sqlite_rules.specs.Lists.{Has}
@@ -21,13 +21,14 @@ use Rattle.sqlite_catalog.specs.Listing.{IsSound, IsTableRow, IsIndexRow, IsView
 use Rattle.sqlite_catalog.specs.Listing.{is_table_row, is_index_row, is_view_row}
 use Rattle.sqlite_catalog.proofs.StepLemmas.{same_itself}
 use Rattle.sqlite_trees.specs.Objects.{catalog_tree}
-use Rattle.store_schema.specs.declared.release.Release.{Release}
-use Rattle.store_schema.specs.declared.release.Release.TheVariants.{First, Second, Third}
+use Rattle.store_schema.specs.declared.schema.Schema.{Schema}
+use Rattle.store_schema.specs.declared.schema.Schema.TheVariants.{First, Second, Third}
 use Rattle.store_schema.specs.Earlier.{tables_under, schema_under, IsEarlierStateOf}
 use Rattle.store_schema.specs.Inventory.{Inventory}
 use Rattle.store_schema.specs.Stands.{StandsFor}
 use Rattle.store_schema.specs.Tables.{index_of, schema_of, store_schema}
-use Rattle.store.specs.View.{Tables, IsFound, IsEarlierFound, MayLeave, Leaves, LeavesEarlier}
+use Rattle.store.specs.View.{IsEarlierFound, MayLeave, Leaves, LeavesEarlier}
+use Rattle.store.specs.Reopened.{FindsAgain}
 
 -- two lists, each item of which goes with the item of a third at its place
 one_zip : {X Y : Type 0} (R : X → Y → Type 0) → ((x : X) (a b : Y) → R x a → R x b → a ≡ b) → (xs : List X)
@@ -122,7 +123,7 @@ no_rows R [] (y ∷ ys) p q = absurd q
 no_rows R (x ∷ xs) ys p q = absurd p
 
 -- what lists tables of one key each lists no other schema
-lists_same : (tables : List Table) (schema : Schema) (db : Trees) → AllByRecursion HasOneKey tables
+lists_same : (tables : List Table) (schema : SqliteSchema) (db : Trees) → AllByRecursion HasOneKey tables
     → IsSound (schema_of tables) db → IsSound schema db → schema ≡ schema_of tables
 lists_same tables schema db keys own other =
     let a = other.lists.listed in
@@ -138,29 +139,30 @@ lists_same tables schema db keys own other =
     ∙ (ap (λ is. record (schema_of tables) { indexes = is; views = schema.views }) indexes
     ∙ ap (λ vs. record (schema_of tables) { views = vs }) views)
 
-keys_under : (r : Release) → AllByRecursion HasOneKey (tables_under r)
+keys_under : (r : Schema) → AllByRecursion HasOneKey (tables_under r)
 keys_under First = (refl, (refl, (refl, (refl, (refl, (refl, (refl, (refl, (refl, tt)))))))))
 keys_under Second = (refl, (refl, (refl, (refl, (refl, (refl, (refl, (refl, (refl, (refl, tt))))))))))
 keys_under Third = (refl, (refl, (refl, (refl, (refl, (refl, (refl, (refl, (refl, (refl, (refl, (refl, (refl, tt)))))))))))))
 
--- what lists a release's tables lists no other schema
-pub lists_release : (r : Release) (schema : Schema) (db : Trees) → IsSound (schema_under r) db → IsSound schema db
+-- what lists the tables of a schema lists those of no other
+pub lists_schema : (r : Schema) (schema : SqliteSchema) (db : Trees) → IsSound (schema_under r) db → IsSound schema db
     → schema ≡ schema_under r
-lists_release r schema db = lists_same (tables_under r) schema db (keys_under r)
+lists_schema r schema db = lists_same (tables_under r) schema db (keys_under r)
 
-lists_own : (schema : Schema) (db : Trees) → IsSound store_schema db → IsSound schema db → schema ≡ store_schema
-lists_own = lists_release Third
+lists_own : (schema : SqliteSchema) (db : Trees) → IsSound store_schema db → IsSound schema db → schema ≡ store_schema
+lists_own = lists_schema Third
 
 -- nor does what lists nothing
-lists_none : (schema : Schema) (db : Trees) → IsSound (schema_of []) db → IsSound schema db → schema ≡ schema_of []
+lists_none : (schema : SqliteSchema) (db : Trees) → IsSound (schema_of []) db → IsSound schema db
+    → schema ≡ schema_of []
 lists_none schema db = lists_same [] schema db tt
 
 -- what is there of a state, under another list of the same trees
-pub same_state : (i : Inventory) (schema other : Schema) (db : Trees) → IsSound schema db → IsSound other db
+pub same_state : (i : Inventory) (schema other : SqliteSchema) (db : Trees) → IsSound schema db → IsSound other db
     → IsEarlierStateOf i (record { schema = schema; trees = db })
     → IsEarlierStateOf i (record { schema = other; trees = db })
 same_state i schema other db sound again is =
-    subst (λ (s : Schema). IsEarlierStateOf i (record { schema = s; trees = db })) (by is) is
+    subst (λ (s : SqliteSchema). IsEarlierStateOf i (record { schema = s; trees = db })) (by is) is
   where
     -- the schema is that of these tables, and so is the other
     known : (tables : List Table) → AllByRecursion HasOneKey tables → schema ≡ schema_of tables → schema ≡ other
@@ -183,23 +185,20 @@ found_left g h old new Among leaves live left is_open =
     let it = leaves db left in
     let own : (state h new).committed.schema ≡ store_schema =
     lists_own (state h new).committed.schema db it.2.tables.sound (live is_open).1 in
-    (it.0, it.1, subst (λ (s : Schema). StandsFor it.0 (record { schema = s; trees = db })) (sym own) it.2)
+    (it.0, it.1, subst (λ (s : SqliteSchema). StandsFor it.0 (record { schema = s; trees = db })) (sym own) it.2)
 
--- A connection that shows what the store last committed finds its inventory. By sqlite's `finds_again` an open of the
--- files that a close gave back shows that.
-pub found_again : {S T : Type 0} (g : Ghosts S) (h : Ghosts T) (old : Held S) (new : Held T) (i : Inventory)
-    → HasCleanDisk (state g old) → Tables g old i → IsLive (state h new)
-    → (state h new).committed.trees ≡ (state g old).committed.trees → IsFound h new i
+-- A connection that shows what the store last committed finds its inventory.
+pub found_again : {S T : Type 0} (g : Ghosts S) (h : Ghosts T) → FindsAgain g h
 found_again g h old new i clean tables live same late is_open =
     let was = tables clean in
     let db = (state g old).committed.trees in
     let schema = (state h new).committed.schema in
     let kept : StandsFor i (record { schema = store_schema; trees = db }) =
-    subst (λ (s : Schema). StandsFor i (record { schema = s; trees = db })) was.1.tables.schema_is was.1 in
+    subst (λ (s : SqliteSchema). StandsFor i (record { schema = s; trees = db })) was.1.tables.schema_is was.1 in
     let own : schema ≡ store_schema = lists_own schema db kept.tables.sound
     (subst (IsSound schema) same (live is_open).1) in
     inr (subst (λ trees. StandsFor i (record { schema = schema; trees = trees })) (sym same)
-    (subst (λ (s : Schema). StandsFor i (record { schema = s; trees = db })) (sym own) kept))
+    (subst (λ (s : SqliteSchema). StandsFor i (record { schema = s; trees = db })) (sym own) kept))
 
 -- The same behind a migration that failed: it finds what that found.
 pub found_earlier : {S T : Type 0} (g : Ghosts S) (h : Ghosts T) (old : Held S) (new : Held T) (i : Inventory)

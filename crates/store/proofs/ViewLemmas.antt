@@ -70,24 +70,21 @@ module _ {S : Type 0} (g : Ghosts S) (conn old new : Held S) (change : Change) (
         | inr done ↦ inr (own_schema j done.0 db (done.1 i j makes inventory was.0 was.1))
       ]
 
-  -- the cause of a fault, among both
-  pub faulted_among : IsOutside g conn → HasCleanDisk (state g new) → KeepsCommit (state g old) (state g new)
-      → FailsToWrite g change old new
-      → (i j : Inventory) → Makes change i j → Tables g old i → HasCause g old new (λ c. (c ≡ i) ⊎ (c ≡ j))
-  faulted_among outside clean kept fails i j makes tables =
+  -- the cause of a fault
+  pub faulted_before : IsOutside g conn → HasCleanDisk (state g new) → KeepsCommit (state g old) (state g new)
+      → FailsToWrite g change old new → (i : Inventory) → Tables g old i → HasCause g old new i (λ own. own ≡ change)
+  faulted_before outside clean kept fails i tables =
       let was = tables (omega (arith, from_old.clean, clean)) in
       record {
         moment = old;
         since = (omega arith, refl);
         is_open = was.0;
-        inventory = i;
-        is_among = inl refl;
         stands = subst (StandsFor i) (sym (subst (IsOutside g) same outside was.0)) was.1;
         kept = kept;
         why = elim fails [
           | inl (inl failed) ↦ inl failed
           | inl (inr shut) ↦ absurd (let is_open = was.0 in cc)
-          | inr refused ↦ inr (inr (change, j, inr refl, makes, refused))
+          | inr refused ↦ inr (inr (change, refl, refused))
         ];
       }
 

@@ -3,7 +3,9 @@ pub mod Calls
 pub mod Causes
 pub mod Changes
 pub mod Commits
+pub mod Courses
 pub mod Loads
+pub mod Reopened
 pub mod View
 pub mod Whole
 pub mod Writes

@@ -34,7 +34,7 @@ pub record Loads {S X : Type 0} (g : Ghosts S) (old new : Held S) (Found : Inven
   pub none : TellsNoState g old new result
   pub reads : OnlyReads g store_schema NoState Fault old new result
   pub cause : HasCleanDisk (state g new) → IsErrOf result Fault → (i : Inventory) → Tables g old i
-      → HasCause g old new (λ c. c ≡ i)
+      → HasCause g old new i (λ _. ⊥)
   pub same : OnOk result ((i : Inventory) → Tables g old i → Tables g new i)
   pub err : OnErr result ((i : Inventory) → Tables g old i → TablesIfOpen g new i)
   pub which : IfErr result (λ e. e ≢ OtherSchema)

@@ -17,11 +17,11 @@ module _ {S : Type 0} (g : Ghosts S) (at : Held S) where
   abbrev pub Tables : Inventory → Type 0
   Tables i = HasCleanDisk (state g at) → IsTrue (state g at).is_open × StandsFor i (state g at).committed
 
-  -- the last commit of a database that may have no tables yet
+  -- the last commit of a database that may have no tables and views yet
   abbrev pub IsFound : Inventory → Type 0
   IsFound i = HasCleanDisk (state g at) → IsTrue (state g at).is_open → IsStateOf i (state g at).committed
 
-  -- the same, under the schema of whichever release
+  -- the same, under whichever schema
   abbrev pub IsEarlierFound : Inventory → Type 0
   IsEarlierFound i =
       HasCleanDisk (state g at) → IsTrue (state g at).is_open → IsEarlierStateOf i (state g at).committed
@@ -36,14 +36,14 @@ module _ {S : Type 0} (g : Ghosts S) (at : Held S) where
       (db : Trees) → MayLeave db
       → (c : Inventory) × Among c × StandsFor c (record { schema = store_schema; trees = db })
 
-  -- the same of a database that may have no tables yet
+  -- the same of a database that may have no tables and views yet
   abbrev pub LeavesFound : Inventory → Type 0
   LeavesFound i =
       (db : Trees) → MayLeave db
       → (schema : Schema) × IsDatabase (record { schema = schema; trees = db })
       × IsStateOf i (record { schema = schema; trees = db })
 
-  -- the same, under the schema of whichever release
+  -- the same, under whichever schema
   abbrev pub LeavesEarlier : Inventory → Type 0
   LeavesEarlier i =
       (db : Trees) → MayLeave db

@@ -11,16 +11,16 @@ ghost use Rattle.store_schema.specs.Earlier.{schema_under, StandsUnder};
 ghost use Rattle.store_schema.specs.Inventory.{Inventory};
 ghost use Rattle.store_schema.specs.Stands.{StandsFor};
 ghost use Rattle.store_schema.specs.Tables.{store_schema};
-ghost use Rattle.store.specs.Whole.{HoldsLists};
+ghost use Rattle.store.specs.Whole.{HoldsLists, ShowsGlobal};
 
 use sqlite::{Alter, Connection};
 use std::alloc::Global;
 use store_holds::load_holds;
 use store_rows::ReadError;
-use store_schema::Release;
+use store_schema::Schema;
 use store_sysmod_loads::load_sysmods;
+use sysmod::{Hold, Sysmod};
 use sysmods::GlobalZone;
-use sysmods_records::{Hold, Sysmod};
 
 /// What the tables of the global zone hold, each list in order.
 #[derive(Drop)]
@@ -29,24 +29,24 @@ pub struct Lists {
     pub holds: Vec<Hold>,
 }
 
-/// The SYSMODs and holds of a database of this release. `BadRow` comes where the rows stand for no such lists, `Memory`
+/// The SYSMODs and holds of a database of this schema. `BadRow` comes where the rows stand for no such lists, `Memory`
 /// where memory is short, and `Fault` where the disk fails or the tables are others.
 pub fn load_lists<S: Alter>(
     alloc: Global,
     conn: &mut Connection<S>,
-    release: Release,
+    schema: Schema,
 ) -> Result<Lists, ReadError>
     ensures found { HasCleanDisk (state S.Store conn.new) → (i : Inventory)
-        → StandsUnder release i (state S.Store conn.old).now
+        → StandsUnder schema i (state S.Store conn.old).now
         → IfOk result (λ lists. a_global lists.sysmods.items lists.holds.items ≡ i.global) }
     ensures none { HasCleanDisk (state S.Store conn.new) → IsErrOf result ReadError.BadRow → (i : Inventory)
-        → ¬ StandsUnder release i (state S.Store conn.old).now }
+        → ¬ StandsUnder schema i (state S.Store conn.old).now }
     ensures rows { HasCleanDisk (state S.Store conn.new) → (contents : Contents)
-        → HasContents (schema_under release) contents (state S.Store conn.old).now
-        → IfOk result (λ lists. HoldsLists release contents lists.sysmods.items lists.holds.items) }
-    ensures reads { OnlyReads S.Store (schema_under release) ReadError.BadRow ReadError.Fault conn.old conn.new result }
+        → HasContents (schema_under schema) contents (state S.Store conn.old).now
+        → IfOk result (λ lists. HoldsLists schema contents lists.sysmods.items lists.holds.items) }
+    ensures reads { OnlyReads S.Store (schema_under schema) ReadError.BadRow ReadError.Fault conn.old conn.new result }
 {
-    let sysmods = load_sysmods(alloc, conn, release)?;
+    let sysmods = load_sysmods(alloc, conn, schema)?;
     let holds = load_holds(alloc, conn)?;
     Ok(Lists { sysmods, holds })
 }
@@ -74,8 +74,9 @@ pub(crate) fn load_global<S: Alter>(
         → IfOk result (λ global. global ≡ i.global) }
     ensures none { HasCleanDisk (state S.Store conn.new) → IsErrOf result ReadError.BadRow → (i : Inventory)
         → ¬ StandsFor i (state S.Store conn.old).now }
+    ensures rows { HasCleanDisk (state S.Store conn.new) → IfOk result (ShowsGlobal S.Store conn.old) }
     ensures reads { OnlyReads S.Store store_schema ReadError.BadRow ReadError.Fault conn.old conn.new result }
 {
-    let lists = load_lists(alloc, conn, Release::Third)?;
+    let lists = load_lists(alloc, conn, Schema::Third)?;
     joined(alloc, lists)
 }

@@ -2,20 +2,23 @@
 //! transaction.
 //! After `commit` the tables stand for the changed inventory, and a crash leaves that one; after an error they stand
 //! for the one before, and a crash leaves one of the two. Also where the tables stand for no inventory, a commit makes
-//! its statements and nothing else, or nothing. What is loaded is the inventory's. A `Fault` has a cause in its call:
-//! the disk failed, or for a commit the database refused one of its statements. No contract says when `Memory` comes.
+//! its statements and nothing else, or nothing, and a global zone that is loaded is that of its rows. What is loaded is
+//! the inventory's. A `Fault` has a cause in its call: the disk failed, or for a commit the database refused one of its
+//! statements. No contract says when `Memory` comes. `found_again` is a law of what the next open finds.
 #![tactic(auto)]
 
 mod change;
 mod delta;
 mod edits;
 mod global_load;
+mod law;
 mod load;
 mod open;
 mod write;
 
 pub use change::Change;
 pub use global_load::{Lists, joined, load_lists};
+pub use law::found_again;
 pub use load::told;
 pub use open::Store;
 pub use store_schema::StoreError;

@@ -1,15 +1,18 @@
 //! What a store's tables hold, read back.
 
-ghost use Rattle.std.specs.Prelude.{◌≡◌, map};
+ghost use Rattle.std.specs.Prelude.{◌≡◌, map, IfOk};
+ghost use Rattle.sqlite.specs.Held.{state};
+ghost use Rattle.sqlite.specs.State.{HasCleanDisk};
 ghost use Rattle.store_zone_loads.specs.Found.{zone_in, head_of};
 ghost use Rattle.store.specs.Loads.{Loads, store_error, told};
+ghost use Rattle.store.specs.Whole.{ShowsGlobal};
 
 use crate::global_load::load_global;
 use crate::open::Store;
 use fields::ZoneName;
 use sqlite::Alter;
 use store_rows::ReadError;
-use store_schema::{Release, StoreError};
+use store_schema::{Schema, StoreError};
 use store_zone_loads::ZoneHead;
 use sysmods::GlobalZone;
 use zones::Zone;
@@ -36,10 +39,11 @@ pub fn told<T>(read: Result<T, ReadError>) -> Result<T, StoreError>
 }
 
 impl<S: Alter> Store<S> {
-    /// The global zone. `Memory` comes where memory runs out, `Fault` where the database fails, and `NoState` where the
-    /// rows stand for none.
+    /// The global zone, also where the rows of zones stand for none. `Memory` comes where memory runs out, `Fault` where
+    /// the database fails, and `NoState` where the rows of the global zone stand for none.
     pub fn load_global(&mut self) -> Result<GlobalZone, StoreError>
-        ensures { Loads S.Store self.old self.new (λ i global. global ≡ i.global) result }
+        ensures loads { Loads S.Store self.old self.new (λ i global. global ≡ i.global) result }
+        ensures rows { HasCleanDisk (state S.Store self.new) → IfOk result (ShowsGlobal S.Store self.old) }
     {
         // So what the connection shows is what it last committed.
         prove!(self.conn.is_autocommit());
@@ -53,7 +57,7 @@ impl<S: Alter> Store<S> {
     {
         // So what the connection shows is what it last committed.
         prove!(self.conn.is_autocommit());
-        told(store_zone_loads::load_zone(self.alloc, &mut self.conn, Release::Third, name))
+        told(store_zone_loads::load_zone(self.alloc, &mut self.conn, Schema::Third, name))
     }
 
     /// All zones without their entries and elements, rising by name. `Memory` comes where memory runs out, `Fault`

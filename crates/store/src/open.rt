@@ -111,9 +111,9 @@ impl<S: Alter> Store<S> {
         ensures which { IfErr result (λ e. (e ≡ StoreError.Fault) ⊎ (e ≡ StoreError.Memory)) }
         ensures cause { HasCleanDisk (state S.Store self.new) → IsErrOf result StoreError.Fault
             → FailsToWrite S.Store change.now self.old self.new }
-        ensures among { HasCleanDisk (state S.Store self.new) → IsErrOf result StoreError.Fault
-            → (i j : Inventory) → Makes change.now i j → Tables S.Store self.old i
-            → HasCause S.Store self.old self.new (λ c. (c ≡ i) ⊎ (c ≡ j)) }
+        ensures before { HasCleanDisk (state S.Store self.new) → IsErrOf result StoreError.Fault
+            → (i : Inventory) → Tables S.Store self.old i
+            → HasCause S.Store self.old self.new i (λ own. own ≡ change.now) }
         ensures clean { HasCleanDisk (state S.Store self.new) → HasCleanDisk (state S.Store self.old) }
     {
         // So what the connection shows is what it last committed.

@@ -1,4 +1,4 @@
 pub mod PartLemmas
-pub mod Releases
+pub mod Schemas
 pub mod TextForms
 mod Found

@@ -8,7 +8,7 @@ ghost use Rattle.sqlite.specs.Values.{bound};
 ghost use Rattle.store_rows.specs.Reads.{OnlyReads};
 ghost use Rattle.store_rows.specs.Rows.{Contents, HasContents};
 ghost use Rattle.store_rows.specs.Texts.{AreTexts};
-ghost use Rattle.store_schema.specs.declared.release.Release.{Release};
+ghost use Rattle.store_schema.specs.declared.schema.Schema.{Schema};
 ghost use Rattle.store_schema.specs.Earlier.{schema_under};
 ghost use Rattle.store_columns.specs.Asked.{asked};
 
@@ -23,7 +23,7 @@ pub trait Query {
     ghost use Rattle.sqlite.specs.Table.{Table};
     ghost use Rattle.store_rows.specs.Selects.{IsSelect};
     ghost use Rattle.store_rows.specs.Texts.{IsTableOf, ReadsRows};
-    ghost use Rattle.store_schema.specs.declared.release.Release.{Release};
+    ghost use Rattle.store_schema.specs.declared.schema.Schema.{Schema};
     ghost use Rattle.store_schema.specs.Earlier.{schema_under};
 
     type Rows: FromRow;
@@ -34,13 +34,13 @@ pub trait Query {
 
     ghost width: { ℕ };
 
-    // The releases whose schemas have the table.
-    ghost knows: { Release → Type 0 };
+    // The schemas that have the table.
+    ghost knows: { Schema → Type 0 };
 
-    /// Its text, which has one meaning under all schemas that have the table. A row says all of its item.
-    fn text() -> &'static str
-        ensures reads { (r : Release) → knows r → ReadsRows (schema_under r) table width result.now }
-        ensures there { (r : Release) → knows r → IsTableOf (schema_under r) at table }
+    /// Its SQL, which has one meaning under all schemas that have the table. A row says all of its item.
+    fn sql() -> &'static str
+        ensures reads { (r : Schema) → knows r → ReadsRows (schema_under r) table width result.now }
+        ensures there { (r : Schema) → knows r → IsTableOf (schema_under r) at table }
         ensures selects { IsSelect result.now }
         ensures exact { (a b : Self.Rows.Item) → Self.Rows.has_form a → Self.Rows.has_form b
             → Self.Rows.row_of a ≡ Self.Rows.row_of b → a ≡ b };
@@ -53,23 +53,23 @@ pub fn load_listed<S: Alter, Q: Query>(
     conn: &mut Connection<S>,
     key: &[ValueRef<'_>],
 ) -> Result<Vec<<Q::Rows as FromRow>::Item>, ReadError>
-    ensures found { HasCleanDisk (state S.Store conn.new) → length key.now ≡ Q.width → (r : Release) → Q.knows r
+    ensures found { HasCleanDisk (state S.Store conn.new) → length key.now ≡ Q.width → (r : Schema) → Q.knows r
         → (contents : Contents) → HasContents (schema_under r) contents (state S.Store conn.old).now
         → IfOk result (λ items. IsPermutation (map Q.Rows.row_of items.items)
         (asked (bound key.now) (contents Q.table.tree))) }
     ensures forms { IfOk result (λ items. AllByRecursion Q.Rows.has_form items.items) }
-    ensures only { HasCleanDisk (state S.Store conn.new) → length key.now ≡ Q.width → (r : Release) → Q.knows r
+    ensures only { HasCleanDisk (state S.Store conn.new) → length key.now ≡ Q.width → (r : Schema) → Q.knows r
         → (contents : Contents) → HasContents (schema_under r) contents (state S.Store conn.old).now
         → IfOk result (λ items. (xs : List Q.Rows.Item) → AllByRecursion Q.Rows.has_form xs
         → IsPermutation (map Q.Rows.row_of xs) (asked (bound key.now) (contents Q.table.tree))
         → IsPermutation items.items xs) }
     ensures none { HasCleanDisk (state S.Store conn.new) → IsErrOf result ReadError.BadRow
-        → length key.now ≡ Q.width → (r : Release) → Q.knows r → (contents : Contents)
+        → length key.now ≡ Q.width → (r : Schema) → Q.knows r → (contents : Contents)
         → HasContents (schema_under r) contents (state S.Store conn.old).now
         → (xs : List Q.Rows.Item) → AllByRecursion Q.Rows.has_form xs
         → ¬ IsPermutation (map Q.Rows.row_of xs) (asked (bound key.now) (contents Q.table.tree)) }
-    ensures reads { length key.now ≡ Q.width → AreTexts (bound key.now) → (r : Release) → Q.knows r
+    ensures reads { length key.now ≡ Q.width → AreTexts (bound key.now) → (r : Schema) → Q.knows r
         → OnlyReads S.Store (schema_under r) ReadError.BadRow ReadError.Fault conn.old conn.new result }
 {
-    load::<S, Q::Rows>(alloc, conn, Q::text(), key)
+    load::<S, Q::Rows>(alloc, conn, Q::sql(), key)
 }

@@ -6,13 +6,13 @@ use Rattle.sqlite_tied.specs.Compute.{everything}
 use Rattle.store_rows.specs.Selects.{IsSelect}
 use Rattle.store_rows.specs.Texts.{IsTableOf, ReadsRows, Suits}
 use Rattle.store_rows.proofs.Typed.{none_typed}
-use Rattle.store_schema.specs.declared.release.Release.{Release}
-use Rattle.store_schema.specs.declared.release.Release.TheVariants.{First, Second, Third}
+use Rattle.store_schema.specs.declared.schema.Schema.{Schema}
+use Rattle.store_schema.specs.declared.schema.Schema.TheVariants.{First, Second, Third}
 use Rattle.store_schema.specs.Earlier.{schema_under}
 use Rattle.store_schema.specs.Tables.{hold, first_tables, schema_of}
-use Rattle.store_columns.proofs.Releases.{under_each}
+use Rattle.store_columns.proofs.Schemas.{under_each}
 
-pub has_hold : (r : Release) → IsTableOf (schema_under r) 4 hold
+pub has_hold : (r : Schema) → IsTableOf (schema_under r) 4 hold
 has_hold First = record { found = refl; alone = refl }
 has_hold Second = record { found = refl; alone = refl }
 has_hold Third = record { found = refl; alone = refl }
@@ -34,7 +34,7 @@ reads_first more = record {
   narrow = omega arith;
 }
 
-pub reads_holds : (r : Release) → ReadsRows (schema_under r) hold 0 select_holds
+pub reads_holds : (r : Schema) → ReadsRows (schema_under r) hold 0 select_holds
 reads_holds r = under_each (λ schema. ReadsRows schema hold 0 select_holds) reads_first r
 
 pub selects_holds : IsSelect select_holds

@@ -12,7 +12,7 @@ ghost use Rattle.sqlite.specs.Values.{or_null};
 ghost use Rattle.store_rows.specs.Reads.{OnlyReads};
 ghost use Rattle.store_rows.specs.Rows.{Contents, HasContents};
 ghost use Rattle.store_schema.specs.Rows.{hold_row};
-ghost use Rattle.store_schema.specs.declared.release.Release.{Release};
+ghost use Rattle.store_schema.specs.declared.schema.Schema.{Schema};
 ghost use Rattle.store_schema.specs.Earlier.{schema_under, StandsUnder};
 ghost use Rattle.store_schema.specs.Tables.{hold as hold_table};
 ghost use Rattle.terms.specs.Forms.{IsReason};
@@ -28,7 +28,7 @@ use sqlite::{Alter, Connection, Row};
 use std::alloc::Global;
 use store_columns::{Query, class_in, flag_in, hold_date_in, hold_kind_in, id_in, load_listed};
 use store_rows::{FromRow, ReadError, optional_text, text};
-use sysmods_records::Hold;
+use sysmod::Hold;
 use terms::HoldKind;
 
 /// Whether the reason suits the kind.
@@ -144,7 +144,7 @@ impl Query for Holds {
 
     ghost knows = { λ r. ⊤ };
 
-    fn text() -> &'static str {
+    fn sql() -> &'static str {
         "SELECT id, kind, reason, fmid, class, date, comment, internal FROM hold"
     }
 }
@@ -162,19 +162,19 @@ fn by_key(mut holds: Vec<Hold>) -> Vec<Hold>
 /// All holds, by id, kind and reason. `BadRow` comes where a row is no hold, `Memory` where memory is short, and
 /// `Fault` where the disk fails or the tables are others.
 pub fn load_holds<S: Alter>(alloc: Global, conn: &mut Connection<S>) -> Result<Vec<Hold>, ReadError>
-    ensures found { HasCleanDisk (state S.Store conn.new) → (r : Release) (contents : Contents)
+    ensures found { HasCleanDisk (state S.Store conn.new) → (r : Schema) (contents : Contents)
         → HasContents (schema_under r) contents (state S.Store conn.old).now
         → IfOk result (λ holds. IsPermutation (map hold_row holds.items) (contents hold_table.tree)) }
-    ensures ordered { HasCleanDisk (state S.Store conn.new) → (r : Release) (i : Inventory)
+    ensures ordered { HasCleanDisk (state S.Store conn.new) → (r : Schema) (i : Inventory)
         → StandsUnder r i (state S.Store conn.old).now → IfOk result (λ holds. holds.items ≡ i.global.holds) }
     ensures forms { IfOk result (λ holds. AllByRecursion HasHoldForms holds.items) }
-    ensures none { HasCleanDisk (state S.Store conn.new) → IsErrOf result ReadError.BadRow → (r : Release)
+    ensures none { HasCleanDisk (state S.Store conn.new) → IsErrOf result ReadError.BadRow → (r : Schema)
         → (contents : Contents) → HasContents (schema_under r) contents (state S.Store conn.old).now
         → (holds : List terms.Hold) → AllByRecursion HasHoldForms holds
         → ¬ IsPermutation (map hold_row holds) (contents hold_table.tree) }
-    ensures no_state { HasCleanDisk (state S.Store conn.new) → IsErrOf result ReadError.BadRow → (r : Release)
+    ensures no_state { HasCleanDisk (state S.Store conn.new) → IsErrOf result ReadError.BadRow → (r : Schema)
         → (i : Inventory) → ¬ StandsUnder r i (state S.Store conn.old).now }
-    ensures reads { (r : Release) → OnlyReads S.Store (schema_under r) ReadError.BadRow ReadError.Fault conn.old
+    ensures reads { (r : Schema) → OnlyReads S.Store (schema_under r) ReadError.BadRow ReadError.Fault conn.old
         conn.new result }
 {
     let holds = load_listed::<S, Holds>(alloc, conn, &[])?;

@@ -18,7 +18,7 @@ use fields::{Class, HoldDate, Id, Reason};
 use sqlite::{Alter, Error, Transaction};
 use sqlite_value::value::ValueRef;
 use store_rows::{put, remove};
-use sysmods_records::Hold;
+use sysmod::Hold;
 use terms::HoldKind;
 
 fn class_value(class: &Option<Class>) -> ValueRef<'_>

@@ -8,7 +8,7 @@ use Rattle.std.proofs.lemmas.List.{map-append, take_more, take_all}
 use Rattle.lemmas.proofs.Each.{recursion_append}
 use Rattle.lemmas.proofs.Texts.{same_itself}
 use Rattle.sqlite.specs.Held.{Held, state}
-use Rattle.sqlite.specs.Schema.{Schema}
+use Rattle.sqlite.specs.Schema.{Schema as SqliteSchema}
 use Rattle.sqlite.specs.State.{HasCleanDisk}
 use Rattle.sqlite.specs.Store.{Ghosts}
 use Rattle.sqlite.proofs.StateLemmas.{unchanged}
@@ -22,7 +22,7 @@ use Rattle.store_rows.specs.Rows.{Contents, has_key}
 use Rattle.store_rows.proofs.Keys.{equals, and_true}
 use Rattle.store_rows.proofs.RowLemmas.{has_permuted, mapped, unmapped}
 use Rattle.terms.specs.Types.{Zone, NamedZone}
-use Rattle.store_schema.specs.declared.release.Release.{Release}
+use Rattle.store_schema.specs.declared.schema.Schema.{Schema}
 use Rattle.store_schema.specs.Inventory.{Inventory}
 use Rattle.store_schema.specs.Tables.{zone}
 use Rattle.store_zone_loads.proofs.Heads.{same_head}
@@ -37,7 +37,7 @@ abbrev pub done : Result (Unit {0}) ReadError
 done = Ok (tt {0})
 
 -- before anything was read
-pub reads_none : {S : Type 0} (g : Ghosts S) (schema : Schema) (at : Held S)
+pub reads_none : {S : Type 0} (g : Ghosts S) (schema : SqliteSchema) (at : Held S)
     → (HasCleanDisk (state g at) → IsTrue (state g at).is_open) → OnlyReads g schema BadRow Fault at at done
 reads_none g schema at is_open = record {
   same = λ clean. unchanged (state g at) (is_open clean);
@@ -49,12 +49,12 @@ reads_none g schema at is_open = record {
 }
 
 -- these are the zones of the first heads
-pub record HoldsFirst (r : Release) (c : Contents) (heads : List ZoneHead) (zones : List NamedZone) : Type 0 where
+pub record HoldsFirst (r : Schema) (c : Contents) (heads : List ZoneHead) (zones : List NamedZone) : Type 0 where
   pub are : map head_of zones ≡ heads
   pub each : AllByRecursion (HoldsZone c) zones
   pub numbers : AllByRecursion (HoldsNumbers r c) zones
 
-pub first_none : (r : Release) (c : Contents) → HoldsFirst r c [] []
+pub first_none : (r : Schema) (c : Contents) → HoldsFirst r c [] []
 first_none r c = record { are = refl; each = tt; numbers = tt }
 
 -- a zone that was read by the name of a head has it
@@ -70,7 +70,7 @@ has_head c heads head z h there own =
       | inr none ↦ absurd none
     ]
 
-pub first_more : (r : Release) (c : Contents) (heads : List ZoneHead) (i : ℕ) (head : ZoneHead)
+pub first_more : (r : Schema) (c : Contents) (heads : List ZoneHead) (i : ℕ) (head : ZoneHead)
     (zones : List NamedZone) (z : Zone) → i < length heads → head ≡ get_or heads i head → HoldsHeads c heads
     → HoldsFirst r c (take i heads) zones → HoldsUnder r c head.name (Some z)
     → HoldsFirst r c (take (i + 1) heads) (zones ++ record { name = head.name; zone = z } ∷ [])
@@ -85,7 +85,7 @@ first_more r c heads i head zones z within at all first own =
       numbers = recursion_append (HoldsNumbers r c) zones (named ∷ []) first.numbers (own.0, tt);
     }
 
-pub first_all : (r : Release) (c : Contents) (heads : List ZoneHead) (i : ℕ) (zones : List NamedZone)
+pub first_all : (r : Schema) (c : Contents) (heads : List ZoneHead) (i : ℕ) (zones : List NamedZone)
     → length heads ≤ i → HoldsHeads c heads → HoldsFirst r c (take i heads) zones → HoldsZones r c zones
 first_all r c heads i zones end all first = record {
   heads = subst (HoldsHeads c) (sym (first.are ∙ take_all i heads (omega (arith, end)))) all;

@@ -16,19 +16,19 @@ use Rattle.store_rows.proofs.Queries.{keeps_then, reads_then}
 use Rattle.store_rows.proofs.Selects.{unchanged_keeps}
 use Rattle.store_schema.specs.declared.error.StoreError.{StoreError}
 use Rattle.store_schema.specs.declared.error.StoreError.TheVariants.{Fault, OtherSchema, NoState, Memory}
-use Rattle.store_schema.specs.declared.release.Release.{Release}
-use Rattle.store_schema.specs.declared.release.Release.TheVariants.{Third}
+use Rattle.store_schema.specs.declared.schema.Schema.{Schema}
+use Rattle.store_schema.specs.declared.schema.Schema.TheVariants.{Third}
 use Rattle.store_schema.specs.Create.{IsBlank}
 use Rattle.store_schema.specs.Earlier.{schema_under, StandsUnder, IsEarlierStateOf}
 use Rattle.store_schema.specs.Inventory.{Inventory, empty_inventory}
-use Rattle.store_schema.specs.Known.{HasTablesUnder, HasUnknownNumber, HasOtherNumber, HasNoState, HasNoRelease, told}
+use Rattle.store_schema.specs.Known.{HasTablesUnder, HasUnknownNumber, HasOtherNumber, HasNoState, HasNoSchema, told}
 use Rattle.store_schema.specs.Stands.{StandsFor, IsStateOf, IsSetUp}
 use Rattle.store_migration.specs.declared.head.Head.{Head}
 use Rattle.store_migration.specs.TakenOver.{heads_under, Takes, IsTaken}
 use Rattle.store_migration.specs.Checked.{Checks}
 use Rattle.store.specs.Loads.{store_error, told as told_read}
 use Rattle.store_migration.specs.Migrated.{HasNoEarlierState, HasRowids, IsTakenOver, Migrates}
-use Rattle.store_migration.proofs.Releases.{is_earlier, of_blank, of_release, not_blank, only_third, shows_none, told_is}
+use Rattle.store_migration.proofs.Schemas.{is_earlier, of_blank, of_schema, not_blank, only_third, shows_none, told_is}
 use Rattle.store.proofs.ViewLemmas.{IsOutside, own_schema}
 
 kept_err : {Y : Type 0} (a b : State) (r : Result Y StoreError) → (IsTrue b.is_open → IsTrue a.is_open)
@@ -83,15 +83,15 @@ module _ {S : Type 0} (g : Ghosts S) (old : Held S) (live : IsLive (state g old)
       (survives_weaker (state g old) (state g new) (λ _. ⊥) (IsTakenOver (state g old).now) (λ clean db no. absurd no)
       crash) mode
 
-  -- ---- the tables are no release's
+  -- ---- the tables are no schema's
 
-  pub no_release : {X Y : Type 0} (new : Held S) (q : Result X StoreError) (e : StoreError) (r : Result Y StoreError)
+  pub no_schema : {X Y : Type 0} (new : Held S) (q : Result X StoreError) (e : StoreError) (r : Result Y StoreError)
       → q ≡ Err e → IsErrAnd r (λ z. z ≡ e)
       → (HasCleanDisk (state g new) → IsErrOf q OtherSchema → HasUnknownNumber (state g old))
-      → (HasCleanDisk (state g new) → IsErrOf q NoState → HasNoRelease (state g old))
+      → (HasCleanDisk (state g new) → IsErrOf q NoState → HasNoSchema (state g old))
       → (HasCleanDisk (state g new) → KeepsCommit (state g old) (state g new))
       → Survives (state g old) (state g new) (λ _. ⊥) → new.in_transaction ≡ false → Migrates g old new r
-  no_release new q e r found is other none kept crash mode =
+  no_schema new q e r found is other none kept crash mode =
       failed_early new r e is
       (λ clean it. other clean (found ∙ ap (λ z. Err z) it))
       (λ clean it.
@@ -99,7 +99,7 @@ module _ {S : Type 0} (g : Ghosts S) (old : Held S) (live : IsLive (state g old)
       record { none = no.none; which = inr no })
       kept crash mode
 
-  -- ---- there are no tables
+  -- ---- there are no tables and views
 
   pub tables_made : {X : Type 0} (new : Held S) (r : Result X StoreError) → IsBlank (state g old).now
       → (HasCleanDisk (state g new) → OnOk r ((i : Inventory) → IsStateOf i (state g old).now
@@ -135,20 +135,20 @@ module _ {S : Type 0} (g : Ghosts S) (old : Held S) (live : IsLive (state g old)
       no_none : HasCleanDisk (state g new) → IsErrOf r NoState → ⊥
       no_none clean it = (none clean it).none empty_inventory (inl (blank, refl))
 
-  -- ---- the tables are a release's
+  -- ---- the tables are a schema's
 
-  module _ (release : Release) where
+  module _ (schema : Schema) where
     -- what was read behind a look at the tables
     pub checks_then : (mid new : Held S) (q : Result (Vec Head AnyGlobal) ReadError)
         → (HasCleanDisk (state g mid) → IsUnchanged (state g old) (state g mid))
-        → Survives (state g old) (state g mid) (λ _. ⊥) → mid.in_transaction ≡ false → Checks g release mid new q
-        → Checks g release old new q
+        → Survives (state g old) (state g mid) (λ _. ⊥) → mid.in_transaction ≡ false → Checks g schema mid new q
+        → Checks g schema old new q
     checks_then mid new q same crash mode c = record {
-      found = λ clean i stands. c.found clean i (subst (StandsUnder release i) (sym (now clean)) stands);
-      none = λ clean bad i stands. c.none clean bad i (subst (StandsUnder release i) (sym (now clean)) stands);
-      stood = λ clean. subst (λ db. OnOk q (IsDatabase db → HasTablesUnder release db → HasRowids db
-          → (i : Inventory) × StandsUnder release i db)) (now clean) (c.stood clean);
-      reads = reads_then g (schema_under release) read.BadRow read.Fault old mid new (Ok (tt {0})) (tt {0}) q refl (
+      found = λ clean i stands. c.found clean i (subst (StandsUnder schema i) (sym (now clean)) stands);
+      none = λ clean bad i stands. c.none clean bad i (subst (StandsUnder schema i) (sym (now clean)) stands);
+      stood = λ clean. subst (λ db. OnOk q (IsDatabase db → HasTablesUnder schema db → HasRowids db
+          → (i : Inventory) × StandsUnder schema i db)) (now clean) (c.stood clean);
+      reads = reads_then g (schema_under schema) read.BadRow read.Fault old mid new (Ok (tt {0})) (tt {0}) q refl (
           record {
             same = λ clean. same clean;
             bad = λ clean it. absurd cc;
@@ -164,8 +164,8 @@ module _ {S : Type 0} (g : Ghosts S) (old : Held S) (live : IsLive (state g old)
         now clean = (same (omega (arith, c.reads.crash.clean, clean))).0.now_is
 
     -- `mid` is behind what was read
-    module _ (mid : Held S) (known : HasCleanDisk (state g mid) → HasTablesUnder release (state g old).now)
-        (q : Result (Vec Head AnyGlobal) ReadError) (c : Checks g release old mid q) where
+    module _ (mid : Held S) (known : HasCleanDisk (state g mid) → HasTablesUnder schema (state g old).now)
+        (q : Result (Vec Head AnyGlobal) ReadError) (c : Checks g schema old mid q) where
       pub not_checked : {Y : Type 0} (e : StoreError) (r : Result Y StoreError) → told_read q ≡ Err e
           → IsErrAnd r (λ z. z ≡ e) → mid.in_transaction ≡ false → Migrates g old mid r
       not_checked e r found is mode = by q refl
@@ -184,8 +184,8 @@ module _ {S : Type 0} (g : Ghosts S) (old : Held S) (live : IsLive (state g old)
           bad_rows clean bad =
               let own = known clean in
               record {
-                none = λ i at. c.none clean bad i (of_release release i (state g old).now own.schema at);
-                which = inl (release, own);
+                none = λ i at. c.none clean bad i (of_schema schema i (state g old).now own.schema at);
+                which = inl (schema, own);
               }
 
           by : (z : Result (Vec Head AnyGlobal) ReadError) → q ≡ z → Migrates g old mid r
@@ -197,36 +197,36 @@ module _ {S : Type 0} (g : Ghosts S) (old : Held S) (live : IsLive (state g old)
               (λ clean p. bad_rows clean (at ∙ ap (λ z. Err z) (bad_from why (same ∙ p))))
               c.reads.kept c.reads.crash mode
 
-    module _ (mid : Held S) (known : HasCleanDisk (state g mid) → HasTablesUnder release (state g old).now)
-        (q : Result (Vec Head AnyGlobal) ReadError) (c : Checks g release old mid q) (heads : Vec Head AnyGlobal)
+    module _ (mid : Held S) (known : HasCleanDisk (state g mid) → HasTablesUnder schema (state g old).now)
+        (q : Result (Vec Head AnyGlobal) ReadError) (c : Checks g schema old mid q) (heads : Vec Head AnyGlobal)
         (is : q ≡ Ok heads) where
       unchanged : HasCleanDisk (state g mid) → IsUnchanged (state g old) (state g mid)
       unchanged clean = subst (λ z. OnOk z (IsUnchanged (state g old) (state g mid))) is (c.reads.same clean)
 
       stood_for : HasCleanDisk (state g mid) → HasRowids (state g old).now
-          → (i : Inventory) × StandsUnder release i (state g old).now
+          → (i : Inventory) × StandsUnder schema i (state g old).now
       stood_for clean rowids =
-          let stood = subst (λ z. OnOk z (IsDatabase (state g old).now → HasTablesUnder release (state g old).now
-          → HasRowids (state g old).now → (i : Inventory) × StandsUnder release i (state g old).now)) is (c.stood clean)
+          let stood = subst (λ z. OnOk z (IsDatabase (state g old).now → HasTablesUnder schema (state g old).now
+          → HasRowids (state g old).now → (i : Inventory) × StandsUnder schema i (state g old).now)) is (c.stood clean)
           in
           stood (live (unchanged clean).0.was_open).0 (known clean) rowids
 
-      heads_are : HasCleanDisk (state g mid) → (i : Inventory) → StandsUnder release i (state g old).now
-          → heads.items ≡ heads_under release i
-      heads_are clean i stands = subst (λ z. IfOk z (λ h. h.items ≡ heads_under release i)) is (c.found clean i stands)
+      heads_are : HasCleanDisk (state g mid) → (i : Inventory) → StandsUnder schema i (state g old).now
+          → heads.items ≡ heads_under schema i
+      heads_are clean i stands = subst (λ z. IfOk z (λ h. h.items ≡ heads_under schema i)) is (c.found clean i stands)
 
       under : HasCleanDisk (state g mid) → (i : Inventory) → IsEarlierStateOf i (state g old).now
-          → StandsUnder release i (state g old).now
-      under clean i at = of_release release i (state g old).now
+          → StandsUnder schema i (state g old).now
+      under clean i at = of_schema schema i (state g old).now
           (known clean).schema at
 
       -- they are the store's own
-      pub own_kept : {Y : Type 0} (y : Y) → release ≡ Third → IsOutside g old → mid.in_transaction ≡ false
+      pub own_kept : {Y : Type 0} (y : Y) → schema ≡ Third → IsOutside g old → mid.in_transaction ≡ false
           → Migrates g old mid (Ok y)
       own_kept y third outside mode = record {
         stood = λ clean rowids.
             let it = stood_for clean rowids in
-            (it.0, is_earlier release it.0 (state g old).now it.1);
+            (it.0, is_earlier schema it.0 (state g old).now it.1);
         stands = λ clean i at.
             let same = unchanged clean in
             record {
@@ -249,8 +249,8 @@ module _ {S : Type 0} (g : Ghosts S) (old : Held S) (live : IsLive (state g old)
       }
 
       -- they are taken over
-      module _ (new : Held S) (earlier : release ≢ Third)
-          (crash : Survives (state g mid) (state g new) (IsTaken release heads.items (state g mid).now))
+      module _ (new : Held S) (earlier : schema ≢ Third)
+          (crash : Survives (state g mid) (state g new) (IsTaken schema heads.items (state g mid).now))
           (mode : new.in_transaction ≡ false) where
         clean_mid : HasCleanDisk (state g new) → HasCleanDisk (state g mid)
         clean_mid clean = omega (arith, crash.clean, clean)
@@ -258,36 +258,36 @@ module _ {S : Type 0} (g : Ghosts S) (old : Held S) (live : IsLive (state g old)
         pub all_crash : Survives (state g old) (state g new) (IsTakenOver (state g old).now)
         all_crash =
             survives_then (state g old) (state g mid) (state g new) (λ _. ⊥)
-            (IsTaken release heads.items (state g mid).now) (IsTakenOver (state g old).now) (λ _ db no. absurd no)
+            (IsTaken schema heads.items (state g mid).now) (IsTakenOver (state g old).now) (λ _ db no. absurd no)
             (λ clean db taken rowids.
             let early = clean_mid clean in
             let it = stood_for early rowids in (
               it.0,
-              is_earlier release it.0 (state g old).now it.1,
+              is_earlier schema it.0 (state g old).now it.1,
               own_schema it.0 taken.0 db (taken.1 it.0 (heads_are early it.0 it.1)
-                  (subst (StandsUnder release it.0) (sym (unchanged early).0.now_is) it.1)),
+                  (subst (StandsUnder schema it.0) (sym (unchanged early).0.now_is) it.1)),
             ))
             c.reads.crash crash
 
         pub all_taken : {Y : Type 0} (y : Y)
-            → (HasCleanDisk (state g new) → Takes release heads.items (state g mid).now (state g new).committed)
+            → (HasCleanDisk (state g new) → Takes schema heads.items (state g mid).now (state g new).committed)
             → (HasCleanDisk (state g new) → IsTrue (state g new).is_open)
             → (HasCleanDisk (state g new) → IsTrue (state g new).is_open → IsTrue (state g mid).is_open)
             → Migrates g old new (Ok y)
         all_taken y made is_open was_open = record {
           stood = λ clean rowids.
               let it = stood_for (clean_mid clean) rowids in
-              (it.0, is_earlier release it.0 (state g old).now it.1);
+              (it.0, is_earlier schema it.0 (state g old).now it.1);
           stands = λ clean i at.
               let early = clean_mid clean in
               let stands = under early i at in
               record {
                 is_open = is_open clean;
                 stands = made clean i (heads_are early i stands)
-                    (subst (StandsUnder release i) (sym (unchanged early).0.now_is) stands);
+                    (subst (StandsUnder schema i) (sym (unchanged early).0.now_is) stands);
               };
           is_open = is_open;
-          same = λ clean own. absurd (earlier (only_third release (sym (known (clean_mid clean)).schema ∙ own)));
+          same = λ clean own. absurd (earlier (only_third schema (sym (known (clean_mid clean)).schema ∙ own)));
           other = λ clean it. absurd cc;
           none = λ clean it. absurd cc;
           unwritten = λ why. elim why [ inl it ↦ absurd cc | inr it ↦ absurd cc ];

@@ -16,8 +16,8 @@ use Rattle.store_schema.specs.Forms.{VerSuitsKind, HasSysmodForms, HasVerForms, 
 use Rattle.store_schema.specs.Forms.{HasActionForms, is_change_before}
 use Rattle.store_schema.specs.Earlier.{HasShortSources}
 use Rattle.store_schema.specs.Rows.{numbered_behind}
-use Rattle.store_schema.specs.declared.release.Release.{Release}
-use Rattle.store_schema.specs.declared.release.Release.TheVariants.{First, Second, Third}
+use Rattle.store_schema.specs.declared.schema.Schema.{Schema}
+use Rattle.store_schema.specs.declared.schema.Schema.TheVariants.{First, Second, Third}
 use Rattle.lemmas.proofs.Orderings.{lower_first}
 use Rattle.store_schema.proofs.Numbered.{numbered_is}
 use Rattle.store_sysmod_loads.specs.Built.{MayDo, IsBuilt}
@@ -112,12 +112,12 @@ sysmod_forms s head vers ifs elems b = record {
 
 -- ---- all
 
-long_forms : (r : Release) (s : Sysmod) → HasFormsUnder r (head_of s) → HasHeadForms (head_of s)
+long_forms : (r : Schema) (s : Sysmod) → HasFormsUnder r (head_of s) → HasHeadForms (head_of s)
 long_forms First s h = h.0
 long_forms Second s h = h
 long_forms Third s h = h
 
-all_formed : (r : Release) (ss : List Sysmod) → AllByRecursion (HasFormsUnder r) (map head_of ss)
+all_formed : (r : Schema) (ss : List Sysmod) → AllByRecursion (HasFormsUnder r) (map head_of ss)
     → AllByRecursion HasVerRowForms (all_vers ss) → AllByRecursion HasIfRowForms (all_ifs ss)
     → AllByRecursion HasElemRowForms (all_elems ss) → AllByRecursion IsBuilt ss → AllByRecursion HasSysmodForms ss
 all_formed r [] heads vers ifs elems built = tt
@@ -131,7 +131,7 @@ all_formed r (s ∷ ss) heads vers ifs elems built = (
       (recursion_back HasElemRowForms (elem_rows s.id s.changes) (all_elems ss) elems) built.1,
 )
 
-pub sysmods_forms : (r : Release) (ss : List Sysmod) → AreFormed r ss → All HasSysmodForms ss
+pub sysmods_forms : (r : Schema) (ss : List Sysmod) → AreFormed r ss → All HasSysmodForms ss
 sysmods_forms r ss f =
     All-from_recursion HasSysmodForms ss (all_formed r ss f.heads f.vers f.ifs f.elems f.whole.built)
 

@@ -8,7 +8,7 @@ mod Formed
 mod Migrating
 mod Parents
 mod Parted
-mod Releases
+mod Schemas
 mod Standing
 mod Ending
 mod Zones

@@ -6,7 +6,7 @@ use Rattle.lemmas.proofs.Each.{recursion_weaker}
 use Rattle.sqlite.specs.Store.{Ghosts}
 use Rattle.sqlite.specs.Effect.{Database, IsDatabase}
 use Rattle.sqlite.specs.Held.{Held, state}
-use Rattle.sqlite.specs.Schema.{Schema}
+use Rattle.sqlite.specs.Schema.{Schema as SqliteSchema}
 use Rattle.sqlite.specs.State.{HasCleanDisk, KeepsCommit}
 use Rattle.sqlite.specs.Table.{Table}
 use Rattle.sqlite.specs.Tree.{Trees, rowid}
@@ -17,7 +17,7 @@ use Rattle.store_schema.specs.Earlier.{first_rows_of, second_rows_of, IsEarlierS
 use Rattle.store_schema.specs.Inventory.{Inventory}
 use Rattle.store_schema.specs.Stands.{StandsFor, rows_of}
 use Rattle.store_schema.specs.Tables.{store_schema}
-use Rattle.store_schema.specs.declared.release.Release.TheVariants.{First, Second}
+use Rattle.store_schema.specs.declared.schema.Schema.TheVariants.{First, Second}
 use Rattle.store_schema.proofs.OneState.{one_earlier_state}
 use Rattle.store_migration.specs.Migrated.{HasRowids, IsTakenOver, Migrated, Unmigrated, Migrates, NextMigrationFinds, NextOpenFinds}
 use Rattle.store.specs.View.{IsEarlierFound, LeavesEarlier}
@@ -27,15 +27,17 @@ use Rattle.store.proofs.ViewLemmas.{Settled, IsOutside, leaves_committed}
 abbrev IsNumbered : Database → Table → Type 0
 IsNumbered db t = AreNumbered (map (λ r. rowid r ∷ shown t r) (db.trees t.tree))
 
-rowids_in : (schema : Schema) (contents : Contents) (db : Database) → HasContents schema contents db → HasRowids db
+rowids_in : (schema : SqliteSchema) (contents : Contents) (db : Database) → HasContents schema contents db
+    → HasRowids db
 rowids_in schema contents db h =
-    subst (λ (s : Schema). AllByRecursion (IsNumbered db) s.tables) (sym h.schema_is)
+    subst (λ (s : SqliteSchema). AllByRecursion (IsNumbered db) s.tables) (sym h.schema_is)
     (recursion_weaker (λ t. AreRows t (contents t.tree) (db.trees t.tree)) (IsNumbered db) (λ t rows. rows.numbered)
     schema.tables h.tables)
 
 -- where there is a state, no two rows have one rowid
 pub has_rowids : (i : Inventory) (db : Database) → IsEarlierStateOf i db → HasRowids db
-has_rowids i db (inl (inl blank)) = subst (λ (s : Schema). AllByRecursion (IsNumbered db) s.tables) (sym blank.0) tt
+has_rowids i db (inl (inl blank)) = subst (λ (s : SqliteSchema). AllByRecursion (IsNumbered db) s.tables)
+    (sym blank.0) tt
 has_rowids i db (inl (inr stands)) = rowids_in store_schema (rows_of i) db stands.tables
 has_rowids i db (inr (inl stands)) = rowids_in (schema_under First) (first_rows_of i) db stands.tables
 has_rowids i db (inr (inr stands)) = rowids_in (schema_under Second) (second_rows_of i) db stands.tables

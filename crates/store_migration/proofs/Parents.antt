@@ -27,8 +27,8 @@ use Rattle.store_rows.specs.Rows.{Contents, HasContents, AreRows, has_key, shown
 use Rattle.store_rows.proofs.RowLemmas.{has_permuted, mapped, unmapped}
 use Rattle.lemmas.proofs.Booleans.{false_from_not}
 use Rattle.terms.specs.Types.{NamedZone}
-use Rattle.store_schema.specs.declared.release.Release.{Release}
-use Rattle.store_schema.specs.declared.release.Release.TheVariants.{First, Second, Third}
+use Rattle.store_schema.specs.declared.schema.Schema.{Schema}
+use Rattle.store_schema.specs.declared.schema.Schema.TheVariants.{First, Second, Third}
 use Rattle.store_schema.specs.Earlier.{schema_under, tables_under}
 use Rattle.store_schema.specs.Rows.{zone_row}
 use Rattle.store_schema.specs.Tables.{zone, entry, zelem, chosen, refers_to}
@@ -42,23 +42,23 @@ order_in (Some key) = key.2
 order_in None = plain
 
 -- the order in which names of zones are told apart
-order_of : Release → Order
+order_of : Schema → Order
 order_of r = order_in (parent_key (tables_under r) to_zone)
 
-key_of : (r : Release) → parent_key (tables_under r) to_zone ≡ Some (12, 1 ∷ [], order_of r)
+key_of : (r : Schema) → parent_key (tables_under r) to_zone ≡ Some (12, 1 ∷ [], order_of r)
 unfolding order_of order_in same_name joined
 key_of First = refl
 key_of Second = refl
 key_of Third = refl
 
-collation_of : (r : Release) → (first_key (order_of r)).collation ≡ Binary
+collation_of : (r : Schema) → (first_key (order_of r)).collation ≡ Binary
 unfolding order_of order_in same_name joined first_key
 collation_of First = refl
 collation_of Second = refl
 collation_of Third = refl
 
 -- a table whose first column is filled, and refers to a zone
-pub record Refers (r : Release) (t : Table) : Type 0 where
+pub record Refers (r : Schema) (t : Table) : Type 0 where
   pub listed : Has (tables_under r) t
   pub refers : t.references ≡ to_zone ∷ []
   pub filled : (db : Trees) (row : Row) → passes NotNull (schema_under r) db t row ≡ true
@@ -66,7 +66,7 @@ pub record Refers (r : Release) (t : Table) : Type 0 where
   pub rest : Row → Row
   pub first : (row : Row) → shown t row ≡ column row 1 ∷ rest row
 
-module _ (r : Release) (t : Table) (f : Refers r t) where
+module _ (r : Schema) (t : Table) (f : Refers r t) where
   parent_of : (db : Trees) → IsSound (schema_under r) db → (row : Row) → Has (db t.tree) row
       → (p : Row) × Has (db zone.tree) p × (agree (order_of r) (1 ∷ []) p (1 ∷ []) row ≡ true)
   parent_of db sound row there =
@@ -111,7 +111,7 @@ module _ (r : Release) (t : Table) (f : Refers r t) where
         ap (has_key (name_key z.0.name)) (own.2 ∙ f.first own.0) ∙ rw same refl,
       )
 
-pub entry_refers : (r : Release) → Refers r entry
+pub entry_refers : (r : Schema) → Refers r entry
 entry_refers First = record {
   listed = inr (inr (inr (inr (inr (inr (inr (inl refl)))))));
   refers = refl;
@@ -134,7 +134,7 @@ entry_refers Third = record {
   first = λ row. refl;
 }
 
-pub element_refers : (r : Release) → Refers r zelem
+pub element_refers : (r : Schema) → Refers r zelem
 element_refers First = record {
   listed = inr (inr (inr (inr (inr (inr (inr (inr (inl refl))))))));
   refers = refl;
@@ -166,7 +166,7 @@ chosen_refers = record {
   first = λ row. refl;
 }
 
-pub zone_listed : (r : Release) → Has (tables_under r) zone
+pub zone_listed : (r : Schema) → Has (tables_under r) zone
 zone_listed First = inr (inr (inr (inr (inr (inr (inl refl))))))
 zone_listed Second = inr (inr (inr (inr (inr (inr (inl refl))))))
 zone_listed Third = inr (inr (inr (inr (inr (inr (inl refl))))))

@@ -6,7 +6,7 @@ use Rattle.std.proofs.lemmas.List.Elements.{All-from_recursion}
 use Rattle.std.proofs.lemmas.List.Sorted.{IsPermutation-refl, IsPermutation-sym, IsPermutation-trans}
 use Rattle.lemmas.proofs.Each.{recursion_weaker}
 use Rattle.sqlite.specs.Effect.{Database, IsDatabase}
-use Rattle.sqlite.specs.Schema.{Schema}
+use Rattle.sqlite.specs.Schema.{Schema as SqliteSchema}
 use Rattle.sqlite.specs.Table.{Table}
 use Rattle.sqlite.specs.Tree.{Trees, rowid}
 use Rattle.sqlite_rules.specs.Lists.{Has}
@@ -15,15 +15,15 @@ use Rattle.store_rows.specs.Numbered.{AreNumbered}
 use Rattle.store_rows.specs.Rows.{Contents, HasContents, AreRows, shown}
 use Rattle.store_rows.proofs.ContentsLemmas.{permuted}
 use Rattle.terms.specs.Types.{Global, NamedZone}
-use Rattle.store_schema.specs.declared.release.Release.{Release}
-use Rattle.store_schema.specs.declared.release.Release.TheVariants.{First, Second, Third}
+use Rattle.store_schema.specs.declared.schema.Schema.{Schema}
+use Rattle.store_schema.specs.declared.schema.Schema.TheVariants.{First, Second, Third}
 use Rattle.store_schema.specs.Earlier.{IsOfEarlier, schema_under, tables_under, number_under, StandsUnder}
 use Rattle.store_schema.specs.Forms.{HasHoldForms}
 use Rattle.store_schema.specs.Inventory.{Inventory, IsInventory, IsZoneNamed}
 use Rattle.store_schema.specs.Known.{HasTablesUnder}
 use Rattle.store_schema.specs.Rows.{setting_row, zone_row, entries_of, zelems_of, chosen_of}
 use Rattle.store_schema.specs.Tables.{meta, zone, entry, zelem, chosen}
-use Rattle.store_columns.proofs.Releases.{rows_under}
+use Rattle.store_columns.proofs.Schemas.{rows_under}
 use Rattle.store_zone_loads.specs.Held.{HoldsZone, HoldsNumbers}
 use Rattle.store_migration.specs.Migrated.{HasRowids}
 use Rattle.store.specs.Whole.{HoldsGlobal, HoldsZones}
@@ -37,10 +37,10 @@ rows_at : Trees → List Table → Contents
 rows_at db [] n = []
 rows_at db (t ∷ ts) n = if n == t.tree then map (shown t) (db n) else rows_at db ts n
 
-abbrev IsShown : Trees → Release → Table → Type 0
+abbrev IsShown : Trees → Schema → Table → Type 0
 IsShown db r t = rows_at db (tables_under r) t.tree ≡ map (shown t) (db t.tree)
 
-all_shown : (db : Trees) (r : Release) → AllByRecursion (IsShown db r) (tables_under r)
+all_shown : (db : Trees) (r : Schema) → AllByRecursion (IsShown db r) (tables_under r)
 unfolding rows_at
 all_shown db First = (refl, (refl, (refl, (refl, (refl, (refl, (refl, (refl, (refl, tt)))))))))
 all_shown db Second = (refl, (refl, (refl, (refl, (refl, (refl, (refl, (refl, (refl, (refl, tt))))))))))
@@ -61,18 +61,18 @@ are_rows db c (t ∷ ts) same numbered = (
   are_rows db c ts same.1 numbered.1,
 )
 
-has_contents : (r : Release) (db : Database) → db.schema ≡ schema_under r → IsDatabase db → HasRowids db
+has_contents : (r : Schema) (db : Database) → db.schema ≡ schema_under r → IsDatabase db → HasRowids db
     → HasContents (schema_under r) (rows_at db.trees (tables_under r)) db
 has_contents r db own sound rowids = record {
   schema_is = own;
   sound = sound;
   tables = are_rows db.trees (rows_at db.trees (tables_under r)) (tables_under r) (all_shown db.trees r)
-      (subst (λ (s : Schema). AllByRecursion (IsNumbered db.trees) s.tables) own rowids);
+      (subst (λ (s : SqliteSchema). AllByRecursion (IsNumbered db.trees) s.tables) own rowids);
 }
 
 -- ---- the inventory
 
-module _ (r : Release) (c : Contents) (db : Database) (held : HasContents (schema_under r) c db)
+module _ (r : Schema) (c : Contents) (db : Database) (held : HasContents (schema_under r) c db)
     (known : HasTablesUnder r db) (global : Global) (g : HoldsGlobal r c global) (all : List NamedZone)
     (z : HoldsZones r c all) where
   abbrev found : Inventory
@@ -90,7 +90,7 @@ module _ (r : Release) (c : Contents) (db : Database) (held : HasContents (schem
     apart = zones.all_apart all z.heads.related;
   }
 
-  meta_listed : (s : Release) → Has (tables_under s) meta
+  meta_listed : (s : Schema) → Has (tables_under s) meta
   meta_listed First = inl refl
   meta_listed Second = inl refl
   meta_listed Third = inl refl
@@ -128,7 +128,7 @@ second_earlier c global g all z = record {
   firsts = All-from_recursion (HoldsNumbers Second c) all z.numbers;
 }
 
-stands : (r : Release) (c : Contents) (db : Database) (held : HasContents (schema_under r) c db)
+stands : (r : Schema) (c : Contents) (db : Database) (held : HasContents (schema_under r) c db)
     (known : HasTablesUnder r db) (global : Global) (g : HoldsGlobal r c global) (all : List NamedZone)
     (z : HoldsZones r c all) → StandsUnder r (record { global = global; zones = all }) db
 stands First c db held known global g all z = record {
@@ -148,7 +148,7 @@ stands Third c db held known global g all z = record {
 }
 
 -- whatever they hold, it was all read
-pub stands_from : (r : Release) (db : Database) → IsDatabase db → HasTablesUnder r db → HasRowids db
+pub stands_from : (r : Schema) (db : Database) → IsDatabase db → HasTablesUnder r db → HasRowids db
     → ((c : Contents) → HasContents (schema_under r) c db → (global : Global) × HoldsGlobal r c global)
     → ((c : Contents) → HasContents (schema_under r) c db → (all : List NamedZone) × HoldsZones r c all)
     → (i : Inventory) × StandsUnder r i db

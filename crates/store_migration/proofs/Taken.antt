@@ -15,8 +15,8 @@ use Rattle.sqlite.specs.Table.{Table}
 use Rattle.terms.specs.Types.{Text as Word, Id, Sysmod}
 use Rattle.store_rows.specs.Rows.{Contents, HasContents, in_place, with_row}
 use Rattle.store_rows.proofs.ContentsLemmas.{permuted}
-use Rattle.store_schema.specs.declared.release.Release.{Release}
-use Rattle.store_schema.specs.declared.release.Release.TheVariants.{First, Second, Third}
+use Rattle.store_schema.specs.declared.schema.Schema.{Schema}
+use Rattle.store_schema.specs.declared.schema.Schema.TheVariants.{First, Second, Third}
 use Rattle.store_schema.specs.Create.{with_new}
 use Rattle.store_schema.specs.Earlier.{IsOfEarlier, StandsUnder, missing_tables, tables_under}
 use Rattle.store_schema.specs.Inventory.{Inventory, IsInventory}
@@ -25,7 +25,7 @@ use Rattle.store_schema.specs.Rows.{chosen_of}
 use Rattle.store_schema.specs.Stands.{StandsFor, rows_of}
 use Rattle.store_schema.specs.Tables.{store_schema}
 use Rattle.store_schema.proofs.Singles.{no_morevers, no_moreifs, no_chosen}
-use Rattle.store_columns.proofs.Releases.{rows_under}
+use Rattle.store_columns.proofs.Schemas.{rows_under}
 use Rattle.store_migration.specs.Moved.{head_of, bare_row, with_source, with_moved, with_number}
 use Rattle.store_migration.specs.TakenOver.{heads_under}
 use Rattle.store_migration.specs.declared.head.Head.{Head}
@@ -94,10 +94,10 @@ added_are (s ∷ ss) rows =
     (IsPermutation-trans _ _ _ (IsPermutation-append_right rest _ _ (ones_are s.id s.sources rows))
     (added_are ss (fold (with_one s.id) rows s.sources)))
 
--- ---- under each release
+-- ---- under each schema
 
 -- the rows of its tables, and none in those that it lacks
-abbrev pub made_under : Release → Inventory → Contents
+abbrev pub made_under : Schema → Inventory → Contents
 made_under r i = with_new (missing_tables r) (rows_under r i)
 
 -- ---- all tables
@@ -114,18 +114,18 @@ same_in : (c : Contents) (tables : List Table) → AllByRecursion (λ t. IsPermu
 same_in c [] = tt
 same_in c (t ∷ tables) = (IsPermutation-refl (c t.tree), same_in c tables)
 
--- what an inventory of a release is besides
-abbrev pub IsOf : Release → Inventory → Type 0
+-- what an inventory of a schema is besides
+abbrev pub IsOf : Schema → Inventory → Type 0
 IsOf First i = IsOfEarlier i
 IsOf Second i = IsOfEarlier i
 IsOf Third i = Unit {0}
 
-pub stands_own : (r : Release) (i : Inventory) (db : Database) → StandsUnder r i db → IsOf r i
+pub stands_own : (r : Schema) (i : Inventory) (db : Database) → StandsUnder r i db → IsOf r i
 stands_own First i db h = h.earlier
 stands_own Second i db h = h.earlier
 stands_own Third i db h = tt
 
-taken : (r : Release) (i : Inventory) (db : Database) → IsInventory i → IsOf r i
+taken : (r : Schema) (i : Inventory) (db : Database) → IsInventory i → IsOf r i
     → HasContents store_schema (with_number (fold with_moved (made_under r i) (heads_under r i))) db
     → HasContents store_schema (rows_of i) db
 taken First i db inventory earlier =
@@ -192,7 +192,7 @@ taken Third i db inventory own =
     permuted store_schema (with_number (made_under Third i)) (rows_of i) db
     (same_rows (sym (numbered (pos 3))), same_in (rows_of i) (drop 1 (tables_under Third)))
 
-pub all_taken : (r : Release) (i : Inventory) (heads : List Head) (db : Database) → heads ≡ heads_under r i
+pub all_taken : (r : Schema) (i : Inventory) (heads : List Head) (db : Database) → heads ≡ heads_under r i
     → IsInventory i → IsOf r i → HasContents store_schema (with_number (fold with_moved (made_under r i) heads)) db
     → StandsFor i db
 all_taken r i heads db are inventory own held = record {

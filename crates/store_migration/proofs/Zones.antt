@@ -1,5 +1,5 @@
 -- What heads say of zones, and what the tables hold of all of them.
-use Rattle.std.proofs.Common.{◌≡◌, ◌==◌, inl, inr, Bool, true, false, List, [], ◌∷◌, map, Option, None, Some, IsTrue}
+use Rattle.std.proofs.Common.{◌≡◌, inl, inr, Bool, true, false, List, [], ◌∷◌, map, Option, None, Some, IsTrue}
 use Rattle.std.proofs.Common.{Contains, IsPermutation, refl, sym, ap, subst, ◌∙◌, true≢false}
 use Rattle.std.specs.Prelude.{All, AllPairs, IfSome, is_some}
 use Rattle.std.specs.List.{AllByRecursion, Any, flat_map}
@@ -25,10 +25,10 @@ use Rattle.store_rows.specs.Rows.{Contents, HasContents, has_key}
 use Rattle.store_rows.proofs.Keys.{equals}
 use Rattle.terms.specs.declared.kinds.ZoneKind.{ZoneKind}
 use Rattle.terms.specs.declared.kinds.ZoneKind.TheVariants.{Target, Distribution}
-use Rattle.terms.specs.Types.{Text as Word, NamedZone, zone_number}
+use Rattle.terms.specs.Types.{Text as Word, NamedZone, is_target}
 use Rattle.terms.specs.Lookups.{IsRising, is_before}
 use Rattle.terms.specs.Rising.{Rises}
-use Rattle.store_schema.specs.declared.release.Release.{Release}
+use Rattle.store_schema.specs.declared.schema.Schema.{Schema}
 use Rattle.store_schema.specs.Earlier.{schema_under}
 use Rattle.store_schema.specs.Inventory.{IsRelated, AreApart}
 use Rattle.store_schema.specs.Rows.{zone_row, entries_of, zelems_of}
@@ -53,7 +53,7 @@ any_mapped P f (x ∷ xs) h = elim (any_cases P (f x) (map f xs) h) [
 ]
 
 is_related : (zones : List NamedZone) (kind : ZoneKind) (srel : Word) (related : Option Word)
-    → is_some related ≡ (zone_number kind == 0)
+    → is_some related ≡ is_target kind
     → IfSome related (λ name. Any (IsDistributionOf name srel) (map head_of zones)) → IsRelated zones kind srel related
 is_related zones Target srel None suits among = absurd (true≢false (sym suits))
 is_related zones Target srel (Some name) suits among =
@@ -133,7 +133,7 @@ apart_rows (z ∷ zones) rise f = (
       from zs (All-tail (Below z) w zs below),
     )
 
-module _ (r : Release) (contents : Contents) (db : Database) (zones : List NamedZone)
+module _ (r : Schema) (contents : Contents) (db : Database) (zones : List NamedZone)
     (held : HasContents (schema_under r) contents db) (h : HoldsZones r contents zones) where
   zone_rows : IsPermutation (map zone_row zones) (contents zone.tree)
   zone_rows = subst (λ rows. IsPermutation rows (contents zone.tree)) (rows_are zones) h.heads.rows

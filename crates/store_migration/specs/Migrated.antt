@@ -11,19 +11,19 @@ use Rattle.store_rows.specs.Numbered.{AreNumbered}
 use Rattle.store_rows.specs.Rows.{shown}
 use Rattle.store_schema.specs.declared.error.StoreError.{StoreError}
 use Rattle.store_schema.specs.declared.error.StoreError.TheVariants.{OtherSchema, NoState}
-use Rattle.store_schema.specs.declared.release.Release.{Release}
+use Rattle.store_schema.specs.declared.schema.Schema.{Schema}
 use Rattle.store_schema.specs.Earlier.{IsEarlierStateOf}
 use Rattle.store_schema.specs.Inventory.{Inventory}
-use Rattle.store_schema.specs.Known.{HasUnknownNumber, HasTablesUnder, HasNoRelease}
+use Rattle.store_schema.specs.Known.{HasUnknownNumber, HasTablesUnder, HasNoSchema}
 use Rattle.store_schema.specs.Stands.{StandsFor}
 use Rattle.store_schema.specs.Tables.{store_schema}
 use Rattle.store.specs.View.{Tables, IsFound, IsEarlierFound, Leaves, LeavesEarlier, ShowsLeft}
 
--- The tables stand for no state: they are a release's, and their rows stand for none, or they are no release's, though
+-- The tables stand for no state: they are a schema's, and their rows stand for none, or they are no schema's, though
 -- meta gives `schema` no number but theirs.
 pub record HasNoEarlierState (at : State) : Type 0 where
   pub none : (i : Inventory) → ¬ IsEarlierStateOf i at.now
-  pub which : ((r : Release) × HasTablesUnder r at.now) ⊎ HasNoRelease at
+  pub which : ((r : Schema) × HasTablesUnder r at.now) ⊎ HasNoSchema at
 
 -- No two rows of a table have one rowid. So it is in each database, though no clause of a connection says it.
 abbrev pub HasRowids : Database → Type 0

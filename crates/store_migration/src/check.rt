@@ -1,4 +1,4 @@
-//! All rows of a release's tables, read to know that they stand for a state.
+//! All rows of a schema's tables, read to know that they stand for a state.
 
 ghost use Rattle.std.specs.Prelude.{◌≡◌, List, Some, OnOk, IfOk, IsErrOf, IsSome, IsTrue};
 ghost use Rattle.sqlite.specs.Held.{state};
@@ -20,27 +20,27 @@ use sqlite::{Alter, Connection};
 use std::alloc::Global;
 use store::{joined, load_lists};
 use store_rows::ReadError;
-use store_schema::Release;
+use store_schema::Schema;
 use store_zone_loads::{ZoneHead, load_zone, zone_heads};
 
 // The global zone is let go, but for what is moved.
 fn check_global<S: Alter>(
     alloc: Global,
     conn: &mut Connection<S>,
-    release: Release,
+    schema: Schema,
 ) -> Result<Vec<Head>, ReadError>
     ensures found { HasCleanDisk (state S.Store conn.new) → (i : Inventory)
-        → StandsUnder release i (state S.Store conn.old).now
-        → IfOk result (λ heads. heads.items ≡ heads_under release i) }
+        → StandsUnder schema i (state S.Store conn.old).now
+        → IfOk result (λ heads. heads.items ≡ heads_under schema i) }
     ensures none { HasCleanDisk (state S.Store conn.new) → IsErrOf result ReadError.BadRow → (i : Inventory)
-        → ¬ StandsUnder release i (state S.Store conn.old).now }
+        → ¬ StandsUnder schema i (state S.Store conn.old).now }
     ensures rows { HasCleanDisk (state S.Store conn.new) → OnOk result ((contents : Contents)
-        → HasContents (schema_under release) contents (state S.Store conn.old).now
-        → (global : terms.Global) × HoldsGlobal release contents global) }
-    ensures reads { OnlyReads S.Store (schema_under release) ReadError.BadRow ReadError.Fault conn.old conn.new result }
+        → HasContents (schema_under schema) contents (state S.Store conn.old).now
+        → (global : terms.Global) × HoldsGlobal schema contents global) }
+    ensures reads { OnlyReads S.Store (schema_under schema) ReadError.BadRow ReadError.Fault conn.old conn.new result }
 {
-    let lists = load_lists(alloc, conn, release)?;
-    let heads = heads_of(alloc, release, lists.sysmods.as_slice())?;
+    let lists = load_lists(alloc, conn, schema)?;
+    let heads = heads_of(alloc, schema, lists.sysmods.as_slice())?;
     joined(alloc, lists)?;
     Ok(heads)
 }
@@ -48,17 +48,17 @@ fn check_global<S: Alter>(
 fn check_zone<S: Alter>(
     alloc: Global,
     conn: &mut Connection<S>,
-    release: Release,
+    schema: Schema,
     name: ZoneName,
 ) -> Result<(), ReadError>
     ensures none { HasCleanDisk (state S.Store conn.new) → IsErrOf result ReadError.BadRow → (i : Inventory)
-        → IsSome (zone_in i name) → ¬ StandsUnder release i (state S.Store conn.old).now }
+        → IsSome (zone_in i name) → ¬ StandsUnder schema i (state S.Store conn.old).now }
     ensures rows { HasCleanDisk (state S.Store conn.new) → OnOk result ((contents : Contents)
-        → HasContents (schema_under release) contents (state S.Store conn.old).now
-        → (zone : terms.Zone) × HoldsUnder release contents name (Some zone)) }
-    ensures reads { OnlyReads S.Store (schema_under release) ReadError.BadRow ReadError.Fault conn.old conn.new result }
+        → HasContents (schema_under schema) contents (state S.Store conn.old).now
+        → (zone : terms.Zone) × HoldsUnder schema contents name (Some zone)) }
+    ensures reads { OnlyReads S.Store (schema_under schema) ReadError.BadRow ReadError.Fault conn.old conn.new result }
 {
-    match load_zone(alloc, conn, release, name)? {
+    match load_zone(alloc, conn, schema, name)? {
         Some(_zone) => Ok(()),
         None => Err(ReadError::BadRow),
     }
@@ -67,14 +67,14 @@ fn check_zone<S: Alter>(
 fn check_each<S: Alter>(
     alloc: Global,
     conn: &mut Connection<S>,
-    release: Release,
+    schema: Schema,
     heads: &[ZoneHead],
 ) -> Result<(), ReadError>
     ensures { (HasCleanDisk (state S.Store conn.old) → IsTrue (state S.Store conn.old).is_open)
-        → ChecksZones S.Store release heads.now conn.old conn.new result }
+        → ChecksZones S.Store schema heads.now conn.old conn.new result }
 {
     for head in heads {
-        check_zone(alloc, conn, release, head.name)?;
+        check_zone(alloc, conn, schema, head.name)?;
     }
     Ok(())
 }
@@ -83,28 +83,28 @@ fn check_each<S: Alter>(
 fn check_zones<S: Alter>(
     alloc: Global,
     conn: &mut Connection<S>,
-    release: Release,
+    schema: Schema,
 ) -> Result<(), ReadError>
     ensures none { HasCleanDisk (state S.Store conn.new) → IsErrOf result ReadError.BadRow → (i : Inventory)
-        → ¬ StandsUnder release i (state S.Store conn.old).now }
+        → ¬ StandsUnder schema i (state S.Store conn.old).now }
     ensures rows { HasCleanDisk (state S.Store conn.new) → OnOk result ((contents : Contents)
-        → HasContents (schema_under release) contents (state S.Store conn.old).now
-        → (zones : List terms.NamedZone) × HoldsZones release contents zones) }
-    ensures reads { OnlyReads S.Store (schema_under release) ReadError.BadRow ReadError.Fault conn.old conn.new result }
+        → HasContents (schema_under schema) contents (state S.Store conn.old).now
+        → (zones : List terms.NamedZone) × HoldsZones schema contents zones) }
+    ensures reads { OnlyReads S.Store (schema_under schema) ReadError.BadRow ReadError.Fault conn.old conn.new result }
 {
     let heads = zone_heads(alloc, conn)?;
-    check_each(alloc, conn, release, heads.as_slice())
+    check_each(alloc, conn, schema, heads.as_slice())
 }
 
 /// Reads all rows, and answers what is moved of them.
 pub(crate) fn check_all<S: Alter>(
     alloc: Global,
     conn: &mut Connection<S>,
-    release: Release,
+    schema: Schema,
 ) -> Result<Vec<Head>, ReadError>
-    ensures { Checks S.Store release conn.old conn.new result }
+    ensures { Checks S.Store schema conn.old conn.new result }
 {
-    let heads = check_global(alloc, conn, release)?;
-    check_zones(alloc, conn, release)?;
+    let heads = check_global(alloc, conn, schema)?;
+    check_zones(alloc, conn, schema)?;
     Ok(heads)
 }

@@ -6,8 +6,8 @@ ghost use Rattle.store_migration.specs.TakenOver.{moved_heads};
 
 use fields::{Id, SourceList};
 use std::alloc::{AllocError, Global};
-use store_schema::Release;
-use sysmods_records::Sysmod;
+use store_schema::Schema;
+use sysmod::Sysmod;
 use terms::Kind;
 
 /// A SYSMOD as its own row of schema 1 has it.
@@ -39,17 +39,13 @@ fn all_heads(alloc: Global, sysmods: &[Sysmod]) -> Result<Vec<Head>, AllocError>
     Ok(heads)
 }
 
-/// What is moved of all SYSMODs, which these are, where the tables are those of the release. The error comes where
+/// What is moved of all SYSMODs, which these are, where the tables are those of the schema. The error comes where
 /// memory runs out.
-pub fn heads_of(
-    alloc: Global,
-    release: Release,
-    sysmods: &[Sysmod],
-) -> Result<Vec<Head>, AllocError>
-    ensures { IfOk result (λ heads. heads.items ≡ moved_heads release sysmods.now) }
+pub fn heads_of(alloc: Global, schema: Schema, sysmods: &[Sysmod]) -> Result<Vec<Head>, AllocError>
+    ensures { IfOk result (λ heads. heads.items ≡ moved_heads schema sysmods.now) }
 {
-    match release {
-        Release::First => all_heads(alloc, sysmods),
+    match schema {
+        Schema::First => all_heads(alloc, sysmods),
         _ => Ok(Vec::new(alloc)),
     }
 }

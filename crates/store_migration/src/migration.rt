@@ -10,7 +10,7 @@ use crate::taking::take_over;
 use sqlite::{Alter, Connection};
 use std::alloc::Global;
 use store::{Store, told};
-use store_schema::{Release, StoreError, release_of, set_up};
+use store_schema::{Schema, StoreError, found_schema, set_up};
 
 /// What an open connection shows is a database. The call does nothing.
 fn attest<S: Alter>(conn: &Connection<S>)
@@ -27,14 +27,14 @@ fn migrated<S: Alter>(alloc: Global, conn: &mut Connection<S>) -> Result<(), Sto
     // So what the connection shows is what it last committed.
     prove!(conn.is_autocommit());
     attest(conn);
-    let Some(release) = release_of(alloc, conn)? else {
+    let Some(schema) = found_schema(alloc, conn)? else {
         return set_up(alloc, conn);
     };
-    let heads = told(check_all(alloc, conn, release))?;
-    match release {
-        Release::Third => Ok(()),
+    let heads = told(check_all(alloc, conn, schema))?;
+    match schema {
+        Schema::Third => Ok(()),
         _ => {
-            take_over(conn, release, heads.as_slice())?;
+            take_over(conn, schema, heads.as_slice())?;
             Ok(())
         }
     }
@@ -43,7 +43,7 @@ fn migrated<S: Alter>(alloc: Global, conn: &mut Connection<S>) -> Result<(), Sto
 /// Takes the tables of an earlier schema over to the store's, in one transaction, and makes them in a database that has
 /// none. Before that all rows are read, those of one zone at a time, so that bad ones stay as they are. Like
 /// `Store::open` it hands the connection back with its error: `OtherSchema` comes where `meta` gives a number that no
-/// release has, `NoState` where the tables are else those of no release, or the rows stand for no state, `Fault` where
+/// schema has, `NoState` where the tables are else those of no schema, or the rows stand for no state, `Fault` where
 /// the database fails or has tables but no `meta` with its columns, and `Memory` where memory runs out.
 pub fn migrate<S: Alter>(
     alloc: Global,

@@ -10,43 +10,39 @@ use crate::head::Head;
 use crate::number::write_number;
 use crate::sources::move_sources;
 use sqlite::{Alter, Connection, Error, Transaction};
-use store_schema::{Release, add_tables};
+use store_schema::{Schema, add_tables};
 
-fn write<S: Alter>(
-    tx: &mut Transaction<'_, S>,
-    release: Release,
-    heads: &[Head],
-) -> Result<(), Error>
+fn write<S: Alter>(tx: &mut Transaction<'_, S>, schema: Schema, heads: &[Head]) -> Result<(), Error>
     ensures same_reference { tx.new.conn.ghost_name ≡ tx.old.conn.ghost_name }
     ensures inside { StaysInside S.Store tx.old.conn.now tx.new.conn.now }
     ensures ok { HasCleanDisk (state S.Store tx.new.conn.now) → OnOk result
-        (Takes release heads.now (state S.Store tx.old.conn.now).now (state S.Store tx.new.conn.now).now) }
+        (Takes schema heads.now (state S.Store tx.old.conn.now).now (state S.Store tx.new.conn.now).now) }
 {
-    add_tables(tx, release)?;
+    add_tables(tx, schema)?;
     move_sources(tx, heads)?;
     write_number(tx)
 }
 
-/// Makes the tables of the release the store's. Of schema 1 the sources of all SYSMODs are moved, which these are. An
+/// Makes the tables of the schema the store's. Of schema 1 the sources of all SYSMODs are moved, which these are. An
 /// error comes where the database refuses a table or a row, where the disk fails or memory is short.
 pub fn take_over<S: Alter>(
     conn: &mut Connection<S>,
-    release: Release,
+    schema: Schema,
     heads: &[Head],
 ) -> Result<(), Error>
     requires { conn.old.in_transaction ≡ false }
     ensures made { HasCleanDisk (state S.Store conn.new) → OnOk result
-        (Takes release heads.now (state S.Store conn.old).now (state S.Store conn.new).committed) }
+        (Takes schema heads.now (state S.Store conn.old).now (state S.Store conn.new).committed) }
     ensures unchanged { HasCleanDisk (state S.Store conn.new) → IsTrue (state S.Store conn.new).is_open
         → OnErr result ((state S.Store conn.new).committed ≡ (state S.Store conn.old).committed) }
     ensures is_open { HasCleanDisk (state S.Store conn.new) → OnOk result (IsTrue (state S.Store conn.new).is_open) }
     ensures was_open { HasCleanDisk (state S.Store conn.new) → IsTrue (state S.Store conn.new).is_open
         → IsTrue (state S.Store conn.old).is_open }
     ensures crash { Survives (state S.Store conn.old) (state S.Store conn.new)
-        (IsTaken release heads.now (state S.Store conn.old).now) }
+        (IsTaken schema heads.now (state S.Store conn.old).now) }
     ensures mode { conn.new.in_transaction ≡ false }
 {
     let mut tx = conn.transaction();
-    write(&mut tx, release, heads)?;
+    write(&mut tx, schema, heads)?;
     tx.commit()
 }

@@ -6,7 +6,7 @@ use Rattle.store_schema.specs.Create.{HasTables, with_new}
 use Rattle.store_schema.specs.Earlier.{missing_tables}
 use Rattle.store_schema.specs.Tables.{first_tables, second_tables, all_tables, source, morever, moreif, chosen}
 use Rattle.store_schema.specs.Tables.{schema_of, store_schema}
-use Rattle.store_schema.specs.declared.release.Release.TheVariants.{First}
+use Rattle.store_schema.specs.declared.schema.Schema.TheVariants.{First}
 
 -- before a table is made it is told of as empty
 pub without_source : (contents : Contents) (db : Database) → HasContents (schema_of first_tables) contents db

@@ -14,10 +14,10 @@ use Rattle.sqlite.proofs.Callers.{IsPlain, command_of, reads_as, one_permutation
 use Rattle.sqlite_tied.specs.Compute.{everything}
 use Rattle.store_schema.specs.Tables.{meta, schema_of}
 use Rattle.store_schema.specs.Known.{select_meta, select_own, GivesOther, IsNumber, own_numbers, known_numbers}
-use Rattle.store_schema.specs.Known.{HasNumberBut, HasNumbersAmong, HasNoState, HasNoRelease, HasOwnTables, HasTablesUnder}
+use Rattle.store_schema.specs.Known.{HasNumberBut, HasNumbersAmong, HasNoState, HasNoSchema, HasOwnTables, HasTablesUnder}
 use Rattle.store_schema.specs.Earlier.{tables_under, schema_under, number_under, IsEarlierStateOf}
-use Rattle.store_schema.specs.declared.release.Release.{Release}
-use Rattle.store_schema.specs.declared.release.Release.TheVariants.{First, Second, Third}
+use Rattle.store_schema.specs.declared.schema.Schema.{Schema}
+use Rattle.store_schema.specs.declared.schema.Schema.TheVariants.{First, Second, Third}
 use Rattle.sqlite.specs.Command.{Command}
 use Rattle.sqlite.specs.Table.{Table}
 use Rattle.sqlite.specs.Effect.{Database}
@@ -103,12 +103,12 @@ own_unlisted : (more : List Table) → reads_listing (schema_of (meta ∷ more))
 unfolding understood everything
 own_unlisted more = refl
 
-meta_first : (r : Release) → tables_under r ≡ meta ∷ drop 1 (tables_under r)
+meta_first : (r : Schema) → tables_under r ≡ meta ∷ drop 1 (tables_under r)
 meta_first First = refl
 meta_first Second = refl
 meta_first Third = refl
 
-own_rows : (r : Release) (old new : State) (rows : List Row) → old.now.schema ≡ schema_under r
+own_rows : (r : Schema) (old new : State) (rows : List Row) → old.now.schema ≡ schema_under r
     → Shown select_own [] old new rows → IsPermutation (map (whole (shown meta)) (old.now.trees 0)) rows
 own_rows r old new rows has h =
     let more = drop 1 (tables_under r) in
@@ -116,7 +116,7 @@ own_rows r old new rows has h =
     (own_is more) (own_plain more) (own_unlisted more) rows h in
     rw filter_all at (scans 0 [] own_columns [] old.now.trees [] rows read.answer)
 
-pub known_tables : (r : Release) (old new : State) (rows : List Row) → Shown select_own [] old new rows
+pub known_tables : (r : Schema) (old new : State) (rows : List Row) → Shown select_own [] old new rows
     → IsNumber (number_under r) rows → old.now.schema ≡ schema_under r → HasTablesUnder r old.now
 known_tables r old new rows h one has =
     let row = one.0 in
@@ -147,7 +147,7 @@ is_number n rows own found same =
       (_, ap₂ ◌∷◌ keyed one.2),
     )
 
-pub not_known : (r : Release) (old new : State) (rows : List Row) → Shown select_own [] old new rows
+pub not_known : (r : Schema) (old new : State) (rows : List Row) → Shown select_own [] old new rows
     → ¬ IsNumber (number_under r) rows → ¬ HasTablesUnder r old.now
 not_known r old new rows h none own = none (is_number (number_under r) (old.now.trees 0) own.number rows
     (own_rows r old new rows own.schema h))
@@ -169,22 +169,22 @@ no_state old numbers tables none = record {
   no_other = numbers.no_other;
 }
 
-no_release_of : (db : Database) → ¬ IsBlank db → ((r : Release) → ¬ HasTablesUnder r db) → (i : Inventory)
+no_schema_of : (db : Database) → ¬ IsBlank db → ((r : Schema) → ¬ HasTablesUnder r db) → (i : Inventory)
     → ¬ IsEarlierStateOf i db
-no_release_of db tables none i (inl own) = no_state_of db tables (none Third) i own
-no_release_of db tables none i (inr (inl stands)) = none First (record {
+no_schema_of db tables none i (inl own) = no_state_of db tables (none Third) i own
+no_schema_of db tables none i (inr (inl stands)) = none First (record {
   schema = stands.tables.schema_is;
   number = stands.tables.tables.0;
 })
-no_release_of db tables none i (inr (inr stands)) = none Second (record {
+no_schema_of db tables none i (inr (inr stands)) = none Second (record {
   schema = stands.tables.schema_is;
   number = stands.tables.tables.0;
 })
 
-pub no_release : (old : State) → HasNumbersAmong known_numbers old → ¬ IsBlank old.now
-    → ((r : Release) → ¬ HasTablesUnder r old.now) → HasNoRelease old
-no_release old numbers tables none = record {
-  none = no_release_of old.now tables none;
+pub no_schema : (old : State) → HasNumbersAmong known_numbers old → ¬ IsBlank old.now
+    → ((r : Schema) → ¬ HasTablesUnder r old.now) → HasNoSchema old
+no_schema old numbers tables none = record {
+  none = no_schema_of old.now tables none;
   not_known = none;
   rows = numbers.rows;
   shown = numbers.shown;

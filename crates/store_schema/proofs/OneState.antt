@@ -10,7 +10,7 @@ use Rattle.sqlite.specs.declared.types.Value.TheVariants as value
 use Rattle.sqlite.specs.Values.{or_null}
 use Rattle.sqlite.specs.Effect.{Database}
 use Rattle.sqlite.specs.Order.{Row}
-use Rattle.sqlite.specs.Schema.{Schema}
+use Rattle.sqlite.specs.Schema.{Schema as SqliteSchema}
 use Rattle.sqlite.specs.Table.{Table}
 use Rattle.sqlite.specs.Tree.{Trees, IsAscending}
 use Rattle.sqlite_rules.specs.Lists.{Has}
@@ -43,8 +43,8 @@ use Rattle.store_schema.specs.Create.{IsBlank}
 use Rattle.store_schema.specs.Stands.{rows_of, StandsFor, HasOneState}
 use Rattle.store_schema.specs.Earlier.{first_sysmod_row, first_rows_of, second_rows_of, StandsForFirst, StandsForSecond}
 use Rattle.store_schema.specs.Earlier.{IsOfEarlier, schema_under, StandsUnder, IsEarlierStateOf, HasOneEarlierState}
-use Rattle.store_schema.specs.declared.release.Release.{Release}
-use Rattle.store_schema.specs.declared.release.Release.TheVariants.{First, Second, Third}
+use Rattle.store_schema.specs.declared.schema.Schema.{Schema}
+use Rattle.store_schema.specs.declared.schema.Schema.TheVariants.{First, Second, Third}
 use Rattle.store_schema.proofs.Lists.{same_sorted, lower_once, one_place, has_all, ascending, ascending_by, flat_has}
 use Rattle.store_schema.proofs.Lists.{flat_had, IsLower, numbers_rise, values}
 use Rattle.store_schema.proofs.Spelled.{kind_same, hold_same, type_same, zone_same, or_null_same, flag_same}
@@ -662,7 +662,7 @@ back : (c d : Contents) (xs ys : List Table) → AreAmong (xs ++ ys) c d → Are
 back c d [] ys h = h
 back c d (x ∷ xs) ys h = back c d xs ys h.1
 
--- what all releases hold alike
+-- what all schemas hold alike
 abbrev shared_tables : List Table
 shared_tables = ver ∷ ifreq ∷ hold ∷ elem ∷ zone ∷ entry ∷ zelem ∷ []
 
@@ -759,7 +759,7 @@ same_first db i j p q =
     let all = among first_tables (first_rows_of i) (first_rows_of j) db.trees p.tables.tables q.tables.tables in
     within_first i j p.inventory q.inventory all.1.1 (none_more i j p.inventory q.inventory p.earlier) all.1.0
 
-one_under : (r : Release) (db : Database) (i j : Inventory) → StandsUnder r i db → StandsUnder r j db → i ≡ j
+one_under : (r : Schema) (db : Database) (i j : Inventory) → StandsUnder r i db → StandsUnder r j db → i ≡ j
 one_under First db i j p q =
     one_inventory i j p.inventory q.inventory (same_first db i j p q) (same_first db j i q p)
 one_under Second db i j p q =
@@ -767,61 +767,61 @@ one_under Second db i j p q =
 one_under Third db i j p q =
     one_inventory i j p.inventory q.inventory (same_third db i j p q) (same_third db j i q p)
 
--- ---- one release
+-- ---- one schema
 
-pub schema_of_release : (r : Release) (db : Database) (i : Inventory) → StandsUnder r i db → db.schema ≡ schema_under r
-schema_of_release First db i p = p.tables.schema_is
-schema_of_release Second db i p = p.tables.schema_is
-schema_of_release Third db i p = p.tables.schema_is
+pub schema_is_under : (r : Schema) (db : Database) (i : Inventory) → StandsUnder r i db → db.schema ≡ schema_under r
+schema_is_under First db i p = p.tables.schema_is
+schema_is_under Second db i p = p.tables.schema_is
+schema_is_under Third db i p = p.tables.schema_is
 
--- the releases differ in how many tables there are
-pub one_release : (r s : Release) → schema_under r ≡ schema_under s → r ≡ s
-one_release First First e = refl
-one_release Second Second e = refl
-one_release Third Third e = refl
-one_release First Second e = absurd (omega (arith, ap (λ (x : Schema). length x.tables) e))
-one_release First Third e = absurd (omega (arith, ap (λ (x : Schema). length x.tables) e))
-one_release Second First e = absurd (omega (arith, ap (λ (x : Schema). length x.tables) e))
-one_release Second Third e = absurd (omega (arith, ap (λ (x : Schema). length x.tables) e))
-one_release Third First e = absurd (omega (arith, ap (λ (x : Schema). length x.tables) e))
-one_release Third Second e = absurd (omega (arith, ap (λ (x : Schema). length x.tables) e))
+-- the schemas differ in how many tables there are
+pub one_schema : (r s : Schema) → schema_under r ≡ schema_under s → r ≡ s
+one_schema First First e = refl
+one_schema Second Second e = refl
+one_schema Third Third e = refl
+one_schema First Second e = absurd (omega (arith, ap (λ (x : SqliteSchema). length x.tables) e))
+one_schema First Third e = absurd (omega (arith, ap (λ (x : SqliteSchema). length x.tables) e))
+one_schema Second First e = absurd (omega (arith, ap (λ (x : SqliteSchema). length x.tables) e))
+one_schema Second Third e = absurd (omega (arith, ap (λ (x : SqliteSchema). length x.tables) e))
+one_schema Third First e = absurd (omega (arith, ap (λ (x : SqliteSchema). length x.tables) e))
+one_schema Third Second e = absurd (omega (arith, ap (λ (x : SqliteSchema). length x.tables) e))
 
-not_blank : (r : Release) (db : Database) → db.schema ≡ schema_under r → ¬ IsBlank db
-not_blank First db is blank = absurd (omega (arith, ap (λ (x : Schema). length x.tables) (sym blank ∙ is)))
-not_blank Second db is blank = absurd (omega (arith, ap (λ (x : Schema). length x.tables) (sym blank ∙ is)))
-not_blank Third db is blank = absurd (omega (arith, ap (λ (x : Schema). length x.tables) (sym blank ∙ is)))
+not_blank : (r : Schema) (db : Database) → db.schema ≡ schema_under r → ¬ IsBlank db
+not_blank First db is blank = absurd (omega (arith, ap (λ (x : SqliteSchema). length x.tables) (sym blank ∙ is)))
+not_blank Second db is blank = absurd (omega (arith, ap (λ (x : SqliteSchema). length x.tables) (sym blank ∙ is)))
+not_blank Third db is blank = absurd (omega (arith, ap (λ (x : SqliteSchema). length x.tables) (sym blank ∙ is)))
 
--- no tables, or those of a release
+-- no tables and views, or the tables of a schema
 abbrev pub StandsSomehow : Inventory → Database → Type 0
-StandsSomehow i db = (IsBlank db × (i ≡ empty_inventory)) ⊎ ((r : Release) × StandsUnder r i db)
+StandsSomehow i db = (IsBlank db × (i ≡ empty_inventory)) ⊎ ((r : Schema) × StandsUnder r i db)
 
-pub release_by_state : (db : Database) (i : Inventory) → IsEarlierStateOf i db → StandsSomehow i db
-release_by_state db i (inl (inl blank)) = inl blank
-release_by_state db i (inl (inr stands)) = inr (Third, stands)
-release_by_state db i (inr (inl stands)) = inr (First, stands)
-release_by_state db i (inr (inr stands)) = inr (Second, stands)
+pub schema_by_state : (db : Database) (i : Inventory) → IsEarlierStateOf i db → StandsSomehow i db
+schema_by_state db i (inl (inl blank)) = inl blank
+schema_by_state db i (inl (inr stands)) = inr (Third, stands)
+schema_by_state db i (inr (inl stands)) = inr (First, stands)
+schema_by_state db i (inr (inr stands)) = inr (Second, stands)
 
--- what the tables of a release stand for, they stand for under it
-pub stands_under : (r : Release) (db : Database) (i : Inventory) → db.schema ≡ schema_under r → IsEarlierStateOf i db
+-- what the tables of a schema stand for, they stand for under it
+pub stands_under : (r : Schema) (db : Database) (i : Inventory) → db.schema ≡ schema_under r → IsEarlierStateOf i db
     → StandsUnder r i db
-stands_under r db i has state = by (release_by_state db i state)
+stands_under r db i has state = by (schema_by_state db i state)
   where
     by : StandsSomehow i db → StandsUnder r i db
     by (inl blank) = absurd (not_blank r db has blank.0)
     by (inr it) =
-        let same = one_release it.0 r (sym (schema_of_release it.0 db i it.1) ∙ has) in
+        let same = one_schema it.0 r (sym (schema_is_under it.0 db i it.1) ∙ has) in
         subst (λ r. StandsUnder r i db) same it.1
 
 one_known : (db : Database) (i j : Inventory) → StandsSomehow i db → StandsSomehow j db → i ≡ j
 one_known db i j (inl p) (inl q) = p.1 ∙ sym q.1
-one_known db i j (inl p) (inr q) = absurd (not_blank q.0 db (schema_of_release q.0 db j q.1) p.0)
-one_known db i j (inr p) (inl q) = absurd (not_blank p.0 db (schema_of_release p.0 db i p.1) q.0)
+one_known db i j (inl p) (inr q) = absurd (not_blank q.0 db (schema_is_under q.0 db j q.1) p.0)
+one_known db i j (inr p) (inl q) = absurd (not_blank p.0 db (schema_is_under p.0 db i p.1) q.0)
 one_known db i j (inr p) (inr q) =
-    let same = one_release p.0 q.0 (sym (schema_of_release p.0 db i p.1) ∙ schema_of_release q.0 db j q.1) in
+    let same = one_schema p.0 q.0 (sym (schema_is_under p.0 db i p.1) ∙ schema_is_under q.0 db j q.1) in
     one_under q.0 db i j (subst (λ r. StandsUnder r i db) same p.1) q.1
 
 pub one_earlier_state : HasOneEarlierState
-one_earlier_state db i j p q = one_known db i j (release_by_state db i p) (release_by_state db j q)
+one_earlier_state db i j p q = one_known db i j (schema_by_state db i p) (schema_by_state db j q)
 
 pub one_state : HasOneState
 one_state db i j p q = one_earlier_state db i j (inl p) (inl q)

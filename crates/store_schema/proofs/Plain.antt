@@ -5,8 +5,8 @@ use Rattle.store_schema.specs.Plain.{IsPlainTable, IsPlain}
 use Rattle.store_schema.specs.Tables.{meta, sysmod, ver, ifreq, hold, elem, zone, entry, zelem, source, morever}
 use Rattle.store_schema.specs.Tables.{moreif, chosen, first_tables, second_tables, all_tables}
 use Rattle.store_schema.specs.Earlier.{schema_under}
-use Rattle.store_schema.specs.declared.release.Release.{Release}
-use Rattle.store_schema.specs.declared.release.Release.TheVariants.{First, Second, Third}
+use Rattle.store_schema.specs.declared.schema.Schema.{Schema}
+use Rattle.store_schema.specs.declared.schema.Schema.TheVariants.{First, Second, Third}
 use Rattle.sqlite_trees.proofs.ListLemmas.{all-append}
 
 plain_meta : IsPlainTable meta
@@ -81,7 +81,7 @@ plain_third : AllByRecursion IsPlainTable all_tables
 plain_third = all-append IsPlainTable second_tables (morever ∷ moreif ∷ chosen ∷ []) plain_second
     (plain_morever, (plain_moreif, (plain_chosen, tt)))
 
-pub release_is_plain : (r : Release) → IsPlain (schema_under r)
-release_is_plain First = record { tables = plain_first; views = refl }
-release_is_plain Second = record { tables = plain_second; views = refl }
-release_is_plain Third = record { tables = plain_third; views = refl }
+pub schema_is_plain : (r : Schema) → IsPlain (schema_under r)
+schema_is_plain First = record { tables = plain_first; views = refl }
+schema_is_plain Second = record { tables = plain_second; views = refl }
+schema_is_plain Third = record { tables = plain_third; views = refl }

@@ -4,7 +4,7 @@ use Rattle.std.specs.List.{flat_map}
 use Rattle.sqlite.specs.declared.types.Value.TheVariants as value
 use Rattle.sqlite.specs.Order.{Row}
 use Rattle.sqlite.specs.Table.{Table}
-use Rattle.sqlite.specs.Schema.{Schema}
+use Rattle.sqlite.specs.Schema.{Schema as SqliteSchema}
 use Rattle.sqlite.specs.Effect.{Database}
 use Rattle.terms.specs.Types.{Sysmod}
 use Rattle.terms.specs.Lookups.{IsRising}
@@ -16,8 +16,8 @@ use Rattle.store_schema.specs.Inventory.{Inventory, IsInventory}
 use Rattle.store_schema.specs.Rows.{setting_row, ids, sysmod_row}
 use Rattle.store_schema.specs.Rows.{sources_of}
 use Rattle.store_schema.specs.Stands.{rows_in, shared_tables_of, StandsFor, IsStateOf}
-use Rattle.store_schema.specs.declared.release.Release.{Release}
-use Rattle.store_schema.specs.declared.release.Release.TheVariants.{First, Second, Third}
+use Rattle.store_schema.specs.declared.schema.Schema.{Schema}
+use Rattle.store_schema.specs.declared.schema.Schema.TheVariants.{First, Second, Third}
 
 -- No SYSMOD has two ++VERs of one SREL, and each entry was installed by the first.
 pub record IsOfEarlier (i : Inventory) : Type 0 where
@@ -60,28 +60,28 @@ pub record StandsForSecond (i : Inventory) (db : Database) : Type 0 where
   pub inventory : IsInventory i
   pub earlier : IsOfEarlier i
 
--- the tables of a release
-abbrev pub tables_under : Release → List Table
+-- the tables of a schema
+abbrev pub tables_under : Schema → List Table
 tables_under First = first_tables
 tables_under Second = second_tables
 tables_under Third = all_tables
 
 -- the tables of the store that it lacks
-abbrev pub missing_tables : Release → List Table
+abbrev pub missing_tables : Schema → List Table
 missing_tables First = source ∷ morever ∷ moreif ∷ chosen ∷ []
 missing_tables Second = morever ∷ moreif ∷ chosen ∷ []
 missing_tables Third = []
 
--- the schema of a release, and its number
-abbrev pub schema_under : Release → Schema
+-- that schema as SQLite has it, and its number
+abbrev pub schema_under : Schema → SqliteSchema
 schema_under r = schema_of (tables_under r)
 
-abbrev pub number_under : Release → ℤ
+abbrev pub number_under : Schema → ℤ
 number_under First = pos 1
 number_under Second = pos 2
 number_under Third = pos 3
 
-abbrev pub StandsUnder : Release → Inventory → Database → Type 0
+abbrev pub StandsUnder : Schema → Inventory → Database → Type 0
 StandsUnder First = StandsForFirst
 StandsUnder Second = StandsForSecond
 StandsUnder Third = StandsFor

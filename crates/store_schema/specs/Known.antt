@@ -16,8 +16,8 @@ use Rattle.store_schema.specs.Inventory.{Inventory}
 use Rattle.store_schema.specs.Stands.{IsStateOf}
 use Rattle.store_schema.specs.Rows.{setting_row}
 use Rattle.store_schema.specs.Earlier.{schema_under, number_under, IsEarlierStateOf}
-use Rattle.store_schema.specs.declared.release.Release.{Release}
-use Rattle.store_schema.specs.declared.release.Release.TheVariants.{Third}
+use Rattle.store_schema.specs.declared.schema.Schema.{Schema}
+use Rattle.store_schema.specs.declared.schema.Schema.TheVariants.{Third}
 
 -- how an error of the database is told
 abbrev pub told : Error → StoreError
@@ -37,7 +37,7 @@ Gives n row = row ≡ setting_row n
 abbrev pub GivesOther : List ℤ → Row → Type 0
 GivesOther numbers row = (n : ℤ) × Gives n row × ¬ Contains numbers n
 
--- the query for all that the meta of a release holds
+-- the query for all that the meta of a schema holds
 abbrev pub select_own : List ℕ
 select_own = codes "SELECT rowid, k, v FROM meta"
 
@@ -49,7 +49,7 @@ GivesOwn n row = (id : ℤ) × (row ≡ Int id ∷ setting_row n)
 abbrev pub IsNumber : ℤ → List Row → Type 0
 IsNumber n rows = (row : Row) × (rows ≡ row ∷ []) × GivesOwn n row
 
--- the number of the store's schema, and those of all releases
+-- the number of the store's schema, and those of all schemas
 abbrev pub own_numbers : List ℤ
 own_numbers = pos 3 ∷ []
 
@@ -68,15 +68,15 @@ pub record HasNumbersAmong (numbers : List ℤ) (at : State) : Type 0 where
   pub shown : Shown select_meta [] at at rows
   pub no_other : ¬ Any (GivesOther numbers) rows
 
--- the tables are another schema's than the store's, or than any release's
+-- the tables are another schema's than the store's, or than any schema's
 abbrev pub HasOtherNumber : State → Type 0
 HasOtherNumber = HasNumberBut own_numbers
 
 abbrev pub HasUnknownNumber : State → Type 0
 HasUnknownNumber = HasNumberBut known_numbers
 
--- the tables are those of the release, and so is their number
-pub record HasTablesUnder (r : Release) (db : Database) : Type 0 where
+-- the tables are those of the schema, and so is their number
+pub record HasTablesUnder (r : Schema) (db : Database) : Type 0 where
   pub schema : db.schema ≡ schema_under r
   pub number : AreRows meta (setting_row (number_under r) ∷ []) (db.trees meta.tree)
 
@@ -92,10 +92,10 @@ pub record HasNoState (at : State) : Type 0 where
   pub shown : Shown select_meta [] at at rows
   pub no_other : ¬ Any (GivesOther own_numbers) rows
 
--- There are tables and they are no release's, though meta gives `schema` no number but theirs. They stand for no state.
-pub record HasNoRelease (at : State) : Type 0 where
+-- There are tables and they are no schema's, though meta gives `schema` no number but theirs. They stand for no state.
+pub record HasNoSchema (at : State) : Type 0 where
   pub none : (i : Inventory) → ¬ IsEarlierStateOf i at.now
-  pub not_known : (r : Release) → ¬ HasTablesUnder r at.now
+  pub not_known : (r : Schema) → ¬ HasTablesUnder r at.now
   pub rows : List Row
   pub shown : Shown select_meta [] at at rows
   pub no_other : ¬ Any (GivesOther known_numbers) rows

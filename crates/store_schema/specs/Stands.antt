@@ -50,7 +50,7 @@ pub record StandsFor (i : Inventory) (db : Database) : Type 0 where
   pub tables : HasContents store_schema (rows_of i) db
   pub inventory : IsInventory i
 
--- A database without tables is an empty inventory.
+-- A database without tables and views is an empty inventory.
 abbrev pub IsStateOf : Inventory → Database → Type 0
 IsStateOf i db = (IsBlank db × (i ≡ empty_inventory)) ⊎ StandsFor i db
 

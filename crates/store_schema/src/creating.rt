@@ -11,7 +11,7 @@ ghost use Rattle.store_schema.specs.Known.{HasRun};
 ghost use Rattle.store_schema.specs.Tables.{meta, global_tables, first_tables, second_tables, source, morever, moreif};
 ghost use Rattle.store_schema.specs.Tables.{chosen, schema_of, store_schema};
 
-use crate::release::Release;
+use crate::schema::Schema;
 use sqlite::{Alter, Error, Transaction};
 
 pub(crate) fn run<S: Alter>(tx: &mut Transaction<'_, S>, sql: &str) -> Result<(), Error>
@@ -74,7 +74,7 @@ fn make_zones<S: Alter>(tx: &mut Transaction<'_, S>) -> Result<(), Error>
     )
 }
 
-/// The tables that every release has.
+/// The tables that every schema has.
 pub(crate) fn make_first<S: Alter>(tx: &mut Transaction<'_, S>) -> Result<(), Error>
     ensures same_reference { tx.new.conn.ghost_name ≡ tx.old.conn.ghost_name }
     ensures inside { StaysInside S.Store tx.old.conn.now tx.new.conn.now }
@@ -124,21 +124,21 @@ fn add_more<S: Alter>(tx: &mut Transaction<'_, S>) -> Result<(), Error>
     )
 }
 
-/// Makes the tables of the store that the release has not, in a transaction that is open. The rows of the others stay.
+/// Makes the tables of the store that the schema has not, in a transaction that is open. The rows of the others stay.
 /// An error comes where the database refuses a table, as one that is there, where the disk fails or memory is short.
-pub fn add_tables<S: Alter>(tx: &mut Transaction<'_, S>, release: Release) -> Result<(), Error>
+pub fn add_tables<S: Alter>(tx: &mut Transaction<'_, S>, schema: Schema) -> Result<(), Error>
     ensures same_reference { tx.new.conn.ghost_name ≡ tx.old.conn.ghost_name }
     ensures inside { StaysInside S.Store tx.old.conn.now tx.new.conn.now }
     ensures ok { OnOk result ((contents : Contents) → Leads S.Store tx.old.conn.now tx.new.conn.now
-        (HasContents (schema_under release) contents)
-        (HasContents store_schema (with_new (missing_tables release) contents))) }
+        (HasContents (schema_under schema) contents)
+        (HasContents store_schema (with_new (missing_tables schema) contents))) }
 {
-    match release {
-        Release::First => {
+    match schema {
+        Schema::First => {
             add_source(tx)?;
             add_more(tx)
         }
-        Release::Second => add_more(tx),
-        Release::Third => Ok(()),
+        Schema::Second => add_more(tx),
+        Schema::Third => Ok(()),
     }
 }

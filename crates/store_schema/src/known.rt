@@ -12,7 +12,7 @@ ghost use Rattle.store_schema.specs.Stands.{StandsFor, IsStateOf, IsSetUp};
 
 use crate::error::StoreError;
 use crate::numbers::{check_number, check_numbers};
-use crate::release::Release;
+use crate::schema::Schema;
 use crate::tables::{create, is_blank, is_schema_under};
 use sqlite::{Alter, Connection};
 use std::alloc::Global;
@@ -28,10 +28,10 @@ fn check_own<S: Alter>(alloc: Global, conn: &mut Connection<S>) -> Result<(), St
     ensures crash { SurvivesAs S.Store conn.old conn.new }
     ensures mode { conn.old.in_transaction ≡ false → conn.new.in_transaction ≡ false }
 {
-    if !is_schema_under(alloc, conn.schema(), Release::Third)? {
+    if !is_schema_under(alloc, conn.schema(), Schema::Third)? {
         return Err(StoreError::NoState);
     }
-    check_number(conn, Release::Third)
+    check_number(conn, Schema::Third)
 }
 
 /// Knows the store's tables by their number, and then by all that they are.

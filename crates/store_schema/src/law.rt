@@ -8,7 +8,7 @@ pub fn one_state()
     ensures { HasOneState }
 {}
 
-/// The same for a database that may be of an earlier release.
+/// The same for a database that may be of an earlier schema.
 pub fn one_earlier_state()
     ensures { HasOneEarlierState }
 {}

@@ -10,7 +10,7 @@ ghost use Rattle.store_schema.specs.Known.{HasTablesUnder, HasNumberBut, HasNumb
 ghost use Rattle.store_schema.specs.Looks.{LeavesAll, KeepsLast, SurvivesAs};
 
 use crate::error::StoreError;
-use crate::release::Release;
+use crate::schema::Schema;
 use sqlite::{Alter, Connection, Error, Row};
 use sqlite_value::value::ValueRef;
 
@@ -26,7 +26,7 @@ fn meta_rows<S: Alter>(conn: &mut Connection<S>) -> Result<Vec<Row>, Error>
     conn.query_all("SELECT k, v FROM meta", &[])
 }
 
-/// All rows of the `meta` of a release.
+/// All rows of the `meta` of a schema.
 fn own_rows<S: Alter>(conn: &mut Connection<S>) -> Result<Vec<Row>, Error>
     ensures shown { HasCleanDisk (state S.Store conn.new) → IfOk result
         (λ rows. Shown select_own [] (state S.Store conn.old) (state S.Store conn.new) rows.items) }
@@ -60,7 +60,7 @@ fn number_of(row: &Row) -> Option<i64>
     }
 }
 
-/// The number that a row of the `meta` of a release gives to the schema.
+/// The number that a row of the `meta` of a schema gives to the schema.
 fn own_number_of(row: &Row) -> Option<i64>
     ensures some { IfSome result (λ n. GivesOwn n row.now) }
     ensures none { IfNone result ((n : ℤ) → ¬ GivesOwn n row.now) }
@@ -84,11 +84,11 @@ fn gives_other_number(row: &Row, numbers: &[i64]) -> bool
     }
 }
 
-fn gives_own_number(row: &Row, release: Release) -> bool
-    ensures { IsTrue result ↔ GivesOwn (number_under release) row.now }
+fn gives_own_number(row: &Row, schema: Schema) -> bool
+    ensures { IsTrue result ↔ GivesOwn (number_under schema) row.now }
 {
     match own_number_of(row) {
-        Some(number) => number == release.number(),
+        Some(number) => number == schema.number(),
         None => false,
     }
 }
@@ -127,23 +127,23 @@ pub(crate) fn check_numbers<S: Alter>(
     Ok(())
 }
 
-/// Whether `meta` has one row, with the number of the release.
-fn is_number(rows: &[Row], release: Release) -> bool
-    ensures { IsTrue result ↔ IsNumber (number_under release) rows.now }
+/// Whether `meta` has one row, with the number of the schema.
+fn is_number(rows: &[Row], schema: Schema) -> bool
+    ensures { IsTrue result ↔ IsNumber (number_under schema) rows.now }
 {
-    rows.len() == 1 && gives_own_number(&rows[0], release)
+    rows.len() == 1 && gives_own_number(&rows[0], schema)
 }
 
-/// Knows the number of a release, where the tables are its own.
+/// Knows the number of a schema, where the tables are its own.
 pub(crate) fn check_number<S: Alter>(
     conn: &mut Connection<S>,
-    release: Release,
+    schema: Schema,
 ) -> Result<(), StoreError>
     ensures known { HasCleanDisk (state S.Store conn.new) → OnOk result
-        ((state S.Store conn.old).now.schema ≡ schema_under release
-        → HasTablesUnder release (state S.Store conn.old).now) }
+        ((state S.Store conn.old).now.schema ≡ schema_under schema
+        → HasTablesUnder schema (state S.Store conn.old).now) }
     ensures none { HasCleanDisk (state S.Store conn.new) → IsErrOf result StoreError.NoState
-        → ¬ HasTablesUnder release (state S.Store conn.old).now }
+        → ¬ HasTablesUnder schema (state S.Store conn.old).now }
     ensures which { IsErrOf result StoreError.OtherSchema → ⊥ }
     ensures same { LeavesAll S.Store conn.old conn.new result }
     ensures kept { KeepsLast S.Store conn.old conn.new }
@@ -151,7 +151,7 @@ pub(crate) fn check_number<S: Alter>(
     ensures mode { conn.old.in_transaction ≡ false → conn.new.in_transaction ≡ false }
 {
     let rows = own_rows(conn)?;
-    if !is_number(rows.as_slice(), release) {
+    if !is_number(rows.as_slice(), schema) {
         return Err(StoreError::NoState);
     }
     Ok(())

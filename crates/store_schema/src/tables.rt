@@ -1,4 +1,4 @@
-//! The tables, made in one transaction, and the release that those of a database are of.
+//! The tables, made in one transaction, and the schema that those of a database are of.
 
 ghost use Rattle.std.specs.Prelude.{◌≡◌, ◌≢◌, ◌↔◌, ◌∷◌, [], false, IsTrue, OnOk, OnErr, IfOk, IfSome, IfNone};
 ghost use Rattle.sqlite.specs.Held.{state};
@@ -10,13 +10,13 @@ ghost use Rattle.store_schema.specs.Stands.{StandsFor};
 ghost use Rattle.store_rows.specs.Inside.{StaysInside, Leads, IsMade, Holds};
 ghost use Rattle.store_schema.specs.Tables.{meta, global_tables, first_tables, schema_of};
 ghost use Rattle.store_schema.specs.Earlier.{tables_under, schema_under};
-ghost use Rattle.store_schema.specs.declared.release.Release.{Release as ReleaseOf};
+ghost use Rattle.store_schema.specs.declared.schema.Schema.{Schema as SchemaOf};
 
 use crate::creating::{add_source, add_tables, make_first, run};
-use crate::release::Release;
 use crate::same::same_schema;
+use crate::schema::Schema;
 use sqlite::{Alter, Connection, Error, Transaction};
-use sqlite_schema::schema::Schema;
+use sqlite_schema::schema::Schema as SqliteSchema;
 use std::alloc::Global;
 
 fn make_all<S: Alter>(tx: &mut Transaction<'_, S>) -> Result<(), Error>
@@ -25,22 +25,22 @@ fn make_all<S: Alter>(tx: &mut Transaction<'_, S>) -> Result<(), Error>
     ensures ok { OnOk result (Leads S.Store tx.old.conn.now tx.new.conn.now IsBlank (StandsFor empty_inventory)) }
 {
     make_first(tx)?;
-    add_tables(tx, Release::First)?;
+    add_tables(tx, Schema::First)?;
     run(tx, "INSERT INTO meta (k, v) VALUES ('schema', 3)")
 }
 
-/// The tables of a release, without its number.
-fn make_under<S: Alter>(tx: &mut Transaction<'_, S>, release: Release) -> Result<(), Error>
+/// The tables of a schema, without its number.
+fn make_under<S: Alter>(tx: &mut Transaction<'_, S>, schema: Schema) -> Result<(), Error>
     ensures same_reference { tx.new.conn.ghost_name ≡ tx.old.conn.ghost_name }
     ensures inside { StaysInside S.Store tx.old.conn.now tx.new.conn.now }
     ensures ok { OnOk result (Leads S.Store tx.old.conn.now tx.new.conn.now IsBlank
-        (HasTables (tables_under release))) }
+        (HasTables (tables_under schema))) }
 {
     make_first(tx)?;
-    match release {
-        Release::First => Ok(()),
-        Release::Second => add_source(tx),
-        Release::Third => add_tables(tx, Release::First),
+    match schema {
+        Schema::First => Ok(()),
+        Schema::Second => add_source(tx),
+        Schema::Third => add_tables(tx, Schema::First),
     }
 }
 
@@ -65,49 +65,49 @@ pub(crate) fn create<S: Alter>(conn: &mut Connection<S>) -> Result<(), Error>
 }
 
 /// Whether there is nothing in the database.
-pub(crate) fn is_blank(schema: &Schema) -> bool
-    ensures { IsTrue result ↔ (schema.now ≡ schema_of []) }
+pub(crate) fn is_blank(held: &SqliteSchema) -> bool
+    ensures { IsTrue result ↔ (held.now ≡ schema_of []) }
 {
-    schema.tables.is_empty() && schema.indexes.is_empty() && schema.views.is_empty()
+    held.tables.is_empty() && held.indexes.is_empty() && held.views.is_empty()
 }
 
-/// Makes the tables of a release in a database that has none.
-fn create_under<S: Alter>(conn: &mut Connection<S>, release: Release) -> Result<(), Error>
+/// Makes the tables of a schema in a database that has none.
+fn create_under<S: Alter>(conn: &mut Connection<S>, schema: Schema) -> Result<(), Error>
     requires { conn.old.in_transaction ≡ false }
     ensures made { HasCleanDisk (state S.Store conn.new) → OnOk result
-        (IsBlank (state S.Store conn.old).now → HasTables (tables_under release) (state S.Store conn.new).now) }
+        (IsBlank (state S.Store conn.old).now → HasTables (tables_under schema) (state S.Store conn.new).now) }
 {
     let mut tx = conn.transaction();
-    make_under(&mut tx, release)?;
+    make_under(&mut tx, schema)?;
     tx.commit()
 }
 
-/// Whether the tables are those of the release, by those that it makes in memory.
+/// Whether the tables are those of the schema, by those that it makes in memory.
 pub(crate) fn is_schema_under(
     alloc: Global,
-    schema: &Schema,
-    release: Release,
+    held: &SqliteSchema,
+    schema: Schema,
 ) -> Result<bool, Error>
-    ensures { IfOk result (λ is. IsTrue is ↔ (schema.now ≡ schema_under release)) }
+    ensures { IfOk result (λ is. IsTrue is ↔ (held.now ≡ schema_under schema)) }
 {
     let mut conn = Connection::open_in_memory(alloc)?;
-    create_under(&mut conn, release)?;
-    Ok(same_schema(schema, conn.schema()))
+    create_under(&mut conn, schema)?;
+    Ok(same_schema(held, conn.schema()))
 }
 
-/// The release that the tables are of.
-pub(crate) fn release_with(alloc: Global, schema: &Schema) -> Result<Option<Release>, Error>
-    ensures some { IfOk result (λ found. IfSome found (λ release. schema.now ≡ schema_under release)) }
-    ensures none { IfOk result (λ found. IfNone found ((release : ReleaseOf) → schema.now ≢ schema_under release)) }
+/// The schema that the tables are of.
+pub(crate) fn schema_with(alloc: Global, held: &SqliteSchema) -> Result<Option<Schema>, Error>
+    ensures some { IfOk result (λ found. IfSome found (λ schema. held.now ≡ schema_under schema)) }
+    ensures none { IfOk result (λ found. IfNone found ((schema : SchemaOf) → held.now ≢ schema_under schema)) }
 {
-    if is_schema_under(alloc, schema, Release::First)? {
-        return Ok(Some(Release::First));
+    if is_schema_under(alloc, held, Schema::First)? {
+        return Ok(Some(Schema::First));
     }
-    if is_schema_under(alloc, schema, Release::Second)? {
-        return Ok(Some(Release::Second));
+    if is_schema_under(alloc, held, Schema::Second)? {
+        return Ok(Some(Schema::Second));
     }
-    if is_schema_under(alloc, schema, Release::Third)? {
-        return Ok(Some(Release::Third));
+    if is_schema_under(alloc, held, Schema::Third)? {
+        return Ok(Some(Schema::Third));
     }
     Ok(None)
 }

@@ -8,34 +8,34 @@ use Rattle.terms.specs.Types.{Sysmod}
 use Rattle.store_rows.specs.declared.error.ReadError.{ReadError}
 use Rattle.store_rows.specs.Rows.{Contents}
 use Rattle.store_rows.proofs.InsideLemmas.{if_ok}
-use Rattle.store_schema.specs.declared.release.Release.{Release}
-use Rattle.store_schema.specs.declared.release.Release.TheVariants.{First, Second, Third}
+use Rattle.store_schema.specs.declared.schema.Schema.{Schema}
+use Rattle.store_schema.specs.declared.schema.Schema.TheVariants.{First, Second, Third}
 use Rattle.store_sysmod_loads.specs.Both.{AreRowsIn, LoadsRows}
 use Rattle.store_sysmod_loads.specs.Flats.{AreFormed, AreRowsOf}
 use Rattle.store_sysmod_loads.specs.Parts.{LoadsPart}
 
 module _ {X : Type 0} (row_of further_row_of : X → Row) (HasForm HasFurtherForm : X → Type 0)
     (held further_held : List Row) where
-  abbrev AreIn : Release → List X → Type 0
+  abbrev AreIn : Schema → List X → Type 0
   AreIn r = AreRowsIn r row_of further_row_of HasForm HasFurtherForm held further_held
 
   abbrev AreAlone : List X → Type 0
   AreAlone rows = AllByRecursion HasForm rows × IsPermutation (map row_of rows) held
 
-  pub early_rows : (r : Release) → (r ≡ First) ⊎ (r ≡ Second) → (rows : List X) → AreAlone rows → AreIn r rows
+  pub early_rows : (r : Schema) → (r ≡ First) ⊎ (r ≡ Second) → (rows : List X) → AreAlone rows → AreIn r rows
   early_rows First is rows h = h
   early_rows Second is rows h = h
   early_rows Third (inl is) rows h = absurd cc
   early_rows Third (inr is) rows h = absurd cc
 
-  pub rows_early : (r : Release) → (r ≡ First) ⊎ (r ≡ Second) → (rows : List X) → AreIn r rows → AreAlone rows
+  pub rows_early : (r : Schema) → (r ≡ First) ⊎ (r ≡ Second) → (rows : List X) → AreIn r rows → AreAlone rows
   rows_early First is rows h = h
   rows_early Second is rows h = h
   rows_early Third (inl is) rows h = absurd cc
   rows_early Third (inr is) rows h = absurd cc
 
 -- what is so of any such rows is so of those of SYSMODs
-pub part_of : {S X Y : Type 0} {g : Ghosts S} {r : Release} {items : Y → List X}
+pub part_of : {S X Y : Type 0} {g : Ghosts S} {r : Schema} {items : Y → List X}
     {AreHeld : List X → Contents → Type 0} {Rise : List X → Type 0} (all : List Sysmod → List X)
     (Hold : List X → Contents → Type 0) {old new : Held S} {result : Result Y ReadError}
     → ((xs : List X) (contents : Contents) → AreHeld xs contents → Hold xs contents)

@@ -7,8 +7,8 @@ use Rattle.sqlite.specs.Order.{Row}
 use Rattle.terms.specs.Types.{Sysmod}
 use Rattle.store_rows.specs.Rows.{Contents}
 use Rattle.store_schema.specs.Tables.{ver, ifreq, morever, moreif}
-use Rattle.store_schema.specs.declared.release.Release.{Release}
-use Rattle.store_schema.specs.declared.release.Release.TheVariants.{First, Second, Third}
+use Rattle.store_schema.specs.declared.schema.Schema.{Schema}
+use Rattle.store_schema.specs.declared.schema.Schema.TheVariants.{First, Second, Third}
 use Rattle.store_sysmod_loads.specs.declared.flat.VerRow.{VerRow}
 use Rattle.store_sysmod_loads.specs.declared.flat.IfRow.{IfRow}
 use Rattle.store_sysmod_loads.specs.Both.{AreOfBoth, AreRowsIn}
@@ -60,12 +60,12 @@ module _ {X : Type 0} (p : X → Bool) (row_of : X → Row) (HasForm : X → Typ
 
 -- ---- ++VERs
 
-abbrev pub AreVersIn : Release → List VerRow → Contents → Type 0
+abbrev pub AreVersIn : Schema → List VerRow → Contents → Type 0
 AreVersIn r rows contents =
     AreRowsIn r row_of_ver row_of_more_ver HasFirstForms HasFurtherForms (contents ver.tree) (contents morever.tree)
     rows
 
-pub vers_held : (r : Release) (rows : List VerRow) (contents : Contents) → AreVersIn r rows contents
+pub vers_held : (r : Schema) (rows : List VerRow) (contents : Contents) → AreVersIn r rows contents
     → HoldVers r rows contents
 vers_held First rows contents h =
     let it = held_alone is_first_row row_of_ver HasFirstForms firsts_pass _ rows h.0 h.1 in
@@ -77,7 +77,7 @@ vers_held Third rows contents h =
     let it = held_apart is_first_row firsts_pass furthers_fail _ _ h.0 h.1 rows h.2 in
     record { firsts = it.0; more = it.1 }
 
-pub its_vers : (r : Release) (ss : List Sysmod) (contents : Contents) → AreFormed r ss → AreRowsOf r ss contents
+pub its_vers : (r : Schema) (ss : List Sysmod) (contents : Contents) → AreFormed r ss → AreRowsOf r ss contents
     → AreVersIn r (all_vers ss) contents
 its_vers First ss contents formed rows =
     own_alone is_first_row row_of_ver HasFirstForms _ _ (all_vers ss) (singles_first ss rows.more)
@@ -107,12 +107,12 @@ vers_formed = recursion_weaker (λ r. HasFirstForms r ⊎ HasFurtherForms r) Has
 
 -- ---- ++IFs
 
-abbrev pub AreIfsIn : Release → List IfRow → Contents → Type 0
+abbrev pub AreIfsIn : Schema → List IfRow → Contents → Type 0
 AreIfsIn r rows contents =
     AreRowsIn r row_of_if row_of_more_if HasFirstIfForms HasFurtherIfForms (contents ifreq.tree) (contents moreif.tree)
     rows
 
-pub ifs_held : (r : Release) (rows : List IfRow) (contents : Contents) → AreIfsIn r rows contents
+pub ifs_held : (r : Schema) (rows : List IfRow) (contents : Contents) → AreIfsIn r rows contents
     → HoldIfs r rows contents
 ifs_held First rows contents h =
     let it = held_alone is_first_if row_of_if HasFirstIfForms first_ifs_pass _ rows h.0 h.1 in
@@ -124,7 +124,7 @@ ifs_held Third rows contents h =
     let it = held_apart is_first_if first_ifs_pass further_ifs_fail _ _ h.0 h.1 rows h.2 in
     record { firsts = it.0; more = it.1 }
 
-pub its_ifs : (r : Release) (ss : List Sysmod) (contents : Contents) → AreFormed r ss → AreRowsOf r ss contents
+pub its_ifs : (r : Schema) (ss : List Sysmod) (contents : Contents) → AreFormed r ss → AreRowsOf r ss contents
     → AreIfsIn r (all_ifs ss) contents
 its_ifs First ss contents formed rows =
     own_alone is_first_if row_of_if HasFirstIfForms _ _ (all_ifs ss) (singles_first_ifs ss rows.more)

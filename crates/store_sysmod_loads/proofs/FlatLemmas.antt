@@ -245,7 +245,7 @@ if_ids x (v ∷ vers) =
 pub other_by : (x y z : Id) → y ≡ z → z ≢ x → y ≢ x
 other_by x y z e other same = other (sym e ∙ same)
 
--- another ++VER, by its release and number
+-- another ++VER, by its SREL and number
 abbrev pub IsOtherVer : ℕ × Ver → ℕ × Ver → Type 0
 IsOtherVer v w = w.1.srel ≡ v.1.srel → w.0 ≢ v.0
 
@@ -277,7 +277,7 @@ other_ver : (v w : ℕ × Ver) → IsVerBefore v w → IsOtherVer v w
 other_ver v w (inl before) same number = absurd (not_before_same v.1.srel w.1.srel (sym same) before)
 other_ver v w (inr up) same number = absurd (let more = up.1 in omega (arith, more, number))
 
--- the ++VERs rise by release and number
+-- the ++VERs rise by SREL and number
 pub numbers_up : (s : Sysmod) → IsBuilt s → IsAscending IsVerBefore (numbered s)
 numbers_up s h = numbers_ascend s.kind [] s.vers (ascending (AreVersApart s.kind) s.vers h.apart)
 
@@ -303,7 +303,7 @@ flat_taken (s ∷ ss) up built none =
     (λ r. parent_of_elem r ≢ s.id)
     (λ t other. recursion_weaker (λ r. parent_of_elem r ≡ t.id) (λ r. parent_of_elem r ≢ s.id)
     (λ r e. other_by s.id r.id t.id e other) _ (elem_parents t.id t.changes)) ss others in
-    let releases = weaker_pairs IsVerBefore IsOtherVer other_ver (numbered s) (numbers_up s built.0)
+    let schemas = weaker_pairs IsVerBefore IsOtherVer other_ver (numbered s) (numbers_up s built.0)
     in (
       all_vers ss,
       all_ifs ss,
@@ -313,7 +313,7 @@ flat_taken (s ∷ ss) up built none =
         vers_are = (
           refl,
           stands_apart parent_of_ver s.id (all_vers ss) of_vers,
-          ifs_taken s.id (numbered s) (all_ifs ss) releases of_ifs,
+          ifs_taken s.id (numbered s) (all_ifs ss) schemas of_ifs,
         );
         elems_are = (refl, stands_apart parent_of_elem s.id (all_elems ss) of_elems);
         built = built.0;

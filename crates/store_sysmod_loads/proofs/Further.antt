@@ -1,4 +1,4 @@
--- Which ++VERs are the first for their release, and which are further ones.
+-- Which ++VERs are the first for their SREL, and which are further ones.
 use Rattle.std.proofs.Common.{◌≡◌, ◌≢◌, inl, inr, ℕ, ◌<◌, ◌==◌, true, false, not, List, [], ◌∷◌, map, filter}
 use Rattle.std.proofs.Common.{IsTrue, IsPermutation, arith, refl, sym, ap, subst, ◌∙◌}
 use Rattle.std.specs.Prelude.{All}
@@ -16,8 +16,8 @@ use Rattle.store_rows.specs.Rows.{Contents}
 use Rattle.store_rows.proofs.RowLemmas.{mapped, unmapped}
 use Rattle.store_schema.specs.Forms.{VerSuitsKind, AreVersApart}
 use Rattle.store_schema.specs.Tables.{morever, moreif}
-use Rattle.store_schema.specs.declared.release.Release.{Release}
-use Rattle.store_schema.specs.declared.release.Release.TheVariants.{First, Second, Third}
+use Rattle.store_schema.specs.declared.schema.Schema.{Schema}
+use Rattle.store_schema.specs.declared.schema.Schema.TheVariants.{First, Second, Third}
 use Rattle.store_schema.proofs.Lists.{ascending, all_by, has_all, flat_has, flat_had}
 use Rattle.store_schema.proofs.Numbered.{numbered, numbered_is, numbered_has, number_above, IsVerBefore}
 use Rattle.store_schema.proofs.Numbered.{numbered_service, one_or_other, other_one}
@@ -131,7 +131,7 @@ further_if_forms ss h = all_from HasFurtherIfForms (others is_first_if (all_ifs 
     let at = flat_had (λ (s : Sysmod). ifs_of s.id (numbered s)) ss r it.0 in
     (all_has HasIfRowForms (all_ifs ss) r h it.0, above_one r.place (place_above at.0 r at.2) it.1))
 
--- ---- where no SYSMOD has two for one release
+-- ---- where no SYSMOD has two for one SREL
 
 alone_rows : (x : Id) (vs : List Ver) → AllByRecursion (λ r. is_first_row r ≡ true) (ver_rows x (map alone vs))
 alone_rows x [] = tt
@@ -199,7 +199,7 @@ singles_from ss built none = All-from_recursion HasSingles ss (all_from HasSingl
 
 -- ---- under each schema
 
-pub more_held : (r : Release) (ss : List Sysmod) (contents : Contents) → AreWhole ss
+pub more_held : (r : Schema) (ss : List Sysmod) (contents : Contents) → AreWhole ss
     → HoldMoreVers r (others is_first_row (all_vers ss)) contents
     → HoldMoreIfs r (others is_first_if (all_ifs ss)) contents → AreMoreRowsOf r ss contents
 more_held First ss contents whole vers ifs = singles_from ss whole.built vers

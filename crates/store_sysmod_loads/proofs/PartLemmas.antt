@@ -9,12 +9,12 @@ use Rattle.store_rows.specs.declared.error.ReadError.TheVariants.{BadRow, Fault}
 use Rattle.store_rows.specs.Rows.{Contents, HasContents}
 use Rattle.store_rows.proofs.InsideLemmas.{if_ok}
 use Rattle.store_rows.proofs.Queries.{reads_err, reads_more, reads_then}
-use Rattle.store_schema.specs.declared.release.Release.{Release}
+use Rattle.store_schema.specs.declared.schema.Schema.{Schema}
 use Rattle.store_schema.specs.Earlier.{schema_under}
 use Rattle.store_sysmod_loads.specs.Flats.{AreFormed}
 use Rattle.store_sysmod_loads.specs.Parts.{LoadsPart}
 
-module _ {S : Type 0} {g : Ghosts S} {r : Release} where
+module _ {S : Type 0} {g : Ghosts S} {r : Schema} where
   -- the rows stand where they stood
   still : {X : Type 0} {H : X → Contents → Type 0} {W : X → List Sysmod → Type 0} {a b : Held S}
       {q : Result X ReadError}

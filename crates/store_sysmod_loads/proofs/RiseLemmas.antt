@@ -140,7 +140,7 @@ sources_rise ss h forms =
     (ascending BelowHead (map head_of ss) (heads_rise ss h))
     (recursion_weaker HasHeadForms _ names_up (map head_of ss) forms))
 
--- by the release, and then by the number of the ++VER
+-- by the SREL, and then by the number of the ++VER
 abbrev pub ver_sub_cmp : Text × ℕ → Text × ℕ → Ordering
 ver_sub_cmp a b = ordering_then (slice_cmp nat_cmp a.0 b.0) (nat_cmp a.1 b.1)
 
@@ -178,7 +178,7 @@ vers_rise ss h =
     (λ (r : VerRow). r.id) (λ (r : VerRow). (r.ver.srel, r.number)) same_text
     (λ s. ver_parents s.id (numbered s)) ss (ids_up ss h) (recursion_weaker IsBuilt _ vers_up ss h.built))
 
--- by the release, the ++VER's number and then the own one
+-- by the SREL, the ++VER's number and then the own one
 abbrev pub if_sub_cmp : Text × (ℕ × ℕ) → Text × (ℕ × ℕ) → Ordering
 if_sub_cmp a b =
     ordering_then (slice_cmp nat_cmp a.0 b.0) (ordering_then (nat_cmp a.1.0 b.1.0) (nat_cmp a.1.1 b.1.1))

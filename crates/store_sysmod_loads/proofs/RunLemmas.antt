@@ -69,9 +69,9 @@ if_is : (row : IfRow) (x : Id) (srel : Text) (place n : ℕ) → parent_of_if ro
     → row ≡ if_row x srel place n row.ifreq
 if_is row x srel place n key number =
     let id : row.id ≡ x = ap (λ (k : Id × Text × ℕ). k.0) key in
-    let release : row.srel ≡ srel = ap (λ (k : Id × Text × ℕ). k.1) key in
+    let same_srel : row.srel ≡ srel = ap (λ (k : Id × Text × ℕ). k.1) key in
     let behind : row.place ≡ place = ap (λ (k : Id × Text × ℕ). k.2) key in
-    ap (λ y. record row { id = y }) id ∙ ap (λ y. record row { id = x; srel = y }) release
+    ap (λ y. record row { id = y }) id ∙ ap (λ y. record row { id = x; srel = y }) same_srel
     ∙ ap (λ y. record row { id = x; srel = srel; place = y }) behind
     ∙ ap (λ y. record { id = x; srel = srel; place = place; number = y; ifreq = row.ifreq }) number
 

@@ -15,9 +15,9 @@ use Rattle.store_schema.specs.Rows.{number_behind, numbered_behind}
 use Rattle.store_schema.proofs.Numbered.{numbered}
 use Rattle.store_schema.specs.Inventory.{Inventory, IsInventory}
 use Rattle.store_schema.specs.Earlier.{HasShortSources, StandsUnder}
-use Rattle.store_schema.specs.declared.release.Release.{Release}
-use Rattle.store_schema.specs.declared.release.Release.TheVariants.{First, Second, Third}
-use Rattle.store_columns.proofs.Releases.{rows_under}
+use Rattle.store_schema.specs.declared.schema.Schema.{Schema}
+use Rattle.store_schema.specs.declared.schema.Schema.TheVariants.{First, Second, Third}
+use Rattle.store_columns.proofs.Schemas.{rows_under}
 use Rattle.store_sysmod_loads.specs.Flat.{HasHeadForms, HasShortForms, HasFormsUnder, HasVerRowForms, HasIfRowForms}
 use Rattle.store_sysmod_loads.specs.Flat.{HasElemRowForms}
 use Rattle.store_sysmod_loads.specs.Runs.{if_rows, ver_rows, elem_rows}
@@ -52,10 +52,10 @@ vers_formed kind x front (v ∷ vers) id h = (
 
 if_list_formed : (x : Id) (srel : Text) (place n : ℕ) (ifs : List IfReq) → IsId x → IsSrel srel
     → AllByRecursion (HasIfForms x) ifs → AllByRecursion HasIfRowForms (if_rows x srel place n ifs)
-if_list_formed x srel place n [] id release h = tt
-if_list_formed x srel place n (i ∷ ifs) id release h = (
-  (id, release, h.0),
-  if_list_formed x srel place (n + 1) ifs id release h.1,
+if_list_formed x srel place n [] id schema h = tt
+if_list_formed x srel place n (i ∷ ifs) id schema h = (
+  (id, schema, h.0),
+  if_list_formed x srel place (n + 1) ifs id schema h.1,
 )
 
 ifs_formed : (kind : Kind) (x : Id) (front vers : List Ver) → IsId x → AllByRecursion (HasVerForms kind x) vers
@@ -118,7 +118,7 @@ inventory_whole i h =
       none_carried = recursion_from_All (λ (s : Sysmod). s.holds ≡ []) ss h.global.none_carried;
     }
 
-inventory_formed : (r : Release) (i : Inventory) → IsInventory i
+inventory_formed : (r : Schema) (i : Inventory) → IsInventory i
     → AllByRecursion (HasFormsUnder r) (map head_of i.global.sysmods) → AreFormed r i.global.sysmods
 inventory_formed r i h heads =
     let ss = i.global.sysmods in
@@ -142,7 +142,7 @@ short_formed : (ss : List Sysmod) → AllByRecursion HasSysmodForms ss → AllBy
 short_formed [] h short = tt
 short_formed (s ∷ ss) h short = (((h.0.id, h.0.sources), short.0), short_formed ss h.1 short.1)
 
-pub stands_formed : (r : Release) (i : Inventory) (db : Database) → StandsUnder r i db → AreFormed r i.global.sysmods
+pub stands_formed : (r : Schema) (i : Inventory) (db : Database) → StandsUnder r i db → AreFormed r i.global.sysmods
 stands_formed First i db h =
     let ss = i.global.sysmods in
     inventory_formed First i h.inventory (short_formed ss (recursion_from_All HasSysmodForms ss h.inventory.sysmods)
@@ -154,7 +154,7 @@ stands_formed Third i db h =
     let ss = i.global.sysmods in
     inventory_formed Third i h.inventory (heads_formed ss (recursion_from_All HasSysmodForms ss h.inventory.sysmods))
 
-pub inventory_rows : (r : Release) (i : Inventory) (db : Database) → StandsUnder r i db
+pub inventory_rows : (r : Schema) (i : Inventory) (db : Database) → StandsUnder r i db
     → AreRowsOf r i.global.sysmods (rows_under r i)
 inventory_rows First i db h = record {
   heads = IsPermutation-refl _;

@@ -8,21 +8,21 @@ use Rattle.sqlite_tied.specs.Compute.{everything}
 use Rattle.store_rows.specs.Selects.{IsSelect}
 use Rattle.store_rows.specs.Texts.{IsTableOf, ReadsRows}
 use Rattle.store_rows.proofs.Meant.{reads_all}
-use Rattle.store_schema.specs.declared.release.Release.{Release}
-use Rattle.store_schema.specs.declared.release.Release.TheVariants.{First, Second, Third}
+use Rattle.store_schema.specs.declared.schema.Schema.{Schema}
+use Rattle.store_schema.specs.declared.schema.Schema.TheVariants.{First, Second, Third}
 use Rattle.store_schema.specs.Earlier.{schema_under}
 use Rattle.store_schema.specs.Tables.{sysmod, ver, ifreq, elem, source, morever, moreif, first_tables, second_tables}
 use Rattle.store_schema.specs.Tables.{schema_of, store_schema}
-use Rattle.store_columns.proofs.Releases.{under_each, under_later, under_third}
+use Rattle.store_columns.proofs.Schemas.{under_each, under_later, under_third}
 
--- The text asks for all rows of the table, in each release that has it.
-pub record Lists (knows : Release → Type 0) (at : ℕ) (table : Table) (sql : List ℕ) : Type 0 where
-  pub reads : (r : Release) → knows r → ReadsRows (schema_under r) table 0 sql
-  pub there : (r : Release) → knows r → IsTableOf (schema_under r) at table
+-- The text asks for all rows of the table, in each schema that has it.
+pub record Lists (knows : Schema → Type 0) (at : ℕ) (table : Table) (sql : List ℕ) : Type 0 where
+  pub reads : (r : Schema) → knows r → ReadsRows (schema_under r) table 0 sql
+  pub there : (r : Schema) → knows r → IsTableOf (schema_under r) at table
   pub selects : IsSelect sql
 
 module _ {at : ℕ} {table : Table} {sql : List ℕ} where
-  -- of a table that each release has
+  -- of a table that each schema has
   lists_each : ((more : List Table) → ReadsRows (schema_of (first_tables ++ more)) table 0 sql)
       → IsTableOf (schema_under First) at table → IsTableOf (schema_under Second) at table
       → IsTableOf (schema_under Third) at table → IsSelect sql → Lists (λ r. ⊤) at table sql
@@ -32,7 +32,7 @@ module _ {at : ℕ} {table : Table} {sql : List ℕ} where
     selects = selects;
   }
     where
-      by : (r : Release) → IsTableOf (schema_under r) at table
+      by : (r : Schema) → IsTableOf (schema_under r) at table
       by First = first
       by Second = second
       by Third = third
@@ -47,7 +47,7 @@ module _ {at : ℕ} {table : Table} {sql : List ℕ} where
     selects = selects;
   }
     where
-      by : (r : Release) → r ≢ First → IsTableOf (schema_under r) at table
+      by : (r : Schema) → r ≢ First → IsTableOf (schema_under r) at table
       by First later = absurd (later refl)
       by Second later = second
       by Third later = third

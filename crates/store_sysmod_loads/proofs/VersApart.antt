@@ -13,7 +13,7 @@ use Rattle.store_schema.proofs.Numbered.{not_behind}
 not_over_same : (x y : Text) → x ≡ y → IsFalse (is_before y x)
 not_over_same x y same = ap (λ t. is_before y t) same ∙ ap is_lt (tied_itself nat_list_cmp_total y)
 
--- for one release
+-- for one SREL
 pub apart_same : (kind : Kind) (v w : Ver) (r : Bool) → v.srel ≡ w.srel
     → (IsTrue r ↔ ((kind ≢ Function) × (v.fmid ≢ w.fmid))) → (IsTrue r ↔ AreVersApart kind v w)
 apart_same kind v w r same told = (

@@ -9,8 +9,8 @@ use Rattle.store_rows.specs.declared.error.ReadError.{ReadError}
 use Rattle.store_rows.specs.declared.error.ReadError.TheVariants.{BadRow, Fault}
 use Rattle.store_rows.specs.Reads.{OnlyReads}
 use Rattle.store_rows.specs.Rows.{Contents, HasContents}
-use Rattle.store_schema.specs.declared.release.Release.{Release}
-use Rattle.store_schema.specs.declared.release.Release.TheVariants.{Third}
+use Rattle.store_schema.specs.declared.schema.Schema.{Schema}
+use Rattle.store_schema.specs.declared.schema.Schema.TheVariants.{Third}
 use Rattle.store_schema.specs.Earlier.{schema_under}
 
 -- The first table holds these, the other table those, and both together are the rows.
@@ -23,7 +23,7 @@ pub record AreOfBoth {X : Type 0} (row_of further_row_of : X → Row) (HasForm H
   pub all : IsPermutation (firsts ++ furthers) rows
 
 -- they are those of both tables under schema 3, and those of the first before it
-abbrev pub AreRowsIn : {X : Type 0} → Release → (X → Row) → (X → Row) → (X → Type 0) → (X → Type 0) → List Row
+abbrev pub AreRowsIn : {X : Type 0} → Schema → (X → Row) → (X → Row) → (X → Type 0) → (X → Type 0) → List Row
     → List Row → List X → Type 0
 AreRowsIn {X} Third row_of further_row_of HasForm HasFurtherForm held further_held rows =
     (firsts : List X) × (furthers : List X)
@@ -33,7 +33,7 @@ AreRowsIn _ row_of further_row_of HasForm HasFurtherForm held further_held rows 
 
 -- The tables hold what it answers. Where they hold the rows of a list that rises it answers this list; a row is bad
 -- where they are those of none.
-pub record LoadsRows {S X Y : Type 0} (g : Ghosts S) (r : Release) (items : Y → List X)
+pub record LoadsRows {S X Y : Type 0} (g : Ghosts S) (r : Schema) (items : Y → List X)
     (AreHeld : List X → Contents → Type 0) (Rise : List X → Type 0) (old new : Held S) (result : Result Y ReadError) :
     Type 0 where
   pub found : HasCleanDisk (state g new) → (contents : Contents)

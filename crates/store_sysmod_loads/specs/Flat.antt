@@ -8,8 +8,8 @@ use Rattle.terms.specs.Spelling.{kind_text}
 use Rattle.terms.specs.Types.{Text}
 use Rattle.store_schema.specs.Forms.{AreSorted, HasVerForms, HasIfForms, HasChangeForms}
 use Rattle.store_schema.specs.Rows.{ids, source_row, ver_row, ifreq_row, elem_row, morever_row, moreif_row}
-use Rattle.store_schema.specs.declared.release.Release.{Release}
-use Rattle.store_schema.specs.declared.release.Release.TheVariants.{First}
+use Rattle.store_schema.specs.declared.schema.Schema.{Schema}
+use Rattle.store_schema.specs.declared.schema.Schema.TheVariants.{First}
 use Rattle.store_sysmod_loads.specs.declared.flat.HeadRow.{HeadRow}
 use Rattle.store_sysmod_loads.specs.declared.flat.BareHead.{BareHead}
 use Rattle.store_sysmod_loads.specs.declared.flat.SourceRow.{SourceRow}
@@ -45,11 +45,11 @@ abbrev pub HasShortForms : HeadRow → Type 0
 HasShortForms h = HasHeadForms h × AreShort h.sources
 
 -- the forms of a head under the schema
-abbrev pub HasFormsUnder : Release → HeadRow → Type 0
+abbrev pub HasFormsUnder : Schema → HeadRow → Type 0
 HasFormsUnder First h = HasShortForms h
 HasFormsUnder _ h = HasHeadForms h
 
--- ++VERs and ++IFs have one table where the ++VER is the first for its release, and another where it is a further one
+-- ++VERs and ++IFs have one table where the ++VER is the first for its SREL, and another where it is a further one
 abbrev pub is_first_row : VerRow → Bool
 is_first_row r = r.number == 1
 

@@ -11,8 +11,8 @@ use Rattle.store_schema.specs.Rows.{sysmod_row, sources_of, vers_of, ifreqs_of, 
 use Rattle.store_schema.specs.Rows.{numbered_behind}
 use Rattle.store_schema.specs.Earlier.{first_sysmod_row}
 use Rattle.store_schema.specs.Tables.{sysmod, source, ver, ifreq, elem, morever, moreif}
-use Rattle.store_schema.specs.declared.release.Release.{Release}
-use Rattle.store_schema.specs.declared.release.Release.TheVariants.{First, Third}
+use Rattle.store_schema.specs.declared.schema.Schema.{Schema}
+use Rattle.store_schema.specs.declared.schema.Schema.TheVariants.{First, Third}
 use Rattle.store_sysmod_loads.specs.declared.flat.HeadRow.{HeadRow}
 use Rattle.store_sysmod_loads.specs.declared.flat.VerRow.{VerRow}
 use Rattle.store_sysmod_loads.specs.declared.flat.IfRow.{IfRow}
@@ -44,8 +44,8 @@ pub record AreWhole (sysmods : List Sysmod) : Type 0 where
   pub none_carried : AllByRecursion (λ s. s.holds ≡ []) sysmods
 
 -- The SYSMODs have the forms that their rows show under the schema, and those that are seen of each as a whole.
-pub record AreFormed (release : Release) (sysmods : List Sysmod) : Type 0 where
-  pub heads : AllByRecursion (HasFormsUnder release) (map head_of sysmods)
+pub record AreFormed (schema : Schema) (sysmods : List Sysmod) : Type 0 where
+  pub heads : AllByRecursion (HasFormsUnder schema) (map head_of sysmods)
   pub vers : AllByRecursion HasVerRowForms (all_vers sysmods)
   pub ifs : AllByRecursion HasIfRowForms (all_ifs sysmods)
   pub elems : AllByRecursion HasElemRowForms (all_elems sysmods)
@@ -53,21 +53,21 @@ pub record AreFormed (release : Release) (sysmods : List Sysmod) : Type 0 where
 
 -- what the tables hold of SYSMODs but their statements: under schema 1 each row has the sources, later they have a
 -- table of their own
-abbrev pub AreHeadRowsOf : Release → List Sysmod → Contents → Type 0
+abbrev pub AreHeadRowsOf : Schema → List Sysmod → Contents → Type 0
 AreHeadRowsOf First sysmods contents = IsPermutation (map first_sysmod_row sysmods) (contents sysmod.tree)
 AreHeadRowsOf _ sysmods contents = IsPermutation (map sysmod_row sysmods) (contents sysmod.tree)
     × IsPermutation (flat_map sources_of sysmods) (contents source.tree)
 
--- Under schema 3 there are tables of further ++VERs for one release. Under those before no SYSMOD has two.
-abbrev pub AreMoreRowsOf : Release → List Sysmod → Contents → Type 0
+-- Under schema 3 there are tables of further ++VERs for one SREL. Under those before no SYSMOD has two.
+abbrev pub AreMoreRowsOf : Schema → List Sysmod → Contents → Type 0
 AreMoreRowsOf Third sysmods contents = IsPermutation (flat_map morevers_of sysmods) (contents morever.tree)
     × IsPermutation (flat_map moreifs_of sysmods) (contents moreif.tree)
 AreMoreRowsOf _ sysmods contents = All (λ s. IsRising (map (λ v. v.srel) s.vers)) sysmods
 
 -- the tables hold the rows of the SYSMODs, in any order, and no others
-pub record AreRowsOf (release : Release) (sysmods : List Sysmod) (contents : Contents) : Type 0 where
-  pub heads : AreHeadRowsOf release sysmods contents
+pub record AreRowsOf (schema : Schema) (sysmods : List Sysmod) (contents : Contents) : Type 0 where
+  pub heads : AreHeadRowsOf schema sysmods contents
   pub vers : IsPermutation (flat_map vers_of sysmods) (contents ver.tree)
   pub ifs : IsPermutation (flat_map ifreqs_of sysmods) (contents ifreq.tree)
   pub elems : IsPermutation (flat_map elems_of sysmods) (contents elem.tree)
-  pub more : AreMoreRowsOf release sysmods contents
+  pub more : AreMoreRowsOf schema sysmods contents

@@ -4,8 +4,8 @@ use Rattle.std.specs.List.{AllByRecursion}
 use Rattle.terms.specs.Types.{Sysmod}
 use Rattle.store_rows.specs.Rows.{Contents}
 use Rattle.store_schema.specs.Tables.{sysmod, source, ver, ifreq, elem, morever, moreif}
-use Rattle.store_schema.specs.declared.release.Release.{Release}
-use Rattle.store_schema.specs.declared.release.Release.TheVariants.{First, Third}
+use Rattle.store_schema.specs.declared.schema.Schema.{Schema}
+use Rattle.store_schema.specs.declared.schema.Schema.TheVariants.{First, Third}
 use Rattle.store_sysmod_loads.specs.declared.flat.HeadRow.{HeadRow}
 use Rattle.store_sysmod_loads.specs.declared.flat.VerRow.{VerRow}
 use Rattle.store_sysmod_loads.specs.declared.flat.IfRow.{IfRow}
@@ -17,38 +17,38 @@ use Rattle.store_sysmod_loads.specs.Joined.{bare_of, all_sources}
 use Rattle.store_sysmod_loads.specs.Flats.{head_of, all_vers, all_ifs, all_elems, AreWhole}
 
 -- the tables hold the heads, with their sources or apart from them, and no others
-abbrev pub HoldHeads : Release → List HeadRow → Contents → Type 0
+abbrev pub HoldHeads : Schema → List HeadRow → Contents → Type 0
 HoldHeads First heads contents = IsPermutation (map row_of_head heads) (contents sysmod.tree)
 HoldHeads _ heads contents = IsPermutation (map row_of_bare (map bare_of heads)) (contents sysmod.tree)
     × IsPermutation (map row_of_source (all_sources heads)) (contents source.tree)
 
 -- the tables hold the rows of further ++VERs, where they are there, or else there is none
-abbrev pub HoldMoreVers : Release → List VerRow → Contents → Type 0
+abbrev pub HoldMoreVers : Schema → List VerRow → Contents → Type 0
 HoldMoreVers Third rows contents = IsPermutation (map row_of_more_ver rows) (contents morever.tree)
 HoldMoreVers _ rows contents = rows ≡ []
 
-abbrev pub HoldMoreIfs : Release → List IfRow → Contents → Type 0
+abbrev pub HoldMoreIfs : Schema → List IfRow → Contents → Type 0
 HoldMoreIfs Third rows contents = IsPermutation (map row_of_more_if rows) (contents moreif.tree)
 HoldMoreIfs _ rows contents = rows ≡ []
 
 -- the tables hold the rows of all ++VERs, first and further ones
-pub record HoldVers (release : Release) (rows : List VerRow) (contents : Contents) : Type 0 where
+pub record HoldVers (schema : Schema) (rows : List VerRow) (contents : Contents) : Type 0 where
   pub firsts : IsPermutation (map row_of_ver (filter is_first_row rows)) (contents ver.tree)
-  pub more : HoldMoreVers release (filter (λ r. not (is_first_row r)) rows) contents
+  pub more : HoldMoreVers schema (filter (λ r. not (is_first_row r)) rows) contents
 
-pub record HoldIfs (release : Release) (rows : List IfRow) (contents : Contents) : Type 0 where
+pub record HoldIfs (schema : Schema) (rows : List IfRow) (contents : Contents) : Type 0 where
   pub firsts : IsPermutation (map row_of_if (filter is_first_if rows)) (contents ifreq.tree)
-  pub more : HoldMoreIfs release (filter (λ r. not (is_first_if r)) rows) contents
+  pub more : HoldMoreIfs schema (filter (λ r. not (is_first_if r)) rows) contents
 
 -- the tables hold all rows, and no others
-pub record HoldRows (release : Release) (rows : FlatRows) (contents : Contents) : Type 0 where
-  pub heads : HoldHeads release rows.heads.items contents
-  pub vers : HoldVers release rows.vers.items contents
-  pub ifs : HoldIfs release rows.ifs.items contents
+pub record HoldRows (schema : Schema) (rows : FlatRows) (contents : Contents) : Type 0 where
+  pub heads : HoldHeads schema rows.heads.items contents
+  pub vers : HoldVers schema rows.vers.items contents
+  pub ifs : HoldIfs schema rows.ifs.items contents
   pub elems : IsPermutation (map row_of_elem rows.elems.items) (contents elem.tree)
 
-pub record HaveForms (release : Release) (rows : FlatRows) : Type 0 where
-  pub heads : AllByRecursion (HasFormsUnder release) rows.heads.items
+pub record HaveForms (schema : Schema) (rows : FlatRows) : Type 0 where
+  pub heads : AllByRecursion (HasFormsUnder schema) rows.heads.items
   pub vers : AllByRecursion HasVerRowForms rows.vers.items
   pub ifs : AllByRecursion HasIfRowForms rows.ifs.items
   pub elems : AllByRecursion HasElemRowForms rows.elems.items

@@ -8,13 +8,13 @@ use Rattle.store_rows.specs.declared.error.ReadError.{ReadError}
 use Rattle.store_rows.specs.declared.error.ReadError.TheVariants.{BadRow, Fault}
 use Rattle.store_rows.specs.Reads.{OnlyReads}
 use Rattle.store_rows.specs.Rows.{Contents, HasContents}
-use Rattle.store_schema.specs.declared.release.Release.{Release}
+use Rattle.store_schema.specs.declared.schema.Schema.{Schema}
 use Rattle.store_schema.specs.Earlier.{schema_under}
 use Rattle.store_sysmod_loads.specs.Flats.{AreFormed, AreRowsOf}
 
 -- The tables hold what it answers. Where they hold the rows of SYSMODs it answers, and what these have; a row is bad
 -- where they are those of none.
-pub record LoadsPart {S X : Type 0} (g : Ghosts S) (r : Release) (Holds : X → Contents → Type 0)
+pub record LoadsPart {S X : Type 0} (g : Ghosts S) (r : Schema) (Holds : X → Contents → Type 0)
     (Has : X → List Sysmod → Type 0) (old new : Held S) (result : Result X ReadError) : Type 0 where
   pub found : HasCleanDisk (state g new) → (contents : Contents)
       → HasContents (schema_under r) contents (state g old).now → IfOk result (λ x. Holds x contents)

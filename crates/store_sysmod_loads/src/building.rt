@@ -18,7 +18,7 @@ use sorted::are_rising;
 use std::alloc::Global;
 use std::collections::VecDeque;
 use store_rows::ReadError;
-use sysmods_records::{Action, ElemChange, Sysmod, Ver};
+use sysmod::{Action, ElemChange, Sysmod, Ver};
 use terms::Kind;
 
 /// Whether the operands of the `++VER` are those of a SYSMOD of this kind.
@@ -47,7 +47,7 @@ fn all_suit(kind: Kind, vers: &[Ver]) -> bool
     vers.iter().all(|ver| suits_kind(kind, ver))
 }
 
-/// Whether two `++VER`s of these FMIDs may be for one release in a SYSMOD of this kind.
+/// Whether two `++VER`s of these FMIDs may be for one SREL in a SYSMOD of this kind.
 fn may_share(kind: Kind, fmid: Option<Id>, other: Option<Id>) -> bool
     ensures { IsTrue result ↔ ((kind ≢ Function) × (fmid ≢ other)) }
 {

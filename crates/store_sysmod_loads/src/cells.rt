@@ -12,7 +12,7 @@ ghost use Rattle.terms.specs.Types.{Action as ActionTerm};
 ghost use Rattle.store_schema.specs.Forms.{AreSorted, AreOthers, AreRecords, IsTextOf, TakesUpdates, HasActionForms};
 ghost use Rattle.store_schema.specs.Rows.{ids, records, action_cells};
 ghost use Rattle.terms.specs.Texts.{IsUpdate};
-ghost use Rattle.sysmods_records.specs.Views.{action_of};
+ghost use Rattle.sysmod.specs.Views.{action_of};
 ghost use Rattle.store_sysmod_loads.specs.Flat.{AreShort};
 
 use fields::{Id, IdList, Name, Source, SourceList};
@@ -23,7 +23,7 @@ use store_columns::{
     sources_in,
 };
 use store_rows::{ReadError, text, whole};
-use sysmods_records::Action;
+use sysmod::Action;
 use terms::ElemType;
 use text80::{Line, TextError, Update};
 
@@ -111,7 +111,7 @@ pub(crate) fn number_in(row: &Row, at: usize) -> Option<u64>
     Some(number as u64)
 }
 
-/// The number of a `++VER` that is not the first for its release.
+/// The number of a `++VER` that is not the first for its SREL.
 pub(crate) fn further_in(row: &Row, at: usize) -> Option<u64>
     ensures some { IfSome result (λ n. (column row.now at ≡ Int (pos n)) × (1 < n)) }
     ensures none { IfNone result ((n : ℕ) → 1 < n → column row.now at ≢ Int (pos n)) }

@@ -2,7 +2,7 @@
 
 use fields::{Id, Source, SourceList, Srel};
 use sorted::Keyed;
-use sysmods_records::{ElemChange, IfReq, Ver};
+use sysmod::{ElemChange, IfReq, Ver};
 use terms::Kind;
 
 /// A SYSMOD without its statements.
@@ -37,7 +37,7 @@ pub(crate) struct SourceRow {
     pub name: Source,
 }
 
-/// A `++VER` of the SYSMOD without its `++IF`s, and its number among those for its release.
+/// A `++VER` of the SYSMOD without its `++IF`s, and its number among those for its SREL.
 #[derive(Drop)]
 pub(crate) struct VerRow {
     pub id: Id,
@@ -45,7 +45,7 @@ pub(crate) struct VerRow {
     pub ver: Ver,
 }
 
-/// An `++IF` and its number in a `++VER` of the SYSMOD: in the one of this place among those for this release.
+/// An `++IF` and its number in a `++VER` of the SYSMOD: in the one of this place among those for this SREL.
 #[derive(Drop)]
 pub(crate) struct IfRow {
     pub id: Id,

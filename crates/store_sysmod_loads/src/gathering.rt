@@ -14,7 +14,7 @@ use sorted::Keyed;
 use std::alloc::{AllocError, Global};
 use std::collections::VecDeque;
 use store_rows::ReadError;
-use sysmods_records::{ElemChange, IfReq, Ver};
+use sysmod::{ElemChange, IfReq, Ver};
 
 /// A row that belongs to another.
 pub(crate) trait Child: Drop {

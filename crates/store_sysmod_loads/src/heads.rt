@@ -2,8 +2,8 @@
 
 ghost use Rattle.std.specs.Prelude.{◌≡◌, ◌≢◌, map, IfOk, IsPermutation};
 ghost use Rattle.std.specs.List.{AllByRecursion};
-ghost use Rattle.store_schema.specs.declared.release.Release.{Release as ARelease};
-ghost use Rattle.store_schema.specs.declared.release.Release.TheVariants.{First};
+ghost use Rattle.store_schema.specs.declared.schema.Schema.{Schema as ARelease};
+ghost use Rattle.store_schema.specs.declared.schema.Schema.TheVariants.{First};
 ghost use Rattle.store_schema.specs.Tables.{sysmod, source};
 ghost use Rattle.store_sysmod_loads.specs.Flat.{row_of_bare, row_of_source, HasBareForms, HasSourceForms};
 ghost use Rattle.store_sysmod_loads.specs.Flat.{HasHeadForms, HasShortForms, HasFormsUnder};
@@ -20,7 +20,7 @@ use sqlite::{Alter, Connection};
 use std::alloc::Global;
 use std::collections::VecDeque;
 use store_rows::ReadError;
-use store_schema::Release;
+use store_schema::Schema;
 
 /// The heads of schema 1, whose rows have the sources.
 fn load_with_sources<S: Alter>(
@@ -71,16 +71,16 @@ fn load_joined<S: Alter>(alloc: Global, conn: &mut Connection<S>) -> Result<Vec<
 pub(crate) fn load_heads<S: Alter>(
     alloc: Global,
     conn: &mut Connection<S>,
-    release: Release,
+    schema: Schema,
 ) -> Result<Vec<HeadRow>, ReadError>
-    ensures part { LoadsPart S.Store release
-        (λ heads contents. HoldHeads release heads.items contents)
+    ensures part { LoadsPart S.Store schema
+        (λ heads contents. HoldHeads schema heads.items contents)
         (λ heads sysmods. heads.items ≡ map head_of sysmods) conn.old conn.new result }
-    ensures forms { IfOk result (λ heads. AllByRecursion (HasFormsUnder release) heads.items) }
+    ensures forms { IfOk result (λ heads. AllByRecursion (HasFormsUnder schema) heads.items) }
 {
-    match release {
-        Release::First => load_with_sources(alloc, conn),
-        Release::Second => load_joined(alloc, conn),
-        Release::Third => load_joined(alloc, conn),
+    match schema {
+        Schema::First => load_with_sources(alloc, conn),
+        Schema::Second => load_joined(alloc, conn),
+        Schema::Third => load_joined(alloc, conn),
     }
 }

@@ -1,4 +1,4 @@
-//! The rows of all `++IF`s: a table has those of the first `++VER`s for each release, and another those of the further
+//! The rows of all `++IF`s: a table has those of the first `++VER`s for each SREL, and another those of the further
 //! ones.
 
 ghost use Rattle.std.specs.Prelude.{◌≡◌, IfOk};
@@ -14,7 +14,7 @@ use crate::reading::{Ifs, MoreIfs};
 use sqlite::{Alter, Connection};
 use std::alloc::Global;
 use store_rows::ReadError;
-use store_schema::Release;
+use store_schema::Schema;
 
 impl InTwo for IfRow {
     ghost use Rattle.std.specs.Prelude.{refl};
@@ -30,16 +30,16 @@ impl InTwo for IfRow {
     ghost third = { refl };
 }
 
-/// All `++IF`s of SYSMODs, in the tables of the release. Under an earlier schema each `++VER` is the first for its
-/// release.
+/// All `++IF`s of SYSMODs, in the tables of the schema. Under an earlier schema each `++VER` is the first for its
+/// SREL.
 pub(crate) fn load_ifs<S: Alter>(
     alloc: Global,
     conn: &mut Connection<S>,
-    release: Release,
+    schema: Schema,
 ) -> Result<Vec<IfRow>, ReadError>
-    ensures part { LoadsPart S.Store release (λ rows contents. HoldIfs release rows.items contents)
+    ensures part { LoadsPart S.Store schema (λ rows contents. HoldIfs schema rows.items contents)
         (λ rows sysmods. rows.items ≡ all_ifs sysmods) conn.old conn.new result }
     ensures forms { IfOk result (λ rows. AllByRecursion HasIfRowForms rows.items) }
 {
-    load_parted::<S, IfRow>(alloc, conn, release)
+    load_parted::<S, IfRow>(alloc, conn, schema)
 }

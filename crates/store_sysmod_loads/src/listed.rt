@@ -21,7 +21,7 @@ impl Query for Heads {
 
     ghost knows = { λ r. ⊤ };
 
-    fn text() -> &'static str {
+    fn sql() -> &'static str {
         "SELECT id, kind, sources FROM sysmod"
     }
 }
@@ -54,7 +54,7 @@ impl Query for BareHeads {
 
     ghost knows = { λ r. ⊤ };
 
-    fn text() -> &'static str {
+    fn sql() -> &'static str {
         "SELECT id, kind, sources FROM sysmod"
     }
 }
@@ -75,7 +75,7 @@ impl Listed for BareHeads {
 
 impl Query for Sources {
     ghost use Rattle.std.specs.Prelude.{◌≢◌};
-    ghost use Rattle.store_schema.specs.declared.release.Release.TheVariants.{First};
+    ghost use Rattle.store_schema.specs.declared.schema.Schema.TheVariants.{First};
     ghost use Rattle.store_schema.specs.Tables.{source};
 
     type Rows = Sources;
@@ -88,7 +88,7 @@ impl Query for Sources {
 
     ghost knows = { λ r. r ≢ First };
 
-    fn text() -> &'static str {
+    fn sql() -> &'static str {
         "SELECT id, name FROM source"
     }
 }
@@ -121,7 +121,7 @@ impl Query for Vers {
 
     ghost knows = { λ r. ⊤ };
 
-    fn text() -> &'static str {
+    fn sql() -> &'static str {
         "SELECT id, srel, fmid, pre, req, sup, npre, del FROM ver"
     }
 }
@@ -154,7 +154,7 @@ impl Query for Ifs {
 
     ghost knows = { λ r. ⊤ };
 
-    fn text() -> &'static str {
+    fn sql() -> &'static str {
         "SELECT id, srel, n, fmid, req FROM ifreq"
     }
 }
@@ -187,7 +187,7 @@ impl Query for Elems {
 
     ghost knows = { λ r. ⊤ };
 
-    fn text() -> &'static str {
+    fn sql() -> &'static str {
         "SELECT id, type, name, upd, distlib, syslib, text FROM elem"
     }
 }
@@ -208,7 +208,7 @@ impl Listed for Elems {
 
 impl Query for MoreVers {
     ghost use Rattle.std.specs.Prelude.{◌≡◌};
-    ghost use Rattle.store_schema.specs.declared.release.Release.TheVariants.{Third};
+    ghost use Rattle.store_schema.specs.declared.schema.Schema.TheVariants.{Third};
     ghost use Rattle.store_schema.specs.Tables.{morever};
 
     type Rows = MoreVers;
@@ -221,14 +221,14 @@ impl Query for MoreVers {
 
     ghost knows = { λ r. r ≡ Third };
 
-    fn text() -> &'static str {
+    fn sql() -> &'static str {
         "SELECT id, srel, n, fmid, pre, req, sup FROM morever"
     }
 }
 
 impl Query for MoreIfs {
     ghost use Rattle.std.specs.Prelude.{◌≡◌};
-    ghost use Rattle.store_schema.specs.declared.release.Release.TheVariants.{Third};
+    ghost use Rattle.store_schema.specs.declared.schema.Schema.TheVariants.{Third};
     ghost use Rattle.store_schema.specs.Tables.{moreif};
 
     type Rows = MoreIfs;
@@ -241,7 +241,7 @@ impl Query for MoreIfs {
 
     ghost knows = { λ r. r ≡ Third };
 
-    fn text() -> &'static str {
+    fn sql() -> &'static str {
         "SELECT id, srel, v, n, fmid, req FROM moreif"
     }
 }

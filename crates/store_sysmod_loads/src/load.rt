@@ -14,32 +14,32 @@ use crate::rows_of::load_gathered;
 use sqlite::{Alter, Connection};
 use std::alloc::Global;
 use store_rows::ReadError;
-use store_schema::Release;
-use sysmods_records::Sysmod;
+use store_schema::Schema;
+use sysmod::Sysmod;
 
 /// All SYSMODs with their sources, `++VER`s, `++IF`s and element statements, by their ids, in the
-/// tables of the release. A row that belongs to no other is bad, and so is a `++VER` or an `++IF` whose
+/// tables of the schema. A row that belongs to no other is bad, and so is a `++VER` or an `++IF` whose
 /// number is not the next. `BadRow` comes where a row is bad, `Memory` where memory is short, and `Fault` where the
 /// disk fails or the tables are others.
 pub fn load_sysmods<S: Alter>(
     alloc: Global,
     conn: &mut Connection<S>,
-    release: Release,
+    schema: Schema,
 ) -> Result<Vec<Sysmod>, ReadError>
     ensures found { HasCleanDisk (state S.Store conn.new) → (i : Inventory)
-        → StandsUnder release i (state S.Store conn.old).now
+        → StandsUnder schema i (state S.Store conn.old).now
         → IfOk result (λ sysmods. sysmods.items ≡ i.global.sysmods) }
     ensures rows { HasCleanDisk (state S.Store conn.new) → (contents : Contents)
-        → HasContents (schema_under release) contents (state S.Store conn.old).now
-        → IfOk result (λ sysmods. AreRowsOf release sysmods.items contents) }
-    ensures forms { IfOk result (λ sysmods. AreFormed release sysmods.items) }
+        → HasContents (schema_under schema) contents (state S.Store conn.old).now
+        → IfOk result (λ sysmods. AreRowsOf schema sysmods.items contents) }
+    ensures forms { IfOk result (λ sysmods. AreFormed schema sysmods.items) }
     ensures none { HasCleanDisk (state S.Store conn.new) → IsErrOf result ReadError.BadRow → (contents : Contents)
-        → HasContents (schema_under release) contents (state S.Store conn.old).now
-        → (sysmods : List SysmodTerm) → AreFormed release sysmods → ¬ AreRowsOf release sysmods contents }
+        → HasContents (schema_under schema) contents (state S.Store conn.old).now
+        → (sysmods : List SysmodTerm) → AreFormed schema sysmods → ¬ AreRowsOf schema sysmods contents }
     ensures no_state { HasCleanDisk (state S.Store conn.new) → IsErrOf result ReadError.BadRow → (i : Inventory)
-        → ¬ StandsUnder release i (state S.Store conn.old).now }
-    ensures reads { OnlyReads S.Store (schema_under release) ReadError.BadRow ReadError.Fault conn.old conn.new
+        → ¬ StandsUnder schema i (state S.Store conn.old).now }
+    ensures reads { OnlyReads S.Store (schema_under schema) ReadError.BadRow ReadError.Fault conn.old conn.new
         result }
 {
-    load_gathered(alloc, conn, release)
+    load_gathered(alloc, conn, schema)
 }

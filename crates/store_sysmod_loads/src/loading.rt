@@ -6,7 +6,7 @@ ghost use Rattle.sqlite.specs.Held.{state};
 ghost use Rattle.sqlite.specs.State.{HasCleanDisk};
 ghost use Rattle.store_rows.specs.Reads.{OnlyReads};
 ghost use Rattle.store_rows.specs.Rows.{Contents, HasContents};
-ghost use Rattle.store_schema.specs.declared.release.Release.{Release as ARelease};
+ghost use Rattle.store_schema.specs.declared.schema.Schema.{Schema as ARelease};
 ghost use Rattle.store_schema.specs.Earlier.{schema_under};
 ghost use Rattle.terms.specs.Rising.{Rises};
 ghost use Rattle.store_sysmod_loads.specs.Both.{AreOfBoth, AreRowsIn, LoadsRows};
@@ -15,7 +15,7 @@ use sqlite::{Alter, Connection};
 use std::alloc::{AllocError, Global};
 use store_columns::{Query, load_listed};
 use store_rows::{FromRow, ReadError};
-use store_schema::Release;
+use store_schema::Schema;
 
 /// A query of a whole table, whose rows keys tell apart.
 pub(crate) trait Listed: Query {
@@ -34,8 +34,8 @@ pub(crate) trait Listed: Query {
 /// A row of which two tables have some each, of the same keys, where the second came with schema 3.
 pub(crate) trait InTwo: Drop {
     ghost use Rattle.std.specs.Prelude.{◌≡◌};
-    ghost use Rattle.store_schema.specs.declared.release.Release.{Release as ARelease};
-    ghost use Rattle.store_schema.specs.declared.release.Release.TheVariants.{Third};
+    ghost use Rattle.store_schema.specs.declared.schema.Schema.{Schema as ARelease};
+    ghost use Rattle.store_schema.specs.declared.schema.Schema.TheVariants.{Third};
 
     type Firsts: FromRow<Item = Self> + Listed<Rows = Self::Firsts>;
 
@@ -126,19 +126,19 @@ fn load_both<S: Alter, T: InTwo>(
     Ok(rows)
 }
 
-/// What the rows that the tables of the release have stand for, by their keys.
+/// What the rows that the tables of the schema have stand for, by their keys.
 pub(crate) fn load_parted<S: Alter, T: InTwo>(
     alloc: Global,
     conn: &mut Connection<S>,
-    release: Release,
+    schema: Schema,
 ) -> Result<Vec<T>, ReadError>
-    ensures rows { LoadsRows S.Store release (λ rows. rows.items) (λ xs contents. AreRowsIn release T.Firsts.row_of
+    ensures rows { LoadsRows S.Store schema (λ rows. rows.items) (λ xs contents. AreRowsIn schema T.Firsts.row_of
         T.Furthers.row_of T.Firsts.has_form T.Furthers.has_form (contents T.Firsts.table.tree)
         (contents T.Furthers.table.tree) xs) (Rises T.Firsts.Key.cmp T.Firsts.key_of) conn.old conn.new result }
     ensures forms { IfOk result (λ rows. AllByRecursion (λ x. T.Firsts.has_form x ⊎ T.Furthers.has_form x) rows.items) }
 {
-    match release {
-        Release::First | Release::Second => load_sorted::<S, T::Firsts>(alloc, conn),
-        Release::Third => load_both::<S, T>(alloc, conn),
+    match schema {
+        Schema::First | Schema::Second => load_sorted::<S, T::Firsts>(alloc, conn),
+        Schema::Third => load_both::<S, T>(alloc, conn),
     }
 }

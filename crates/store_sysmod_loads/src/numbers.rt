@@ -6,7 +6,7 @@ ghost use Rattle.store_schema.specs.Rows.{number_behind};
 
 use crate::flat::VerRow;
 use fields::Srel;
-use sysmods_records::Ver;
+use sysmod::Ver;
 
 fn count_of(vers: &[Ver], srel: Srel) -> usize
     ensures same { result ≡ length (filter (λ ver. bytes_eq ver.srel srel) vers.now) }

@@ -21,7 +21,7 @@ use sqlite::Row;
 use std::alloc::Global;
 use store_columns::{elem_type_in, id_in, kind_in, name_in, srel_in};
 use store_rows::{FromRow, ReadError};
-use sysmods_records::{ElemChange, IfReq, Ver};
+use sysmod::{ElemChange, IfReq, Ver};
 
 /// The requisites of an `++IF`: ids of others, one at least.
 fn requisites_in(alloc: Global, row: &Row, at: usize, id: Id) -> Result<IdList, ReadError>
@@ -184,7 +184,7 @@ impl FromRow for Vers {
     }
 }
 
-/// Reads further `++VER`s for one release, which have neither NPRE nor DELETE.
+/// Reads further `++VER`s for one SREL, which have neither NPRE nor DELETE.
 pub(crate) struct MoreVers;
 
 impl FromRow for MoreVers {

@@ -2,7 +2,7 @@
 
 ghost use Rattle.std.specs.Prelude.{◌≡◌, List, map, IfOk, IsErrOf, IsPermutation};
 ghost use Rattle.std.specs.List.{AllByRecursion};
-ghost use Rattle.store_schema.specs.declared.release.Release.{Release as ARelease};
+ghost use Rattle.store_schema.specs.declared.schema.Schema.{Schema as ARelease};
 ghost use Rattle.store_schema.specs.Tables.{elem};
 ghost use Rattle.terms.specs.Types.{Sysmod as SysmodTerm};
 ghost use Rattle.store_sysmod_loads.specs.Flat.{row_of_elem, HasElemRowForms};
@@ -23,8 +23,8 @@ use sqlite::{Alter, Connection};
 use std::alloc::Global;
 use std::collections::VecDeque;
 use store_rows::ReadError;
-use store_schema::Release;
-use sysmods_records::Sysmod;
+use store_schema::Schema;
+use sysmod::Sysmod;
 
 /// The rows of SYSMODs and of their statements, each by their keys.
 #[derive(Drop)]
@@ -44,18 +44,18 @@ fn load_elems<S: Alter>(alloc: Global, conn: &mut Connection<S>) -> Result<Vec<E
     load_sorted::<S, Elems>(alloc, conn)
 }
 
-/// All rows of SYSMODs, in the tables of the release.
+/// All rows of SYSMODs, in the tables of the schema.
 pub(crate) fn load_rows<S: Alter>(
     alloc: Global,
     conn: &mut Connection<S>,
-    release: Release,
+    schema: Schema,
 ) -> Result<FlatRows, ReadError>
-    ensures part { LoadsPart S.Store release (HoldRows release) HasRows conn.old conn.new result }
-    ensures forms { IfOk result (HaveForms release) }
+    ensures part { LoadsPart S.Store schema (HoldRows schema) HasRows conn.old conn.new result }
+    ensures forms { IfOk result (HaveForms schema) }
 {
-    let heads = load_heads(alloc, conn, release)?;
-    let vers = load_vers(alloc, conn, release)?;
-    let ifs = load_ifs(alloc, conn, release)?;
+    let heads = load_heads(alloc, conn, schema)?;
+    let vers = load_vers(alloc, conn, schema)?;
+    let ifs = load_ifs(alloc, conn, schema)?;
     let elems = load_elems(alloc, conn)?;
     Ok(FlatRows {
         heads,
@@ -87,16 +87,16 @@ pub(crate) fn gathered(alloc: Global, rows: FlatRows) -> Result<Vec<Sysmod>, Rea
     )
 }
 
-/// The SYSMODs whose rows the tables of the release hold.
+/// The SYSMODs whose rows the tables of the schema hold.
 pub(crate) fn load_gathered<S: Alter>(
     alloc: Global,
     conn: &mut Connection<S>,
-    release: Release,
+    schema: Schema,
 ) -> Result<Vec<Sysmod>, ReadError>
-    ensures part { LoadsPart S.Store release (λ sysmods contents. AreRowsOf release sysmods.items contents)
+    ensures part { LoadsPart S.Store schema (λ sysmods contents. AreRowsOf schema sysmods.items contents)
         (λ sysmods others. others ≡ sysmods.items) conn.old conn.new result }
-    ensures forms { IfOk result (λ sysmods. AreFormed release sysmods.items) }
+    ensures forms { IfOk result (λ sysmods. AreFormed schema sysmods.items) }
 {
-    let rows = load_rows(alloc, conn, release)?;
+    let rows = load_rows(alloc, conn, schema)?;
     gathered(alloc, rows)
 }

@@ -1,4 +1,4 @@
-//! The rows of all `++VER`s: a table has the first ones for each release, and another the further ones.
+//! The rows of all `++VER`s: a table has the first ones for each SREL, and another the further ones.
 
 ghost use Rattle.std.specs.Prelude.{◌≡◌, IfOk};
 ghost use Rattle.std.specs.List.{AllByRecursion};
@@ -13,7 +13,7 @@ use crate::reading::{MoreVers, Vers};
 use sqlite::{Alter, Connection};
 use std::alloc::Global;
 use store_rows::ReadError;
-use store_schema::Release;
+use store_schema::Schema;
 
 impl InTwo for VerRow {
     ghost use Rattle.std.specs.Prelude.{refl};
@@ -29,15 +29,15 @@ impl InTwo for VerRow {
     ghost third = { refl };
 }
 
-/// All `++VER`s of SYSMODs, in the tables of the release. Under an earlier schema each is the first for its release.
+/// All `++VER`s of SYSMODs, in the tables of the schema. Under an earlier schema each is the first for its SREL.
 pub(crate) fn load_vers<S: Alter>(
     alloc: Global,
     conn: &mut Connection<S>,
-    release: Release,
+    schema: Schema,
 ) -> Result<Vec<VerRow>, ReadError>
-    ensures part { LoadsPart S.Store release (λ rows contents. HoldVers release rows.items contents)
+    ensures part { LoadsPart S.Store schema (λ rows contents. HoldVers schema rows.items contents)
         (λ rows sysmods. rows.items ≡ all_vers sysmods) conn.old conn.new result }
     ensures forms { IfOk result (λ rows. AllByRecursion HasVerRowForms rows.items) }
 {
-    load_parted::<S, VerRow>(alloc, conn, release)
+    load_parted::<S, VerRow>(alloc, conn, schema)
 }

@@ -8,7 +8,7 @@ use Rattle.sqlite.specs.Table.{Table}
 use Rattle.terms.specs.Types.{Id, Sysmod, Global}
 use Rattle.terms.specs.Global.{with_sysmod}
 use Rattle.terms.specs.Lookups.{is_received}
-use Rattle.sysmods_records.specs.Edited.{with_sources, less_sysmod}
+use Rattle.sysmod.specs.Edited.{with_sources, less_sysmod}
 use Rattle.store_rows.specs.Inside.{Leads, Turns}
 use Rattle.store_rows.specs.Rows.{Contents, HasContents, in_table, with_row, without}
 use Rattle.store_schema.specs.Inventory.{Inventory}

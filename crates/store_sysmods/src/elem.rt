@@ -5,7 +5,7 @@ ghost use Rattle.std.specs.List.{concat};
 ghost use Rattle.sqlite.specs.Values.{or_null};
 ghost use Rattle.sqlite.specs.declared.types.Value.TheVariants.{Int, Text};
 ghost use Rattle.sqlite_value.specs.Value.{owned};
-ghost use Rattle.sysmods_records.specs.Views.{action_of};
+ghost use Rattle.sysmod.specs.Views.{action_of};
 ghost use Rattle.store_schema.specs.Rows.{elem_row, flag};
 ghost use Rattle.store_schema.specs.Tables.{elem as elem_table};
 ghost use Rattle.store_sysmods.specs.Actions.{is_update, distlib_of, syslib_of, lines_of as lines_in};
@@ -19,7 +19,7 @@ use sqlite::{Alter, Error, Transaction};
 use sqlite_value::value::ValueRef;
 use std::alloc::Global;
 use store_rows::insert;
-use sysmods_records::{Action, ElemChange};
+use sysmod::{Action, ElemChange};
 use text80::{Line, bytes_of};
 
 fn lines_of(action: &Action) -> &[Line]

@@ -15,7 +15,7 @@ use sqlite_value::value::ValueRef;
 use std::alloc::Global;
 use store_columns::joined_ids;
 use store_rows::insert;
-use sysmods_records::{IfReq, Ver};
+use sysmod::{IfReq, Ver};
 
 // Adds the `++IF`'s row, of whose requisites this is the text.
 fn insert_row<'a, S: Alter>(

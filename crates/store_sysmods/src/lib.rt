@@ -11,7 +11,7 @@ mod morever;
 mod numbers;
 mod rows;
 mod source;
-mod sysmod;
+mod sysmod_rows;
 mod ver;
 
-pub use sysmod::{insert_sysmod, remove_sysmod, replace_sources};
+pub use sysmod_rows::{insert_sysmod, remove_sysmod, replace_sources};

@@ -15,7 +15,7 @@ use sqlite_value::value::ValueRef;
 use std::alloc::Global;
 use store_columns::joined_ids;
 use store_rows::insert;
-use sysmods_records::{IfReq, Ver};
+use sysmod::{IfReq, Ver};
 
 // Adds the row of an `++IF` of the `++VER` of the place, of whose requisites this is the text.
 fn insert_row<'a, S: Alter>(

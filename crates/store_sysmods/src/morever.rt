@@ -16,7 +16,7 @@ use sqlite_value::value::ValueRef;
 use std::alloc::Global;
 use store_columns::id_value;
 use store_rows::insert;
-use sysmods_records::Ver;
+use sysmod::Ver;
 
 // Adds the row of the `++VER` of this number, of whose lists these are the texts. It has no others.
 fn insert_row<'a, S: Alter>(

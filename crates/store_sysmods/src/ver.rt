@@ -15,7 +15,7 @@ use sqlite_value::value::ValueRef;
 use std::alloc::{AllocError, Global};
 use store_columns::{id_value, joined_ids};
 use store_rows::insert;
-use sysmods_records::Ver;
+use sysmod::Ver;
 
 /// The texts of a `++VER`'s lists.
 #[derive(Drop)]

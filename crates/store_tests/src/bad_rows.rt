@@ -7,7 +7,7 @@ use std::test::Fail;
 use store::Store;
 use store_schema::StoreError;
 
-/// Edits that move only within what may stand: loops of REQ and of several releases are free.
+/// Edits that move only within what may stand: loops of REQ and of several SRELs are free.
 const GOOD: &[&str] = &[
     "UPDATE ver SET req = 'UAA0001' WHERE id = 'LLL0001'",
     "UPDATE ver SET req = 'LLL0001' WHERE id = 'UAA0001' AND srel = 'Z038'",
@@ -74,7 +74,7 @@ const IFS: &[&str] = &[
 ];
 
 /// Edits of further `++VER`s that move only within what may stand: eight `++VER`s in all, a further one for each of two
-/// releases, and none.
+/// SRELs, and none.
 const GOOD_FURTHER: &[&str] = &[
     "UPDATE morever SET pre = '', req = '', sup = ''",
     "INSERT INTO morever (id, srel, n, fmid, pre, req, sup) VALUES ('LLL0001', 'Z038', 4, 'HDD1104', '', '', ''); INSERT INTO morever (id, srel, n, fmid, pre, req, sup) VALUES ('LLL0001', 'Z038', 5, 'HDD1105', '', '', ''); INSERT INTO morever (id, srel, n, fmid, pre, req, sup) VALUES ('LLL0001', 'Z038', 6, 'HDD1106', '', '', ''); INSERT INTO morever (id, srel, n, fmid, pre, req, sup) VALUES ('LLL0001', 'Z038', 7, 'HDD1107', '', '', ''); INSERT INTO morever (id, srel, n, fmid, pre, req, sup) VALUES ('LLL0001', 'Z038', 8, 'HDD1108', '', '', '')",
@@ -83,7 +83,7 @@ const GOOD_FURTHER: &[&str] = &[
     "DELETE FROM moreif; DELETE FROM morever",
 ];
 
-/// Further `++VER`s: their numbers and releases, by themselves, and beside others of their SYSMOD.
+/// Further `++VER`s: their numbers and SRELs, by themselves, and beside others of their SYSMOD.
 const MOREVERS: &[&str] = &[
     "UPDATE morever SET n = 0 WHERE n = 3; UPDATE moreif SET v = 0 WHERE v = 3",
     "UPDATE morever SET n = 1 WHERE n = 3; UPDATE moreif SET v = 1 WHERE v = 3",

@@ -7,7 +7,7 @@ use std::alloc::Global;
 use std::test::Fail;
 use store::{Change, GlobalEdit, Store};
 use store_schema::StoreError;
-use sysmods_records::Sysmod;
+use sysmod::Sysmod;
 use terms::{ElemType, HoldKind, Kind};
 use zones::{Applied, Entry, ZoneDelta};
 
@@ -28,8 +28,8 @@ const LONG: &[u8] = b"PUT2401$RSU2404#PUT2401$RSU2404#PUT2401$RSU2404#PUT2401$RS
 
 fn new_sources(alloc: Global) -> Result<Change, Fail> {
     let mut sysmod = Sysmod::new(alloc, Kind::Apar, id(b"AAA0003")?);
-    sysmod.add_source(Source::read(b"PUT2402").ok_or("no source")?)?;
-    sysmod.add_source(Source::read(LONG).ok_or("no source")?)?;
+    sysmod.insert_source(Source::read(b"PUT2402").ok_or("no source")?)?;
+    sysmod.insert_source(Source::read(LONG).ok_or("no source")?)?;
     Ok(Change::Global(vec![in alloc; GlobalEdit::ReplaceSources(sysmod)]?))
 }
 

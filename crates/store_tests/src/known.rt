@@ -73,7 +73,7 @@ const ROWS: &[&str] = &[
 const ELEMENTS: &str =
     "INSERT INTO zelem (zone, type, name, fmid, rmid, umid, distlib, syslib, text) SELECT 'TGT1', type, name, id, id, '', distlib, syslib, text FROM elem WHERE id = 'HAA1100'";
 
-/// Two further `++VER`s of LLL0001 for the release of its first one, with their `++IF`s.
+/// Two further `++VER`s of LLL0001 for the SREL of its first one, with their `++IF`s.
 pub(crate) const FURTHER: &[&str] = &[
     "INSERT INTO morever (id, srel, n, fmid, pre, req, sup) VALUES ('LLL0001', 'Z038', 2, 'HAA1200', 'AAA0003', 'UAA0002,UAA0003', 'LLL0002')",
     "INSERT INTO morever (id, srel, n, fmid, pre, req, sup) VALUES ('LLL0001', 'Z038', 3, 'HCC1100', '', '', '')",

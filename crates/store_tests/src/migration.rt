@@ -11,7 +11,7 @@ use std::test::Fail;
 use store_migration::migrate;
 use store_schema::StoreError;
 
-/// The tables of schema 1, as the first release made them.
+/// The tables of schema 1, as version 1.0.0 made them.
 const FIRST: &str =
     "CREATE TABLE meta (k TEXT NOT NULL, v INTEGER NOT NULL, PRIMARY KEY (k)) STRICT; \
     CREATE TABLE sysmod (id TEXT NOT NULL, kind TEXT NOT NULL, sources TEXT NOT NULL, PRIMARY KEY (id)) STRICT; \
@@ -157,7 +157,7 @@ const BAD: &[&str] = &[
     "CREATE TABLE other (k TEXT)",
 ];
 
-/// Edits after which the number is no release's.
+/// Edits after which the number is no schema's.
 const UNKNOWN: &[&str] = &["UPDATE meta SET v = 0", "UPDATE meta SET v = 4"];
 
 /// The rows of schema 1, but for sources.

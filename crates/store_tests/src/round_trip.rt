@@ -1,14 +1,15 @@
 //! What is committed is loaded again, in memory and over files.
 use crate::known::{CHOSEN, FURTHER, again, committed, files, filled, lines, opened, run_all};
 use fields::{Id, ZoneName};
+use sorted::TryClone;
 use sqlite::{Alter, Connection, FileStore};
 use sqlite_disk::Memory;
 use std::alloc::Global;
 use std::test::Fail;
 use store::{Change, GlobalEdit, Store};
+use sysmod::Hold;
 use sysmods::GlobalZone;
-use sysmods_records::Hold;
-use zones::{TryClone, Zone, ZoneDelta};
+use zones::{Zone, ZoneDelta};
 
 /// All rows of all tables.
 const TABLES: [&str; 11] = [

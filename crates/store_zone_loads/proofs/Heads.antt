@@ -19,7 +19,7 @@ use Rattle.store_rows.specs.Rows.{Contents, has_key}
 use Rattle.store_rows.proofs.RowLemmas.{has_permuted, same_rows}
 use Rattle.store_rows.proofs.Unmapped.{unmapped_permutation}
 use Rattle.store_columns.specs.Asked.{asked}
-use Rattle.store_columns.proofs.Releases.{rows_under}
+use Rattle.store_columns.proofs.Schemas.{rows_under}
 use Rattle.lemmas.proofs.Texts.{same_from}
 use Rattle.terms.specs.declared.kinds.ZoneKind.{ZoneKind}
 use Rattle.terms.specs.declared.kinds.ZoneKind.TheVariants.{Target, Distribution}
@@ -27,8 +27,8 @@ use Rattle.terms.specs.Types.{Text, Zone, NamedZone}
 use Rattle.terms.specs.Forms.{IsZoneName}
 use Rattle.terms.specs.Lookups.{is_before, IsRising}
 use Rattle.terms.specs.Rising.{Rises}
-use Rattle.store_schema.specs.declared.release.Release.{Release}
-use Rattle.store_schema.specs.declared.release.Release.TheVariants.{First, Second, Third}
+use Rattle.store_schema.specs.declared.schema.Schema.{Schema}
+use Rattle.store_schema.specs.declared.schema.Schema.TheVariants.{First, Second, Third}
 use Rattle.store_schema.specs.Inventory.{Inventory, IsInventory, IsZoneNamed, IsRelated}
 use Rattle.store_schema.specs.Rows.{zone_row}
 use Rattle.store_schema.specs.Tables.{zone}
@@ -199,7 +199,7 @@ one_list contents xs ys p q =
     p.rows (IsPermutation-sym (map head_row ys) (contents zone.tree) q.rows))) p.rise q.rise
 
 -- and where it stands for an inventory, those of its zones
-pub heads_stand : (r : Release) (i : Inventory) → IsInventory i → HoldsHeads (rows_under r i) (map head_of i.zones)
+pub heads_stand : (r : Schema) (i : Inventory) → IsInventory i → HoldsHeads (rows_under r i) (map head_of i.zones)
 heads_stand r i h = record {
   rows = rows r;
   forms = all_head_forms i h;
@@ -207,7 +207,7 @@ heads_stand r i h = record {
   related = heads_related i h;
 }
   where
-    rows : (r : Release) → IsPermutation (map head_row (map head_of i.zones)) (rows_under r i zone.tree)
+    rows : (r : Schema) → IsPermutation (map head_row (map head_of i.zones)) (rows_under r i zone.tree)
     rows First = all_head_rows i
     rows Second = all_head_rows i
     rows Third = all_head_rows i

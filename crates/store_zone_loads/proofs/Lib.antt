@@ -8,4 +8,4 @@ pub mod Numbers
 pub mod Elements
 pub mod Relations
 pub mod Standing
-pub mod ByRelease
+pub mod BySchema

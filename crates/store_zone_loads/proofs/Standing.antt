@@ -7,10 +7,10 @@ use Rattle.sqlite_rules.specs.Lists.{Has}
 use Rattle.sqlite_trees.proofs.ListLemmas.{flat_map_same_on}
 use Rattle.store_rows.specs.Rows.{has_key}
 use Rattle.store_rows.proofs.RowLemmas.{same_rows}
-use Rattle.store_columns.proofs.Releases.{rows_under}
+use Rattle.store_columns.proofs.Schemas.{rows_under}
 use Rattle.terms.specs.Types.{Text, Zone, NamedZone}
-use Rattle.store_schema.specs.declared.release.Release.{Release}
-use Rattle.store_schema.specs.declared.release.Release.TheVariants.{First, Second, Third}
+use Rattle.store_schema.specs.declared.schema.Schema.{Schema}
+use Rattle.store_schema.specs.declared.schema.Schema.TheVariants.{First, Second, Third}
 use Rattle.store_schema.specs.Inventory.{Inventory, IsInventory, IsZoneNamed}
 use Rattle.store_schema.specs.Rows.{entry_row, zelem_row, chosen_of}
 use Rattle.store_schema.specs.Tables.{zone, entry, zelem, chosen}
@@ -20,7 +20,7 @@ use Rattle.store_zone_loads.specs.Found.{head_in, zone_in}
 use Rattle.store_zone_loads.specs.Held.{name_key, rows_named, HoldsNumbers, HoldsUnder}
 use Rattle.store_zone_loads.specs.Numbered.{numbers_of}
 use Rattle.store_zone_loads.specs.Read.{head_row, number_row, IsFirst}
-use Rattle.store_zone_loads.proofs.ByRelease.{AreFirst}
+use Rattle.store_zone_loads.proofs.BySchema.{AreFirst}
 use Rattle.store_zone_loads.proofs.Elements.{meets_element}
 use Rattle.store_zone_loads.proofs.Entries.{meets_entry, meets_number}
 use Rattle.store_zone_loads.proofs.Heads.{own_heads, head_forms}
@@ -32,19 +32,19 @@ module _ (i : Inventory) (h : IsInventory i) (name : Text) where
   abbrev found : Option Zone
   found = zone_in i name
 
-  heads : (r : Release) → rows_named name zone (rows_under r i) ≡ map head_row
+  heads : (r : Schema) → rows_named name zone (rows_under r i) ≡ map head_row
       (option_to_list (option_map (head_in name) found))
   heads First = own_heads i h name
   heads Second = own_heads i h name
   heads Third = own_heads i h name
 
-  entries : (r : Release) → rows_named name entry (rows_under r i) ≡ map (entry_row name)
+  entries : (r : Schema) → rows_named name entry (rows_under r i) ≡ map (entry_row name)
       (option_map_or (λ z. z.entries) found [])
   entries First = of_zone entry_row (λ z. z.entries) name (meets_entry name) i.zones (zones_rise i h)
   entries Second = of_zone entry_row (λ z. z.entries) name (meets_entry name) i.zones (zones_rise i h)
   entries Third = of_zone entry_row (λ z. z.entries) name (meets_entry name) i.zones (zones_rise i h)
 
-  elements : (r : Release) → rows_named name zelem (rows_under r i) ≡ map (zelem_row name)
+  elements : (r : Schema) → rows_named name zelem (rows_under r i) ≡ map (zelem_row name)
       (option_map_or (λ z. z.elements) found [])
   elements First = of_zone zelem_row (λ z. z.elements) name (meets_element name) i.zones (zones_rise i h)
   elements Second = of_zone zelem_row (λ z. z.elements) name (meets_element name) i.zones (zones_rise i h)
@@ -58,10 +58,10 @@ module _ (i : Inventory) (h : IsInventory i) (name : Text) where
       (λ z. number_rows z.name z.zone.entries) i.zones)
       ∙ of_zone number_row (λ z. numbers_of z.entries) name (meets_number name) i.zones (zones_rise i h)
 
-  pub holds_found : (r : Release) → AreFirst r i → HoldsUnder r (rows_under r i) name (zone_in i name)
+  pub holds_found : (r : Schema) → AreFirst r i → HoldsUnder r (rows_under r i) name (zone_in i name)
   holds_found r firsts = go found (is_there i name) (heads r) (entries r) (elements r) numbers
     where
-      its_numbers : (s : Release) → AreFirst s i → (z : Zone) → Has i.zones (record { name = name; zone = z })
+      its_numbers : (s : Schema) → AreFirst s i → (z : Zone) → Has i.zones (record { name = name; zone = z })
           → rows_named name chosen (rows_under Third i) ≡ map (number_row name) (numbers_of z.entries)
           → HoldsNumbers s (rows_under s i) (record { name = name; zone = z })
       its_numbers First firsts z there n = has_all (λ w. All IsFirst w.zone.entries) i.zones _ firsts there

@@ -14,8 +14,8 @@ use Rattle.lemmas.proofs.Each.{recursion_append, recursion_map, recursion_unmap,
 use Rattle.lemmas.proofs.Each.{recursion_weaker}
 use Rattle.terms.specs.Types.{Text, Id, a_zone, an_applied, Applied, Entry, Element, Zone, NamedZone}
 use Rattle.terms.specs.Lookups.{is_nil, waives_applied}
-use Rattle.store_schema.specs.declared.release.Release.{Release}
-use Rattle.store_schema.specs.declared.release.Release.TheVariants.{First, Second, Third}
+use Rattle.store_schema.specs.declared.schema.Schema.{Schema}
+use Rattle.store_schema.specs.declared.schema.Schema.TheVariants.{First, Second, Third}
 use Rattle.store_schema.specs.Forms.{HasAppliedForms, HasEntryForms, HasElementForms}
 use Rattle.store_schema.specs.Inventory.{Inventory}
 use Rattle.store_schema.specs.Tables.{entry, chosen}
@@ -141,7 +141,7 @@ module _ (contents : Contents) (name : Text) where
     rise = firsts_rise zone.entries h.forms.zone.entries;
   }
 
-  its_numbers : (r : Release) (zone : Zone) → HoldsZone contents (named_so zone)
+  its_numbers : (r : Schema) (zone : Zone) → HoldsZone contents (named_so zone)
       → HoldsNumbers r contents (named_so zone) → HasNumbers r contents name (numbers_of zone.entries)
   its_numbers First zone h n = no_numbers zone.entries (all_by IsFirst zone.entries n)
   its_numbers Second zone h n = no_numbers zone.entries (all_by IsFirst zone.entries n)
@@ -153,7 +153,7 @@ module _ (contents : Contents) (name : Text) where
     rise = numbers_rise zone.entries h.forms.zone.entries;
   }
 
-  pub its_numbered : (r : Release) (zone : Zone) → HoldsUnder r contents name (Some zone)
+  pub its_numbered : (r : Schema) (zone : Zone) → HoldsUnder r contents name (Some zone)
       → HoldsNumbered r contents name zone.entries
   its_numbered r zone h = record { firsts = its_entries zone h.1; numbers = its_numbers r zone h.1 h.0 }
 
@@ -167,20 +167,20 @@ module _ (contents : Contents) (name : Text) where
     rise = h.forms.zone.elements;
   }
 
-  pub head_at : (r : Release) (zone : Option Zone) → HoldsUnder r contents name zone
+  pub head_at : (r : Schema) (zone : Option Zone) → HoldsUnder r contents name zone
       → HoldsHead contents name (option_map (head_in name) zone)
   head_at r None h = record { rows = h; forms = tt }
   head_at r (Some zone) h = its_head zone h.1
 
   -- ---- one list of entries, and one zone
 
-  numbers_one : (r : Release) (xs ys : List Entry) → HasNumbers r contents name (numbers_of xs)
+  numbers_one : (r : Schema) (xs ys : List Entry) → HasNumbers r contents name (numbers_of xs)
       → HasNumbers r contents name (numbers_of ys) → numbers_of xs ≡ numbers_of ys
   numbers_one First xs ys p q = p ∙ sym q
   numbers_one Second xs ys p q = p ∙ sym q
   numbers_one Third xs ys p q = numbers_same contents name (numbers_of xs) (numbers_of ys) p q
 
-  numbered_same : (r : Release) (xs ys : List Entry) → HoldsNumbered r contents name xs
+  numbered_same : (r : Schema) (xs ys : List Entry) → HoldsNumbered r contents name xs
       → HoldsNumbered r contents name ys → xs ≡ ys
   numbered_same r xs ys p q =
       let firsts = entries_same contents name (map as_first xs) (map as_first ys) p.firsts q.firsts in
@@ -195,7 +195,7 @@ module _ (contents : Contents) (name : Text) where
       ∙ ap (λ es. a_zone b.kind b.srel b.related es a.elements) entries
       ∙ ap (λ es. a_zone b.kind b.srel b.related b.entries es) elements
 
-  pub one_under : (r : Release) (a b : Option Zone) → HoldsUnder r contents name a → HoldsUnder r contents name b → a ≡ b
+  pub one_under : (r : Schema) (a b : Option Zone) → HoldsUnder r contents name a → HoldsUnder r contents name b → a ≡ b
   one_under r None None p q = refl
   one_under r None (Some b) p q = absurd (let e = sym p ∙ q.1.head in cc)
   one_under r (Some a) None p q = absurd (let e = sym q ∙ p.1.head in cc)
@@ -228,7 +228,7 @@ entry_forms name e f applied waives = record {
   waived_if_applied = waiving e.applied e.waived waives;
 }
 
-module _ (r : Release) (contents : Contents) (head : ZoneHead) (entries : List Entry) (elements : List Element) where
+module _ (r : Schema) (contents : Contents) (head : ZoneHead) (entries : List Entry) (elements : List Element) where
   each_number_form : HasNumbers r contents head.name (numbers_of entries)
       → AllByRecursion (IsNumberIn head.name) (numbers_of entries)
   each_number_form = by r
@@ -236,7 +236,7 @@ module _ (r : Release) (contents : Contents) (head : ZoneHead) (entries : List E
       none : numbers_of entries ≡ [] → AllByRecursion (IsNumberIn head.name) (numbers_of entries)
       none is = subst (AllByRecursion (IsNumberIn head.name)) (sym is) tt
 
-      by : (s : Release) → HasNumbers s contents head.name (numbers_of entries)
+      by : (s : Schema) → HasNumbers s contents head.name (numbers_of entries)
           → AllByRecursion (IsNumberIn head.name) (numbers_of entries)
       by First n = none n
       by Second n = none n
@@ -246,7 +246,7 @@ module _ (r : Release) (contents : Contents) (head : ZoneHead) (entries : List E
       → HoldsNumbers r contents (record { name = head.name; zone = whole head entries elements })
   numbers_held = by r
     where
-      by : (s : Release) → HasNumbers s contents head.name (numbers_of entries)
+      by : (s : Schema) → HasNumbers s contents head.name (numbers_of entries)
           → HoldsNumbers s contents (record { name = head.name; zone = whole head entries elements })
       by First n = All-from_recursion IsFirst entries (all_first entries n)
       by Second n = All-from_recursion IsFirst entries (all_first entries n)
@@ -303,7 +303,7 @@ module _ (r : Release) (contents : Contents) (head : ZoneHead) (entries : List E
       (subst (MayBeZone zone.kind zone.related) same own)
 
 -- where there is a head there is a zone
-pub is_zone : (r : Release) (contents : Contents) (name : Text) (head : ZoneHead)
+pub is_zone : (r : Schema) (contents : Contents) (name : Text) (head : ZoneHead)
     → HoldsHead contents name (Some head) → (found : Option Zone) → HoldsUnder r contents name found
     → (zone : Zone) × HoldsUnder r contents head.name (Some zone)
 is_zone r contents name head h None held = absurd (let e = sym held ∙ h.rows in cc)

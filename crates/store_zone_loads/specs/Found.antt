@@ -1,9 +1,9 @@
 -- What is found of the zones of an inventory.
-use Rattle.std.specs.Prelude.{◌≡◌, ◌==◌, List, All, IsTrue, find, Option, is_some, option_map}
+use Rattle.std.specs.Prelude.{◌≡◌, List, All, IsTrue, find, Option, is_some, option_map}
 use Rattle.std.specs.Str.{bytes_eq}
 use Rattle.terms.specs.declared.kinds.ZoneKind.{ZoneKind}
 use Rattle.terms.specs.Lookups.{has_content, waives_applied}
-use Rattle.terms.specs.Types.{Text, zone_number, Entry, Zone, NamedZone}
+use Rattle.terms.specs.Types.{Text, Entry, Zone, NamedZone, is_target}
 use Rattle.store_schema.specs.Inventory.{Inventory}
 use Rattle.store_zone_loads.specs.declared.head.ZoneHead.{ZoneHead}
 
@@ -23,4 +23,4 @@ head_of z = head_in z.name z.zone
 abbrev pub MayBeZone : ZoneKind → Option Text → List Entry → Type 0
 MayBeZone kind related entries =
     All (λ e. IsTrue (has_content e)) entries × All (λ e. IsTrue (waives_applied e)) entries
-    × (is_some related ≡ (zone_number kind == 0))
+    × (is_some related ≡ is_target kind)

@@ -1,4 +1,4 @@
--- What the tables of a release hold of zones.
+-- What the tables of a schema hold of zones.
 use Rattle.std.specs.Prelude.{◌≡◌, List, [], ◌∷◌, map, All, IsPermutation, Option, None, Some, IfSome}
 use Rattle.std.specs.List.{AllByRecursion}
 use Rattle.std.specs.Option.{option_to_list}
@@ -14,8 +14,8 @@ use Rattle.terms.specs.Forms.{IsZoneName}
 use Rattle.terms.specs.Lookups.{element_cmp, element_key}
 use Rattle.terms.specs.Rising.{Rises}
 use Rattle.terms.specs.Types.{Text, Entry, Element, Zone, NamedZone}
-use Rattle.store_schema.specs.declared.release.Release.{Release}
-use Rattle.store_schema.specs.declared.release.Release.TheVariants.{First, Second, Third}
+use Rattle.store_schema.specs.declared.schema.Schema.{Schema}
+use Rattle.store_schema.specs.declared.schema.Schema.TheVariants.{First, Second, Third}
 use Rattle.store_schema.specs.Inventory.{IsZoneNamed}
 use Rattle.store_schema.specs.Rows.{zone_row, entry_row, entries_of, zelem_row, zelems_of, chosen_of}
 use Rattle.store_schema.specs.Tables as tables
@@ -45,13 +45,13 @@ pub record HoldsZone (contents : Contents) (z : NamedZone) : Type 0 where
   pub related : IfSome z.zone.related IsZoneName
 
 -- By which ++VER each entry was installed. Under earlier schemas it was the first.
-abbrev pub HoldsNumbers : Release → Contents → NamedZone → Type 0
+abbrev pub HoldsNumbers : Schema → Contents → NamedZone → Type 0
 HoldsNumbers First contents z = All IsFirst z.zone.entries
 HoldsNumbers Second contents z = All IsFirst z.zone.entries
 HoldsNumbers Third contents z = IsPermutation (chosen_of z) (rows_named z.name tables.chosen contents)
 
--- all that the tables of the release hold of a name, which may be no zone's
-abbrev pub HoldsUnder : Release → Contents → Text → Option Zone → Type 0
+-- all that the tables of the schema hold of a name, which may be no zone's
+abbrev pub HoldsUnder : Schema → Contents → Text → Option Zone → Type 0
 HoldsUnder r contents name None = rows_named name tables.zone contents ≡ []
 HoldsUnder r contents name (Some zone) =
     HoldsNumbers r contents (record { name = name; zone = zone })
@@ -78,13 +78,13 @@ abbrev pub HoldsChosen : Contents → Text → List EntryNumber → Type 0
 HoldsChosen = HoldsItems tables.chosen number_row HasNumberForms (slice_cmp nat_cmp) (λ n. n.id)
 
 -- the numbers of the entries of a zone that are not 1
-abbrev pub HasNumbers : Release → Contents → Text → List EntryNumber → Type 0
+abbrev pub HasNumbers : Schema → Contents → Text → List EntryNumber → Type 0
 HasNumbers First contents name ns = ns ≡ []
 HasNumbers Second contents name ns = ns ≡ []
 HasNumbers Third contents name ns = HoldsChosen contents name ns
 
 -- the entries of a zone with their numbers
-pub record HoldsNumbered (r : Release) (contents : Contents) (name : Text) (entries : List Entry) : Type 0 where
+pub record HoldsNumbered (r : Schema) (contents : Contents) (name : Text) (entries : List Entry) : Type 0 where
   pub firsts : HoldsEntries contents name (map as_first entries)
   pub numbers : HasNumbers r contents name (numbers_of entries)
 

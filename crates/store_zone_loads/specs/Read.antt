@@ -1,11 +1,11 @@
 -- The rows of zones, entries and elements, and the forms that are looked for in them.
-use Rattle.std.specs.Prelude.{◌≡◌, ◌≢◌, ◌==◌, ◌≤◌, ◌<◌, ◌^◌, [], ◌∷◌, IfSome, is_some, codes}
+use Rattle.std.specs.Prelude.{◌≡◌, ◌≢◌, ◌≤◌, ◌<◌, ◌^◌, [], ◌∷◌, IfSome, is_some, codes}
 use Rattle.sqlite.specs.declared.types.Value.TheVariants as value
 use Rattle.sqlite.specs.Values.{or_null}
 use Rattle.sqlite.specs.Order.{Row}
 use Rattle.terms.specs.Forms.{IsId, IsSrel, IsZoneName}
 use Rattle.terms.specs.Spelling.{zone_kind_text}
-use Rattle.terms.specs.Types.{Text, zone_number, Entry, Element}
+use Rattle.terms.specs.Types.{Text, Entry, Element, is_target}
 use Rattle.store_schema.specs.Forms.{AreSorted, HasAppliedForms, HasElementForms}
 use Rattle.store_schema.specs.Rows.{entry_row, chosen_row, zelem_row}
 use Rattle.store_zone_loads.specs.declared.chosen.EntryNumber.{EntryNumber}
@@ -22,7 +22,7 @@ pub record HasHeadForms (h : ZoneHead) : Type 0 where
   pub srel : IsSrel h.srel
   pub related : IfSome h.related IsZoneName
   pub not_global : h.name ≢ codes "GLOBAL"
-  pub suits : is_some h.related ≡ (zone_number h.kind == 0)
+  pub suits : is_some h.related ≡ is_target h.kind
 
 -- the row of an item in the zone of a name
 abbrev pub in_zone : {X : Type 0} → (ZoneRow X → Row) → Text → X → Row

@@ -9,11 +9,11 @@ ghost use Rattle.store_zone_loads.specs.declared.rows.ZoneRow.{ZoneRow as AZoneR
 use crate::items::ZoneItem;
 use crate::rows::ZoneRow;
 use fields::Id;
+use sorted::Keyed;
 use sqlite::Row;
 use std::alloc::Global;
 use store_columns::{Query, id_in, zone_name_in};
 use store_rows::{FromRow, ReadError, whole};
-use zones::Keyed;
 
 /// The id of an entry, and by which `++VER` it was installed, which was not the first.
 #[derive(Clone, Copy, Debug, PartialEq, Eq)]
@@ -83,7 +83,7 @@ impl FromRow for Numbers {
 
 impl Query for Numbers {
     ghost use Rattle.std.specs.Prelude.{◌≡◌};
-    ghost use Rattle.store_schema.specs.declared.release.Release.TheVariants.{Third};
+    ghost use Rattle.store_schema.specs.declared.schema.Schema.TheVariants.{Third};
     ghost use Rattle.store_schema.specs.Tables.{chosen};
 
     type Rows = Numbers;
@@ -96,7 +96,7 @@ impl Query for Numbers {
 
     ghost knows = { λ r. r ≡ Third };
 
-    fn text() -> &'static str {
+    fn sql() -> &'static str {
         "SELECT zone, id, n FROM chosen WHERE zone = ?1 ORDER BY id"
     }
 }

@@ -86,7 +86,7 @@ impl Query for Elements {
 
     ghost knows = { λ r. ⊤ };
 
-    fn text() -> &'static str {
+    fn sql() -> &'static str {
         "SELECT zone, type, name, fmid, rmid, umid, distlib, syslib, text FROM zelem WHERE zone = ?1 ORDER BY type, name"
     }
 }

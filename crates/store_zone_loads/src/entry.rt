@@ -91,7 +91,7 @@ impl Query for Entries {
 
     ghost knows = { λ r. ⊤ };
 
-    fn text() -> &'static str {
+    fn sql() -> &'static str {
         "SELECT zone, id, date, supby, delby, waived FROM entry WHERE zone = ?1 ORDER BY id"
     }
 }

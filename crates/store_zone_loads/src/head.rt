@@ -1,15 +1,15 @@
 //! The table of zones.
 
-ghost use Rattle.std.specs.Prelude.{◌≡◌, ◌≢◌, ◌==◌, List, Option, map, IfOk, OnErr, IsErrOf};
+ghost use Rattle.std.specs.Prelude.{◌≡◌, ◌≢◌, List, Option, map, IfOk, OnErr, IsErrOf};
 ghost use Rattle.std.specs.Option.{option_to_list};
 ghost use Rattle.sqlite.specs.Held.{state};
 ghost use Rattle.sqlite.specs.State.{HasCleanDisk};
 ghost use Rattle.store_rows.specs.Reads.{OnlyReads};
 ghost use Rattle.store_rows.specs.Rows.{Contents, HasContents};
-ghost use Rattle.store_schema.specs.declared.release.Release.{Release};
+ghost use Rattle.store_schema.specs.declared.schema.Schema.{Schema};
 ghost use Rattle.store_schema.specs.Earlier.{schema_under, StandsUnder};
 ghost use Rattle.store_schema.specs.Inventory.{Inventory};
-ghost use Rattle.terms.specs.Types.{zone_number};
+ghost use Rattle.terms.specs.Types.{is_target};
 ghost use Rattle.store_zone_loads.specs.declared.head.ZoneHead.{ZoneHead as AZoneHead};
 ghost use Rattle.store_zone_loads.specs.Found.{head_of};
 ghost use Rattle.store_zone_loads.specs.Held.{HoldsHead, HoldsHeads};
@@ -18,6 +18,7 @@ ghost use Rattle.store_zone_loads.specs.Related.{AreRelated};
 use crate::related::only_related;
 use crate::rows::table_of;
 use fields::{Srel, ZoneName};
+use sorted::{Keyed, TryClone};
 use sqlite::{Alter, Connection, Row};
 use sqlite_value::value::ValueRef;
 use std::alloc::{AllocError, Global};
@@ -26,7 +27,6 @@ use store_columns::{
 };
 use store_rows::{FromRow, ReadError};
 use terms::ZoneKind;
-use zones::{Keyed, TryClone};
 
 /// A zone without its entries and elements.
 #[derive(Clone, Copy, Debug, PartialEq, Eq)]
@@ -54,7 +54,7 @@ impl TryClone for ZoneHead {
 }
 
 fn is_target(kind: ZoneKind) -> bool
-    ensures { result ≡ (zone_number kind == 0) }
+    ensures { result ≡ is_target kind }
 {
     match kind {
         ZoneKind::Target => true,
@@ -127,7 +127,7 @@ impl Query for AllHeads {
 
     ghost knows = { λ r. ⊤ };
 
-    fn text() -> &'static str {
+    fn sql() -> &'static str {
         "SELECT name, kind, srel, related FROM zone ORDER BY name"
     }
 }
@@ -149,7 +149,7 @@ impl Query for NamedHeads {
 
     ghost knows = { λ r. ⊤ };
 
-    fn text() -> &'static str {
+    fn sql() -> &'static str {
         "SELECT name, kind, srel, related FROM zone WHERE name = ?1"
     }
 }
@@ -172,13 +172,13 @@ pub(crate) fn zone_head<S: Alter>(
     conn: &mut Connection<S>,
     name: &ZoneName,
 ) -> Result<Option<ZoneHead>, ReadError>
-    ensures found { HasCleanDisk (state S.Store conn.new) → (r : Release) (contents : Contents)
+    ensures found { HasCleanDisk (state S.Store conn.new) → (r : Schema) (contents : Contents)
         → HasContents (schema_under r) contents (state S.Store conn.old).now
         → IfOk result (HoldsHead contents name.now) }
-    ensures none { HasCleanDisk (state S.Store conn.new) → IsErrOf result ReadError.BadRow → (r : Release)
+    ensures none { HasCleanDisk (state S.Store conn.new) → IsErrOf result ReadError.BadRow → (r : Schema)
         → (contents : Contents) → HasContents (schema_under r) contents (state S.Store conn.old).now
         → (head : Option AZoneHead) → ¬ HoldsHead contents name.now head }
-    ensures reads { (r : Release) → OnlyReads S.Store (schema_under r) ReadError.BadRow ReadError.Fault conn.old
+    ensures reads { (r : Schema) → OnlyReads S.Store (schema_under r) ReadError.BadRow ReadError.Fault conn.old
         conn.new result }
 {
     let heads = load_listed::<S, NamedHeads>(alloc, conn, &[ValueRef::Text(name.as_bytes())])?;
@@ -192,18 +192,18 @@ pub fn zone_heads<S: Alter>(
     alloc: Global,
     conn: &mut Connection<S>,
 ) -> Result<Vec<ZoneHead>, ReadError>
-    ensures rows { HasCleanDisk (state S.Store conn.new) → (r : Release) (contents : Contents)
+    ensures rows { HasCleanDisk (state S.Store conn.new) → (r : Schema) (contents : Contents)
         → HasContents (schema_under r) contents (state S.Store conn.old).now
         → IfOk result (λ heads. HoldsHeads contents heads.items) }
-    ensures no_rows { HasCleanDisk (state S.Store conn.new) → IsErrOf result ReadError.BadRow → (r : Release)
+    ensures no_rows { HasCleanDisk (state S.Store conn.new) → IsErrOf result ReadError.BadRow → (r : Schema)
         → (contents : Contents) → HasContents (schema_under r) contents (state S.Store conn.old).now
         → (heads : List AZoneHead) → ¬ HoldsHeads contents heads }
-    ensures found { HasCleanDisk (state S.Store conn.new) → (r : Release) (i : Inventory)
+    ensures found { HasCleanDisk (state S.Store conn.new) → (r : Schema) (i : Inventory)
         → StandsUnder r i (state S.Store conn.old).now → IfOk result (λ heads. heads.items ≡ map head_of i.zones) }
-    ensures none { HasCleanDisk (state S.Store conn.new) → IsErrOf result ReadError.BadRow → (r : Release)
+    ensures none { HasCleanDisk (state S.Store conn.new) → IsErrOf result ReadError.BadRow → (r : Schema)
         → (i : Inventory) → ¬ StandsUnder r i (state S.Store conn.old).now }
     ensures related { IfOk result (λ heads. AreRelated heads.items) }
-    ensures reads { (r : Release) → OnlyReads S.Store (schema_under r) ReadError.BadRow ReadError.Fault conn.old
+    ensures reads { (r : Schema) → OnlyReads S.Store (schema_under r) ReadError.BadRow ReadError.Fault conn.old
         conn.new result }
 {
     let heads = load_listed::<S, AllHeads>(alloc, conn, &[])?;
@@ -227,12 +227,12 @@ pub fn zone_names<S: Alter>(
     alloc: Global,
     conn: &mut Connection<S>,
 ) -> Result<Vec<ZoneName>, ReadError>
-    ensures found { HasCleanDisk (state S.Store conn.new) → (r : Release) (i : Inventory)
+    ensures found { HasCleanDisk (state S.Store conn.new) → (r : Schema) (i : Inventory)
         → StandsUnder r i (state S.Store conn.old).now
         → IfOk result (λ names. names.items ≡ map (λ z. z.name) i.zones) }
-    ensures none { HasCleanDisk (state S.Store conn.new) → IsErrOf result ReadError.BadRow → (r : Release)
+    ensures none { HasCleanDisk (state S.Store conn.new) → IsErrOf result ReadError.BadRow → (r : Schema)
         → (i : Inventory) → ¬ StandsUnder r i (state S.Store conn.old).now }
-    ensures reads { (r : Release) → OnlyReads S.Store (schema_under r) ReadError.BadRow ReadError.Fault conn.old
+    ensures reads { (r : Schema) → OnlyReads S.Store (schema_under r) ReadError.BadRow ReadError.Fault conn.old
         conn.new result }
 {
     let heads = zone_heads(alloc, conn)?;

@@ -5,19 +5,19 @@ ghost use Rattle.sqlite.specs.Held.{state};
 ghost use Rattle.sqlite.specs.State.{HasCleanDisk};
 ghost use Rattle.store_rows.specs.Reads.{OnlyReads};
 ghost use Rattle.store_rows.specs.Rows.{Contents, HasContents};
-ghost use Rattle.store_schema.specs.declared.release.Release.{Release};
+ghost use Rattle.store_schema.specs.declared.schema.Schema.{Schema};
 ghost use Rattle.store_schema.specs.Earlier.{schema_under};
 ghost use Rattle.store_zone_loads.specs.Held.{HoldsItems};
 ghost use Rattle.store_zone_loads.specs.Read.{in_zone};
 
 use crate::rows::{ZoneRow, zone_table};
 use fields::ZoneName;
+use sorted::{Keyed, Table};
 use sqlite::{Alter, Connection};
 use sqlite_value::value::ValueRef;
 use std::alloc::Global;
 use store_columns::{Query, load_listed};
 use store_rows::{FromRow, ReadError};
-use zones::{Keyed, Table};
 
 /// What stands in a zone by its keys, and the query of its rows, whose first column is the name of the zone.
 pub(crate) trait ZoneItem: Keyed + Drop {
@@ -38,15 +38,15 @@ pub(crate) fn load_items<S: Alter, T: ZoneItem>(
     conn: &mut Connection<S>,
     name: &ZoneName,
 ) -> Result<Table<T>, ReadError>
-    ensures found { HasCleanDisk (state S.Store conn.new) → (r : Release) → T.Rows.knows r → (contents : Contents)
+    ensures found { HasCleanDisk (state S.Store conn.new) → (r : Schema) → T.Rows.knows r → (contents : Contents)
         → HasContents (schema_under r) contents (state S.Store conn.old).now
         → IfOk result (HoldsItems T.Rows.table (in_zone T.Rows.row_of) T.Rows.has_form T.Key.cmp T.key_of contents
         name.now) }
-    ensures none { HasCleanDisk (state S.Store conn.new) → IsErrOf result ReadError.BadRow → (r : Release)
+    ensures none { HasCleanDisk (state S.Store conn.new) → IsErrOf result ReadError.BadRow → (r : Schema)
         → T.Rows.knows r → (contents : Contents) → HasContents (schema_under r) contents (state S.Store conn.old).now
         → (items : List T) → ¬ HoldsItems T.Rows.table (in_zone T.Rows.row_of) T.Rows.has_form T.Key.cmp T.key_of
         contents name.now items }
-    ensures reads { (r : Release) → T.Rows.knows r
+    ensures reads { (r : Schema) → T.Rows.knows r
         → OnlyReads S.Store (schema_under r) ReadError.BadRow ReadError.Fault conn.old conn.new result }
 {
     let rows = load_listed::<S, T::Rows>(alloc, conn, &[ValueRef::Text(name.as_bytes())])?;

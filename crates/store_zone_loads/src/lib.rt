@@ -1,5 +1,5 @@
 //! Zones from their tables: all that a zone has, and the heads and names of all zones.
-//! They are those of the inventory that stands for the rows, under the schema of each release, and a row is refused
+//! They are those of the inventory that stands for the rows, under each schema, and a row is refused
 //! only where none does. What is answered says which rows the tables hold of the zone, or of all zones. Nobody looks
 //! for entries, their numbers and elements of a zone that is not there: foreign keys keep them out.
 #![tactic(auto)]

@@ -7,10 +7,11 @@ ghost use Rattle.store_zone_loads.specs.Numbered.{left_over, behind_first, with_
 
 use crate::chosen::EntryNumber;
 use crate::rows::table_of;
+use sorted::Table;
 use std::alloc::{AllocError, Global};
 use std::collections::VecDeque;
 use store_rows::ReadError;
-use zones::{Applied, Entry, Table};
+use zones::{Applied, Entry};
 
 fn applied_by(applied: Option<Applied>, number: usize) -> Option<Applied>
     ensures { result ≡ option_map (λ a. an_applied a.date number) applied }

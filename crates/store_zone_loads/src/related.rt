@@ -9,7 +9,7 @@ use fields::{Srel, ZoneName};
 use store_rows::ReadError;
 use terms::ZoneKind;
 
-/// Whether it is the distribution zone of this name and release.
+/// Whether it is the distribution zone of this name and SREL.
 fn is_distribution(head: &ZoneHead, name: ZoneName, srel: Srel) -> bool
     ensures { IsTrue result ↔ IsDistributionOf name srel head.now }
 {

@@ -4,9 +4,9 @@ ghost use Rattle.std.specs.Prelude.{◌≡◌, List, map, IfOk, IsErrOf, IsPermu
 ghost use Rattle.terms.specs.Rising.{Rises};
 
 use fields::ZoneName;
+use sorted::{Keyed, Table};
 use std::alloc::{AllocError, Global};
 use store_rows::ReadError;
-use zones::{Keyed, Table};
 
 /// What stands in a zone, and the name of the zone.
 #[derive(Drop)]

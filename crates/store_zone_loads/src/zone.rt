@@ -16,11 +16,12 @@ use crate::head::{ZoneHead, zone_head};
 use crate::items::load_items;
 use crate::numbering::numbered;
 use fields::ZoneName;
+use sorted::Table;
 use sqlite::{Alter, Connection};
 use std::alloc::Global;
 use store_rows::ReadError;
-use store_schema::Release;
-use zones::{Element, Entry, Table, Zone};
+use store_schema::Schema;
+use zones::{Element, Entry, Zone};
 
 /// The zone of these parts, if they may stand in one.
 fn join(head: ZoneHead, entries: Table<Entry>, elements: Table<Element>) -> Result<Zone, ReadError>
@@ -35,25 +36,25 @@ fn join(head: ZoneHead, entries: Table<Entry>, elements: Table<Element>) -> Resu
     }
 }
 
-/// The entries of the zone of this name with their numbers, where the tables are those of this release.
+/// The entries of the zone of this name with their numbers, where the tables are those of this schema.
 fn load_numbered<S: Alter>(
     alloc: Global,
     conn: &mut Connection<S>,
-    release: Release,
+    schema: Schema,
     name: &ZoneName,
 ) -> Result<Table<Entry>, ReadError>
     ensures found { HasCleanDisk (state S.Store conn.new) → (contents : Contents)
-        → HasContents (schema_under release) contents (state S.Store conn.old).now
-        → IfOk result (HoldsNumbered release contents name.now) }
+        → HasContents (schema_under schema) contents (state S.Store conn.old).now
+        → IfOk result (HoldsNumbered schema contents name.now) }
     ensures none { HasCleanDisk (state S.Store conn.new) → IsErrOf result ReadError.BadRow → (contents : Contents)
-        → HasContents (schema_under release) contents (state S.Store conn.old).now
-        → (entries : List EntryTerm) → ¬ HoldsNumbered release contents name.now entries }
-    ensures reads { OnlyReads S.Store (schema_under release) ReadError.BadRow ReadError.Fault conn.old conn.new result }
+        → HasContents (schema_under schema) contents (state S.Store conn.old).now
+        → (entries : List EntryTerm) → ¬ HoldsNumbered schema contents name.now entries }
+    ensures reads { OnlyReads S.Store (schema_under schema) ReadError.BadRow ReadError.Fault conn.old conn.new result }
 {
     let entries = load_items::<S, Entry>(alloc, conn, name)?;
-    match release {
-        Release::First | Release::Second => Ok(entries),
-        Release::Third => {
+    match schema {
+        Schema::First | Schema::Second => Ok(entries),
+        Schema::Third => {
             let numbers = load_items::<S, EntryNumber>(alloc, conn, name)?;
             numbered(alloc, entries, numbers)
         }
@@ -64,20 +65,20 @@ fn load_numbered<S: Alter>(
 fn load_rest<S: Alter>(
     alloc: Global,
     conn: &mut Connection<S>,
-    release: Release,
+    schema: Schema,
     head: ZoneHead,
 ) -> Result<Zone, ReadError>
     ensures found { HasCleanDisk (state S.Store conn.new) → (contents : Contents)
-        → HasContents (schema_under release) contents (state S.Store conn.old).now
+        → HasContents (schema_under schema) contents (state S.Store conn.old).now
         → HoldsHead contents head.name (Some head)
-        → IfOk result (λ zone. HoldsUnder release contents head.name (Some zone)) }
+        → IfOk result (λ zone. HoldsUnder schema contents head.name (Some zone)) }
     ensures none { HasCleanDisk (state S.Store conn.new) → IsErrOf result ReadError.BadRow
-        → (contents : Contents) → HasContents (schema_under release) contents (state S.Store conn.old).now
+        → (contents : Contents) → HasContents (schema_under schema) contents (state S.Store conn.old).now
         → HoldsHead contents head.name (Some head) → (zone : ZoneTerm)
-        → ¬ HoldsUnder release contents head.name (Some zone) }
-    ensures reads { OnlyReads S.Store (schema_under release) ReadError.BadRow ReadError.Fault conn.old conn.new result }
+        → ¬ HoldsUnder schema contents head.name (Some zone) }
+    ensures reads { OnlyReads S.Store (schema_under schema) ReadError.BadRow ReadError.Fault conn.old conn.new result }
 {
-    let entries = load_numbered(alloc, conn, release, &head.name)?;
+    let entries = load_numbered(alloc, conn, schema, &head.name)?;
     let elements = load_items::<S, Element>(alloc, conn, &head.name)?;
     join(head, entries, elements)
 }
@@ -86,43 +87,43 @@ fn load_rest<S: Alter>(
 fn load_under<S: Alter>(
     alloc: Global,
     conn: &mut Connection<S>,
-    release: Release,
+    schema: Schema,
     name: &ZoneName,
 ) -> Result<Option<Zone>, ReadError>
     ensures found { HasCleanDisk (state S.Store conn.new) → (contents : Contents)
-        → HasContents (schema_under release) contents (state S.Store conn.old).now
-        → IfOk result (HoldsUnder release contents name.now) }
+        → HasContents (schema_under schema) contents (state S.Store conn.old).now
+        → IfOk result (HoldsUnder schema contents name.now) }
     ensures none { HasCleanDisk (state S.Store conn.new) → IsErrOf result ReadError.BadRow → (contents : Contents)
-        → HasContents (schema_under release) contents (state S.Store conn.old).now
-        → (zone : Option ZoneTerm) → ¬ HoldsUnder release contents name.now zone }
-    ensures reads { OnlyReads S.Store (schema_under release) ReadError.BadRow ReadError.Fault conn.old conn.new result }
+        → HasContents (schema_under schema) contents (state S.Store conn.old).now
+        → (zone : Option ZoneTerm) → ¬ HoldsUnder schema contents name.now zone }
+    ensures reads { OnlyReads S.Store (schema_under schema) ReadError.BadRow ReadError.Fault conn.old conn.new result }
 {
     let Some(head) = zone_head(alloc, conn, name)? else {
         return Ok(None);
     };
-    Ok(Some(load_rest(alloc, conn, release, head)?))
+    Ok(Some(load_rest(alloc, conn, schema, head)?))
 }
 
-/// The zone of this name, if there is one, where the tables are those of this release. Under earlier schemas each entry
+/// The zone of this name, if there is one, where the tables are those of this schema. Under earlier schemas each entry
 /// was installed by the first `++VER` of the SREL. `BadRow` comes where its rows stand for no zone, `Memory` where
 /// memory is short, and `Fault` where the disk fails or the tables are others.
 pub fn load_zone<S: Alter>(
     alloc: Global,
     conn: &mut Connection<S>,
-    release: Release,
+    schema: Schema,
     name: ZoneName,
 ) -> Result<Option<Zone>, ReadError>
     ensures rows { HasCleanDisk (state S.Store conn.new) → (contents : Contents)
-        → HasContents (schema_under release) contents (state S.Store conn.old).now
-        → IfOk result (HoldsUnder release contents name) }
+        → HasContents (schema_under schema) contents (state S.Store conn.old).now
+        → IfOk result (HoldsUnder schema contents name) }
     ensures no_rows { HasCleanDisk (state S.Store conn.new) → IsErrOf result ReadError.BadRow → (contents : Contents)
-        → HasContents (schema_under release) contents (state S.Store conn.old).now
-        → (zone : Option ZoneTerm) → ¬ HoldsUnder release contents name zone }
+        → HasContents (schema_under schema) contents (state S.Store conn.old).now
+        → (zone : Option ZoneTerm) → ¬ HoldsUnder schema contents name zone }
     ensures found { HasCleanDisk (state S.Store conn.new) → (i : Inventory)
-        → StandsUnder release i (state S.Store conn.old).now → IfOk result (λ zone. zone ≡ zone_in i name) }
+        → StandsUnder schema i (state S.Store conn.old).now → IfOk result (λ zone. zone ≡ zone_in i name) }
     ensures none { HasCleanDisk (state S.Store conn.new) → IsErrOf result ReadError.BadRow → (i : Inventory)
-        → ¬ StandsUnder release i (state S.Store conn.old).now }
-    ensures reads { OnlyReads S.Store (schema_under release) ReadError.BadRow ReadError.Fault conn.old conn.new result }
+        → ¬ StandsUnder schema i (state S.Store conn.old).now }
+    ensures reads { OnlyReads S.Store (schema_under schema) ReadError.BadRow ReadError.Fault conn.old conn.new result }
 {
-    load_under(alloc, conn, release, &name)
+    load_under(alloc, conn, schema, &name)
 }

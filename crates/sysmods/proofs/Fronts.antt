@@ -1,5 +1,5 @@
 -- The front of a global zone's list of SYSMODs, and one more behind it.
-use Rattle.std.proofs.Common.{◌≡◌, ◌∙◌, Bool, true, false, not, ◌&&◌, ◌==◌, List, [], ◌∷◌, ◌++◌, fold, filter}
+use Rattle.std.proofs.Common.{◌≡◌, ◌∙◌, Bool, true, false, not, ◌&&◌, List, [], ◌∷◌, ◌++◌, fold, filter}
 use Rattle.std.proofs.Common.{refl, sym, ap, subst, Option, None, Some, is_some, IsTrue, All, Contains, true≢false}
 use Rattle.std.proofs.Common.{arith, append-nil, length-append}
 use Rattle.std.specs.declared.cmp.Ordering.TheVariants.{Less}
@@ -13,7 +13,7 @@ use Rattle.std.proofs.lemmas.Map.Text.{is_eq-slice_cmp}
 use Rattle.std.proofs.lemmas.List.Folds.{find-append}
 use Rattle.std.proofs.lemmas.List.Elements.{All-nil, All-weaker}
 use Rattle.lemmas.proofs.Each.{All_front}
-use Rattle.terms.specs.Types.{Text, Id, Hold, Sysmod, Global, a_global, kind_number}
+use Rattle.terms.specs.Types.{Text, Id, Hold, Sysmod, Global, a_global, is_function_kind}
 use Rattle.terms.specs.Rising.{Rises, Splits, with_item}
 use Rattle.terms.specs.Lookups.{is_function}
 use Rattle.terms.specs.Global.{named, names_for, HasLoop, is_service, fits_roles, RolesFit, hold_cmp, hold, IsSysmod}
@@ -25,10 +25,10 @@ use Rattle.terms.proofs.RisingLists.{with_item_new}
 use Rattle.lemmas.proofs.Pairs.{AllPairs_parts}
 use Rattle.lemmas.proofs.Orderings.{Less_from_is_lt}
 use Rattle.lemmas.proofs.Searches.{find_over}
-use Rattle.sysmods_received.specs.Held.{found, zone_of}
-use Rattle.sysmods_received.specs.declared.faults.ReceiveFault.{ReceiveFault as Code}
-use Rattle.sysmods_received.specs.declared.faults.ReceiveFault.TheVariants as code
-use Rattle.sysmods_received.specs.Refused.{IsRefusal}
+use Rattle.sysmods.specs.Held.{found, zone_of}
+use Rattle.sysmods.specs.declared.faults.ReceiveFault.{ReceiveFault as Code}
+use Rattle.sysmods.specs.declared.faults.ReceiveFault.TheVariants as code
+use Rattle.sysmods.specs.Refused.{IsRefusal}
 use Rattle.sysmods.proofs.Receiving.{kept}
 use Rattle.lemmas.proofs.Pairs.{AllPairs_front}
 
@@ -47,7 +47,7 @@ module _ (xs ys : List Sysmod) where
   function_front x none = by (found xs x) refl
     where
       is_fn : Option Sysmod → Bool
-      is_fn o = option_map_or (λ s. kind_number s.kind == 0) o false
+      is_fn o = option_map_or (λ s. is_function_kind s.kind) o false
 
       by : (o : Option Sysmod) → found xs x ≡ o → is_fn (found xs x) ≡ false
       by None e = ap is_fn e
@@ -57,7 +57,7 @@ module _ (xs ys : List Sysmod) where
   service_front x none = by (found xs x) refl
     where
       is_other : Option Sysmod → Bool
-      is_other o = is_some o && not (option_map_or (λ s. kind_number s.kind == 0) o false)
+      is_other o = is_some o && not (option_map_or (λ s. is_function_kind s.kind) o false)
 
       by : (o : Option Sysmod) → found xs x ≡ o → is_other (found xs x) ≡ false
       by None e = ap is_other e

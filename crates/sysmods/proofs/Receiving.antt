@@ -10,11 +10,11 @@ use Rattle.terms.specs.Lookups.{is_received}
 use Rattle.terms.specs.Global.{IsGlobal, IsSysmod, HasFault, RefusedBy, ReceiveFault, Rc1, Rc2, Rc3, Rc4, with_sysmod}
 use Rattle.terms.specs.Global.{received, fits_roles, RolesFit}
 use Rattle.terms.proofs.GlobalKept.{received_kept}
-use Rattle.sysmods_holds.specs.Lists.{with_holds}
-use Rattle.sysmods_received.specs.declared.faults.ReceiveFault.{ReceiveFault as Code}
-use Rattle.sysmods_received.specs.declared.faults.ReceiveFault.TheVariants as code
-use Rattle.sysmods_received.specs.Held.{found, zone_of}
-use Rattle.sysmods_received.specs.Refused.{fault_of, IsRefusal}
+use Rattle.sysmods.specs.Lists.{with_holds}
+use Rattle.sysmods.specs.declared.faults.ReceiveFault.{ReceiveFault as Code}
+use Rattle.sysmods.specs.declared.faults.ReceiveFault.TheVariants as code
+use Rattle.sysmods.specs.Held.{found, zone_of}
+use Rattle.sysmods.specs.Refused.{fault_of, IsRefusal}
 use Rattle.sysmods.proofs.Taken.{folded}
 
 -- roles that cannot but fit fit

@@ -18,8 +18,8 @@ use Rattle.terms.proofs.RisingLists.{with_item_new}
 use Rattle.lemmas.proofs.Pairs.{AllPairs_first, AllPairs_rest}
 use Rattle.lemmas.proofs.Orderings.{Less_from_is_lt, Greater_turned, Less_turned}
 use Rattle.lemmas.proofs.Searches.{filter_all}
-use Rattle.sysmods_received.specs.Held.{found}
-use Rattle.sysmods_holds.specs.Lists.{with_holds}
+use Rattle.sysmods.specs.Held.{found}
+use Rattle.sysmods.specs.Lists.{with_holds}
 
 -- A SYSMOD that was new goes again.
 pub taken_out : (xs : List Sysmod) (s : Sysmod) → Rises (slice_cmp nat_cmp) (λ r. r.id) xs

@@ -1,3 +1,14 @@
+pub mod Seen
+pub mod Internal
+pub mod Keys
+pub mod Lists
+pub mod Undone
+pub mod KeyedMaps
+pub mod Index
+pub mod Held
+pub mod Namers
+pub mod Ways
+pub mod Refused
 pub mod Choices
 pub mod Edits
 pub mod Faults

@@ -7,12 +7,12 @@ ghost use Rattle.terms.specs.Over.{IsOver, Supersedes, chain, owner};
 ghost use Rattle.sysmods.specs.Choices.{has_ver, picked, number_in, choice};
 
 use crate::chain::Chain;
+use crate::search::{Names, ends, leads};
 use crate::zone::GlobalZone;
 use fields::{Id, IdList, Srel};
 use sorted::{Keyed, Table};
 use std::alloc::{AllocError, Global};
-use sysmods_paths::{Names, ends, leads};
-use sysmods_records::Ver;
+use sysmod::Ver;
 
 /// The number of an id's `++VER` among those for an SREL, counted from 1.
 #[derive(Clone, Copy, Debug)]

@@ -1,7 +1,7 @@
 //! Edits of the global zone, by which tables follow it.
 
 use fields::{Id, Reason};
-use sysmods_records::{Hold, Sysmod};
+use sysmod::{Hold, Sysmod};
 use terms::HoldKind;
 
 /// An edit of the global zone.

@@ -8,20 +8,28 @@
 mod chain;
 mod choice;
 mod edit;
+mod faults;
+mod holds;
+mod index;
+mod iter;
+mod key;
+mod loops;
+mod naming;
 mod overs;
 mod parts;
 mod receive;
+mod received;
+mod refused;
+mod roles;
+mod search;
+mod undo;
+mod ways;
 mod zone;
 
 pub use chain::Chain;
 pub use choice::{Pick, VerChoice, has_ver, numbered_ver};
 pub use edit::GlobalEdit;
-pub use fields::{
-    Class, HoldDate, Id, IdList, Name, Reason, Rising, Source, SourceList, Srel, ZoneName,
-};
+pub use faults::ReceiveFault;
+pub use holds::{Placed, ReleaseError};
 pub use overs::Overs;
-pub use sysmods_holds::{Placed, ReleaseError};
-pub use sysmods_received::ReceiveFault;
-pub use sysmods_records::{Action, ElemChange, Hold, IfReq, Sysmod, Ver};
-pub use terms::{ElemType, HoldKind, Kind};
 pub use zone::{GlobalZone, RejectError};

@@ -3,16 +3,17 @@ ghost use Rattle.std.specs.Prelude.{◌≡◌, ◌↔◌, ◌++◌, [], ◌∷�
 ghost use Rattle.std.specs.Ordering.{is_lt, nat_cmp};
 ghost use Rattle.std.specs.Cmp.Lexicographic.{slice_cmp};
 ghost use Rattle.terms.specs.Global.{IsGlobal};
-ghost use Rattle.sysmods_received.specs.Held.{zone_of};
+ghost use Rattle.sysmods.specs.Held.{zone_of};
 ghost use Rattle.terms.specs.declared.kinds.HoldKind.TheVariants.{System};
 ghost use Rattle.terms.specs.Lookups.{is_received};
 ghost use Rattle.terms.proofs.GlobalKept.{IsOwned};
 
+use crate::received::Received;
+use crate::refused::refusal;
 use fields::Attest;
 use sorted::are_rising;
 use std::alloc::{AllocError, Global};
-use sysmods_received::{Received, refusal};
-use sysmods_records::{Hold, Sysmod};
+use sysmod::{Hold, Sysmod};
 use terms::HoldKind;
 
 /// These SYSMODs, if they are those of a global zone: they rise by id and carry no holds, there is no
@@ -29,7 +30,7 @@ pub(crate) fn received_from(
     }
     let mut received = Received::new(alloc);
     for sysmod in sysmods {
-        if !add_last(alloc, &mut received, sysmod)? {
+        if !push_last(alloc, &mut received, sysmod)? {
             return Ok(None);
         }
     }
@@ -37,7 +38,7 @@ pub(crate) fn received_from(
 }
 
 /// Takes in a SYSMOD that stands behind all others, if they are those of a global zone with it.
-fn add_last(alloc: Global, received: &mut Received, sysmod: Sysmod) -> Result<bool, AllocError>
+fn push_last(alloc: Global, received: &mut Received, sysmod: Sysmod) -> Result<bool, AllocError>
     requires global { IsGlobal (zone_of received.old) }
     requires last { All (λ s. IsTrue (is_lt (slice_cmp nat_cmp s.id sysmod.id))) received.old }
     ensures fits { IfOk result (λ fits. IsTrue fits ↔ IsGlobal (zone_of (received.old ++ sysmod ∷ []))) }

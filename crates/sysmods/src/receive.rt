@@ -3,13 +3,13 @@ ghost use Rattle.std.specs.Prelude.{◌≡◌, [], None, OnOk, OnErr};
 ghost use Rattle.std.specs.Ordering.{nat_cmp};
 ghost use Rattle.std.specs.Cmp.Lexicographic.{slice_cmp};
 ghost use Rattle.terms.specs.Rising.{with_item};
-ghost use Rattle.sysmods_holds.specs.Lists.{with_holds};
-ghost use Rattle.sysmods_received.specs.Held.{found};
+ghost use Rattle.sysmods.specs.Lists.{with_holds};
+ghost use Rattle.sysmods.specs.Held.{found};
 
+use crate::holds::Holds;
+use crate::received::Received;
 use std::alloc::{AllocError, Global};
-use sysmods_holds::Holds;
-use sysmods_received::Received;
-use sysmods_records::Sysmod;
+use sysmod::Sysmod;
 
 /// Takes a new SYSMOD in, and its holds among the others. After an error neither came in: the SYSMOD comes first, since
 /// taking it out again takes no memory.

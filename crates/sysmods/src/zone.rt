@@ -7,22 +7,24 @@ ghost use Rattle.terms.specs.declared.kinds.HoldKind.TheVariants.{System};
 ghost use Rattle.terms.specs.Types.{Id as AnId};
 ghost use Rattle.terms.specs.Lookups.{sysmod_of, is_received, is_function, holds_of};
 ghost use Rattle.terms.specs.Global.{IsGlobal, hold_of, is_replacing, hold as with_hold, release as released};
-ghost use Rattle.terms.specs.Global.{assign as assigned, received, without_sysmod};
+ghost use Rattle.terms.specs.Global.{assign as assigned, without_sysmod};
 ghost use Rattle.terms.specs.Types.{a_global};
-ghost use Rattle.sysmods_received.specs.Namers.{namers_for, function_namers};
-ghost use Rattle.sysmods_received.specs.Refused.{IsRefusal};
-ghost use Rattle.sysmods.specs.Faults.{a_release, release_fault};
+ghost use Rattle.sysmods.specs.Namers.{namers_for, function_namers};
+ghost use Rattle.sysmods.specs.Faults.{IsReceived, a_release, release_fault};
 ghost use Rattle.sysmods.specs.Parts.{IsMadeOf};
 
+use crate::faults::ReceiveFault;
+use crate::holds::{Holds, Placed, ReleaseError};
+use crate::iter::Iter;
 use crate::parts::{are_owned, received_from};
 use crate::receive::take_in;
+use crate::received::Received;
+use crate::refused::refusal;
 use fields::{Attest, Id, Reason, Source, Srel};
 use std::alloc::{AllocError, Global};
 use std::collections::btree_map::Values;
 use std::marker::Model;
-use sysmods_holds::{Holds, Placed, ReleaseError};
-use sysmods_received::{ReceiveFault, Received, refusal};
-use sysmods_records::{Hold, Sysmod};
+use sysmod::{Hold, Sysmod};
 use terms::{HoldKind, Kind};
 use thiserror::Error;
 
@@ -118,7 +120,7 @@ impl GlobalZone {
     }
 
     /// The holds, in order.
-    pub fn holds(&self) -> sysmods_holds::Iter<'_>
+    pub fn holds(&self) -> Iter<'_>
         ensures rest { result ≡ self.now.holds }
         ensures fits { length result < 2 ^ 63 }
     {
@@ -173,34 +175,33 @@ impl GlobalZone {
     }
 
     /// The holds of a kind on an id, which need not be received.
-    pub fn holds_of(&self, kind: HoldKind, id: Id) -> sysmods_holds::Iter<'_>
+    pub fn holds_of(&self, kind: HoldKind, id: Id) -> Iter<'_>
         ensures rest { result ≡ holds_of self.now kind id }
         ensures fits { length result < 2 ^ 63 }
     {
         self.holds.of(id, kind)
     }
 
-    /// The first fault by which RECEIVE refuses the SYSMOD, if there is one. The error comes where memory runs out.
-    pub fn refusal(
-        &self,
+    /// RECEIVE of a SYSMOD: a copy of it comes in, and its holds among the others, unless a fault refuses it. It answers
+    /// the first fault that does, and then nothing changes and nothing is copied. The error comes where memory runs out,
+    /// and changes nothing.
+    pub fn receive(
+        &mut self,
         alloc: Global,
         sysmod: &Sysmod,
     ) -> Result<Option<ReceiveFault>, AllocError>
-        ensures { IfOk result (IsRefusal self.now sysmod.now) }
-    {
-        refusal(alloc, &self.sysmods, sysmod)
-    }
-
-    /// RECEIVE of a SYSMOD that nothing refuses, whose holds come in among the others. The error comes where memory
-    /// runs out, and changes nothing.
-    pub fn receive(&mut self, alloc: Global, sysmod: Sysmod) -> Result<(), AllocError>
-        requires { IsRefusal self.old sysmod None }
-        ensures ok { OnOk result (self.new ≡ received self.old sysmod) }
+        ensures ok { IfOk result (λ refused. IsReceived self.old sysmod.now self.new refused) }
         ensures err { OnErr result (self.new ≡ self.old) }
     {
-        sysmod.attest();
-        take_in(&mut self.sysmods, &mut self.holds, alloc, sysmod)?;
-        Ok(())
+        match refusal(alloc, &self.sysmods, sysmod)? {
+            Some(fault) => Ok(Some(fault)),
+            None => {
+                sysmod.attest();
+                let copy = sysmod.try_clone(alloc)?;
+                take_in(&mut self.sysmods, &mut self.holds, alloc, copy)?;
+                Ok(None)
+            }
+        }
     }
 
     /// Puts a hold in place of the one of its key, whose mark as internal stays. The error comes where memory runs out,
@@ -236,7 +237,7 @@ impl GlobalZone {
         ensures err { OnErr result (self.new ≡ self.old) }
     {
         let there = self.is_received(id);
-        self.sysmods.add_source(id, source)?;
+        self.sysmods.insert_source(id, source)?;
         Ok(there)
     }
 

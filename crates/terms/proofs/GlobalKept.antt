@@ -20,7 +20,7 @@ use Rattle.lemmas.proofs.Booleans.{or_false}
 use Rattle.lemmas.proofs.Pairs.{AllPairs_first, AllPairs_rest}
 use Rattle.terms.specs.declared.kinds.HoldKind.{HoldKind}
 use Rattle.terms.specs.declared.kinds.HoldKind.TheVariants.{Error, System, User}
-use Rattle.terms.specs.Types.{Text, Id, Ver, Hold, Sysmod, Global, hold_number, kind_number}
+use Rattle.terms.specs.Types.{Text, Id, Ver, Hold, Sysmod, Global, hold_number, is_function_kind}
 use Rattle.terms.specs.Rising.{Rises, with_item, before, behind}
 use Rattle.terms.specs.Lookups.{sysmod_of, is_received, is_function}
 use Rattle.terms.specs.Choice.{vers_of}
@@ -165,9 +165,9 @@ module _ (g : Global) (source : Text) (x : Id) where
 
   function_assign : (y : Id) → is_function (assign g source x) y ≡ is_function g y
   function_assign y =
-      ap (λ o. option_map_or (λ s. kind_number s.kind == 0) o false) (sysmod_of_assign g source x y)
-      ∙ map_or_map (λ s. kind_number s.kind == 0) (assigned source x) false
-      (assigned_same (λ s. kind_number s.kind == 0) source x (λ s. refl)) (sysmod_of g y)
+      ap (λ o. option_map_or (λ s. is_function_kind s.kind) o false) (sysmod_of_assign g source x y)
+      ∙ map_or_map (λ s. is_function_kind s.kind) (assigned source x) false
+      (assigned_same (λ s. is_function_kind s.kind) source x (λ s. refl)) (sysmod_of g y)
 
   vers_assign : (srel : Text) (y : Id) → vers_of (assign g source x) srel y ≡ vers_of g srel y
   vers_assign srel y =
@@ -231,20 +231,20 @@ module _ (g : Global) (x : Id) where
       ∙ ap (λ b. is_some (cond b None (sysmod_of g y))) other
 
   function_without : (y : Id) → is_function g y ≡ false → is_function (without_sysmod g x) y ≡ false
-  function_without y none = ap (λ o. option_map_or (λ s. kind_number s.kind == 0) o false)
+  function_without y none = ap (λ o. option_map_or (λ s. is_function_kind s.kind) o false)
       (sysmod_of_without_sysmod g x y) ∙ by (bytes_eq x y)
     where
-      by : (b : Bool) → option_map_or (λ s. kind_number s.kind == 0) (cond b None (sysmod_of g y)) false ≡ false
+      by : (b : Bool) → option_map_or (λ s. is_function_kind s.kind) (cond b None (sysmod_of g y)) false ≡ false
       by true = refl
       by false = none
 
   service_without : (y : Id) → is_service g y ≡ false → is_service (without_sysmod g x) y ≡ false
   service_without y none =
-      ap (λ o. is_some o && not (option_map_or (λ s. kind_number s.kind == 0) o false)) (sysmod_of_without_sysmod g x y)
+      ap (λ o. is_some o && not (option_map_or (λ s. is_function_kind s.kind) o false)) (sysmod_of_without_sysmod g x y)
       ∙ by (bytes_eq x y)
     where
       by : (b : Bool) → (is_some (cond b None (sysmod_of g y)) && not
-          (option_map_or (λ s. kind_number s.kind == 0) (cond b None (sysmod_of g y)) false)) ≡ false
+          (option_map_or (λ s. is_function_kind s.kind) (cond b None (sysmod_of g y)) false)) ≡ false
       by true = refl
       by false = none
 

@@ -1,5 +1,5 @@
 -- The test of a hold's key is that of the order of holds.
-use Rattle.std.proofs.Common.{◌≡◌, ◌==◌, ◌&&◌, ◌∙◌, ℕ, sym, ap}
+use Rattle.std.proofs.Common.{◌≡◌, ◌==◌, ◌&&◌, ◌∙◌, ℕ, refl, sym, ap}
 use Rattle.std.specs.Ordering.{nat_cmp, ordering_then, is_eq}
 use Rattle.std.specs.Cmp.{unsigned_ties}
 use Rattle.std.proofs.lemmas.Cmp.{nat_eq_equiv}
@@ -9,9 +9,16 @@ use Rattle.std.proofs.lemmas.Map.Text.{is_eq-slice_cmp}
 use Rattle.lemmas.proofs.Booleans.{and_assoc}
 use Rattle.lemmas.proofs.Orderings.{is_eq_then}
 use Rattle.terms.specs.declared.kinds.HoldKind.{HoldKind}
-use Rattle.terms.specs.Types.{Text, Id, Hold, hold_number}
+use Rattle.terms.specs.declared.kinds.HoldKind.TheVariants.{Error, System, User}
+use Rattle.terms.specs.Types.{Text, Id, Hold, hold_number, is_error}
 use Rattle.terms.specs.Global.{has_key}
 use Rattle.lemmas.proofs.Texts.{same_back}
+
+-- an ERROR hold, by the number of its kind
+pub error_by_number : (k : HoldKind) → is_error k ≡ (hold_number k == hold_number Error)
+error_by_number Error = refl
+error_by_number System = refl
+error_by_number User = refl
 
 pub number_back : (a b : HoldKind) → is_eq (nat_cmp (hold_number a) (hold_number b)) ≡ (hold_number b == hold_number a)
 number_back a b = by (hold_number a) (hold_number b)

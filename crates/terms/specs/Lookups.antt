@@ -10,8 +10,8 @@ use Rattle.std.specs.Str.{bytes_eq}
 use Rattle.terms.specs.declared.kinds.ElemType.{ElemType}
 use Rattle.terms.specs.declared.kinds.HoldKind.{HoldKind}
 use Rattle.terms.specs.Rising.{Rises}
-use Rattle.terms.specs.Types.{Text, Id, type_number, kind_number, hold_number, zone_number, Hold, Change, Sysmod}
-use Rattle.terms.specs.Types.{Global, Applied, Entry, Element, Zone}
+use Rattle.terms.specs.Types.{Text, Id, type_number, hold_number, Hold, Change, Sysmod}
+use Rattle.terms.specs.Types.{Global, Applied, Entry, Element, Zone, is_function_kind, is_target}
 
 abbrev pub is_nil : {X : Type 0} → List X → Bool
 is_nil [] = true
@@ -47,7 +47,7 @@ is_received g x = is_some (sysmod_of g x)
 
 -- whether it is a received function
 abbrev pub is_function : Global → Id → Bool
-is_function g x = option_map_or (λ s. kind_number s.kind == 0) (sysmod_of g x) false
+is_function g x = option_map_or (λ s. is_function_kind s.kind) (sysmod_of g x) false
 
 -- the element statements of a received SYSMOD
 abbrev pub changes_of : Global → Id → List Change
@@ -96,7 +96,7 @@ pub record IsZone (zone : Zone) : Type 0 where
   pub held : All (λ e. IsTrue (has_content e)) zone.entries
   pub waived : All (λ e. IsTrue (waives_applied e)) zone.entries
   pub elements : Rises element_cmp element_key zone.elements
-  pub related : is_some zone.related ≡ (zone_number zone.kind == 0)
+  pub related : is_some zone.related ≡ is_target zone.kind
 
 -- the SYSMOD entry of this id
 abbrev pub entry_of : Zone → Id → Option Entry

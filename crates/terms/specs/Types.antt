@@ -1,6 +1,6 @@
 -- What the installer knows: SYSMODs, holds, the global zone, zones, and what the input files say.
 -- Texts, ids and names are lists of bytes. Lists of ids rise by their bytes.
-use Rattle.std.specs.Prelude.{ℕ, Bool, List, Option}
+use Rattle.std.specs.Prelude.{ℕ, Bool, true, false, List, Option}
 use Rattle.terms.specs.declared.kinds.Kind.{Kind}
 use Rattle.terms.specs.declared.kinds.Kind.TheVariants.{Function, Ptf, Apar, Usermod}
 use Rattle.terms.specs.declared.kinds.HoldKind.{HoldKind}
@@ -46,6 +46,26 @@ type_number Proc = 6
 abbrev pub zone_number : ZoneKind → ℕ
 zone_number Target = 0
 zone_number Distribution = 1
+
+-- the kinds that rules single out
+abbrev pub is_function_kind : Kind → Bool
+is_function_kind Function = true
+is_function_kind Ptf = false
+is_function_kind Apar = false
+is_function_kind Usermod = false
+
+abbrev pub is_error : HoldKind → Bool
+is_error Error = true
+is_error System = false
+is_error User = false
+
+abbrev pub is_target : ZoneKind → Bool
+is_target Target = true
+is_target Distribution = false
+
+abbrev pub is_distribution : ZoneKind → Bool
+is_distribution Target = false
+is_distribution Distribution = true
 
 -- ++IF: if this function is installed, these SYSMODs are required too
 pub record IfReq : Type 0 where

@@ -10,11 +10,11 @@ use Rattle.terms.specs.Types.{Id}
 use Rattle.terms.specs.Lookups.{is_in}
 use Rattle.terms.specs.Needs.{Serves, takes_superseder}
 use Rattle.terms.specs.Restore.{Restoring, NeedsInRestore, FailsRestore, MayBeRestored, restore_candidates}
-use Rattle.decide.specs.declared.wants.Want.{Want}
+use Rattle.decide.specs.declared.stated.Need.{Need}
 use Rattle.decide.specs.Said.{AreTests}
 use Rattle.decide.specs.Judged.{AreJudged}
 use Rattle.undo.specs.Tests.{fails_test}
-use Rattle.undo.specs.Wants.{AreWants}
+use Rattle.undo.specs.Needed.{AreNeeds}
 use Rattle.undo.proofs.Testing.{fails_is}
 
 -- no superseder serves a need of RESTORE
@@ -30,15 +30,15 @@ alone r listed x HoldError z n = absurd n
 alone r listed x Orphan z n = absurd n
 
 pub are_judged : (r : Restoring) (ids cands : List Id) → cands ≡ restore_candidates r ids → (rows : List (List Test))
-    → AreTests (fails_test r) cands rows → (wants : List Want) → AreWants r ids cands wants
+    → AreTests (fails_test r) cands rows → (needs : List Need) → AreNeeds r ids cands needs
     → AreJudged (FailsRestore r) (MayBeRestored r ids) (NeedsInRestore r (is_in ids)) (Serves r.choice) cands rows
-    wants []
-are_judged r ids cands are rows tested wants w = record {
+    needs []
+are_judged r ids cands are rows tested needs w = record {
   fails = fails_test r;
   tests_are = tested;
   of = λ k d below.
-      let v = get_or wants k d in
-      ((w.members v.of v.kind v.id).0 (Contains-get_or wants k d below)).0;
+      let v = get_or needs k d in
+      ((w.members v.of v.kind v.id).0 (Contains-get_or needs k d below)).0;
   once = w.once;
   by = λ k d below. absurd (omega (arith, below));
   said = record {
@@ -47,7 +47,7 @@ are_judged r ids cands are rows tested wants w = record {
       λ may. (subst (λ l. Contains l x) (sym are) may.cand, may.passes),
       λ both. record { cand = subst (λ l. Contains l x) are both.0; passes = both.1 },
     );
-    wants = λ x z kind own. (
+    needs = λ x z kind own. (
       λ there. ((w.members x kind z).0 there).1,
       λ need. (w.members x kind z).1 (own, need),
     );

@@ -1,7 +1,11 @@
+pub mod Supplying
+pub mod ListedBySteps
+pub mod Reached
+pub mod RulesOfSteps
 pub mod PairOrder
 pub mod Changed
 pub mod Needing
-pub mod Wanting
+pub mod AllNeeds
 pub mod Candidates
 pub mod Testing
 pub mod LessEdits

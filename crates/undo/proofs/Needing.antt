@@ -15,8 +15,8 @@ use Rattle.terms.specs.Choice.{fmid_of}
 use Rattle.terms.specs.Needs.{binding_ids}
 use Rattle.terms.specs.Restore.{Restoring, NeedsDep, is_supplied_outside}
 use Rattle.terms.proofs.Applied.{applied_are}
-use Rattle.undo_list.specs.Restoring.{suppliers}
-use Rattle.undo_list.proofs.Supplying.{supplier_is}
+use Rattle.undo.specs.Scopes.{suppliers}
+use Rattle.undo.proofs.Supplying.{supplier_is}
 use Rattle.undo.specs.Dependences.{by_requisite, dependences_of}
 
 abbrev Pair : Type 0

@@ -6,7 +6,7 @@ use Rattle.terms.specs.Lookups.{at_most_one, is_applied}
 use Rattle.terms.specs.Choice.{fmid_of}
 use Rattle.terms.specs.Needs.{binding_ids}
 use Rattle.terms.specs.Restore.{Restoring}
-use Rattle.undo_list.specs.Restoring.{suppliers}
+use Rattle.undo.specs.Scopes.{suppliers}
 
 -- each that supplies a requisite of y, with y, if all of them are listed
 abbrev pub by_requisite : Zone → (Id → Bool) → Id → Id → List (Id × Id)

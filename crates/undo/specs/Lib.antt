@@ -1,6 +1,10 @@
+pub mod Scopes
+pub mod Steps
+pub mod NodeOrder
+pub mod ByNumbers
 pub mod Dependences
 pub mod Elements
 pub mod Tests
 pub mod Pairs
-pub mod Wants
+pub mod Needed
 pub mod Restoring

@@ -2,13 +2,14 @@
 ghost use Rattle.std.specs.Prelude.{◌≡◌, ◌++◌, map, IfOk, OnOk};
 ghost use Rattle.std.specs.List.{flat_map, list_all};
 ghost use Rattle.terms.specs.Lookups.{at_most_one, is_in, applied_ids};
-ghost use Rattle.undo_list.specs.Restoring.{restoring_of};
+ghost use Rattle.undo.specs.Scopes.{restoring_of};
 ghost use Rattle.undo.specs.Dependences.{by_requisite, dependences_of};
 
 use crate::pairs::add_pairs;
+use crate::scope::Scope;
+use crate::supply::suppliers;
 use fields::{Id, IdList};
 use std::alloc::{AllocError, Global};
-use undo_list::{Scope, suppliers};
 use zones::Zone;
 use zones_views::requisites_held;
 

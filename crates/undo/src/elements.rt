@@ -7,14 +7,14 @@ ghost use Rattle.undo.specs.Elements.{AreChangers, ChangedBy, beside, beside_at}
 
 use crate::pairs::add_needed;
 use crate::reverting::append_changes_of;
+use crate::scope::changes_of;
 use fields::{Id, Name};
 use sorted::lists::{Lists, add_to_all, listed};
 use std::alloc::{AllocError, Global};
 use std::collections::BTreeMap;
+use sysmod::ElemChange;
 use sysmods::{GlobalZone, VerChoice};
-use sysmods_records::ElemChange;
 use terms::ElemType;
-use undo_list::changes_of;
 
 /// For each element some SYSMODs that change it.
 pub(crate) type Changers = Lists<(ElemType, Name), Id>;

@@ -4,16 +4,17 @@ ghost use Rattle.terms.specs.Lookups.{is_in, is_applied};
 ghost use Rattle.terms.specs.Needs.{Serves};
 ghost use Rattle.terms.specs.Restore.{FailsRestore, MayBeRestored, NeedsInRestore, restore_candidates};
 ghost use Rattle.sysmods.specs.Choices.{choice};
-ghost use Rattle.undo_list.specs.Restoring.{restoring_of};
+ghost use Rattle.undo.specs.Scopes.{restoring_of};
 ghost use Rattle.decide.specs.Judged.{AreJudged};
 
+use crate::needed::needs_of_all;
+use crate::scope::Scope;
+use crate::supply::push_applied;
 use crate::tests::all_rows;
-use crate::wanted::all_wants;
-use decide::Want;
+use decide::Need;
 use fields::{Attest, IdList};
 use std::alloc::{AllocError, Global};
 use terms::Test;
-use undo_list::{Scope, push_applied};
 use zones::Zone;
 
 /// What is said of the candidates: who they are, the tests that each one fails, and what each one needs.
@@ -21,7 +22,7 @@ use zones::Zone;
 pub struct Judged {
     pub cands: IdList,
     pub tests: Vec<Vec<Test>>,
-    pub wants: Vec<Want>,
+    pub needs: Vec<Need>,
 }
 
 // Those of the list that are applied.
@@ -45,14 +46,14 @@ pub fn judge_restore(
     ensures judged { IfOk result (λ j. AreJudged
         (FailsRestore (restoring_of scope.now)) (MayBeRestored (restoring_of scope.now) ids.now)
         (NeedsInRestore (restoring_of scope.now) (is_in ids.now)) (Serves (choice scope.now.vers.now)) j.cands
-        (map (λ row. row.items) j.tests.items) j.wants.items []) }
+        (map (λ row. row.items) j.tests.items) j.needs.items []) }
 {
     let cands = candidates(alloc, scope.zone, ids)?;
     let tests = all_rows(alloc, scope, cands.as_slice())?;
-    let wants = all_wants(alloc, scope, ids, &cands)?;
+    let needs = needs_of_all(alloc, scope, ids, &cands)?;
     Ok(Judged {
         cands,
         tests,
-        wants,
+        needs,
     })
 }

@@ -10,12 +10,20 @@
 mod dependences;
 mod elements;
 mod judging;
+mod listing;
+mod needed;
+mod nodes;
+mod numbered;
+mod numbers;
 mod pairs;
 mod restoring;
 mod reverting;
+mod scope;
+mod steps;
+mod supply;
 mod tests;
-mod wanted;
 
 pub use judging::{Judged, judge_restore};
+pub use listing::restore_list;
 pub use restoring::restore;
-pub use undo_list::{Scope, applied_ids, restore_list};
+pub use scope::{Scope, applied_ids};

@@ -1,15 +1,16 @@
 //! Elements that become those of another zone.
 ghost use Rattle.std.specs.Prelude.{◌≡◌, ◌++◌, [], IsPermutation, IfOk, IfSome, OnOk, map, option_copied};
-ghost use Rattle.terms.specs.Lookups.{element_key, element_of};
+ghost use Rattle.terms.specs.Lookups.{element_key};
 ghost use Rattle.undo.specs.Restoring.{all_changed, changed_keys, EditsElement, PutsBack};
 ghost use Rattle.undo.specs.Restoring.{ArePutBack};
 
 use fields::{Id, Name};
+use sorted::TryClone;
 use std::alloc::{AllocError, Global};
+use sysmod::ElemChange;
 use sysmods::GlobalZone;
-use sysmods_records::ElemChange;
 use terms::ElemType;
-use zones::{Element, TryClone, Zone, ZoneDelta, is_there};
+use zones::{Element, Zone, ZoneDelta, are_same};
 
 /// The types and names of the elements that these SYSMODs change, in order. One that several change comes several
 /// times.
@@ -96,18 +97,11 @@ fn put_back_one(
 ) -> Result<(), AllocError>
     ensures { OnOk result (PutsBack zone.now accepted.now (elem_type, name) delta.old delta.new) }
 {
-    let wanted = element_at(accepted, elem_type, name);
-    if is_there(zone.element(elem_type, name), wanted) {
+    let wanted = accepted.element(elem_type, name);
+    if are_same(zone.element(elem_type, name), wanted) {
         return Ok(());
     }
     put_or_remove(alloc, elem_type, name, wanted, delta)
-}
-
-fn element_at(zone: &Zone, elem_type: ElemType, name: Name) -> Option<&Element>
-    ensures at { option_copied result ≡ element_of zone.now elem_type name }
-    ensures key { IfSome (option_copied result) (λ e. element_key e ≡ (elem_type, name)) }
-{
-    zone.element(elem_type, name)
 }
 
 fn put_or_remove(

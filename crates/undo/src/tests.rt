@@ -7,16 +7,16 @@ ghost use Rattle.terms.specs.Choice.{del_of};
 ghost use Rattle.terms.specs.Restore.{are_applied, is_alike, are_alike, may_return};
 ghost use Rattle.sysmods.specs.Choices.{choice};
 ghost use Rattle.terms.specs.Failures.{all_tests};
-ghost use Rattle.undo_list.specs.Restoring.{restoring_of};
+ghost use Rattle.undo.specs.Scopes.{restoring_of};
 ghost use Rattle.decide.specs.Said.{AreTests};
 ghost use Rattle.undo.specs.Tests.{is_behind, fails_test};
 
+use crate::scope::{Scope, changes_of};
 use fields::Id;
 use std::alloc::{AllocError, Global};
+use sysmod::ElemChange;
 use sysmods::VerChoice;
-use sysmods_records::ElemChange;
 use terms::Test;
-use undo_list::{Scope, changes_of};
 use zones::{Element, Zone};
 
 // Whether it has DELETE.

@@ -139,9 +139,10 @@ impl ZoneDelta {
     }
 
     /// Changes the zone: what the delta puts comes in, and what it removes goes. Only what it puts is copied, in time
-    /// that goes with the size of both. An error comes where memory runs out, and leaves open what the zone then has.
+    /// that goes with the size of both. The error comes where memory runs out, and changes nothing.
     pub fn apply(&self, alloc: Global, zone: &mut Zone) -> Result<(), AllocError>
-        ensures { OnOk result (IsChanged self.now zone.old zone.new) }
+        ensures ok { OnOk result (IsChanged self.now zone.old zone.new) }
+        ensures err { OnErr result (zone.new ≡ zone.old) }
     {
         zone.change(alloc, self)
     }

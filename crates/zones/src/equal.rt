@@ -31,7 +31,7 @@ fn same_ids(a: &IdList, b: &IdList) -> bool
 }
 
 /// Whether the two are one element, or none.
-pub fn is_there(a: Option<&Element>, b: Option<&Element>) -> bool
+pub fn are_same(a: Option<&Element>, b: Option<&Element>) -> bool
     ensures { IsTrue result ↔ (option_copied a.entry ≡ option_copied b.entry) }
 {
     match a {

@@ -10,9 +10,5 @@ mod zone;
 
 pub use delta::ZoneDelta;
 pub use entries::{Applied, Element, Entry};
-pub use equal::{is_element, is_same_entry, is_there};
-pub use fields::{Id, IdList, Name, Srel, YyDdd, ZoneName};
-pub use sorted::{Edit, Keyed, Table, TryClone};
-pub use terms::{ElemType, ZoneKind};
-pub use text80::Line;
+pub use equal::{are_same, is_element, is_same_entry};
 pub use zone::Zone;

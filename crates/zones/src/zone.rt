@@ -1,7 +1,7 @@
 //! A zone: a map from ids to entries, and one from types and names to elements.
-ghost use Rattle.std.specs.Prelude.{◌≡◌, ◌==◌, ◌↔◌, [], All, IsTrue, IsSome, IfSome, OnOk, is_some, option_copied};
+ghost use Rattle.std.specs.Prelude.{◌≡◌, ◌↔◌, [], All, IsTrue, IsSome, IfSome, OnOk, OnErr, is_some, option_copied};
 ghost use Rattle.zones.specs.Delta.{IsChanged};
-ghost use Rattle.terms.specs.Types.{zone_number, a_zone};
+ghost use Rattle.terms.specs.Types.{a_zone, is_target};
 ghost use Rattle.terms.specs.Lookups.{IsRising, entry_of, element_of, applied_of, is_applied, is_supplied};
 ghost use Rattle.terms.specs.Lookups.{has_content, waives_applied};
 
@@ -24,8 +24,8 @@ pub struct Zone {
 }
 
 impl Model for Zone {
-    ghost use Rattle.std.specs.Prelude.{◌≡◌, ◌==◌, All, IsTrue, is_some};
-    ghost use Rattle.terms.specs.Types.{zone_number, Zone as AZone};
+    ghost use Rattle.std.specs.Prelude.{◌≡◌, All, IsTrue, is_some};
+    ghost use Rattle.terms.specs.Types.{Zone as AZone, is_target};
     ghost use Rattle.terms.specs.Lookups.{has_content, waives_applied};
 
     ghost Value = { AZone };
@@ -40,7 +40,7 @@ impl Model for Zone {
 
     ghost invariant = { λ z. All (λ e. IsTrue (has_content e)) z.entries
         × All (λ e. IsTrue (waives_applied e)) z.entries
-        × (is_some z.related ≡ (zone_number z.kind == 0)) };
+        × (is_some z.related ≡ is_target z.kind) };
 }
 
 impl Attest for Zone {
@@ -57,7 +57,7 @@ impl Attest for Zone {
 impl Zone {
     /// An empty zone. A target zone alone names a related zone.
     pub fn new(alloc: Global, kind: ZoneKind, srel: Srel, related: Option<ZoneName>) -> Self
-        requires { is_some related ≡ (zone_number kind == 0) }
+        requires { is_some related ≡ is_target kind }
         ensures { result ≡ a_zone kind srel related [] [] }
     {
         Zone {
@@ -79,7 +79,7 @@ impl Zone {
     ) -> Option<Self>
         ensures form { IsSome result
             ↔ (All (λ e. IsTrue (has_content e)) entries × All (λ e. IsTrue (waives_applied e)) entries
-            × (is_some related ≡ (zone_number kind == 0))) }
+            × (is_some related ≡ is_target kind)) }
         ensures same { IfSome result (λ zone. zone ≡ a_zone kind srel related entries elements) }
     {
         if related.is_some() != (kind == ZoneKind::Target) || !may_stand(entries.as_slice()) {
@@ -179,14 +179,17 @@ impl Zone {
         }
     }
 
-    /// Changes the zone as the delta says.
+    /// Changes the zone as the delta says. All that takes memory comes first.
     pub(crate) fn change(&mut self, alloc: Global, delta: &ZoneDelta) -> Result<(), AllocError>
-        ensures { OnOk result (IsChanged delta.now self.old self.new) }
+        ensures ok { OnOk result (IsChanged delta.now self.old self.new) }
+        ensures err { OnErr result (self.new ≡ self.old) }
     {
         delta.attest();
         self.attest();
-        self.entries.edit(alloc, delta.entry_edits())?;
-        self.elements.edit(alloc, delta.element_edits())?;
+        let entries = self.entries.prepare(alloc, delta.entry_edits())?;
+        let elements = self.elements.prepare(alloc, delta.element_edits())?;
+        self.entries.edit(entries);
+        self.elements.edit(elements);
         Ok(())
     }
 }

@@ -1,9 +1,8 @@
 -- A zone less what is gone: it has the form of a zone.
-use Rattle.std.proofs.Common.{◌≡◌, Bool, true, false, List, ◌++◌, refl, ap, ◌∙◌, IsTrue, All, filter, map}
+use Rattle.std.proofs.Common.{◌≡◌, Bool, true, false, List, refl, IsTrue, All, filter, map}
 use Rattle.std.specs.Ordering.{nat_cmp}
 use Rattle.std.specs.Cmp.Lexicographic.{slice_cmp}
-use Rattle.std.proofs.lemmas.List.{map-append}
-use Rattle.std.proofs.lemmas.List.Elements.{All-filter, All-map, All-weaker, filter-append, filter_passes}
+use Rattle.std.proofs.lemmas.List.Elements.{All-filter, All-map, All-weaker, filter_passes}
 use Rattle.std.proofs.lemmas.List.Kept.{AllPairs-filter}
 use Rattle.lemmas.proofs.Pairs.{pairs_map}
 use Rattle.terms.specs.Types.{Id, Entry}
@@ -12,11 +11,6 @@ use Rattle.terms.specs.Lookups.{has_content, waives_applied, is_before}
 use Rattle.terms.specs.Deleted.{entry_less, entries_less}
 
 module _ (is_gone : Id → Bool) where
-  pub entries_less_append : (es fs : List Entry) → entries_less is_gone (es ++ fs)
-      ≡ entries_less is_gone es ++ entries_less is_gone fs
-  entries_less_append es fs = ap (filter has_content) (map-append (entry_less is_gone) es fs)
-      ∙ filter-append has_content (map (entry_less is_gone) es) (map (entry_less is_gone) fs)
-
   pub entries_less_held : (es : List Entry) → All (λ e. IsTrue (has_content e)) (entries_less is_gone es)
   entries_less_held es = filter_passes has_content (map (entry_less is_gone) es)
 

@@ -1,8 +1,6 @@
-pub mod Steps
 pub mod Entries
 pub mod Filtered
 pub mod Lookups
-pub mod Views
 pub mod Flats
 pub mod Requisites
 pub mod Lost

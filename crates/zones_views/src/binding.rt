@@ -9,8 +9,8 @@ use crate::left::is_left;
 use crate::taking::Taking;
 use fields::{Attest, Id, IdList};
 use std::alloc::{AllocError, Global};
+use sysmod::{IfReq, Ver};
 use sysmods::VerChoice;
-use sysmods_records::{IfReq, Ver};
 use zones::Zone;
 
 /// The requisites that hold a SYSMOD applied in the zone: its PRE and REQ and those by ++IF whose function is applied,

@@ -3,11 +3,10 @@ ghost use Rattle.std.specs.Prelude.{◌≡◌, false};
 ghost use Rattle.std.specs.Option.{option_map_or};
 ghost use Rattle.terms.specs.Lookups.{is_in};
 ghost use Rattle.terms.specs.Tests.{covers, reasons_of, is_bypassed_hold};
-ghost use Rattle.cntl.specs.Views.{reasons_in};
+ghost use Rattle.fields.specs.Choices.{reasons_in};
 
-use cntl::{Bypass, Reasons};
-use fields::{Class, Reason};
-use sysmods_records::Hold;
+use fields::{Bypass, Class, Reason, Reasons};
+use sysmod::Hold;
 use terms::HoldKind;
 
 // HOLDERROR, HOLDSYSTEM or HOLDUSER.

@@ -1,16 +1,17 @@
 //! Which `++VER`s count.
 ghost use Rattle.std.specs.Prelude.{◌≡◌, ◌+◌, ◌++◌, [], ◌∷◌, IfOk, OnOk, filter, map, position, unwrap_or};
 ghost use Rattle.std.specs.Str.{bytes_eq};
+ghost use Rattle.terms.specs.Rising.{Rises};
 ghost use Rattle.terms.specs.Lookups.{is_in, is_applied};
 ghost use Rattle.terms.specs.Choice.{fits, place, counting};
 ghost use Rattle.sysmods.specs.Choices.{number_in, choice};
 ghost use Rattle.zones_views.specs.Picks.{kept_pick, fitting_pick, is_further};
 
-use crate::less::table_of;
 use fields::{Attest, IdList};
+use sorted::{Keyed, Table};
 use std::alloc::{AllocError, Global};
+use sysmod::{Sysmod, Ver};
 use sysmods::{GlobalZone, Pick, VerChoice};
-use sysmods_records::{Sysmod, Ver};
 use zones::{Entry, Zone};
 
 /// The `++VER`s that count in the zone for a command with these candidates. It goes over the entries and over the
@@ -31,6 +32,14 @@ pub fn choose<'a>(
     let kept = table_of(kept_picks(alloc, zone)?);
     let fitting = table_of(fitting_picks(alloc, global, zone, cands)?);
     Ok(VerChoice::new(global, zone.srel(), kept, fitting))
+}
+
+// The table of items that rise.
+fn table_of<T: Keyed + Drop>(items: Vec<T>) -> Table<T>
+    requires { Rises T.Key.cmp T.key_of items.items }
+    ensures { result ≡ items.items }
+{
+    Table::from_vec(items).unwrap()
 }
 
 /// Whether the `++VER` has no FMID, or one that is applied in the zone or a candidate.

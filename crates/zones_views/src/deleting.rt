@@ -1,16 +1,14 @@
-//! What SYSMODs name in DELETE, and a candidate's view of a zone.
+//! What SYSMODs name in DELETE.
 ghost use Rattle.std.specs.Prelude.{◌≡◌, ◌++◌, [], ◌∷◌, IfOk, OnOk, filter};
 ghost use Rattle.terms.specs.Choice.{del_of};
 ghost use Rattle.terms.specs.Lookups.{is_in};
 ghost use Rattle.terms.specs.Over.{chain};
-ghost use Rattle.terms.specs.Deleted.{deletions, view};
+ghost use Rattle.terms.specs.Deleted.{deletions};
 ghost use Rattle.sysmods.specs.Choices.{choice};
 
-use crate::less::zone_less;
 use fields::{Id, IdList};
 use std::alloc::{AllocError, Global};
 use sysmods::VerChoice;
-use zones::Zone;
 
 /// What these SYSMODs name in DELETE, in their order. The error comes where memory runs out.
 pub fn deletions(alloc: Global, vers: &VerChoice<'_>, ids: &[Id]) -> Result<Vec<Id>, AllocError>
@@ -39,21 +37,6 @@ pub fn view_deletions(
         append_of_candidate(vers, cands, above, &mut dels)?;
     }
     Ok(dels)
-}
-
-/// A candidate's view: the zone without what the DELETEs of candidates in its own chain take out. The error comes where
-/// memory runs out.
-pub fn view(
-    alloc: Global,
-    vers: &VerChoice<'_>,
-    cands: &IdList,
-    zone: &Zone,
-    id: Id,
-) -> Result<Zone, AllocError>
-    ensures { IfOk result (λ seen. seen ≡ view vers.now.global.now (choice vers.now) cands.now zone.now id) }
-{
-    let dels = view_deletions(alloc, vers, cands, id)?;
-    zone_less(alloc, vers, dels.as_slice(), zone)
 }
 
 /// Adds what the SYSMOD names in DELETE.

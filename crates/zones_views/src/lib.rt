@@ -1,7 +1,7 @@
-//! A zone less what DELETE operands take out of it, look-ups in it without a copy, and the requisites that a DELETE
-//! orphans; which `++VER`s count in a zone, and all that an install looks at (`Scope`), with the holds that its BYPASS
-//! covers. `entry_less` takes SYSMODs out of one entry, whatever test tells them. All is as the definitions have it.
-//! Seen in the code alone: each item that stays is copied once.
+//! Look-ups in a zone less what DELETE operands take out of it, and the requisites that a DELETE orphans; which `++VER`s
+//! count in a zone, and all that an install looks at (`Scope`), with the holds that its BYPASS covers. `entry_less` takes
+//! SYSMODs out of one entry, whatever test tells them. All is as the definitions have it. Seen in the code alone: no zone
+//! is copied.
 #![tactic(auto)]
 
 mod binding;
@@ -10,7 +10,6 @@ mod choosing;
 mod deleting;
 mod entry;
 mod left;
-mod less;
 mod orphaned;
 mod scope;
 mod taking;
@@ -18,9 +17,8 @@ mod taking;
 pub use binding::requisites_held;
 pub use bypassing::is_bypassed_hold;
 pub use choosing::{choose, fits};
-pub use deleting::{deletions, view, view_deletions};
+pub use deleting::{deletions, view_deletions};
 pub use entry::{TakesOut, entry_less};
 pub use left::{element_left, is_left, supplies_left};
-pub use less::zone_less;
 pub use orphaned::orphans;
 pub use scope::Scope;

@@ -6,10 +6,9 @@ ghost use Rattle.terms.specs.Needs.{is_bypassed};
 ghost use Rattle.sysmods.specs.Choices.{choice};
 ghost use Rattle.terms.specs.Choice.{fmid_of, pre_of, req_of, ifs_of};
 
-use cntl::Bypass;
-use fields::{Id, IdList};
+use fields::{Bypass, Id, IdList};
+use sysmod::{IfReq, Ver};
 use sysmods::{GlobalZone, VerChoice};
-use sysmods_records::{IfReq, Ver};
 use terms::NeedKind;
 use zones::Zone;
 

@@ -1,5 +1,7 @@
-use Rattle.std.proofs.Common.{inr, All, AllPairs, Any, IsTrue, subst, sym, None, Some}
+use Rattle.std.proofs.Common.{◌≡◌, ◌-◌, ℕ, List, length, take, drop, inr, All, AllPairs, Any, IsTrue, subst, sym, arith}
+use Rattle.std.proofs.Common.{None, Some}
 use Rattle.std.specs.Option.{option_copied}
+use Rattle.std.proofs.lemmas.List.{take_all, length-drop}
 use Rattle.std.proofs.lemmas.List.Elements.{All-drop}
 use Rattle.std.proofs.lemmas.Result.{IfOk-weaker}
 use Rattle.sysmods.specs.Choices.{choice}
@@ -13,20 +15,24 @@ use Rattle.change.proofs.FoldEnd.{folded_after, folded_behind}
 use Rattle.change.proofs.Ordered.{pairs_drop}
 use Rattle.change.proofs.folding.element_after.Goals as goal
 
+-- the slice from a place on
+behind : (p : ℕ) (xs : List Id) → take (length xs - p) (drop p xs) ≡ drop p xs
+behind p xs = take_all (length xs - p) (drop p xs) (omega (arith, length-drop p xs))
+
 pub folded-requires-clause-changers : goal.folded-requires-clause-changers
 folded-requires-clause-changers c =
     let P : Id → Type 0 = λ x. IsTrue (has_change c.args.vers.now.global.now x c.args.elem_type c.args.name) in
-    subst (All P) (sym c.from.ensures) (All-drop P c.in-Some.place c.args.changers.now c.requires.changers)
+    subst (All P) (sym (behind c.in-Some.place c.args.changers.now)) (All-drop P c.in-Some.place c.args.changers.now c.requires.changers)
 
 pub folded-requires-clause-order : goal.folded-requires-clause-order
 folded-requires-clause-order c =
     let R : Id → Id → Type 0 = λ x y. IsOver (choice c.args.vers.now) y x in
-    subst (AllPairs R) (sym c.from.ensures) (pairs_drop R c.in-Some.place c.args.changers.now c.requires.order)
+    subst (AllPairs R) (sym (behind c.in-Some.place c.args.changers.now)) (pairs_drop R c.in-Some.place c.args.changers.now c.requires.order)
 
 pub folded-requires-clause-some : goal.folded-requires-clause-some
 folded-requires-clause-some c =
     inr (subst (Any (λ x. IsTrue (has_replacement c.args.vers.now.global.now x c.args.elem_type c.args.name)))
-    (sym c.from.ensures) (rw c.global-2.ensures at c.in-Some.ensures.replaces))
+    (sym (behind c.in-Some.place c.args.changers.now)) (rw c.global-2.ensures at c.in-Some.ensures.replaces))
 
 pub returns-in-Some-clause-element : goal.returns-in-Some-clause-element
 returns-in-Some-clause-element c =
@@ -38,7 +44,8 @@ returns-in-Some-clause-element c =
     (λ e fold. λ i are. folded_after g chosen c.args.elem_type c.args.name xs base e c.requires.order
     (not_over_itself c.args.vers.now (rw c.global.ensures at c.attest.ensures))
     (folded_behind g chosen c.args.elem_type c.args.name xs c.in-Some.place base e
-    (subst (λ l. IsFolded g chosen c.args.elem_type c.args.name l None (Some e)) c.from.ensures fold)) i are)
+    (subst (λ l. IsFolded g chosen c.args.elem_type c.args.name l None (Some e))
+    (behind c.in-Some.place xs) fold)) i are)
     c.folded.ensures.folded
 
 pub returns-in_ok-copy_of-in-None-clause-element : goal.returns-in_ok-copy_of-in-None-clause-element

@@ -3,7 +3,7 @@ use Rattle.std.specs.Option.{option_map}
 use Rattle.std.proofs.lemmas.Grind.{common_steps}
 use Rattle.std.proofs.lemmas.List.{length-map}
 use Rattle.std.proofs.lemmas.Option.{slice_get_read, slice_get-map}
-use Rattle.solve.specs.Need.{demand}
+use Rattle.solve.specs.NumberedNeed.{numbered}
 use Rattle.decide.specs.Numbered.{need_of}
 use Rattle.decide.specs.Open.{HaveOpen}
 use Rattle.decide.proofs.Opened.{open_next}
@@ -11,43 +11,44 @@ use Rattle.decide.proofs.needs.open_needs.Goals as goal
 
 pub loop-i-preserved : goal.loop-i-preserved
 loop-i-preserved c =
-    let demands = c.args.system.now.demands in
-    let wants = c.args.wants.now in
-    let needs = c.needs-needs.result.now in
+    let needs = c.args.problem.now.needs in
+    let stated = c.args.stated.now in
+    let given = c.needs-needs.result.now in
     let i = c.loop-i.i in
     let n = c.index-needs-i.result in
     let rows = c.loop-i.rows.items in
     let new = c.add_open.new.rows in
     let own = c.needs-needs.ensures.needs in
-    let many : length needs ≡ length wants = omega (
+    let many : length given ≡ length stated = omega (
       arith,
-      sym (length-map needs demand),
+      sym (length-map given numbered),
       ap length own,
-      c.requires.wants,
+      c.requires.stated,
     ) in
     let whole : take c.loop-i.rows.len (new ++ drop (length new) rows) ≡ new = grind (arith, common_steps) in
-    let at_need : slice_get needs i ≡ Some n = slice_get_read needs (length needs) i n refl (omega arith)
+    let at_need : slice_get given i ≡ Some n = slice_get_read given (length given) i n refl (omega arith)
     c.index-needs-i.is in
-    let at_d : slice_get demands i ≡ Some (demand n) = ap (λ l. slice_get l i) (sym own) ∙ slice_get-map demand needs i
-    ∙ ap (option_map demand) at_need in
-    let at_meant = slice_get-map need_of wants i ∙ ap (option_map need_of) c.want_at-want.ensures in
+    let at_d : slice_get needs i ≡ Some (numbered n) = ap (λ l. slice_get l i) (sym own)
+    ∙ slice_get-map numbered given i
+    ∙ ap (option_map numbered) at_need in
+    let at_meant = slice_get-map need_of stated i ∙ ap (option_map need_of) c.need_at-need.ensures in
     rw whole (record {
       size = omega (arith, c.add_open.auto.rows, c.deref_mut.ensures.len, c.loop-i.invariant.size);
-      unserved = open_next c.args.kept.now demands (map need_of wants) i (demand n)
-          (need_of c.want_at-want.result) rows new at_d at_meant
+      unserved = open_next c.args.kept.now needs (map need_of stated) i (numbered n)
+          (need_of c.need_at-need.result) rows new at_d at_meant
           (rw c.deref_mut.ensures.value at c.in_ok-add_open.ensures) c.loop-i.invariant.unserved;
     })
 
 pub returns-clause-unserved : goal.returns-clause-unserved
 returns-clause-unserved c =
-    let needs = c.needs-needs.result.now in
+    let given = c.needs-needs.result.now in
     let own = c.needs-needs.ensures.needs in
-    let end : c.loop-i.i ≡ length c.args.wants.now = omega (
+    let end : c.loop-i.i ≡ length c.args.stated.now = omega (
       arith,
-      sym (length-map needs demand),
+      sym (length-map given numbered),
       ap length own,
-      c.requires.wants,
+      c.requires.stated,
     ) in
-    subst (λ e. HaveOpen c.args.kept.now c.args.system.now.demands (map need_of c.args.wants.now) e c.loop-i.rows.items)
+    subst (λ e. HaveOpen c.args.kept.now c.args.problem.now.needs (map need_of c.args.stated.now) e c.loop-i.rows.items)
     end
     c.loop-i.invariant.unserved

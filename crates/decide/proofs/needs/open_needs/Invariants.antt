@@ -5,6 +5,6 @@ use Rattle.decide.proofs.needs.open_needs.Given as goal
 
 abbrev pub invariant-loop-i : goal.invariant-loop-i
 invariant-loop-i l = record {
-  size : length l.rows.items ≡ l.system.size;
-  unserved : HaveOpen l.kept l.system.demands (map need_of l.wants) l.i l.rows.items;
+  size : length l.rows.items ≡ l.problem.size;
+  unserved : HaveOpen l.kept l.problem.needs (map need_of l.stated) l.i l.rows.items;
 }

@@ -4,5 +4,5 @@ pub returns-clause-problem : goal.returns-clause-problem
 returns-clause-problem c = record {
   pairs = c.in_ok-served.served.keys;
   served = c.in_ok-served.ensures;
-  demands = c.in_ok-system.ensures.demands;
+  needs = c.in_ok-problem.ensures.needs;
 }

@@ -16,7 +16,7 @@ returns-clause-judged c =
     survivors_are s rows c.in_ok-tests.ensures.tests c.in_ok-survivors.survivors c.in_ok-survivors.ensures.rising
     (rw c.as_slice.ensures.value at c.in_ok-survivors.ensures.members) in
     install_judged scope related c.in_ok-survivors.survivors are rows c.in_ok-tests.ensures.tests
-    c.in_ok-wants.wants.items c.in_ok-wants.ensures c.in_ok-superseded.superseded.items c.in_ok-superseded.ensures
+    c.in_ok-needs.needs.items c.in_ok-needs.ensures c.in_ok-superseded.superseded.items c.in_ok-superseded.ensures
 
 pub returns-clause-bypassed : goal.returns-clause-bypassed
 returns-clause-bypassed c = c.in_ok-bypassed.ensures

@@ -1,5 +1,7 @@
-use Rattle.std.proofs.Common.{arith, refl, true≢false, sym, ◌∙◌}
+use Rattle.std.proofs.Common.{◌≡◌, ◌∙◌, arith, refl, true, true≢false, subst, sym}
+use Rattle.std.specs.Str.{bytes_eq}
 use Rattle.std.proofs.lemmas.Option.{slice_get_within}
+use Rattle.lemmas.proofs.Texts.{same_itself}
 use Rattle.judge_faults.proofs.Naming.{named_none, named_there}
 use Rattle.judge_faults.proofs.forbidding.mark_named.Goals as goal
 
@@ -13,7 +15,8 @@ pub returns : goal.returns
 returns c =
     named_there c.args.ids.now c.args.faults.now c.args.place c.in-Some.other c.args.id c.args.named
     c.args.marked.now.keys c.mark_both.new.marked.keys
-    (λ same. true≢false (sym (c.is_same.ensures.1 same) ∙ c.if-is_same.false))
+    (λ same. true≢false (sym (c.eq.ensures ∙ subst (λ x. bytes_eq c.args.id x ≡ true) same (same_itself c.args.id))
+    ∙ c.if-eq.false))
     (rw c.in-Some.is at c.passing_place.ensures) c.in_ok-mark_both.ensures
 
 pub returns-in_default : goal.returns-in_default

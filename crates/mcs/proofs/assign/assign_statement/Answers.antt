@@ -1,7 +1,7 @@
 use Rattle.std.proofs.Common.{◌∙◌, sym}
 use Rattle.std.proofs.lemmas.Bool.{true≢false}
 use Rattle.terms.specs.Statements.{SaysAssign}
-use Rattle.mcs_statements.specs.KnownWords.{own_list}
+use Rattle.mcs.specs.KnownWords.{own_list}
 use Rattle.mcs.specs.Files.{begun_in}
 use Rattle.mcs.proofs.Assigning.{assign_value, assign_error, assign_said}
 use Rattle.mcs.proofs.assign.assign_statement.Goals as goal

@@ -5,7 +5,7 @@ use Rattle.terms.specs.Forms.{IsId}
 use Rattle.terms.specs.Operands.{operand, HasListed}
 use Rattle.terms.proofs.ExactWords.{words_only}
 use Rattle.rec80.specs.Cursors.{text_of}
-use Rattle.mcs_statements.specs.KnownWords.{own_list}
+use Rattle.mcs.specs.KnownWords.{own_list}
 use Rattle.operands.proofs.Failing.{excludes_more}
 use Rattle.mcs.proofs.Ending.{no_list}
 use Rattle.lemmas.proofs.Options.{map_not_none}

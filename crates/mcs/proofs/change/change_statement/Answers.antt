@@ -3,7 +3,7 @@ use Rattle.std.proofs.lemmas.Bool.{true≢false}
 use Rattle.terms.specs.Statements.{changed_type, SaysChange}
 use Rattle.terms.specs.Ptfin.{sysmod_in}
 use Rattle.mcs.specs.Files.{begun_in}
-use Rattle.mcs_statements.specs.KnownWords.{own_list}
+use Rattle.mcs.specs.KnownWords.{own_list}
 use Rattle.mcs.proofs.Saying.{change_excludes}
 use Rattle.mcs.proofs.Changing.{a_change, change_value, names_excluded, text_fault, replacement_fits}
 use Rattle.mcs.proofs.change.change_statement.Goals as goal

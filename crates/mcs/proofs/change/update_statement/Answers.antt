@@ -2,7 +2,7 @@ use Rattle.std.proofs.Common.{◌∙◌, sym, refl}
 use Rattle.std.proofs.lemmas.Bool.{true≢false}
 use Rattle.terms.specs.Statements.{SaysChange}
 use Rattle.terms.specs.Ptfin.{sysmod_in}
-use Rattle.mcs_statements.specs.KnownWords.{own_list}
+use Rattle.mcs.specs.KnownWords.{own_list}
 use Rattle.mcs.specs.Files.{begun_in}
 use Rattle.mcs.proofs.Changing.{an_update, update_value, no_update, update_fault, update_from}
 use Rattle.mcs.proofs.change.update_statement.Goals as goal

@@ -1,7 +1,7 @@
 use Rattle.std.proofs.Common.{◌∙◌, sym}
 use Rattle.std.proofs.lemmas.Bool.{true≢false}
 use Rattle.terms.specs.Ptfin.{sysmod_in}
-use Rattle.mcs_statements.specs.KnownWords.{own_list}
+use Rattle.mcs.specs.KnownWords.{own_list}
 use Rattle.mcs.specs.Files.{begun_in}
 use Rattle.mcs.proofs.Saying.{header_said, header_excludes}
 use Rattle.mcs.proofs.header.header_statement.Goals as goal

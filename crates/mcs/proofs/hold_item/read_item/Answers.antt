@@ -1,7 +1,7 @@
 use Rattle.std.proofs.Common.{◌≡◌, length, rules, ap}
 use Rattle.std.proofs.lemmas.List.{nil_from_length}
-use Rattle.mcs_statements.specs.KnownWords.{own_list}
-use Rattle.mcs_statements.proofs.Printables.{known_printable}
+use Rattle.mcs.specs.KnownWords.{own_list}
+use Rattle.mcs.proofs.Printables.{known_printable}
 use Rattle.mcs.proofs.HoldJudging.{good_item, bad_item, may_hold, may_release, text_behind, misplaced}
 use Rattle.mcs.proofs.hold_item.read_item.Goals as goal
 

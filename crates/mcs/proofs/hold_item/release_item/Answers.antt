@@ -1,4 +1,4 @@
-use Rattle.mcs_statements.specs.KnownWords.{own_list}
+use Rattle.mcs.specs.KnownWords.{own_list}
 use Rattle.mcs.proofs.HoldJudging.{release_value, no_release}
 use Rattle.mcs.proofs.hold_item.release_item.Goals as goal
 

@@ -1,7 +1,7 @@
 use Rattle.std.proofs.Common.{◌∙◌, sym, ap}
 use Rattle.std.proofs.lemmas.Bool.{true≢false}
 use Rattle.terms.specs.Statements.{SaysHold}
-use Rattle.mcs_statements.specs.KnownWords.{own_list}
+use Rattle.mcs.specs.KnownWords.{own_list}
 use Rattle.mcs.specs.Files.{begun_of, begun_in}
 use Rattle.mcs.proofs.Holding.{hold_value, hold_error, hold_said, hold_outside}
 use Rattle.mcs.proofs.holds.hold_statement.Goals as goal

@@ -3,7 +3,7 @@ use Rattle.std.proofs.lemmas.Bool.{true≢false}
 use Rattle.terms.specs.Types.{Hold}
 use Rattle.terms.specs.Words.{Word, HasWords}
 use Rattle.terms.specs.HoldStatements.{IsHoldOf}
-use Rattle.mcs_statements.specs.KnownWords.{own_list}
+use Rattle.mcs.specs.KnownWords.{own_list}
 use Rattle.operands.proofs.Failing.{excludes_more}
 use Rattle.mcs.proofs.Holding.{OwnHoldOf, not_own, own_hold}
 use Rattle.mcs.proofs.holds.read_own_hold.Goals as goal

@@ -1,7 +1,7 @@
 use Rattle.std.proofs.Common.{◌∙◌, sym, ap}
 use Rattle.std.proofs.lemmas.Bool.{true≢false}
 use Rattle.terms.specs.Statements.{SaysIf}
-use Rattle.mcs_statements.specs.KnownWords.{own_list}
+use Rattle.mcs.specs.KnownWords.{own_list}
 use Rattle.mcs.specs.Files.{begun_of, begun_in}
 use Rattle.mcs.proofs.Conditions.{if_value, if_error, if_within, if_said, if_outside}
 use Rattle.mcs.proofs.ifs.if_statement.Goals as goal

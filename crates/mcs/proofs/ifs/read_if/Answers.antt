@@ -7,7 +7,7 @@ use Rattle.terms.specs.Operands.{HasSorted}
 use Rattle.terms.proofs.Ids.{is_in_from_Contains, Contains_from_is_in}
 use Rattle.rec80.specs.Cursors.{text_of}
 use Rattle.rec80.specs.Views.{word_of}
-use Rattle.mcs_statements.specs.KnownWords.{own_list}
+use Rattle.mcs.specs.KnownWords.{own_list}
 use Rattle.operands.proofs.Failing.{excludes_more}
 use Rattle.mcs.proofs.Ending.{no_list}
 use Rattle.lemmas.proofs.Options.{map_not_none}

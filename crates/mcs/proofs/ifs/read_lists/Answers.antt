@@ -5,7 +5,7 @@ use Rattle.terms.specs.Words.{Word, plain, HasWords}
 use Rattle.rec80.specs.Cursors.{text_of}
 use Rattle.rec80.specs.Views.{word_of}
 use Rattle.mcs.proofs.Ending.{first_is, ended_none, no_list, three}
-use Rattle.mcs_statements.proofs.KindWords.{plain_is}
+use Rattle.mcs.proofs.KindWords.{plain_is}
 use Rattle.lemmas.proofs.Options.{map_not_none}
 use Rattle.mcs.proofs.ifs.read_lists.Goals as goal
 

@@ -1,4 +1,4 @@
-use Rattle.mcs_statements.specs.KnownWords.{own_list}
+use Rattle.mcs.specs.KnownWords.{own_list}
 use Rattle.mcs.proofs.Ordering.{second_change}
 use Rattle.mcs.proofs.order.is_second_change.Goals as goal
 

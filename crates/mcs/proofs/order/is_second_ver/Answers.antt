@@ -1,6 +1,6 @@
 use Rattle.std.proofs.Common.{◌∙◌, ap}
 use Rattle.terms.specs.Types.{Sysmod}
-use Rattle.mcs_statements.specs.KnownWords.{own_list}
+use Rattle.mcs.specs.KnownWords.{own_list}
 use Rattle.mcs.proofs.Ordering.{second_ver}
 use Rattle.mcs.proofs.order.is_second_ver.Goals as goal
 

@@ -1,5 +1,5 @@
-use Rattle.mcs_statements.specs.KnownWords.{own_list}
-use Rattle.mcs_statements.proofs.Printables.{known_printable}
+use Rattle.mcs.specs.KnownWords.{own_list}
+use Rattle.mcs.proofs.Printables.{known_printable}
 use Rattle.mcs.specs.Files.{begun_in}
 use Rattle.mcs.proofs.Judging.{Stands, stands, good_statement, bad_statement, no_release}
 use Rattle.mcs.proofs.statement.read_statement.Goals as goal

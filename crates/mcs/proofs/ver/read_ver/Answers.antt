@@ -10,7 +10,7 @@ use Rattle.terms.specs.Statements.{IsVerOf, SuitsKind, lists_of}
 use Rattle.terms.specs.Words.{Word}
 use Rattle.operands.specs.Left.{LeavesWords}
 use Rattle.operands.proofs.Owning.{optional_text}
-use Rattle.mcs_statements.specs.KnownWords.{own_list}
+use Rattle.mcs.specs.KnownWords.{own_list}
 use Rattle.mcs.specs.VerOperands.{HasLists}
 use Rattle.mcs.proofs.NotNaming.{free_all, all_free}
 use Rattle.operands.proofs.Failing.{excludes_more}

@@ -1,7 +1,7 @@
 use Rattle.std.proofs.Common.{◌∙◌, sym, ap, refl}
 use Rattle.std.proofs.lemmas.Bool.{true≢false}
 use Rattle.terms.specs.Statements.{SaysVer}
-use Rattle.mcs_statements.specs.KnownWords.{own_list}
+use Rattle.mcs.specs.KnownWords.{own_list}
 use Rattle.mcs.specs.Files.{begun_of, begun_in}
 use Rattle.mcs.proofs.Versions.{ver_error, ver_said, ver_value, ver_within}
 use Rattle.mcs.proofs.ver.ver_statement.Goals as goal

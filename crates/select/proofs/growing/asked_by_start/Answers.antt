@@ -1,6 +1,6 @@
 use Rattle.std.proofs.Common.{[], sym, subst, arith}
-use Rattle.sysmods_paths.specs.Seen.{AddsAll}
-use Rattle.sysmods_paths.proofs.Growth.{adds_none}
+use Rattle.sysmods.specs.Seen.{AddsAll}
+use Rattle.sysmods.proofs.Growth.{adds_none}
 use Rattle.select.specs.Growing.{asked_first}
 use Rattle.select.proofs.Adds.{adds_flat}
 use Rattle.select.proofs.growing.asked_by_start.Goals as goal

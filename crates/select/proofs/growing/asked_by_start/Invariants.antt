@@ -1,6 +1,6 @@
 use Rattle.std.proofs.Common.{[], take}
 use Rattle.std.specs.List.{flat_map}
-use Rattle.sysmods_paths.specs.Seen.{AddsAll}
+use Rattle.sysmods.specs.Seen.{AddsAll}
 use Rattle.select.specs.Growing.{asked_first}
 use Rattle.select.proofs.growing.asked_by_start.Given as goal
 

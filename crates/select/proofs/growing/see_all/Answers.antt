@@ -1,5 +1,5 @@
 use Rattle.std.proofs.Common.{arith}
-use Rattle.sysmods_paths.proofs.Growth.{adds_none, adds_next}
+use Rattle.sysmods.proofs.Growth.{adds_none, adds_next}
 use Rattle.select.proofs.growing.see_all.Goals as goal
 
 pub loop-id-init : goal.loop-id-init

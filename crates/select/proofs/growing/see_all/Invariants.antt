@@ -1,5 +1,5 @@
 use Rattle.std.proofs.Common.{take}
-use Rattle.sysmods_paths.specs.Seen.{AddsAll}
+use Rattle.sysmods.specs.Seen.{AddsAll}
 use Rattle.select.proofs.growing.see_all.Given as goal
 
 abbrev pub invariant-loop-id : goal.invariant-loop-id

@@ -4,10 +4,11 @@ use Rattle.cntl.specs.Views.{command_of}
 use Rattle.report.specs.Views.{outcome_view}
 use Rattle.smpe.specs.declared.error.JobError.TheVariants.{Write}
 use Rattle.smpe.specs.Commands.{job_error}
-use Rattle.smpe.specs.Course.{FoundNone}
 use Rattle.smpe.proofs.Reports.{sent_all, sent_part}
 use Rattle.smpe.proofs.Commanding.{commands_err, unperformed, unreported, reported}
-use Rattle.smpe.proofs.Coursing.{none_told, tells_none, passed_one, found_first, goes_err}
+use Rattle.smpe_zones.specs.Own.{IsOwnOf}
+use Rattle.smpe_session.specs.Writing.{AnswersRun}
+use Rattle.smpe.proofs.Coursing.{passed_one, early_first, fails_by, fails_told, performs_passes, goes_early}
 use Rattle.smpe.proofs.job.run_command.Goals as goal
 
 pub returns-in_err-performed-clause-ended : goal.returns-in_err-performed-clause-ended
@@ -79,41 +80,72 @@ returns-in_ok-write_report-in-Lists-clause-ended g c clean s is keeps =
 
 pub returns-in_err-performed-clause-course : goal.returns-in_err-performed-clause-course
 returns-in_err-performed-clause-course g c =
-    let act = Perform c.args.date c.args.files.now (command_of c.args.command.now) in
+    let old = c.args.store.now in
+    let new = c.perform.new.store in
+    let command = command_of c.args.command.now in
+    let act = Perform c.args.date c.args.files.now command in
     let taken = g.W.Sink.taken c.args.w.now in
     let e = c.in_err-performed.field-0.0 in
-    goes_err g.S.Store c.args.store.now c.perform.new.store (act ∷ []) taken taken c.from_residual.result
-    (job_error e) c.from_residual.ensures.1
-    (tells_none g.S.Store c.perform.new.store (FoundNone g.S.Store c.args.store.now c.perform.new.store (act ∷ []) taken
-    taken) (job_error e) (λ is clean. found_first g.S.Store c.args.store.now c.perform.new.store act [] taken
-    (c.in_err-performed.ensures.none clean (ap Err (none_told e is)))))
+    let at = c.in_err-performed.ensures in
+    goes_early g.S.Store old new (act ∷ []) taken taken c.from_residual.result (job_error e) c.from_residual.ensures.1
+    (early_first g.S.Store old new act [] taken taken (job_error e)
+    (fails_by g.S.Store (λ own. IsOwnOf command own × Unit {0}) old new act taken e e (λ change own. own.0) at.goes
+    (λ clean is. at.none clean (ap Err is)) (λ is. at.which (ap Err is))))
 
 pub returns-in_err-write_report-in-Told-clause-course : goal.returns-in_err-write_report-in-Told-clause-course
 returns-in_err-write_report-in-Told-clause-course g c =
-    goes_err g.S.Store c.args.store.now c.perform.new.store
-    (Perform c.args.date c.args.files.now (command_of c.args.command.now) ∷ []) (g.W.Sink.taken c.args.w.now)
-    (g.W.Sink.taken c.write_report.new.w) c.from_residual-in_err-write_report-in-Told.result Write
-    c.from_residual-in_err-write_report-in-Told.ensures.1 tt
+    let old = c.args.store.now in
+    let new = c.perform.new.store in
+    let command = command_of c.args.command.now in
+    let act = Perform c.args.date c.args.files.now command in
+    let a = g.W.Sink.taken c.args.w.now in
+    let b = g.W.Sink.taken c.write_report.new.w in
+    let outcome = outcome_view c.in-Told.outcome in
+    goes_early g.S.Store old new (act ∷ []) a b c.from_residual-in_err-write_report-in-Told.result Write
+    c.from_residual-in_err-write_report-in-Told.ensures.1
+    (early_first g.S.Store old new act [] a b Write
+    (fails_told g.S.Store old new act outcome a b
+    (performs_passes g.S.Store old new c.args.date c.args.files.now command c.in_ok-performed.performed outcome
+    (λ ran. subst AnswersRun c.in-Told.is ran) c.in_ok-performed.ensures.goes)
+    (sent_part _ _ _ _ _ c.in_err-write_report-in-Told.ensures.sends c.in_err-write_report-in-Told.ensures.fault)))
 
 pub returns-in_ok-write_report-in-Told-clause-course : goal.returns-in_ok-write_report-in-Told-clause-course
 returns-in_ok-write_report-in-Told-clause-course g c =
+    let old = c.args.store.now in
+    let new = c.perform.new.store in
+    let command = command_of c.args.command.now in
     let outcome = outcome_view c.in-Told.outcome in
-    passed_one g.S.Store c.args.store.now c.perform.new.store
-    (Perform c.args.date c.args.files.now (command_of c.args.command.now)) outcome (g.W.Sink.taken c.args.w.now)
-    (g.W.Sink.taken c.write_report.new.w) (c.in_ok-performed.ensures.loads, (outcome, refl))
+    passed_one g.S.Store old new (Perform c.args.date c.args.files.now command) outcome (g.W.Sink.taken c.args.w.now)
+    (g.W.Sink.taken c.write_report.new.w)
+    (performs_passes g.S.Store old new c.args.date c.args.files.now command c.in_ok-performed.performed outcome
+    (λ ran. subst AnswersRun c.in-Told.is ran) c.in_ok-performed.ensures.goes)
     (sent_all _ _ _ _ _ c.in_ok-write_report-in-Told.ensures.sends c.in_ok-write_report-in-Told.ensures.fault)
 
 pub returns-in_err-write_report-in-Lists-clause-course : goal.returns-in_err-write_report-in-Lists-clause-course
 returns-in_err-write_report-in-Lists-clause-course g c =
-    goes_err g.S.Store c.args.store.now c.perform.new.store
-    (Perform c.args.date c.args.files.now (command_of c.args.command.now) ∷ []) (g.W.Sink.taken c.args.w.now)
-    (g.W.Sink.taken c.write_report-in-Lists.new.w) c.from_residual-in_err-write_report-in-Lists.result Write
-    c.from_residual-in_err-write_report-in-Lists.ensures.1 tt
+    let old = c.args.store.now in
+    let new = c.perform.new.store in
+    let command = command_of c.args.command.now in
+    let act = Perform c.args.date c.args.files.now command in
+    let a = g.W.Sink.taken c.args.w.now in
+    let b = g.W.Sink.taken c.write_report-in-Lists.new.w in
+    let outcome = outcome_view c.list.result in
+    goes_early g.S.Store old new (act ∷ []) a b c.from_residual-in_err-write_report-in-Lists.result Write
+    c.from_residual-in_err-write_report-in-Lists.ensures.1
+    (early_first g.S.Store old new act [] a b Write
+    (fails_told g.S.Store old new act outcome a b
+    (performs_passes g.S.Store old new c.args.date c.args.files.now command c.in_ok-performed.performed outcome
+    (λ ran. absurd (subst AnswersRun c.in-Lists.is ran)) c.in_ok-performed.ensures.goes)
+    (sent_part _ _ _ _ _ c.in_err-write_report-in-Lists.ensures.sends c.in_err-write_report-in-Lists.ensures.fault)))
 
 pub returns-in_ok-write_report-in-Lists-clause-course : goal.returns-in_ok-write_report-in-Lists-clause-course
 returns-in_ok-write_report-in-Lists-clause-course g c =
+    let old = c.args.store.now in
+    let new = c.perform.new.store in
+    let command = command_of c.args.command.now in
     let outcome = outcome_view c.list.result in
-    passed_one g.S.Store c.args.store.now c.perform.new.store
-    (Perform c.args.date c.args.files.now (command_of c.args.command.now)) outcome (g.W.Sink.taken c.args.w.now)
-    (g.W.Sink.taken c.write_report-in-Lists.new.w) (c.in_ok-performed.ensures.loads, (outcome, refl))
+    passed_one g.S.Store old new (Perform c.args.date c.args.files.now command) outcome (g.W.Sink.taken c.args.w.now)
+    (g.W.Sink.taken c.write_report-in-Lists.new.w)
+    (performs_passes g.S.Store old new c.args.date c.args.files.now command c.in_ok-performed.performed outcome
+    (λ ran. absurd (subst AnswersRun c.in-Lists.is ran)) c.in_ok-performed.ensures.goes)
     (sent_all _ _ _ _ _ c.in_ok-write_report-in-Lists.ensures.sends c.in_ok-write_report-in-Lists.ensures.fault)

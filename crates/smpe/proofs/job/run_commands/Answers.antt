@@ -4,10 +4,10 @@ use Rattle.cntl.specs.Views.{command_of}
 use Rattle.smpe.specs.Ending.{EndsEarly}
 use Rattle.machine.specs.Machine.{Perform}
 use Rattle.smpe.specs.Commands.{EndsCommands}
-use Rattle.smpe.specs.Course.{Passed, FoundNone, TellsNone}
+use Rattle.smpe.specs.Course.{Passed, GoesEarly}
 use Rattle.smpe.proofs.Taken.{taken_more, taken_split}
 use Rattle.smpe.proofs.Commanding.{commands_err, commands_more, commands_stop, commands_early}
-use Rattle.smpe.proofs.Coursing.{commands_passed, commands_tell, goes_err}
+use Rattle.smpe.proofs.Coursing.{commands_passed, early_commands, goes_early}
 use Rattle.smpe.proofs.job.run_commands.Goals as goal
 
 pub loop-command-preserved : goal.loop-command-preserved
@@ -81,12 +81,12 @@ returns-in_err-next-clause-course g c =
     let new = g.W.Sink.taken c.run_command.new.w in
     let at = c.run_command.new.store in
     let error = c.in_err-next.field-0.0 in
-    goes_err g.S.Store c.args.store.now at (map perform (map command_of c.args.commands.now)) old new
+    goes_early g.S.Store c.args.store.now at (map perform (map command_of c.args.commands.now)) old new
     c.from_residual.result error c.from_residual.ensures.1
-    (subst (λ cs. TellsNone g.S.Store at error (FoundNone g.S.Store c.args.store.now at (map perform cs) old new))
+    (subst (λ cs. GoesEarly g.S.Store c.args.store.now at (map perform cs) old new error)
     (sym (taken_split command_of c.args.commands.now c.loop-command.command-index c.command-item.result
     c.loop-command-test.true c.command-item.is))
-    (commands_tell g.S.Store c.args.date c.args.files.now c.args.store.now c.loop-command.store at done next old
+    (early_commands g.S.Store c.args.date c.args.files.now c.args.store.now c.loop-command.store at done next old
     (g.W.Sink.taken c.loop-command.w) new c.loop-command.invariant.course rest error c.in_err-next.ensures.course))
 
 pub returns-clause-course : goal.returns-clause-course

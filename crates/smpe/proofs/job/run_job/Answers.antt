@@ -1,9 +1,10 @@
-use Rattle.std.proofs.Common.{◌∷◌, map, [], Err, ap, subst}
+use Rattle.std.proofs.Common.{◌∷◌, map, [], Err, inl, inr, refl, ap, subst}
 use Rattle.std.specs.Io.KnownBytes.{Appends}
 use Rattle.report.specs.Sent.{WrotePart}
 use Rattle.cntl.specs.Views.{command_of}
 use Rattle.cntl.specs.Faults.{FailsFile}
-use Rattle.machine.specs.Machine.{RunFiles, Code, Files}
+use Rattle.machine.specs.Machine.{RunFiles, Begin, Code, Files}
+use Rattle.store.proofs.Going.{loads_alone}
 use Rattle.store.proofs.NoState.{loads_read}
 use Rattle.smpe.specs.declared.error.JobError.TheVariants.{Write}
 use Rattle.smpe.specs.Commands.{job_error}
@@ -11,7 +12,7 @@ use Rattle.smpe.proofs.Early.{ends_unbegun}
 use Rattle.smpe.proofs.Reports.{sent_all, sent_part}
 use Rattle.smpe.proofs.Single.{control_same, job_err, faulty_ran, faulty_broke, unbegun, begun}
 use Rattle.smpe.proofs.Closing.{keeps_closed, job_closed}
-use Rattle.smpe.proofs.Coursing.{none_told, tells_none, JobFound, job_goes_err, begin_found, faulty_goes, begun_goes}
+use Rattle.smpe.proofs.Coursing.{jobs_unbegun, job_early, begin_early, faulty_early, fails_by, faulty_goes, begun_goes}
 use Rattle.smpe.proofs.job.run_job.Goals as goal
 
 pub returns-in-Err-Memory-clause-ended : goal.returns-in-Err-Memory-clause-ended
@@ -89,7 +90,7 @@ returns-in_err-session-clause-closed g c clean s keeps closed =
     let taken = g.W.Sink.taken c.args.w.now in
     job_closed g.S.Store c.args.store.now c.begin.new.store s (c.begin.ensures.clean clean) clean keeps closed
     (RunFiles c.args.date c.args.cntl.now (record { ptfin = c.args.ptfin.now; holds = c.args.hold.now })) taken taken
-    Code c.from_residual-in_err-session.result c.is_known.ensures
+    Code c.from_residual-in_err-session.result c.attest.ensures
     (returns-in_err-session-clause-ended g c clean s keeps)
 
 pub returns-clause-closed : goal.returns-clause-closed
@@ -97,16 +98,29 @@ returns-clause-closed g c clean s keeps closed =
     job_closed g.S.Store c.args.store.now c.run_commands.new.store s
     (c.begin.ensures.clean (c.run_commands.ensures.clean clean)) clean keeps closed
     (RunFiles c.args.date c.args.cntl.now (record { ptfin = c.args.ptfin.now; holds = c.args.hold.now }))
-    (g.W.Sink.taken c.args.w.now) (g.W.Sink.taken c.run_commands.new.w) Code c.run_commands.result c.is_known.ensures
+    (g.W.Sink.taken c.args.w.now) (g.W.Sink.taken c.run_commands.new.w) Code c.run_commands.result c.attest.ensures
     (returns-clause-ended g c clean s keeps)
 
 -- ---- whatever the tables are
 
+pub returns-in-Err-Memory-clause-course : goal.returns-in-Err-Memory-clause-course
+returns-in-Err-Memory-clause-course g c =
+    jobs_unbegun g.S.Store c.args.store.now (RunFiles c.args.date c.args.cntl.now
+    (record { ptfin = c.args.ptfin.now; holds = c.args.hold.now }) ∷ []) (g.W.Sink.taken c.args.w.now)
+
 pub returns-in_err-write_report-in-Err-Fault-clause-course : goal.returns-in_err-write_report-in-Err-Fault-clause-course
 returns-in_err-write_report-in-Err-Fault-clause-course g c =
-    job_goes_err g.S.Store c.args.store.now c.args.store.now (RunFiles c.args.date c.args.cntl.now
-    (record { ptfin = c.args.ptfin.now; holds = c.args.hold.now })) (g.W.Sink.taken c.args.w.now)
-    (g.W.Sink.taken c.write_report.new.w) c.from_residual.result Write c.from_residual.ensures.1 tt
+    let files : Files = record { ptfin = c.args.ptfin.now; holds = c.args.hold.now } in
+    let old = g.W.Sink.taken c.args.w.now in
+    let new = g.W.Sink.taken c.write_report.new.w in
+    job_early g.S.Store c.args.store.now c.args.store.now (RunFiles c.args.date c.args.cntl.now files) old new
+    c.from_residual.result Write c.from_residual.ensures.1
+    (faulty_early g.S.Store c.args.date c.args.cntl.now files c.args.store.now
+    (record { number = c.in-Err-Fault.number; code = c.in-Err-Fault.code }) old new
+    (subst (FailsFile c.args.cntl.now) c.in-Err-Fault.field-0-is c.in-Err-Fault.ensures.fault)
+    (subst (WrotePart old new) (control_same c.in-Err-Fault.number-is c.in-Err-Fault.code-is)
+    (sent_part _ _ _ _ _ c.in_err-write_report-in-Err-Fault.ensures.sends
+    c.in_err-write_report-in-Err-Fault.ensures.fault)))
 
 pub returns-in-Err-Fault-clause-course : goal.returns-in-Err-Fault-clause-course
 returns-in-Err-Fault-clause-course g c =
@@ -121,21 +135,30 @@ returns-in-Err-Fault-clause-course g c =
 
 pub returns-in_err-session-clause-course : goal.returns-in_err-session-clause-course
 returns-in_err-session-clause-course g c =
+    let old = c.args.store.now in
+    let new = c.begin.new.store in
     let files : Files = record { ptfin = c.args.ptfin.now; holds = c.args.hold.now } in
     let taken = g.W.Sink.taken c.args.w.now in
-    let job = RunFiles c.args.date c.args.cntl.now files in
     let e = c.in_err-session.field-0.0 in
-    job_goes_err g.S.Store c.args.store.now c.begin.new.store job taken taken
+    let at = c.in_err-session.ensures in
+    job_early g.S.Store old new (RunFiles c.args.date c.args.cntl.now files) taken taken
     c.from_residual-in_err-session.result (job_error e) c.from_residual-in_err-session.ensures.1
-    (tells_none g.S.Store c.begin.new.store (JobFound g.S.Store c.args.store.now c.begin.new.store job taken taken)
-    (job_error e) (λ is clean. begin_found g.S.Store c.args.date c.args.cntl.now files c.args.store.now
-    c.begin.new.store (map command_of c.in-Ok.commands.items) taken c.in-Ok.ensures.commands
-    (c.in_err-session.ensures.none clean (ap Err (none_told e is)))))
+    (begin_early g.S.Store c.args.date c.args.cntl.now files old new (map command_of c.in-Ok.commands.items) taken
+    (job_error e) c.in-Ok.ensures.commands
+    (fails_by g.S.Store (λ own. ⊥) old new Begin taken e e (λ change none. none)
+    (inl (loads_alone g.S.Store old new _ at.reads)) (λ clean is. at.none clean (ap Err is))
+    (λ is. at.which (ap Err is))))
 
 pub returns-clause-course : goal.returns-clause-course
 returns-clause-course g c =
+    let old = c.args.store.now in
+    let at = c.begin.new.store in
+    let began = c.in_ok-session.ensures in
     begun_goes g.S.Store c.args.date c.args.cntl.now (record { ptfin = c.args.ptfin.now; holds = c.args.hold.now })
-    c.args.store.now c.begin.new.store c.run_commands.new.store (map command_of c.in-Ok.commands.items)
-    (g.W.Sink.taken c.args.w.now) (g.W.Sink.taken c.run_commands.new.w) c.run_commands.result c.in-Ok.ensures.commands
-    (loads_read g.S.Store c.args.store.now c.begin.new.store _ c.in_ok-session.ensures.reads)
+    old at c.run_commands.new.store (map command_of c.in-Ok.commands.items)
+    (g.W.Sink.taken c.args.w.now) (g.W.Sink.taken c.run_commands.new.w) c.run_commands.result c.in-Ok.ensures.commands (
+      loads_read g.S.Store old at _ began.reads,
+      refl,
+      inr (λ clean. (c.in_ok-session.session.global, began.rows clean)),
+    )
     (rw c.deref.ensures.value at c.run_commands.ensures.course)

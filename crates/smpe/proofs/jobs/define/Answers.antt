@@ -1,8 +1,13 @@
-use Rattle.std.proofs.Common.{Err, ◌∙◌, ap}
+use Rattle.std.proofs.Common.{Err, [], ◌∷◌, ◌∙◌, inl, refl, sym, ap, subst}
+use Rattle.machine.specs.Machine.{Define, NewZone}
+use Rattle.store.proofs.Going.{alone_loads, goes_ok, goes_err}
 use Rattle.smpe_zones.specs.declared.error.ZoneError.TheVariants.{Store}
 use Rattle.smpe_zones.specs.Definitions.{definition}
-use Rattle.smpe.proofs.Single.{define_done, define_refused, define_memory, define_fault}
-use Rattle.smpe.proofs.Coursing.{define_goes, define_none}
+use Rattle.smpe_zones.specs.Own.{IsOwn}
+use Rattle.smpe.specs.declared.error.JobError.TheVariants.{Memory}
+use Rattle.smpe.specs.Commands.{job_error}
+use Rattle.smpe.proofs.Single.{define_done, define_refused, define_memory, define_fault, refused_so}
+use Rattle.smpe.proofs.Coursing.{JobsStopped, define_goes, define_early, fails_by}
 use Rattle.smpe.proofs.jobs.define.Goals as goal
 
 pub returns-in-Ok-clause-ended : goal.returns-in-Ok-clause-ended
@@ -33,18 +38,45 @@ returns-in-Err-Memory-clause-ended g c clean s keeps taken =
     taken c.in-Err-Memory.field-0 c.in-Err-Memory.field-0-is
     (c.in-Err-Memory.ensures.ended clean s keeps)
 
+-- ---- whatever the tables are
+
 pub returns-in-Ok-clause-course : goal.returns-in-Ok-clause-course
 returns-in-Ok-clause-course g c taken =
-    define_goes g.S.Store c.args.store.now c.define_zone.new.store
-    (definition c.args.name c.args.kind c.args.srel c.args.related) taken
+    let old = c.args.store.now in
+    let new = c.define_zone.new.store in
+    let d = definition c.args.name c.args.kind c.args.srel c.args.related in
+    define_goes g.S.Store old new d taken
+    (goes_ok g.S.Store old new (IsOwn (Define d)) (IsOwn (Define d)) (tt {0}) [] (λ change own. own)
+    c.in-Ok.ensures.course.goes)
 
 pub returns-in-Err-Refused-clause-course : goal.returns-in-Err-Refused-clause-course
 returns-in-Err-Refused-clause-course g c taken =
-    define_goes g.S.Store c.args.store.now c.define_zone.new.store
-    (definition c.args.name c.args.kind c.args.srel c.args.related) taken
+    let old = c.args.store.now in
+    let new = c.define_zone.new.store in
+    let d = definition c.args.name c.args.kind c.args.srel c.args.related in
+    define_goes g.S.Store old new d taken (inl (alone_loads g.S.Store old new []
+    (c.in-Err-Refused.ensures.course.refused (refused_so (Unit {0}) c.in-Err-Refused.field-0-is))))
 
 pub returns-in-Err-Store-clause-course : goal.returns-in-Err-Store-clause-course
 returns-in-Err-Store-clause-course g c taken =
-    define_none g.S.Store c.args.store.now c.define_zone.new.store
-    (definition c.args.name c.args.kind c.args.srel c.args.related) taken c.in-Err-Store.error c.from.result
-    c.from.ensures (λ is clean. c.in-Err-Store.ensures.none clean (ap Err (c.in-Err-Store.field-0-is ∙ ap Store is)))
+    let old = c.args.store.now in
+    let new = c.define_zone.new.store in
+    let d = definition c.args.name c.args.kind c.args.srel c.args.related in
+    let e = c.in-Err-Store.error in
+    let at = c.in-Err-Store.ensures.course in
+    subst (JobsStopped g.S.Store old new (NewZone d ∷ []) taken taken) (sym c.from.ensures)
+    (define_early g.S.Store old new d taken (job_error e)
+    (fails_by g.S.Store (IsOwn (Define d)) old new (Define d) taken e c.in-Err-Store.field-0 (λ change own. own) at.goes
+    (λ clean is. at.none clean (ap Err (c.in-Err-Store.field-0-is ∙ ap Store is)))
+    (λ is. at.which (ap Err (c.in-Err-Store.field-0-is ∙ ap Store is)))))
+
+pub returns-in-Err-Memory-clause-course : goal.returns-in-Err-Memory-clause-course
+returns-in-Err-Memory-clause-course g c taken =
+    let old = c.args.store.now in
+    let new = c.define_zone.new.store in
+    let d = definition c.args.name c.args.kind c.args.srel c.args.related in
+    define_early g.S.Store old new d taken Memory (
+      goes_err g.S.Store old new (IsOwn (Define d)) (IsOwn (Define d))
+          c.in-Err-Memory.field-0 Memory (λ change own. own) c.in-Err-Memory.ensures.course.goes,
+      refl,
+    )

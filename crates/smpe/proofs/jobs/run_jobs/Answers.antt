@@ -1,13 +1,12 @@
 use Rattle.std.proofs.Common.{◌∷◌, [], ◌++◌, ◌+◌, map, take, drop, Ok, refl, sym, ap, ◌∙◌, subst, arith, rules}
 use Rattle.std.proofs.lemmas.List.{map-append, take_all}
 use Rattle.smpe.specs.declared.error.JobError.TheVariants.{Memory}
-use Rattle.smpe.specs.Course.{TellsNone}
 use Rattle.smpe.specs.Ending.{EndsAmong, EndsJobs, job_of, answer_of}
 use Rattle.smpe.proofs.Early.{ends_unbegun}
 use Rattle.smpe.proofs.Taken.{taken_more, taken_split}
 use Rattle.smpe.proofs.Listing.{jobs_err, jobs_more, jobs_stop}
 use Rattle.smpe.proofs.Closing.{keeps_closed, closed_now}
-use Rattle.smpe.proofs.Coursing.{JobsWent, JobsFound, passed_none, went_more, jobs_tell, jobs_go_err}
+use Rattle.smpe.proofs.Coursing.{JobsWent, JobsStopped, passed_none, jobs_unbegun, went_more, went_early, jobs_early}
 use Rattle.smpe.proofs.jobs.run_jobs.Goals as goal
 
 pub returns-in_err-answers-clause-ended : goal.returns-in_err-answers-clause-ended
@@ -111,8 +110,9 @@ returns-in_err-answer-clause-closed g c clean s keeps closed =
 pub returns-in_err-answers-clause-course : goal.returns-in_err-answers-clause-course
 returns-in_err-answers-clause-course g c =
     let taken = g.W.Sink.taken c.args.w.now in
-    jobs_go_err g.S.Store c.args.store.now c.args.store.now (map job_of c.args.jobs.now) taken taken
-    c.from_residual.result Memory c.from_residual.ensures.1 tt
+    jobs_early g.S.Store c.args.store.now c.args.store.now (map job_of c.args.jobs.now) taken taken
+    c.from_residual.result Memory c.from_residual.ensures.1
+    (jobs_unbegun g.S.Store c.args.store.now (map job_of c.args.jobs.now) taken)
 
 pub returns-in_err-answer-clause-course : goal.returns-in_err-answer-clause-course
 returns-in_err-answer-clause-course g c =
@@ -124,11 +124,11 @@ returns-in_err-answer-clause-course g c =
     let new = g.W.Sink.taken c.run_one.new.w in
     let job = job_of c.job-item.result in
     let error = c.in_err-answer.field-0.0 in
-    jobs_go_err g.S.Store c.args.store.now at (map job_of c.args.jobs.now) old new
+    jobs_early g.S.Store c.args.store.now at (map job_of c.args.jobs.now) old new
     c.from_residual-in_err-answer.result error c.from_residual-in_err-answer.ensures.1
-    (subst (λ jobs. TellsNone g.S.Store at error (JobsFound g.S.Store c.args.store.now at jobs old new))
+    (subst (λ jobs. JobsStopped g.S.Store c.args.store.now at jobs old new error)
     (sym (taken_split job_of c.args.jobs.now c.loop-job.job-index c.job-item.result c.loop-job-test.true c.job-item.is))
-    (jobs_tell g.S.Store c.args.store.now c.loop-job.store at done job old mid new c.loop-job.invariant.course rest
+    (went_early g.S.Store c.args.store.now c.loop-job.store at done job old mid new c.loop-job.invariant.course rest
     error c.in_err-answer.ensures.course))
 
 pub returns-clause-course : goal.returns-clause-course

@@ -1,8 +1,8 @@
 use Rattle.std.proofs.Common.{◌∷◌, [], sym, subst}
-use Rattle.smpe.specs.Course.{JobGoes, TellsNone}
+use Rattle.smpe.specs.Course.{JobGoes}
 use Rattle.smpe.specs.Ending.{EndsAmong, EndsJob, job_of, answer_of}
 use Rattle.smpe.proofs.Single.{job_err}
-use Rattle.smpe.proofs.Coursing.{JobFound, job_goes_err}
+use Rattle.smpe.proofs.Coursing.{JobsStopped, job_early}
 use Rattle.smpe.proofs.jobs.run_one.Goals as goal
 
 pub returns-in_err-code-in-Run-clause-ended : goal.returns-in_err-code-in-Run-clause-ended
@@ -29,9 +29,9 @@ returns-in_err-code-in-Run-clause-course g c =
     let new = g.W.Sink.taken c.run_job.new.w in
     let error = c.in_err-code-in-Run.field-0.0 in
     let at = c.run_job.new.store in
-    job_goes_err g.S.Store c.args.store.now at (job_of c.args.job.now) old new c.from_residual.result error
+    job_early g.S.Store c.args.store.now at (job_of c.args.job.now) old new c.from_residual.result error
     c.from_residual.ensures.1
-    (subst (λ job. TellsNone g.S.Store at error (JobFound g.S.Store c.args.store.now at (job_of job) old new))
+    (subst (λ job. JobsStopped g.S.Store c.args.store.now at (job_of job ∷ []) old new error)
     (sym c.in-Run.is) c.in_err-code-in-Run.ensures.course)
 
 pub returns-in_ok-code-in-Run-clause-ended : goal.returns-in_ok-code-in-Run-clause-ended

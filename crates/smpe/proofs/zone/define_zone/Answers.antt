@@ -6,4 +6,4 @@ pub returns-clause-closed : goal.returns-clause-closed
 returns-clause-closed g c clean s keeps closed =
     definition_closed g.S.Store c.args.store.now c.define_zone.new.store s (c.define_zone.ensures.clean clean) clean
     keeps closed (definition c.args.name c.args.kind c.args.srel c.args.related) c.define_zone.result
-    c.are_known.ensures.name c.are_known.ensures.srel (c.define_zone.ensures.ended clean s keeps)
+    c.attest.ensures c.attest-2.ensures (c.define_zone.ensures.ended clean s keeps)

@@ -20,7 +20,7 @@ returns-clause-decided c =
     let s = setting_with c.args.scope.now (option_copied c.args.related) in
     let judged = c.in_ok-tests.field-0 in
     let d = c.in_ok-decided.decided in
-    is_decided s (map (λ row. row.items) judged.tests.items) judged.wants.items judged.superseded.items
+    is_decided s (map (λ row. row.items) judged.tests.items) judged.needs.items judged.superseded.items
     c.in_ok-tests.ensures.judged d.kept (map why_failed d.failed.items)
     (rw (c.as_slice.ensures.value, c.as_slice-2.ensures.value) at c.in_ok-decided.ensures)
 

@@ -1,7 +1,7 @@
 use Rattle.std.proofs.Common.{[], ◌∷◌, Some, option_map, sym, subst}
 use Rattle.std.specs.String.{string_bytes}
 use Rattle.smpe_zones.specs.Definitions.{definition}
-use Rattle.smpe_command.specs.Serving.{Serves, ServesList, ServesMigrate, ServesRun, ServesZone}
+use Rattle.smpe_command.specs.Serving.{Serves, ServesCheck, ServesList, ServesMigrate, ServesRun, ServesZone}
 use Rattle.smpe_command.proofs.jobs.served.Goals as goal
 
 pub returns-in-Zone : goal.returns-in-Zone
@@ -32,13 +32,19 @@ returns-in-Run g c =
 pub returns-in-List : goal.returns-in-List
 returns-in-List g c =
     let w = c.in-List in
-    subst (λ asked. Serves g.H.Host g.H.Disk.Store g.O.Sink c.args.host.now asked c.args.out.now c.told-in-List.result
-    c.list.new.host c.list.new.out) (sym w.is) (
-      c.list.result,
-      subst (λ db. ServesList g.H.Host g.H.Disk.Store g.O.Sink c.args.host.now db c.args.out.now w.zone c.list.result
-          c.list.new.host c.list.new.out) c.as_str-in-List.ensures.value c.list.ensures,
-      c.told-in-List.ensures,
-    )
+    subst (λ asked. Serves g.H.Host g.H.Disk.Store g.O.Sink c.args.host.now asked c.args.out.now c.list.result
+    c.list.new.host c.list.new.out) (sym w.is)
+    (subst (λ db. ServesList g.H.Host g.H.Disk.Store g.O.Sink c.args.host.now db c.args.out.now w.zone c.list.result
+    c.list.new.host c.list.new.out) c.as_str-in-List.ensures.value c.list.ensures)
+
+pub returns-in-Check : goal.returns-in-Check
+returns-in-Check g c =
+    let w = c.in-Check in
+    subst (λ asked. Serves g.H.Host g.H.Disk.Store g.O.Sink c.args.host.now asked c.args.out.now c.check.result
+    c.check.new.host c.check.new.out) (sym w.is)
+    (subst (λ ptfin. ServesCheck g.H.Host g.O.Sink c.args.host.now c.args.out.now w.srel (Some ptfin)
+    (option_map string_bytes w.hold) w.commands c.check.result c.check.new.host c.check.new.out)
+    c.as_str-in-Check.ensures.value c.check.ensures)
 
 pub returns-in-Migrate : goal.returns-in-Migrate
 returns-in-Migrate g c =

@@ -10,19 +10,16 @@ use Rattle.smpe_global.specs.Edits.{answer_of}
 use Rattle.smpe_global.proofs.Sysmods.{sent_taken}
 use Rattle.smpe_global.proofs.ptfin.take_sysmod.Goals as goal
 
-pub take_unless-requires : goal.take_unless-requires
-take_unless-requires c = c.in_ok-refused.ensures
-
 pub returns : goal.returns
 returns c =
     let refused = c.in_ok-refused.refused in
     let read = c.sysmod.inside in
     let line : Line = Status read.id (Kind read.kind) c.status_of.result in
-    let status = receive_status (answer_of c.take_unless.new.global refused) in
-    let now : Taken = record { edits = c.take_unless.new.edits; lines = c.push.new.self } in
-    sent_taken c.args.source.now c.args.global.now c.take_unless.new.global c.args.sysmod line c.args.taken.now now
+    let status = receive_status (answer_of c.receive.new.self refused) in
+    let now : Taken = record { edits = c.write_unless.new.edits; lines = c.push.new.self } in
+    sent_taken c.args.source.now c.args.global.now c.receive.new.self c.args.sysmod line c.args.taken.now now
     c.in_ok-push.ensures.items
     c.in_ok-sysmod.sysmod refused c.in_ok-sysmod.ensures
-    c.in_ok-take_unless.ensures.edits c.attest.ensures c.in_ok-take_unless.ensures.global
-    (ap (StatusLine read.id (OfKind read.kind)) (c.status_of.ensures c.take_unless.new.global)
+    c.in_ok-write_unless.ensures c.attest.ensures c.in_ok-refused.ensures.ok
+    (ap (StatusLine read.id (OfKind read.kind)) (c.status_of.ensures c.receive.new.self)
     ∙ ap (λ (r : Sysmod). StatusLine r.id (OfKind r.kind) status) c.sysmod.view_is)

@@ -12,7 +12,7 @@ use Rattle.decide.specs.declared.failure.Failure.{Failure}
 use Rattle.decide.specs.Views.{why_failed}
 use Rattle.decide.proofs.Judging.{rows_of, decided_of}
 use Rattle.report.specs.Views.{line_view}
-use Rattle.undo_list.specs.Restoring.{restoring}
+use Rattle.undo.specs.Scopes.{restoring}
 use Rattle.smpe_restore.specs.Lines.{line_in}
 use Rattle.smpe_restore.proofs.Statuses.{failed_rises, restore_lines}
 use Rattle.smpe_restore.proofs.restored.restore.Goals as goal

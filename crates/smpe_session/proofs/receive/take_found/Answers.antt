@@ -11,9 +11,9 @@ returns-clause-taken c =
     let first = c.in_ok-edits.field-0 in
     let more = c.in_ok-more.more in
     both_taken c.args.source (items c.args.found.items.items) (hold_items c.args.found.holds.items) c.args.global.now _
-    _ first.edits.items more.edits.items c.append.new.front.items
-    (map line_view first.lines.items) (map line_view more.lines.items) (map line_view c.append-2.new.front.items)
+    _ first.edits.items more.edits.items c.append.new.self.items
+    (map line_view first.lines.items) (map line_view more.lines.items) (map line_view c.append-2.new.self.items)
     c.in_ok-edits.ensures.runs c.in_ok-edits.ensures.fits c.in_ok-edits.ensures.edits c.in_ok-more.ensures.runs
     c.in_ok-more.ensures.fits c.in_ok-more.ensures.edits
-    c.in_ok-append.ensures (ap (map line_view) c.in_ok-append-2.ensures
+    c.in_ok-append.ensures.items (ap (map line_view) c.in_ok-append-2.ensures.items
     ∙ map-append line_view first.lines.items more.lines.items)

@@ -1,7 +1,9 @@
-use Rattle.std.proofs.Common.{map}
+use Rattle.std.proofs.Common.{map, subst, sym}
 use Rattle.terms.specs.Types.{Reject}
 use Rattle.machine.specs.Machine.{Perform}
 use Rattle.report.specs.Views.{line_view}
+use Rattle.store.specs.declared.change.Change.TheVariants as Change
+use Rattle.smpe_zones.specs.Own.{IsOfGlobal}
 use Rattle.smpe_session.proofs.Leading.{run_led}
 use Rattle.smpe_session.proofs.Rejected.{rejected}
 use Rattle.smpe_session.proofs.Stepping.{stopped}
@@ -14,12 +16,13 @@ returns-in_err-edits-clause-uses g c = ran_short c.from_residual.ensures.1 nothi
     (Perform date files (Reject c.args.ids.now)) keeps)
 
 pub returns-clause-uses : goal.returns-clause-uses
-returns-clause-uses g c = weaker c.commit_change.ensures (λ none. none)
+returns-clause-uses g c = weaker c.commit_change.ensures.uses (λ change is. subst IsOfGlobal (sym is) tt)
     (λ s inventory ended global alike date files at.
     let rejects = c.in_ok-edits.field-0 in
     let led = rejected date files c.args.ids.now s c.args.global.now c.reject.new.global rejects.edits.items
     (map line_view rejects.lines.items) global inventory at (c.in_ok-edits.ensures.runs s.zones alike)
     c.in_ok-edits.ensures.fits c.in_ok-edits.ensures.edits in
     run_led g.S.Store c.args.store.now c.commit_change.new.store date files (Reject c.args.ids.now) s
-    c.reject.new.global rejects.edits.items (λ v. map line_view v.items) rejects.lines led c.commit_change.result
+    c.reject.new.global rejects.edits.items (λ v. map line_view v.items) rejects.lines led
+    (Change.Global rejects.edits) tt (led.fits, led.makes) c.commit_change.result
     (ended (record s { global = c.reject.new.global }) (led.fits, led.makes) led.inventory))

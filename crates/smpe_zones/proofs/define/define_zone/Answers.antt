@@ -1,15 +1,18 @@
-use Rattle.std.proofs.Common.{◌∙◌, Err, [], inl, inr, sym, ap, arith}
+use Rattle.std.proofs.Common.{◌≡◌, ◌∙◌, Err, [], inl, inr, sym, ap, subst, arith, true≢false}
 use Rattle.std.proofs.lemmas.Result.{err_from_is_err_and}
 use Rattle.terms.specs.Types.{a_zone}
 use Rattle.machine.specs.State.{with_zone}
 use Rattle.machine.specs.Machine.{Define}
-use Rattle.smpe_zones.specs.Kept.{kept}
+use Rattle.store.specs.declared.change.Change.TheVariants.{NewZone}
+use Rattle.store.proofs.Going.{loads_alone, alone_short, goes_commit, goes_ok, goes_then}
+use Rattle.store.proofs.NoState.{loads_read}
+use Rattle.smpe_zones.specs.Kept.{kept, LeadsOn}
 use Rattle.smpe_zones.proofs.Keeping.{keeps_loaded, stays_loaded, keeps_committed, stays_uncommitted, load_errors}
 use Rattle.smpe_zones.proofs.Keeping.{inventory_kept, cause_more, cause_since}
 use Rattle.smpe_zones.specs.Definitions.{definition}
 use Rattle.smpe_zones.specs.Heads.{first_fault}
-use Rattle.smpe_zones.proofs.Adding.{makes, leads, prints_none, around_defined}
-use Rattle.smpe_zones.proofs.Ending.{ends_early, no_state}
+use Rattle.smpe_zones.proofs.Adding.{makes, leads, prints_none, leads_on}
+use Rattle.smpe_zones.proofs.Ending.{ends_early, course_failed}
 use Rattle.smpe_zones.proofs.Found.{refuses, accepts}
 use Rattle.smpe_zones.proofs.define.define_zone.Goals as goal
 
@@ -25,7 +28,7 @@ returns-in_err-heads-clause-ended g c = λ clean s keeps.
     (keeps.now (at.clean clean)).1))
     (stays_loaded g.S.Store c.args.store.now c.zone_heads.new.self s keeps (Define d) (at.err (kept s))
     (at.crash (kept s) keeps.now))
-    (λ failed. cause_more g.S.Store c.args.store.now c.zone_heads.new.self _ _ (λ c is. inl is)
+    (λ failed. cause_more g.S.Store c.args.store.now c.zone_heads.new.self (kept s) _ _ (λ own none. absurd none)
     (at.cause clean (ap (λ x. Err x) failed) (kept s) keeps.now))
 
 -- the definition is refused
@@ -63,9 +66,10 @@ returns-in_err-commit-clause-ended g c = λ clean s keeps.
     (stays_uncommitted g.S.Store before c.commit.new.self s was t (Define d) [] (prints_none s t d answers)
     (c.in_err-commit.ensures.err (kept s)) (c.commit.ensures.crash (kept s) (kept t) is_made is_led))
     (λ failed. cause_since g.S.Store c.args.store.now before c.commit.new.self
-    (c.zone_heads.ensures.reads.crash.counts, c.zone_heads.ensures.reads.crash.limit) _
-    (cause_more g.S.Store before c.commit.new.self _ _ (around_defined s t d answers)
-    (c.in_err-commit.ensures.among clean (ap (λ x. Err x) failed) (kept s) (kept t) is_made was.now)))
+    (c.zone_heads.ensures.reads.crash.counts, c.zone_heads.ensures.reads.crash.limit) (kept s) _
+    (cause_more g.S.Store before c.commit.new.self (kept s) _ _
+    (λ own is. subst (LeadsOn s (Define d)) (sym is) (leads_on s t d answers inventory))
+    (c.in_err-commit.ensures.before clean (ap (λ x. Err x) failed) (kept s) was.now)))
 
 -- the zone is added
 pub returns-clause-ended : goal.returns-clause-ended
@@ -89,18 +93,58 @@ returns-clause-ended g c = λ clean s keeps.
           (c.in_ok-commit.ensures.durable (kept s) (kept t) is_made is_led),
     )
 
--- no state was found
-pub returns-in_err-heads-clause-none : goal.returns-in_err-heads-clause-none
-returns-in_err-heads-clause-none g c clean bad =
-    c.in_err-heads.ensures.none clean (ap (λ x. Err x) (no_state c.from_residual.result c.in_err-heads.field-0.0
-    c.from_residual.ensures.1 bad))
+-- ---- whatever the tables are
 
--- a commit does not tell so
-pub returns-in_err-commit-clause-none : goal.returns-in_err-commit-clause-none
-returns-in_err-commit-clause-none g c clean bad =
-    let is = no_state c.from_residual-in_err-commit.result c.in_err-commit.field-0.0
-    c.from_residual-in_err-commit.ensures.1 bad in
-    elim c.in_err-commit.ensures.which [ inl fault ↦ absurd (cc (fault, is)) | inr short ↦ absurd (cc (short, is)) ]
+pub returns-in_err-heads-clause-course : goal.returns-in_err-heads-clause-course
+returns-in_err-heads-clause-course g c =
+    let e = c.in_err-heads.field-0.0 in
+    let at = c.in_err-heads.ensures in
+    course_failed g.S.Store c.args.store.now c.zone_heads.new.self
+    (definition c.args.name c.args.kind c.args.srel c.args.related) (λ _. ⊥) e c.from_residual.result
+    c.from_residual.ensures.1 (λ change none. absurd none)
+    (inl (loads_alone g.S.Store c.args.store.now c.zone_heads.new.self _ at.reads))
+    (λ clean is. at.none clean (ap (λ x. Err x) is)) at.which
+
+pub returns-in-Some-clause-course : goal.returns-in-Some-clause-course
+returns-in-Some-clause-course g c = record {
+  goes = inl (alone_short g.S.Store c.args.store.now c.zone_heads.new.self c.in_ok-heads.heads _
+      (loads_alone g.S.Store c.args.store.now c.zone_heads.new.self _ c.in_ok-heads.ensures.reads));
+  refused = λ refused. loads_read g.S.Store c.args.store.now c.zone_heads.new.self _ c.in_ok-heads.ensures.reads;
+  none = λ clean bad. absurd (cc bad);
+  which = λ bad. absurd (cc bad);
+}
+
+pub returns-in_err-commit-clause-course : goal.returns-in_err-commit-clause-course
+returns-in_err-commit-clause-course g c =
+    let before = c.zone_heads.new.self in
+    let new = c.commit.new.self in
+    let e = c.in_err-commit.field-0.0 in
+    let added = NewZone c.args.name c.args.kind c.args.srel c.args.related in
+    let which = c.in_err-commit.ensures.which in
+    course_failed g.S.Store c.args.store.now new (definition c.args.name c.args.kind c.args.srel c.args.related)
+    (λ own. own ≡ added) e c.from_residual-in_err-commit.result c.from_residual-in_err-commit.ensures.1
+    (λ change own. own)
+    (goes_then g.S.Store c.args.store.now before new (λ own. own ≡ added) c.in_ok-heads.heads _
+    (loads_alone g.S.Store c.args.store.now before _ c.in_ok-heads.ensures.reads)
+    (goes_commit g.S.Store before new added _ c.in_err-commit.ensures.only))
+    (λ clean is. elim which [ inl fault ↦ absurd (cc (fault, is)) | inr short ↦ absurd (cc (short, is)) ])
+    (λ is. elim which [ inl fault ↦ absurd (cc (fault, is)) | inr short ↦ absurd (cc (short, is)) ])
+
+pub returns-clause-course : goal.returns-clause-course
+returns-clause-course g c =
+    let before = c.zone_heads.new.self in
+    let new = c.commit.new.self in
+    let added = NewZone c.args.name c.args.kind c.args.srel c.args.related in
+    record {
+      goes = goes_ok g.S.Store c.args.store.now new (λ own. own ≡ added) _ (tt {0}) (tt {0})
+          (λ change own. own)
+          (goes_then g.S.Store c.args.store.now before new (λ own. own ≡ added) c.in_ok-heads.heads _
+          (loads_alone g.S.Store c.args.store.now before _ c.in_ok-heads.ensures.reads)
+          (goes_commit g.S.Store before new added _ c.in_ok-commit.ensures.only));
+      refused = λ refused. absurd (true≢false (sym refused));
+      none = λ clean bad. absurd (cc bad);
+      which = λ bad. absurd (cc bad);
+    }
 
 pub returns-in_err-heads-clause-faults : goal.returns-in_err-heads-clause-faults
 returns-in_err-heads-clause-faults g c = c.zone_heads.ensures.reads.crash.counts

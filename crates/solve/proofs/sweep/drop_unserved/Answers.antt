@@ -1,11 +1,11 @@
 use Rattle.std.proofs.Common.{◌<◌, ◌+◌, take, length, arith, subst, take_all}
 use Rattle.std.specs.List.{All}
 use Rattle.std.proofs.lemmas.List.Elements.{All-map}
-use Rattle.solve.specs.Need.{demand}
+use Rattle.solve.specs.NumberedNeed.{numbered}
 use Rattle.solve.specs.Parts.{IsServed}
 use Rattle.solve.specs.Problem.{holds}
 use Rattle.solve.proofs.Passing.{clash}
-use Rattle.solve.proofs.Drops.{swept_stay, swept_drop, Contains_demand}
+use Rattle.solve.proofs.Drops.{swept_stay, swept_drop, Contains_need}
 use Rattle.solve.proofs.sweep.drop_unserved.Goals as goal
 use Rattle.solve.proofs.sweep.drop_unserved.Goals.{then-set-of+then-not-serves, else-set-of}
 use Rattle.solve.proofs.sweep.drop_unserved.Goals.{else-set-of-via-then-set-of+else-not-serves}
@@ -28,8 +28,8 @@ loop-need-preserved c =
       | then-set-of+then-not-serves w ↦
           let none = rw w.deref.ensures.value at (w.serves.ensures.none w.if-not-serves.true) in
           rw (w.set-is, w.dropped-is) (swept_drop p old now c.loop-need.dropped (take i needs) (take (i + 1) needs)
-          (demand n)
-          (Contains_demand needs i n p.demands c.needs-need-items.ensures.needs c.loop-need-test.true c.need-item.is)
+          (numbered n)
+          (Contains_need needs i n p.needs c.needs-need-items.ensures.needs c.loop-need-test.true c.need-item.is)
           (λ some. clash (holds now) n.any.items some none) below w.if-set-of.true c.loop-need.invariant)
       | else-set-of w ↦
           rw (w.set-is, w.dropped-is) (swept_stay p old now c.loop-need.dropped needs i n c.loop-need-test.true
@@ -45,7 +45,7 @@ loop-need-preserved c =
 pub returns-clause-served : goal.returns-clause-served
 returns-clause-served c none =
     let needs = c.needs-need-items.result.now in
-    let seen : All (λ n. IsServed c.loop-need.set (demand n)) needs =
+    let seen : All (λ n. IsServed c.loop-need.set (numbered n)) needs =
     rw (take_all _ needs c.loop-need-test.false) at (c.loop-need.invariant.served none) in
     subst (All (IsServed c.loop-need.set)) c.needs-need-items.ensures.needs
-    (All-map (IsServed c.loop-need.set) demand needs seen)
+    (All-map (IsServed c.loop-need.set) numbered needs seen)

@@ -2,7 +2,7 @@ use Rattle.std.proofs.Common.{◌≡◌, ◌<◌, ◌≤◌, ◌^◌, ◌++◌, 
 use Rattle.std.proofs.Common.{take_all, sym, ◌∙◌, ap, arith, rules}
 use Rattle.std.proofs.lemmas.List.{length-map}
 use Rattle.std.proofs.lemmas.Grind.{common_steps}
-use Rattle.solve.specs.Need.{demand}
+use Rattle.solve.specs.NumberedNeed.{numbered}
 use Rattle.solve.specs.Board.{eligible_in}
 use Rattle.solve.proofs.Searches.{pairs_more, pairs_few, start_room, living_more, served_next, search_start}
 use Rattle.solve.proofs.worklist.prepare.Goals as goal
@@ -46,8 +46,8 @@ returns-clause-board c =
     let p = c.args.s.now in
     let needs = c.needs-needs.result.now in
     let end : length needs ≤ c.loop-k.k = omega arith in
-    let all : c.loop-k.living.items ≡ map (eligible_in p) p.demands =
-    c.loop-k.invariant.living ∙ ap (λ ns. map (eligible_in p) (map demand ns)) (take_all c.loop-k.k needs end)
+    let all : c.loop-k.living.items ≡ map (eligible_in p) p.needs =
+    c.loop-k.invariant.living ∙ ap (λ ns. map (eligible_in p) (map numbered ns)) (take_all c.loop-k.k needs end)
     ∙ ap (map (eligible_in p)) c.needs-needs.ensures.needs in
     let copied : c.in_ok-standing.standing.items ≡ c.eligible.result.now = search rules in
     let stands : c.in_ok-standing.standing.items ≡ p.eligible = copied ∙ c.eligible.ensures.flags in
@@ -60,7 +60,7 @@ returns-clause-few c =
     let p = c.args.s.now in
     let needs = c.needs-needs.result.now in
     let small : p.size < 2 ^ 32 = omega arith in
-    let same : length p.demands ≡ length needs = ap length (sym c.needs-needs.ensures.needs) ∙ length-map needs demand
+    let same : length p.needs ≡ length needs = ap length (sym c.needs-needs.ensures.needs) ∙ length-map needs numbered
     in
-    let short : length p.demands < 2 ^ 64 = omega (arith, same) in
+    let short : length p.needs < 2 ^ 64 = omega (arith, same) in
     pairs_few p c.size.ensures.valid small short

@@ -1,4 +1,4 @@
-use Rattle.std.proofs.Common.{◌≡◌, ◌∙◌, ◌++◌, ◌∷◌, [], true, sym, ap, subst, append_assoc}
+use Rattle.std.proofs.Common.{◌≡◌, ◌∙◌, ◌++◌, ◌∷◌, [], true, sym, ap, subst, append_assoc, arith}
 use Rattle.std.specs.Ordering.{is_lt}
 use Rattle.terms.specs.Rising.{Rises, before, behind}
 use Rattle.lemmas.proofs.Pairs.{AllPairs_rest}
@@ -16,10 +16,24 @@ loop-item-preserved g c =
     let some = c.in-Some.ensures.some in
     let inv = c.loop-item.invariant in
     record {
-      moved = ap (λ ys. ys ++ before cmp key k rest) c.in_ok-push.ensures.items
+      moved = ap (λ ys. ys ++ before cmp key k rest) c.push_reserved.ensures.items
           ∙ append_assoc new (x ∷ []) (before cmp key k rest)
           ∙ sym (ap (λ ys. new ++ ys) (ap (before cmp key k) some.0 ∙ moved_before g.met.T.Key.Ord.total key k x rest
           some.1)) ∙ inv.moved;
       kept = sym (ap (behind cmp key k) some.0 ∙ kept_behind g.met.T.Key.Ord.total key k x rest some.1) ∙ inv.kept;
       rises = AllPairs_rest (λ a b. is_lt (cmp (key a) (key b)) ≡ true) x rest (subst (Rises cmp key) some.0 inv.rises);
+      len = let gone = c.in-Some.ensures.len in
+          let grown = c.push_reserved.ensures.len in
+          let was = inv.len in
+          omega arith;
+      capacity = c.push_reserved.ensures.capacity ∙ inv.capacity;
     }
+
+pub push_reserved-requires : goal.push_reserved-requires
+push_reserved-requires g c =
+    let gone = c.in-Some.ensures.len in
+    let at = c.loop-item.invariant in
+    let len = at.len in
+    let capacity = at.capacity in
+    let room = c.requires.room in
+    omega arith

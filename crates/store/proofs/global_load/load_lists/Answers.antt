@@ -19,18 +19,18 @@ returns-in_err-holds-clause-reads g c =
     c.load_sysmods.result c.in_ok-sysmods.sysmods _ c.in_ok-sysmods.was c.load_sysmods.ensures.reads
     (reads_err g.S.Store _ _ _ c.load_sysmods.new.conn c.load_holds.new.conn c.load_holds.result _ (search rules)
     (λ bad. search rules) (λ failed. search rules)
-    (c.load_holds.ensures.reads c.args.release))
+    (c.load_holds.ensures.reads c.args.schema))
 
 pub returns-clause-reads : goal.returns-clause-reads
 returns-clause-reads g c =
     reads_then g.S.Store _ _ _ c.args.conn.now c.load_sysmods.new.conn c.load_holds.new.conn
     c.load_sysmods.result c.in_ok-sysmods.sysmods _ c.in_ok-sysmods.was c.load_sysmods.ensures.reads
     (reads_more g.S.Store _ _ _ c.load_sysmods.new.conn c.load_holds.new.conn c.load_holds.result c.in_ok-holds.holds _
-    c.in_ok-holds.was (λ failed. search rules) (c.load_holds.ensures.reads c.args.release))
+    c.in_ok-holds.was (λ failed. search rules) (c.load_holds.ensures.reads c.args.schema))
 
 pub returns-clause-rows : goal.returns-clause-rows
 returns-clause-rows g c clean contents held =
-    let r = c.args.release in
+    let r = c.args.schema in
     let mid = state g.S.Store c.load_sysmods.new.conn in
     let before : HasCleanDisk mid = omega (arith, clean, (c.load_holds.ensures.reads r).crash.clean) in
     let same = c.in_ok-sysmods.ensures.reads.same before in

@@ -7,7 +7,7 @@ use Rattle.store_rows.proofs.RowLemmas.{has_permuted}
 use Rattle.store_schema.specs.Forms.{HasHoldForms}
 use Rattle.store_schema.specs.Rows.{hold_row}
 use Rattle.store_schema.specs.Earlier.{schema_under}
-use Rattle.store_columns.proofs.Releases.{rows_under, stands_rows, stands_inventory}
+use Rattle.store_columns.proofs.Schemas.{rows_under, stands_rows, stands_inventory}
 use Rattle.store_holds.proofs.HoldLists.{holds_formed, holds_rows}
 use Rattle.store_holds.proofs.reading.load_holds.Goals as goal
 

@@ -9,7 +9,7 @@ use Rattle.store_schema.specs.Rows.{hold_row}
 use Rattle.store_schema.specs.Tables.{store_schema, hold}
 use Rattle.store_holds.specs.Calls.{put_hold, put_hold_calls}
 use Rattle.store_holds.specs.Keys.{hold_key}
-use Rattle.sysmods_records.specs.contracts.hold.Hold.{the_view}
+use Rattle.sysmod.specs.contracts.hold.Hold.{the_view}
 use Rattle.store_holds.proofs.HoldLemmas.{kept_hold, hold_bound}
 use Rattle.store_holds.proofs.Texts.{puts_hold}
 use Rattle.store_holds.proofs.writing.put_hold.Given.{Over}

@@ -12,7 +12,7 @@ use Rattle.store_migration.proofs.check.check_all.Goals as goal
 pub returns : goal.returns
 returns g c =
     let s = g.S.Store in
-    let r = c.args.release in
+    let r = c.args.schema in
     let old = c.args.conn.now in
     let mid = c.check_global.new.conn in
     let new = c.check_zones.new.conn in

@@ -11,14 +11,14 @@ use Rattle.store_migration.proofs.check.check_each.Goals as goal
 
 pub loop-head-init : goal.loop-head-init
 loop-head-init g c = record {
-  reads = λ shown. reads_none g.S.Store (schema_under c.args.release) c.args.conn.now shown;
-  rows = λ shown clean contents held heads. ([], first_none c.args.release contents);
+  reads = λ shown. reads_none g.S.Store (schema_under c.args.schema) c.args.conn.now shown;
+  rows = λ shown clean contents held heads. ([], first_none c.args.schema contents);
 }
 
 pub loop-head-preserved : goal.loop-head-preserved
 loop-head-preserved g c =
     let s = g.S.Store in
-    let r = c.args.release in
+    let r = c.args.schema in
     let old = c.args.conn.now in
     let mid = c.loop-head.conn in
     let new = c.check_zone.new.conn in
@@ -45,7 +45,7 @@ returns g c shown = record {
   rows = λ clean contents held heads.
       let first = c.loop-head.invariant.rows shown clean contents held heads in (
         first.0,
-        first_all c.args.release contents c.args.heads.now c.loop-head.head-index first.0
+        first_all c.args.schema contents c.args.heads.now c.loop-head.head-index first.0
             (omega (arith, c.loop-head-test.false)) heads first.1,
       );
   reads = c.loop-head.invariant.reads shown;
@@ -54,7 +54,7 @@ returns g c shown = record {
 pub returns-in_err-check_zone : goal.returns-in_err-check_zone
 returns-in_err-check_zone g c shown =
     let s = g.S.Store in
-    let r = c.args.release in
+    let r = c.args.schema in
     let mid = c.loop-head.conn in
     let new = c.check_zone.new.conn in
     let before = c.loop-head.invariant.reads shown in

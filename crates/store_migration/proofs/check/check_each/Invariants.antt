@@ -14,9 +14,9 @@ use Rattle.store_migration.proofs.check.check_each.Given as goal
 abbrev pub invariant-loop-head : goal.invariant-loop-head
 invariant-loop-head g l = record {
   reads : (HasCleanDisk (state g.S.Store l.fn.conn) → IsTrue (state g.S.Store l.fn.conn).is_open)
-      → OnlyReads g.S.Store (schema_under l.release) BadRow Fault l.fn.conn l.conn done;
+      → OnlyReads g.S.Store (schema_under l.schema) BadRow Fault l.fn.conn l.conn done;
   rows : (HasCleanDisk (state g.S.Store l.fn.conn) → IsTrue (state g.S.Store l.fn.conn).is_open)
       → HasCleanDisk (state g.S.Store l.conn) → (contents : Contents)
-      → HasContents (schema_under l.release) contents (state g.S.Store l.fn.conn).now → HoldsHeads contents l.heads
-      → (zones : List NamedZone) × HoldsFirst l.release contents (take l.head-index l.heads) zones;
+      → HasContents (schema_under l.schema) contents (state g.S.Store l.fn.conn).now → HoldsHeads contents l.heads
+      → (zones : List NamedZone) × HoldsFirst l.schema contents (take l.head-index l.heads) zones;
 }

@@ -2,13 +2,13 @@ use Rattle.std.proofs.Common.{rules, sym, subst}
 use Rattle.sqlite.specs.Held.{state}
 use Rattle.terms.specs.Types.{a_global}
 use Rattle.terms.specs.Global.{IsGlobal}
-use Rattle.store_columns.proofs.Releases.{stands_inventory}
+use Rattle.store_columns.proofs.Schemas.{stands_inventory}
 use Rattle.store_migration.proofs.check.check_global.Goals as goal
 
 pub returns-in_err-joined-clause-none : goal.returns-in_err-joined-clause-none
 returns-in_err-joined-clause-none g c clean bad i stands =
     c.joined.ensures.none (search rules) (subst IsGlobal (sym (c.in_ok-lists.ensures.found clean i stands))
-    (stands_inventory c.args.release i (state g.S.Store c.args.conn.now).now stands).global)
+    (stands_inventory c.args.schema i (state g.S.Store c.args.conn.now).now stands).global)
 
 pub returns-clause-rows : goal.returns-clause-rows
 returns-clause-rows g c clean contents held = (

@@ -11,13 +11,13 @@ use Rattle.store_migration.proofs.check.check_zones.Goals as goal
 
 pub returns-in_err-heads-clause-reads : goal.returns-in_err-heads-clause-reads
 returns-in_err-heads-clause-reads g c =
-    reads_err g.S.Store (schema_under c.args.release) BadRow Fault c.args.conn.now c.zone_heads.new.conn
+    reads_err g.S.Store (schema_under c.args.schema) BadRow Fault c.args.conn.now c.zone_heads.new.conn
     c.zone_heads.result c.from_residual.result (search rules) (λ bad. search rules) (λ failed. search rules)
-    (c.zone_heads.ensures.reads c.args.release)
+    (c.zone_heads.ensures.reads c.args.schema)
 
 pub returns-clause-reads : goal.returns-clause-reads
 returns-clause-reads g c =
-    let r = c.args.release in
+    let r = c.args.schema in
     let found = c.in_ok-heads.ensures.reads r in
     let each = c.check_each.ensures (λ clean. (found.same clean).0.is_open) in
     reads_then g.S.Store (schema_under r) BadRow Fault c.args.conn.now c.zone_heads.new.conn c.check_each.new.conn
@@ -27,7 +27,7 @@ returns-clause-reads g c =
 pub returns-clause-rows : goal.returns-clause-rows
 returns-clause-rows g c clean =
     let s = g.S.Store in
-    let r = c.args.release in
+    let r = c.args.schema in
     let found = c.in_ok-heads.ensures.reads r in
     let each = c.check_each.ensures (λ clean. (found.same clean).0.is_open) in
     let early : HasCleanDisk (state s c.zone_heads.new.conn) = omega (arith, clean, each.reads.crash.clean) in
@@ -38,7 +38,7 @@ returns-clause-rows g c clean =
 pub returns-clause-none : goal.returns-clause-none
 returns-clause-none g c clean bad i stands =
     let s = g.S.Store in
-    let r = c.args.release in
+    let r = c.args.schema in
     let found = c.in_ok-heads.ensures.reads r in
     let each = c.check_each.ensures (λ clean. (found.same clean).0.is_open) in
     let early : HasCleanDisk (state s c.zone_heads.new.conn) = omega (arith, clean, each.reads.crash.clean) in

@@ -11,7 +11,7 @@ pub returns-clause-made : goal.returns-clause-made
 returns-clause-made g c clean =
     let s = g.S.Store in
     let was = (state s c.args.conn.now).now in
-    let takes = Takes c.args.release c.args.heads.now was in
+    let takes = Takes c.args.schema c.args.heads.now was in
     let last = state s c.write.new.tx.conn.now in
     let begun = c.transaction-tx.ensures.begun in
     let same : c.commit.new.self.0 ≡ c.conn-2-1.given.0 = search rules in
@@ -28,7 +28,7 @@ returns-clause-crash g c =
     let last = c.write.new.tx.conn.now in
     let begun = c.transaction-tx.ensures.begun in
     let same : c.commit.new.self.0 ≡ c.conn-2-1.given.0 = search rules in
-    subst (λ h. Survives (state s c.args.conn.now) (state s h) (IsTaken c.args.release c.args.heads.now (state s
+    subst (λ h. Survives (state s c.args.conn.now) (state s h) (IsTaken c.args.schema c.args.heads.now (state s
     c.args.conn.now).now)) same
-    (crash_leaves s c.args.conn.now last c.commit.new.self.0 c.args.release c.args.heads.now (rw begun at
+    (crash_leaves s c.args.conn.now last c.commit.new.self.0 c.args.schema c.args.heads.now (rw begun at
     c.write.ensures.inside) (rw begun at c.in_ok-write.ensures.ok) c.commit.ensures.survives)

@@ -3,7 +3,7 @@ use Rattle.sqlite.specs.Held.{state}
 use Rattle.sqlite.specs.State.{HasCleanDisk}
 use Rattle.store_rows.proofs.InsideLemmas.{on_ok}
 use Rattle.store_migration.specs.Moved.{with_moved}
-use Rattle.store_columns.proofs.Releases.{rows_under, stands_rows, stands_inventory}
+use Rattle.store_columns.proofs.Schemas.{rows_under, stands_rows, stands_inventory}
 use Rattle.store_migration.proofs.Taken.{made_under, stands_own, all_taken}
 use Rattle.store_migration.proofs.taking.write.Goals as goal
 
@@ -11,7 +11,7 @@ pub returns-clause-ok : goal.returns-clause-ok
 returns-clause-ok g c clean =
     on_ok c.write_number.result _ _ (λ numbered i are stands.
     let s = g.S.Store in
-    let r = c.args.release in
+    let r = c.args.schema in
     let db = (state s c.args.tx.now.conn.now).now in
     let t1 = state s c.add_tables.new.tx.conn.now in
     let t2 = state s c.move_sources.new.tx.conn.now in

@@ -2,14 +2,14 @@ use Rattle.std.proofs.Common.{◌≡◌, ◌∙◌, sym, subst}
 use Rattle.sqlite.proofs.Callers.{memory_is_clean}
 use Rattle.store_schema.specs.Plain.{IsPlain}
 use Rattle.store_schema.specs.Earlier.{schema_under}
-use Rattle.store_schema.proofs.Plain.{release_is_plain}
+use Rattle.store_schema.proofs.Plain.{schema_is_plain}
 use Rattle.store_schema.proofs.tables.is_schema_under.Goals as goal
 
 pub returns : goal.returns
 returns c =
     let made = c.in_ok-create_under.ensures.made (memory_is_clean c.create_under.new.conn) c.in_ok-conn.ensures.empty.2
     in
-    let is : c.schema.result.now ≡ schema_under c.args.release = c.schema.ensures.value ∙ made.schema_is in (
+    let is : c.schema.result.now ≡ schema_under c.args.schema = c.schema.ensures.value ∙ made.schema_is in (
       λ same. c.same_schema.ensures.same same ∙ is,
-      λ ours. c.same_schema.ensures.found (subst IsPlain (sym ours) (release_is_plain c.args.release)) (ours ∙ sym is),
+      λ ours. c.same_schema.ensures.found (subst IsPlain (sym ours) (schema_is_plain c.args.schema)) (ours ∙ sym is),
     )

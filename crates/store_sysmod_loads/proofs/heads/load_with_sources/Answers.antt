@@ -1,6 +1,6 @@
 use Rattle.std.proofs.Common.{map}
 use Rattle.store_rows.proofs.InsideLemmas.{if_ok}
-use Rattle.store_schema.specs.declared.release.Release.TheVariants.{First}
+use Rattle.store_schema.specs.declared.schema.Schema.TheVariants.{First}
 use Rattle.store_sysmod_loads.specs.Flats.{head_of}
 use Rattle.store_sysmod_loads.proofs.FlatLemmas.{rows_of_heads}
 use Rattle.store_sysmod_loads.proofs.RiseLemmas.{heads_rise}

@@ -8,7 +8,7 @@ use Rattle.store_sysmod_loads.proofs.ifs_of.load_ifs.Goals as goal
 
 pub returns-clause-part : goal.returns-clause-part
 returns-clause-part g c =
-    let r = c.args.release in
+    let r = c.args.schema in
     part_of all_ifs (HoldIfs r) (ifs_held r) (its_ifs r) (λ ss formed. ifs_rise ss formed.whole)
     c.load_parted.ensures.rows
 

@@ -2,13 +2,13 @@ use Rattle.std.proofs.Common.{◌⊎◌, inl}
 use Rattle.lemmas.proofs.Each.{recursion_weaker}
 use Rattle.lemmas.proofs.Results.{if_ok_both}
 use Rattle.store_rows.proofs.InsideLemmas.{if_ok}
-use Rattle.store_schema.specs.declared.release.Release.TheVariants.{Third}
+use Rattle.store_schema.specs.declared.schema.Schema.TheVariants.{Third}
 use Rattle.store_sysmod_loads.proofs.Apart.{early_rows, rows_early}
 use Rattle.store_sysmod_loads.proofs.loading.load_parted.Goals as goal
 
 pub returns-in-First-clause-rows : goal.returns-in-First-clause-rows
 returns-in-First-clause-rows g c =
-    let r = c.args.release in
+    let r = c.args.schema in
     let known = g.met.T.InTwo.each r in
     let row_of = g.T.Firsts.FromRow.row_of in
     let further_row_of = g.T.Furthers.FromRow.row_of in

@@ -27,7 +27,7 @@ returns-in_err-rows-clause-part g c =
 
 pub returns-clause-part : goal.returns-clause-part
 returns-clause-part g c =
-    let r = c.args.release in
+    let r = c.args.schema in
     part_more c.gathered.result c.in_ok-rows.was
     (if_ok c.gathered.result _ _ (λ sysmods told contents held.
     let ss = sysmods.items in
@@ -57,7 +57,7 @@ pub returns-clause-forms : goal.returns-clause-forms
 returns-clause-forms g c =
     let forms = c.in_ok-rows.ensures.forms in
     if_ok c.gathered.result _ _ (λ sysmods told. record {
-      heads = subst (AllByRecursion (HasFormsUnder c.args.release)) told.rows_are.heads forms.heads;
+      heads = subst (AllByRecursion (HasFormsUnder c.args.schema)) told.rows_are.heads forms.heads;
       vers = subst (AllByRecursion HasVerRowForms) told.rows_are.vers forms.vers;
       ifs = subst (AllByRecursion HasIfRowForms) told.rows_are.ifs forms.ifs;
       elems = subst (AllByRecursion HasElemRowForms) told.rows_are.elems forms.elems;

@@ -21,14 +21,14 @@ pub returns-in_err-elems-clause-part : goal.returns-in_err-elems-clause-part
 returns-in_err-elems-clause-part g c =
     let two = part_then c.in_ok-heads.was c.load_heads.ensures.part c.load_vers.ensures.part in
     let three = part_then c.in_ok-vers.was two c.load_ifs.ensures.part in
-    let four = part_then c.in_ok-ifs.was three (c.load_elems.ensures.part c.args.release) in
+    let four = part_then c.in_ok-ifs.was three (c.load_elems.ensures.part c.args.schema) in
     part_err (search rules) (λ bad. search rules) (λ failed. search rules) four
 
 pub returns-clause-part : goal.returns-clause-part
 returns-clause-part g c =
     let two = part_then c.in_ok-heads.was c.load_heads.ensures.part c.load_vers.ensures.part in
     let three = part_then c.in_ok-vers.was two c.load_ifs.ensures.part in
-    let four = part_then c.in_ok-ifs.was three (c.load_elems.ensures.part c.args.release) in
+    let four = part_then c.in_ok-ifs.was three (c.load_elems.ensures.part c.args.schema) in
     part_more (Ok _) c.in_ok-elems.was
     (λ contents h. record {
       heads = h.0.0.0;

@@ -8,7 +8,7 @@ use Rattle.store_sysmod_loads.proofs.vers_of.load_vers.Goals as goal
 
 pub returns-clause-part : goal.returns-clause-part
 returns-clause-part g c =
-    let r = c.args.release in
+    let r = c.args.schema in
     part_of all_vers (HoldVers r) (vers_held r) (its_vers r) (λ ss formed. vers_rise ss formed.whole)
     c.load_parted.ensures.rows
 

@@ -5,7 +5,7 @@ use Rattle.store_rows.proofs.Queries.{reads_err, reads_more}
 use Rattle.store_rows.specs.declared.error.ReadError.TheVariants.{BadRow}
 use Rattle.lemmas.proofs.Results.{if_ok_both}
 use Rattle.store_rows.proofs.InsideLemmas.{if_ok}
-use Rattle.store_columns.proofs.Releases.{rows_under, stands_rows, stands_inventory}
+use Rattle.store_columns.proofs.Schemas.{rows_under, stands_rows, stands_inventory}
 use Rattle.store_schema.proofs.Lists.{rising_same}
 use Rattle.store_zone_loads.specs.declared.head.ZoneHead.{ZoneHead}
 use Rattle.store_zone_loads.specs.Found.{head_of}

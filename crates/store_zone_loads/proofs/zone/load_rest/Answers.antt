@@ -16,11 +16,11 @@ use Rattle.store_zone_loads.proofs.zone.load_rest.Goals as goal
 pub returns-in_err-entries-clause-none : goal.returns-in_err-entries-clause-none
 returns-in_err-entries-clause-none g c clean bad contents was head zone held =
     c.load_numbered.ensures.none clean (search rules) contents was zone.entries
-    (its_numbered contents c.args.head.name c.args.release zone held)
+    (its_numbered contents c.args.head.name c.args.schema zone held)
 
 pub returns-in_err-elements-clause-none : goal.returns-in_err-elements-clause-none
 returns-in_err-elements-clause-none g c clean bad contents was head zone held =
-    let r = c.args.release in
+    let r = c.args.schema in
     let before : HasCleanDisk (state g.S.Store c.load_numbered.new.conn) =
     omega (arith, clean, (c.load_items.ensures.reads r tt).crash.clean) in
     let same = c.in_ok-entries.ensures.reads.same before in
@@ -31,7 +31,7 @@ returns-in_err-elements-clause-none g c clean bad contents was head zone held =
 
 pub returns-clause-found : goal.returns-clause-found
 returns-clause-found g c clean contents was head =
-    let r = c.args.release in
+    let r = c.args.schema in
     let before : HasCleanDisk (state g.S.Store c.load_numbered.new.conn) =
     omega (arith, clean, (c.load_items.ensures.reads r tt).crash.clean) in
     let same = c.in_ok-entries.ensures.reads.same before in
@@ -46,7 +46,7 @@ returns-clause-found g c clean contents was head =
 
 pub returns-clause-none : goal.returns-clause-none
 returns-clause-none g c clean bad contents was head zone held =
-    let r = c.args.release in
+    let r = c.args.schema in
     let before : HasCleanDisk (state g.S.Store c.load_numbered.new.conn) =
     omega (arith, clean, (c.load_items.ensures.reads r tt).crash.clean) in
     let entries = c.in_ok-entries.ensures.found before contents was in
@@ -63,7 +63,7 @@ returns-in_err-elements-clause-reads g c =
     reads_then g.S.Store _ _ _ c.args.conn.now c.load_numbered.new.conn c.load_items.new.conn
     c.load_numbered.result c.in_ok-entries.entries _ c.in_ok-entries.was c.load_numbered.ensures.reads
     (reads_err g.S.Store _ _ _ c.load_numbered.new.conn c.load_items.new.conn c.load_items.result _ (search rules)
-    (λ bad. search rules) (λ failed. search rules) (c.load_items.ensures.reads c.args.release tt))
+    (λ bad. search rules) (λ failed. search rules) (c.load_items.ensures.reads c.args.schema tt))
 
 pub returns-clause-reads : goal.returns-clause-reads
 returns-clause-reads g c =
@@ -71,4 +71,4 @@ returns-clause-reads g c =
     c.load_numbered.result c.in_ok-entries.entries _ c.in_ok-entries.was c.load_numbered.ensures.reads
     (reads_more g.S.Store _ _ _ c.load_numbered.new.conn c.load_items.new.conn c.load_items.result
     c.in_ok-elements.elements _ c.in_ok-elements.was c.join.ensures.fault
-    (c.load_items.ensures.reads c.args.release tt))
+    (c.load_items.ensures.reads c.args.schema tt))

@@ -5,47 +5,47 @@ use Rattle.store_zone_loads.specs.Held.{HoldsHead, HoldsUnder}
 use Rattle.store_rows.proofs.Queries.{reads_err, reads_more, reads_then}
 use Rattle.store_zone_loads.proofs.Zones.{head_at, is_zone}
 use Rattle.store_zone_loads.proofs.Heads.{head_named}
-use Rattle.store_zone_loads.proofs.ByRelease.{held_after}
+use Rattle.store_zone_loads.proofs.BySchema.{held_after}
 use Rattle.store_zone_loads.proofs.zone.load_under.Goals as goal
 
 pub returns-in_err-head-clause-reads : goal.returns-in_err-head-clause-reads
 returns-in_err-head-clause-reads g c =
     reads_err g.S.Store _ _ _ c.args.conn.now c.zone_head.new.conn c.zone_head.result _ (search rules)
     (λ bad. search rules) (λ failed. search rules)
-    (c.zone_head.ensures.reads c.args.release)
+    (c.zone_head.ensures.reads c.args.schema)
 
 pub returns-in_err-load_rest-clause-reads : goal.returns-in_err-load_rest-clause-reads
 returns-in_err-load_rest-clause-reads g c =
     reads_then g.S.Store _ _ _ c.args.conn.now c.zone_head.new.conn c.load_rest.new.conn c.zone_head.result
-    c.in_ok-head.field-0 _ c.in_ok-head.was (c.zone_head.ensures.reads c.args.release)
+    c.in_ok-head.field-0 _ c.in_ok-head.was (c.zone_head.ensures.reads c.args.schema)
     (reads_err g.S.Store _ _ _ c.zone_head.new.conn c.load_rest.new.conn c.load_rest.result _ (search rules)
     (λ bad. search rules) (λ failed. search rules) c.load_rest.ensures.reads)
 
 pub returns-clause-reads : goal.returns-clause-reads
 returns-clause-reads g c =
     reads_then g.S.Store _ _ _ c.args.conn.now c.zone_head.new.conn c.load_rest.new.conn c.zone_head.result
-    c.in_ok-head.field-0 _ c.in_ok-head.was (c.zone_head.ensures.reads c.args.release)
+    c.in_ok-head.field-0 _ c.in_ok-head.was (c.zone_head.ensures.reads c.args.schema)
     (reads_more g.S.Store _ _ _ c.zone_head.new.conn c.load_rest.new.conn c.load_rest.result c.in_ok-load_rest.field-0 _
     c.in_ok-load_rest.was (λ failed. search rules) c.load_rest.ensures.reads)
 
 pub returns-in_default-clause-reads : goal.returns-in_default-clause-reads
 returns-in_default-clause-reads g c =
     reads_more g.S.Store _ _ _ c.args.conn.now c.zone_head.new.conn c.zone_head.result c.in_ok-head.field-0 _
-    c.in_ok-head.was (λ failed. search rules) (c.zone_head.ensures.reads c.args.release)
+    c.in_ok-head.was (λ failed. search rules) (c.zone_head.ensures.reads c.args.schema)
 
 pub returns-in_err-head-clause-none : goal.returns-in_err-head-clause-none
 returns-in_err-head-clause-none g c clean bad contents was zone held =
-    let r = c.args.release in
+    let r = c.args.schema in
     c.zone_head.ensures.none clean (search rules) r contents was _ (head_at contents c.args.name.now r zone held)
 
 pub returns-in_default-clause-found : goal.returns-in_default-clause-found
 returns-in_default-clause-found g c clean contents was =
     (subst (HoldsHead contents c.args.name.now) c.in_default.is
-    (c.in_ok-head.ensures.found clean c.args.release contents was)).rows
+    (c.in_ok-head.ensures.found clean c.args.schema contents was)).rows
 
 pub returns-clause-found : goal.returns-clause-found
 returns-clause-found g c clean contents was =
-    let r = c.args.release in
+    let r = c.args.schema in
     let head = c.in-Some.head in
     let before : HasCleanDisk (state g.S.Store c.zone_head.new.conn) =
     omega (arith, clean, c.load_rest.ensures.reads.crash.clean) in
@@ -59,7 +59,7 @@ returns-clause-found g c clean contents was =
 
 pub returns-in_err-load_rest-clause-none : goal.returns-in_err-load_rest-clause-none
 returns-in_err-load_rest-clause-none g c clean bad contents was zone held =
-    let r = c.args.release in
+    let r = c.args.schema in
     let name = c.args.name.now in
     let before : HasCleanDisk (state g.S.Store c.zone_head.new.conn) =
     omega (arith, clean, c.load_rest.ensures.reads.crash.clean) in

@@ -4,7 +4,7 @@ use Rattle.std.specs.Ordering.{nat_cmp}
 use Rattle.std.specs.Cmp.Lexicographic.{slice_cmp}
 use Rattle.terms.specs.Rising.{Rises}
 use Rattle.terms.specs.Global.{IsGlobal}
-use Rattle.sysmods_received.specs.Held.{zone_of}
+use Rattle.sysmods.specs.Held.{zone_of}
 use Rattle.sysmods.proofs.Empty.{empty}
 use Rattle.sysmods.proofs.Fronts.{AreBefore, before_last, global_front}
 use Rattle.sysmods.proofs.parts.received_from.Goals as goal
@@ -17,8 +17,8 @@ loop-sysmod-init c = record {
   rest = search;
 }
 
-pub add_last-requires-clause-last : goal.add_last-requires-clause-last
-add_last-requires-clause-last c =
+pub push_last-requires-clause-last : goal.push_last-requires-clause-last
+push_last-requires-clause-last c =
     let at = c.loop-sysmod in
     let s = c.in-Some.sysmod in
     let rest = into_iter_items c.next.new.self in
@@ -42,7 +42,7 @@ returns-then-not-branch-clause-none c =
       λ e. absurd (true≢false (sym e)),
       λ g.
           let front = global_front (at.yielded ++ s ∷ []) rest (subst (λ xs. IsGlobal (zone_of xs)) (sym all) g) in
-          let fits = c.in_ok-add_last.ensures.fits.1 (subst (λ xs. IsGlobal (zone_of (xs ++ s ∷ [])))
+          let fits = c.in_ok-push_last.ensures.fits.1 (subst (λ xs. IsGlobal (zone_of (xs ++ s ∷ [])))
           (sym at.invariant.taken) front) in
           absurd (true≢false (sym fits ∙ c.if-not-branch.true)),
     )

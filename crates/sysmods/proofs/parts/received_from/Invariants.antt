@@ -1,7 +1,7 @@
 use Rattle.std.proofs.Common.{◌≡◌, ◌++◌, length}
 use Rattle.std.specs.Vec.Iter.{into_iter_items, into_iter_len}
 use Rattle.terms.specs.Global.{IsGlobal}
-use Rattle.sysmods_received.specs.Held.{zone_of}
+use Rattle.sysmods.specs.Held.{zone_of}
 use Rattle.sysmods.proofs.parts.received_from.Given as goal
 
 -- the SYSMODs so far are received, and are those of a global zone

@@ -1,7 +1,7 @@
 use Rattle.std.proofs.Common.{◌≡◌, take}
 use Rattle.std.specs.List.{flat_map}
 use Rattle.terms.specs.Lookups.{is_in}
-use Rattle.undo_list.specs.Restoring.{restoring_of}
+use Rattle.undo.specs.Scopes.{restoring_of}
 use Rattle.undo.specs.Dependences.{dependences_of}
 use Rattle.undo.proofs.dependences.dependences.Given as goal
 

@@ -1,6 +1,6 @@
 use Rattle.std.proofs.Common.{◌≡◌, filter, map, take}
 use Rattle.terms.specs.Failures.{all_tests}
-use Rattle.undo_list.specs.Restoring.{restoring_of}
+use Rattle.undo.specs.Scopes.{restoring_of}
 use Rattle.undo.specs.Tests.{fails_test}
 use Rattle.undo.proofs.tests.all_rows.Given as goal
 

@@ -2,6 +2,7 @@ use Rattle.std.proofs.Common.{Err, ap, rules}
 use Rattle.store_rows.proofs.Queries.{reads_err, reads_more}
 use Rattle.store.proofs.NoState.{loads_none, tells_after}
 use Rattle.smpe_session.proofs.Stepping.{begun_unmoved}
+use Rattle.smpe_session.proofs.Using.{never_handed, no_answer}
 use Rattle.smpe_session.proofs.session.Session.begin.Goals as goal
 
 pub returns-in_err-global-clause-ended : goal.returns-in_err-global-clause-ended
@@ -32,3 +33,13 @@ returns-in_err-global-clause-faults g c = c.load_global.ensures.uses.later.0
 
 pub returns-in_err-global-clause-limit : goal.returns-in_err-global-clause-limit
 returns-in_err-global-clause-limit g c = c.load_global.ensures.uses.later.1
+
+pub returns-in_err-global-clause-which : goal.returns-in_err-global-clause-which
+returns-in_err-global-clause-which g c = never_handed c.from_residual.result c.in_err-global.field-0.0
+    c.from_residual.ensures.1 c.in_err-global.ensures.uses.which
+
+pub returns-in_err-global-clause-rows : goal.returns-in_err-global-clause-rows
+returns-in_err-global-clause-rows g c clean = no_answer c.from_residual.result _ _ c.from_residual.ensures.1
+
+pub returns-clause-rows : goal.returns-clause-rows
+returns-clause-rows g c clean = c.in_ok-global.ensures.rows clean

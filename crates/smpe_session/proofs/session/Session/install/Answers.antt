@@ -21,7 +21,8 @@ returns-in_err-planned-in-Ok g c = ran_short c.from_residual-in_err-planned-in-O
 
 pub returns-in_ok-planned-in-Ok : goal.returns-in_ok-planned-in-Ok
 returns-in_ok-planned-in-Ok g c = weaker (after c.in_ok-related.ensures c.carry_out.ensures)
-    (λ checked. c.header-header.ensures.check ∙ ap (λ w. w.check) c.install.view_is ∙ checked)
+    (λ change own.
+    (own.0, sym (ap (λ w. w.check) c.install.view_is) ∙ (sym c.header-header.ensures.check ∙ own.1), own.2))
     (λ s inventory both is files.
     let at = c.seek_related.new.self in
     let kind = c.args.kind in
@@ -43,7 +44,7 @@ returns-in_ok-planned-in-Ok g c = weaker (after c.in_ok-related.ensures c.carry_
     (both.1 sought.1 sought.0.session c.args.date files command changes))
 
 pub returns-in-Err : goal.returns-in-Err
-returns-in-Err g c = answered c.in_ok-related.ensures (λ looks. tt) (λ s inventory found is files.
+returns-in-Err g c = answered c.in_ok-related.ensures (λ own none. absurd none) (λ s inventory found is files.
     let i = c.args.install.now in
     let command = install_command c.args.kind i in
     let sought = found is in (

@@ -14,7 +14,7 @@ returns-in_err-seek_each g c = handed_on c.from_residual-in_err-seek_each.ensure
     c.load_names.ensures.later c.in_err-seek_each.field-0.0 (both.1 both.0.1 is))
 
 pub returns : goal.returns
-returns g c = answered (after c.in_ok-names.ensures c.in_ok-seek_each.ensures) (λ looks. looks) (λ s inventory both is.
+returns g c = answered (after c.in_ok-names.ensures c.in_ok-seek_each.ensures) (λ own none. absurd none) (λ s inventory both is.
     let sought = both.1 both.0.1 is in (
       all_zones s c.seek_each.new.self c.as_slice.result.now inventory (c.as_slice.ensures.value ∙ both.0.0) sought.0,
       sought.1,

@@ -1,3 +1,4 @@
+use Rattle.smpe_session.proofs.Using.{never_other}
 use Rattle.smpe_session.proofs.session.Session.perform.Goals as goal
 
 pub returns-clause-faults : goal.returns-clause-faults
@@ -6,8 +7,11 @@ returns-clause-faults g c = c.run.ensures.uses.later.0
 pub returns-clause-limit : goal.returns-clause-limit
 returns-clause-limit g c = c.run.ensures.uses.later.1
 
-pub returns-clause-loads : goal.returns-clause-loads
-returns-clause-loads g c = c.run.ensures.uses.loads
+pub returns-clause-goes : goal.returns-clause-goes
+returns-clause-goes g c = c.run.ensures.uses.goes
+
+pub returns-clause-which : goal.returns-clause-which
+returns-clause-which g c = never_other c.run.result c.run.ensures.uses.which
 
 pub returns-clause-ended : goal.returns-clause-ended
 returns-clause-ended g c = λ clean s is keeps. c.run.ensures.uses.ended clean s keeps is

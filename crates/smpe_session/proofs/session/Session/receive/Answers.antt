@@ -6,11 +6,12 @@ use Rattle.smpe_session.proofs.Leading.{led, refused, led_session}
 use Rattle.smpe_session.proofs.Places.{receive_at}
 use Rattle.smpe_session.proofs.Received.{each_external, take_faulty}
 use Rattle.smpe_session.proofs.Stepping.{performs_staying, stopped}
-use Rattle.smpe_session.proofs.Using.{nothing, answered, handed_on, ran_short}
+use Rattle.smpe_session.proofs.Using.{nothing, answered, handed, no_answer, ran_short}
+use Rattle.smpe_session.specs.Writing.{TellsRun}
 use Rattle.smpe_session.proofs.session.Session.receive.Goals as goal
 
 pub returns-in-Some : goal.returns-in-Some
-returns-in-Some g c = answered nothing (λ looks. tt) (λ s inventory keeps is date. (
+returns-in-Some g c = answered nothing (λ own none. absurd none) (λ s inventory keeps is date. (
   s,
   refused date c.args.files.now (Receive c.args.what.now) s c.args.self.now.boundary _ is.boundary
       (sym (c.in-Some.ensures s (sym is.boundary) ∙ receive_at s c.args.what.now)),
@@ -27,7 +28,12 @@ returns-in_err-found g c = ran_short c.from_residual.ensures.1 nothing (λ s inv
     stopped g.S.Store c.args.store.now s (Perform date c.args.files.now (Receive c.args.what.now)) keeps)
 
 pub returns-in_err-lines-in-Ok : goal.returns-in_err-lines-in-Ok
-returns-in_err-lines-in-Ok g c = handed_on c.from_residual-in_err-lines-in-Ok.ensures.1 c.in_err-lines-in-Ok.ensures
+returns-in_err-lines-in-Ok g c = handed c.from_residual-in_err-lines-in-Ok.ensures.1 c.in_err-lines-in-Ok.ensures
+    (λ change own. (
+      own,
+      no_answer c.from_residual-in_err-lines-in-Ok.result _ TellsRun
+          c.from_residual-in_err-lines-in-Ok.ensures.1,
+    ))
     (λ s inventory stays is date.
     let found = rw c.in-Ok.is at c.in_ok-found.ensures in
     performs_staying g.S.Store c.args.store.now c.take_items.new.store s c.args.self.now date c.args.files.now
@@ -37,7 +43,8 @@ returns-in_err-lines-in-Ok g c = handed_on c.from_residual-in_err-lines-in-Ok.en
     (sym (ap (λ w. w.source) c.what.view_is)) found.0 found.1))
 
 pub returns-in_ok-lines-in-Ok : goal.returns-in_ok-lines-in-Ok
-returns-in_ok-lines-in-Ok g c = answered c.in_ok-lines-in-Ok.ensures (λ looks. looks) (λ s inventory runs is date.
+returns-in_ok-lines-in-Ok g c = answered c.in_ok-lines-in-Ok.ensures (λ change own. (own, tt))
+    (λ s inventory runs is date.
     let found = rw c.in-Ok.is at c.in_ok-found.ensures in
     let ran = runs (sym is.global) date c.args.files.now c.args.what.now
     (sym (c.in_default.ensures s (sym is.boundary) ∙ receive_at s c.args.what.now))
@@ -50,7 +57,7 @@ returns-in_ok-lines-in-Ok g c = answered c.in_ok-lines-in-Ok.ensures (λ looks. 
     ))
 
 pub returns-in-Err : goal.returns-in-Err
-returns-in-Err g c = answered nothing (λ looks. tt) (λ s inventory keeps is date. (
+returns-in-Err g c = answered nothing (λ own none. absurd none) (λ s inventory keeps is date. (
   s,
   take_faulty date c.args.files.now c.args.what.now s c.args.self.now.boundary c.in-Err.refusal is.boundary
       (sym (c.in_default.ensures s (sym is.boundary) ∙ receive_at s c.args.what.now))

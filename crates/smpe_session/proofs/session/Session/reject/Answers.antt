@@ -5,11 +5,12 @@ use Rattle.smpe_session.proofs.AllZones.{alike}
 use Rattle.smpe_session.proofs.Leading.{led, refused, led_session}
 use Rattle.smpe_session.proofs.Places.{reject_at}
 use Rattle.smpe_session.proofs.Stepping.{performs_unmoved, performs_staying, staying_since}
-use Rattle.smpe_session.proofs.Using.{nothing, after, answered, handed_on}
+use Rattle.smpe_session.proofs.Using.{nothing, after, answered, handed, handed_on, no_answer}
+use Rattle.smpe_session.specs.Writing.{TellsRun}
 use Rattle.smpe_session.proofs.session.Session.reject.Goals as goal
 
 pub returns-in-Some : goal.returns-in-Some
-returns-in-Some g c = answered nothing (λ looks. tt) (λ s inventory keeps is date files. (
+returns-in-Some g c = answered nothing (λ own none. absurd none) (λ s inventory keeps is date files. (
   s,
   refused date files (Reject c.args.ids.now) s c.args.self.now.boundary _ is.boundary
       (sym (c.in-Some.ensures s (sym is.boundary) ∙ reject_at s c.args.ids.now)),
@@ -23,8 +24,10 @@ returns-in_err-load_zones g c = handed_on c.from_residual.ensures.1 c.in_err-loa
     c.load_zones.new.self date files (Reject c.args.ids.now) c.in_err-load_zones.field-0.0 (un is))
 
 pub returns-in_err-lines : goal.returns-in_err-lines
-returns-in_err-lines g c = handed_on c.from_residual-in_err-lines.ensures.1
-    (after c.in_ok-load_zones.ensures c.in_err-lines.ensures.uses) (λ s inventory both is date files.
+returns-in_err-lines g c = handed c.from_residual-in_err-lines.ensures.1
+    (after c.in_ok-load_zones.ensures c.in_err-lines.ensures.uses)
+    (λ change own. (own, no_answer c.from_residual-in_err-lines.result _ TellsRun c.from_residual-in_err-lines.ensures.1))
+    (λ s inventory both is date files.
     let had = both.0 is in
     performs_staying g.S.Store c.args.store.now c.reject_ids.new.store s c.load_zones.new.self date files
     (Reject c.args.ids.now)
@@ -36,7 +39,7 @@ returns-in_err-lines g c = handed_on c.from_residual-in_err-lines.ensures.1
     (sym (c.in_default.ensures s (sym is.boundary) ∙ reject_at s c.args.ids.now)))))
 
 pub returns : goal.returns
-returns g c = answered (after c.in_ok-load_zones.ensures c.in_ok-lines.ensures.uses) (λ looks. looks)
+returns g c = answered (after c.in_ok-load_zones.ensures c.in_ok-lines.ensures.uses) (λ change own. (own, tt))
     (λ s inventory both is date files.
     let had = both.0 is in
     let ran = both.1 had.1 (sym had.0.session.global)

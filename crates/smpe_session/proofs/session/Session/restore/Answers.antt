@@ -1,6 +1,6 @@
 use Rattle.std.proofs.Common.{◌∙◌, map}
 use Rattle.terms.specs.Types.{Restore}
-use Rattle.cntl.specs.Views.{restore_list_of}
+use Rattle.fields.specs.Choices.{restore_list_of}
 use Rattle.machine.specs.Machine.{Perform}
 use Rattle.report.specs.Views.{line_view, refusal_view}
 use Rattle.smpe_session.proofs.Leading.{refused}
@@ -22,7 +22,7 @@ returns-in_err-delta-in-Ok g c = ran_short c.from_residual-in_err-delta-in-Ok.en
     (Perform date files (Restore (restore_list_of c.args.list.now) c.args.check)) (sought is).1)
 
 pub returns-in_ok-delta-in-Ok : goal.returns-in_ok-delta-in-Ok
-returns-in_ok-delta-in-Ok g c = weaker (after c.in_ok-accepted.ensures c.carry_out.ensures) (λ checked. checked)
+returns-in_ok-delta-in-Ok g c = weaker (after c.in_ok-accepted.ensures c.carry_out.ensures) (λ change own. own)
     (λ s inventory both is date files.
     let at = c.seek_accepted.new.self in
     let what = restore_list_of c.args.list.now in
@@ -39,7 +39,7 @@ returns-in_ok-delta-in-Ok g c = weaker (after c.in_ok-accepted.ensures c.carry_o
     (both.1 sought.1 sought.0.session date files command changes))
 
 pub returns-in-Err : goal.returns-in-Err
-returns-in-Err g c = answered c.in_ok-accepted.ensures (λ looks. tt) (λ s inventory found is date files.
+returns-in-Err g c = answered c.in_ok-accepted.ensures (λ own none. absurd none) (λ s inventory found is date files.
     let command = Restore (restore_list_of c.args.list.now) c.args.check in
     let sought = found is in (
       s,

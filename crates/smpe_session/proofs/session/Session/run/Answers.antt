@@ -7,36 +7,36 @@ use Rattle.smpe_session.proofs.session.Session.run.Goals as goal
 
 pub returns-in-Set-clause-uses : goal.returns-in-Set-clause-uses
 returns-in-Set-clause-uses g c = rw c.in-Set.is
-    (told_uses c.told.ensures c.set.ensures (λ looks. tt) (λ s ended is.
+    (told_uses c.told.ensures c.set.ensures (λ own none. absurd none) (λ s ended is.
     ended is c.args.date c.args.files.now))
 
 pub returns-in-Receive-clause-uses : goal.returns-in-Receive-clause-uses
 returns-in-Receive-clause-uses g c = rw c.in-Receive.is
-    (told_uses c.told-in-Receive.ensures c.receive.ensures (λ looks. looks) (λ s ended is.
+    (told_uses c.told-in-Receive.ensures c.receive.ensures (λ change own. own) (λ s ended is.
     ended is c.args.date))
 
 pub returns-in-Reject-clause-uses : goal.returns-in-Reject-clause-uses
 returns-in-Reject-clause-uses g c = rw c.in-Reject.is
-    (told_uses c.told-in-Reject.ensures c.reject.ensures (λ looks. looks) (λ s ended is.
+    (told_uses c.told-in-Reject.ensures c.reject.ensures (λ change own. own) (λ s ended is.
     ended is c.args.date c.args.files.now))
 
 pub returns-in-Apply-clause-uses : goal.returns-in-Apply-clause-uses
 returns-in-Apply-clause-uses g c = rw c.in-Apply.is
-    (told_uses c.told-in-Apply.ensures c.install.ensures (λ looks. looks) (λ s ended is.
+    (told_uses c.told-in-Apply.ensures c.install.ensures (λ change own. ((own.0, own.1), own.2)) (λ s ended is.
     ended is c.args.files.now))
 
 pub returns-in-Accept-clause-uses : goal.returns-in-Accept-clause-uses
 returns-in-Accept-clause-uses g c = rw c.in-Accept.is
-    (told_uses c.told-in-Accept.ensures c.install-in-Accept.ensures (λ looks. looks) (λ s ended is.
+    (told_uses c.told-in-Accept.ensures c.install-in-Accept.ensures (λ change own. ((own.0, own.1), own.2)) (λ s ended is.
     ended is c.args.files.now))
 
 pub returns-in-Restore-clause-uses : goal.returns-in-Restore-clause-uses
 returns-in-Restore-clause-uses g c = rw c.in-Restore.is
-    (told_uses c.told-in-Restore.ensures c.restore.ensures (λ looks. looks) (λ s ended is.
+    (told_uses c.told-in-Restore.ensures c.restore.ensures (λ change own. ((own.0, own.1), own.2)) (λ s ended is.
     ended is c.args.date c.args.files.now))
 
 pub returns-in-List-clause-uses : goal.returns-in-List-clause-uses
-returns-in-List-clause-uses g c = rw c.in-List.is (answered nothing (λ looks. tt)
+returns-in-List-clause-uses g c = rw c.in-List.is (answered nothing (λ own none. absurd none)
     (λ s inventory keeps is. (refl, is, keeps)))
 
 pub returns-in_err-report-in-Report-clause-uses : goal.returns-in_err-report-in-Report-clause-uses
@@ -45,6 +45,6 @@ returns-in_err-report-in-Report-clause-uses g c = ran_short c.from_residual.ensu
     (Perform c.args.date c.args.files.now (command_of c.args.command.now)) keeps)
 
 pub returns-in_ok-report-in-Report-clause-uses : goal.returns-in_ok-report-in-Report-clause-uses
-returns-in_ok-report-in-Report-clause-uses g c = rw c.in-Report.is (answered nothing (λ looks. tt)
+returns-in_ok-report-in-Report-clause-uses g c = rw c.in-Report.is (answered nothing (λ own none. absurd none)
     (λ s inventory keeps is.
     (s, c.in_ok-report-in-Report.ensures s is inventory c.args.date c.args.files.now, is, keeps)))

@@ -5,7 +5,7 @@ use Rattle.smpe_session.proofs.Using.{nothing, answered, handed_on, ran_short}
 use Rattle.smpe_session.proofs.session.Session.seek.Goals as goal
 
 pub returns-then-is_global-clause-uses : goal.returns-then-is_global-clause-uses
-returns-then-is_global-clause-uses g c = answered nothing (λ looks. looks)
+returns-then-is_global-clause-uses g c = answered nothing (λ own none. absurd none)
     (λ s inventory keeps is. (search rules, keeps))
 
 pub returns-in_err-zone-clause-uses : goal.returns-in_err-zone-clause-uses
@@ -13,7 +13,7 @@ returns-in_err-zone-clause-uses g c = handed_on c.from_residual.ensures.1 c.in_e
     (λ s inventory un is. un)
 
 pub returns-in_default-clause-uses : goal.returns-in_default-clause-uses
-returns-in_default-clause-uses g c = answered c.in_ok-zone.ensures (λ looks. looks)
+returns-in_default-clause-uses g c = answered c.in_ok-zone.ensures (λ own none. absurd none)
     (λ s inventory found is. (search rules, found.1))
 
 pub returns-in_err-keep_zone-clause-uses : goal.returns-in_err-keep_zone-clause-uses
@@ -21,7 +21,7 @@ returns-in_err-keep_zone-clause-uses g c = ran_short c.from_residual-in_err-keep
     (λ s inventory found is. unmoved_kept g.S.Store c.load_zone.new.store s found.1)
 
 pub returns-clause-uses : goal.returns-clause-uses
-returns-clause-uses g c = answered c.in_ok-zone.ensures (λ looks. looks) (λ s inventory found is. (
+returns-clause-uses g c = answered c.in_ok-zone.ensures (λ own none. absurd none) (λ s inventory found is. (
   sought_loaded s c.args.self.now _ c.args.name c.in-Some.zone is (sym found.0 ∙ c.in-Some.is) refl refl
       c.in_ok-keep_zone.ensures.ok,
   found.1,

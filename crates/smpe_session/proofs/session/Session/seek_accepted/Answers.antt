@@ -4,7 +4,7 @@ use Rattle.smpe_session.proofs.Using.{nothing, answered, handed_on}
 use Rattle.smpe_session.proofs.session.Session.seek_accepted.Goals as goal
 
 pub returns-in_default : goal.returns-in_default
-returns-in_default g c = answered nothing (λ looks. looks) (λ s inventory keeps is. (
+returns-in_default g c = answered nothing (λ own none. absurd none) (λ s inventory keeps is. (
   accepted_none s inventory c.args.self.now is (sym c.in_default.is ∙ c.related_name.ensures),
   keeps,
 ))
@@ -13,7 +13,7 @@ pub returns-in_err-seek : goal.returns-in_err-seek
 returns-in_err-seek g c = handed_on c.from_residual.ensures.1 c.in_err-seek.ensures.uses (λ s inventory un is. un is)
 
 pub returns : goal.returns
-returns g c = answered c.in_ok-seek.ensures.uses (λ looks. looks) (λ s inventory sought is. (
+returns g c = answered c.in_ok-seek.ensures.uses (λ own none. absurd none) (λ s inventory sought is. (
   accepted_some s inventory c.args.self.now c.seek.new.self c.in-Some.accepted c.in_ok-seek.field-0 is
       (sym c.in-Some.is ∙ c.related_name.ensures) (sought is).0,
   (sought is).1,

@@ -5,11 +5,11 @@ use Rattle.smpe_session.proofs.Using.{nothing, after, answered, handed_on}
 use Rattle.smpe_session.proofs.session.Session.seek_each.Goals as goal
 
 pub loop-name-init : goal.loop-name-init
-loop-name-init g c = answered nothing (λ looks. looks)
+loop-name-init g c = answered nothing (λ own none. absurd none)
     (λ s inventory keeps is. (record { session = is; here = search rules }, keeps))
 
 pub loop-name-preserved : goal.loop-name-preserved
-loop-name-preserved g c = answered (after c.loop-name.invariant c.in_ok-seek.ensures.uses) (λ looks. looks)
+loop-name-preserved g c = answered (after c.loop-name.invariant c.in_ok-seek.ensures.uses) (λ own none. absurd none)
     (λ s inventory both is.
     let before = both.0 is in
     let found = both.1 before.1 before.0.session in (

@@ -1,10 +1,9 @@
 use Rattle.std.proofs.Common.{Ok, take}
-use Rattle.std.specs.Prelude.{⊤}
 use Rattle.smpe_session.specs.Sessions.{IsSessionOf}
 use Rattle.smpe_session.specs.Steps.{AreSought, HasLoaded}
 use Rattle.smpe_session.specs.Uses.{UsesStore}
 use Rattle.smpe_session.proofs.session.Session.seek_each.Given as goal
 
 abbrev pub invariant-loop-name : goal.invariant-loop-name
-invariant-loop-name g l = UsesStore {X = Unit {0}} g.S.Store l.fn.store l.store ⊤ (λ s ended. IsSessionOf s l.fn.self
+invariant-loop-name g l = UsesStore {X = Unit {0}} g.S.Store l.fn.store l.store (λ _. ⊥) (λ s ended. IsSessionOf s l.fn.self
     → HasLoaded g.S.Store l.fn.store l.store s (λ _. AreSought s l.self (take l.name-index l.names)) ended) (Ok tt)

@@ -3,7 +3,7 @@ use Rattle.smpe_session.proofs.Using.{nothing, answered}
 use Rattle.smpe_session.proofs.session.Session.seek_related.Goals as goal
 
 pub returns-in-Target : goal.returns-in-Target
-returns-in-Target g c = answered nothing (λ looks. looks) (λ s inventory keeps is. (
+returns-in-Target g c = answered nothing (λ own none. absurd none) (λ s inventory keeps is. (
   record {
     session = is;
     is_related = λ name at. rw c.in-Target.is refl;

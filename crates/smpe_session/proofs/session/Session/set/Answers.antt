@@ -11,7 +11,7 @@ returns-in_err-seek g c = handed_on c.from_residual.ensures.1 c.in_err-seek.ensu
     date files (Set c.args.name) c.in_err-seek.field-0.0 (un is))
 
 pub returns-then-not-branch : goal.returns-then-not-branch
-returns-then-not-branch g c = answered c.in_ok-seek.ensures.uses (λ looks. looks) (λ s inventory found is date files.
+returns-then-not-branch g c = answered c.in_ok-seek.ensures.uses (λ own none. absurd none) (λ s inventory found is date files.
     let sought = found is in (
       s,
       set_refused s c.seek.new.self c.args.name date files c.in_ok-seek.field-0 sought.0 c.if-not-branch.true,
@@ -20,7 +20,7 @@ returns-then-not-branch g c = answered c.in_ok-seek.ensures.uses (λ looks. look
     ))
 
 pub returns : goal.returns
-returns g c = answered c.in_ok-seek.ensures.uses (λ looks. looks) (λ s inventory found is date files.
+returns g c = answered c.in_ok-seek.ensures.uses (λ own none. absurd none) (λ s inventory found is date files.
     let sought = found is in (
       record s { boundary = Some c.args.name },
       set_ran s c.seek.new.self c.args.name date files _ c.in_ok-seek.field-0 sought.0 c.if-not-branch.false

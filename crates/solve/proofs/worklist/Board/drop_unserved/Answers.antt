@@ -1,8 +1,8 @@
 use Rattle.std.proofs.Common.{◌≡◌, ◌<◌, length, get_or, sym, ◌∙◌, ap, subst, arith}
 use Rattle.std.proofs.lemmas.List.{get_or_default, length-map}
-use Rattle.solve.specs.Need.{demand}
-use Rattle.solve.specs.Board.{demand_at, IsDrop}
-use Rattle.solve.proofs.Searches.{settle_drop, settle_pass, demand_at_read}
+use Rattle.solve.specs.NumberedNeed.{numbered}
+use Rattle.solve.specs.Board.{need_at, IsDrop}
+use Rattle.solve.proofs.Searches.{settle_drop, settle_pass, need_at_read}
 use Rattle.solve.proofs.worklist.Board.drop_unserved.Goals as goal
 use Rattle.solve.proofs.worklist.Board.drop_unserved.Goals.{then-index-eq0, else-index-eq0}
 
@@ -14,16 +14,16 @@ loop-k-preserved c =
     let before = c.loop-k.invariant.board in
     let needs = c.needs-need-items.result.now in
     let n = c.need-item.result in
-    let below : k < length p.demands = omega (
+    let below : k < length p.needs = omega (
       arith,
       c.loop-k-test.true,
       ap length c.needs-need-items.ensures.needs,
-      length-map needs demand,
+      length-map needs numbered,
     ) in
-    let at = demand_at_read needs p.demands k n c.needs-need-items.ensures.needs c.loop-k-test.true c.need-item.is in
-    let of_is : (get_or needs k n).of ≡ (demand_at p.demands k).of =
+    let at = need_at_read needs p.needs k n c.needs-need-items.ensures.needs c.loop-k-test.true c.need-item.is in
+    let of_is : (get_or needs k n).of ≡ (need_at p.needs k).of =
     ap (λ m. m.of) (sym c.need-item.is) ∙ ap (λ d. d.of) (sym at) in
-    let small : (demand_at p.demands k).of < p.size = subst (λ x. x < p.size) of_is
+    let small : (need_at p.needs k).of < p.size = subst (λ x. x < p.size) of_is
     (c.needs-need-items.ensures.valid k n c.loop-k-test.true).of in
     let read : c.index.result.now ≡ get_or b.living.items k 0 =
     c.index.ensures ∙ get_or_default b.living.items k c.index.result.now 0 (omega (arith, before.needs, below))

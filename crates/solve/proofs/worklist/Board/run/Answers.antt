@@ -34,7 +34,7 @@ row c =
 pub strike_row-requires-clause-row : goal.strike_row-requires-clause-row
 strike_row-requires-clause-row c =
     let p = c.args.s.now in
-    subst (All (λ k. k < length p.demands)) (row (goal.at.strike_row-requires-clause-row c).After-deref)
+    subst (All (λ k. k < length p.needs)) (row (goal.at.strike_row-requires-clause-row c).After-deref)
     (served_small p c.args.served.now c.requires.served c.in-Some.x)
 
 pub strike_row-requires-clause-board : goal.strike_row-requires-clause-board

@@ -1,8 +1,8 @@
 use Rattle.std.proofs.Common.{◌≡◌, ◌<◌, ◌-◌, length, get_or, sym, ◌∙◌, ap, subst, arith}
 use Rattle.std.proofs.lemmas.List.{get_or_default, length-map}
-use Rattle.solve.specs.Need.{demand}
-use Rattle.solve.specs.Board.{demand_at, IsDrop}
-use Rattle.solve.proofs.Searches.{due_living, strike_drop, strike_pass, demand_at_read}
+use Rattle.solve.specs.NumberedNeed.{numbered}
+use Rattle.solve.specs.Board.{need_at, IsDrop}
+use Rattle.solve.proofs.Searches.{due_living, strike_drop, strike_pass, need_at_read}
 use Rattle.solve.proofs.worklist.Board.strike.Goals as goal
 
 pub overflow_sub-left : goal.overflow_sub-left
@@ -32,12 +32,12 @@ returns-then-left-eq0-clause-board c rest before =
       arith,
       c.requires.need,
       ap length c.needs.ensures.needs,
-      length-map needs demand,
+      length-map needs numbered,
     ) in
-    let at = demand_at_read needs p.demands k n c.needs.ensures.needs in_needs c.index-needs-need.is in
+    let at = need_at_read needs p.needs k n c.needs.ensures.needs in_needs c.index-needs-need.is in
     let read : c.index.result.now ≡ get_or living k 0 = c.index.ensures
     ∙ get_or_default living k c.index.result.now 0 (omega (arith, before.needs, c.requires.need)) in
-    let of_is : (get_or needs k n).of ≡ (demand_at p.demands k).of =
+    let of_is : (get_or needs k n).of ≡ (need_at p.needs k).of =
     ap (λ m. m.of) (sym c.index-needs-need.is) ∙ ap (λ d. d.of) (sym at) in
     let small : n.of < p.size = rw (← c.index-needs-need.is) at (c.needs.ensures.valid k n in_needs).of in
     rw (c.drop_candidate.ensures.living, c.drop_candidate.ensures.count, c.drop_candidate.ensures.room, read)

@@ -4,7 +4,7 @@ use Rattle.sqlite.specs.declared.error.ErrorCode.TheVariants.{OutOfMemory}
 use Rattle.store.specs.Calls.{calls_of, FailsToWrite}
 use Rattle.store.specs.Commits.{OnlyCommits}
 use Rattle.store.proofs.Committing.{told_failed, only_answered, only_failed, kept_failed}
-use Rattle.store.proofs.ViewLemmas.{leaves_either, leaves_changed, faulted_among}
+use Rattle.store.proofs.ViewLemmas.{leaves_either, leaves_changed, faulted_before}
 use Rattle.store.proofs.open.Store.commit.Goals as goal
 
 pub returns-in_err-commit_change-clause-crash : goal.returns-in_err-commit_change-clause-crash
@@ -42,9 +42,9 @@ returns-in_err-commit_change-clause-only g c =
     c.in_err-commit_change.was c.from_residual.ensures.1
     (subst (λ old. OnlyCommits s calls old now c.commit_change.result) c.self.view_is c.commit_change.ensures.only)
 
-pub returns-in_err-commit_change-clause-among : goal.returns-in_err-commit_change-clause-among
-returns-in_err-commit_change-clause-among g c clean failed =
-    faulted_among g.S.Store c.self.inside.conn c.args.self.now c.commit_change.new.conn c.args.change.now c.self.view_is
+pub returns-in_err-commit_change-clause-before : goal.returns-in_err-commit_change-clause-before
+returns-in_err-commit_change-clause-before g c clean failed =
+    faulted_before g.S.Store c.self.inside.conn c.args.self.now c.commit_change.new.conn c.args.change.now c.self.view_is
     c.commit_change.ensures.crash (c.if-prove.ensures.settled refl) clean
     (kept_failed c.from_residual.result _ failed ((returns-in_err-commit_change-clause-only g c).kept clean))
     (returns-in_err-commit_change-clause-cause g c clean failed)

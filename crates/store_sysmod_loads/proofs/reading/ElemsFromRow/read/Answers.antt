@@ -1,5 +1,5 @@
 use Rattle.std.proofs.Common.{◌≡◌, length, sym, ◌∙◌}
-use Rattle.sysmods_records.specs.Views.{action_of}
+use Rattle.sysmod.specs.Views.{action_of}
 use Rattle.store_sysmod_loads.proofs.CellLemmas.{whole_elem, fits_action}
 use Rattle.store_sysmod_loads.proofs.reading.ElemsFromRow.read.Goals as goal
 

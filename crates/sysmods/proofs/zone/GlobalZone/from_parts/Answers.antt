@@ -3,7 +3,7 @@ use Rattle.std.specs.Prelude.{All, IfSome}
 use Rattle.terms.specs.Types.{a_global}
 use Rattle.terms.specs.Global.{IsGlobal}
 use Rattle.terms.proofs.GlobalKept.{IsOwned}
-use Rattle.sysmods_received.specs.Held.{zone_of}
+use Rattle.sysmods.specs.Held.{zone_of}
 use Rattle.sysmods.proofs.Fronts.{global_holds}
 use Rattle.sysmods.proofs.zone.GlobalZone.from_parts.Goals as goal
 use Rattle.sysmods.proofs.zone.GlobalZone.from_parts.Goals.{In-Some-2}

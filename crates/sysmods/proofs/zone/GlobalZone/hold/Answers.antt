@@ -2,7 +2,7 @@ use Rattle.std.proofs.Common.{sym, subst}
 use Rattle.terms.specs.Types.{a_global}
 use Rattle.terms.specs.Global.{IsGlobal}
 use Rattle.terms.proofs.GlobalKept.{IsOwned, hold_kept}
-use Rattle.sysmods_holds.specs.Lists.{with_hold}
+use Rattle.sysmods.specs.Lists.{with_hold}
 use Rattle.sysmods.proofs.Kept.{kept_either}
 use Rattle.sysmods.proofs.zone.GlobalZone.hold.Goals as goal
 

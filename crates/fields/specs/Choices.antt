@@ -1,0 +1,15 @@
+-- What commands choose, as the definitions see it.
+use Rattle.terms.specs.Types as terms
+use Rattle.fields.specs.declared.bypass.Reasons.{Reasons}
+use Rattle.fields.specs.declared.bypass.Reasons.TheVariants.{None, Any, These}
+use Rattle.fields.specs.declared.choices.RestoreList.{RestoreList}
+use Rattle.fields.specs.declared.choices.RestoreList.TheVariants.{Select, Group}
+
+abbrev pub reasons_in : Reasons → terms.Reasons
+reasons_in None = terms.NoReason
+reasons_in Any = terms.AnyReason
+reasons_in (These reasons) = terms.TheseReasons reasons
+
+abbrev pub restore_list_of : RestoreList → terms.RestoreList
+restore_list_of (Select ids) = terms.RestoreSelect ids
+restore_list_of (Group ids) = terms.RestoreGroup ids

@@ -1,0 +1,47 @@
+//! How a file is laid out, and its code.
+use crate::tables::{IBM037, IBM1047};
+
+/// How a file is laid out.
+#[derive(Clone, Copy, Debug, PartialEq, Eq)]
+pub enum Form {
+    /// Lines, each with its end: a line feed, or a carriage return and a line feed; in EBCDIC X'15' or X'25' for the
+    /// line feed.
+    Text,
+    /// Records of 80 bytes.
+    Records,
+}
+
+/// The code of a file.
+#[derive(Clone, Copy, Debug, PartialEq, Eq)]
+pub enum Code {
+    Ascii,
+    Ibm1047,
+    Ibm037,
+}
+
+impl Code {
+    /// The byte in ASCII. What ASCII lacks becomes its byte in ISO 8859-1, and stays as it is in an ASCII file.
+    pub fn ascii(self, byte: u8) -> u8 {
+        match self {
+            Code::Ascii => byte,
+            Code::Ibm1047 => IBM1047[byte as usize],
+            Code::Ibm037 => IBM037[byte as usize],
+        }
+    }
+
+    /// Whether the byte ends a line.
+    pub(crate) fn ends_line(self, byte: u8) -> bool {
+        match self {
+            Code::Ascii => byte == b'\n',
+            Code::Ibm1047 | Code::Ibm037 => byte == 0x15 || byte == 0x25,
+        }
+    }
+
+    /// Its blank.
+    pub(crate) fn blank(self) -> u8 {
+        match self {
+            Code::Ascii => b' ',
+            Code::Ibm1047 | Code::Ibm037 => 0x40,
+        }
+    }
+}

@@ -1,0 +1,430 @@
+//! What becomes of a command: each of its words is spelled out, dropped or named.
+
+use crate::scan::{CommandEnd, WideCommand, words_in};
+use crate::told::{Told, Words};
+use crate::words::{Form, Known, Spelled, command_of, is_dropped, spelling_of};
+use fields::{Class, Id, Reason as HoldReason, Source, ZoneName};
+use intake_narrow::{Deed, Reason};
+use intake_wide::{Place, WideOperand};
+use std::alloc::{AllocError, Global};
+
+/// How many members a list may have.
+const MOST: usize = 1000;
+
+/// A command as it is written.
+#[derive(Drop)]
+pub(crate) struct Carried {
+    pub(crate) place: Place,
+    pub(crate) word: &'static [u8],
+    pub(crate) operands: Vec<CarriedOperand>,
+}
+
+/// An operand as it is written, or a member of BYPASS.
+#[derive(Drop)]
+pub(crate) struct CarriedOperand {
+    pub(crate) word: &'static [u8],
+    pub(crate) value: Value,
+}
+
+/// What stands behind the word of an operand.
+#[derive(Drop)]
+pub(crate) enum Value {
+    Nothing,
+    List(Vec<Vec<u8>>),
+    Members(Vec<CarriedMember>),
+}
+
+/// A member of BYPASS, with the reasons or classes that it names.
+#[derive(Drop)]
+pub(crate) struct CarriedMember {
+    pub(crate) word: &'static [u8],
+    pub(crate) listed: Option<Vec<Vec<u8>>>,
+}
+
+/// The command as it is written, where all of it can be said here. The error comes where memory runs out.
+pub(crate) fn carry_command(
+    alloc: Global,
+    told: &mut Told,
+    wide: &WideCommand,
+) -> Result<Option<Carried>, AllocError> {
+    let head = wide.head.name.as_slice();
+    if !is_whole(alloc, told, wide)? {
+        return Ok(None);
+    }
+    if is_dropped(head) {
+        tell_command(alloc, told, wide, Deed::Dropped, Reason::NoDecision)?;
+        return Ok(None);
+    }
+    let Some(command) = command_of(head) else {
+        tell_command(alloc, told, wide, Deed::Refused, Reason::NoCommand)?;
+        return Ok(None);
+    };
+    if wide.head.value.is_some() {
+        tell_command(alloc, told, wide, Deed::Refused, Reason::BadValue)?;
+    }
+    if wide.is_behind {
+        tell_command(alloc, told, wide, Deed::Carried, Reason::OwnCard)?;
+    }
+    let operands = carried_operands(alloc, told, &command, &wide.operands)?;
+    Ok(Some(Carried {
+        place: wide.place,
+        word: command.word,
+        operands,
+    }))
+}
+
+// Whether it has its period. What is said of the whole command is told.
+fn is_whole(alloc: Global, told: &mut Told, wide: &WideCommand) -> Result<bool, AllocError> {
+    if wide.has_lower_case {
+        tell_command(alloc, told, wide, Deed::Carried, Reason::LowerCase)?;
+    }
+    let reason = match wide.end {
+        CommandEnd::Period => return Ok(true),
+        CommandEnd::NoPeriod => Reason::NoPeriod,
+        CommandEnd::OpenParenthesis => Reason::OpenParenthesis,
+        CommandEnd::OpenComment => Reason::OpenComment,
+    };
+    tell_command(alloc, told, wide, Deed::Refused, reason)?;
+    Ok(false)
+}
+
+fn tell_command(
+    alloc: Global,
+    told: &mut Told,
+    wide: &WideCommand,
+    deed: Deed,
+    reason: Reason,
+) -> Result<(), AllocError> {
+    let words = Words {
+        command: wide.head.name.as_slice(),
+        operand: b"",
+        text: value_of(&wide.head),
+    };
+    told.tell(alloc, wide.place, words, deed, reason)
+}
+
+// What stands in the operand's parentheses, nothing where it has none.
+fn value_of(operand: &WideOperand) -> &[u8] {
+    match &operand.value {
+        Some(value) => value.as_slice(),
+        None => b"",
+    }
+}
+
+fn carried_operands(
+    alloc: Global,
+    told: &mut Told,
+    command: &Known,
+    operands: &[WideOperand],
+) -> Result<Vec<CarriedOperand>, AllocError> {
+    let mut carried: Vec<CarriedOperand> = Vec::new(alloc);
+    for operand in operands {
+        let asked = Asked { command, operand };
+        let Some(one) = carried_operand(alloc, told, &asked)? else {
+            continue;
+        };
+        if has_word(&carried, one.word) {
+            asked.refuse(alloc, told, b"", Reason::Twice)?;
+        } else {
+            carried.push(one)?;
+        }
+    }
+    with_group(alloc, told, command, operands, carried)
+}
+
+fn has_word(operands: &[CarriedOperand], word: &[u8]) -> bool {
+    operands.iter().any(|operand| operand.word == word)
+}
+
+/// An operand of a command.
+#[derive(Clone, Copy)]
+struct Asked<'a> {
+    command: &'a Known,
+    operand: &'a WideOperand,
+}
+
+impl Asked<'_> {
+    fn tell(
+        &self,
+        alloc: Global,
+        told: &mut Told,
+        text: &[u8],
+        deed: Deed,
+        reason: Reason,
+    ) -> Result<(), AllocError> {
+        let words = Words {
+            command: self.command.word,
+            operand: self.operand.name.as_slice(),
+            text,
+        };
+        told.tell(alloc, self.operand.place, words, deed, reason)
+    }
+
+    fn refuse(
+        &self,
+        alloc: Global,
+        told: &mut Told,
+        text: &[u8],
+        reason: Reason,
+    ) -> Result<(), AllocError> {
+        self.tell(alloc, told, text, Deed::Refused, reason)
+    }
+
+    // Tells that the word is an abbreviation, where it is one.
+    fn spell_out(
+        &self,
+        alloc: Global,
+        told: &mut Told,
+        word: &[u8],
+        full: &[u8],
+    ) -> Result<(), AllocError> {
+        if word == full {
+            return Ok(());
+        }
+        self.tell(alloc, told, full, Deed::Carried, Reason::SpelledOut)
+    }
+}
+
+// The operand, where it can be said here.
+fn carried_operand(
+    alloc: Global,
+    told: &mut Told,
+    asked: &Asked<'_>,
+) -> Result<Option<CarriedOperand>, AllocError> {
+    let operand = asked.operand;
+    let Some(known) = spelling_of(asked.command.operands, operand.name.as_slice()) else {
+        asked.refuse(alloc, told, value_of(operand), Reason::NoOperand)?;
+        return Ok(None);
+    };
+    if known.form == Form::Dropped {
+        asked.tell(
+            alloc,
+            told,
+            value_of(operand),
+            Deed::Dropped,
+            Reason::NoDecision,
+        )?;
+        return Ok(None);
+    }
+    asked.spell_out(alloc, told, known.word, known.full)?;
+    let Some(value) = carried_value(alloc, told, asked, &known)? else {
+        return Ok(None);
+    };
+    Ok(Some(CarriedOperand {
+        word: known.full,
+        value,
+    }))
+}
+
+// What stands behind the operand's word, where it can be said here.
+fn carried_value(
+    alloc: Global,
+    told: &mut Told,
+    asked: &Asked<'_>,
+    known: &Spelled,
+) -> Result<Option<Value>, AllocError> {
+    let Some(list) = &asked.operand.value else {
+        return match known.form {
+            Form::Flag | Form::Group => Ok(Some(Value::Nothing)),
+            _ => {
+                asked.refuse(alloc, told, b"", Reason::Missing)?;
+                Ok(None)
+            }
+        };
+    };
+    match known.form {
+        Form::Flag => {
+            asked.refuse(alloc, told, list.as_slice(), Reason::NoOperand)?;
+            Ok(None)
+        }
+        Form::Bypass | Form::ReceiveBypass => bypass(alloc, told, asked, list.as_slice()),
+        form => {
+            let members = listed(alloc, told, asked, form, list.as_slice())?;
+            Ok(Some(Value::List(members)))
+        }
+    }
+}
+
+// The members of a list, each once. One that has not its form is named.
+fn listed(
+    alloc: Global,
+    told: &mut Told,
+    asked: &Asked<'_>,
+    form: Form,
+    list: &[u8],
+) -> Result<Vec<Vec<u8>>, AllocError> {
+    let mut members: Vec<Vec<u8>> = Vec::new(alloc);
+    let mut is_empty = true;
+    for member in list.split(|b| *b == b' ' || *b == b',') {
+        if member.is_empty() {
+            continue;
+        }
+        is_empty = false;
+        if !has_form(form, member) {
+            asked.refuse(alloc, told, member, Reason::BadValue)?;
+        } else if members.iter().any(|other| other.as_slice() == member) {
+            asked.tell(alloc, told, member, Deed::Dropped, Reason::Twice)?;
+        } else {
+            members.push(Vec::from_slice(alloc, member)?)?;
+        }
+    }
+    if is_empty {
+        asked.refuse(alloc, told, b"", Reason::Missing)?;
+    }
+    if members.len() > MOST {
+        asked.refuse(alloc, told, b"", Reason::LongList)?;
+    }
+    if matches!(form, Form::Source | Form::Zone) && members.len() > 1 {
+        asked.refuse(alloc, told, list, Reason::BadValue)?;
+    }
+    Ok(members)
+}
+
+fn has_form(form: Form, member: &[u8]) -> bool {
+    match form {
+        Form::Ids | Form::Group => Id::read(member).is_some(),
+        Form::Sources | Form::Source => Source::read(member).is_some(),
+        Form::Zone => ZoneName::read(member).is_some(),
+        Form::Reasons => HoldReason::read(member).is_some(),
+        Form::Classes => Class::read(member).is_some(),
+        Form::Flag | Form::Bypass | Form::ReceiveBypass | Form::Dropped => false,
+    }
+}
+
+// The members of BYPASS. Where all of them are dropped, so is the operand.
+fn bypass(
+    alloc: Global,
+    told: &mut Told,
+    asked: &Asked<'_>,
+    list: &[u8],
+) -> Result<Option<Value>, AllocError> {
+    let mut members: Vec<CarriedMember> = Vec::new(alloc);
+    let words = words_in(alloc, list, asked.operand.place)?;
+    if words.is_empty() {
+        asked.refuse(alloc, told, list, Reason::Missing)?;
+    }
+    for word in &words {
+        let asked = Asked {
+            command: asked.command,
+            operand: word,
+        };
+        let Some(member) = carried_member(alloc, told, &asked)? else {
+            continue;
+        };
+        if members.iter().any(|other| other.word == member.word) {
+            asked.refuse(alloc, told, b"", Reason::Twice)?;
+        } else {
+            members.push(member)?;
+        }
+    }
+    if members.is_empty() {
+        return Ok(None);
+    }
+    Ok(Some(Value::Members(members)))
+}
+
+// The member of BYPASS, where it can be said here.
+fn carried_member(
+    alloc: Global,
+    told: &mut Told,
+    asked: &Asked<'_>,
+) -> Result<Option<CarriedMember>, AllocError> {
+    let member = asked.operand;
+    let Some(known) = spelling_of(asked.command.members, member.name.as_slice()) else {
+        asked.refuse(alloc, told, value_of(member), Reason::NoOperand)?;
+        return Ok(None);
+    };
+    if known.form == Form::Dropped {
+        asked.tell(
+            alloc,
+            told,
+            value_of(member),
+            Deed::Dropped,
+            Reason::NoDecision,
+        )?;
+        return Ok(None);
+    }
+    asked.spell_out(alloc, told, known.word, known.full)?;
+    let Some(list) = &member.value else {
+        if known.form == Form::Classes {
+            asked.refuse(alloc, told, b"", Reason::Missing)?;
+        }
+        return Ok(Some(CarriedMember {
+            word: known.full,
+            listed: None,
+        }));
+    };
+    if known.form == Form::Flag {
+        asked.refuse(alloc, told, list.as_slice(), Reason::BadValue)?;
+        return Ok(None);
+    }
+    let listed = listed(alloc, told, asked, known.form, list.as_slice())?;
+    Ok(Some(CarriedMember {
+        word: known.full,
+        listed: Some(listed),
+    }))
+}
+
+// The place of the operand of this word, as it is spelled here.
+fn place_of(operands: &[CarriedOperand], word: &[u8]) -> Option<usize> {
+    operands.iter().position(|operand| operand.word == word)
+}
+
+// GROUP that stands alone is said by GROUP with SELECT's ids, in place of SELECT, where nothing else is chosen.
+fn with_group(
+    alloc: Global,
+    told: &mut Told,
+    command: &Known,
+    operands: &[WideOperand],
+    mut carried: Vec<CarriedOperand>,
+) -> Result<Vec<CarriedOperand>, AllocError> {
+    let Some(group) = place_of(&carried, b"GROUP") else {
+        return Ok(carried);
+    };
+    if !stands_alone(&carried, group) {
+        return Ok(carried);
+    }
+    let Some(operand) = operands.iter().find(|operand| is_group(operand)) else {
+        return Ok(carried);
+    };
+    let asked = Asked { command, operand };
+    carried.retain(|operand| operand.word != b"GROUP".as_slice());
+    let Some(select) = place_of(&carried, b"SELECT") else {
+        asked.refuse(alloc, told, b"", Reason::NoOperand)?;
+        return Ok(carried);
+    };
+    if carried.iter().any(|operand| chooses(operand.word)) {
+        asked.refuse(alloc, told, b"", Reason::NoOperand)?;
+        return Ok(carried);
+    }
+    asked.tell(alloc, told, b"", Deed::Carried, Reason::GroupOfSelect)?;
+    if let Some(select) = carried.get_mut(select) {
+        select.word = b"GROUP";
+    }
+    Ok(carried)
+}
+
+fn is_group(operand: &WideOperand) -> bool {
+    let name = operand.name.as_slice();
+    name == b"GROUP".as_slice() || name == b"G".as_slice()
+}
+
+fn stands_alone(operands: &[CarriedOperand], place: usize) -> bool {
+    match operands.get(place) {
+        Some(operand) => matches!(operand.value, Value::Nothing),
+        None => false,
+    }
+}
+
+// Whether an operand of this word makes a mass choice.
+fn chooses(word: &[u8]) -> bool {
+    const CHOOSING: &[&[u8]] = &[
+        b"FUNCTIONS",
+        b"PTFS",
+        b"APARS",
+        b"USERMODS",
+        b"SOURCEID",
+        b"FORFMID",
+    ];
+    CHOOSING.iter().any(|other| *other == word)
+}

@@ -1,0 +1,14 @@
+//! A shop's command file as one that the program reads.
+//! Words that SMP/E abbreviates are spelled out, words that change no decision are dropped, each with a remark, and
+//! every other word that the profile lacks is named; then there is no file. Where there is one, `cntl` has read it.
+#![tactic(auto)]
+
+mod carry;
+mod file;
+mod print;
+mod scan;
+mod told;
+mod words;
+
+pub use file::{CommandFile, command_file};
+pub use scan::{CommandEnd, WideCommand, wide_commands};

@@ -1,0 +1,33 @@
+-- What is left in the folder.
+use Rattle.std.specs.Prelude.{◌≡◌, ◌⊎◌, ℕ, List, [], ◌∷◌, Option, Some, None, codes}
+use Rattle.std.specs.declared.io.Error.{Error}
+use Rattle.terms.specs.Types as terms
+use Rattle.terms.specs.Types.{Text}
+use Rattle.terms.specs.Ptfin.{IsPtfin}
+use Rattle.terms.specs.HoldFile.{IsHoldFile}
+use Rattle.terms.specs.Commands.{IsCommandFile}
+use Rattle.intake_command.specs.declared.host.Host.{Ghosts}
+
+module _ {H : Type 0} (host : Ghosts H) where
+  -- The folder has a PTFIN that is read as these items, a hold file that is read as these, and remarks.
+  abbrev pub KeepsService : H → Text → List terms.Item → List terms.HoldItem → H → Type 0
+  KeepsService h folder items holds after = (ptfin hold remarks : List ℕ) × IsPtfin ptfin items
+      × IsHoldFile hold holds
+      × host.keeps h folder ((codes "ptfin", Some ptfin) ∷ (codes "hold", Some hold)
+      ∷ (codes "remarks", Some remarks) ∷ []) after
+
+  -- The folder has a command file and remarks.
+  abbrev pub KeepsCommands : H → Text → H → Type 0
+  KeepsCommands h folder after = (cntl remarks : List ℕ) × (commands : List terms.Command)
+      × IsCommandFile cntl commands
+      × host.keeps h folder ((codes "cntl", Some cntl) ∷ (codes "remarks", Some remarks) ∷ []) after
+
+  -- The folder has remarks, and no command file.
+  abbrev pub KeepsRemarks : H → Text → H → Type 0
+  KeepsRemarks h folder after = (remarks : List ℕ)
+      × host.keeps h folder ((codes "cntl", None) ∷ (codes "remarks", Some remarks) ∷ []) after
+
+  -- Nothing was written.
+  abbrev pub KeepsNothing : H → Text → H → Type 0
+  KeepsNothing h folder after = (after ≡ h)
+      ⊎ ((files : List (Text × Option (List ℕ))) × (error : Error) × host.loses h folder files error after)

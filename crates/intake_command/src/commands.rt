@@ -1,0 +1,75 @@
+//! A command file.
+ghost use Rattle.std.specs.Prelude.{List, IfSome};
+ghost use Rattle.terms.specs.Types as terms;
+ghost use Rattle.terms.specs.Commands.{IsCommandFile};
+
+use crate::asked::Asked;
+use crate::fault::Fault;
+use crate::host::Host;
+use crate::keep::{keep_commands, keep_remarks};
+use crate::remarks::tell;
+use crate::sources::{Sources, cards_of, read};
+use crate::summary::{by_reason, print};
+use intake_cntl::command_file;
+use std::alloc::Global;
+
+/// The status where a command file has words that are not carried.
+const REFUSED_STATUS: u8 = 12;
+
+/// Puts the command file into the folder where all of it is carried, and the remarks in any case.
+pub(crate) fn serve_commands<H: Host>(
+    alloc: Global,
+    host: &mut H,
+    asked: &Asked,
+    name: &str,
+) -> Result<u8, Fault> {
+    let mut sources = Sources::new(alloc);
+    let mut remarks = Vec::new(alloc);
+    let bytes = read(alloc, host, name)?;
+    let cards = cards_of(
+        alloc,
+        &mut sources,
+        name,
+        &bytes,
+        asked.form,
+        asked.code,
+        &mut remarks,
+    )?;
+    let file = command_file(alloc, &cards)?;
+    if file.carried == 0 && file.others == 0 {
+        return Err(Fault::NoStatement);
+    }
+    tell(alloc, &sources, &file.remarks, &mut remarks)?;
+    let mut summary = Vec::new(alloc);
+    let carried = file.carried;
+    let others = file.others;
+    let line = format!(in alloc; "COMMAND {carried:>7} carried {others:>7} not\n")?;
+    summary.extend_from_slice(line.as_bytes())?;
+    by_reason(alloc, &file.remarks, &mut summary)?;
+    let folder = asked.out.as_str();
+    let status = keep(alloc, host, folder, file.bytes, remarks)?;
+    print(alloc, host, folder, &summary, &["cntl", "remarks"])?;
+    Ok(status)
+}
+
+// Puts the files into the folder, and answers the status.
+fn keep<H: Host>(
+    alloc: Global,
+    host: &mut H,
+    folder: &str,
+    bytes: Option<Vec<u8>>,
+    remarks: Vec<u8>,
+) -> Result<u8, Fault>
+    requires { IfSome bytes (λ bytes. (cs : List terms.Command) × IsCommandFile bytes.items cs) }
+{
+    match bytes {
+        Some(bytes) => {
+            keep_commands(alloc, host, folder, bytes, remarks)?;
+            Ok(0)
+        }
+        None => {
+            keep_remarks(alloc, host, folder, remarks)?;
+            Ok(REFUSED_STATUS)
+        }
+    }
+}

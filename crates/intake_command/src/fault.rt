@@ -1,0 +1,139 @@
+//! Why nothing is written.
+
+use crate::asked::WordsFault;
+use crate::sources::Sources;
+use intake_cards::CardError;
+use intake_wide::WideError;
+use std::alloc::{AllocError, AllocFailed, Global};
+
+/// Why a run ends without output.
+#[derive(Debug, Drop)]
+pub enum Fault {
+    Memory,
+    Words(WordsFault),
+    /// The name of a file that can't be read.
+    CannotRead(Vec<u8>),
+    /// The folder does not take the files.
+    CannotWrite,
+    /// Standard output takes nothing.
+    CannotPrint,
+    /// What of the file of that name can't be read as cards.
+    NoCards(Vec<u8>, CardError),
+    /// Statements that no SYSMOD can be left out for, each with its file and card.
+    Statements(Vec<Vec<u8>>),
+    /// No statement stands in any file.
+    NoStatement,
+    /// What was to be written to this file is not read as what was meant.
+    NotReadBack(&'static str),
+}
+
+impl From<AllocError> for Fault {
+    fn from(_error: AllocError) -> Fault {
+        Fault::Memory
+    }
+}
+
+impl<T: Drop> From<AllocFailed<T>> for Fault {
+    fn from(_error: AllocFailed<T>) -> Fault {
+        Fault::Memory
+    }
+}
+
+impl From<WordsFault> for Fault {
+    fn from(fault: WordsFault) -> Fault {
+        Fault::Words(fault)
+    }
+}
+
+impl Fault {
+    /// The fault of a file that is no cards.
+    pub(crate) fn of_cards(
+        alloc: Global,
+        name: &str,
+        error: CardError,
+    ) -> Result<Fault, AllocError> {
+        match error {
+            CardError::Memory => Ok(Fault::Memory),
+            other => Ok(Fault::NoCards(Vec::from_slice(alloc, name.as_bytes())?, other)),
+        }
+    }
+
+    /// The fault of a file with a statement that no SYSMOD can be left out for.
+    pub(crate) fn of_statement(
+        alloc: Global,
+        sources: &Sources,
+        error: WideError,
+    ) -> Result<Fault, AllocError> {
+        let place = match &error {
+            WideError::Memory => return Ok(Fault::Memory),
+            WideError::NoStatement { place } => *place,
+            WideError::OpenComment { place } => *place,
+            WideError::Statement { place, .. } => *place,
+        };
+        let name = sources.name(place.file);
+        let unit = sources.unit(place.file);
+        let card = place.card;
+        let mut line = format!(in alloc; "{name} {unit} {card}: ")?.into_bytes();
+        if let WideError::Statement { word, name, .. } = &error {
+            line.extend_from_slice(b"++")?;
+            line.extend_from_slice(word)?;
+            if !name.is_empty() {
+                line.extend_from_slice(b"(")?;
+                line.extend_from_slice(name)?;
+                line.extend_from_slice(b")")?;
+            }
+            line.extend_from_slice(b": ")?;
+        }
+        line.extend_from_slice(format!(in alloc; "{error}")?.as_bytes())?;
+        let mut lines = Vec::new(alloc);
+        lines.push(line)?;
+        Ok(Fault::Statements(lines))
+    }
+
+    /// The line that tells it. What `clap` says has none.
+    pub(crate) fn line(&self, alloc: Global, folder: &str) -> Result<Vec<u8>, AllocError> {
+        let mut line = Vec::from_slice(alloc, b"smpe-intake: ")?;
+        match self {
+            Fault::Memory | Fault::Words(WordsFault::Memory) => line.extend_from_slice(
+                b"out of memory",
+            )?,
+            Fault::Words(WordsFault::Clap(_)) => return Ok(Vec::new(alloc)),
+            Fault::Words(WordsFault::NoText) => line.extend_from_slice(b"bad operand: no UTF-8")?,
+            Fault::Words(WordsFault::Syslib) => {
+                line.extend_from_slice(b"bad operand: --syslib takes DISTLIB=SYSLIB")?
+            }
+            Fault::CannotRead(name) => {
+                line.extend_from_slice(b"cannot read ")?;
+                line.extend_from_slice(name)?;
+            }
+            Fault::CannotWrite => {
+                line.extend_from_slice(b"cannot write into ")?;
+                line.extend_from_slice(folder.as_bytes())?;
+            }
+            Fault::CannotPrint => line.extend_from_slice(b"write")?,
+            Fault::NoCards(name, error) => {
+                line.extend_from_slice(name)?;
+                line.extend_from_slice(b": ")?;
+                line.extend_from_slice(format!(in alloc; "{error}")?.as_bytes())?;
+            }
+            Fault::Statements(texts) => {
+                let mut is_first = true;
+                for text in texts {
+                    if !is_first {
+                        line.extend_from_slice(b"\nsmpe-intake: ")?;
+                    }
+                    is_first = false;
+                    line.extend_from_slice(text)?;
+                }
+            }
+            Fault::NoStatement => line.extend_from_slice(b"no statement found")?,
+            Fault::NotReadBack(name) => {
+                line.extend_from_slice(b"what was made for ")?;
+                line.extend_from_slice(name.as_bytes())?;
+                line.extend_from_slice(b" is not read as it was meant; nothing is written")?;
+            }
+        }
+        line.push(b'\n')?;
+        Ok(line)
+    }
+}

@@ -1,0 +1,25 @@
+//! What `smpe-intake` makes of its command line.
+//! `command` reads the words, then the files, and puts into the folder what RECEIVE takes of them, or a command file,
+//! with the remarks beside it. What it puts there has been read back: `keep_service` says that PTFIN and the hold file
+//! are read as just the items that were meant, or that nothing was written.
+#![tactic(auto)]
+
+mod asked;
+mod commands;
+mod fault;
+mod files;
+mod host;
+mod keep;
+mod members;
+mod program;
+mod remarks;
+mod service;
+mod sources;
+mod summary;
+
+pub use asked::{Asked, WordsFault};
+pub use fault::Fault;
+pub use files::Named;
+pub use host::Host;
+pub use keep::{keep_commands, keep_remarks, keep_service};
+pub use program::command;

@@ -1,0 +1,29 @@
+-- Some item of a list that grows or is put in another order.
+use Rattle.std.proofs.Common.{◌≡◌, ℕ, List, ◌++◌, Some, IsPermutation, Contains, slice_get, sym, ap, ◌∙◌}
+use Rattle.std.specs.List.{All, Any}
+use Rattle.std.proofs.lemmas.List.Elements.{Contains-append_right, All-contains}
+use Rattle.std.proofs.lemmas.List.Sorted.{Contains-permutation, IsPermutation-sym}
+use Rattle.std.proofs.lemmas.Option.{slice_get_within, get_or_from_slice_get}
+use Rattle.lemmas.proofs.Each.{any_in, in_any, All_from_each}
+use Rattle.lemmas.proofs.Places.{at_place}
+
+pub Any_append_right : {X : Type 0} (P : X → Type 0) (xs ys : List X) → Any P ys → Any P (xs ++ ys)
+Any_append_right P xs ys any =
+    let m = in_any P ys any in any_in P (xs ++ ys) m.0 (Contains-append_right xs ys m.0 m.1) m.2
+
+pub Any_permuted : {X : Type 0} (P : X → Type 0) (xs ys : List X) → IsPermutation xs ys → Any P xs → Any P ys
+Any_permuted P xs ys same any =
+    let m = in_any P xs any in any_in P ys m.0 (Contains-permutation xs ys m.0 same m.1) m.2
+
+pub All_permuted : {X : Type 0} (P : X → Type 0) (xs ys : List X) → IsPermutation xs ys → All P xs → All P ys
+All_permuted P xs ys same all =
+    All_from_each P ys (λ x h. All-contains P xs x all (Contains-permutation ys xs x (IsPermutation-sym xs ys same) h))
+
+pub contains_at : {X : Type 0} (xs : List X) (n : ℕ) (x : X) → slice_get xs n ≡ Some x → Contains xs x
+contains_at xs n x e = (n, slice_get_within xs n x e, get_or_from_slice_get xs n x x e)
+
+pub stands_at : {X : Type 0} (xs : List X) (x : X) (h : Contains xs x) → slice_get xs h.0 ≡ Some x
+stands_at xs x h =
+    let p = at_place xs h.0 h.1 in
+    let same : p.0 ≡ x = sym (get_or_from_slice_get xs h.0 p.0 x p.1) ∙ h.2 in
+    p.1 ∙ ap (λ t. Some t) same

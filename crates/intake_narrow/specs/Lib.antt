@@ -1,0 +1,4 @@
+pub mod Stated
+pub mod NoLooser
+pub mod Holds
+pub mod Gathered

@@ -1,0 +1,14 @@
+-- The texts of a file's statements, as bytes.
+use Rattle.std.specs.Prelude.{◌↔◌, ℕ, List, map, Option, option_map, Contains, Vec}
+use Rattle.std.specs.declared.alloc.Global.{Global}
+use Rattle.terms.specs.Types.{Text, Id}
+
+abbrev pub texts : List (Vec ℕ Global) → List Text
+texts stated = map (λ t. t.items) stated
+
+abbrev pub text_in : Option (Vec ℕ Global) → Option Text
+text_in stated = option_map (λ t. t.items) stated
+
+-- the same ids, in whatever order
+abbrev pub AreSame : List (Vec ℕ Global) → List Id → Type 0
+AreSame stated ids = (x : Id) → Contains (texts stated) x ↔ Contains ids x

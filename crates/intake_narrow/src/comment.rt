@@ -1,0 +1,110 @@
+//! COMMENT of a hold.
+
+use crate::remark::{Deed, Reason};
+use crate::remarks::{Remarks, Subject};
+use intake_print::laid_out;
+use std::alloc::{AllocError, Global};
+
+/// The most characters that a COMMENT may have.
+const LONGEST: usize = 200;
+
+/// What stands for a character of a COMMENT.
+fn carried(byte: u8) -> u8 {
+    match byte {
+        b'(' => b'[',
+        b')' => b']',
+        0x20..=0x7e => byte,
+        _ => b'?',
+    }
+}
+
+fn is_parenthesis(byte: u8) -> bool {
+    byte == b'(' || byte == b')'
+}
+
+/// Without the blanks at its end.
+pub(crate) fn without_blanks(text: &[u8]) -> &[u8] {
+    let blanks = text.iter().rev().take_while(|b| **b == b' ').count();
+    match text.split_at_checked(text.len().saturating_sub(blanks)) {
+        Some((front, _)) => front,
+        None => text,
+    }
+}
+
+/// The first 200 characters.
+fn cut(text: &[u8]) -> &[u8] {
+    match text.split_at_checked(LONGEST) {
+        Some((front, _)) => without_blanks(front),
+        None => text,
+    }
+}
+
+/// The text as it is carried, or nothing where none is left. How it differs is told, with the whole text.
+pub(crate) fn comment_of(
+    alloc: Global,
+    remarks: &mut Remarks,
+    subject: &Subject<'_>,
+    stated: &Option<Vec<u8>>,
+) -> Result<Option<String>, AllocError> {
+    let Some(stated) = stated else {
+        return Ok(None);
+    };
+    let text = stated.as_slice();
+    let mut changed = Vec::with_capacity(alloc, text.len())?;
+    for byte in text {
+        changed.push(carried(*byte))?;
+    }
+    let laid = laid_out(alloc, changed.as_slice())?;
+    let short = cut(laid.as_slice());
+    tell(
+        alloc,
+        remarks,
+        subject,
+        text,
+        changed.as_slice(),
+        laid.as_slice(),
+    )?;
+    if short.is_empty() {
+        remarks.tell(
+            alloc,
+            subject,
+            b"COMMENT",
+            Deed::Dropped,
+            Reason::BadValue,
+            b"",
+        )?;
+        return Ok(None);
+    }
+    match String::from_utf8(Vec::from_slice(alloc, short)?) {
+        Ok(comment) => Ok(Some(comment)),
+        Err(_) => Ok(None),
+    }
+}
+
+/// Tells how a COMMENT differs; the first remark has its text.
+fn tell(
+    alloc: Global,
+    remarks: &mut Remarks,
+    subject: &Subject<'_>,
+    stated: &[u8],
+    changed: &[u8],
+    laid: &[u8],
+) -> Result<(), AllocError> {
+    let cases = [
+        (laid.len() > LONGEST, Reason::CutComment),
+        (stated.iter().any(|b| is_parenthesis(*b)), Reason::Brackets),
+        (
+            stated.iter().any(|b| !(0x20..=0x7e).contains(b)),
+            Reason::Unprintable,
+        ),
+        (laid != changed, Reason::Blanks),
+    ];
+    let mut text = stated;
+    for (applies, reason) in cases {
+        if applies {
+            remarks.tell(alloc, subject, b"COMMENT", Deed::Carried, reason, text)?;
+            text = b"";
+        }
+    }
+    Ok(())
+}

@@ -1,0 +1,215 @@
+//! Files as cards: lines and records, the codes, and what no card should have.
+
+use intake_cards::{CardError, CardOddity, Cards, Code, Form, Place, Tail, read_cards};
+use std::alloc::{AllocError, Global};
+use std::test::Fail;
+
+/// `++PTF(UA00001).` in EBCDIC.
+const PTF: &[u8] = b"\x4E\x4E\xD7\xE3\xC6\x4D\xE4\xC1\xF0\xF0\xF0\xF0\xF1\x5D\x4B";
+
+/// `SET BDY(A$#@).` in EBCDIC.
+const SET: &[u8] = b"\xE2\xC5\xE3\x40\xC2\xC4\xE8\x4D\xC1\x5B\x7B\x7C\x5D\x4B";
+
+/// A card with this text at its beginning.
+fn card_text(text: &[u8]) -> [u8; 80] {
+    let mut card = [b' '; 80];
+    for (column, byte) in card.iter_mut().zip(text) {
+        *column = *byte;
+    }
+    card
+}
+
+/// The texts of cards, one behind the other.
+fn texts(alloc: Global, cards: &Cards) -> Result<Vec<u8>, AllocError> {
+    let mut all = Vec::new(alloc);
+    for card in cards.cards.as_slice() {
+        all.extend_from_slice(&card.text)?;
+    }
+    Ok(all)
+}
+
+/// Records with these texts.
+fn wanted(alloc: Global, lines: &[&[u8]]) -> Result<Vec<u8>, AllocError> {
+    let mut all = Vec::new(alloc);
+    for line in lines {
+        all.extend_from_slice(&card_text(line))?;
+    }
+    Ok(all)
+}
+
+/// A record of EBCDIC with this text at its beginning.
+fn ebcdic_record(text: &[u8]) -> [u8; 80] {
+    let mut record = [0x40; 80];
+    for (column, byte) in record.iter_mut().zip(text) {
+        *column = *byte;
+    }
+    record
+}
+
+#[test]
+fn lines_and_their_ends(rt: HostRuntime) -> Result<(), Fail> {
+    let wanted = wanted(rt.alloc(), &[b"++PTF(UA00001).", b"", b" /*X*/"])?;
+    let files: [&[u8]; 3] = [
+        b"++PTF(UA00001).\n\n /*X*/\n",
+        b"++PTF(UA00001).\r\n\r\n /*X*/\r\n",
+        b"++PTF(UA00001).\n\n /*X*/",
+    ];
+    for file in files {
+        let cards = read_cards(rt.alloc(), 3, file, None, None)?;
+        assert_eq!(rt; (cards.form, cards.code), (Form::Text, Code::Ascii));
+        assert_eq!(rt; texts(rt.alloc(), &cards)?.as_slice(), wanted.as_slice());
+        let last = cards.cards.last().ok_or("no card")?;
+        assert_eq!(rt; last.place, Place { file: 3, card: 3 });
+        assert!(rt; cards.notes.is_empty());
+    }
+    Ok(())
+}
+
+#[test]
+fn records_are_told(rt: HostRuntime) -> Result<(), Fail> {
+    let wanted = wanted(rt.alloc(), &[b"++PTF(UA00001).", b"++VER(Z038)."])?;
+    let cards = read_cards(rt.alloc(), 0, wanted.as_slice(), None, None)?;
+    assert_eq!(rt; (cards.form, cards.code), (Form::Records, Code::Ascii));
+    assert_eq!(rt; texts(rt.alloc(), &cards)?.as_slice(), wanted.as_slice());
+    let none = read_cards(rt.alloc(), 0, b"", None, None)?;
+    assert!(rt; none.cards.is_empty());
+    Ok(())
+}
+
+#[test]
+fn ebcdic_is_told(rt: HostRuntime) -> Result<(), Fail> {
+    let mut records = Vec::new(rt.alloc());
+    records.extend_from_slice(&ebcdic_record(PTF))?;
+    records.extend_from_slice(&ebcdic_record(SET))?;
+    records.extend_from_slice(&[0x00, 0x15, 0x25, 0x0A].repeat(rt.alloc(), 20)?)?;
+    let cards = read_cards(rt.alloc(), 0, records.as_slice(), None, None)?;
+    assert_eq!(rt;
+        (cards.form, cards.code, cards.cards.len()),
+        (Form::Records, Code::Ibm1047, 3)
+    );
+    let first = cards.cards.first().ok_or("no card")?;
+    assert_eq!(rt;
+        first.text.as_slice(),
+        card_text(b"++PTF(UA00001).").as_slice()
+    );
+    let mut lines = Vec::new(rt.alloc());
+    lines.extend_from_slice(SET)?;
+    lines.extend_from_slice(b"\x15")?;
+    lines.extend_from_slice(SET)?;
+    lines.extend_from_slice(b"\x0D\x25")?;
+    let cards = read_cards(rt.alloc(), 0, lines.as_slice(), None, None)?;
+    assert_eq!(rt; (cards.form, cards.code), (Form::Text, Code::Ibm1047));
+    let wanted = wanted(rt.alloc(), &[b"SET BDY(A$#@).", b"SET BDY(A$#@)."])?;
+    assert_eq!(rt; texts(rt.alloc(), &cards)?.as_slice(), wanted.as_slice());
+    Ok(())
+}
+
+#[test]
+fn code_that_is_asked_for(rt: HostRuntime) -> Result<(), Fail> {
+    let brackets = b"\xAD\xBD\x5F\xBA\xBB\xB0\x15";
+    let open = read_cards(
+        rt.alloc(),
+        0,
+        brackets,
+        Some(Form::Text),
+        Some(Code::Ibm1047),
+    )?;
+    let wanted_open = wanted(rt.alloc(), &[b"[]^\xDD\xA8\xAC"])?;
+    assert_eq!(rt;
+        texts(rt.alloc(), &open)?.as_slice(),
+        wanted_open.as_slice()
+    );
+    let data_set = read_cards(
+        rt.alloc(),
+        0,
+        brackets,
+        Some(Form::Text),
+        Some(Code::Ibm037),
+    )?;
+    let wanted_data_set = wanted(rt.alloc(), &[b"\xDD\xA8\xAC[]^"])?;
+    assert_eq!(rt;
+        texts(rt.alloc(), &data_set)?.as_slice(),
+        wanted_data_set.as_slice()
+    );
+    Ok(())
+}
+
+/// A line of so many of this byte.
+fn line_of(alloc: Global, byte: u8, len: usize, tail: &[u8]) -> Result<Vec<u8>, AllocError> {
+    let mut line = Vec::new(alloc);
+    for _ in 0..len {
+        line.push(byte)?;
+    }
+    line.extend_from_slice(tail)?;
+    Ok(line)
+}
+
+#[test]
+fn long_lines(rt: HostRuntime) -> Result<(), Fail> {
+    let whole = line_of(rt.alloc(), b'A', 80, b"\nB\n")?;
+    assert_eq!(rt;
+        read_cards(rt.alloc(), 0, whole.as_slice(), None, None)?
+            .cards
+            .len(),
+        2
+    );
+    let long = line_of(rt.alloc(), b'A', 81, b"\nB\n")?;
+    let refused = read_cards(rt.alloc(), 0, long.as_slice(), None, None).err();
+    assert_eq!(rt; refused, Some(CardError::LongLine { card: 1 }));
+    let blanks = line_of(rt.alloc(), b' ', 90, b"\n A\n")?;
+    let cards = read_cards(rt.alloc(), 0, blanks.as_slice(), None, None)?;
+    let note = cards.notes.first().ok_or("no note")?;
+    assert_eq!(rt;
+        (note.oddity, note.first.card, note.cards),
+        (CardOddity::BlanksBehind80, 1, 1)
+    );
+    let short = line_of(rt.alloc(), b'A', 163, b"")?;
+    let refused = read_cards(rt.alloc(), 0, short.as_slice(), Some(Form::Records), None).err();
+    assert_eq!(rt; refused, Some(CardError::ShortRecord { bytes: 3 }));
+    Ok(())
+}
+
+#[test]
+fn odd_characters_are_noted(rt: HostRuntime) -> Result<(), Fail> {
+    let bytes = b"\xEF\xBB\xBF++PTF(UA00001).\n\tX\n\x00\t\n\xC3\x9C\n";
+    let cards = read_cards(rt.alloc(), 0, bytes, None, None)?;
+    let mut found = Vec::new(rt.alloc());
+    for note in cards.notes.as_slice() {
+        found.push((note.oddity, note.first.card, note.cards))?;
+    }
+    let wanted = [
+        (CardOddity::ByteOrderMark, 1, 1),
+        (CardOddity::Tab, 2, 2),
+        (CardOddity::NotPrintable, 3, 2),
+    ];
+    assert_eq!(rt; found.as_slice(), wanted.as_slice());
+    let wanted_texts = wanted_texts(rt.alloc())?;
+    assert_eq!(rt;
+        texts(rt.alloc(), &cards)?.as_slice(),
+        wanted_texts.as_slice()
+    );
+    Ok(())
+}
+
+fn wanted_texts(alloc: Global) -> Result<Vec<u8>, AllocError> {
+    wanted(alloc, &[b"++PTF(UA00001).", b"\tX", b"\x00\t", b"\xC3\x9C"])
+}
+
+#[test]
+fn tails(rt: HostRuntime) -> Result<(), Fail> {
+    let mut numbered = line_of(rt.alloc(), b' ', 72, b"00000100\n")?;
+    numbered.extend_from_slice(line_of(rt.alloc(), b' ', 72, b"  UA1 10\n")?.as_slice())?;
+    numbered.extend_from_slice(line_of(rt.alloc(), b'A', 72, b"\n")?.as_slice())?;
+    let cards = read_cards(rt.alloc(), 0, numbered.as_slice(), None, None)?;
+    let mut found = Vec::new(rt.alloc());
+    for card in cards.cards.as_slice() {
+        found.push((card.tail(), card.is_blank()))?;
+    }
+    let wanted = [
+        (Tail::Number, true),
+        (Tail::Other, true),
+        (Tail::Blank, false),
+    ];
+    assert_eq!(rt; found.as_slice(), wanted.as_slice());
+    Ok(())
+}

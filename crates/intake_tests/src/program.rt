@@ -1,0 +1,203 @@
+//! The program over files in memory: statuses, what is left in the folder, and what is told on standard error.
+
+use fields::{Id, Reason};
+use intake_command::{Fault, Host, Named, command, keep_service};
+use mcs::HoldItem;
+use std::alloc::Global;
+use std::io::{Error, ErrorKind};
+use std::test::Fail;
+use std::{io, str};
+use sysmod::Hold;
+use terms::HoldKind;
+
+/// The files that can be read.
+const FILES: &[(&str, &[u8])] = &[
+    ("empty", b""),
+    ("ptf", b"++PTF(UA00001).\n++VER(Z038) FMID(HAA1100).\n"),
+    (
+        "mod",
+        b"++PTF(UA00002).\n++VER(Z038) FMID(HAA1100).\n++MOD(M2) DISTLIB(AMOD).\n",
+    ),
+    (
+        "hold",
+        b"++HOLD(UA00001) ERROR FMID(HAA1100) REASON(AA00001).\n",
+    ),
+    ("bad", b"++HOLD(UA1) ERROR FMID(HAA1100) REASON(AA00001).\n"),
+    ("cntl", b" SET BOUNDARY(TGT1).\n"),
+    ("rc", b" APPLY PTFS RC(APPLY=8).\n"),
+];
+
+/// The words behind the program's name, with blanks between; the status; what is left in the folder, each name with a
+/// blank behind it; what is told.
+const CASES: &[(&str, u8, &str, &str)] = &[
+    ("--out d ptf", 0, "ptfin hold remarks ", ""),
+    ("--out d ptf hold", 0, "ptfin hold remarks ", ""),
+    ("--out d mod", 4, "ptfin hold remarks ", ""),
+    ("--out d --decide mod", 0, "ptfin hold remarks ", ""),
+    ("--out d --cntl cntl", 0, "cntl remarks ", ""),
+    ("--out d --cntl rc", 12, "remarks ", ""),
+    ("--out d empty", 16, "", "smpe-intake: no statement found\n"),
+    (
+        "--out d ptf none",
+        16,
+        "",
+        "smpe-intake: cannot read none\n",
+    ),
+    (
+        "--out full ptf",
+        16,
+        "",
+        "smpe-intake: cannot write into full\n",
+    ),
+    (
+        "--out d --syslib A=2 ptf",
+        16,
+        "",
+        "smpe-intake: bad operand: --syslib takes DISTLIB=SYSLIB\n",
+    ),
+    (
+        "--out d bad",
+        16,
+        "",
+        "smpe-intake: bad line 1: ++HOLD(UA1): refused: a bad id\n",
+    ),
+    ("--help", 0, "", ""),
+    ("--version", 0, "", ""),
+    ("ptf", 16, "", "shown"),
+    ("--out d --text --records ptf", 16, "", "shown"),
+    ("--out d --cntl cntl ptf", 16, "", "shown"),
+];
+
+/// Surroundings in memory.
+#[derive(Drop)]
+struct Memory {
+    alloc: Global,
+    left: Vec<u8>,
+    told: Vec<u8>,
+}
+
+impl Memory {
+    fn new(alloc: Global) -> Memory {
+        Memory {
+            alloc,
+            left: Vec::new(alloc),
+            told: Vec::new(alloc),
+        }
+    }
+}
+
+impl Host for Memory {
+    ghost gives = { λ _ _ _ _. Unit {0} };
+
+    ghost withholds = { λ _ _ _ _. Unit {0} };
+
+    ghost keeps = { λ _ _ _ _. Unit {0} };
+
+    ghost loses = { λ _ _ _ _ _. Unit {0} };
+
+    fn read(&mut self, name: &str) -> io::Result<Vec<u8>> {
+        for (known, bytes) in FILES {
+            if *known == name {
+                return Ok(Vec::from_slice(self.alloc, *bytes)?);
+            }
+        }
+        Err(Error::from(ErrorKind::NotFound))
+    }
+
+    fn keep(&mut self, folder: &str, files: &[Named]) -> io::Result<()> {
+        if folder == "full" {
+            return Err(Error::from(ErrorKind::StorageFull));
+        }
+        for file in files {
+            if file.bytes.is_some() {
+                self.left.extend_from_slice(file.name.as_bytes())?;
+                self.left.push(b' ')?;
+            }
+        }
+        Ok(())
+    }
+
+    fn print(&mut self, _text: &[u8]) -> io::Result<()> {
+        Ok(())
+    }
+
+    fn tell(&mut self, text: &[u8]) {
+        let _ = self.told.extend_from_slice(text);
+    }
+
+    fn show(&mut self, error: &clap::Error) -> io::Result<()> {
+        if error.use_stderr() {
+            self.told.extend_from_slice(b"shown")?;
+        }
+        Ok(())
+    }
+}
+
+fn words(alloc: Global, line: &str) -> Result<Vec<Vec<u8>>, Fail> {
+    let mut words = Vec::new(alloc);
+    words.push(Vec::from_slice(alloc, b"smpe-intake")?)?;
+    for word in line.as_bytes().split(|b| *b == b' ') {
+        words.push(Vec::from_slice(alloc, word)?)?;
+    }
+    Ok(words)
+}
+
+#[test]
+fn answers_its_status(rt: HostRuntime) -> Result<(), Fail> {
+    let alloc = rt.alloc();
+    for (line, wanted, left, told) in CASES {
+        let mut memory = Memory::new(alloc);
+        let status = command(alloc, &mut memory, &Ok(words(alloc, line)?));
+        assert_eq!(rt; status, *wanted, "at {line}");
+        assert_eq!(rt;
+            str::from_utf8(&memory.left).unwrap_or("?"),
+            *left,
+            "at {line}"
+        );
+        assert_eq!(rt;
+            str::from_utf8(&memory.told).unwrap_or("?"),
+            *told,
+            "at {line}"
+        );
+    }
+    Ok(())
+}
+
+// A hold with this comment, which cards may not be able to say.
+fn held(alloc: Global, comment: &str) -> Result<Vec<HoldItem>, Fail> {
+    let mut holds = Vec::new(alloc);
+    holds.push(HoldItem::Hold(Hold {
+        id: Id::read(b"UA00001").ok_or("id")?,
+        kind: HoldKind::System,
+        reason: Reason::read(b"DOC").ok_or("reason")?,
+        fmid: Id::read(b"HAA1100").ok_or("fmid")?,
+        class: None,
+        date: None,
+        comment: Some(String::from_str(alloc, comment)?),
+        internal: false,
+    }))?;
+    Ok(holds)
+}
+
+#[test]
+fn writes_nothing_that_is_not_read_back(rt: HostRuntime) -> Result<(), Fail> {
+    let alloc = rt.alloc();
+    for (comment, is_kept) in [
+        ("READ IT", true),
+        ("READ (IT", false),
+        ("READ ((IT))", false),
+        ("", false),
+    ] {
+        let mut memory = Memory::new(alloc);
+        let holds = held(alloc, comment)?;
+        let kept = keep_service(alloc, &mut memory, "d", &[], &holds, Vec::new(alloc));
+        assert_eq!(rt; kept.is_ok(), is_kept, "at {comment}");
+        assert_eq!(rt;
+            matches!(kept, Err(Fault::NotReadBack(_))),
+            !is_kept,
+            "at {comment}"
+        );
+        assert_eq!(rt; memory.left.is_empty(), !is_kept, "at {comment}");
+    }
+    Ok(())
+}

@@ -1,0 +1,130 @@
+//! A service file whose statements are split over cards in every way, with a comment at every place, and cut behind each
+//! byte.
+
+use crate::wide_spelled::{Spelled, items};
+use std::alloc::{AllocError, Global};
+use std::test::Fail;
+
+/// No line has more than 66 columns, so that six more fit.
+const SERVICE: &[u8] = b"++PTF(UA00001) REWORK(2024138) DESC(FIRST FIX).
+++VER(Z038,P115) FMID(HAA1100) PRE(UA00002,UA00003)
+ SUP(AA11111).
+++IF FMID(HBB1100) THEN REQ(UB00001).
+++HOLD(UA00001) SYS FMID(HAA1100) REASON(ACTION) DATE(24138).
+++MOD(M1) DISTLIB(AOS1) RELFILE(2).
+++FUNCTION(HBB1100).
+++VER(Z038) DELETE(HAA1100).
+++ASSIGN SOURCEID(RSU2405) TO(UA00001,UA00002).
+++RELEASE(UA00009) ERR FMID(HAA1100) REASON(AA00001).
+";
+
+const ITEMS: &[u8] = b"; PTF UA00001 -REWORK(2024138) -DESC(FIRST FIX)\
+    ; VER SREL Z038 P115 FMID(HAA1100) PRE UA00002 UA00003 SUP AA11111\
+    ; IF FMID(HBB1100) THEN REQ UB00001\
+    ; HOLD UA00001 SYSTEM REASON(ACTION) FMID(HAA1100) DATE(24138)\
+    ; MOD M1 DISTLIB(AOS1) RELFILE(2) +0\
+    ; FUNCTION HBB1100; VER SREL Z038 DELETE HAA1100\
+    ; RELEASE UA00009 ERROR REASON(AA00001) FMID(HAA1100)\
+    ; ASSIGN SOURCEID(RSU2405) TO UA00001 UA00002";
+
+fn is_part_of_word(byte: u8) -> bool {
+    byte.is_ascii_alphanumeric() || byte == b'+'
+}
+
+/// Whether the text may be split there: not inside a word.
+fn is_gap(text: &[u8], at: usize) -> bool {
+    let (front, back) = text.split_at(at.min(text.len()));
+    match (front.last(), back.first()) {
+        (Some(before), Some(behind)) => !(is_part_of_word(*before) && is_part_of_word(*behind)),
+        _ => true,
+    }
+}
+
+/// The text with some more in it.
+fn with_inserted(
+    alloc: Global,
+    text: &[u8],
+    at: usize,
+    more: &[u8],
+) -> Result<Vec<u8>, AllocError> {
+    let (front, back) = text.split_at(at.min(text.len()));
+    let mut whole = Vec::new(alloc);
+    whole.extend_from_slice(front)?;
+    whole.extend_from_slice(more)?;
+    whole.extend_from_slice(back)?;
+    Ok(whole)
+}
+
+/// Whether a statement begins there.
+fn is_beginning(text: &[u8], at: usize) -> bool {
+    let (_, back) = text.split_at(at.min(text.len()));
+    back.starts_with(b"++")
+}
+
+/// The first place where the service file reads otherwise with this inserted, and what it reads then. What is no whole
+/// line is not inserted before a statement, and a comment not in the text of DESC.
+fn first_other(
+    alloc: Global,
+    more: &[u8],
+    is_comment: bool,
+) -> Result<Option<(usize, Spelled)>, AllocError> {
+    for at in 0..SERVICE.len() + 1 {
+        let in_text = is_comment && 36 <= at && at < 46;
+        let moves = is_beginning(SERVICE, at) && more.last() != Some(&b'\n');
+        if is_gap(SERVICE, at) && !in_text && !moves {
+            let bytes = with_inserted(alloc, SERVICE, at, more)?;
+            let found = items(alloc, bytes.as_slice())?;
+            if found.text.as_slice() != ITEMS {
+                return Ok(Some((at, found)));
+            }
+        }
+    }
+    Ok(None)
+}
+
+/// Where it reads otherwise, and what is read there.
+fn told(found: &Option<(usize, Spelled)>) -> (usize, &str) {
+    match found {
+        Some((at, spelled)) => (*at, spelled.as_text()),
+        None => (0, "all alike"),
+    }
+}
+
+#[test]
+fn split_everywhere(rt: HostRuntime) -> Result<(), Fail> {
+    let lines: [&[u8]; 3] = [b"\n", b"  \n\n", b" \n   "];
+    for more in lines {
+        let found = first_other(rt.alloc(), more, false)?;
+        assert_eq!(rt; told(&found), (0, "all alike"));
+    }
+    Ok(())
+}
+
+#[test]
+fn comment_everywhere(rt: HostRuntime) -> Result<(), Fail> {
+    let comments: [&[u8]; 3] = [
+        b"/*.(*/",
+        b"\n/* ONE CARD. */\n",
+        b"\n /* ONE. (\n++PTF(NO00001).\n ** / */\n",
+    ];
+    for more in comments {
+        let found = first_other(rt.alloc(), more, true)?;
+        assert_eq!(rt; told(&found), (0, "all alike"));
+    }
+    Ok(())
+}
+
+#[test]
+fn cut_is_not_whole(rt: HostRuntime) -> Result<(), Fail> {
+    for len in 0..SERVICE.len() {
+        let (front, _) = SERVICE.split_at(len);
+        let found = items(rt.alloc(), front)?;
+        let is_whole = found.text.as_slice() == ITEMS;
+        assert_eq!(rt;
+            is_whole,
+            len == SERVICE.len() - 1,
+            "cut behind {len} bytes"
+        );
+    }
+    Ok(())
+}

@@ -1,0 +1,169 @@
+//! Statements one behind the other, gathered as SYSMODs and what stands beside them.
+use crate::errors::WideError;
+use crate::items::{Note, NoteReason, OtherReason, WideFile, WideSysmod};
+use crate::known::{Known, known_as};
+use crate::made::{assign, condition, element, hold, other, release, sysmod, ver};
+use crate::operands::members;
+use crate::statement::Statement;
+use intake_cards::Place;
+use std::alloc::Global;
+
+/// The statements so far: a file's items, and the SYSMOD that is begun.
+#[derive(Drop)]
+pub(crate) struct Gathered {
+    alloc: Global,
+    file: WideFile,
+    begun: Option<WideSysmod>,
+}
+
+impl Gathered {
+    pub fn new(alloc: Global) -> Gathered {
+        Gathered {
+            alloc,
+            file: WideFile {
+                sysmods: Vec::new(alloc),
+                holds: Vec::new(alloc),
+                releases: Vec::new(alloc),
+                assigns: Vec::new(alloc),
+                others: Vec::new(alloc),
+                notes: Vec::new(alloc),
+            },
+            begun: None,
+        }
+    }
+
+    /// The whole file.
+    pub fn into_file(self) -> Result<WideFile, WideError> {
+        let Gathered {
+            alloc: _,
+            mut file,
+            begun,
+        } = self;
+        if let Some(sysmod) = begun {
+            file.sysmods.push(sysmod)?;
+        }
+        Ok(file)
+    }
+
+    /// Notes what was read otherwise than it stands.
+    pub fn note(&mut self, reason: NoteReason, place: Place) -> Result<(), WideError> {
+        for known in self.file.notes.iter_mut() {
+            if known.reason == reason {
+                known.count = known.count.saturating_add(1);
+                return Ok(());
+            }
+        }
+        self.file.notes.push(Note {
+            place,
+            reason,
+            count: 1,
+        })?;
+        Ok(())
+    }
+
+    /// Adds the next statement.
+    pub fn add(&mut self, statement: Statement) -> Result<(), WideError> {
+        if statement.has_lower {
+            self.note(NoteReason::LowerCase, statement.place)?;
+        }
+        let known = known_as(statement.word.as_slice());
+        if let Known::Header(kind) = known {
+            let begun = sysmod(self.alloc, kind, statement)?;
+            return self.begin(begun);
+        }
+        if let Some(reason) = statement.fault {
+            let is_kept = matches!(known, Known::Hold | Known::Release | Known::Assign);
+            return self.add_other(reason, is_kept, statement);
+        }
+        self.add_good(known, statement)
+    }
+
+    fn begin(&mut self, sysmod: WideSysmod) -> Result<(), WideError> {
+        if let Some(before) = self.begun.replace(sysmod) {
+            self.file.sysmods.push(before)?;
+        }
+        Ok(())
+    }
+
+    /// Adds to the SYSMOD a statement that is none of the others. The error comes where no SYSMOD is begun, or where the
+    /// statement may not be left out.
+    fn add_other(
+        &mut self,
+        reason: OtherReason,
+        is_kept: bool,
+        statement: Statement,
+    ) -> Result<(), WideError> {
+        match &mut self.begun {
+            Some(sysmod) if !is_kept => {
+                sysmod.others.push(other(reason, statement))?;
+                Ok(())
+            }
+            _ => Err(WideError::Statement {
+                place: statement.place,
+                word: statement.word,
+                name: statement.name,
+                reason,
+            }),
+        }
+    }
+
+    fn add_good(&mut self, known: Known, statement: Statement) -> Result<(), WideError> {
+        match known {
+            Known::Hold => self.add_hold(statement)?,
+            Known::Release => self.file.releases.push(release(self.alloc, statement)?)?,
+            Known::Assign => self.file.assigns.push(assign(self.alloc, statement)?)?,
+            Known::NoService => self
+                .file
+                .others
+                .push(other(OtherReason::NoService, statement))?,
+            Known::Ver => self.add_ver(statement)?,
+            Known::If => self.add_if(statement)?,
+            Known::Element => self.add_element(statement)?,
+            Known::LoadModules => self.add_other(OtherReason::LoadModules, false, statement)?,
+            Known::Header(_) | Known::Unknown => self.add_other(
+                OtherReason::UnknownWord,
+                false,
+                statement,
+            )?,
+        }
+        Ok(())
+    }
+
+    fn add_hold(&mut self, statement: Statement) -> Result<(), WideError> {
+        let found = hold(self.alloc, statement)?;
+        match &mut self.begun {
+            Some(sysmod) => sysmod.holds.push(found)?,
+            None => self.file.holds.push(found)?,
+        }
+        Ok(())
+    }
+
+    fn add_ver(&mut self, statement: Statement) -> Result<(), WideError> {
+        let Some(srels) = members(self.alloc, statement.name.as_slice())? else {
+            return self.add_other(OtherReason::NoName, false, statement);
+        };
+        let Some(sysmod) = &mut self.begun else {
+            return self.add_other(OtherReason::Misplaced, false, statement);
+        };
+        sysmod.vers.push(ver(self.alloc, srels, statement)?)?;
+        Ok(())
+    }
+
+    fn add_if(&mut self, statement: Statement) -> Result<(), WideError> {
+        if let Some(sysmod) = &mut self.begun {
+            if let Some(last) = sysmod.vers.last_mut() {
+                last.ifs.push(condition(self.alloc, statement)?)?;
+                return Ok(());
+            }
+        }
+        self.add_other(OtherReason::Misplaced, false, statement)
+    }
+
+    fn add_element(&mut self, statement: Statement) -> Result<(), WideError> {
+        let Some(sysmod) = &mut self.begun else {
+            return self.add_other(OtherReason::Misplaced, false, statement);
+        };
+        sysmod.elements.push(element(self.alloc, statement)?)?;
+        Ok(())
+    }
+}

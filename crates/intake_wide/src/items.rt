@@ -1,0 +1,229 @@
+//! What the statements of a shop's files say, with SMP/E's own names. Names and values in lists are in upper case.
+use intake_cards::{Card, Place};
+use terms::Kind;
+use thiserror::Error;
+
+/// An operand as it stands: its name in upper case, and what its parentheses hold. The text is as the file has it, but
+/// for blanks at either end of a card and of the whole, and one blank stands between two cards.
+#[derive(Drop)]
+pub struct WideOperand {
+    pub place: Place,
+    pub name: Vec<u8>,
+    pub value: Option<Vec<u8>>,
+}
+
+/// Why an operand could not be taken for what its name says.
+#[derive(Clone, Copy, Debug, PartialEq, Eq)]
+pub enum OddReason {
+    /// The statement has no operand of this name.
+    Unknown,
+    /// It is the second one of its name in the statement.
+    Repeated,
+    /// What stands in its parentheses is no value of it, or it lacks them, or has some that it should not have.
+    BadValue,
+}
+
+/// An operand that could not be taken for what its name says.
+#[derive(Drop)]
+pub struct OddOperand {
+    pub operand: WideOperand,
+    pub reason: OddReason,
+}
+
+/// `++FUNCTION`, `++PTF`, `++APAR` or `++USERMOD`, with the statements that belong to it.
+#[derive(Drop)]
+pub struct WideSysmod {
+    pub place: Place,
+    pub kind: Kind,
+    /// What stands in the header's parentheses, in upper case; empty where there are none.
+    pub id: Vec<u8>,
+    /// REWORK, DESC, FILES, RFDSNPFX, RFDSNTYPE (RFDSNTYP), FESN, as they stand.
+    pub dropped: Vec<WideOperand>,
+    pub odd: Vec<OddOperand>,
+    pub vers: Vec<WideVer>,
+    pub holds: Vec<WideHold>,
+    pub elements: Vec<WideElement>,
+    /// Its other statements, and those that are none of these because something is wrong with them.
+    pub others: Vec<WideOther>,
+}
+
+/// `++VER`. A list that the statement lacks is empty.
+#[derive(Drop)]
+pub struct WideVer {
+    pub place: Place,
+    pub srels: Vec<Vec<u8>>,
+    pub fmid: Option<Vec<u8>>,
+    pub pre: Vec<Vec<u8>>,
+    pub req: Vec<Vec<u8>>,
+    pub sup: Vec<Vec<u8>>,
+    pub npre: Vec<Vec<u8>>,
+    pub delete: Vec<Vec<u8>>,
+    pub version: Vec<Vec<u8>>,
+    pub odd: Vec<OddOperand>,
+    pub ifs: Vec<WideIf>,
+}
+
+/// `++IF`, with THEN or without it.
+#[derive(Drop)]
+pub struct WideIf {
+    pub place: Place,
+    pub fmid: Option<Vec<u8>>,
+    pub then: bool,
+    pub req: Vec<Vec<u8>>,
+    pub odd: Vec<OddOperand>,
+}
+
+/// The kind of a hold or a release; `ERR`, `SYS` and the full words alike.
+#[derive(Clone, Copy, Debug, PartialEq, Eq)]
+pub enum WideHoldKind {
+    Error,
+    System,
+    User,
+    Fixcat,
+}
+
+/// `++HOLD`.
+#[derive(Drop)]
+pub struct WideHold {
+    pub place: Place,
+    /// What stands in its parentheses, in upper case; empty where there are none.
+    pub id: Vec<u8>,
+    /// None: it has no word for its kind. A second word is among the odd operands.
+    pub kind: Option<WideHoldKind>,
+    pub reason: Option<Vec<u8>>,
+    pub fmid: Option<Vec<u8>>,
+    pub class: Option<Vec<u8>>,
+    pub date: Option<Vec<u8>>,
+    /// As it stands, inner parentheses too.
+    pub comment: Option<Vec<u8>>,
+    /// RESOLVER and CATEGORY, as they stand.
+    pub dropped: Vec<WideOperand>,
+    pub odd: Vec<OddOperand>,
+}
+
+/// `++RELEASE`.
+#[derive(Drop)]
+pub struct WideRelease {
+    pub place: Place,
+    pub id: Vec<u8>,
+    pub kind: Option<WideHoldKind>,
+    pub reason: Option<Vec<u8>>,
+    pub fmid: Option<Vec<u8>>,
+    /// RESOLVER, CATEGORY, CLASS, DATE and COMMENT, as they stand.
+    pub dropped: Vec<WideOperand>,
+    pub odd: Vec<OddOperand>,
+}
+
+/// `++ASSIGN`.
+#[derive(Drop)]
+pub struct WideAssign {
+    pub place: Place,
+    pub source: Option<Vec<u8>>,
+    pub to: Vec<Vec<u8>>,
+    pub odd: Vec<OddOperand>,
+}
+
+/// A statement that brings, updates or deletes an element: `++MAC`, `++MOD`, `++ZAP`, `++PROGRAM`, each data element
+/// and each element of a file system.
+#[derive(Drop)]
+pub struct WideElement {
+    pub place: Place,
+    /// The word without its `++`, in upper case.
+    pub word: Vec<u8>,
+    /// What stands in its parentheses, in upper case.
+    pub name: Vec<u8>,
+    pub distlib: Option<Vec<u8>>,
+    pub syslib: Option<Vec<u8>>,
+    /// What RELFILE says, where its text is in another file.
+    pub relfile: Option<Vec<u8>>,
+    /// TXLIB, LKLIB and FROMDS, as they stand: its text is in another library.
+    pub libraries: Vec<WideOperand>,
+    /// All its other operands, as they stand: SSI, ALIAS, DELETE, LMOD and so on.
+    pub operands: Vec<WideOperand>,
+    /// Operands that come twice or whose value is none.
+    pub odd: Vec<OddOperand>,
+    /// The cards behind it, up to the next statement.
+    pub inline: Vec<Card>,
+}
+
+/// Why a statement is none of the others.
+#[derive(Clone, Copy, Debug, PartialEq, Eq, Error)]
+pub enum OtherReason {
+    /// `++FEATURE`, `++PRODUCT` or `++NULL`.
+    #[error("it brings no service")]
+    NoService,
+    /// `++JCLIN`, `++MOVE`, `++RENAME` or `++DELETE`.
+    #[error("it is about load modules")]
+    LoadModules,
+    /// Its word is no statement's.
+    #[error("no statement has this word")]
+    UnknownWord,
+    /// It ends without its period, where the next statement or the file's end comes.
+    #[error("its period is missing")]
+    NoPeriod,
+    /// A parenthesis is open where the next statement or the file's end comes.
+    #[error("a parenthesis is open")]
+    OpenParenthesis,
+    /// A closing parenthesis has no partner, or a list follows no word.
+    #[error("a parenthesis has no partner, or no word before it")]
+    StrayParenthesis,
+    /// It has a character that stands in no word.
+    #[error("a character stands in no word")]
+    StrayCharacter,
+    /// More than blanks and comments follows its period, in its card or on a card of its own.
+    #[error("more than comments follows its period")]
+    TextBehind,
+    /// It lacks its list, as `++VER` without SRELs, or `++MAC` without a name.
+    #[error("what belongs in parentheses behind its word is missing")]
+    NoName,
+    /// It is an `++IF`, and its SYSMOD has no `++VER` before it; or no SYSMOD stands before it.
+    #[error("it may not stand there")]
+    Misplaced,
+}
+
+/// A statement that is none of the others: one of those that are known by name alone, or one that has something wrong
+/// with it.
+#[derive(Drop)]
+pub struct WideOther {
+    pub place: Place,
+    pub reason: OtherReason,
+    /// The word without its `++`, in upper case.
+    pub word: Vec<u8>,
+    /// What stands in its parentheses, in upper case.
+    pub name: Vec<u8>,
+    pub operands: Vec<WideOperand>,
+    pub inline: Vec<Card>,
+}
+
+/// What was read otherwise than it stands, and lost nothing by it.
+#[derive(Clone, Copy, Debug, PartialEq, Eq)]
+pub enum NoteReason {
+    /// Words in lower case are read in upper case.
+    LowerCase,
+    /// A comment holds a card that begins with `++`, which begins no statement there.
+    StatementInComment,
+    /// Columns 73 to 80 hold something that is no number; they are not read.
+    TextIn73,
+}
+
+/// Something that was read otherwise than it stands: the first statement or card with it, and how many there are.
+#[derive(Clone, Copy, Debug, PartialEq, Eq)]
+pub struct Note {
+    pub place: Place,
+    pub reason: NoteReason,
+    pub count: usize,
+}
+
+/// A file's statements. Each list keeps the order of the file, and the places say how the lists go together.
+#[derive(Drop)]
+pub struct WideFile {
+    pub sysmods: Vec<WideSysmod>,
+    /// Those that stand in no SYSMOD.
+    pub holds: Vec<WideHold>,
+    pub releases: Vec<WideRelease>,
+    pub assigns: Vec<WideAssign>,
+    /// `++FEATURE`, `++PRODUCT` and `++NULL`, wherever they stand.
+    pub others: Vec<WideOther>,
+    /// One for each reason at most.
+    pub notes: Vec<Note>,
+}

@@ -1,0 +1,21 @@
+//! The statements of a shop's files, in the wide grammar of SMP/E, as plain structs.
+#![tactic(auto)]
+
+mod errors;
+mod gather;
+mod items;
+mod known;
+mod made;
+mod operands;
+mod read;
+mod statement;
+pub mod words;
+
+pub use errors::WideError;
+pub use intake_cards::{Card, Place};
+pub use items::{
+    Note, NoteReason, OddOperand, OddReason, OtherReason, WideAssign, WideElement, WideFile,
+    WideHold, WideHoldKind, WideIf, WideOperand, WideOther, WideRelease, WideSysmod, WideVer,
+};
+pub use known::is_element;
+pub use read::read_wide;

@@ -1,0 +1,178 @@
+//! Cards as statements, one behind the other.
+use crate::errors::WideError;
+use crate::gather::Gathered;
+use crate::items::{NoteReason, OtherReason, WideFile};
+use crate::known::{is_text_elsewhere, takes_text};
+use crate::statement::{Statement, statement_of};
+use crate::words::{Open, Piece, Scanner, Token};
+use intake_cards::{Card, Place, Tail};
+use std::alloc::{AllocError, Global};
+
+/// What a card belongs to.
+#[derive(Clone, Copy, Debug, PartialEq, Eq)]
+enum Part {
+    /// The first statement comes behind it.
+    Before,
+    /// The statement's own text.
+    Own,
+    /// The statement's period is behind, and it has no text.
+    Behind,
+    /// The text behind the statement.
+    Inline,
+}
+
+/// How far the cards were read.
+#[derive(Drop)]
+struct Reader {
+    alloc: Global,
+    scanner: Scanner,
+    part: Part,
+    /// Where the statement begins that is begun.
+    place: Place,
+    /// It, once its own text is whole.
+    whole: Option<Statement>,
+    gathered: Gathered,
+}
+
+/// Whether cards behind the statement of these pieces are its text.
+fn has_inline(pieces: &[Piece]) -> bool {
+    let mut has_word = false;
+    for piece in pieces {
+        if let Token::Word(word) = &piece.token {
+            if has_word && is_text_elsewhere(word.as_slice()) {
+                return false;
+            }
+            if !has_word && !takes_text(word.as_slice()) {
+                return false;
+            }
+            has_word = true;
+        }
+    }
+    has_word
+}
+
+impl Reader {
+    /// Takes the next card.
+    fn card(&mut self, card: &Card) -> Result<(), WideError> {
+        if card.begins_statement() {
+            if !matches!(self.scanner.open(), Open::Comment(_)) {
+                return self.begin(card);
+            }
+            self.gathered
+                .note(NoteReason::StatementInComment, card.place)?;
+        }
+        match self.part {
+            Part::Inline => {
+                if let Some(statement) = &mut self.whole {
+                    statement.inline.push(*card)?;
+                }
+                Ok(())
+            }
+            Part::Own => {
+                self.note_tail(card)?;
+                self.scanner.take_card(card)?;
+                self.end_own()
+            }
+            Part::Before | Part::Behind => {
+                self.scanner.take_card(card)?;
+                self.check_idle(card)
+            }
+        }
+    }
+
+    /// Begins the statement of the card, and ends the one before.
+    fn begin(&mut self, card: &Card) -> Result<(), WideError> {
+        self.end()?;
+        self.part = Part::Own;
+        self.place = card.place;
+        self.note_tail(card)?;
+        self.scanner.take(card.place, &card.text[2..72])?;
+        self.end_own()
+    }
+
+    fn note_tail(&mut self, card: &Card) -> Result<(), WideError> {
+        if card.tail() == Tail::Other {
+            self.gathered.note(NoteReason::TextIn73, card.place)?;
+        }
+        Ok(())
+    }
+
+    /// Makes the statement of what was scanned.
+    fn scanned(&mut self) -> Result<Statement, AllocError> {
+        let open = self.scanner.open();
+        let has_lower = self.scanner.has_lower();
+        let pieces = self.scanner.take_pieces();
+        statement_of(self.alloc, self.place, pieces, open, has_lower)
+    }
+
+    /// Goes on to what is behind the statement, if its period was met and no comment is open.
+    fn end_own(&mut self) -> Result<(), WideError> {
+        if !self.scanner.has_period() || matches!(self.scanner.open(), Open::Comment(_)) {
+            return Ok(());
+        }
+        self.part = if has_inline(self.scanner.pieces()) {
+            Part::Inline
+        } else {
+            Part::Behind
+        };
+        self.whole = Some(self.scanned()?);
+        Ok(())
+    }
+
+    /// Checks that nothing but comments and blanks stands in the card that was taken.
+    fn check_idle(&mut self, card: &Card) -> Result<(), WideError> {
+        let is_open = matches!(self.scanner.open(), Open::Parenthesis(_));
+        let pieces = self.scanner.take_pieces();
+        if pieces.is_empty() && !is_open {
+            return Ok(());
+        }
+        match &mut self.whole {
+            Some(statement) => statement.blame(OtherReason::TextBehind),
+            None => return Err(WideError::NoStatement { place: card.place }),
+        }
+        Ok(())
+    }
+
+    /// Ends the statement that is begun, if one is.
+    fn end(&mut self) -> Result<(), WideError> {
+        if let Some(statement) = self.whole.take() {
+            return self.gathered.add(statement);
+        }
+        if self.part == Part::Own {
+            let statement = self.scanned()?;
+            return self.gathered.add(statement);
+        }
+        Ok(())
+    }
+}
+
+/// The statements of a file's cards. `NoStatement` comes where more than blanks and comments stands before the first
+/// statement, `OpenComment` where a comment is open behind the last card, and `Statement` where a hold, a release or an
+/// assignment has something wrong with it, or a statement that belongs to a SYSMOD or that is not known stands before the
+/// first SYSMOD.
+pub fn read_wide(alloc: Global, cards: &[Card]) -> Result<WideFile, WideError> {
+    let mut reader = Reader {
+        alloc,
+        scanner: Scanner::new(alloc),
+        part: Part::Before,
+        place: Place { file: 0, card: 0 },
+        whole: None,
+        gathered: Gathered::new(alloc),
+    };
+    for card in cards {
+        reader.card(card)?;
+    }
+    if let Open::Comment(place) = reader.scanner.open() {
+        return Err(WideError::OpenComment { place });
+    }
+    reader.end()?;
+    let Reader {
+        alloc: _,
+        scanner: _,
+        part: _,
+        place: _,
+        whole: _,
+        gathered,
+    } = reader;
+    gathered.into_file()
+}

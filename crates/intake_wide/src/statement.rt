@@ -1,0 +1,155 @@
+//! A statement as it stands: its word, its name and its operands.
+use crate::items::{OtherReason, WideOperand};
+use crate::known::{is_upper, known_as, needs_name};
+use crate::words::{Open, Piece, Token};
+use intake_cards::{Card, Place};
+use std::alloc::{AllocError, Global};
+
+/// A statement as it stands.
+#[derive(Drop)]
+pub(crate) struct Statement {
+    pub place: Place,
+    /// Without its `++`, in upper case.
+    pub word: Vec<u8>,
+    /// What stands in its parentheses, in upper case.
+    pub name: Vec<u8>,
+    pub operands: Vec<WideOperand>,
+    /// The first thing that is wrong with it.
+    pub fault: Option<OtherReason>,
+    pub inline: Vec<Card>,
+    /// Whether words, or values that are read in upper case, have letters in lower case.
+    pub has_lower: bool,
+}
+
+/// A statement that is begun, and how far.
+#[derive(Drop)]
+struct Said {
+    statement: Statement,
+    has_word: bool,
+    has_name: bool,
+    is_ended: bool,
+}
+
+/// Makes the letters upper case, and says whether one was in lower case.
+pub(crate) fn make_upper(text: &mut Vec<u8>) -> bool {
+    let mut has_lower = false;
+    for byte in text.iter_mut() {
+        has_lower = has_lower || byte.is_ascii_lowercase();
+        *byte = byte.to_ascii_uppercase();
+    }
+    has_lower
+}
+
+fn has_lower(text: &[u8]) -> bool {
+    text.iter().any(|byte| byte.is_ascii_lowercase())
+}
+
+impl Statement {
+    /// Notes what is wrong with it, unless something was before.
+    pub(crate) fn blame(&mut self, fault: OtherReason) {
+        if self.fault.is_none() {
+            self.fault = Some(fault);
+        }
+    }
+}
+
+impl Said {
+    fn piece(&mut self, piece: Piece) -> Result<(), AllocError> {
+        let Piece { place, token } = piece;
+        if self.is_ended {
+            self.statement.blame(OtherReason::TextBehind);
+            return Ok(());
+        }
+        match token {
+            Token::Word(word) => self.word(place, word)?,
+            Token::List(list) => self.list(list),
+            Token::Period => self.is_ended = true,
+            Token::Closing => self.statement.blame(OtherReason::StrayParenthesis),
+            Token::Stray(_) => self.statement.blame(OtherReason::StrayCharacter),
+        }
+        Ok(())
+    }
+
+    fn word(&mut self, place: Place, word: Vec<u8>) -> Result<(), AllocError> {
+        if !self.has_word {
+            self.has_word = true;
+            self.statement.word = word;
+            return Ok(());
+        }
+        self.statement.operands.push(WideOperand {
+            place,
+            name: word,
+            value: None,
+        })?;
+        Ok(())
+    }
+
+    fn list(&mut self, list: Vec<u8>) {
+        if let Some(operand) = self.statement.operands.last_mut() {
+            if operand.value.is_none() {
+                if is_upper(operand.name.as_slice()) && has_lower(list.as_slice()) {
+                    self.statement.has_lower = true;
+                }
+                operand.value = Some(list);
+                return;
+            }
+        } else if self.has_word && !self.has_name {
+            self.name(list);
+            return;
+        }
+        self.statement.blame(OtherReason::StrayParenthesis);
+    }
+
+    fn name(&mut self, list: Vec<u8>) {
+        let mut name = list;
+        if make_upper(&mut name) {
+            self.statement.has_lower = true;
+        }
+        self.has_name = true;
+        self.statement.name = name;
+    }
+}
+
+/// The statement of these pieces, which begins at this place. What is open behind them tells why it has no period.
+pub(crate) fn statement_of(
+    alloc: Global,
+    place: Place,
+    pieces: Vec<Piece>,
+    open: Open,
+    has_lower: bool,
+) -> Result<Statement, AllocError> {
+    let mut said = Said {
+        statement: Statement {
+            place,
+            word: Vec::new(alloc),
+            name: Vec::new(alloc),
+            operands: Vec::new(alloc),
+            fault: None,
+            inline: Vec::new(alloc),
+            has_lower,
+        },
+        has_word: false,
+        has_name: false,
+        is_ended: false,
+    };
+    for piece in pieces {
+        said.piece(piece)?;
+    }
+    let Said {
+        mut statement,
+        has_word: _,
+        has_name: _,
+        is_ended,
+    } = said;
+    let is_open = matches!(open, Open::Parenthesis(_));
+    match (is_ended, is_open) {
+        (true, true) => statement.blame(OtherReason::TextBehind),
+        (false, true) => statement.blame(OtherReason::OpenParenthesis),
+        (false, false) => statement.blame(OtherReason::NoPeriod),
+        (true, false) => {}
+    }
+    if statement.name.is_empty() && needs_name(known_as(statement.word.as_slice())) {
+        statement.blame(OtherReason::NoName);
+    }
+    Ok(statement)
+}

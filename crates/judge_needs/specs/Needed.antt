@@ -1,0 +1,45 @@
+-- What a candidate needs that neither BYPASS nor what is left of the zone meets.
+use Rattle.std.specs.Prelude.{◌≡◌, ◌≢◌, ◌↔◌, ◌<◌, ◌++◌, ◌&&◌, ℕ, Bool, not, List, Some, AllPairs, Contains, IsTrue}
+use Rattle.std.specs.Prelude.{slice_get}
+use Rattle.terms.specs.declared.codes.NeedKind.{NeedKind}
+use Rattle.terms.specs.Types.{Id, Zone, Bypass}
+use Rattle.terms.specs.Tests.{Setting}
+use Rattle.terms.specs.Needs.{asked, is_bypassed, is_met, zone_left}
+use Rattle.decide.specs.declared.stated.Need.{Need}
+use Rattle.decide.specs.Said.{a_need}
+
+-- whether neither BYPASS nor the zone meets a need
+abbrev pub is_open : Zone → Bypass → NeedKind → Id → Bool
+is_open zone b kind z = not (is_bypassed b kind) && not (is_met zone kind z)
+
+-- the candidate asks for it, and neither BYPASS nor what is left of the zone meets it
+abbrev pub IsOpen : Setting → List Id → Zone → Id → NeedKind → Id → Type 0
+IsOpen s survivors left x kind z = Contains (asked s survivors x kind) z × IsTrue (is_open left s.bypass kind z)
+
+-- the list has these needs, each once
+pub record AreAllNeeds (Done : Id → NeedKind → Id → Type 0) (needs : List Need) : Type 0 where
+  pub members : (x : Id) (kind : NeedKind) (z : Id) → Contains needs (a_need x kind z) ↔ Done x kind z
+  pub once : AllPairs (λ v w. v ≢ w) needs
+
+-- some needs of one more candidate come in, each once
+pub record AddsPart (of : Id) (Part : NeedKind → Id → Type 0) (old new : List Need) : Type 0 where
+  pub more : List Need
+  pub are : new ≡ old ++ more
+  pub needs : AreAllNeeds (λ x kind z. (x ≡ of) × Part kind z) more
+
+-- those of one kind: the ids of the list that neither BYPASS nor the zone meets
+abbrev pub IsOfKind : Zone → Bypass → NeedKind → List Id → NeedKind → Id → Type 0
+IsOfKind zone b kind asked k z = (k ≡ kind) × Contains asked z × IsTrue (is_open zone b kind z)
+
+-- the needs of the candidates in front of a place
+pub record IsOpenAt (s : Setting) (survivors : List Id) (left : Zone) (end : ℕ) (x : Id) (kind : NeedKind) (z : Id) :
+    Type 0 where
+  pub place : ℕ
+  pub below : place < end
+  pub at : slice_get s.cands place ≡ Some x
+  pub is_open : IsOpen s survivors left x kind z
+
+-- those of all candidates, each once
+abbrev pub AreNeeds : Setting → List Id → List Need → Type 0
+AreNeeds s survivors needs =
+    AreAllNeeds (λ x kind z. Contains s.cands x × IsOpen s survivors (zone_left s survivors) x kind z) needs

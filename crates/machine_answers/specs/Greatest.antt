@@ -1,0 +1,21 @@
+-- What is kept is the greatest set that supports itself.
+use Rattle.std.specs.Prelude.{◌↔◌, List, Contains}
+use Rattle.terms.specs.Types.{Id}
+use Rattle.terms.specs.Lookups.{is_in}
+use Rattle.terms.specs.Tests.{Setting, IsEligible}
+use Rattle.terms.specs.Needs.{Needs, Serves}
+use Rattle.terms.specs.Judged.{IsKeptSet}
+use Rattle.terms.specs.Restore.{Restoring, NeedsInRestore, MayBeRestored, IsRestored}
+use Rattle.decide.specs.Greatest.{IsGreatestSet}
+
+-- What an APPLY or ACCEPT keeps is the greatest set of its eligible candidates that supports itself.
+abbrev pub InstallsGreatest : Type 0
+InstallsGreatest =
+    (s : Setting) (kept : List Id) (k : IsKeptSet s kept)
+    → IsGreatestSet (IsEligible s) (Needs s k.survivors) (Serves s.choice) (is_in kept)
+
+-- What a RESTORE takes off is the greatest such set of its list.
+abbrev pub RestoresGreatest : Type 0
+RestoresGreatest =
+    (r : Restoring) (ids kept : List Id) → ((x : Id) → Contains kept x ↔ IsRestored r ids x)
+    → IsGreatestSet (MayBeRestored r ids) (NeedsInRestore r (is_in ids)) (Serves r.choice) (is_in kept)

@@ -1,0 +1,11 @@
+-- What the errors of one statement say.
+use Rattle.terms.specs.declared.codes.McCode.TheVariants.{Mc3}
+use Rattle.operands.specs.declared.errors.OperandError.{OperandError}
+use Rattle.operands.specs.declared.errors.OperandError.TheVariants as operand
+use Rattle.mcs.specs.declared.fault.StatementError.{StatementError}
+use Rattle.mcs.specs.declared.fault.StatementError.TheVariants.{Memory, Fault}
+
+-- a statement with a bad operand has no value
+abbrev pub value_error : OperandError → StatementError
+value_error operand.Memory = Memory
+value_error operand.Bad = Fault Mc3

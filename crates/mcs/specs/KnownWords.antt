@@ -1,0 +1,16 @@
+-- A statement whose word is known, as the definitions see it.
+use Rattle.std.specs.Prelude.{ℕ, List, Option}
+use Rattle.terms.specs.declared.statement_words.StatementWord.{StatementWord}
+use Rattle.terms.specs.declared.statement_words.StatementWord.TheVariants.{Header, Replace}
+use Rattle.rec80.specs.Views.{word_of}
+use Rattle.mcs.specs.declared.begin.Known.{Known}
+
+-- the list of the statement's word
+abbrev pub own_list : Known → Option (List ℕ)
+own_list b = (word_of b.first).list
+
+-- The word names neither a kind nor a type.
+abbrev pub IsFixed : StatementWord → Type 0
+IsFixed (Header kind) = ⊥
+IsFixed (Replace type) = ⊥
+IsFixed _ = Unit {0}

@@ -1,0 +1,113 @@
+//! The text of a comment, without the blanks at its ends.
+ghost use Rattle.std.specs.Prelude.{◌≡◌, ℕ, List, Option, All, reverse, option_map, IfOk, IfErr, IfSome, IfNone};
+ghost use Rattle.std.specs.String.{string_bytes};
+ghost use Rattle.terms.specs.Records.{IsPrintable};
+ghost use Rattle.terms.specs.Words as grammar;
+ghost use Rattle.terms.specs.Forms.{IsTrimmed};
+ghost use Rattle.terms.specs.Operands.{operand};
+ghost use Rattle.terms.specs.HoldStatements.{HasComment};
+ghost use Rattle.rec80.specs.Cursors.{text_of};
+ghost use Rattle.operands.specs.Left.{LeavesWords};
+ghost use Rattle.operands.specs.Failing.{Excludes};
+ghost use Rattle.mcs.specs.Trimmed.{SkipsBlanks, DropsBlanks, BeginsNoBlank};
+
+use operands::{OperandError, operand};
+use rec80::{Text, Words};
+use std::alloc::{AllocError, Global};
+
+/// A copy of the text.
+fn bytes_of(alloc: Global, text: &Text<'_>) -> Result<Vec<u8>, AllocError>
+    ensures { IfOk result (λ bytes. bytes.items ≡ text_of text.now) }
+{
+    let mut bytes = Vec::new(alloc);
+    let mut left = *text;
+    while let Some((byte, next)) = left.next_byte() {
+        bytes.push(byte)?;
+        left = next;
+    }
+    Ok(bytes)
+}
+
+/// What follows the blanks.
+#[tactic(auto, using(crate::proofs::Trimming::skips_more))]
+fn behind_blanks(text: &[u8]) -> &[u8]
+    ensures skips { SkipsBlanks text.now result.now }
+    ensures dark { BeginsNoBlank result.now }
+{
+    let mut rest = text;
+    while let Some((first, next)) = rest.split_first() {
+        if *first != b' ' {
+            return rest;
+        }
+        rest = next;
+    }
+    rest
+}
+
+/// What stands before the blanks at the end.
+fn before_blanks(text: &[u8]) -> &[u8]
+    ensures drops { DropsBlanks text.now result.now }
+    ensures dark { BeginsNoBlank (reverse result.now) }
+{
+    let mut rest = text;
+    while let Some((last, front)) = rest.split_last() {
+        if *last != b' ' {
+            return rest;
+        }
+        rest = front;
+    }
+    rest
+}
+
+/// The text without the blanks at both ends, if there is more in it.
+fn trimmed(text: &[u8]) -> Option<&[u8]>
+    ensures cut { IfSome result (λ cut. IsTrimmed text.now cut.now) }
+    ensures none { IfNone result ((cut : List ℕ) → IsTrimmed text.now cut → ⊥) }
+{
+    let cut = before_blanks(behind_blanks(text));
+    if cut.is_empty() {
+        return None;
+    }
+    Some(cut)
+}
+
+/// The text with the blanks at both ends cut.
+fn comment_in(alloc: Global, text: &Text<'_>) -> Result<String, OperandError>
+    ensures cut { IfOk result (λ comment. IsTrimmed (text_of text.now) (string_bytes comment)) }
+    ensures bad { All IsPrintable (text_of text.now) → IfErr result (λ e. Excludes e ((cut : List ℕ)
+        × IsTrimmed (text_of text.now) cut)) }
+{
+    let bytes = bytes_of(alloc, text)?;
+    let Some(cut) = trimmed(bytes.as_slice()) else {
+        return Err(OperandError::Bad);
+    };
+    let Ok(comment) = std::str::from_utf8(cut) else {
+        return Err(OperandError::Bad);
+    };
+    Ok(String::from_str(alloc, comment)?)
+}
+
+/// The comment of an operand that may be absent. `Memory` comes where memory runs out, `Bad` where the operand is there
+/// and its list is absent, blank or no UTF-8.
+pub fn optional_comment(
+    alloc: Global,
+    words: &Words<'_>,
+    name: &[u8],
+) -> Result<Option<String>, OperandError>
+    ensures ok { (ws : List grammar.Word) → LeavesWords words.now ws
+        → IfOk result (λ comment. HasComment (operand name.now ws) (option_map string_bytes comment)) }
+    ensures bad { (ws : List grammar.Word) → LeavesWords words.now ws
+        → IfSome (operand name.now ws) (λ w. IfSome w.list (All IsPrintable))
+        → IfErr result (λ e. Excludes e ((comment : Option (List ℕ)) × HasComment (operand name.now ws) comment)) }
+{
+    let Some(word) = operand(words, name) else {
+        return Ok(None);
+    };
+    let Some(list) = word.list else {
+        return Err(OperandError::Bad);
+    };
+    match comment_in(alloc, &list) {
+        Ok(comment) => Ok(Some(comment)),
+        Err(error) => Err(error),
+    }
+}

@@ -1,0 +1,36 @@
+//! Why a file of statements is not read.
+use std::alloc::{AllocError, AllocFailed};
+use terms::McCode;
+use thiserror::Error;
+
+/// Why a file is not read: want of memory, or its first fault with the number of the record where
+/// the statement at fault begins.
+#[derive(Clone, Copy, Debug, Error)]
+pub enum McsError {
+    #[error("out of memory")]
+    Memory,
+    #[error("record {number} is at fault")]
+    Fault { number: usize, code: McCode },
+}
+
+impl From<AllocError> for McsError {
+    ghost use Rattle.std.specs.Prelude.{◌≡◌};
+    ghost use Rattle.mcs.specs.declared.error.McsError.TheVariants.{Memory};
+
+    ghost from_gives = { λ _ e. e ≡ Memory };
+
+    fn from(_e: AllocError) -> McsError {
+        McsError::Memory
+    }
+}
+
+impl<T: Drop> From<AllocFailed<T>> for McsError {
+    ghost use Rattle.std.specs.Prelude.{◌≡◌};
+    ghost use Rattle.mcs.specs.declared.error.McsError.TheVariants.{Memory};
+
+    ghost from_gives = { λ _ e. e ≡ Memory };
+
+    fn from(_e: AllocFailed<T>) -> McsError {
+        McsError::Memory
+    }
+}

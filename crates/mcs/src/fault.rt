@@ -1,0 +1,46 @@
+//! Why one statement says nothing.
+ghost use Rattle.std.specs.Prelude.{◌≡◌};
+ghost use Rattle.mcs.specs.Faults.{value_error};
+
+use operands::OperandError;
+use std::alloc::{AllocError, AllocFailed};
+use terms::McCode;
+
+/// Why a statement says nothing.
+#[derive(Clone, Copy, Debug)]
+pub enum StatementError {
+    Memory,
+    Fault(McCode),
+}
+
+impl From<AllocError> for StatementError {
+    ghost use Rattle.std.specs.Prelude.{◌≡◌};
+    ghost use Rattle.mcs.specs.declared.fault.StatementError.TheVariants.{Memory};
+
+    ghost from_gives = { λ _ e. e ≡ Memory };
+
+    fn from(_e: AllocError) -> StatementError {
+        StatementError::Memory
+    }
+}
+
+impl<T: Drop> From<AllocFailed<T>> for StatementError {
+    ghost use Rattle.std.specs.Prelude.{◌≡◌};
+    ghost use Rattle.mcs.specs.declared.fault.StatementError.TheVariants.{Memory};
+
+    ghost from_gives = { λ _ e. e ≡ Memory };
+
+    fn from(_e: AllocFailed<T>) -> StatementError {
+        StatementError::Memory
+    }
+}
+
+/// The error of a statement that has no value.
+pub fn no_value(error: OperandError) -> StatementError
+    ensures { result ≡ value_error error }
+{
+    match error {
+        OperandError::Memory => StatementError::Memory,
+        OperandError::Bad => StatementError::Fault(McCode::Mc3),
+    }
+}

@@ -1,0 +1,43 @@
+//! The statements of a file, and where a fault of one of them stands.
+ghost use Rattle.std.specs.Prelude.{◌≡◌, IfOk, IfErr};
+ghost use Rattle.terms.specs.Records.{HasRecords};
+ghost use Rattle.mcs.specs.FileFaults.{error_at, IsFileError};
+
+use crate::error::McsError;
+use crate::fault::StatementError;
+use rec80::{Groups, records};
+use terms::McCode;
+
+/// The error of a file whose statement at the record of this number has this one.
+pub fn error_at(number: usize, error: StatementError) -> McsError
+    ensures { result ≡ error_at number error }
+{
+    match error {
+        StatementError::Memory => McsError::Memory,
+        StatementError::Fault(code) => McsError::Fault { number, code },
+    }
+}
+
+/// The statements of a file. `Fault` comes before all faults of theirs: `Mc1` at the first bad record, else `Mc4` at
+/// record 1, if no statement begins there. `Memory` never comes.
+pub fn statements(bytes: &[u8]) -> Result<Groups<'_>, McsError>
+    ensures ok { IfOk result (λ groups. (groups.number ≡ 1) × HasRecords bytes.now groups.rest.now) }
+    ensures fault { IfErr result (IsFileError bytes.now) }
+{
+    let file = match records(bytes) {
+        Ok(file) => file,
+        Err(error) => {
+            return Err(McsError::Fault {
+                number: error.record(),
+                code: McCode::Mc1,
+            });
+        }
+    };
+    let Ok(groups) = file.groups() else {
+        return Err(McsError::Fault {
+            number: 1,
+            code: McCode::Mc4,
+        });
+    };
+    Ok(groups)
+}

@@ -1,0 +1,154 @@
+//! `++HOLD` and `++RELEASE`, whichever file they stand in.
+ghost use Rattle.std.specs.Prelude.{◌≡◌, ◌↔◌, List, IsTrue, IfOk, IfErr, IfSome, IfNone, OnErr};
+ghost use Rattle.terms.specs.Types.{Hold as AnyHold, Release as AnyRelease};
+ghost use Rattle.terms.specs.Statement.{Piece, HasSolid};
+ghost use Rattle.terms.specs.Words as grammar;
+ghost use Rattle.terms.specs.HoldStatements.{IsHoldOf, IsReleaseOf, HasShortComment};
+ghost use Rattle.rec80.specs.Views.{left_of};
+ghost use Rattle.operands.specs.Left.{LeavesWords};
+ghost use Rattle.operands.specs.Failing.{Excludes};
+ghost use Rattle.mcs.specs.KnownWords.{own_list};
+ghost use Rattle.mcs.specs.Holds.{HasKey, ArePrintable};
+
+use crate::begin::Known;
+use crate::comment::optional_comment;
+use crate::kind::kind_word;
+use crate::values::{are_operands, required_reason};
+use fields::{Class, HoldDate, Id, Reason};
+use operands::{BadOperand, OperandError, one, optional, required};
+use std::alloc::Global;
+use std::marker::Model;
+use sysmod::Hold;
+use terms::HoldKind;
+
+/// The operands of `++HOLD`.
+const HOLD_OPERANDS: &[&[u8]] = &[
+    b"ERROR", b"SYSTEM", b"USER", b"FMID", b"REASON", b"CLASS", b"DATE", b"COMMENT",
+];
+
+/// The operands of `++RELEASE`.
+const RELEASE_OPERANDS: &[&[u8]] = &[b"ERROR", b"SYSTEM", b"USER", b"FMID", b"REASON"];
+
+/// The characters that a comment has at most.
+const LONGEST_COMMENT: usize = 200;
+
+/// What `++RELEASE` says: the key of a hold, and an FMID that is not compared.
+#[derive(Clone, Copy, Debug)]
+pub struct Release {
+    pub id: Id,
+    pub kind: HoldKind,
+    pub reason: Reason,
+    pub fmid: Id,
+}
+
+impl Model for Release {
+    ghost use Rattle.terms.specs.Types as terms;
+    ghost use Rattle.terms.specs.Forms.{IsReason};
+
+    ghost Value = { terms.Release };
+
+    ghost view = { λ a. record { id = a.id; kind = a.kind; reason = a.reason; fmid = a.fmid } };
+
+    ghost invariant = { λ a. IsReason a.kind a.reason };
+
+    ghost inverse = { λ r. record { id = r.id; kind = r.kind; reason = r.reason; fmid = r.fmid } };
+}
+
+/// The key of a hold and its FMID.
+fn read_key(known: &Known<'_>) -> Option<Release>
+    ensures some { (ws : List grammar.Word) → LeavesWords known.now.rest ws
+        → IfSome result (λ r. HasKey (own_list known.now) ws r) }
+    ensures none { (ws : List grammar.Word) → LeavesWords known.now.rest ws → IfNone result ((r : AnyRelease)
+        → HasKey (own_list known.now) ws r → ⊥) }
+{
+    let Some(id) = one::<Id>(&known.first) else {
+        return None;
+    };
+    let Some(kind) = kind_word(&known.rest) else {
+        return None;
+    };
+    let Some(fmid) = required::<Id>(&known.rest, b"FMID") else {
+        return None;
+    };
+    let Some(reason) = required_reason(kind, &known.rest, b"REASON") else {
+        return None;
+    };
+    Some(Release {
+        id,
+        kind,
+        reason,
+        fmid,
+    })
+}
+
+/// What a `++RELEASE` says. The error comes where an operand is unknown, comes twice, has not its form or is missing: a
+/// `++RELEASE` has an id, one of ERROR, SYSTEM and USER, FMID and REASON.
+pub fn release_of_operands(known: &Known<'_>) -> Result<Release, BadOperand>
+    ensures ok { (rest : List Piece) → HasSolid (left_of known.now.rest) rest
+        → IfOk result (λ r. (ws : List grammar.Word) × grammar.HasWords rest ws
+        × IsReleaseOf (own_list known.now) ws r) }
+    ensures bad { (rest : List Piece) → HasSolid (left_of known.now.rest) rest
+        → OnErr result ((ws : List grammar.Word) (r : AnyRelease) → grammar.HasWords rest ws
+        → IsReleaseOf (own_list known.now) ws r → ⊥) }
+{
+    if !are_operands(&known.rest, RELEASE_OPERANDS) {
+        return Err(BadOperand);
+    }
+    match read_key(known) {
+        Some(release) => Ok(release),
+        None => Err(BadOperand),
+    }
+}
+
+/// What a `++HOLD` says, in a SYSMOD or in a hold file. A long comment is read too. `Memory` comes where memory runs
+/// out, `Bad` where an operand is unknown, comes twice, has not its form or is missing: a `++HOLD` has an id, one of
+/// ERROR, SYSTEM and USER, FMID and REASON.
+pub fn hold_of_operands(
+    alloc: Global,
+    known: &Known<'_>,
+    internal: bool,
+) -> Result<Hold, OperandError>
+    ensures ok { (rest : List Piece) → HasSolid (left_of known.now.rest) rest
+        → IfOk result (λ h. (ws : List grammar.Word) × grammar.HasWords rest ws × IsHoldOf (own_list known.now) ws h) }
+    ensures internal { IfOk result (λ h. h.internal ≡ internal) }
+    ensures bad { (rest : List Piece) → HasSolid (left_of known.now.rest) rest → ArePrintable rest
+        → IfErr result (λ e. Excludes e ((ws : List grammar.Word) × (h : AnyHold) × grammar.HasWords rest ws
+        × IsHoldOf (own_list known.now) ws h)) }
+{
+    if !are_operands(&known.rest, HOLD_OPERANDS) {
+        return Err(OperandError::Bad);
+    }
+    let Some(key) = read_key(known) else {
+        return Err(OperandError::Bad);
+    };
+    let Ok(class) = optional::<Class>(&known.rest, b"CLASS") else {
+        return Err(OperandError::Bad);
+    };
+    let Ok(date) = optional::<HoldDate>(&known.rest, b"DATE") else {
+        return Err(OperandError::Bad);
+    };
+    let comment = match optional_comment(alloc, &known.rest, b"COMMENT") {
+        Ok(comment) => comment,
+        Err(error) => return Err(error),
+    };
+    Ok(Hold {
+        id: key.id,
+        kind: key.kind,
+        reason: key.reason,
+        fmid: key.fmid,
+        class,
+        date,
+        comment,
+        internal,
+    })
+}
+
+/// Whether the comment is no longer than the limit.
+pub fn has_short_comment(hold: &Hold) -> bool
+    ensures { IsTrue result ↔ HasShortComment hold.now }
+{
+    match &hold.comment {
+        Some(comment) => comment.len() <= LONGEST_COMMENT,
+        None => true,
+    }
+}

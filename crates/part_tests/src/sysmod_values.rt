@@ -1,0 +1,108 @@
+//! What a SYSMOD names, and how it grows.
+
+use fields::{Id, IdList, Name, Source, Srel};
+use std::alloc::{AllocError, Global};
+use std::test::Fail;
+use sysmod::{Action, ElemChange, Sysmod, Ver};
+use terms::{ElemType, Kind};
+use text80::Line;
+
+fn id(text: &[u8]) -> Result<Id, &'static str> {
+    Id::read(text).ok_or("no id")
+}
+
+fn srel(text: &[u8]) -> Result<Srel, &'static str> {
+    Srel::read(text).ok_or("no SREL")
+}
+
+fn name(text: &[u8]) -> Result<Name, &'static str> {
+    Name::read(text).ok_or("no name")
+}
+
+fn ver(alloc: Global, srel: Srel, fmid: Id) -> Ver {
+    Ver {
+        srel,
+        fmid: Some(fmid),
+        pre: IdList::new(alloc),
+        req: IdList::new(alloc),
+        sup: IdList::new(alloc),
+        npre: IdList::new(alloc),
+        del: IdList::new(alloc),
+        ifs: Vec::new(alloc),
+    }
+}
+
+/// An element statement of a data element with one record.
+fn data(alloc: Global, name: Name) -> Result<ElemChange, AllocError> {
+    let mut lines = Vec::new(alloc);
+    lines.push(Line::new([b' '; 80]))?;
+    Ok(ElemChange {
+        elem_type: ElemType::Data,
+        name,
+        action: Action::Replaces {
+            distlib: name,
+            syslib: name,
+            lines,
+        },
+    })
+}
+
+/// A PTF with a `++VER` for each SREL and FMID.
+fn with_vers(alloc: Global, id: Id, vers: &[(Srel, Id)]) -> Result<Sysmod, AllocError> {
+    let mut sysmod = Sysmod::new(alloc, Kind::Ptf, id);
+    for (srel, fmid) in vers {
+        sysmod.insert_ver(ver(alloc, *srel, *fmid))?;
+    }
+    Ok(sysmod)
+}
+
+/// A PTF with a data element of each name.
+fn with_data(alloc: Global, id: Id, names: &[Name]) -> Result<Sysmod, AllocError> {
+    let mut sysmod = Sysmod::new(alloc, Kind::Ptf, id);
+    for name in names {
+        sysmod.insert_change(data(alloc, *name)?)?;
+    }
+    Ok(sysmod)
+}
+
+/// The ids that it names for the SREL.
+fn named_for(alloc: Global, sysmod: &Sysmod, srel: Srel) -> Result<Vec<Id>, AllocError> {
+    let mut found = Vec::new(alloc);
+    sysmod.append_named(srel, &mut found)?;
+    Ok(found)
+}
+
+#[test]
+fn vers(rt: HostRuntime) -> Result<(), Fail> {
+    let (function, other, fix) = (id(b"HAA1100")?, id(b"HBB1100")?, id(b"UA00003")?);
+    let (low, high, none) = (srel(b"P004")?, srel(b"Z038")?, srel(b"C150")?);
+    let vers = [(high, other), (low, function), (high, function)];
+    let mut fix = with_vers(rt.alloc(), fix, &vers)?;
+    assert_eq!(rt; fix.vers.len(), 3);
+    assert_eq!(rt; fix.insert_ver(ver(rt.alloc(), low, other))?, 1);
+    assert!(rt; fix.names(function) && fix.names_function(function) && !fix.supersedes(function));
+    assert!(rt;
+        fix.names_for(high, function)
+            && fix.names_for(low, function)
+            && !fix.names_for(none, function)
+    );
+    assert_eq!(rt; named_for(rt.alloc(), &fix, none)?.len(), 0);
+    assert_eq!(rt;
+        named_for(rt.alloc(), &fix, high)?.as_slice(),
+        [other, function].as_slice()
+    );
+    Ok(())
+}
+
+#[test]
+fn changes(rt: HostRuntime) -> Result<(), Fail> {
+    let (first, second) = (name(b"AABC")?, name(b"BABC")?);
+    let mut fix = with_data(rt.alloc(), id(b"UA00003")?, &[second, first, second])?;
+    assert_eq!(rt; fix.changes.len(), 2);
+    assert!(rt; fix.has_change(ElemType::Data, second));
+    assert!(rt; !fix.has_change(ElemType::Exec, second));
+    fix.insert_source(Source::read(b"RSU2404").ok_or("no source")?)?;
+    assert_eq!(rt; fix.sources.len(), 1);
+    assert_eq!(rt; fix.take_holds(rt.alloc()).len(), 0);
+    Ok(())
+}

@@ -1,0 +1,90 @@
+//! The ERROR holds that a zone leaves open.
+ghost use Rattle.std.specs.Prelude.{◌≡◌, ◌++◌, IfOk, OnOk, filter};
+ghost use Rattle.std.specs.List.{flat_map};
+ghost use Rattle.machine.specs.Errsysmods.{is_current};
+ghost use Rattle.report.specs.ErrorHolds.{open_of, open_on, open_in};
+
+use fields::Id;
+use std::alloc::{AllocError, Global};
+use sysmod::Hold;
+use sysmods::GlobalZone;
+use terms::HoldKind;
+use zones::{Entry, Zone};
+
+/// An ERROR hold on an applied SYSMOD, by its reason.
+#[derive(Clone, Copy)]
+pub(crate) struct OpenError {
+    pub(crate) id: Id,
+    pub(crate) reason: Id,
+}
+
+fn append_open(
+    zone: &Zone,
+    id: Id,
+    hold: &Hold,
+    found: &mut Vec<OpenError>,
+) -> Result<(), AllocError>
+    ensures { OnOk result (found.new.items ≡ found.old.items ++ open_of zone.now id hold.now) }
+{
+    if hold.kind == HoldKind::Error {
+        if let Some(reason) = hold.reason.as_id() {
+            if !zone.supplies(reason) {
+                found.push(OpenError { id, reason })?;
+            }
+        }
+    }
+    Ok(())
+}
+
+#[tactic(auto, using(crate::proofs::OpenHolds::open_holds))]
+fn append_holds(
+    global: &GlobalZone,
+    zone: &Zone,
+    id: Id,
+    found: &mut Vec<OpenError>,
+) -> Result<(), AllocError>
+    ensures { OnOk result (found.new.items ≡ found.old.items ++ open_on global.now zone.now id) }
+{
+    for hold in global.holds_of(HoldKind::Error, id) {
+        append_open(zone, id, hold, found)?;
+    }
+    Ok(())
+}
+
+// Whether it is applied and superseded by nothing.
+fn is_current(entry: &Entry) -> bool
+    ensures { result ≡ is_current entry.now }
+{
+    entry.applied.is_some() && entry.supby.is_empty()
+}
+
+// Those on an entry, if it is applied and superseded by nothing.
+fn append_of_entry(
+    global: &GlobalZone,
+    zone: &Zone,
+    entry: &Entry,
+    found: &mut Vec<OpenError>,
+) -> Result<(), AllocError>
+    ensures { OnOk result (found.new.items ≡ found.old.items ++ open_in global.now zone.now entry.now) }
+{
+    if is_current(entry) {
+        append_holds(global, zone, entry.id, found)?;
+    }
+    Ok(())
+}
+
+/// The open ERROR holds, by the entries and then by reason.
+pub(crate) fn open_errors(
+    alloc: Global,
+    global: &GlobalZone,
+    zone: &Zone,
+) -> Result<Vec<OpenError>, AllocError>
+    ensures { IfOk result (λ found. found.items
+        ≡ flat_map (λ e. open_on global.now zone.now e.id) (filter is_current zone.now.entries)) }
+{
+    let mut found = Vec::new(alloc);
+    for entry in zone.entries() {
+        append_of_entry(global, zone, entry, &mut found)?;
+    }
+    Ok(found)
+}

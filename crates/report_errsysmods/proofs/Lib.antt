@@ -1,3 +1,0 @@
-pub mod Gaining
-pub mod OpenHolds
-pub mod Reporting

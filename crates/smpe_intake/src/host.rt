@@ -1,0 +1,96 @@
+//! The files, input and output of the system that the program runs on.
+
+use intake_command::{Host, Named};
+use std::io::Write;
+use std::{fs, io};
+
+/// The system, by what the program was started with.
+#[derive(Drop)]
+pub(crate) struct System<'a> {
+    pub(crate) rt: &'a HostRuntime,
+}
+
+// Nothing is said of the system: the relations hold of all.
+impl Host for System<'_> {
+    ghost gives = { λ _ _ _ _. Unit {0} };
+
+    ghost withholds = { λ _ _ _ _. Unit {0} };
+
+    ghost keeps = { λ _ _ _ _. Unit {0} };
+
+    ghost loses = { λ _ _ _ _ _. Unit {0} };
+
+    fn read(&mut self, name: &str) -> io::Result<Vec<u8>> {
+        fs::read(self.rt, name)
+    }
+
+    fn keep(&mut self, folder: &str, files: &[Named]) -> io::Result<()> {
+        fs::create_dir_all(self.rt, folder)?;
+        let kept = self.keep_in(folder, files);
+        if kept.is_err() {
+            self.take_away(folder, files, ".new");
+        }
+        kept
+    }
+
+    fn print(&mut self, text: &[u8]) -> io::Result<()> {
+        self.rt.stdout().write_all(text)
+    }
+
+    fn tell(&mut self, text: &[u8]) {
+        let _ = self.rt.stderr().write_all(text);
+    }
+
+    fn show(&mut self, error: &clap::Error) -> io::Result<()> {
+        error.print(self.rt)
+    }
+}
+
+impl System<'_> {
+    // All files are written under other names first. Then those of earlier runs go, and these come in their places; the
+    // remarks are last, so that where they are, all are.
+    fn keep_in(&self, folder: &str, files: &[Named]) -> io::Result<()> {
+        for file in files {
+            if let Some(bytes) = &file.bytes {
+                let name = self.within(folder, file.name, ".new")?;
+                fs::write(self.rt, name.as_str(), bytes.as_slice())?;
+            }
+        }
+        for file in files.iter().rev() {
+            let name = self.within(folder, file.name, "")?;
+            if fs::exists(self.rt, name.as_str())? {
+                fs::remove_file(self.rt, name.as_str())?;
+            }
+        }
+        let named = self.name_all(folder, files);
+        if named.is_err() {
+            self.take_away(folder, files, "");
+        }
+        named
+    }
+
+    fn name_all(&self, folder: &str, files: &[Named]) -> io::Result<()> {
+        for file in files {
+            if file.bytes.is_some() {
+                let from = self.within(folder, file.name, ".new")?;
+                let to = self.within(folder, file.name, "")?;
+                fs::rename(self.rt, from.as_str(), to.as_str())?;
+            }
+        }
+        Ok(())
+    }
+
+    fn take_away(&self, folder: &str, files: &[Named], ending: &str) {
+        for file in files {
+            if let Ok(name) = self.within(folder, file.name, ending) {
+                let _ = fs::remove_file(self.rt, name.as_str());
+            }
+        }
+    }
+
+    // The name of a file of the folder.
+    fn within(&self, folder: &str, name: &str, ending: &str) -> io::Result<String> {
+        let alloc = self.rt.alloc();
+        Ok(format!(in alloc; "{folder}/{name}{ending}")?)
+    }
+}

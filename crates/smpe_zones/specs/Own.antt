@@ -1,0 +1,32 @@
+-- Which changes of the tables an act may commit.
+use Rattle.std.specs.Prelude.{◌≡◌, false}
+use Rattle.terms.specs.Types.{Command, Receive, Reject, Apply, Accept, Restore}
+use Rattle.machine.specs.Machine.{Act, Perform, Define}
+use Rattle.store.specs.declared.change.Change.{Change}
+use Rattle.store.specs.declared.change.Change.TheVariants.{NewZone, Zone, Global}
+
+-- a change of the global zone
+abbrev pub IsOfGlobal : Change → Type 0
+IsOfGlobal (Global edits) = Unit {0}
+IsOfGlobal _ = ⊥
+
+-- a change of a target or distribution zone that is there
+abbrev pub IsOfZone : Change → Type 0
+IsOfZone (Zone name delta) = Unit {0}
+IsOfZone _ = ⊥
+
+-- RECEIVE and REJECT change the global zone, and APPLY, ACCEPT and RESTORE another one, unless they check alone. SET,
+-- LIST and REPORT change nothing.
+abbrev pub IsOwnOf : Command → Change → Type 0
+IsOwnOf (Receive what) change = IsOfGlobal change
+IsOwnOf (Reject ids) change = IsOfGlobal change
+IsOwnOf (Apply i) change = IsOfZone change × (i.check ≡ false)
+IsOwnOf (Accept i) change = IsOfZone change × (i.check ≡ false)
+IsOwnOf (Restore what check) change = IsOfZone change × (check ≡ false)
+IsOwnOf _ change = ⊥
+
+-- The definition of a zone adds that zone. The beginning of a job and the fault of a command file change nothing.
+abbrev pub IsOwn : Act → Change → Type 0
+IsOwn (Perform date files c) change = IsOwnOf c change
+IsOwn (Define d) change = change ≡ NewZone d.name d.kind d.srel d.related
+IsOwn _ change = ⊥

@@ -1,8 +1,0 @@
-use Rattle.sorted.proofs.Editing.{IsEditing}
-use Rattle.sorted.proofs.edits.edited.Given as goal
-
--- the edits so far are done
-abbrev pub invariant-loop-edit : goal.invariant-loop-edit
-invariant-loop-edit g l =
-    IsEditing g.T.Key.Ord.cmp g.T.Keyed.key_of l.fn.items.items l.edits l.edit-index l.new.items
-    l.rest.items

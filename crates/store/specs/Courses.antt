@@ -1,0 +1,27 @@
+-- How a call goes over a store, whatever its tables are: they need not stand for anything.
+use Rattle.std.specs.Prelude.{◌⊎◌, Result, OnOk}
+use Rattle.sqlite.specs.Store.{Ghosts}
+use Rattle.sqlite.specs.Held.{Held, state}
+use Rattle.sqlite.specs.State.{HasCleanDisk, KeepsCommit, Survives}
+use Rattle.store.specs.declared.change.Change.{Change}
+use Rattle.store.specs.BadRows.{OnlyLoads}
+use Rattle.store.specs.Calls.{calls_of}
+use Rattle.store.specs.Commits.{OnlyCommits}
+
+module _ {S : Type 0} (g : Ghosts S) (old new : Held S) where
+  -- It has loaded, and nothing else. An answer has left all as it was, and an error what was last committed. A crash has
+  -- no new outcome.
+  pub record LoadsAlone {X E : Type 0} (result : Result X E) : Type 0 where
+    pub same : OnOk result (OnlyLoads g old new)
+    pub kept : HasCleanDisk (state g new) → KeepsCommit (state g old) (state g new)
+    pub crash : Survives (state g old) (state g new) (λ _. ⊥)
+
+  -- It has loaded, and then made this change in one transaction, or failed to.
+  pub record CommitsOnce {X E : Type 0} (change : Change) (result : Result X E) : Type 0 where
+    pub before : Held S
+    pub loads : OnlyLoads g old before
+    pub commits : OnlyCommits g (calls_of change) before new result
+
+  -- It has loaded, or made one of its own changes besides.
+  abbrev pub GoesOver : (Change → Type 0) → {X E : Type 0} → Result X E → Type 0
+  GoesOver IsOwn result = LoadsAlone result ⊎ ((change : Change) × IsOwn change × CommitsOnce change result)

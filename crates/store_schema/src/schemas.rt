@@ -1,0 +1,82 @@
+//! The schema that the tables of a database are of, earlier ones too.
+
+ghost use Rattle.std.specs.Prelude.{◌≡◌, false, IfOk, IfSome, IfNone, IsErrOf};
+ghost use Rattle.sqlite.specs.Held.{state};
+ghost use Rattle.sqlite.specs.State.{HasCleanDisk, IsUnchanged, KeepsCommit, Survives};
+ghost use Rattle.store_schema.specs.Create.{IsBlank};
+ghost use Rattle.store_schema.specs.Known.{HasUnknownNumber, HasNoSchema, HasTablesUnder};
+ghost use Rattle.store_schema.specs.Looks.{LeavesAll, KeepsLast, SurvivesAs};
+ghost use Rattle.store_schema.specs.declared.schema.Schema.{Schema as SchemaOf};
+
+use crate::error::StoreError;
+use crate::numbers::{check_number, check_numbers};
+use crate::schema::Schema;
+use crate::tables::{is_blank, schema_with};
+use sqlite::{Alter, Connection};
+use std::alloc::Global;
+
+/// Knows the tables of a schema by all that they are.
+fn schema_by_tables<S: Alter>(alloc: Global, conn: &mut Connection<S>) -> Result<Schema, StoreError>
+    ensures known { HasCleanDisk (state S.Store conn.new) → IfOk result
+        (λ schema. HasTablesUnder schema (state S.Store conn.old).now) }
+    ensures none { HasCleanDisk (state S.Store conn.new) → IsErrOf result StoreError.NoState
+        → (schema : SchemaOf) → ¬ HasTablesUnder schema (state S.Store conn.old).now }
+    ensures which { IsErrOf result StoreError.OtherSchema → ⊥ }
+    ensures same { LeavesAll S.Store conn.old conn.new result }
+    ensures kept { KeepsLast S.Store conn.old conn.new }
+    ensures crash { SurvivesAs S.Store conn.old conn.new }
+    ensures mode { conn.old.in_transaction ≡ false → conn.new.in_transaction ≡ false }
+{
+    let Some(schema) = schema_with(alloc, conn.schema())? else {
+        return Err(StoreError::NoState);
+    };
+    check_number(conn, schema)?;
+    Ok(schema)
+}
+
+/// The same, once no number of another schema is found.
+fn known_schema<S: Alter>(alloc: Global, conn: &mut Connection<S>) -> Result<Schema, StoreError>
+    ensures known { HasCleanDisk (state S.Store conn.new) → IfOk result
+        (λ schema. HasTablesUnder schema (state S.Store conn.old).now) }
+    ensures other { HasCleanDisk (state S.Store conn.new) → IsErrOf result StoreError.OtherSchema
+        → HasUnknownNumber (state S.Store conn.old) }
+    ensures none { HasCleanDisk (state S.Store conn.new) → IsErrOf result StoreError.NoState
+        → ¬ IsBlank (state S.Store conn.old).now → HasNoSchema (state S.Store conn.old) }
+    ensures same { LeavesAll S.Store conn.old conn.new result }
+    ensures kept { KeepsLast S.Store conn.old conn.new }
+    ensures crash { SurvivesAs S.Store conn.old conn.new }
+    ensures mode { conn.old.in_transaction ≡ false → conn.new.in_transaction ≡ false }
+{
+    check_numbers(conn, &[1, 2, 3])?;
+    schema_by_tables(alloc, conn)
+}
+
+/// The schema that the tables are of, and none where there are no tables and views. It changes nothing. `OtherSchema`
+/// comes where `meta` gives a number that no schema has, `NoState` where the tables are else those of no schema,
+/// `Fault` where the database fails or has tables but no `meta` with its columns, and `Memory` where memory runs out.
+pub fn found_schema<S: Alter>(
+    alloc: Global,
+    conn: &mut Connection<S>,
+) -> Result<Option<Schema>, StoreError>
+    requires { conn.old.in_transaction ≡ false }
+    ensures blank { IfOk result (λ found. IfNone found
+        (IsBlank (state S.Store conn.old).now × (conn.new ≡ conn.old))) }
+    ensures known { HasCleanDisk (state S.Store conn.new) → IfOk result (λ found. IfSome found
+        (λ schema. HasTablesUnder schema (state S.Store conn.old).now)) }
+    ensures other { HasCleanDisk (state S.Store conn.new) → IsErrOf result StoreError.OtherSchema
+        → HasUnknownNumber (state S.Store conn.old) }
+    ensures none { HasCleanDisk (state S.Store conn.new) → IsErrOf result StoreError.NoState
+        → HasNoSchema (state S.Store conn.old) }
+    ensures same { HasCleanDisk (state S.Store conn.new) → IfOk result (λ found. IfSome found
+        (λ _. IsUnchanged (state S.Store conn.old) (state S.Store conn.new))) }
+    ensures kept { HasCleanDisk (state S.Store conn.new) → KeepsCommit (state S.Store conn.old)
+        (state S.Store conn.new) }
+    ensures crash { Survives (state S.Store conn.old) (state S.Store conn.new) (λ _. ⊥) }
+    ensures mode { conn.new.in_transaction ≡ false }
+{
+    if is_blank(conn.schema()) {
+        return Ok(None);
+    }
+    let schema = known_schema(alloc, conn)?;
+    Ok(Some(schema))
+}

@@ -1,0 +1,17 @@
+//! SYSMODs as they are received: their `++VER`s with `++IF`s, their holds and what they change.
+//! Contracts see the records of the definitions: which ids a SYSMOD names, supersedes and names as functions, and how
+//! it grows by one statement more (`insert_ver`, `push_if`, `push_hold`, `insert_change`).
+#![tactic(auto)]
+
+mod adding;
+mod change;
+mod cloning;
+mod hold;
+mod keyed;
+mod sysmod;
+mod ver;
+
+pub use change::{Action, ElemChange};
+pub use hold::Hold;
+pub use sysmod::Sysmod;
+pub use ver::{IfReq, Ver};

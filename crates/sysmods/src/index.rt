@@ -1,0 +1,137 @@
+//! For each id the ids of those that name it.
+ghost use Rattle.std.specs.Prelude.{IsTrue, map, OnOk};
+ghost use Rattle.terms.specs.Lookups.{at_most_one, is_in};
+ghost use Rattle.sysmods.specs.Index.{has, HasAll, Grows, IsIndexed, KeepsOthers, mentions};
+
+use fields::Id;
+use std::alloc::{AllocError, Global};
+use std::collections::{BTreeMap, BTreeSet};
+use sysmod::{IfReq, Sysmod, Ver};
+
+/// An id that is named may have others beside those that name it: who uses the index asks them.
+#[derive(Drop)]
+pub(crate) struct Index {
+    pub(crate) sets: BTreeMap<Id, BTreeSet<Id>>,
+    alloc: Global,
+}
+
+impl Index {
+    pub(crate) fn new(alloc: Global) -> Index {
+        Index {
+            sets: BTreeMap::new(alloc),
+            alloc,
+        }
+    }
+
+    fn insert(&mut self, named: Id, namer: Id) -> Result<(), AllocError>
+        ensures has { OnOk result (IsTrue (has self.new.sets named namer)) }
+        ensures grows { Grows self.old.sets self.new.sets }
+    {
+        if let Some(namers) = self.sets.get_mut(&named) {
+            namers.insert(namer)?;
+            return Ok(());
+        }
+        let mut namers = BTreeSet::new(self.alloc);
+        namers.insert(namer)?;
+        self.sets.insert(named, namers)?;
+        Ok(())
+    }
+
+    fn insert_all(&mut self, named: &[Id], namer: Id) -> Result<(), AllocError>
+        ensures has { OnOk result (HasAll self.new.sets namer (is_in named.now)) }
+        ensures grows { Grows self.old.sets self.new.sets }
+    {
+        for id in named {
+            self.insert(*id, namer)?;
+        }
+        Ok(())
+    }
+
+    fn insert_functions(&mut self, conditions: &[IfReq], namer: Id) -> Result<(), AllocError>
+        ensures has { OnOk result (HasAll self.new.sets namer (is_in (map (λ i. i.function) conditions.now))) }
+        ensures grows { Grows self.old.sets self.new.sets }
+    {
+        for condition in conditions {
+            self.insert(condition.function, namer)?;
+        }
+        Ok(())
+    }
+
+    fn insert_fmid(&mut self, fmid: Option<Id>, namer: Id) -> Result<(), AllocError>
+        ensures has { OnOk result (HasAll self.new.sets namer (is_in (at_most_one fmid))) }
+        ensures grows { Grows self.old.sets self.new.sets }
+    {
+        match fmid {
+            Some(id) => self.insert(id, namer),
+            None => Ok(()),
+        }
+    }
+
+    fn insert_ver(&mut self, ver: &Ver, namer: Id) -> Result<(), AllocError>
+        ensures has { OnOk result (HasAll self.new.sets namer (mentions ver.now)) }
+        ensures grows { Grows self.old.sets self.new.sets }
+    {
+        self.insert_all(ver.pre.as_slice(), namer)?;
+        self.insert_all(ver.sup.as_slice(), namer)?;
+        self.insert_all(ver.del.as_slice(), namer)?;
+        self.insert_functions(ver.ifs.as_slice(), namer)?;
+        self.insert_fmid(ver.fmid, namer)?;
+        Ok(())
+    }
+
+    /// Adds the SYSMOD to those of each id that it names. It adds some of them where memory runs out.
+    pub(crate) fn insert_sysmod(&mut self, sysmod: &Sysmod) -> Result<(), AllocError>
+        ensures has { OnOk result (IsIndexed self.new.sets sysmod.now) }
+        ensures grows { Grows self.old.sets self.new.sets }
+    {
+        for ver in sysmod.vers.iter() {
+            self.insert_ver(ver, sysmod.id)?;
+        }
+        Ok(())
+    }
+
+    fn remove(&mut self, named: Id, namer: Id)
+        ensures { KeepsOthers namer self.old.sets self.new.sets }
+    {
+        if let Some(namers) = self.sets.get_mut(&named) {
+            namers.remove(&namer);
+        }
+    }
+
+    fn remove_all(&mut self, named: &[Id], namer: Id)
+        ensures { KeepsOthers namer self.old.sets self.new.sets }
+    {
+        for id in named {
+            self.remove(*id, namer);
+        }
+    }
+
+    fn remove_functions(&mut self, conditions: &[IfReq], namer: Id)
+        ensures { KeepsOthers namer self.old.sets self.new.sets }
+    {
+        for condition in conditions {
+            self.remove(condition.function, namer);
+        }
+    }
+
+    fn remove_ver(&mut self, ver: &Ver, namer: Id)
+        ensures { KeepsOthers namer self.old.sets self.new.sets }
+    {
+        self.remove_all(ver.pre.as_slice(), namer);
+        self.remove_all(ver.sup.as_slice(), namer);
+        self.remove_all(ver.del.as_slice(), namer);
+        self.remove_functions(ver.ifs.as_slice(), namer);
+        if let Some(fmid) = ver.fmid {
+            self.remove(fmid, namer);
+        }
+    }
+
+    /// Takes the SYSMOD out from those of each id that it names.
+    pub(crate) fn remove_sysmod(&mut self, sysmod: &Sysmod)
+        ensures { KeepsOthers sysmod.now.id self.old.sets self.new.sets }
+    {
+        for ver in sysmod.vers.iter() {
+            self.remove_ver(ver, sysmod.id);
+        }
+    }
+}

@@ -1,0 +1,56 @@
+//! What the received SYSMODs name in the `++VER`s of one SREL, and one more among them.
+ghost use Rattle.terms.specs.Global.{names_for, with_sysmod};
+ghost use Rattle.sysmods.specs.Held.{zone_of};
+ghost use Rattle.sysmods.specs.Namers.{namers_with};
+
+use crate::received::Received;
+use crate::search::Names;
+use fields::{Id, Srel};
+use std::alloc::AllocError;
+use sysmod::Sysmod;
+
+/// The received SYSMODs, and one more in place of one of its id.
+#[derive(Clone, Copy)]
+pub(crate) struct Naming<'a> {
+    pub(crate) received: &'a Received,
+    pub(crate) sysmod: &'a Sysmod,
+    pub(crate) srel: Srel,
+}
+
+impl Names for Naming<'_> {
+    ghost named = { λ n x. names_for (with_sysmod (zone_of n.received.now) n.sysmod.now) n.srel x };
+
+    fn append_named(&self, id: Id, found: &mut Vec<Id>) -> Result<(), AllocError> {
+        let sysmod = self.sysmod;
+        if id == sysmod.id {
+            sysmod.append_named(self.srel, found)?;
+            return Ok(());
+        }
+        if let Some(other) = self.received.get(id) {
+            other.append_named(self.srel, found)?;
+            return Ok(());
+        }
+        Ok(())
+    }
+}
+
+/// The same from the other side: who names an id.
+#[derive(Clone, Copy)]
+pub(crate) struct Namers<'a> {
+    pub(crate) received: &'a Received,
+    pub(crate) sysmod: &'a Sysmod,
+    pub(crate) srel: Srel,
+}
+
+impl Names for Namers<'_> {
+    ghost named = { λ n z. namers_with n.received.now n.sysmod.now n.srel z };
+
+    fn append_named(&self, id: Id, found: &mut Vec<Id>) -> Result<(), AllocError> {
+        self.received.append_namers(self.srel, id, found)?;
+        let sysmod = self.sysmod;
+        if sysmod.names_for(self.srel, id) {
+            found.push(sysmod.id)?;
+        }
+        Ok(())
+    }
+}

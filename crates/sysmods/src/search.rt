@@ -1,0 +1,147 @@
+//! Searches in a graph of ids.
+ghost use Rattle.std.specs.Prelude.{◌≡◌, ◌++◌, ◌↔◌, ◌<◌, ◌||◌, length, List, ℕ, OnOk, IfOk, IsSomeAnd, Contains};
+ghost use Rattle.std.specs.Prelude.{IsTrue};
+ghost use Rattle.terms.specs.Lookups.{is_in};
+ghost use Rattle.terms.specs.Over.{Reaches};
+ghost use Rattle.sysmods.specs.Seen.{AddsAll, GoesOn, IsTurned};
+
+use fields::{Id, IdList};
+use indexmap::IndexSet;
+use std::alloc::{AllocError, Global};
+
+/// A graph of ids: what each of them names.
+pub trait Names {
+    ghost named: { Self → List ℕ → List (List ℕ) };
+
+    /// Appends what the id names. One that is not known names nothing. The error comes where memory runs out.
+    fn append_named(&self, id: Id, found: &mut Vec<Id>) -> Result<(), AllocError>
+        ensures { OnOk result (found.new.items ≡ found.old.items ++ named self.now id) };
+}
+
+/// Adds what the id names to the ids that are seen. What `found` had is forgotten.
+fn see_named<N: Names>(
+    names: &N,
+    id: Id,
+    found: &mut Vec<Id>,
+    seen: &mut IndexSet<Id>,
+) -> Result<(), AllocError>
+    ensures { OnOk result (AddsAll seen.old.keys (N.named names.now id) seen.new.keys) }
+{
+    found.clear();
+    names.append_named(id, found)?;
+    for next in found.iter() {
+        seen.insert(*next)?;
+    }
+    Ok(())
+}
+
+/// Whether there is an id to stop at and it is seen.
+fn is_met(seen: &IndexSet<Id>, stop: Option<&Id>) -> bool
+    ensures { IsTrue result ↔ IsSomeAnd stop.entry (λ z. Contains seen.now.keys z.now) }
+{
+    match stop {
+        Some(z) => seen.contains(z),
+        None => false,
+    }
+}
+
+/// Goes through one of the ids that are seen.
+fn go_on<N: Names>(
+    names: &N,
+    gone: usize,
+    found: &mut Vec<Id>,
+    seen: &mut IndexSet<Id>,
+) -> Result<(), AllocError>
+    requires { gone < length seen.old.keys }
+    ensures { OnOk result (GoesOn (N.named names.now) gone seen.old.keys seen.new.keys) }
+{
+    let y = seen.as_slice()[gone];
+    see_named(names, y, found, seen)?;
+    Ok(())
+}
+
+/// The ids that x reaches, each where the search met it first: marks and queue at once. Once
+/// the one to stop at is seen, it goes no further.
+fn reached<N: Names>(
+    alloc: Global,
+    names: &N,
+    x: Id,
+    stop: Option<&Id>,
+) -> Result<IndexSet<Id>, AllocError>
+    ensures sound { IfOk result (λ seen. (z : List ℕ) → Contains seen.keys z → Reaches (N.named names.now) x z) }
+    ensures all { IfOk result (λ seen. ¬ IsSomeAnd stop.entry (λ z. Contains seen.keys z.now) →
+        (z : List ℕ) → Reaches (N.named names.now) x z → Contains seen.keys z) }
+{
+    let mut seen = IndexSet::new(alloc);
+    let mut found = Vec::new(alloc);
+    see_named(names, x, &mut found, &mut seen)?;
+    let mut i = 0;
+    while i < seen.len() {
+        if is_met(&seen, stop) {
+            return Ok(seen);
+        }
+        go_on(names, i, &mut found, &mut seen)?;
+        i += 1;
+    }
+    Ok(seen)
+}
+
+/// Whether x leads to z by a list of ids, each naming the next, in one step or more. With z being x it
+/// is whether x stands in a loop. The error comes where memory runs out.
+pub fn leads<N: Names>(alloc: Global, names: &N, x: Id, z: Id) -> Result<bool, AllocError>
+    ensures { IfOk result (λ found. IsTrue found ↔ Reaches (N.named names.now) x z) }
+{
+    let seen = reached(alloc, names, x, Some(&z))?;
+    Ok(seen.contains(&z))
+}
+
+/// Whether the search from x has seen z, or the one back from z has seen x.
+fn have_met(ahead: &IndexSet<Id>, behind: &IndexSet<Id>, x: Id, z: Id) -> bool
+    ensures { result ≡ (is_in ahead.now.keys z || is_in behind.now.keys x) }
+{
+    ahead.contains(&z) || behind.contains(&x)
+}
+
+/// Whether x leads to z, where `namers` gives for each id those that name it. It goes on from the end
+/// that has seen less, and stops once either end has seen the other one or has nothing left. The error comes where
+/// memory runs out.
+pub fn leads_from_both_ends<F: Names, B: Names>(
+    alloc: Global,
+    names: &F,
+    namers: &B,
+    x: Id,
+    z: Id,
+) -> Result<bool, AllocError>
+    requires { IsTurned (F.named names.now) (B.named namers.now) }
+    ensures { IfOk result (λ found. IsTrue found ↔ Reaches (F.named names.now) x z) }
+{
+    let mut found = Vec::new(alloc);
+    let mut ahead = IndexSet::new(alloc);
+    let mut behind = IndexSet::new(alloc);
+    see_named(names, x, &mut found, &mut ahead)?;
+    see_named(namers, z, &mut found, &mut behind)?;
+    let mut i = 0;
+    let mut j = 0;
+    while i < ahead.len() && j < behind.len() {
+        if have_met(&ahead, &behind, x, z) {
+            return Ok(true);
+        }
+        if ahead.len() <= behind.len() {
+            go_on(names, i, &mut found, &mut ahead)?;
+            i += 1;
+        } else {
+            go_on(namers, j, &mut found, &mut behind)?;
+            j += 1;
+        }
+    }
+    Ok(have_met(&ahead, &behind, x, z))
+}
+
+/// The ids that x leads to by such lists. The error comes where memory runs out.
+pub fn ends<N: Names>(alloc: Global, names: &N, x: Id) -> Result<IdList, AllocError>
+    ensures { IfOk result (λ ends. (z : List ℕ) → Contains ends z ↔ Reaches (N.named names.now) x z) }
+{
+    let seen = reached(alloc, names, x, None)?;
+    let ends = Vec::from_slice(alloc, seen.as_slice())?;
+    Ok(IdList::from_vec(ends))
+}

@@ -1,0 +1,44 @@
+//! Putting holds so that it can be taken back.
+ghost use Rattle.std.specs.Prelude.{◌≡◌, List, [], OnOk};
+ghost use Rattle.terms.specs.Types as terms;
+ghost use Rattle.sysmods.specs.Lists.{with_holds};
+ghost use Rattle.sysmods.specs.Undone.{UndoesAll};
+
+use crate::holds::Holds;
+use crate::key::HoldKey;
+use std::alloc::AllocError;
+use sysmod::Hold;
+
+/// What takes the putting of a hold back: the new one goes, or the old one comes again.
+#[derive(Drop)]
+pub(crate) enum Undo {
+    Remove(HoldKey),
+    Restore(Hold),
+}
+
+/// Puts one hold after another, and what takes each back into the log.
+pub(crate) fn put_each(
+    to: &mut Holds,
+    holds: Vec<Hold>,
+    log: &mut Vec<Undo>,
+) -> Result<(), AllocError>
+    requires { log.old.items ≡ [] }
+    ensures ok { OnOk result (to.new ≡ with_holds to.old holds.items) }
+    ensures undo { UndoesAll to.old to.new log.new.items }
+{
+    for hold in holds {
+        log.reserve(1)?;
+        let undo = to.exchange(hold)?;
+        log.push_reserved(undo);
+    }
+    Ok(())
+}
+
+/// Takes changes back, the last one first.
+pub(crate) fn take_back(from: &mut Holds, mut log: Vec<Undo>)
+    ensures { (old : List terms.Hold) → UndoesAll old from.old log.items → from.new ≡ old }
+{
+    while let Some(undo) = log.pop() {
+        from.take_back(undo);
+    }
+}

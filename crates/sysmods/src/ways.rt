@@ -1,0 +1,26 @@
+//! The ways in which SYSMODs name ids.
+ghost use Rattle.std.specs.Prelude.{◌≡◌};
+ghost use Rattle.sysmods.specs.Ways.{names_so};
+
+use fields::Id;
+use sysmod::Sysmod;
+
+/// How one of its `++VER`s names an id: in PRE, SUP or FMID; in SUP; in DELETE, FMID or an `++IF`.
+#[derive(Clone, Copy)]
+pub(crate) enum Way {
+    Named,
+    Superseded,
+    AsFunction,
+}
+
+impl Way {
+    pub(crate) fn is_of(self, sysmod: &Sysmod, id: Id) -> bool
+        ensures { result ≡ names_so self id sysmod.now }
+    {
+        match self {
+            Way::Named => sysmod.names(id),
+            Way::Superseded => sysmod.supersedes(id),
+            Way::AsFunction => sysmod.names_function(id),
+        }
+    }
+}

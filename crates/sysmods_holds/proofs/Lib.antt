@@ -1,5 +1,0 @@
-pub mod Internal
-pub mod Keyed
-pub mod Listed
-pub mod Undoing
-pub mod KeyedMaps

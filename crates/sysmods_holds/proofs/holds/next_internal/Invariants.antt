@@ -1,9 +1,0 @@
-use Rattle.std.proofs.Common.{◌≡◌, ◌++◌, filter}
-use Rattle.sysmods_holds.specs.Internal.{goes_on}
-use Rattle.sysmods_holds.proofs.Keyed.{Entries}
-use Rattle.sysmods_holds.proofs.Internal.{External}
-use Rattle.sysmods_holds.proofs.holds.next_internal.Given as goal
-
-abbrev pub invariant-loop-key : goal.invariant-loop-key
-invariant-loop-key l = (front : Entries) × (filter (λ e. goes_on l.fn.from e.0) l.map.entries ≡ front ++ l.key-iterator)
-    × External front

@@ -1,5 +1,0 @@
-use Rattle.sysmods_received.specs.Index.{KeepsOthers}
-use Rattle.sysmods_received.proofs.index.Index.remove_sysmod.Given as goal
-
-abbrev pub invariant-loop-ver : goal.invariant-loop-ver
-invariant-loop-ver l = KeepsOthers l.fn.sysmod.id l.fn.self.sets l.self.sets

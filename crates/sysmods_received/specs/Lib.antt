@@ -1,5 +1,0 @@
-pub mod Index
-pub mod Held
-pub mod Namers
-pub mod Ways
-pub mod Refused

@@ -1,0 +1,20 @@
+-- What RESTORE looks into, by the values of the code.
+use Rattle.std.specs.Prelude.{List, [], ◌∷◌, ◌++◌, filter}
+use Rattle.terms.specs.Types.{Id, Zone}
+use Rattle.terms.specs.Lookups.{is_applied, supby_of}
+use Rattle.terms.specs.Restore.{Restoring}
+use Rattle.sysmods.specs.declared.choice.VerChoice.{VerChoice}
+use Rattle.sysmods.specs.Choices.{choice}
+use Rattle.undo.specs.declared.scope.Scope.{Scope}
+
+-- the target zone and its distribution zone, with the ++VERs that count
+abbrev pub restoring : VerChoice → Zone → Zone → Restoring
+restoring vers zone accepted =
+    record { global = vers.global.now; choice = choice vers; zone = zone; accepted = accepted }
+
+abbrev pub restoring_of : Scope → Restoring
+restoring_of scope = restoring scope.vers.now scope.zone.now scope.accepted.now
+
+-- the applied SYSMODs that supply the id
+abbrev pub suppliers : Zone → Id → List Id
+suppliers zone z = filter (is_applied zone) (z ∷ []) ++ filter (is_applied zone) (supby_of zone z)

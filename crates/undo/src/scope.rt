@@ -1,0 +1,82 @@
+//! What RESTORE looks into.
+ghost use Rattle.std.specs.Prelude.{◌≡◌, ◌++◌, [], ◌∷◌, not, filter, map, is_some, IfOk, OnOk};
+ghost use Rattle.terms.specs.Lookups.{is_supplied, applied_ids, changes_of, supby_of};
+
+use fields::Id;
+use std::alloc::{AllocError, Global};
+use sysmod::ElemChange;
+use sysmods::VerChoice;
+use zones::{Entry, Zone};
+
+/// The `++VER`s that count, the target zone, its distribution zone, and the ids that are applied in the target zone,
+/// which `applied_ids` finds once for all that a RESTORE decides.
+#[derive(Clone, Copy)]
+pub struct Scope<'a, 'b> {
+    pub vers: &'a VerChoice<'b>,
+    pub zone: &'a Zone,
+    pub accepted: &'a Zone,
+    pub applied: &'a [Id],
+    pub ghost has_applied: { applied.now ≡ applied_ids zone.now },
+}
+
+/// The element statements of a received SYSMOD.
+pub fn changes_of<'a>(vers: &VerChoice<'a>, id: Id) -> &'a [ElemChange]
+    ensures { result.now ≡ changes_of vers.now.global.now id }
+{
+    match vers.global().get(id) {
+        Some(sysmod) => sysmod.changes.as_slice(),
+        None => &[],
+    }
+}
+
+/// The SYSMODs that supersede the id in the zone.
+pub(crate) fn superseders(zone: &Zone, id: Id) -> &[Id]
+    ensures { result.now ≡ supby_of zone.now id }
+{
+    match zone.entry(id) {
+        Some(entry) => entry.supby.as_slice(),
+        None => &[],
+    }
+}
+
+fn push_if_applied(entry: &Entry, found: &mut Vec<Id>) -> Result<(), AllocError>
+    ensures { OnOk result (found.new.items ≡ found.old.items
+        ++ map (λ e. e.id) (filter (λ e. is_some e.applied) (entry.now ∷ []))) }
+{
+    if entry.applied.is_some() {
+        found.push(entry.id)?;
+    }
+    Ok(())
+}
+
+/// The ids that are applied. An error comes where memory runs out.
+pub fn applied_ids(alloc: Global, zone: &Zone) -> Result<Vec<Id>, AllocError>
+    ensures { IfOk result (λ found. found.items ≡ applied_ids zone.now) }
+{
+    let mut found = Vec::new(alloc);
+    for entry in zone.entries() {
+        push_if_applied(entry, &mut found)?;
+    }
+    Ok(found)
+}
+
+fn push_if_unaccepted(accepted: &Zone, id: Id, found: &mut Vec<Id>) -> Result<(), AllocError>
+    ensures { OnOk result (found.new.items ≡ found.old.items
+        ++ filter (λ y. not (is_supplied accepted.now y)) (id ∷ [])) }
+{
+    if !accepted.supplies(id) {
+        found.push(id)?;
+    }
+    Ok(())
+}
+
+/// Those of these ids that the distribution zone does not supply. An error comes where memory runs out.
+pub fn unaccepted(alloc: Global, accepted: &Zone, ids: &[Id]) -> Result<Vec<Id>, AllocError>
+    ensures { IfOk result (λ found. found.items ≡ filter (λ y. not (is_supplied accepted.now y)) ids.now) }
+{
+    let mut found = Vec::new(alloc);
+    for id in ids {
+        push_if_unaccepted(accepted, *id, &mut found)?;
+    }
+    Ok(found)
+}

@@ -1,4 +1,0 @@
-pub mod Supplying
-pub mod ListedBySteps
-pub mod Reached
-pub mod RulesOfSteps

@@ -1,4 +1,0 @@
-pub mod Restoring
-pub mod Steps
-pub mod NodeOrder
-pub mod ByNumbers
