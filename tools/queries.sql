@@ -53,8 +53,8 @@ SELECT zone.name AS zone, entry.id,
   date, supby, delby, waived
 FROM zone JOIN entry ON entry.zone = zone.name;
 
--- What would supply an id to a zone: the received SYSMOD of that id, and each that names it in SUP, by any ++VER for the
--- zone's SREL, and how they stand there. (An FMID is supplied by the function of that id alone.)
+-- What would supply an id to a zone: the received SYSMOD of that id, and each that names it in SUP, by any ++VER for
+-- the zone's SREL, and how they stand there. (An FMID is supplied by the function of that id alone.)
 CREATE TEMP VIEW suppliers AS
 SELECT zone.name AS zone, wanted, supplier, stands
 FROM zone JOIN (

@@ -1,5 +1,5 @@
 //! The kept candidates and the failures of the others.
-ghost use Rattle.std.specs.Prelude.{◌≡◌, ◌≢◌, ◌<◌, ◌^◌, Bool, All, AllPairs, Contains, IfOk, length, map};
+ghost use Rattle.std.specs.Prelude.{◌≡◌, ◌≢◌, Bool, All, AllPairs, Contains, IfOk, length, map};
 ghost use Rattle.terms.specs.declared.codes.Test.{Test as ATest};
 ghost use Rattle.terms.specs.Types.{Id as AnId};
 ghost use Rattle.decide.specs.Views.{why_failed};
@@ -28,7 +28,7 @@ pub struct Decided {
 
 /// Decides on candidates, beside which stand the tests that each one fails, by what they need, each need once, and by
 /// pairs of a candidate and one that it supersedes. It keeps the greatest set of those that fail no test and that
-/// supports itself. The error comes where memory runs out, and for 2^32 candidates or more.
+/// supports itself. The error comes where memory runs out.
 pub fn decide(
     alloc: Global,
     ids: &IdList,
@@ -49,9 +49,6 @@ pub fn decide(
           superseded = superseded.now;
         }) d.kept (map why_failed d.failed.items)) }
 {
-    if ids.len() > 4_294_967_295 {
-        return Err(AllocError);
-    }
     ids.attest();
     let eligible = all_eligible(alloc, tests.as_slice())?;
     let problem = numbered(alloc, ids, superseded, needs, eligible)?;

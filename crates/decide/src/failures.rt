@@ -15,7 +15,7 @@ use terms::{NeedKind, Test};
 pub(crate) struct Findings {
     pub(crate) tests: Vec<Vec<Test>>,
     pub(crate) unserved: Vec<Vec<(NeedKind, Id)>>,
-    pub(crate) causers: Vec<Vec<u32>>,
+    pub(crate) causers: Vec<Vec<usize>>,
 }
 
 // Why a candidate with these failed.
@@ -24,7 +24,7 @@ fn failure_of(
     ids: &[Id],
     tests: &[Test],
     unserved: &[(NeedKind, Id)],
-    causers: &[u32],
+    causers: &[usize],
 ) -> Result<Failure, AllocError>
     requires { All (λ m. m < length ids.now) causers.now }
     ensures { IfOk result (λ f. IsFailureOf ids.now tests.now unserved.now causers.now (failure_view f)) }

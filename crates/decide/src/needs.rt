@@ -27,7 +27,7 @@ fn add_open(
         ≡ row_at rows.old x ++ open_of kept.now (numbered need.now) (meant.0, meant.1) x) }
 {
     if !serves(kept, &need.any) {
-        rows[need.of as usize].push(meant)?;
+        rows[need.of].push(meant)?;
     }
     Ok(())
 }

@@ -1,5 +1,5 @@
 //! The numbered problem of who is eligible and needs whom.
-ghost use Rattle.std.specs.Prelude.{◌≡◌, ◌<◌, ◌^◌, length, map, All, Contains, OnOk, IfOk};
+ghost use Rattle.std.specs.Prelude.{◌≡◌, length, map, All, Contains, OnOk, IfOk};
 ghost use Rattle.terms.specs.Lookups.{is_nil};
 ghost use Rattle.solve.specs.Problem.{IsProblem};
 ghost use Rattle.decide.specs.Numbered.{AddsNumberedNeed, HasNumberedNeeds, HasProblem};
@@ -27,11 +27,10 @@ pub(crate) fn all_eligible(alloc: Global, rows: &[Vec<Test>]) -> Result<Vec<bool
 fn number_need(
     alloc: Global,
     ids: &IdList,
-    served: &BTreeSet<(Id, u32)>,
+    served: &BTreeSet<(Id, usize)>,
     need: Need,
     problem: &mut Problem,
 ) -> Result<(), AllocError>
-    requires fits { length ids.now < 2 ^ 32 }
     requires size { problem.old.size ≡ length ids.now }
     requires of { Contains ids.now need.of }
     ensures { OnOk result (AddsNumberedNeed ids.now served.now.keys need problem.old problem.new) }
@@ -46,11 +45,10 @@ fn number_need(
 fn with_needs(
     alloc: Global,
     ids: &IdList,
-    served: &BTreeSet<(Id, u32)>,
+    served: &BTreeSet<(Id, usize)>,
     stated: &[Need],
     eligible: Vec<bool>,
 ) -> Result<Problem, AllocError>
-    requires fits { length ids.now < 2 ^ 32 }
     requires within { All (λ w. Contains ids.now w.of) stated.now }
     requires flags { length eligible.items ≡ length ids.now }
     ensures valid { IfOk result (λ problem. IsProblem problem) }
@@ -73,7 +71,6 @@ pub(crate) fn numbered(
     stated: &[Need],
     eligible: Vec<bool>,
 ) -> Result<Problem, AllocError>
-    requires fits { length ids.now < 2 ^ 32 }
     requires by { All (λ p. Contains ids.now p.0) superseded.now }
     requires within { All (λ w. Contains ids.now w.of) stated.now }
     requires flags { length eligible.items ≡ length ids.now }

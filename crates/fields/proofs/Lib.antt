@@ -1,1 +1,2 @@
 pub mod PaddedTexts
+pub mod ShortOrder

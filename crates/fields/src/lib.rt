@@ -1,6 +1,9 @@
-//! The small values that records hold, as ids and names: each is checked once, where it is read.
-//! `read` answers a value just where the text has its form, and contracts see the value as that text; its order and
-//! equality are the text's. A list that rises (`Rising`) is its items, with look-ups by binary search.
+//! The small values that files, tables and commands share: each is checked once, where it is made.
+//! Ids, names, dates, reasons and classes are read just where the text has their form, and contracts see them as that
+//! text; their order and equality are the text's. The number of a `++VER` is one that a table's column holds. A list
+//! that rises (`Rising`) is its items, with look-ups by binary search. Each kind, type and code has one word, in files,
+//! tables and reports alike (`spelling`). What commands choose and bypass are plain values, whatever file they come
+//! from.
 #![tactic(auto)]
 
 mod attest;
@@ -14,6 +17,7 @@ mod lists;
 mod names;
 mod padded;
 pub mod spelling;
+mod ver_number;
 
 pub use attest::Attest;
 pub use bypass::{Bypass, Reasons};
@@ -23,6 +27,7 @@ pub use holds::{HoldDate, Reason};
 pub use ids::{Class, Id, Source};
 pub use lists::{Field, Rising};
 pub use names::{Name, Srel, ZoneName};
+pub use ver_number::VerNumber;
 
 /// Ids in rising order.
 pub type IdList = Rising<Id>;

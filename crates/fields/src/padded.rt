@@ -1,5 +1,5 @@
 //! A text of a few bytes that lies in its value, with equality and order by its bytes.
-ghost use Rattle.std.specs.Prelude.{◌≡◌, ◌<◌, ◌≤◌, ◌^◌, length, Some, List, ℕ, refl};
+ghost use Rattle.std.specs.Prelude.{◌≡◌, ◌<◌, ◌≤◌, ◌^◌, length, All, Some, List, ℕ, refl};
 ghost use Rattle.std.specs.Hash as fed;
 ghost use Rattle.std.specs.Ordering.{nat_cmp};
 ghost use Rattle.std.specs.Cmp.Lexicographic.{slice_cmp, nat_list_eq_equiv, nat_list_cmp_total, texts_ties, texts_po};
@@ -7,6 +7,7 @@ ghost use Rattle.std.specs.Cmp.{partial_equiv_from_equiv};
 ghost use Rattle.std.specs.Cmp.Rules.{hashing};
 ghost use Rattle.std.specs.Str.{bytes_eq};
 ghost use Rattle.std.proofs.Common.{rules};
+ghost use Rattle.fields.specs.ShortNumbers.{number_of};
 
 use std::cmp::Ordering;
 use std::hash::{Hash, Hasher};
@@ -55,6 +56,27 @@ impl<const N: usize> Short<N> {
     {
         &self.bytes[..usize::from(self.len)]
     }
+
+    // The bytes and behind them the length, as one number: two of these are compared faster than two texts.
+    fn number(&self) -> u64
+        requires { N ≡ 7 }
+        ensures same { result ≡ number_of self.now }
+        ensures fits { length self.now ≤ 7 }
+        ensures bytes { All (λ b. b < 256) self.now }
+    {
+        let text = self.as_bytes();
+        let bytes = &self.bytes;
+        u64::from_be_bytes([
+            bytes[0],
+            bytes[1],
+            bytes[2],
+            bytes[3],
+            bytes[4],
+            bytes[5],
+            bytes[6],
+            text.len() as u8,
+        ])
+    }
 }
 
 impl<const N: usize> PartialEq for Short<N> {
@@ -63,6 +85,9 @@ impl<const N: usize> PartialEq for Short<N> {
     ghost laws = { partial_equiv_from_equiv nat_list_eq_equiv };
 
     fn eq(&self, other: &Self) -> bool {
+        if N == 7 {
+            return self.number() == other.number();
+        }
         self.as_bytes() == other.as_bytes()
     }
 }
@@ -91,6 +116,9 @@ impl<const N: usize> Ord for Short<N> {
     ghost matches_eq = { texts_ties };
 
     fn cmp(&self, other: &Self) -> Ordering {
+        if N == 7 {
+            return self.number().cmp(&other.number());
+        }
         self.as_bytes().cmp(other.as_bytes())
     }
 }

@@ -7,6 +7,7 @@ ghost use Rattle.std.specs.Option.{option_map_or};
 ghost use Rattle.terms.specs.Types.{is_distribution};
 ghost use Rattle.terms.specs.Lookups.{changes_of, holds_of, is_applied, is_in, sysmod_of};
 ghost use Rattle.terms.specs.Choice.{fits};
+ghost use Rattle.terms.specs.Deleted.{deletions};
 ghost use Rattle.terms.specs.Tests.{FailsJ13, is_bypassed_hold};
 ghost use Rattle.sysmods.specs.Choices.{choice};
 ghost use Rattle.judge_faults.specs.Forbidders.{AreForbidders};
@@ -24,7 +25,7 @@ use sysmod::{ElemChange, Ver};
 use sysmods::{GlobalZone, Overs};
 use terms::{HoldKind, ZoneKind};
 use zones::Zone;
-use zones_views::{Scope, fits, is_bypassed_hold, view_deletions};
+use zones_views::{Scope, deletions, fits, is_bypassed_hold, view_deletions};
 
 /// What a candidate fails by itself: a SYSTEM hold (J1) or a USER hold (J2) stands against it, an NPRE forbids it (J3),
 /// it changes an element that another owns (J4) or that a SYSMOD made which it is not over (J5), it updates an element
@@ -150,23 +151,25 @@ fn is_ambiguous(scope: &Scope<'_, '_>, id: Id) -> bool
     fitting_count(scope.zone, scope.ids, vers_of(scope.global(), id)) >= 2
 }
 
-// What the candidate fails of J1 to J7 and J13, in its view.
+// What the candidate fails of J1 to J7 and J13, in its view. These are the deletions of all candidates.
 fn own_faults(
     alloc: Global,
     scope: &Scope<'_, '_>,
     related: Option<&Zone>,
     forbidders: &Forbidders,
+    all_dels: &[Id],
     overs: &mut Overs<'_, '_>,
     id: Id,
 ) -> Result<OwnFaults, AllocError>
     requires overs { overs.old ≡ scope.now.vers.now }
+    requires dels { all_dels.now ≡ deletions (choice_of scope.now) scope.now.ids.now }
     requires forbidders { AreForbidders (global_of scope.now) (choice_of scope.now)
         scope.now.zone.now.entries forbidders.now }
     ensures faults { IfOk result (HasFaults (setting_with scope.now (option_copied related.entry)) id) }
     ensures same { overs.new ≡ overs.old }
 {
     let vers = scope.vers;
-    let dels = view_deletions(alloc, vers, scope.ids, id)?;
+    let dels = view_deletions(alloc, vers, scope.ids, all_dels, id)?;
     let view = View {
         vers,
         dels: dels.as_slice(),
@@ -201,9 +204,11 @@ pub(crate) fn all_faults(
     ensures same { overs.new ≡ overs.old }
 {
     let forbidders = forbidders(alloc, scope.vers, scope.zone)?;
+    let all_dels = deletions(alloc, scope.vers, scope.ids.as_slice())?;
+    let dels = all_dels.as_slice();
     let mut faults = Vec::new(alloc);
     for id in scope.ids.as_slice() {
-        faults.push(own_faults(alloc, scope, related, &forbidders, overs, *id)?)?;
+        faults.push(own_faults(alloc, scope, related, &forbidders, dels, overs, *id)?)?;
     }
     Ok(faults)
 }

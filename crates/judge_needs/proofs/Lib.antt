@@ -3,3 +3,4 @@ pub mod Paired
 pub mod Errors
 pub mod Stating
 pub mod AllNeeds
+pub mod Closing

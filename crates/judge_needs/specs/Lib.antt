@@ -2,3 +2,4 @@ pub mod Left
 pub mod Conditions
 pub mod Needed
 pub mod Pairs
+pub mod Closures

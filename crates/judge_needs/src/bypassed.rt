@@ -1,6 +1,7 @@
 //! The bypassed requisites of the candidates.
 ghost use Rattle.std.specs.Prelude.{◌≡◌, ◌++◌, [], map, OnOk, IfOk, if◌then◌else◌};
 ghost use Rattle.terms.specs.declared.codes.NeedKind.TheVariants.{Ifreq};
+ghost use Rattle.terms.specs.Deleted.{deletions};
 ghost use Rattle.terms.specs.Needs.{asked, bypassed_ids};
 ghost use Rattle.judge_needs.specs.Conditions.{AreStated};
 ghost use Rattle.zones_views.specs.Scopes.{choice_of, setting_of};
@@ -11,7 +12,7 @@ use crate::stated::{Stated, all_stated};
 use fields::Id;
 use std::alloc::{AllocError, Global};
 use terms::NeedKind;
-use zones_views::Scope;
+use zones_views::{Scope, deletions};
 
 /// Adds the pairs of an id with these.
 pub(crate) fn add_pairs(
@@ -47,15 +48,17 @@ fn add_ifreq(
     alloc: Global,
     scope: &Scope<'_, '_>,
     stated: &Stated,
+    all_dels: &[Id],
     id: Id,
     pairs: &mut Vec<(Id, Id)>,
 ) -> Result<(), AllocError>
-    requires { AreStated (choice_of scope.now) scope.now.zone.now stated.now }
+    requires stated { AreStated (choice_of scope.now) scope.now.zone.now stated.now }
+    requires dels { all_dels.now ≡ deletions (choice_of scope.now) scope.now.ids.now }
     ensures { OnOk result (AddsPairs id (if scope.now.bypass.now.ifreq then asked (setting_of scope.now) [] id Ifreq
         else []) pairs.old.items pairs.new.items) }
 {
     if scope.is_bypassed(NeedKind::Ifreq) {
-        let requisites = if_needed(alloc, scope, stated, id)?;
+        let requisites = if_needed(alloc, scope, stated, all_dels, id)?;
         add_pairs(pairs, id, requisites.as_slice())?;
     }
     Ok(())
@@ -66,15 +69,17 @@ fn add_bypassed(
     alloc: Global,
     scope: &Scope<'_, '_>,
     stated: &Stated,
+    all_dels: &[Id],
     id: Id,
     pairs: &mut Vec<(Id, Id)>,
 ) -> Result<(), AllocError>
-    requires { AreStated (choice_of scope.now) scope.now.zone.now stated.now }
+    requires stated { AreStated (choice_of scope.now) scope.now.zone.now stated.now }
+    requires dels { all_dels.now ≡ deletions (choice_of scope.now) scope.now.ids.now }
     ensures { OnOk result (AddsPairs id (bypassed_ids (setting_of scope.now) id) pairs.old.items pairs.new.items) }
 {
     add_if(pairs, scope.is_bypassed(NeedKind::Pre), id, scope.pre(id))?;
     add_if(pairs, scope.is_bypassed(NeedKind::Req), id, scope.req(id))?;
-    add_ifreq(alloc, scope, stated, id, pairs)?;
+    add_ifreq(alloc, scope, stated, all_dels, id, pairs)?;
     Ok(())
 }
 
@@ -86,9 +91,11 @@ pub fn bypassed_pairs(alloc: Global, scope: &Scope<'_, '_>) -> Result<Vec<(Id, I
         return Ok(Vec::new(alloc));
     }
     let stated = all_stated(alloc, scope)?;
+    let all_dels = deletions(alloc, scope.vers, scope.ids.as_slice())?;
+    let dels = all_dels.as_slice();
     let mut pairs = Vec::new(alloc);
     for id in scope.ids.as_slice() {
-        add_bypassed(alloc, scope, &stated, *id, &mut pairs)?;
+        add_bypassed(alloc, scope, &stated, dels, *id, &mut pairs)?;
     }
     Ok(pairs)
 }

@@ -3,7 +3,7 @@ ghost use Rattle.std.specs.Prelude.{◌≡◌, ◌↔◌, ◌++◌, [], filter, 
 ghost use Rattle.std.specs.List.{flat_map};
 ghost use Rattle.terms.specs.Types.{Id as AnId};
 ghost use Rattle.terms.specs.Lookups.{is_applied, is_function, is_in};
-ghost use Rattle.terms.specs.Deleted.{view};
+ghost use Rattle.terms.specs.Deleted.{deletions, view};
 ghost use Rattle.terms.specs.Conditions.{if_reqs, if_needed};
 ghost use Rattle.judge_needs.specs.Conditions.{AreStated, is_there, requisites_of};
 ghost use Rattle.zones_views.specs.Scopes.{global_of, choice_of};
@@ -70,20 +70,23 @@ fn append_for_function(
     Ok(())
 }
 
-/// The requisites of a candidate by `++IF` in its view of the zone, given what applied SYSMODs state.
+/// The requisites of a candidate by `++IF` in its view of the zone, given what applied SYSMODs state, and what all
+/// candidates name in DELETE.
 pub(crate) fn if_needed(
     alloc: Global,
     scope: &Scope<'_, '_>,
     stated: &Stated,
+    all_dels: &[Id],
     id: Id,
 ) -> Result<IdList, AllocError>
-    requires { AreStated (choice_of scope.now) scope.now.zone.now stated.now }
+    requires stated { AreStated (choice_of scope.now) scope.now.zone.now stated.now }
+    requires dels { all_dels.now ≡ deletions (choice_of scope.now) scope.now.ids.now }
     ensures { IfOk result (λ ids. (z : AnId) → Contains ids z ↔ Contains (if_needed (global_of scope.now)
         (choice_of scope.now) (view (global_of scope.now) (choice_of scope.now) scope.now.ids.now scope.now.zone.now id)
         (is_in scope.now.ids.now) id) z) }
 {
     scope.zone.attest();
-    let dels = view_deletions(alloc, scope.vers, scope.ids, id)?;
+    let dels = view_deletions(alloc, scope.vers, scope.ids, all_dels, id)?;
     let left = Left {
         scope: *scope,
         dels: dels.as_slice(),

@@ -4,6 +4,7 @@ ghost use Rattle.std.specs.Prelude.{◌≡◌, ◌↔◌, ◌++◌, [], filter, 
 ghost use Rattle.std.specs.Prelude.{OnOk, IfOk, if◌then◌else◌};
 ghost use Rattle.terms.specs.Types.{Id as AnId};
 ghost use Rattle.terms.specs.Lookups.{IsRising, at_most_one, is_in};
+ghost use Rattle.terms.specs.Deleted.{deletions};
 ghost use Rattle.terms.specs.Needs.{orphans};
 ghost use Rattle.decide.specs.Said.{a_need};
 ghost use Rattle.judge_needs.specs.Conditions.{AreStated};
@@ -98,16 +99,18 @@ fn orphaned(
     Ok(IdList::new(alloc))
 }
 
-// Adds the needs of one candidate.
+// Adds the needs of one candidate, given the deletions of all candidates.
 fn add_open(
     alloc: Global,
     left: &Left<'_, '_>,
     survivors: &IdList,
     stated: &Stated,
+    all_dels: &[Id],
     id: Id,
     needs: &mut Vec<Need>,
 ) -> Result<(), AllocError>
-    requires { AreStated (choice_of left.now.scope) left.now.scope.zone.now stated.now }
+    requires stated { AreStated (choice_of left.now.scope) left.now.scope.zone.now stated.now }
+    requires dels { all_dels.now ≡ deletions (choice_of left.now.scope) left.now.scope.ids.now }
     ensures { OnOk result (AddsPart id (IsOpen (setting_of left.now.scope) survivors.now (left_of left.now) id)
         needs.old.items needs.new.items) }
 {
@@ -115,7 +118,7 @@ fn add_open(
     add_function(alloc, left, id, scope.fmid(id), needs)?;
     add_asked(alloc, left, id, NeedKind::Pre, scope.pre(id), needs)?;
     add_asked(alloc, left, id, NeedKind::Req, scope.req(id), needs)?;
-    let by_ifs = if_needed(alloc, scope, stated, id)?;
+    let by_ifs = if_needed(alloc, scope, stated, all_dels, id)?;
     add_asked(alloc, left, id, NeedKind::Ifreq, by_ifs.as_slice(), needs)?;
     let reasons = open_reasons(alloc, scope, id)?;
     add_asked(
@@ -142,10 +145,12 @@ fn needs_of_all(
 {
     let stated = all_stated(alloc, &left.scope)?;
     let ids = left.scope.ids;
+    let all_dels = deletions(alloc, left.scope.vers, ids.as_slice())?;
+    let dels = all_dels.as_slice();
     let mut needs = Vec::new(alloc);
     for i in 0..ids.len() {
         let id = ids.as_slice()[i];
-        add_open(alloc, left, survivors, &stated, id, &mut needs)?;
+        add_open(alloc, left, survivors, &stated, dels, id, &mut needs)?;
     }
     Ok(needs)
 }

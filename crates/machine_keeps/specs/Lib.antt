@@ -1,1 +1,3 @@
 pub mod Storable
+pub mod Choices
+pub mod Singles

@@ -1,7 +1,9 @@
 //! PTFIN and hold files: their items, or their first fault.
-//! `read_ptfin` answers the SYSMODs and assignments that the grammar relates the file to, or its first fault with
-//! record and code; `read_hold` does the same for hold files. No file has both. When
-//! `Memory` comes is not said.
+//! A PTFIN is the SYSMODs and assignments that the grammar relates it to, or it has a first fault, with record and
+//! code; a hold file is its holds and releases, or has such a fault. No file has both. One half reads a statement by
+//! itself: its word, and for each word a module with its operands, limits and inline text. The other half goes through
+//! a file: what may follow what, what the statements make so far, and which fault comes first. When `Memory` comes is
+//! not said.
 #![tactic(auto)]
 
 mod assign;

@@ -1,6 +1,6 @@
 //! Tests of the parts below the jobs: what the readers of fields, texts, records, commands and statements answer, by
-//! tables of cards and of what is read from them; which candidates stay, who causes failures, and sets that grow.
-//! There is no code here but tests.
+//! tables of cards and of what is read from them; which candidates stay, who causes failures, and sets that grow;
+//! and what is so of ids in a zone, as `smpe why` tells it. There is no code here but tests.
 #![tactic(auto)]
 
 #[cfg(test)]
@@ -23,3 +23,9 @@ mod solving;
 mod sysmod_values;
 #[cfg(test)]
 mod texts;
+#[cfg(test)]
+mod why_cards;
+#[cfg(test)]
+mod why_facts;
+#[cfg(test)]
+mod why_service;

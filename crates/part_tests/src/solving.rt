@@ -4,9 +4,9 @@ use std::alloc::{AllocError, Global};
 use std::process::Abort;
 
 /// A list of candidates with their needs: who needs which of these.
-type Needs<'a> = &'a [(u32, &'a [u32])];
+type Needs<'a> = &'a [(usize, &'a [usize])];
 
-fn add_need(alloc: Global, s: &mut Problem, of: u32, any: &[u32]) -> Result<(), AllocError> {
+fn add_need(alloc: Global, s: &mut Problem, of: usize, any: &[usize]) -> Result<(), AllocError> {
     if s.admits(of, any) {
         let any = any.to_vec(alloc)?;
         s.add_need(NumberedNeed { of, any })?;
@@ -34,7 +34,7 @@ struct Case<'a> {
     needs: Needs<'a>,
     kept: &'a [bool],
     strikes: u128,
-    causers: &'a [&'a [u32]],
+    causers: &'a [&'a [usize]],
 }
 
 const CASES: [Case<'static>; 6] = [
@@ -112,8 +112,8 @@ fn each_case(rt: HostRuntime) -> Result<(), AllocError> {
 }
 
 /// So many eligible candidates, each of which needs the next one, and the last one `end`.
-fn chain(alloc: Global, n: u32, end: &[u32]) -> Result<Problem, AllocError> {
-    let mut s = Problem::new(alloc, vec![in alloc; true; n as usize]?);
+fn chain(alloc: Global, n: usize, end: &[usize]) -> Result<Problem, AllocError> {
+    let mut s = Problem::new(alloc, vec![in alloc; true; n]?);
     for k in 0..n {
         let next = [k.saturating_add(1)];
         let any = if next[0] < n { &next } else { end };
@@ -139,7 +139,7 @@ fn long_chains(rt: HostRuntime) -> Result<(), AllocError> {
 fn a_set_grows_by_its_rules(rt: HostRuntime) -> Result<(), AllocError> {
     let mut rules = Rules::new(rt.alloc(), &[true, false, false])?;
     rules.add_number(false)?;
-    let listed: [(&[u32], u32); 3] = [(&[0], 1), (&[1, 2], 3), (&[3], 2)];
+    let listed: [(&[usize], usize); 3] = [(&[0], 1), (&[1, 2], 3), (&[3], 2)];
     for (these, that) in listed {
         if rules.admits(these, that) {
             rules.add_rule(Rule {

@@ -10,6 +10,7 @@ use crate::outcome::{Header, Line, Outcome};
 use crate::resolvers::{Resolvers, all_resolvers, reasons, resolvers};
 use fields::{Attest, Id, IdList, Reason, ZoneName};
 use std::alloc::{AllocError, Global};
+use std::collections::BTreeMap;
 use sysmods::GlobalZone;
 use terms::CommandWord;
 use zones::Zone;
@@ -42,8 +43,8 @@ fn lines_of(alloc: Global, all: &Resolvers, errors: &[OpenError]) -> Result<Vec<
     Ok(lines)
 }
 
-// What resolves each reason of them.
-fn gathered(
+// What resolves each reason of them, among all received SYSMODs.
+fn searched(
     alloc: Global,
     global: &GlobalZone,
     zone: &Zone,
@@ -56,6 +57,22 @@ fn gathered(
     let vers = choose(alloc, global, zone, &cands)?;
     let asked = reasons(alloc, errors)?;
     all_resolvers(alloc, global, &vers, &asked)
+}
+
+// What resolves each reason of them. Where nothing is held, nothing is searched.
+fn gathered(
+    alloc: Global,
+    global: &GlobalZone,
+    zone: &Zone,
+    errors: &[OpenError],
+) -> Result<Resolvers, AllocError>
+    ensures { IfOk result
+        (AreResolvers global.now (has_ver global.now zone.now.srel) (counting global.now zone.now []) errors.now) }
+{
+    if errors.is_empty() {
+        return Ok(BTreeMap::new(alloc));
+    }
+    searched(alloc, global, zone, errors)
 }
 
 /// REPORT ERRSYSMODS of the zone of this name. An error comes where memory runs out.

@@ -1,6 +1,9 @@
-//! Reports, and the sinks that they are written to.
-//! `write_report` hands the sink the outcome's text, or a beginning of it where the sink has failed, and answers the
-//! highest code of the lines. It takes no memory from the heap: pieces of lines wait on a page of fixed size.
+//! Reports: what commands print, as values and as bytes, and the sinks that take these.
+//! An `Outcome` is a command's lines before they are text. Written, it hands the sink its text, or a beginning of it
+//! where the sink has failed, and answers the highest code of the lines. That takes no memory from the heap: pieces of
+//! lines wait on a page of fixed size, and LIST's lines are made of the zone that its outcome refers to. What REPORT
+//! ERRSYSMODS prints is found here too: the ERROR holds that a zone leaves open, each with the received SYSMODs that
+//! resolve it.
 #![tactic(auto)]
 
 mod error_holds;

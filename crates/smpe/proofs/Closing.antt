@@ -24,8 +24,8 @@ use Rattle.store.specs.View.{Tables, TablesIfOpen, Leaves}
 use Rattle.smpe_zones.proofs.Adding.{prints_none}
 use Rattle.smpe_zones.proofs.Keeping.{inventory_kept, leaves_more}
 use Rattle.machine_keeps.specs.Storable.{HasActForms, HasJobForms}
-use Rattle.machine_closed.proofs.StepKeeps.{IsClosedState}
-use Rattle.machine_closed.proofs.JobsKeep.{first_formed, printed_keeps, prints_keep, job_keeps}
+use Rattle.machine_keeps.proofs.StepKeeps.{IsClosedState}
+use Rattle.machine_keeps.proofs.JobsKeep.{first_formed, printed_keeps, prints_keep, job_keeps}
 use Rattle.smpe_zones.specs.declared.error.ZoneError.{ZoneError}
 use Rattle.smpe_zones.specs.declared.error.ZoneError.TheVariants as zone
 use Rattle.smpe_zones.specs.Definitions.{HasDefined}

@@ -193,14 +193,15 @@ module _ {S : Type 0} (g : Ghosts S) where
 
   -- what a command does is told by this outcome
   pub performs_passes : (old new : Held S) (date : Text) (files : Files) (c : Command) (performed : Performed)
-      (outcome : Outcome) → (AnswersRun performed → IsRan outcome)
-      → GoesOver g old new (λ change. IsOwnOf c change × AnswersRun performed) {E = StoreError} (Ok performed)
+      (outcome : Outcome) → ((change : Change) → AnswersRun change performed → IsRan change outcome)
+      → GoesOver g old new (λ change. IsOwnOf c change × AnswersRun change performed) {E = StoreError} (Ok performed)
       → Passes g old (Perform date files c) new (outcome ∷ [])
   performs_passes old new date files c performed outcome ran goes = (
     outcome,
     refl,
-    goes_ok g old new (λ change. IsOwnOf c change × AnswersRun performed)
-        (λ change. IsOwnOf c change × IsRan outcome) performed outcome (λ change own. (own.0, ran own.1)) goes,
+    goes_ok g old new (λ change. IsOwnOf c change × AnswersRun change performed)
+        (λ change. IsOwnOf c change × IsRan change outcome) performed outcome
+        (λ change own. (own.0, ran change own.1)) goes,
   )
 
   -- the exit of a `?`

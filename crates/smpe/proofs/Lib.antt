@@ -11,3 +11,4 @@ mod ListFile
 mod ListRecords
 pub mod Closing
 mod Found
+mod Returning

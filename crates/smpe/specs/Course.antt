@@ -27,16 +27,17 @@ HaveActs (job ∷ more) acts =
     (front back : List Act) × HasActs job front × HaveActs more back × (acts ≡ front ++ back)
 
 module _ {S : Type 0} (g : Ghosts S) where
-  -- The store before an act that ran, the store after it, and what was reported. A job's beginning has found the rows of
-  -- a global zone; or it has not asked the store, as where the command file is at fault. It and that fault have left the
-  -- store as it was, and so has a command that was refused; one that ran, or the definition of a zone, has made no more
-  -- than one change of its own.
+  -- The store before an act that ran, the store after it, and what was reported. A job's beginning has found the rows
+  -- of a global zone; or it has not asked the store, as where the command file is at fault. It and that fault have left
+  -- the store as it was, and so has a command that was refused; one that ran, or the definition of a zone, has made no
+  -- more than one change of its own, a command of the zone that its report's header names.
   abbrev pub Passes : Held S → Act → Held S → List Outcome → Type 0
   Passes old Begin new outcomes = OnlyLoads g old new × (outcomes ≡ [])
       × ((new ≡ old) ⊎ (HasCleanDisk (state g new) → (global : terms.Global) × ShowsGlobal g old global))
   Passes old (Faulty fault) new outcomes = OnlyLoads g old new × (outcomes ≡ Control fault ∷ [])
   Passes old (Perform date files c) new outcomes = (outcome : Outcome) × (outcomes ≡ outcome ∷ [])
-      × GoesOver g old new (λ change. IsOwn (Perform date files c) change × IsRan outcome) {E = JobError} (Ok outcome)
+      × GoesOver g old new (λ change. IsOwn (Perform date files c) change × IsRan change outcome) {E = JobError}
+      (Ok outcome)
   Passes old (Define d) new outcomes =
       (outcomes ≡ []) × GoesOver g old new (IsOwn (Define d)) {E = JobError} (Ok outcomes)
 

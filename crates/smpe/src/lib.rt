@@ -8,6 +8,7 @@
 //! that they stand for no state has changed nothing since the last command that was reported.
 #![tactic(auto)]
 
+mod again;
 mod error;
 mod job;
 mod jobs;
@@ -16,6 +17,7 @@ mod list_job;
 mod messages;
 mod zone;
 
+pub use again::reopened;
 pub use error::JobError;
 pub use job::run_job;
 pub use jobs::{Answer, Job, run_jobs};

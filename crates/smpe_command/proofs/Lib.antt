@@ -1,3 +1,4 @@
 mod Greatest
+mod Looked
 mod OneJob
 mod Texts

@@ -1,4 +1,4 @@
--- A job over the database of a name.
+-- A job over the database of a name, and what is asked of it.
 use Rattle.std.specs.Prelude.{◌≡◌, ◌⊎◌, List, [], ◌∷◌, false, IsTrue, Result, Ok, Err}
 use Rattle.sqlite.specs.declared.error.Error.{Error}
 use Rattle.sqlite.specs.Store.{Ghosts}
@@ -16,9 +16,14 @@ use Rattle.store_schema.specs.Create.{IsBlank}
 use Rattle.store_schema.specs.Inventory.{Inventory}
 use Rattle.store_schema.specs.Known.{HasOtherNumber, HasNoState, HasOwnTables, told}
 use Rattle.store_schema.specs.Stands.{IsSetUp}
+use Rattle.store.specs.BadRows.{TellsNoState}
+use Rattle.store.specs.Courses.{LoadsAlone}
 use Rattle.smpe_zones.specs.Kept.{kept}
 use Rattle.store_migration.specs.Migrated.{Migrated, Unmigrated}
 use Rattle.store.specs.View.{Tables, Leaves, LeavesFound, IsFound}
+use Rattle.smpe_session.specs.Steps.{HasLoaded}
+use Rattle.smpe_why.specs.Telling.{IsFoundIn}
+use Rattle.smpe_why.specs.declared.found.Found.{Found}
 use Rattle.smpe.specs.declared.error.JobError.{JobError}
 use Rattle.smpe.specs.declared.jobs.Answer.{Answer}
 use Rattle.smpe.specs.Commands.{job_error}
@@ -86,6 +91,14 @@ module _ {H D : Type 0} (host : HostGhosts H D) (g : Ghosts D) where
       → Type 0
   JobOver sink h db job out r after out' =
       JobsOver sink h db (job ∷ []) out (λ answer. answer_of answer ∷ []) r after out'
+
+  -- The database of this name was opened, and the global zone and the zone of that name were found so over each state
+  -- that it was found to stand for. Whatever the tables are, the call has loaded, and nothing else; and where it tells
+  -- of no state, there is none. Or it was not opened.
+  abbrev pub FoundOver : H → Text → Text → Result Found StoreError → H → Type 0
+  FoundOver h db name r after = ((why : StoreError) × FailsToOpen h db why after × (r ≡ Err why))
+      ⊎ Works h db (λ conn store s. HasLoaded g conn store s (IsFoundIn name (kept s)) r)
+      (λ begun store. LoadsAlone g begun store r × TellsNoState g begun store r) after
 
   -- The database of this name was opened, taken over to the store's schema or left as it was, and closed; or it was not
   -- opened.

@@ -12,7 +12,7 @@ use Rattle.report.specs.Sent.{Sent}
 use Rattle.smpe_zones.specs.Definitions.{definition}
 use Rattle.smpe_invocation.specs.declared.asked.Commands.{Commands}
 use Rattle.smpe_invocation.specs.declared.asked.Invocation.{Invocation}
-use Rattle.smpe_invocation.specs.declared.asked.Invocation.TheVariants.{Zone, Run, List as ListOf, Check, Migrate}
+use Rattle.smpe_invocation.specs.declared.asked.Invocation.TheVariants.{Zone, Run, List as ListOf, Why, Check, Migrate}
 use Rattle.smpe.specs.declared.error.JobError.{JobError}
 use Rattle.smpe.specs.declared.error.JobError.TheVariants.{Memory, Write}
 use Rattle.smpe.specs.declared.jobs.Answer.{Answer}
@@ -26,7 +26,10 @@ use Rattle.smpe_command.specs.declared.host.Host.{Ghosts as HostGhosts}
 use Rattle.smpe_command.specs.Reading.{ReadsAll}
 use Rattle.smpe_command.specs.ServiceSet.{JobsInMemory, apply_records, set_jobs}
 use Rattle.store_schema.specs.declared.error.StoreError.{StoreError}
-use Rattle.smpe_command.specs.Database.{JobOver, MigratesOver}
+use Rattle.smpe_why.specs.Telling.{IsTold}
+use Rattle.smpe_why.specs.declared.found.Found.{Found}
+use Rattle.smpe_why.specs.declared.told.Told.{Told}
+use Rattle.smpe_command.specs.Database.{FoundOver, JobOver, MigratesOver}
 
 -- the status of a job's answer is the program's, and its error the program's fault
 abbrev pub status_told : Result Answer JobError → Result ℕ Fault
@@ -71,6 +74,15 @@ module _ {O : Type 0} (sink : SinkGhosts O) (out out' : O) where
       × MatchResult r (λ status. status ≡ 0) (λ error. error ≡ Write)
   TellsMigrated (Err why) r = (r ≡ Err (job_error why)) × (out' ≡ out)
 
+  -- What is told of these ids where this was found goes to the sink, and the status is that of what is told, or a fault
+  -- as above; or memory was wanting for it, and nothing went out.
+  abbrev pub TellsFound : List Text → Result Found StoreError → Result ℕ JobError → Type 0
+  TellsFound ids (Ok found) r = ((r ≡ Err Memory) × (out' ≡ out))
+      ⊎ ((told : Told) × IsTold found.global found.zone ids told × Sent sink out out' told.text.items
+      × (0 < length told.text.items → sink.has_failed out' ≡ is_err r)
+      × MatchResult r (λ status. status ≡ told.status) (λ error. error ≡ Write))
+  TellsFound ids (Err why) r = (r ≡ Err (job_error why)) × (out' ≡ out)
+
 module _ {H D O : Type 0} (host : HostGhosts H D) (g : Ghosts D) (sink : SinkGhosts O) (h : H) (db : Text) (out : O)
   where
     -- A zone is defined by a job of its own, which prints nothing, and its line is printed.
@@ -93,6 +105,11 @@ module _ {H D O : Type 0} (host : HostGhosts H D) (g : Ghosts D) (sink : SinkGho
         ⊎ ((date : Text) × (answer : Result Answer JobError) × JobOver host g sink h db
         (RunFiles date (list_records zone) (record { ptfin = []; holds = [] })) out answer after out'
         × (r ≡ status_told answer))
+
+    -- The zone is looked for, and what is so of the ids is told.
+    abbrev pub ServesWhy : Text → List Text → Result ℕ JobError → H → O → Type 0
+    ServesWhy zone ids r after out' = (found : Result Found StoreError) × FoundOver host g h db zone found after
+        × TellsFound sink out out' ids found r
 
     abbrev pub ServesMigrate : Result ℕ JobError → H → O → Type 0
     ServesMigrate r after out' = (done : Result (Unit {0}) StoreError) × MigratesOver host g h db done after
@@ -137,6 +154,8 @@ module _ {H D O : Type 0} (host : HostGhosts H D) (g : Ghosts D) (sink : SinkGho
       ServesRun host g sink h (string_bytes db) out date
       (Some (string_bytes cntl) ∷ option_map string_bytes ptfin ∷ option_map string_bytes hold ∷ []) r after out'
   Serves h (ListOf db zone) out r after out' = ServesList host g sink h (string_bytes db) out zone r after out'
+  Serves h (Why db zone ids) out r after out' = (told : Result ℕ JobError)
+      × ServesWhy host g sink h (string_bytes db) out zone ids.items told after out' × (r ≡ job_told told)
   Serves h (Check srel ptfin hold commands) out r after out' =
       ServesCheck host sink h out srel (Some (string_bytes ptfin)) (option_map string_bytes hold) commands r after out'
   Serves h (Migrate db) out r after out' = (told : Result ℕ JobError)

@@ -1,11 +1,13 @@
-//! Jobs over the database of a name, which is closed behind them, also where it is refused.
+//! Jobs over the database of a name, and what is asked of it: it is closed behind them, also where it is refused.
 ghost use Rattle.std.specs.Prelude.{◌≡◌, ◌∷◌, [], length, map, IfOk, IfErr};
 ghost use Rattle.smpe.specs.Ending.{answer_of, job_of};
-ghost use Rattle.smpe_command.specs.Database.{FailsToOpen, JobsOver, MigratesOver, Opens};
+ghost use Rattle.smpe_command.specs.Database.{FailsToOpen, FoundOver, JobsOver, MigratesOver, Opens};
 
 use crate::host::Host;
+use fields::ZoneName;
 use report::Sink;
 use smpe::{Answer, Job, JobError, run_jobs};
+use smpe_why::{Found, find};
 use std::alloc::Global;
 use store::{Store, StoreError};
 use store_migration::migrate;
@@ -41,6 +43,21 @@ fn jobs_over<H: Host, O: Sink>(
     let answers = run_jobs(alloc, &mut store, jobs, out);
     host.close(&mut Some(store.close()));
     answers
+}
+
+/// Loads the global zone and the zone of this name, and changes nothing.
+pub(crate) fn found_over<H: Host>(
+    alloc: Global,
+    host: &mut H,
+    db: &str,
+    name: ZoneName,
+) -> Result<Found, StoreError>
+    ensures { FoundOver H.Host H.Disk.Store host.old db.now name result host.new }
+{
+    let mut store = opened(alloc, host, db)?;
+    let found = find(&mut store, name);
+    host.close(&mut Some(store.close()));
+    found
 }
 
 /// Takes the tables of a database over to the store's schema.

@@ -1,26 +1,28 @@
 //! What is asked for is done.
-ghost use Rattle.std.specs.Prelude.{◌≡◌, [], ◌∷◌, Some, None, Ok, map, option_map, IfOk, IfErr};
+ghost use Rattle.std.specs.Prelude.{◌≡◌, ◌<◌, [], ◌∷◌, Some, None, Ok, length, map, option_map, IfOk, IfErr, is_err};
 ghost use Rattle.std.specs.String.{string_bytes};
 ghost use Rattle.machine.specs.Machine.{RunFiles};
+ghost use Rattle.report.specs.Sent.{Sent};
 ghost use Rattle.smpe.specs.Ending.{answer_of};
 ghost use Rattle.smpe.specs.ListJob.{list_records};
 ghost use Rattle.smpe.specs.declared.error.JobError.TheVariants.{Memory};
 ghost use Rattle.smpe_zones.specs.Definitions.{definition};
 ghost use Rattle.smpe_command.specs.Database.{JobOver};
 ghost use Rattle.smpe_command.specs.Serving.{ChecksSet, Serves, ServesCheck, ServesList, ServesMigrate, ServesRun};
-ghost use Rattle.smpe_command.specs.Serving.{ServesZone, TellsMigrated, TellsZone, TriesSet, TriesWith, job_told};
-ghost use Rattle.smpe_command.specs.Serving.{status_told};
+ghost use Rattle.smpe_command.specs.Serving.{ServesWhy, ServesZone, TellsFound, TellsMigrated, TellsZone, TriesSet};
+ghost use Rattle.smpe_command.specs.Serving.{TriesWith, job_told, status_told};
 
-use crate::database::{job_over, migrate_over};
+use crate::database::{found_over, job_over, migrate_over};
 use crate::files::{JobFiles, read_files, read_set};
 use crate::host::Host;
 use crate::service_set::{apply_commands, greatest_status, receive_commands, tried};
-use fields::{Srel, YyDdd, ZoneName};
-use report::Sink;
+use fields::{Id, Srel, YyDdd, ZoneName};
+use report::{Sink, WriteFault, write_all};
 use smpe::{
     Answer, Commands, Fault, Invocation, Job, JobError, list_commands, migrated_line, status_of,
     zone_line,
 };
+use smpe_why::{Found, Told, tell};
 use std::alloc::Global;
 use terms::ZoneKind;
 
@@ -58,6 +60,9 @@ pub(crate) fn served<'a, H: Host, O: Sink>(
             out,
         ),
         Invocation::List { db, zone } => list(alloc, host, db.as_str(), *zone, out),
+        Invocation::Why { db, zone, ids } => {
+            told(why(alloc, host, db.as_str(), *zone, ids.as_slice(), out))
+        }
         Invocation::Check {
             srel,
             ptfin,
@@ -173,6 +178,42 @@ fn list_files(alloc: Global, zone: ZoneName) -> Result<JobFiles, JobError>
         ptfin: Vec::new(alloc),
         hold: Vec::new(alloc),
     })
+}
+
+fn why<H: Host, O: Sink>(
+    alloc: Global,
+    host: &mut H,
+    db: &str,
+    zone: ZoneName,
+    ids: &[Id],
+    out: &mut O,
+) -> Result<u8, JobError>
+    ensures { ServesWhy H.Host H.Disk.Store O.Sink host.old db.now out.old zone ids.now result host.new out.new }
+{
+    let found = found_over(alloc, host, db, zone)?;
+    found_told(alloc, &found, ids, out)
+}
+
+// All is made before any of it is written.
+fn found_told<O: Sink>(
+    alloc: Global,
+    found: &Found,
+    ids: &[Id],
+    out: &mut O,
+) -> Result<u8, JobError>
+    ensures { TellsFound O.Sink out.old out.new ids.now (Ok found.now) result }
+{
+    let told = tell(alloc, found, ids)?;
+    Ok(write_told(&told, out)?)
+}
+
+fn write_told<O: Sink>(told: &Told, out: &mut O) -> Result<u8, WriteFault>
+    ensures sends { Sent O.Sink out.old out.new told.now.text.items }
+    ensures after { 0 < length told.now.text.items → O.has_failed out.new ≡ is_err result }
+    ensures status { IfOk result (λ status. status ≡ told.now.status) }
+{
+    write_all(told.text.as_slice(), out)?;
+    Ok(told.status)
 }
 
 // The files are read before anything is made.

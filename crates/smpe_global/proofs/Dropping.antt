@@ -20,7 +20,8 @@ use Rattle.terms.proofs.GlobalKept.{hold_cmp_total}
 use Rattle.terms.proofs.HoldOrder.{has_key_ties}
 use Rattle.sysmods.specs.declared.edit.GlobalEdit.TheVariants.{RemoveSysmod}
 use Rattle.sysmods.specs.Edits.{after_edit, after_edits}
-use Rattle.smpe_global.specs.Rejections.{removal, edits_of, FitsAlways}
+use Rattle.smpe_global.specs.Edits.{IsOfReject}
+use Rattle.smpe_global.specs.Rejections.{removal, edits_of}
 
 module _ {X : Type 0} where
   -- two filters, one after the other
@@ -157,9 +158,8 @@ module _ (g : Global) (x : Id) (is : IsGlobal g) where
       (filter_alike (λ o. not (list_any (has_key_of o) hs)) (λ h. not (h.internal && bytes_eq h.id x)) g.holds
       (λ i d below. ap not (keyed (get_or g.holds i d) ∙ goes i d below)))
 
--- such edits fit each global zone
-pub edits_fit : (g : Global) (x : Id) → All FitsAlways (edits_of g x)
-edits_fit g x =
+-- they are REJECT's
+pub edits_reject : (g : Global) (x : Id) → All IsOfReject (edits_of g x)
+edits_reject g x =
     let hs = filter (λ h. h.internal) (holds_of g System x) in
-    All-cons FitsAlways (RemoveSysmod x) (map removal hs) (λ any. tt)
-    (All-map FitsAlways removal hs (λ i d below any. tt))
+    All-cons IsOfReject (RemoveSysmod x) (map removal hs) tt (All-map IsOfReject removal hs (λ i d below. tt))

@@ -1,7 +1,7 @@
 -- Holds and releases of a hold file.
 use Rattle.std.proofs.Common.{◌≡◌, ◌∙◌, Bool, true, false, List, [], ◌∷◌, ◌++◌, All, sym, ap, Option, None, Some}
 use Rattle.std.proofs.Common.{Result, Ok, Err, OnOk, OnErr, IfErr, if◌then◌else◌}
-use Rattle.std.proofs.lemmas.List.Elements.{All-head, All-tail}
+use Rattle.std.proofs.lemmas.List.Elements.{All-nil, All-cons, All-head, All-tail}
 use Rattle.terms.specs.Types.{Id, Hold, Release, Global}
 use Rattle.terms.specs.Global.{Rl2, hold_of, marked, hold, without_hold, release_found, release}
 use Rattle.machine.specs.Receiving.{global_after}
@@ -9,7 +9,7 @@ use Rattle.sysmods.specs.declared.holds.ReleaseError.{ReleaseError}
 use Rattle.sysmods.specs.Faults.{a_release, release_fault}
 use Rattle.sysmods.specs.declared.edit.GlobalEdit.TheVariants.{PutHold, RemoveHold}
 use Rattle.sysmods.specs.Edits.{with_hold, EachFits, after_edits}
-use Rattle.smpe_global.specs.Edits.{release_answer, release_edits}
+use Rattle.smpe_global.specs.Edits.{IsOfReceive, release_answer, release_edits}
 use Rattle.smpe_global.specs.External.{IsExternal}
 use Rattle.mcs.specs.HoldItems.{item_of, items}
 use Rattle.mcs.specs.declared.hold_item.HoldItem.{HoldItem}
@@ -35,6 +35,7 @@ released g new r (Some h) e = by h.internal e
 pub record IsReleased (g new : Global) (r : Release) (answer : Result (Unit {0}) ReleaseError) : Type 0 where
   pub answers : release g r ≡ release_answer new answer
   pub leads : new ≡ global_after g (release g r)
+  pub receives : All IsOfReceive (release_edits r.id r.kind r.reason answer)
   pub fits : EachFits (release_edits r.id r.kind r.reason answer) g
   pub after : after_edits (release_edits r.id r.kind r.reason answer) g ≡ new
 
@@ -47,6 +48,7 @@ release_taken g new r (Ok done) ok refused err =
     record {
       answers = is;
       leads = sym (ap (global_after g) is);
+      receives = All-cons IsOfReceive (RemoveHold r.id r.kind r.reason) [] tt (All-nil IsOfReceive);
       fits = fits_one g (RemoveHold r.id r.kind r.reason) tt;
       after = sym (released g new r (hold_of g r.id r.kind r.reason) is);
     }
@@ -55,6 +57,7 @@ release_taken g new r (Err why) ok refused err =
     record {
       answers = is;
       leads = err ∙ sym (ap (global_after g) is);
+      receives = All-nil IsOfReceive;
       fits = fits_none g;
       after = sym err;
     }

@@ -19,13 +19,25 @@ use Rattle.report.specs.declared.outcome.Status.TheVariants.{Rejected}
 use Rattle.report.specs.declared.outcome.Line.{Line}
 use Rattle.report.specs.Views.{line_view, status_view}
 use Rattle.sysmods.specs.declared.edit.GlobalEdit.{GlobalEdit}
-use Rattle.sysmods.specs.Edits.{after_edit, after_edits, EachFits}
-use Rattle.smpe_global.specs.Rejections.{AppliesAlike, edits_of, FitsAlways, IsAnswered, AreRejected, IsRejected}
-use Rattle.smpe_global.proofs.Dropping.{edits_make, edits_fit}
+use Rattle.sysmods.specs.declared.edit.GlobalEdit.TheVariants.{RemoveHold, RemoveSysmod, PutHold, InsertSysmod}
+use Rattle.sysmods.specs.declared.edit.GlobalEdit.TheVariants.{ReplaceSources}
+use Rattle.sysmods.specs.Edits.{Fits, after_edit, after_edits, EachFits}
+use Rattle.smpe_global.specs.Edits.{IsOfReject}
+use Rattle.smpe_global.specs.Rejections.{AppliesAlike, edits_of, IsAnswered, AreRejected, IsRejected}
+use Rattle.smpe_global.proofs.Dropping.{edits_make, edits_reject}
 
--- edits that fit always, fit one after the other
-pub each_fits : (edits : List GlobalEdit) (g : Global) → All FitsAlways edits → EachFits edits g
-each_fits edits g all k edit below at = subst FitsAlways (sym at) (all k edit below) (after_edits (take k edits) g)
+-- an edit of REJECT fits each global zone
+fits_always : (e : GlobalEdit) → IsOfReject e → (g : Global) → Fits g e
+fits_always (RemoveSysmod x) is g = tt
+fits_always (RemoveHold x kind reason) is g = tt
+fits_always (PutHold h) is g = absurd is
+fits_always (InsertSysmod s) is g = absurd is
+fits_always (ReplaceSources s) is g = absurd is
+
+-- so they fit one after the other
+pub each_fits : (edits : List GlobalEdit) (g : Global) → All IsOfReject edits → EachFits edits g
+each_fits edits g all k edit below at =
+    fits_always edit (subst IsOfReject (sym at) (all k edit below)) (after_edits (take k edits) g)
 
 -- what REJECT answers, by whether it is received and whether it is applied
 abbrev pub answer : Global → Id → Bool → Bool → Result Global RejectFault
@@ -46,7 +58,7 @@ module _ {S : Type 0} (zones : IndexMap Text Zone S) (g : Global) (x : Id) where
   left_in edits r a why status received is answers printed = record {
     own = [];
     edits_are = sym (append-nil edits);
-    fits = λ k d below. absurd (omega (arith, below));
+    rejects = λ k d below. absurd (omega (arith, below));
     after = refl;
     leads = λ named alike. sym (ap (global_after g) (answered named alike r a received is ∙ answers));
     told = λ named alike. printed ∙ sym (ap reject_status (answered named alike r a received is ∙ answers));
@@ -58,7 +70,7 @@ module _ {S : Type 0} (zones : IndexMap Text Zone S) (g : Global) (x : Id) where
   taken_out new edits later known there free written out = record {
     own = edits_of g x;
     edits_are = written;
-    fits = edits_fit g x;
+    rejects = edits_reject g x;
     after = edits_make g x known ∙ sym out;
     leads = λ named alike. out ∙ sym (ap (global_after g) (answered named alike true false there free));
     told = λ named alike. sym (ap reject_status (answered named alike true false there free));
@@ -82,7 +94,7 @@ module _ {S : Type 0} (zones : IndexMap Text Zone S) (g : Global) where
             (sym (map-append line_view lines (back.line ∷ [])))
             (runs_append (RejectsId named) g m new ids (x ∷ []) (map line_view lines) (line_view back.line ∷ [])
             (front.runs named alike) (step.runs named alike));
-        fits = All-append FitsAlways edits back.own front.fits step.fits;
+        rejects = All-append IsOfReject edits back.own front.rejects step.rejects;
         after = fold-append after_edit g edits back.own ∙ ap (after_edits back.own) front.after ∙ step.after;
       } in
       subst (λ es. AreRejected zones g (ids ++ x ∷ []) new es printed) (sym back.edits_are)

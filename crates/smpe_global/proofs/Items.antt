@@ -1,6 +1,8 @@
 -- Items that are taken, one after another.
 use Rattle.std.proofs.Common.{◌≡◌, ◌∙◌, List, [], ◌∷◌, ◌++◌, map, refl, sym, ap, subst, append_assoc, append-nil}
+use Rattle.std.proofs.Common.{All}
 use Rattle.std.proofs.lemmas.List.{map-append}
+use Rattle.std.proofs.lemmas.List.Elements.{All-nil, All-append}
 use Rattle.std.proofs.lemmas.List.Sums.{fold-append}
 use Rattle.terms.specs.Types.{Global}
 use Rattle.machine.specs.Outcome as machine
@@ -9,6 +11,7 @@ use Rattle.machine.proofs.Joined.{runs_append, runs_one}
 use Rattle.report.specs.Views.{line_view}
 use Rattle.sysmods.specs.Edits.{after_edit, EachFits, after_edits}
 use Rattle.smpe_global.specs.declared.taken.Taken.{Taken}
+use Rattle.smpe_global.specs.Edits.{IsOfReceive}
 use Rattle.smpe_global.specs.Taken.{IsTaken}
 use Rattle.smpe_global.proofs.Fitting.{fits_none, fits_append}
 
@@ -20,6 +23,7 @@ module _ {I : Type 0} (Takes : Global → I → Global → List machine.Line →
     lines = [];
     lines_are = sym (append-nil t.lines.items);
     prints = (refl, refl);
+    receives = All-nil IsOfReceive;
     fits = fits_none g;
     after = refl;
   }
@@ -39,6 +43,7 @@ module _ {I : Type 0} (Takes : Global → I → Global → List machine.Line →
         (runs_append Takes g middle new items (item ∷ []) (map line_view front.lines) (map line_view back.lines)
         front.prints
         (runs_one Takes middle new item (map line_view back.lines) back.prints));
+    receives = All-append IsOfReceive front.own back.own front.receives back.receives;
     fits = fits_append g front.own back.own front.fits (subst (EachFits back.own) (sym front.after) back.fits);
     after = fold-append after_edit g front.own back.own ∙ ap (after_edits back.own) front.after ∙ back.after;
   }
@@ -52,6 +57,9 @@ module _ (Prints : Global → List machine.Line → Type 0) (g new : Global) (no
   pub all_printed : none.lines.items ≡ [] → Prints new (map line_view all.lines.items)
   all_printed nothing = subst (λ ls. Prints new (map line_view ls))
       (sym (taken.lines_are ∙ ap (λ ls. ls ++ taken.lines) nothing)) taken.prints
+
+  pub all_receive : none.edits.items ≡ [] → All IsOfReceive all.edits.items
+  all_receive nothing = subst (All IsOfReceive) (edits_own nothing) taken.receives
 
   pub all_fit : none.edits.items ≡ [] → EachFits all.edits.items g
   all_fit nothing = subst (λ es. EachFits es g) (edits_own nothing) taken.fits

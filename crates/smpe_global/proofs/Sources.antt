@@ -1,12 +1,12 @@
 -- A SYSMOD that gains a source.
 use Rattle.std.proofs.Common.{◌≡◌, ◌∙◌, Bool, true, false, [], ◌∷◌, find, refl, sym, ap, subst, Option, None}
-use Rattle.std.proofs.Common.{Some, Contains, if◌then◌else◌}
+use Rattle.std.proofs.Common.{Some, Contains, All, if◌then◌else◌}
 use Rattle.std.specs.Ordering.{nat_cmp}
 use Rattle.std.specs.Cmp.Lexicographic.{slice_cmp, texts_ties}
 use Rattle.std.specs.Option.{option_map}
 use Rattle.std.specs.Str.{bytes_eq}
 use Rattle.std.proofs.lemmas.Cmp.{nat_list_cmp_total}
-use Rattle.std.proofs.lemmas.List.Elements.{All-weaker, All-contains_itself}
+use Rattle.std.proofs.lemmas.List.Elements.{All-nil, All-cons, All-weaker, All-contains_itself}
 use Rattle.std.proofs.lemmas.List.Folds.{map_fixed}
 use Rattle.lemmas.proofs.Orderings.{Equal_from_is_eq}
 use Rattle.terms.specs.Types.{Text, Id, Sysmod, Global}
@@ -20,9 +20,14 @@ use Rattle.lemmas.proofs.Searches.{find_passes}
 use Rattle.terms.proofs.RisingLists.{find_there, Splits_around}
 use Rattle.sysmods.specs.declared.edit.GlobalEdit.TheVariants.{ReplaceSources}
 use Rattle.sysmods.specs.Edits.{Fits, EachFits, after_edits}
-use Rattle.smpe_global.specs.Edits.{head_of, source_edits}
+use Rattle.smpe_global.specs.Edits.{IsOfReceive, head_of, source_edits}
 use Rattle.smpe_global.proofs.Fitting.{fits_none, fits_one}
 use Rattle.lemmas.proofs.Lists.{map_alike}
+
+-- what writes sources
+pub sources_receive : (o : Option Sysmod) → All IsOfReceive (source_edits o)
+sources_receive None = All-nil IsOfReceive
+sources_receive (Some s) = All-cons IsOfReceive (ReplaceSources (head_of s)) [] tt (All-nil IsOfReceive)
 
 module _ (source : Text) (g : Global) (x : Id) (rises : Rises (slice_cmp nat_cmp) (λ (r : Sysmod). r.id)
     g.sysmods) where

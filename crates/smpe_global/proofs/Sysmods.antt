@@ -1,5 +1,6 @@
 -- A SYSMOD that is received or refused.
-use Rattle.std.proofs.Common.{◌≡◌, ◌∙◌, [], ◌∷◌, ◌++◌, refl, sym, ap, subst, Option, None, Some, Ok, Err}
+use Rattle.std.proofs.Common.{◌≡◌, ◌∙◌, [], ◌∷◌, ◌++◌, refl, sym, ap, subst, Option, None, Some, Ok, Err, All, map}
+use Rattle.std.proofs.lemmas.List.Elements.{All-nil, All-cons, All-map}
 use Rattle.terms.specs.Types.{Text, Global, Sysmod, ASysmod}
 use Rattle.terms.specs.Global.{IsSysmod, Rc1}
 use Rattle.machine.specs.Outcome.{OfKind, StatusLine}
@@ -10,9 +11,15 @@ use Rattle.sysmods.specs.Faults.{IsReceived}
 use Rattle.report.specs.declared.outcome.Line.{Line}
 use Rattle.report.specs.Views.{line_view}
 use Rattle.smpe_global.specs.declared.taken.Taken.{Taken}
-use Rattle.smpe_global.specs.Edits.{answer_of, edits_after}
+use Rattle.sysmods.specs.declared.edit.GlobalEdit.TheVariants.{PutHold, InsertSysmod}
+use Rattle.smpe_global.specs.Edits.{IsOfReceive, answer_of, edits_of, edits_after}
 use Rattle.smpe_global.specs.Taken.{IsTaken}
 use Rattle.smpe_global.proofs.Fitting.{fits_none, sysmod_fits, sysmod_makes}
+
+-- what writes a SYSMOD and its holds
+writes_receive : (s : Sysmod) → All IsOfReceive (edits_of s)
+writes_receive s = All-cons IsOfReceive (InsertSysmod (record s { holds = [] })) (map (λ h. PutHold h) s.holds) tt
+    (All-map IsOfReceive (λ h. PutHold h) s.holds (λ i d below. tt))
 
 module _ (source : Option Text) (g new : Global) (s : Sysmod) (line : Line) (was is : Taken)
     (told : is.lines.items ≡ was.lines.items ++ line ∷ []) where
@@ -27,6 +34,7 @@ module _ (source : Option Text) (g new : Global) (s : Sysmod) (line : Line) (was
     lines = line ∷ [];
     lines_are = told;
     prints = (Ok new, (free, came), refl, ap (λ l. l ∷ []) printed);
+    receives = writes_receive (sourced source s);
     fits = sysmod_fits g (sourced source s) (free Rc1);
     after = sysmod_makes g (sourced source s) known ∙ sym came;
   }
@@ -36,6 +44,7 @@ module _ (source : Option Text) (g new : Global) (s : Sysmod) (line : Line) (was
     lines = line ∷ [];
     lines_are = told;
     prints = (Err (fault_of fault), first, same, ap (λ l. l ∷ []) printed);
+    receives = All-nil IsOfReceive;
     fits = fits_none g;
     after = sym same;
   }

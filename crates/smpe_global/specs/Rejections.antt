@@ -14,7 +14,8 @@ use Rattle.report.specs.declared.outcome.Line.{Line}
 use Rattle.report.specs.Views.{line_view, status_view}
 use Rattle.sysmods.specs.declared.edit.GlobalEdit.{GlobalEdit}
 use Rattle.sysmods.specs.declared.edit.GlobalEdit.TheVariants.{RemoveHold, RemoveSysmod}
-use Rattle.sysmods.specs.Edits.{Fits, after_edits}
+use Rattle.sysmods.specs.Edits.{after_edits}
+use Rattle.smpe_global.specs.Edits.{IsOfReject}
 
 -- Some zone of the map has an id applied just where one of the named zones has.
 abbrev pub AppliesAlike : {S : Type 0} → IndexMap Text Zone S → List NamedZone → Type 0
@@ -28,26 +29,22 @@ removal h = RemoveHold h.id h.kind h.reason
 abbrev pub edits_of : Global → Id → List GlobalEdit
 edits_of g x = RemoveSysmod x ∷ map removal (filter (λ h. h.internal) (holds_of g System x))
 
--- It fits each global zone.
-abbrev pub FitsAlways : GlobalEdit → Type 0
-FitsAlways e = (g : Global) → Fits g e
-
--- The id is rejected or refused, and the edits, behind those before, lead where it does.
+-- The id is rejected or refused, and the edits, behind those before, are REJECT's and lead where it does.
 pub record IsAnswered {S : Type 0} (zones : IndexMap Text Zone S) (g : Global) (x : Id) (new : Global)
     (edits later : List GlobalEdit) (status : Status) : Type 0 where
   pub own : List GlobalEdit
   pub edits_are : later ≡ edits ++ own
-  pub fits : All FitsAlways own
+  pub rejects : All IsOfReject own
   pub after : after_edits own g ≡ new
   pub leads : (named : List NamedZone) → AppliesAlike zones named → new ≡ global_after g (reject g named x)
   pub told : (named : List NamedZone) → AppliesAlike zones named → status_view status ≡ reject_status (reject g named x)
 
--- The ids lead from g to new, and print these lines. The edits lead there too.
+-- The ids lead from g to new, and print these lines. The edits are REJECT's, and lead there too.
 pub record AreRejected {S : Type 0} (zones : IndexMap Text Zone S) (g : Global) (ids : List Id) (new : Global)
     (edits : List GlobalEdit) (lines : List Line) : Type 0 where
   pub runs : (named : List NamedZone) → AppliesAlike zones named
       → Runs (RejectsId named) g ids new (map line_view lines)
-  pub fits : All FitsAlways edits
+  pub rejects : All IsOfReject edits
   pub after : after_edits edits g ≡ new
 
 -- One id, behind what was written and printed before.

@@ -1,5 +1,5 @@
 -- What items make of the global zone, and what is written and printed of them.
-use Rattle.std.specs.Prelude.{◌≡◌, List, ◌++◌, map}
+use Rattle.std.specs.Prelude.{◌≡◌, List, ◌++◌, map, All}
 use Rattle.terms.specs.Types.{Global}
 use Rattle.machine.specs.Outcome as machine
 use Rattle.report.specs.declared.outcome.Line.{Line}
@@ -7,14 +7,16 @@ use Rattle.report.specs.Views.{line_view}
 use Rattle.sysmods.specs.declared.edit.GlobalEdit.{GlobalEdit}
 use Rattle.sysmods.specs.Edits.{EachFits, after_edits}
 use Rattle.smpe_global.specs.declared.taken.Taken.{Taken}
+use Rattle.smpe_global.specs.Edits.{IsOfReceive}
 
--- The global zone g has become new, and of that these lines are printed. The edits fit, and lead there too. Edits and
--- lines stand behind those that were there.
+-- The global zone g has become new, and of that these lines are printed. The edits are RECEIVE's, fit, and lead there too.
+-- Edits and lines stand behind those that were there.
 pub record IsTaken (Prints : Global → List machine.Line → Type 0) (g new : Global) (was is : Taken) : Type 0 where
   pub own : List GlobalEdit
   pub edits_are : is.edits.items ≡ was.edits.items ++ own
   pub lines : List Line
   pub lines_are : is.lines.items ≡ was.lines.items ++ lines
   pub prints : Prints new (map line_view lines)
+  pub receives : All IsOfReceive own
   pub fits : EachFits own g
   pub after : after_edits own g ≡ new

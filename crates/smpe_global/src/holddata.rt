@@ -8,7 +8,7 @@ ghost use Rattle.machine.specs.Receiving.{TakesHoldItem, release_status};
 ghost use Rattle.machine.specs.Runs.{Runs};
 ghost use Rattle.report.specs.Views.{line_view, status_view};
 ghost use Rattle.sysmods.specs.Edits.{EachFits, after_edits};
-ghost use Rattle.smpe_global.specs.Edits.{release_answer, release_edits};
+ghost use Rattle.smpe_global.specs.Edits.{IsOfReceive, release_answer, release_edits};
 ghost use Rattle.smpe_global.specs.External.{IsExternal};
 ghost use Rattle.mcs.specs.HoldItems.{item_of, items};
 ghost use Rattle.smpe_global.specs.Taken.{IsTaken};
@@ -160,6 +160,7 @@ pub fn receive_holds(
     requires { All IsExternal (items found.items) }
     ensures runs { IfOk result (λ t. Runs TakesHoldItem global.old (items found.items) global.new
         (map line_view t.lines.items)) }
+    ensures receives { IfOk result (λ t. All IsOfReceive t.edits.items) }
     ensures fits { IfOk result (λ t. EachFits t.edits.items global.old) }
     ensures edits { IfOk result (λ t. after_edits t.edits.items global.old ≡ global.new) }
 {

@@ -1,5 +1,5 @@
 //! The items of a PTFIN.
-ghost use Rattle.std.specs.Prelude.{◌≡◌, ◌++◌, IfOk, IfSome, OnOk, map};
+ghost use Rattle.std.specs.Prelude.{◌≡◌, ◌++◌, All, IfOk, IfSome, OnOk, map};
 ghost use Rattle.terms.specs.Types.{Global as AGlobal, ASysmod};
 ghost use Rattle.terms.specs.Forms.{IsSource};
 ghost use Rattle.machine.specs.Runs.{Runs};
@@ -7,7 +7,7 @@ ghost use Rattle.machine.specs.Receiving.{TakesItem, sourced, receive_status};
 ghost use Rattle.mcs.specs.Files.{item_of, items};
 ghost use Rattle.report.specs.Views.{line_view, status_view};
 ghost use Rattle.sysmods.specs.Edits.{EachFits, after_edits};
-ghost use Rattle.smpe_global.specs.Edits.{answer_of, edits_after};
+ghost use Rattle.smpe_global.specs.Edits.{IsOfReceive, answer_of, edits_after};
 ghost use Rattle.smpe_global.specs.Taken.{IsTaken};
 
 use crate::assign::take_assign;
@@ -124,6 +124,7 @@ pub fn receive(
 ) -> Result<Taken, AllocError>
     ensures runs { IfOk result (λ t. Runs (TakesItem source) global.old (items found.items) global.new
         (map line_view t.lines.items)) }
+    ensures receives { IfOk result (λ t. All IsOfReceive t.edits.items) }
     ensures fits { IfOk result (λ t. EachFits t.edits.items global.old) }
     ensures edits { IfOk result (λ t. after_edits t.edits.items global.old ≡ global.new) }
     ensures form { IfSome source IsSource }

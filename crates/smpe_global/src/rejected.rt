@@ -1,5 +1,5 @@
 //! REJECT: ids taken out of the global zone, or refused.
-ghost use Rattle.std.specs.Prelude.{◌≡◌, List, IfOk, OnOk, map};
+ghost use Rattle.std.specs.Prelude.{◌≡◌, All, List, IfOk, OnOk, map};
 ghost use Rattle.std.specs.List.{list_any};
 ghost use Rattle.std.specs.Str.{bytes_eq};
 ghost use Rattle.indexmap.specs.IndexMap.{values, IsUnique};
@@ -9,6 +9,7 @@ ghost use Rattle.machine.specs.Runs.{Runs};
 ghost use Rattle.machine.specs.Rejecting.{RejectsId};
 ghost use Rattle.report.specs.Views.{line_view};
 ghost use Rattle.sysmods.specs.Edits.{EachFits, after_edits};
+ghost use Rattle.smpe_global.specs.Edits.{IsOfReject};
 ghost use Rattle.smpe_global.specs.Rejections.{AppliesAlike, IsAnswered, IsRejected};
 
 use crate::removals::write_rejected;
@@ -80,6 +81,7 @@ pub fn reject(
 ) -> Result<Rejected, AllocError>
     ensures runs { IfOk result (λ r. (named : List NamedZone) → AppliesAlike zones.now named
         → Runs (RejectsId named) global.old ids.now global.new (map line_view r.lines.items)) }
+    ensures rejects { IfOk result (λ r. All IsOfReject r.edits.items) }
     ensures fits { IfOk result (λ r. EachFits r.edits.items global.old) }
     ensures edits { IfOk result (λ r. after_edits r.edits.items global.old ≡ global.new) }
     ensures names { IsUnique bytes_eq zones.now }

@@ -6,8 +6,9 @@ use Rattle.terms.specs.Types.{Text}
 use Rattle.terms.specs.declared.kinds.ZoneKind.{ZoneKind}
 use Rattle.clap.specs.Words.{Row, first_of}
 use Rattle.smpe_invocation.specs.Answers.{Excludes}
-use Rattle.smpe_invocation.specs.Values.{HasCheck, HasCommands, HasDate, HasKind, HasList, HasMigrate, HasRelated}
-use Rattle.smpe_invocation.specs.Values.{HasRun, HasSrel, HasText, HasValues, HasZone, HasZoneName}
+use Rattle.smpe_invocation.specs.Values.{HasCheck, HasCommands, HasDate, HasIds, HasKind}
+use Rattle.smpe_invocation.specs.Values.{HasList, HasMigrate, HasRelated}
+use Rattle.smpe_invocation.specs.Values.{HasRun, HasSrel, HasText, HasValues, HasWhy, HasZone, HasZoneName}
 use Rattle.smpe_invocation.specs.declared.fault.ArgFault.{ArgFault}
 use Rattle.smpe_invocation.specs.declared.fault.ArgFault.TheVariants.{Memory, Clap, BadOperand}
 use Rattle.smpe_invocation.specs.declared.asked.Commands.{Commands}
@@ -25,6 +26,7 @@ module _ (rows : List Row) where
   name_in (asked.Zone db name kind srel related, h) = (name, h.1)
   name_in (asked.Run db date cntl ptfin hold, h) = absurd h
   name_in (asked.List db zone, h) = absurd h
+  name_in (asked.Why db zone ids, h) = absurd h
   name_in (asked.Check srel ptfin hold commands, h) = absurd h
   name_in (asked.Migrate db, h) = absurd h
 
@@ -32,6 +34,7 @@ module _ (rows : List Row) where
   kind_in (asked.Zone db name kind srel related, h) = (kind, h.2)
   kind_in (asked.Run db date cntl ptfin hold, h) = absurd h
   kind_in (asked.List db zone, h) = absurd h
+  kind_in (asked.Why db zone ids, h) = absurd h
   kind_in (asked.Check srel ptfin hold commands, h) = absurd h
   kind_in (asked.Migrate db, h) = absurd h
 
@@ -39,6 +42,7 @@ module _ (rows : List Row) where
   srel_in (asked.Zone db name kind srel related, h) = (srel, h.3)
   srel_in (asked.Run db date cntl ptfin hold, h) = absurd h
   srel_in (asked.List db zone, h) = absurd h
+  srel_in (asked.Why db zone ids, h) = absurd h
   srel_in (asked.Check srel ptfin hold commands, h) = absurd h
   srel_in (asked.Migrate db, h) = absurd h
 
@@ -46,6 +50,7 @@ module _ (rows : List Row) where
   related_in (asked.Zone db name kind srel related, h) = (related, h.4)
   related_in (asked.Run db date cntl ptfin hold, h) = absurd h
   related_in (asked.List db zone, h) = absurd h
+  related_in (asked.Why db zone ids, h) = absurd h
   related_in (asked.Check srel ptfin hold commands, h) = absurd h
   related_in (asked.Migrate db, h) = absurd h
 
@@ -53,6 +58,7 @@ module _ (rows : List Row) where
   zone_db_in (asked.Zone db name kind srel related, h) = (string_bytes db, h.0)
   zone_db_in (asked.Run db date cntl ptfin hold, h) = absurd h
   zone_db_in (asked.List db zone, h) = absurd h
+  zone_db_in (asked.Why db zone ids, h) = absurd h
   zone_db_in (asked.Check srel ptfin hold commands, h) = absurd h
   zone_db_in (asked.Migrate db, h) = absurd h
 
@@ -60,6 +66,7 @@ module _ (rows : List Row) where
   date_in (asked.Zone db name kind srel related, h) = absurd h
   date_in (asked.Run db date cntl ptfin hold, h) = (date, h.1)
   date_in (asked.List db zone, h) = absurd h
+  date_in (asked.Why db zone ids, h) = absurd h
   date_in (asked.Check srel ptfin hold commands, h) = absurd h
   date_in (asked.Migrate db, h) = absurd h
 
@@ -67,6 +74,7 @@ module _ (rows : List Row) where
   run_db_in (asked.Zone db name kind srel related, h) = absurd h
   run_db_in (asked.Run db date cntl ptfin hold, h) = (string_bytes db, h.0)
   run_db_in (asked.List db zone, h) = absurd h
+  run_db_in (asked.Why db zone ids, h) = absurd h
   run_db_in (asked.Check srel ptfin hold commands, h) = absurd h
   run_db_in (asked.Migrate db, h) = absurd h
 
@@ -74,6 +82,7 @@ module _ (rows : List Row) where
   cntl_in (asked.Zone db name kind srel related, h) = absurd h
   cntl_in (asked.Run db date cntl ptfin hold, h) = (string_bytes cntl, h.2)
   cntl_in (asked.List db zone, h) = absurd h
+  cntl_in (asked.Why db zone ids, h) = absurd h
   cntl_in (asked.Check srel ptfin hold commands, h) = absurd h
   cntl_in (asked.Migrate db, h) = absurd h
 
@@ -81,6 +90,7 @@ module _ (rows : List Row) where
   zone_in (asked.Zone db name kind srel related, h) = absurd h
   zone_in (asked.Run db date cntl ptfin hold, h) = absurd h
   zone_in (asked.List db zone, h) = (zone, h.1)
+  zone_in (asked.Why db zone ids, h) = absurd h
   zone_in (asked.Check srel ptfin hold commands, h) = absurd h
   zone_in (asked.Migrate db, h) = absurd h
 
@@ -88,13 +98,39 @@ module _ (rows : List Row) where
   list_db_in (asked.Zone db name kind srel related, h) = absurd h
   list_db_in (asked.Run db date cntl ptfin hold, h) = absurd h
   list_db_in (asked.List db zone, h) = (string_bytes db, h.0)
+  list_db_in (asked.Why db zone ids, h) = absurd h
   list_db_in (asked.Check srel ptfin hold commands, h) = absurd h
   list_db_in (asked.Migrate db, h) = absurd h
+
+  pub why_zone_in : (i : Invocation) × HasWhy rows i → (name : Text) × HasZoneName (codes "zone") rows name
+  why_zone_in (asked.Zone db name kind srel related, h) = absurd h
+  why_zone_in (asked.Run db date cntl ptfin hold, h) = absurd h
+  why_zone_in (asked.List db zone, h) = absurd h
+  why_zone_in (asked.Why db zone ids, h) = (zone, h.1)
+  why_zone_in (asked.Check srel ptfin hold commands, h) = absurd h
+  why_zone_in (asked.Migrate db, h) = absurd h
+
+  pub ids_in : (i : Invocation) × HasWhy rows i → (ids : List Text) × HasIds rows ids
+  ids_in (asked.Zone db name kind srel related, h) = absurd h
+  ids_in (asked.Run db date cntl ptfin hold, h) = absurd h
+  ids_in (asked.List db zone, h) = absurd h
+  ids_in (asked.Why db zone ids, h) = (ids.items, h.2)
+  ids_in (asked.Check srel ptfin hold commands, h) = absurd h
+  ids_in (asked.Migrate db, h) = absurd h
+
+  pub why_db_in : (i : Invocation) × HasWhy rows i → (text : Text) × HasText (codes "db") rows text
+  why_db_in (asked.Zone db name kind srel related, h) = absurd h
+  why_db_in (asked.Run db date cntl ptfin hold, h) = absurd h
+  why_db_in (asked.List db zone, h) = absurd h
+  why_db_in (asked.Why db zone ids, h) = (string_bytes db, h.0)
+  why_db_in (asked.Check srel ptfin hold commands, h) = absurd h
+  why_db_in (asked.Migrate db, h) = absurd h
 
   pub check_srel_in : (i : Invocation) × HasCheck rows i → (srel : Text) × HasSrel rows srel
   check_srel_in (asked.Zone db name kind srel related, h) = absurd h
   check_srel_in (asked.Run db date cntl ptfin hold, h) = absurd h
   check_srel_in (asked.List db zone, h) = absurd h
+  check_srel_in (asked.Why db zone ids, h) = absurd h
   check_srel_in (asked.Check srel ptfin hold commands, h) = (srel, h.0)
   check_srel_in (asked.Migrate db, h) = absurd h
 
@@ -102,6 +138,7 @@ module _ (rows : List Row) where
   check_ptfin_in (asked.Zone db name kind srel related, h) = absurd h
   check_ptfin_in (asked.Run db date cntl ptfin hold, h) = absurd h
   check_ptfin_in (asked.List db zone, h) = absurd h
+  check_ptfin_in (asked.Why db zone ids, h) = absurd h
   check_ptfin_in (asked.Check srel ptfin hold commands, h) = (string_bytes ptfin, h.1)
   check_ptfin_in (asked.Migrate db, h) = absurd h
 
@@ -109,6 +146,7 @@ module _ (rows : List Row) where
   commands_in (asked.Zone db name kind srel related, h) = absurd h
   commands_in (asked.Run db date cntl ptfin hold, h) = absurd h
   commands_in (asked.List db zone, h) = absurd h
+  commands_in (asked.Why db zone ids, h) = absurd h
   commands_in (asked.Check srel ptfin hold commands, h) = (commands, h.3)
   commands_in (asked.Migrate db, h) = absurd h
 
@@ -116,6 +154,7 @@ module _ (rows : List Row) where
   migrate_db_in (asked.Zone db name kind srel related, h) = absurd h
   migrate_db_in (asked.Run db date cntl ptfin hold, h) = absurd h
   migrate_db_in (asked.List db zone, h) = absurd h
+  migrate_db_in (asked.Why db zone ids, h) = absurd h
   migrate_db_in (asked.Check srel ptfin hold commands, h) = absurd h
   migrate_db_in (asked.Migrate db, h) = (string_bytes db, h)
 
@@ -131,6 +170,9 @@ module _ (rows : List Row) where
   zone_not_list : (name : Text) → name ≡ codes "zone" → name ≡ codes "list" → ⊥
   zone_not_list name = no_two name _ _ 122 108 refl refl (λ e. absurd (omega (arith, e)))
 
+  zone_not_why : (name : Text) → name ≡ codes "zone" → name ≡ codes "why" → ⊥
+  zone_not_why name = no_two name _ _ 122 119 refl refl (λ e. absurd (omega (arith, e)))
+
   zone_not_check : (name : Text) → name ≡ codes "zone" → name ≡ codes "check" → ⊥
   zone_not_check name = no_two name _ _ 122 99 refl refl (λ e. absurd (omega (arith, e)))
 
@@ -140,17 +182,29 @@ module _ (rows : List Row) where
   run_not_list : (name : Text) → name ≡ codes "run" → name ≡ codes "list" → ⊥
   run_not_list name = no_two name _ _ 114 108 refl refl (λ e. absurd (omega (arith, e)))
 
+  run_not_why : (name : Text) → name ≡ codes "run" → name ≡ codes "why" → ⊥
+  run_not_why name = no_two name _ _ 114 119 refl refl (λ e. absurd (omega (arith, e)))
+
   run_not_check : (name : Text) → name ≡ codes "run" → name ≡ codes "check" → ⊥
   run_not_check name = no_two name _ _ 114 99 refl refl (λ e. absurd (omega (arith, e)))
 
   run_not_migrate : (name : Text) → name ≡ codes "run" → name ≡ codes "migrate" → ⊥
   run_not_migrate name = no_two name _ _ 114 109 refl refl (λ e. absurd (omega (arith, e)))
 
+  list_not_why : (name : Text) → name ≡ codes "list" → name ≡ codes "why" → ⊥
+  list_not_why name = no_two name _ _ 108 119 refl refl (λ e. absurd (omega (arith, e)))
+
   list_not_check : (name : Text) → name ≡ codes "list" → name ≡ codes "check" → ⊥
   list_not_check name = no_two name _ _ 108 99 refl refl (λ e. absurd (omega (arith, e)))
 
   list_not_migrate : (name : Text) → name ≡ codes "list" → name ≡ codes "migrate" → ⊥
   list_not_migrate name = no_two name _ _ 108 109 refl refl (λ e. absurd (omega (arith, e)))
+
+  why_not_check : (name : Text) → name ≡ codes "why" → name ≡ codes "check" → ⊥
+  why_not_check name = no_two name _ _ 119 99 refl refl (λ e. absurd (omega (arith, e)))
+
+  why_not_migrate : (name : Text) → name ≡ codes "why" → name ≡ codes "migrate" → ⊥
+  why_not_migrate name = no_two name _ _ 119 109 refl refl (λ e. absurd (omega (arith, e)))
 
   check_not_migrate : (name : Text) → name ≡ codes "check" → name ≡ codes "migrate" → ⊥
   check_not_migrate name = no_two name _ _ 99 109 refl refl (λ e. absurd (omega (arith, e)))
@@ -160,40 +214,54 @@ module _ (rows : List Row) where
   zone_of name is (i, inl h) = (i, h.1)
   zone_of name is (i, inr (inl h)) = absurd (zone_not_run name is h.0)
   zone_of name is (i, inr (inr (inl h))) = absurd (zone_not_list name is h.0)
-  zone_of name is (i, inr (inr (inr (inl h)))) = absurd (zone_not_check name is h.0)
-  zone_of name is (i, inr (inr (inr (inr h)))) = absurd (zone_not_migrate name is h.0)
+  zone_of name is (i, inr (inr (inr (inl h)))) = absurd (zone_not_why name is h.0)
+  zone_of name is (i, inr (inr (inr (inr (inl h))))) = absurd (zone_not_check name is h.0)
+  zone_of name is (i, inr (inr (inr (inr (inr h))))) = absurd (zone_not_migrate name is h.0)
 
   pub run_of : (name : Text) → name ≡ codes "run" → (i : Invocation) × HasValues (name, rows) i
       → (i : Invocation) × HasRun rows i
   run_of name is (i, inl h) = absurd (zone_not_run name h.0 is)
   run_of name is (i, inr (inl h)) = (i, h.1)
   run_of name is (i, inr (inr (inl h))) = absurd (run_not_list name is h.0)
-  run_of name is (i, inr (inr (inr (inl h)))) = absurd (run_not_check name is h.0)
-  run_of name is (i, inr (inr (inr (inr h)))) = absurd (run_not_migrate name is h.0)
+  run_of name is (i, inr (inr (inr (inl h)))) = absurd (run_not_why name is h.0)
+  run_of name is (i, inr (inr (inr (inr (inl h))))) = absurd (run_not_check name is h.0)
+  run_of name is (i, inr (inr (inr (inr (inr h))))) = absurd (run_not_migrate name is h.0)
 
   pub list_of : (name : Text) → name ≡ codes "list" → (i : Invocation) × HasValues (name, rows) i
       → (i : Invocation) × HasList rows i
   list_of name is (i, inl h) = absurd (zone_not_list name h.0 is)
   list_of name is (i, inr (inl h)) = absurd (run_not_list name h.0 is)
   list_of name is (i, inr (inr (inl h))) = (i, h.1)
-  list_of name is (i, inr (inr (inr (inl h)))) = absurd (list_not_check name is h.0)
-  list_of name is (i, inr (inr (inr (inr h)))) = absurd (list_not_migrate name is h.0)
+  list_of name is (i, inr (inr (inr (inl h)))) = absurd (list_not_why name is h.0)
+  list_of name is (i, inr (inr (inr (inr (inl h))))) = absurd (list_not_check name is h.0)
+  list_of name is (i, inr (inr (inr (inr (inr h))))) = absurd (list_not_migrate name is h.0)
+
+  pub why_of : (name : Text) → name ≡ codes "why" → (i : Invocation) × HasValues (name, rows) i
+      → (i : Invocation) × HasWhy rows i
+  why_of name is (i, inl h) = absurd (zone_not_why name h.0 is)
+  why_of name is (i, inr (inl h)) = absurd (run_not_why name h.0 is)
+  why_of name is (i, inr (inr (inl h))) = absurd (list_not_why name h.0 is)
+  why_of name is (i, inr (inr (inr (inl h)))) = (i, h.1)
+  why_of name is (i, inr (inr (inr (inr (inl h))))) = absurd (why_not_check name is h.0)
+  why_of name is (i, inr (inr (inr (inr (inr h))))) = absurd (why_not_migrate name is h.0)
 
   pub check_of : (name : Text) → name ≡ codes "check" → (i : Invocation) × HasValues (name, rows) i
       → (i : Invocation) × HasCheck rows i
   check_of name is (i, inl h) = absurd (zone_not_check name h.0 is)
   check_of name is (i, inr (inl h)) = absurd (run_not_check name h.0 is)
   check_of name is (i, inr (inr (inl h))) = absurd (list_not_check name h.0 is)
-  check_of name is (i, inr (inr (inr (inl h)))) = (i, h.1)
-  check_of name is (i, inr (inr (inr (inr h)))) = absurd (check_not_migrate name is h.0)
+  check_of name is (i, inr (inr (inr (inl h)))) = absurd (why_not_check name h.0 is)
+  check_of name is (i, inr (inr (inr (inr (inl h))))) = (i, h.1)
+  check_of name is (i, inr (inr (inr (inr (inr h))))) = absurd (check_not_migrate name is h.0)
 
   pub migrate_of : (name : Text) → name ≡ codes "migrate" → (i : Invocation) × HasValues (name, rows) i
       → (i : Invocation) × HasMigrate rows i
   migrate_of name is (i, inl h) = absurd (zone_not_migrate name h.0 is)
   migrate_of name is (i, inr (inl h)) = absurd (run_not_migrate name h.0 is)
   migrate_of name is (i, inr (inr (inl h))) = absurd (list_not_migrate name h.0 is)
-  migrate_of name is (i, inr (inr (inr (inl h)))) = absurd (check_not_migrate name h.0 is)
-  migrate_of name is (i, inr (inr (inr (inr h)))) = (i, h.1)
+  migrate_of name is (i, inr (inr (inr (inl h)))) = absurd (why_not_migrate name h.0 is)
+  migrate_of name is (i, inr (inr (inr (inr (inl h))))) = absurd (check_not_migrate name h.0 is)
+  migrate_of name is (i, inr (inr (inr (inr (inr h))))) = (i, h.1)
 
   -- where there is a file of commands, they have a date
   pub dated_in : (text : Text) → first_of (codes "cntl") rows ≡ Some text

@@ -1,4 +1,5 @@
 pub mod Days
 pub mod Excluding
+pub mod Ids
 pub mod Meeting
 pub mod Shapes

@@ -1,6 +1,7 @@
 -- The command line, in the words of `clap`'s contracts.
 use Rattle.std.specs.Prelude.{◌≡◌, true, false, List, [], ◌∷◌, map, Some, codes}
 use Rattle.clap.specs.Words.{App, Rule, Shape, Text, new_app, new_rule}
+use Rattle.clap.specs.declared.builder.action.ArgAction.TheVariants.{Append}
 use Rattle.clap.specs.declared.builder.value_parser.ValueParser.{ValueParser}
 use Rattle.clap.specs.declared.builder.value_parser.ValueParser.TheVariants.{Names}
 
@@ -11,6 +12,10 @@ option id = record (new_rule id) { long = Some id }
 -- the same, which may not
 abbrev pub needed : Text → Rule
 needed id = record (option id) { required = true }
+
+-- one that may stand there more than once
+abbrev pub repeated : Text → Rule
+repeated id = record (needed id) { action = Some Append }
 
 -- it takes a kind of zones, as it is spelled
 abbrev pub IsKindParser : ValueParser → Type 0
@@ -40,6 +45,10 @@ run_shape = with_options (codes "run")
 abbrev pub list_shape : Shape
 list_shape = with_options (codes "list") (needed (codes "db") ∷ needed (codes "zone") ∷ [])
 
+-- `why --db F --zone Z --id ID [--id ID]..`
+abbrev pub why_shape : Shape
+why_shape = with_options (codes "why") (needed (codes "db") ∷ needed (codes "zone") ∷ repeated (codes "id") ∷ [])
+
 -- `check --srel S --ptfin F [--hold F] [--cntl F --date YYYY-MM-DD]`
 abbrev pub check_shape : Shape
 check_shape = with_options (codes "check")
@@ -50,7 +59,7 @@ check_shape = with_options (codes "check")
 abbrev pub migrate_shape : Shape
 migrate_shape = with_options (codes "migrate") (needed (codes "db") ∷ [])
 
--- `smpe` with one of the five, and `--version`
+-- `smpe` with one of the six, and `--version`
 abbrev pub smpe : ValueParser → App
 smpe kinds = record {
   top = record (new_app (codes "smpe")).top {
@@ -59,7 +68,7 @@ smpe kinds = record {
     subcommand_required = true;
     disable_help_subcommand = true;
   };
-  subs = zone_shape kinds ∷ run_shape ∷ list_shape ∷ check_shape ∷ migrate_shape ∷ [];
+  subs = zone_shape kinds ∷ run_shape ∷ list_shape ∷ why_shape ∷ check_shape ∷ migrate_shape ∷ [];
 }
 
 abbrev pub IsCommandLine : App → Type 0

@@ -1,11 +1,11 @@
 -- The values of the options, as clap's matches have them.
-use Rattle.std.specs.Prelude.{◌≡◌, ◌⊎◌, List, Option, Some, None, codes, option_map, IfSome}
+use Rattle.std.specs.Prelude.{◌≡◌, ◌⊎◌, All, List, Option, Some, None, codes, option_map, IfSome}
 use Rattle.std.specs.String.{string_bytes}
 use Rattle.terms.specs.Types.{Text}
-use Rattle.terms.specs.Forms.{IsZoneName, IsSrel}
+use Rattle.terms.specs.Forms.{IsId, IsZoneName, IsSrel}
 use Rattle.terms.specs.Spelling.{zone_kind_text}
 use Rattle.terms.specs.declared.kinds.ZoneKind.{ZoneKind}
-use Rattle.clap.specs.Words.{Row, first_of}
+use Rattle.clap.specs.Words.{Row, all_of, first_of}
 use Rattle.smpe_invocation.specs.Dates.{HasDateForm, IsCalendarDay, dotted}
 use Rattle.smpe_invocation.specs.declared.asked.Commands.{Commands}
 use Rattle.smpe_invocation.specs.declared.asked.Invocation.{Invocation}
@@ -48,6 +48,15 @@ abbrev pub HasList : List Row → Invocation → Type 0
 HasList rows (asked.List db zone) = HasText (codes "db") rows (string_bytes db) × HasZoneName (codes "zone") rows zone
 HasList rows _ = ⊥
 
+-- the values of `--id`, in their order
+abbrev pub HasIds : List Row → List Text → Type 0
+HasIds rows ids = (all_of (codes "id") rows ≡ Some ids) × All IsId ids
+
+abbrev pub HasWhy : List Row → Invocation → Type 0
+HasWhy rows (asked.Why db zone ids) = HasText (codes "db") rows (string_bytes db)
+    × HasZoneName (codes "zone") rows zone × HasIds rows ids.items
+HasWhy rows _ = ⊥
+
 -- The commands, if the words have a file of them; then they have a date.
 abbrev pub HasCommands : List Row → Option Commands → Type 0
 HasCommands rows None = first_of (codes "cntl") rows ≡ None
@@ -68,5 +77,6 @@ HasMigrate rows _ = ⊥
 abbrev pub HasValues : Text × List Row → Invocation → Type 0
 HasValues met invocation = ((met.0 ≡ codes "zone") × HasZone met.1 invocation)
     ⊎ ((met.0 ≡ codes "run") × HasRun met.1 invocation) ⊎ ((met.0 ≡ codes "list") × HasList met.1 invocation)
+    ⊎ ((met.0 ≡ codes "why") × HasWhy met.1 invocation)
     ⊎ ((met.0 ≡ codes "check") × HasCheck met.1 invocation)
     ⊎ ((met.0 ≡ codes "migrate") × HasMigrate met.1 invocation)

@@ -1,5 +1,5 @@
 //! What the program can be asked to do.
-use fields::{Srel, YyDdd, ZoneName};
+use fields::{Id, Srel, YyDdd, ZoneName};
 use terms::ZoneKind;
 
 /// A file of commands, by its name, and the date of the job that they make.
@@ -32,6 +32,12 @@ pub enum Invocation {
     List {
         db: String,
         zone: ZoneName,
+    },
+    /// Tell what is so of ids in a zone.
+    Why {
+        db: String,
+        zone: ZoneName,
+        ids: Vec<Id>,
     },
     /// Tell what a service set would do in an empty system, without a database.
     Check {

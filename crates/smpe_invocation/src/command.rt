@@ -4,9 +4,11 @@ ghost use Rattle.clap.specs.Words.{app_of, new_app, rule_of, shape_of};
 ghost use Rattle.clap.specs.declared.builder.command.Command.TheViews.{out-Command as fields_of};
 ghost use Rattle.clap.specs.declared.builder.value_parser.ValueParser.{ValueParser};
 ghost use Rattle.smpe_invocation.specs.CommandLine.{IsCommandLine, IsKindParser, kind_option, needed, option};
-ghost use Rattle.smpe_invocation.specs.CommandLine.{check_shape, list_shape, migrate_shape, run_shape, zone_shape};
+ghost use Rattle.smpe_invocation.specs.CommandLine.{check_shape, list_shape, migrate_shape};
+ghost use Rattle.smpe_invocation.specs.CommandLine.{repeated, run_shape, why_shape};
+ghost use Rattle.smpe_invocation.specs.CommandLine.{zone_shape};
 
-use clap::{Arg, Command};
+use clap::{Arg, ArgAction, Command};
 use std::alloc::{AllocError, Global};
 
 /// What `--version` prints behind the name.
@@ -30,6 +32,7 @@ pub(crate) fn command_line<'a>(alloc: Global) -> Result<Command<'a>, AllocError>
     .subcommand(zone_command(alloc)?)?
     .subcommand(run_command(alloc)?)?
     .subcommand(list_command(alloc)?)?
+    .subcommand(why_command(alloc)?)?
     .subcommand(check_command(alloc)?)?
     .subcommand(migrate_command(alloc)?)
 }
@@ -90,6 +93,21 @@ fn list_command<'a>(alloc: Global) -> Result<Command<'a>, AllocError>
     .arg(required(alloc, "zone", "The zone, or GLOBAL"))
 }
 
+fn why_command<'a>(alloc: Global) -> Result<Command<'a>, AllocError>
+    ensures shape { IfOk result (λ c. shape_of c ≡ why_shape) }
+    ensures globals { IfOk result (λ c. (fields_of c).has_globals ≡ false) }
+{
+    command(
+        alloc,
+        "why",
+        "Tells what is so of ids in a zone, and changes nothing",
+        "Example: smpe why --db smpe.db --zone TGT1 --id UA00001 --id UA00002",
+    )
+    .arg(required(alloc, "db", "The database"))?
+    .arg(required(alloc, "zone", "The target or distribution zone"))?
+    .arg(repeated(alloc, "id", "The id of a SYSMOD, once or more often"))
+}
+
 fn check_command<'a>(alloc: Global) -> Result<Command<'a>, AllocError>
     ensures shape { IfOk result (λ c. shape_of c ≡ check_shape) }
     ensures globals { IfOk result (λ c. (fields_of c).has_globals ≡ false) }
@@ -140,6 +158,13 @@ fn required<'a>(alloc: Global, id: &'a str, help: &'a str) -> Arg<'a>
     ensures global { result.global ≡ false }
 {
     optional(alloc, id, help).required(true)
+}
+
+fn repeated<'a>(alloc: Global, id: &'a str, help: &'a str) -> Arg<'a>
+    ensures rule { rule_of result ≡ repeated id.entry.now }
+    ensures global { result.global ≡ false }
+{
+    required(alloc, id, help).action(ArgAction::Append)
 }
 
 fn optional<'a>(alloc: Global, id: &'a str, help: &'a str) -> Arg<'a>

@@ -4,7 +4,7 @@ use std::alloc::AllocError;
 use thiserror::Error;
 
 /// Why no invocation is read: want of memory, words that `clap` refuses, with its own text, or a
-/// name, an SREL or a date that has not its form.
+/// name, an id, an SREL or a date that has not its form.
 #[derive(Debug, Drop, Error)]
 pub enum ArgFault {
     #[error("out of memory")]

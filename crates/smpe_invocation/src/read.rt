@@ -2,19 +2,19 @@
 ghost use Rattle.std.specs.Prelude.{map, option_map, IfOk, IfErr};
 ghost use Rattle.clap.specs.Words.{found_of, rows_of};
 ghost use Rattle.smpe_invocation.specs.Answers.{Excludes, IsMet, IsRead, IsRefused};
-ghost use Rattle.smpe_invocation.specs.Values.{HasCheck, HasList, HasMigrate, HasRun, HasZone};
+ghost use Rattle.smpe_invocation.specs.Values.{HasCheck, HasList, HasMigrate, HasRun, HasWhy, HasZone};
 ghost use Rattle.smpe_invocation.specs.declared.asked.Invocation.{Invocation};
 
 use crate::asked::Invocation;
 use crate::command::command_line;
 use crate::fault::ArgFault;
-use crate::values::{commands, date, kind, optional_text, related, srel, text, zone_name};
+use crate::values::{commands, date, ids, kind, optional_text, related, srel, text, zone_name};
 use clap::ArgMatches;
 use std::alloc::Global;
 
 /// Reads the words, of which the first is the program's name. `Memory` comes where memory runs out, `Clap` where `clap`
-/// refuses the words or has a text to show in place of them, as for `--help`, and `BadOperand` where a name, an SREL or
-/// a date has not its form.
+/// refuses the words or has a text to show in place of them, as for `--help`, and `BadOperand` where a name, an id, an
+/// SREL or a date has not its form.
 pub fn invocation<'a>(alloc: Global, words: &'a [&'a str]) -> Result<Invocation, ArgFault>
     ensures ok { IfOk result (IsRead (map (λ word. word.now) words.entry.now)) }
     ensures err { IfErr result (IsRefused (map (λ word. word.now) words.entry.now)) }
@@ -38,6 +38,8 @@ fn met(alloc: Global, met: Option<(&str, &ArgMatches<'_>)>) -> Result<Invocation
         run(alloc, found)
     } else if name == "list" {
         list(alloc, found)
+    } else if name == "why" {
+        why(alloc, found)
     } else if name == "check" {
         check(alloc, found)
     } else if name == "migrate" {
@@ -93,6 +95,17 @@ fn list(alloc: Global, found: &ArgMatches<'_>) -> Result<Invocation, ArgFault>
     let zone = zone_name(found, "zone")?;
     let db = text(alloc, found, "db")?;
     Ok(Invocation::List { db, zone })
+}
+
+fn why(alloc: Global, found: &ArgMatches<'_>) -> Result<Invocation, ArgFault>
+    ensures ok { IfOk result (HasWhy (rows_of (found_of found.now))) }
+    ensures err { IfErr result (λ e. Excludes e ((invocation : Invocation)
+        × HasWhy (rows_of (found_of found.now)) invocation)) }
+{
+    let zone = zone_name(found, "zone")?;
+    let ids = ids(alloc, found)?;
+    let db = text(alloc, found, "db")?;
+    Ok(Invocation::Why { db, zone, ids })
 }
 
 fn check(alloc: Global, found: &ArgMatches<'_>) -> Result<Invocation, ArgFault>

@@ -1,11 +1,12 @@
 //! The values of the options.
-ghost use Rattle.std.specs.Prelude.{◌≡◌, Option, Some, option_map, IfOk, IfErr};
+ghost use Rattle.std.specs.Prelude.{◌≡◌, ◌++◌, ◌∷◌, [], All, List, Option, Some, map, option_map, IfOk, IfErr, OnOk};
 ghost use Rattle.std.specs.String.{string_bytes};
+ghost use Rattle.terms.specs.Forms.{IsId};
 ghost use Rattle.terms.specs.Types.{Text};
 ghost use Rattle.terms.specs.declared.kinds.ZoneKind.{ZoneKind};
-ghost use Rattle.clap.specs.Words.{first_of, found_of, rows_of};
+ghost use Rattle.clap.specs.Words.{all_of, first_of, found_of, rows_of};
 ghost use Rattle.smpe_invocation.specs.Answers.{Excludes};
-ghost use Rattle.smpe_invocation.specs.Values.{HasCommands, HasDate, HasKind, HasRelated, HasSrel, HasText};
+ghost use Rattle.smpe_invocation.specs.Values.{HasCommands, HasDate, HasIds, HasKind, HasRelated, HasSrel, HasText};
 ghost use Rattle.smpe_invocation.specs.Values.{HasZoneName};
 ghost use Rattle.smpe_invocation.specs.declared.asked.Commands.{Commands};
 
@@ -14,7 +15,7 @@ use crate::date::read_date;
 use crate::fault::ArgFault;
 use clap::ArgMatches;
 use fields::spelling::read_zone_kind;
-use fields::{Srel, YyDdd, ZoneName};
+use fields::{Id, Srel, YyDdd, ZoneName};
 use std::alloc::{AllocError, Global};
 use terms::ZoneKind;
 
@@ -84,6 +85,50 @@ pub(crate) fn related(found: &ArgMatches<'_>) -> Result<Option<ZoneName>, ArgFau
             None => Err(ArgFault::BadOperand),
         },
         None => Ok(None),
+    }
+}
+
+fn read_id(text: &str) -> Result<Id, ArgFault>
+    ensures ok { IfOk result (λ id. (id ≡ text.now) × IsId id) }
+    ensures err { IfErr result (λ e. Excludes e (IsId text.now)) }
+{
+    Id::read(text.as_bytes()).ok_or(ArgFault::BadOperand)
+}
+
+fn push(id: Id, ids: &mut Vec<Id>) -> Result<(), AllocError>
+    ensures { OnOk result (ids.new.items ≡ ids.old.items ++ id ∷ []) }
+{
+    ids.push(id)?;
+    Ok(())
+}
+
+fn read_ids(alloc: Global, texts: &[&str]) -> Result<Vec<Id>, ArgFault>
+    ensures ok { IfOk result (λ ids. (ids.items ≡ map (λ text. text.now) texts.now) × All IsId ids.items) }
+    ensures err { IfErr result (λ e. Excludes e (All IsId (map (λ text. text.now) texts.now))) }
+{
+    let mut ids = Vec::new(alloc);
+    for text in texts {
+        let id = read_id(text)?;
+        push(id, &mut ids)?;
+    }
+    Ok(ids)
+}
+
+// The texts that stand for an option that may be repeated, if the words have it.
+fn values<'a, 'b>(found: &'b ArgMatches<'a>, id: &str) -> Option<&'b [&'a str]>
+    ensures { option_map (λ texts. map (λ text. text.now) texts.now) result
+        ≡ all_of id.now (rows_of (found_of found.now)) }
+{
+    found.get_strs(id)
+}
+
+pub(crate) fn ids(alloc: Global, found: &ArgMatches<'_>) -> Result<Vec<Id>, ArgFault>
+    ensures ok { IfOk result (λ ids. HasIds (rows_of (found_of found.now)) ids.items) }
+    ensures err { IfErr result (λ e. Excludes e ((ids : List Text) × HasIds (rows_of (found_of found.now)) ids)) }
+{
+    match values(found, "id") {
+        Some(texts) => read_ids(alloc, texts),
+        None => Err(ArgFault::BadOperand),
     }
 }
 

@@ -3,6 +3,7 @@
 ghost use Rattle.std.specs.Prelude.{IsTrue};
 
 use crate::checked::{Ended, check_found, run_over};
+use smpe::reopened;
 use smpe_play::{FUNCTION_INSTALLED, FUNCTION_RECEIVED, connected, play_reopened};
 use sqlite::{Connection, FileStore, Files, Options};
 use sqlite_disk::{Crash, Disk, Fuse};
@@ -16,44 +17,40 @@ enum Fused {
     Database,
 }
 
-/// Runs the job over files, which are given back as they are.
-fn run_on<D: Disk + Drop>(
+/// Runs the job over files, and opens these again once the disks are back.
+fn run_on<D: Crash + Drop>(
     alloc: Global,
     files: Files<D>,
     report: &mut Vec<u8>,
-) -> Result<(Files<D>, Ended), Fail>
+) -> Result<(Connection<FileStore<D>>, Ended), Fail>
     requires log { IsTrue (D.Disk.is_usable files.log) }
     requires db { IsTrue (D.Disk.is_usable files.db) }
 {
     match Connection::open_files(alloc, files, Options::new(1)) {
         Ok(conn) => {
             let (conn, how) = run_over(alloc, conn, report)?;
-            Ok((conn.into_store().close(), how))
+            match reopened(alloc, conn, Options::new(1)) {
+                Ok(store) => Ok((store.close(), how)),
+                Err((_files, error)) => Err(Fail::from(error)),
+            }
         }
-        Err((_error, left)) => Ok((left.into_files(), Ended::Stopped)),
+        Err((_error, left)) => {
+            let mut files = left.into_files();
+            files.log.crash();
+            files.db.crash();
+            Ok((connected(alloc, files)?, Ended::Stopped))
+        }
     }
 }
 
-/// The disks come back, and the zones are looked at.
-fn check_again<D: Crash + Drop>(
-    alloc: Global,
-    mut files: Files<D>,
-    report: &[u8],
-    how: Ended,
-) -> Result<(), Fail> {
-    files.log.crash();
-    files.db.crash();
-    check_found(alloc, connected(alloc, files)?, report, how)
-}
-
-/// The job over disks that may fail in it, and what is found then.
+/// The job over disks that may fail in it, and what is found once they are back.
 fn check_on<D: Crash + Drop>(alloc: Global, files: Files<D>) -> Result<Ended, Fail>
     requires log { IsTrue (D.Disk.is_usable files.log) }
     requires db { IsTrue (D.Disk.is_usable files.db) }
 {
     let mut report = Vec::new(alloc);
-    let (files, how) = run_on(alloc, files, &mut report)?;
-    check_again(alloc, files, report.as_slice(), how)?;
+    let (conn, how) = run_on(alloc, files, &mut report)?;
+    check_found(alloc, conn, report.as_slice(), how)?;
     Ok(how)
 }
 

@@ -1,7 +1,9 @@
-//! First and refused jobs, RECEIVE, REJECT, LIST and REPORT, lists of jobs, disks that fail and come back, and the
-//! program's words and lines. There is no code here but tests.
+//! First and refused jobs, RECEIVE, REJECT, LIST and REPORT, lists of jobs, disks that fail and come back, rows that
+//! stand for no state, and the program's words and lines. There is no code here but tests.
 #![tactic(auto)]
 
+#[cfg(test)]
+mod bad_rows;
 #[cfg(test)]
 mod checked;
 #[cfg(test)]

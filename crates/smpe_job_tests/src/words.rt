@@ -1,5 +1,6 @@
 //! Command lines, and what they ask for.
 
+use fields::Id;
 use smpe::{ArgFault, Invocation, invocation};
 use smpe_play::compare;
 use std::alloc::Global;
@@ -34,6 +35,11 @@ const LINES: &[(&str, &str)] = &[
     ),
     ("smpe list --db F --zone TGT1", "F TGT1"),
     ("smpe list --zone=GLOBAL --db F", "F GLOBAL"),
+    ("smpe why --db F --zone TGT1 --id UA00001", "F TGT1 UA00001"),
+    (
+        "smpe why --id UA00002 --zone TGT1 --id=UA00001 --db F",
+        "F TGT1 UA00002,UA00001",
+    ),
     ("smpe check --srel Z038 --ptfin P", "Z038 P - - -"),
     (
         "smpe check --ptfin P --hold H --srel Z038 --cntl C --date 2024-05-17",
@@ -52,6 +58,13 @@ const LINES: &[(&str, &str)] = &[
     ("smpe migrate", "clap"),
     ("smpe migrate --db F --zone TGT1", "clap"),
     ("smpe list --db F --zone TGT1 --date 2024-05-17", "clap"),
+    ("smpe why --db F --zone TGT1", "clap"),
+    ("smpe why --db F --id UA00001", "clap"),
+    (
+        "smpe why --db F --zone TGT1 --zone TGT2 --id UA00001",
+        "clap",
+    ),
+    ("smpe why --db F --zone TGT1 --id UA00001 UA00002", "clap"),
     ("smpe zone --db F --name DLB1 --kind distribution", "clap"),
     (
         "smpe zone --db F --name DLB1 --kind global --srel Z038",
@@ -83,6 +96,12 @@ const LINES: &[(&str, &str)] = &[
         "bad operand",
     ),
     ("smpe list --db F --zone tgt1", "bad operand"),
+    ("smpe why --db F --zone tgt1 --id UA00001", "bad operand"),
+    ("smpe why --db F --zone TGT1 --id UA0001", "bad operand"),
+    (
+        "smpe why --db F --zone TGT1 --id UA00001 --id ua00002",
+        "bad operand",
+    ),
     ("smpe run --db F --date 2024-02-30 --cntl C", "bad operand"),
     ("smpe run --db F --date 1900-02-29 --cntl C", "bad operand"),
     ("smpe run --db F --date 2024-13-01 --cntl C", "bad operand"),
@@ -132,6 +151,11 @@ fn shown(alloc: Global, invocation: &Invocation) -> Result<String, Fail> {
             let zone = std::str::from_utf8(zone.as_bytes())?;
             Ok(format!(in alloc; "{db} {zone}")?)
         }
+        Invocation::Why { db, zone, ids } => {
+            let zone = std::str::from_utf8(zone.as_bytes())?;
+            let ids = listed(alloc, ids.as_slice())?;
+            Ok(format!(in alloc; "{db} {zone} {ids}")?)
+        }
         Invocation::Check {
             srel,
             ptfin,
@@ -151,6 +175,17 @@ fn shown(alloc: Global, invocation: &Invocation) -> Result<String, Fail> {
         }
         Invocation::Migrate { db } => Ok(format!(in alloc; "{db}")?),
     }
+}
+
+fn listed(alloc: Global, ids: &[Id]) -> Result<String, Fail> {
+    let mut text = String::new(alloc);
+    for id in ids {
+        if !text.is_empty() {
+            text.push_str(",")?;
+        }
+        text.push_str(std::str::from_utf8(id.as_bytes())?)?;
+    }
+    Ok(text)
 }
 
 fn read(alloc: Global, line: &str) -> Result<String, Fail> {

@@ -4,6 +4,7 @@ ghost use Rattle.sqlite.specs.Files.{file_state, IsOpened};
 ghost use Rattle.sqlite.specs.Held.{IsNew};
 ghost use Rattle.sqlite.specs.Opening.{is_open_error};
 ghost use Rattle.sqlite.specs.State.{HasCleanDisk};
+ghost use Rattle.smpe_program.specs.Wary.{IsWary};
 
 use clap::Error as WordsError;
 use smpe_command::Host;
@@ -47,8 +48,8 @@ fn cause_text(code: ErrorCode) -> Option<&'static str> {
     }
 }
 
-// Of a database, what `sqlite` promises where it opens one. No more is said of the system: the other relations hold of
-// all.
+// Of a database, what `sqlite` promises where it opens one, and that commits suppose nothing of the bytes that a torn
+// write leaves. No more is said of the system: the other relations hold of all.
 impl Host for System<'_> {
     type Disk = FileStore<FileFrom<Wary>>;
 
@@ -56,7 +57,7 @@ impl Host for System<'_> {
 
     ghost withholds = { λ _ _ _ _. Unit {0} };
 
-    ghost opens = { λ _ _ conn _. IsNew conn × (HasCleanDisk (file_state conn) → IsOpened conn) };
+    ghost opens = { λ _ _ conn _. IsNew conn × IsWary conn × (HasCleanDisk (file_state conn) → IsOpened conn) };
 
     ghost refuses = { λ _ _ why _. IsTrue (is_open_error why) };
 

@@ -1,7 +1,7 @@
 -- What RECEIVE leads to: a state that the edits make, whose tables are an inventory's.
-use Rattle.std.proofs.Common.{◌≡◌, ◌∙◌, Bool, true, false, ℕ, List, [], ◌++◌, All, Option, None, IfSome, IsTrue, refl}
-use Rattle.std.proofs.Common.{sym, ap, subst, inr}
-use Rattle.std.proofs.lemmas.List.Elements.{All-from_recursion}
+use Rattle.std.proofs.Common.{◌≡◌, ◌∙◌, Bool, true, false, ℕ, List, [], ◌++◌, All, Option, None, Some, IfSome, IsTrue}
+use Rattle.std.proofs.Common.{refl, sym, ap, subst, inr}
+use Rattle.std.proofs.lemmas.List.Elements.{All-append, All-from_recursion}
 use Rattle.std.proofs.lemmas.List.Sums.{fold-append}
 use Rattle.terms.specs.Types.{Text, Global, Item, HoldItem, AHold, ARelease, ReceiveWhat, Receive}
 use Rattle.terms.specs.Forms.{IsSource}
@@ -11,20 +11,24 @@ use Rattle.lemmas.proofs.Each.{recursion_weaker}
 use Rattle.store_schema.specs.Inventory.{IsInventory}
 use Rattle.machine.specs.Runs.{Runs}
 use Rattle.machine.specs.Receiving.{TakesItem, TakesHoldItem}
-use Rattle.machine.specs.Outcome.{Line, Cm4, Cm5, Ran, Refused, or_nothing, header_of}
-use Rattle.machine.specs.State.{State, misplaced}
+use Rattle.machine.specs.Outcome.{Header, Line, Cm4, Cm5, Ran, Refused, or_nothing, header_of}
+use Rattle.machine.specs.State.{State, global_name, misplaced}
 use Rattle.machine.specs.Machine.{Files, HasItems, Performs, Takes, TakesAll, TakesNone, TakesNoHold}
 use Rattle.report.specs.declared.outcome.Refusal.{Refusal}
 use Rattle.report.specs.Views.{refusal_view}
 use Rattle.sysmods.specs.declared.edit.GlobalEdit.{GlobalEdit}
 use Rattle.sysmods.specs.Edits.{after_edit, EachFits, after_edits}
+use Rattle.store.specs.declared.change.Change.{Change}
+use Rattle.store.specs.declared.change.Change.TheVariants as changes
 use Rattle.smpe_zones.specs.Kept.{kept}
+use Rattle.smpe_zones.specs.Own.{IsReceived}
+use Rattle.smpe_global.specs.Edits.{IsOfReceive}
 use Rattle.smpe_global.specs.External.{IsExternal}
 use Rattle.smpe_global.proofs.Fitting.{fits_append}
 use Rattle.machine_keeps.proofs.HoldFileForms.{IsHoldItem, hold_file_formed}
 use Rattle.machine_keeps.proofs.ReceivingForms.{take_forms}
 use Rattle.smpe_session.specs.Received.{AreTaken}
-use Rattle.smpe_global.proofs.Fitting.{fits_append}
+use Rattle.smpe_session.specs.Writing.{IsAtBoundary}
 use Rattle.smpe_session.proofs.Leading.{LeadsBy, leads_by, headed}
 
 external : (item : HoldItem) → IsHoldItem item → IsExternal item
@@ -41,22 +45,31 @@ each_external false bytes holds none = subst (All IsExternal) (sym none) (All-fr
 -- the items of PTFIN, and then those of the hold file
 pub both_taken : (source : Option Text) (items : List Item) (holds : List HoldItem) (g middle new : Global)
     (edits later all : List GlobalEdit) (first more lines : List Line)
+    → All IsOfReceive edits → All IsOfReceive later
     → Runs (TakesItem source) g items middle first → EachFits edits g → after_edits edits g ≡ middle
     → Runs TakesHoldItem middle holds new more → EachFits later middle → after_edits later middle ≡ new
     → all ≡ edits ++ later → lines ≡ first ++ more → AreTaken source items holds g new all lines
-both_taken source items holds g middle new edits later all first more lines runs fits after runs_holds fits_holds
-    after_holds all_are lines_are = record {
+both_taken source items holds g middle new edits later all first more lines own others runs fits after runs_holds
+    fits_holds after_holds all_are lines_are = record {
       middle = middle;
       first = first;
       more = more;
       runs = runs;
       runs_holds = runs_holds;
       lines_are = lines_are;
+      receives = subst (All IsOfReceive) (sym all_are) (All-append IsOfReceive edits later own others);
       fits = subst (λ es. EachFits es g) (sym all_are) (fits_append g edits later fits
           (subst (EachFits later) (sym after) fits_holds));
       after = ap (λ es. after_edits es g) all_are ∙ fold-append after_edit g edits later ∙ ap (after_edits later) after
           ∙ after_holds;
     }
+
+-- it changes the global zone alone
+pub received_here : (change : Change) (header : Header) → IsReceived change → header.boundary ≡ Some global_name
+    → IsAtBoundary change header
+received_here (changes.Global edits) header own at = at
+received_here (changes.Zone name delta) header own at = absurd own
+received_here (changes.NewZone name kind srel related) header own at = absurd own
 
 pub received : (date : Text) (files : Files) (what : ReceiveWhat) (s : State) (old new : Global) (source : Option Text)
     (items : List Item) (holds : List HoldItem)

@@ -1,17 +1,28 @@
 -- What REJECT leads to.
-use Rattle.std.proofs.Common.{◌≡◌, List, None, refl, sym, subst, inr}
+use Rattle.std.proofs.Common.{◌≡◌, List, None, Some, refl, sym, subst, inr}
 use Rattle.terms.specs.Types.{Text, Id, Global, Reject}
 use Rattle.store_schema.specs.Inventory.{IsInventory}
 use Rattle.machine.specs.Runs.{Runs}
 use Rattle.machine.specs.Rejecting.{RejectsId}
-use Rattle.machine.specs.Outcome.{Line}
-use Rattle.machine.specs.State.{State, misplaced}
+use Rattle.machine.specs.Outcome.{Header, Line}
+use Rattle.machine.specs.State.{State, global_name, misplaced}
 use Rattle.machine.specs.Machine.{Files}
 use Rattle.sysmods.specs.declared.edit.GlobalEdit.{GlobalEdit}
 use Rattle.sysmods.specs.Edits.{EachFits, after_edits}
+use Rattle.store.specs.declared.change.Change.{Change}
+use Rattle.store.specs.declared.change.Change.TheVariants as changes
 use Rattle.smpe_zones.specs.Kept.{kept}
+use Rattle.smpe_zones.specs.Own.{IsRejected}
+use Rattle.smpe_session.specs.Writing.{IsAtBoundary}
 use Rattle.machine_keeps.proofs.RejectingForms.{reject_forms}
 use Rattle.smpe_session.proofs.Leading.{LeadsBy, leads_by}
+
+-- it changes the global zone alone
+pub rejected_here : (change : Change) (header : Header) → IsRejected change → header.boundary ≡ Some global_name
+    → IsAtBoundary change header
+rejected_here (changes.Global edits) header own at = at
+rejected_here (changes.Zone name delta) header own at = absurd own
+rejected_here (changes.NewZone name kind srel related) header own at = absurd own
 
 pub rejected : (date : Text) (files : Files) (ids : List Id) (s : State) (old new : Global) (edits : List GlobalEdit)
     (lines : List Line)

@@ -125,20 +125,21 @@ module _ {S : Type 0} {g : Ghosts S} {old new : Held S} where
   module _ {IsMine IsOwn : Change → Type 0} {P : Ending Outcome} {at session : Session} {date : Text} {files : Files}
       {c : Command} where
     tells : (r : Result Outcome StoreError) → UsesStore g old new IsMine P r
-        → ((change : Change) → IsMine change → IsOwn change × IfOk r TellsRun)
+        → ((change : Change) → IsMine change → IsOwn change × IfOk r (TellsRun change))
         → ((s : State) → P s r → IsSessionOf s at → HasPerformed g old new s session date files c r)
-        → UsesStore g old new (λ change. IsOwn change × IfOk (told r) AnswersRun)
+        → UsesStore g old new (λ change. IsOwn change × IfOk (told r) (AnswersRun change))
         (λ s ended. IsSessionOf s at → HasDone g old new s session date files c ended) (told r)
     tells (Ok outcome) call more ends = answered call more (λ s inventory p is. ends s p is)
     tells (Err e) call more ends = failed call more (λ s inventory p is. ends s p is)
 
     -- what a command comes to is told
     pub told_uses : {r : Result Outcome StoreError} {told_so : Result Performed StoreError} → told_so ≡ told r
-        → UsesStore g old new IsMine P r → ((change : Change) → IsMine change → IsOwn change × IfOk r TellsRun)
+        → UsesStore g old new IsMine P r → ((change : Change) → IsMine change → IsOwn change × IfOk r (TellsRun change))
         → ((s : State) → P s r → IsSessionOf s at → HasPerformed g old new s session date files c r)
-        → UsesStore g old new (λ change. IsOwn change × IfOk told_so AnswersRun)
+        → UsesStore g old new (λ change. IsOwn change × IfOk told_so (AnswersRun change))
         (λ s ended. IsSessionOf s at → HasDone g old new s session date files c ended) told_so
-    told_uses {r = r} is call more ends = subst (λ q. UsesStore g old new (λ change. IsOwn change × IfOk q AnswersRun)
+    told_uses {r = r} is call more ends = subst
+        (λ q. UsesStore g old new (λ change. IsOwn change × IfOk q (AnswersRun change))
         (λ s ended. IsSessionOf s at → HasDone g old new s session date files c ended) q) (sym is)
         (tells r call more ends)
 

@@ -1,5 +1,5 @@
 -- What RECEIVE finds in its files, and what it makes of the global zone.
-use Rattle.std.specs.Prelude.{◌≡◌, ℕ, Bool, IsTrue, List, ◌++◌, Option, Result, Ok, Err}
+use Rattle.std.specs.Prelude.{◌≡◌, ℕ, Bool, All, IsTrue, List, ◌++◌, Option, Result, Ok, Err}
 use Rattle.terms.specs.declared.codes.McCode.{McCode}
 use Rattle.terms.specs.Types.{Text, Global, Item, HoldItem, ReceiveWhat, Receive}
 use Rattle.terms.specs.Ptfin.{McsFault, IsPtfin}
@@ -14,6 +14,7 @@ use Rattle.report.specs.declared.outcome.Refusal.{Refusal}
 use Rattle.report.specs.Views.{refusal_view}
 use Rattle.sysmods.specs.declared.edit.GlobalEdit.{GlobalEdit}
 use Rattle.sysmods.specs.Edits.{EachFits, after_edits}
+use Rattle.smpe_global.specs.Edits.{IsOfReceive}
 
 -- A file has these items where it is read, or else it has the first fault that is refused.
 abbrev pub HasRead : {X : Type 0} → (List ℕ → List X → Type 0) → (List ℕ → McsFault → Type 0)
@@ -31,8 +32,8 @@ HasFound files what items holds (Ok v) =
 HasFound files what items holds (Err why) =
     (s : State) → Takes files s what s (Refused (header_of (Receive what) s.boundary) (refusal_view why))
 
--- The items of PTFIN, and then those of the hold file, lead from g to new and print these lines. The edits lead there
--- too.
+-- The items of PTFIN, and then those of the hold file, lead from g to new and print these lines. The edits are
+-- RECEIVE's, and lead there too.
 pub record AreTaken (source : Option Text) (items : List Item) (holds : List HoldItem) (g new : Global)
     (edits : List GlobalEdit) (lines : List Line) : Type 0 where
   pub middle : Global
@@ -41,5 +42,6 @@ pub record AreTaken (source : Option Text) (items : List Item) (holds : List Hol
   pub runs : Runs (TakesItem source) g items middle first
   pub runs_holds : Runs TakesHoldItem middle holds new more
   pub lines_are : lines ≡ first ++ more
+  pub receives : All IsOfReceive edits
   pub fits : EachFits edits g
   pub after : after_edits edits g ≡ new

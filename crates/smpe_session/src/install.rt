@@ -1,5 +1,5 @@
 //! APPLY and ACCEPT: what is selected comes into the zone of the boundary.
-ghost use Rattle.std.specs.Prelude.{◌≡◌, false, IfOk, map, option_copied};
+ghost use Rattle.std.specs.Prelude.{◌≡◌, Some, false, IfOk, map, option_copied};
 ghost use Rattle.std.specs.Option.{option_and_then};
 ghost use Rattle.std.specs.Str.{bytes_eq};
 ghost use Rattle.indexmap.specs.IndexMap.{get};
@@ -45,6 +45,7 @@ fn header(kind: ZoneKind, boundary: Option<ZoneName>, check: bool) -> Header
     ensures view { (i : AnInstall) → i.check ≡ check
         → header_view result ≡ header_of (install_command kind i) boundary }
     ensures check { result.check ≡ check }
+    ensures boundary { result.boundary ≡ boundary }
 {
     let word = match kind {
         ZoneKind::Target => CommandWord::Apply,
@@ -77,7 +78,8 @@ fn plan(
 impl Session {
     /// The zone of the boundary, where it is of this kind.
     pub(crate) fn place(&self, kind: ZoneKind) -> Result<Place<'_>, Refusal>
-        ensures { (s : State) → IsSessionOf s self.now → IsInventory (kept s)
+        ensures named { IfOk result (λ v. self.now.boundary ≡ Some v.name) }
+        ensures has { (s : State) → IsSessionOf s self.now → IsInventory (kept s)
             → HasPlace s self.now kind (λ v. v.name) (λ v. v.zone.now) result }
     {
         let Some(name) = self.boundary else {
@@ -146,13 +148,13 @@ impl Session {
         install: &Install,
     ) -> Result<Outcome<'static>, StoreError>
         ensures { UsesStore S.Store store.old store.new
-            (λ own. IsOfZone own × (install.now.check ≡ false) × IfOk result TellsRun)
+            (λ own. IsOfZone own × (install.now.check ≡ false) × IfOk result (TellsRun own))
             (λ s ended. IsSessionOf s self.old → (files : Files)
             → HasPerformed S.Store store.old store.new s self.new date files
             (install_command kind install.now) ended) result }
     {
-        let header = header(kind, self.boundary, install.check);
         let related = self.seek_related(store, kind)?;
+        let header = header(kind, self.boundary, install.check);
         match self.place(kind) {
             Ok(place) => {
                 let name = place.name;

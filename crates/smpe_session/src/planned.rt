@@ -51,8 +51,8 @@ fn change_zone(
 }
 
 impl Session {
-    /// Under CHECK nothing changes. Else the session's zone does, and what it became is committed. A job whose commit
-    /// fails ends there, and its session with it.
+    /// The header names the zone. Under CHECK nothing changes. Else the session's zone does, and what it became is
+    /// committed. A job whose commit fails ends there, and its session with it.
     pub(crate) fn carry_out<S: Alter>(
         &mut self,
         alloc: Global,
@@ -61,8 +61,9 @@ impl Session {
         name: ZoneName,
         planned: Planned,
     ) -> Result<Outcome<'static>, StoreError>
+        requires { header.boundary ≡ Some name }
         ensures { UsesStore S.Store store.old store.new
-            (λ own. IsOfZone own × (header.check ≡ false) × IfOk result TellsRun)
+            (λ own. IsOfZone own × (header.check ≡ false) × IfOk result (TellsRun own))
             (λ s ended. IsSessionOf s self.old → (date : Text) (files : Files) (c : Command)
             → ChangesZone date files c s self.old name planned.delta header.check
             (Ran (header_view header) (map line_view planned.lines.items))

@@ -15,7 +15,7 @@ ghost use Rattle.smpe_session.specs.Steps.{HasRun, LeadsToGlobal};
 ghost use Rattle.smpe_session.specs.Received.{AreTaken};
 ghost use Rattle.smpe_session.specs.Uses.{UsesStore};
 ghost use Rattle.smpe_session.specs.Writing.{TellsRun};
-ghost use Rattle.smpe_zones.specs.Own.{IsOfGlobal};
+ghost use Rattle.smpe_zones.specs.Own.{IsReceived};
 
 use crate::boundary::unless_global;
 use crate::files::Files;
@@ -63,7 +63,7 @@ fn take_items<S: Alter>(
     source: Option<Source>,
 ) -> Result<Vec<Line>, StoreError>
     requires { All IsExternal (hold_items found.holds.items) }
-    ensures { UsesStore S.Store store.old store.new IsOfGlobal (λ s ended. s.global ≡ global.old
+    ensures { UsesStore S.Store store.old store.new IsReceived (λ s ended. s.global ≡ global.old
         → (date : Text) (files : AllFiles) (what : AWhat) → misplaced s (Receive what) ≡ None → what.source ≡ source
         → HasItems IsPtfin what.sysmods files.ptfin (items found.items.items)
         → HasItems IsHoldFile what.holddata files.holds (hold_items found.holds.items)
@@ -83,7 +83,7 @@ impl Session {
         files: &Files<'_>,
         what: &ReceiveWhat,
     ) -> Result<Outcome<'static>, StoreError>
-        ensures { UsesStore S.Store store.old store.new (λ own. IsOfGlobal own × IfOk result TellsRun)
+        ensures { UsesStore S.Store store.old store.new (λ own. IsReceived own × IfOk result (TellsRun own))
             (λ s ended. IsSessionOf s self.old → (date : Text)
             → HasPerformed S.Store store.old store.new s self.new date files.now (Receive what.now) ended) result }
     {

@@ -11,7 +11,7 @@ ghost use Rattle.smpe_session.specs.Sessions.{IsSessionOf, HasPerformed};
 ghost use Rattle.smpe_session.specs.Steps.{AreSought, HasAllZones, HasLoaded, HasRun, LeadsToGlobal};
 ghost use Rattle.smpe_session.specs.Uses.{UsesStore};
 ghost use Rattle.smpe_session.specs.Writing.{TellsRun};
-ghost use Rattle.smpe_zones.specs.Own.{IsOfGlobal};
+ghost use Rattle.smpe_zones.specs.Own.{IsRejected};
 
 use crate::boundary::unless_global;
 use crate::load::{commit_change, load_names};
@@ -35,7 +35,7 @@ fn reject_ids<S: Alter>(
     zones: &IndexMap<ZoneName, Zone>,
     ids: &IdList,
 ) -> Result<Vec<Line>, StoreError>
-    ensures uses { UsesStore S.Store store.old store.new IsOfGlobal (λ s ended. s.global ≡ global.old
+    ensures uses { UsesStore S.Store store.old store.new IsRejected (λ s ended. s.global ≡ global.old
         → AppliesAlike zones.now s.zones → (date : Text) (files : Files) → misplaced s (Reject ids.now) ≡ None
         → HasRun S.Store store.old store.new s (Perform date files (Reject ids.now))
         (λ v t. LeadsToGlobal date files (Reject ids.now) s global.new t (map line_view v.items)) ended) result }
@@ -77,7 +77,7 @@ impl Session {
         store: &mut Store<S>,
         ids: &IdList,
     ) -> Result<Outcome<'static>, StoreError>
-        ensures { UsesStore S.Store store.old store.new (λ own. IsOfGlobal own × IfOk result TellsRun)
+        ensures { UsesStore S.Store store.old store.new (λ own. IsRejected own × IfOk result (TellsRun own))
             (λ s ended. IsSessionOf s self.old → (date : Text) (files : Files)
             → HasPerformed S.Store store.old store.new s self.new date files (Reject ids.now) ended) result }
     {

@@ -1,5 +1,5 @@
 //! RESTORE: SYSMODs go off the target zone of the boundary, back to what its distribution zone holds.
-ghost use Rattle.std.specs.Prelude.{◌≡◌, false, IfOk};
+ghost use Rattle.std.specs.Prelude.{◌≡◌, Some, false, IfOk};
 ghost use Rattle.std.specs.Option.{option_and_then};
 ghost use Rattle.std.specs.Str.{bytes_eq};
 ghost use Rattle.indexmap.specs.IndexMap.{get};
@@ -64,7 +64,8 @@ impl Session {
 
     /// The target zone of the boundary, with its distribution zone.
     fn target(&self, accepted: Option<ZoneName>) -> Result<Target<'_>, Refusal>
-        ensures { (s : State) → HasAccepted s self.now accepted → IsInventory (kept s)
+        ensures named { IfOk result (λ v. self.now.boundary ≡ Some v.name) }
+        ensures has { (s : State) → HasAccepted s self.now accepted → IsInventory (kept s)
             → HasTarget s self.now (λ v. v.name) (λ v. v.zone.now) (λ v. v.accepted.now) result }
     {
         match self.place(ZoneKind::Target) {
@@ -88,17 +89,18 @@ impl Session {
         list: &RestoreList,
         check: bool,
     ) -> Result<Outcome<'static>, StoreError>
-        ensures { UsesStore S.Store store.old store.new (λ own. IsOfZone own × (check ≡ false) × IfOk result TellsRun)
+        ensures { UsesStore S.Store store.old store.new (λ own. IsOfZone own × (check ≡ false)
+            × IfOk result (TellsRun own))
             (λ s ended. IsSessionOf s self.old → (date : Text) (files : Files)
             → HasPerformed S.Store store.old store.new s self.new date files (Restore (restore_list_of list.now) check)
             ended) result }
     {
+        let accepted = self.seek_accepted(store)?;
         let header = Header {
             word: CommandWord::Restore,
             boundary: self.boundary,
             check,
         };
-        let accepted = self.seek_accepted(store)?;
         match self.target(accepted) {
             Ok(target) => {
                 let name = target.name;

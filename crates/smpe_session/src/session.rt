@@ -91,7 +91,7 @@ impl Session {
         ensures faults { (state S.Store store.old).faults ≤ (state S.Store store.new).faults }
         ensures limit { store.new.step_limit ≡ store.old.step_limit }
         ensures goes { GoesOver S.Store store.old store.new
-            (λ own. IsOwnOf (command_of command.now) own × IfOk result AnswersRun) result }
+            (λ own. IsOwnOf (command_of command.now) own × IfOk result (AnswersRun own)) result }
         ensures none { TellsNoState S.Store store.old store.new result }
         ensures which { ¬ IsErrOf result StoreError.OtherSchema }
         ensures ended { HasCleanDisk (state S.Store store.new) → (s : State) → IsSessionOf s self.old
@@ -113,7 +113,7 @@ impl Session {
         command: &Command,
     ) -> Result<Performed, StoreError>
         ensures uses { UsesStore S.Store store.old store.new
-            (λ own. IsOwnOf (command_of command.now) own × IfOk result AnswersRun)
+            (λ own. IsOwnOf (command_of command.now) own × IfOk result (AnswersRun own))
             (λ s ended. IsSessionOf s self.old → HasDone S.Store store.old store.new s self.new date files.now
             (command_of command.now) ended) result }
         ensures looks { LooksOnly (command_of command.now) → (store.new ≡ store.old)

@@ -1,14 +1,20 @@
 -- Which changes of the tables an act may commit.
-use Rattle.std.specs.Prelude.{◌≡◌, false}
+use Rattle.std.specs.Prelude.{◌≡◌, All, false}
 use Rattle.terms.specs.Types.{Command, Receive, Reject, Apply, Accept, Restore}
 use Rattle.machine.specs.Machine.{Act, Perform, Define}
+use Rattle.smpe_global.specs.Edits.{IsOfReceive, IsOfReject}
 use Rattle.store.specs.declared.change.Change.{Change}
 use Rattle.store.specs.declared.change.Change.TheVariants.{NewZone, Zone, Global}
 
--- a change of the global zone
-abbrev pub IsOfGlobal : Change → Type 0
-IsOfGlobal (Global edits) = Unit {0}
-IsOfGlobal _ = ⊥
+-- a change of the global zone that removes no SYSMOD
+abbrev pub IsReceived : Change → Type 0
+IsReceived (Global edits) = All IsOfReceive edits.items
+IsReceived _ = ⊥
+
+-- one that removes SYSMODs and holds alone
+abbrev pub IsRejected : Change → Type 0
+IsRejected (Global edits) = All IsOfReject edits.items
+IsRejected _ = ⊥
 
 -- a change of a target or distribution zone that is there
 abbrev pub IsOfZone : Change → Type 0
@@ -18,8 +24,8 @@ IsOfZone _ = ⊥
 -- RECEIVE and REJECT change the global zone, and APPLY, ACCEPT and RESTORE another one, unless they check alone. SET,
 -- LIST and REPORT change nothing.
 abbrev pub IsOwnOf : Command → Change → Type 0
-IsOwnOf (Receive what) change = IsOfGlobal change
-IsOwnOf (Reject ids) change = IsOfGlobal change
+IsOwnOf (Receive what) change = IsReceived change
+IsOwnOf (Reject ids) change = IsRejected change
 IsOwnOf (Apply i) change = IsOfZone change × (i.check ≡ false)
 IsOwnOf (Accept i) change = IsOfZone change × (i.check ≡ false)
 IsOwnOf (Restore what check) change = IsOfZone change × (check ≡ false)

@@ -363,9 +363,10 @@ pairs_part stored k = subst (λ ds. pairs_of ds ≤ pairs_of (map numbered store
     (sum_by-take-le (λ d. length d.any) (map numbered stored) k)
 
 -- a list of candidates that rises has at most as many members as there are candidates
-pub pairs_few : (p : Problem) → IsProblem p → p.size < 2 ^ 32 → length p.needs < 2 ^ 64 → pairs_of p.needs < 2 ^ 96
+pub pairs_few : (p : Problem) → IsProblem p → p.size < 2 ^ 63 → length p.needs < 2 ^ 60
+    → pairs_of p.needs < 2 ^ 123
 pairs_few p valid small few =
-    let all = sum_by-le (λ d. length d.any) 4294967295 p.needs
+    let all = sum_by-le (λ d. length d.any) 9223372036854775807 p.needs
     (λ k d below. omega (
       arith,
       small,
@@ -411,12 +412,12 @@ served_more seen d k old new place added so_far x j =
 -- the turns of the start fit
 pub start_room : (p : Problem) (stored : List StoredNeed) (k : ℕ) (n : StoredNeed) → map numbered stored ≡ p.needs
     → IsProblem p
-    → p.size < 2 ^ 32 → length stored < 2 ^ 64
+    → p.size < 2 ^ 63 → length stored < 2 ^ 60
     → k < length stored → n ≡ get_or stored k n → p.size + k + 2 * pairs_of (map numbered (take k stored)) +
     (1 + 2 * length n.any.items) < 2 ^ 128
 start_room p stored k n maps valid small short below is =
     let all : pairs_of (map numbered stored) ≡ pairs_of p.needs = ap pairs_of maps in
-    let few : length p.needs < 2 ^ 64 = omega (arith, ap length maps, length-map stored numbered, short) in
+    let few : length p.needs < 2 ^ 60 = omega (arith, ap length maps, length-map stored numbered, short) in
     omega (
       arith,
       pairs_few p valid small few,

@@ -16,35 +16,34 @@ fn bare_needs(alloc: Global, s: &Problem) -> Result<Vec<bool>, AllocError>
     ensures size { IfOk result (λ bare. length bare.items ≡ s.now.size) }
     ensures exact { IfOk result (λ bare. (x : ℕ) → IsTrue (holds bare.items x) ↔ HasBareNeed s.now x) }
 {
-    let mut bare = vec![in alloc; false; s.size() as usize]?;
+    let mut bare = vec![in alloc; false; s.size()]?;
     for need in s.needs() {
         if need.any.is_empty() {
-            bare[need.of as usize] = true;
+            bare[need.of] = true;
         }
     }
     Ok(bare)
 }
 
 /// Whether a candidate has failed for a reason of its own: it is not eligible, or nobody serves a need of it.
-fn is_root(s: &Problem, kept: &[bool], bare: &[bool], x: u32) -> bool
+fn is_root(s: &Problem, kept: &[bool], bare: &[bool], x: usize) -> bool
     requires x { x < s.now.size }
     requires kept { length kept.now ≡ s.now.size }
     requires bare { length bare.now ≡ s.now.size }
     requires exact { (y : ℕ) → IsTrue (holds bare.now y) ↔ HasBareNeed s.now y }
     ensures { IsTrue result ↔ IsRoot s.now kept.now x }
 {
-    let at = x as usize;
-    !kept[at] && (!s.eligible()[at] || bare[at])
+    !kept[x] && (!s.eligible()[x] || bare[x])
 }
 
 /// For each candidate those that lead to it.
-fn leads_to(alloc: Global, s: &Problem, kept: &[bool]) -> Result<Vec<Vec<u32>>, AllocError>
+fn leads_to(alloc: Global, s: &Problem, kept: &[bool]) -> Result<Vec<Vec<usize>>, AllocError>
     requires { length kept.now ≡ s.now.size }
     ensures { IfOk result (λ leads. AreLeads s.now kept.now leads.items) }
 {
     let mut leads = empty_rows(alloc, s.size())?;
     for need in s.needs() {
-        if !kept[need.of as usize] && !serves(kept, &need.any) {
+        if !kept[need.of] && !serves(kept, &need.any) {
             add_under(&mut leads, &need.any, need.of)?;
         }
     }
@@ -52,13 +51,13 @@ fn leads_to(alloc: Global, s: &Problem, kept: &[bool]) -> Result<Vec<Vec<u32>>, 
 }
 
 /// Marks the members of a row, and adds to the list those that were not marked.
-fn mark_row(row: &[u32], marks: &mut [bool], list: &mut Vec<u32>) -> Result<(), AllocError>
+fn mark_row(row: &[usize], marks: &mut [bool], list: &mut Vec<usize>) -> Result<(), AllocError>
     requires { All (λ x. x < length marks.old) row.now }
     ensures { OnOk result (IsMarked row.now marks.old marks.new list.old.items list.new.items) }
 {
     for x in row {
-        if !marks[*x as usize] {
-            marks[*x as usize] = true;
+        if !marks[*x] {
+            marks[*x] = true;
             list.push(*x)?;
         }
     }
@@ -66,22 +65,22 @@ fn mark_row(row: &[u32], marks: &mut [bool], list: &mut Vec<u32>) -> Result<(), 
 }
 
 /// Takes the marks of a list away.
-fn clear(marks: &mut [bool], list: &[u32])
+fn clear(marks: &mut [bool], list: &[usize])
     requires { All (λ x. x < length marks.old) list.now }
     ensures { (x : ℕ) → holds marks.new x ≡ (holds marks.old x && not (is_in list.now x)) }
 {
     for x in list {
-        marks[*x as usize] = false;
+        marks[*x] = false;
     }
 }
 
 /// The candidates that reach y, each once: a search from y backwards.
 fn reaching(
     alloc: Global,
-    leads: &[Vec<u32>],
-    y: u32,
+    leads: &[Vec<usize>],
+    y: usize,
     marks: &mut [bool],
-) -> Result<Vec<u32>, AllocError>
+) -> Result<Vec<usize>, AllocError>
     requires y { y < length leads.now }
     requires marks { length marks.old ≡ length leads.now }
     requires clear { AreClear marks.old }
@@ -94,10 +93,10 @@ fn reaching(
 {
     let mut list = Vec::new(alloc);
     list.push(y)?;
-    marks[y as usize] = true;
+    marks[y] = true;
     let mut next = 0;
     while next < list.len() {
-        let z = list[next] as usize;
+        let z = list[next];
         next += 1;
         mark_row(&leads[z], marks, &mut list)?;
     }
@@ -107,7 +106,7 @@ fn reaching(
 
 /// For each candidate its causers, rising: the roots that it reaches. One that is kept has none. The error comes where
 /// memory runs out.
-pub fn causers(alloc: Global, s: &Problem, kept: &Kept) -> Result<Vec<Vec<u32>>, AllocError>
+pub fn causers(alloc: Global, s: &Problem, kept: &Kept) -> Result<Vec<Vec<usize>>, AllocError>
     requires { length kept.now ≡ s.now.size }
     ensures size { IfOk result (λ rows. length rows.items ≡ s.now.size) }
     ensures exact { IfOk result (λ rows. (x y : ℕ) →
@@ -121,7 +120,7 @@ pub fn causers(alloc: Global, s: &Problem, kept: &Kept) -> Result<Vec<Vec<u32>>,
     let flags = kept.flags();
     let bare = bare_needs(alloc, s)?;
     let leads = leads_to(alloc, s, flags)?;
-    let mut marks = vec![in alloc; false; s.size() as usize]?;
+    let mut marks = vec![in alloc; false; s.size()]?;
     let mut rows = empty_rows(alloc, s.size())?;
     for y in 0..s.size() {
         if is_root(s, flags, &bare, y) {

@@ -1,5 +1,5 @@
 //! The least set that holds its start and is closed under rules.
-ghost use Rattle.std.specs.Prelude.{◌≡◌, ◌<◌, ◌^◌, ◌+◌, ◌++◌, ◌∷◌, [], ◌↔◌, IfOk, OnOk, OnErr, IsTrue, length, map};
+ghost use Rattle.std.specs.Prelude.{◌≡◌, ◌++◌, ◌∷◌, [], ◌↔◌, IfOk, OnOk, OnErr, IsTrue, length, map};
 ghost use Rattle.std.specs.Prelude.{not};
 ghost use Rattle.solve.specs.Least.{IsRule, IsLeast};
 ghost use Rattle.solve.specs.Rules.{as_rule};
@@ -13,8 +13,8 @@ use std::marker::Model;
 /// Once a set holds all of `these`, it holds `that`.
 #[derive(Drop)]
 pub struct Rule {
-    pub these: Vec<u32>,
-    pub that: u32,
+    pub these: Vec<usize>,
+    pub that: usize,
 }
 
 /// The numbers that a set starts with, and the rules by which it grows.
@@ -48,7 +48,6 @@ impl Rules {
     /// A set of numbers below `start.len()` that starts with the flagged ones, and no rules yet. The error comes where
     /// memory runs out.
     pub fn new(alloc: Global, start: &[bool]) -> Result<Rules, AllocError>
-        requires { length start.now < 2 ^ 32 }
         ensures { IfOk result (λ rules. rules ≡ record { start = start.now; rules = [] }) }
     {
         let eligible = turned(alloc, start)?;
@@ -58,7 +57,7 @@ impl Rules {
     }
 
     /// How many numbers there are.
-    pub fn size(&self) -> u32
+    pub fn size(&self) -> usize
         ensures { result ≡ length self.now.start }
     {
         self.outside.size()
@@ -67,7 +66,6 @@ impl Rules {
     /// Adds a number, the next one, and whether the set starts with it. The error comes where memory runs out, and
     /// changes nothing.
     pub fn add_number(&mut self, starts: bool) -> Result<(), AllocError>
-        requires { length self.old.start + 1 < 2 ^ 32 }
         ensures ok { OnOk result (self.new ≡ record self.old { start = self.old.start ++ starts ∷ [] }) }
         ensures err { OnErr result (self.new ≡ self.old) }
     {
@@ -75,7 +73,7 @@ impl Rules {
     }
 
     /// Whether a rule may be added: it is about numbers that are there, and its list rises.
-    pub fn admits(&self, these: &[u32], that: u32) -> bool
+    pub fn admits(&self, these: &[usize], that: usize) -> bool
         ensures { IsTrue result ↔ IsRule (length self.now.start) (record { these = these.now; that = that }) }
     {
         self.outside.admits(that, these)

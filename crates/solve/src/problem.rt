@@ -1,5 +1,5 @@
 //! The numbered problem: candidates, which of them are eligible, and their needs.
-ghost use Rattle.std.specs.Prelude.{◌≡◌, ◌<◌, ◌^◌, ◌+◌, ◌++◌, ◌∷◌, [], ◌↔◌, length, map, All, AllPairs, OnOk, OnErr};
+ghost use Rattle.std.specs.Prelude.{◌≡◌, ◌<◌, ◌+◌, ◌++◌, ◌∷◌, [], ◌↔◌, length, map, All, AllPairs, OnOk, OnErr};
 ghost use Rattle.std.specs.Prelude.{IsTrue};
 ghost use Rattle.solve.specs.NumberedNeed.{numbered};
 ghost use Rattle.solve.specs.Problem.{IsNumberedNeed, IsProblem};
@@ -10,12 +10,12 @@ use std::marker::Model;
 /// One need of the candidate `of`: each number in `any` serves it.
 #[derive(Drop)]
 pub struct NumberedNeed {
-    pub of: u32,
-    pub any: Vec<u32>,
+    pub of: usize,
+    pub any: Vec<usize>,
 }
 
 /// Whether each number is above the one before it.
-fn rises(list: &[u32]) -> bool
+fn rises(list: &[usize]) -> bool
     ensures { IsTrue result ↔ AllPairs (λ a b. a < b) list.now }
 {
     for i in 1..list.len() {
@@ -29,7 +29,7 @@ fn rises(list: &[u32]) -> bool
 /// Candidates below a number, which of them are eligible, and what they need.
 #[derive(Drop)]
 pub struct Problem {
-    size: u32,
+    size: usize,
     eligible: Vec<bool>,
     needs: Vec<NumberedNeed>,
 }
@@ -49,18 +49,17 @@ impl Model for Problem {
 impl Problem {
     /// A problem with these flags and no needs yet.
     pub fn new(alloc: Global, eligible: Vec<bool>) -> Problem
-        requires { length eligible.items < 2 ^ 32 }
         ensures { result ≡ record { size = length eligible.items; eligible = eligible.items; needs = [] } }
     {
         Problem {
-            size: eligible.len() as u32,
+            size: eligible.len(),
             eligible,
             needs: Vec::new(alloc),
         }
     }
 
     /// How many candidates there are.
-    pub fn size(&self) -> u32
+    pub fn size(&self) -> usize
         ensures size { result ≡ self.now.size }
         ensures valid { IsProblem self.now }
     {
@@ -85,7 +84,6 @@ impl Problem {
 
     /// Adds a candidate, the next number, with no need yet. The error comes where memory runs out, and changes nothing.
     pub fn add_candidate(&mut self, eligible: bool) -> Result<(), AllocError>
-        requires { self.old.size + 1 < 2 ^ 32 }
         ensures ok { OnOk result (self.new ≡ record {
           size = self.old.size + 1;
           eligible = self.old.eligible ++ eligible ∷ [];
@@ -99,7 +97,7 @@ impl Problem {
     }
 
     /// Whether a need may be added: it is about candidates, and its list rises.
-    pub fn admits(&self, of: u32, any: &[u32]) -> bool
+    pub fn admits(&self, of: usize, any: &[usize]) -> bool
         ensures { IsTrue result ↔ IsNumberedNeed self.now.size (record { of = of; any = any.now }) }
     {
         of < self.size && any.iter().all(|y| *y < self.size) && rises(any)

@@ -29,21 +29,21 @@ pub struct Worklist;
 struct Board {
     standing: Vec<bool>,
     living: Vec<usize>,
-    dropped: Vec<u32>,
+    dropped: Vec<usize>,
     count: Count,
 }
 
 /// How many numbers of the list are eligible.
-fn count_living(eligible: &[bool], any: &[u32]) -> usize
+fn count_living(eligible: &[bool], any: &[usize]) -> usize
     requires { All (λ y. y < length eligible.now) any.now }
     ensures { result ≡ count_by (holds eligible.now) any.now }
 {
-    any.iter().filter(|y| eligible[**y as usize]).count()
+    any.iter().filter(|y| eligible[**y]).count()
 }
 
 impl Board {
     /// Drops a candidate, if it stands. There is room for all that may be dropped.
-    fn drop_candidate(&mut self, x: u32)
+    fn drop_candidate(&mut self, x: usize)
         requires x { x < length self.old.standing.items }
         requires room { open_in self.old ≤ self.old.dropped.cap }
         ensures drop { IsDrop x self.old.standing.items self.old.dropped.items self.new.standing.items
@@ -52,8 +52,8 @@ impl Board {
         ensures living { self.new.living ≡ self.old.living }
         ensures count { self.new.count ≡ self.old.count }
     {
-        if self.standing[x as usize] {
-            self.standing[x as usize] = false;
+        if self.standing[x] {
+            self.standing[x] = false;
             self.dropped.push_reserved(x);
         }
     }
@@ -80,7 +80,7 @@ impl Board {
     fn strike_row(&mut self, s: &Problem, row: &[usize])
         requires row { All (λ k. k < length s.now.needs) row.now }
         requires board { AtRest s.now row.now self.old }
-        requires few { pairs_of s.now.needs < 2 ^ 96 }
+        requires few { pairs_of s.now.needs < 2 ^ 123 }
         requires turns { self.old.count.turns + length row.now < 2 ^ 128 }
         ensures board { AtRest s.now [] self.new }
         ensures open { open_in self.new ≡ open_in self.old }
@@ -115,7 +115,7 @@ impl Board {
         requires served { AreServed s.now.needs served.now }
         requires size { length served.now ≡ s.now.size }
         requires board { AtRest s.now [] self.old }
-        requires few { pairs_of s.now.needs < 2 ^ 96 }
+        requires few { pairs_of s.now.needs < 2 ^ 123 }
         requires turns { self.old.count.turns + s.now.size < 2 ^ 127 }
         ensures board { AtRest s.now [] self.new }
         ensures done { self.new.dropped.items ≡ [] }
@@ -124,7 +124,7 @@ impl Board {
     {
         while let Some(x) = self.dropped.pop() {
             self.count.turns += 1;
-            self.strike_row(s, &served[x as usize]);
+            self.strike_row(s, &served[x]);
         }
     }
 }
@@ -137,14 +137,14 @@ fn prepare(alloc: Global, s: &Problem) -> Result<(Board, Vec<Vec<usize>>), Alloc
         s.now.needs) }
     ensures served { IfOk result (λ r. AreServed s.now.needs r.1.items) }
     ensures size { IfOk result (λ r. length r.1.items ≡ s.now.size) }
-    ensures few { IfOk result (λ r. pairs_of s.now.needs < 2 ^ 96) }
+    ensures few { IfOk result (λ r. pairs_of s.now.needs < 2 ^ 123) }
     ensures needs { IfOk result (λ r. length s.now.needs < 2 ^ 64) }
 {
     let needs = s.needs();
     let standing = s.eligible().to_vec(alloc)?;
     let mut living = Vec::with_capacity(alloc, needs.len())?;
     let mut served = empty_rows(alloc, s.size())?;
-    let mut turns = u128::from(s.size());
+    let mut turns = s.size() as u128;
     for (k, need) in needs.iter().enumerate() {
         living.push(count_living(s.eligible(), &need.any))?;
         add_under(&mut served, &need.any, k)?;
@@ -153,7 +153,7 @@ fn prepare(alloc: Global, s: &Problem) -> Result<(Board, Vec<Vec<usize>>), Alloc
     let board = Board {
         standing,
         living,
-        dropped: Vec::with_capacity(alloc, s.size() as usize)?,
+        dropped: Vec::with_capacity(alloc, s.size())?,
         count: Count { strikes: 0, turns },
     };
     Ok((board, served))

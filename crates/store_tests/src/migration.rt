@@ -11,7 +11,7 @@ use std::test::Fail;
 use store_migration::migrate;
 use store_schema::StoreError;
 
-/// The tables of schema 1, as version 1.0.0 made them.
+/// The tables of schema 1, as programs before release 1.0.0 made them.
 const FIRST: &str =
     "CREATE TABLE meta (k TEXT NOT NULL, v INTEGER NOT NULL, PRIMARY KEY (k)) STRICT; \
     CREATE TABLE sysmod (id TEXT NOT NULL, kind TEXT NOT NULL, sources TEXT NOT NULL, PRIMARY KEY (id)) STRICT; \

@@ -8,7 +8,7 @@ ghost use Rattle.store_zone_loads.specs.declared.rows.ZoneRow.{ZoneRow as AZoneR
 
 use crate::items::ZoneItem;
 use crate::rows::ZoneRow;
-use fields::Id;
+use fields::{Id, VerNumber};
 use sorted::Keyed;
 use sqlite::Row;
 use std::alloc::Global;
@@ -19,7 +19,7 @@ use store_rows::{FromRow, ReadError, whole};
 #[derive(Clone, Copy, Debug, PartialEq, Eq)]
 pub(crate) struct EntryNumber {
     pub id: Id,
-    pub number: usize,
+    pub number: VerNumber,
 }
 
 impl Keyed for EntryNumber {
@@ -33,7 +33,7 @@ impl Keyed for EntryNumber {
 }
 
 // A number that is not 1. It counts from there.
-fn number_in(row: &Row, at: usize) -> Option<usize>
+fn number_in(row: &Row, at: usize) -> Option<VerNumber>
     ensures some { IfSome result (λ n. (column row.now at ≡ Int (pos n)) × (2 ≤ n) × (n < 2 ^ 63)) }
     ensures none { IfNone result ((n : ℕ) → 2 ≤ n → column row.now at ≢ Int (pos n)) }
 {
@@ -41,7 +41,7 @@ fn number_in(row: &Row, at: usize) -> Option<usize>
     if number < 2 {
         return None;
     }
-    Some(number as usize)
+    Some(VerNumber::new(number as usize))
 }
 
 /// Reads the rows of numbers.

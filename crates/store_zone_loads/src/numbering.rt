@@ -7,13 +7,14 @@ ghost use Rattle.store_zone_loads.specs.Numbered.{left_over, behind_first, with_
 
 use crate::chosen::EntryNumber;
 use crate::rows::table_of;
+use fields::VerNumber;
 use sorted::Table;
 use std::alloc::{AllocError, Global};
 use std::collections::VecDeque;
 use store_rows::ReadError;
 use zones::{Applied, Entry};
 
-fn applied_by(applied: Option<Applied>, number: usize) -> Option<Applied>
+fn applied_by(applied: Option<Applied>, number: VerNumber) -> Option<Applied>
     ensures { result ≡ option_map (λ a. an_applied a.date number) applied }
 {
     let applied = applied?;
@@ -24,7 +25,7 @@ fn applied_by(applied: Option<Applied>, number: usize) -> Option<Applied>
 }
 
 // The entry with this number, if it is applied.
-fn renumbered(entry: Entry, number: usize) -> Entry
+fn renumbered(entry: Entry, number: VerNumber) -> Entry
     ensures { result ≡ spec.renumbered entry number }
 {
     Entry {

@@ -13,17 +13,18 @@ ghost use Rattle.store_zones.specs.Keys.{entry_key};
 ghost use Rattle.store_zones.specs.Zones.{with_number};
 
 use fields::{Id, ZoneName};
-use sqlite::{Alter, Error, ErrorCode, Transaction};
+use sqlite::{Alter, Error, Transaction};
 use sqlite_value::value::ValueRef;
 use store_rows::{put, remove};
 use zones::Entry;
 
 // The number by which it was installed, and 1 where it was not.
 fn number_of(entry: &Entry) -> usize
-    ensures { result ≡ option_map_or (λ a. a.number) entry.now.applied 1 }
+    ensures same { result ≡ option_map_or (λ a. a.number) entry.now.applied 1 }
+    ensures fits { result < 2 ^ 63 }
 {
     match entry.applied {
-        Some(applied) => applied.number,
+        Some(applied) => applied.number.get(),
         None => 1,
     }
 }
@@ -88,9 +89,6 @@ pub(crate) fn put_number<S: Alter>(
     let number = number_of(entry);
     if number == 1 {
         return remove_number(tx, zone, &entry.id);
-    }
-    if number > i64::MAX as usize {
-        return Err(Error::SqliteFailure(ErrorCode::OutOfMemory));
     }
     put_row(tx, zone, &entry.id, number)
 }

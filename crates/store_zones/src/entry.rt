@@ -23,7 +23,7 @@ use store_rows::{put, remove};
 use zones::Entry;
 
 /// Puts the entry into the zone, in place of the one of its id, if there is one. An error comes where there is no such
-/// zone, where the disk fails or memory is short; a number that no column can hold is told as memory that is short.
+/// zone, where the disk fails or memory is short.
 pub fn put_entry<S: Alter>(
     alloc: Global,
     tx: &mut Transaction<'_, S>,

@@ -22,3 +22,4 @@ pub mod OneVer
 pub mod Receiving
 pub mod Taken
 mod KnownOvers
+pub mod NoneMet

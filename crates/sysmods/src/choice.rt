@@ -9,16 +9,16 @@ ghost use Rattle.sysmods.specs.Choices.{has_ver, picked, number_in, choice};
 use crate::chain::Chain;
 use crate::search::{Names, ends, leads};
 use crate::zone::GlobalZone;
-use fields::{Id, IdList, Srel};
+use fields::{Id, IdList, Srel, VerNumber};
 use sorted::{Keyed, Table};
 use std::alloc::{AllocError, Global};
 use sysmod::Ver;
 
-/// The number of an id's `++VER` among those for an SREL, counted from 1.
+/// The number of an id's `++VER` among those for an SREL.
 #[derive(Clone, Copy, Debug)]
 pub struct Pick {
     pub id: Id,
-    pub number: usize,
+    pub number: VerNumber,
 }
 
 impl Keyed for Pick {
@@ -72,12 +72,12 @@ impl<'a> VerChoice<'a> {
     }
 
     /// The number of the `++VER` that counts.
-    pub fn number(&self, id: Id) -> usize
+    pub fn number(&self, id: Id) -> VerNumber
         ensures { result ≡ number_in self.now id }
     {
         match picked(&self.kept, id) {
             Some(number) => number,
-            None => picked(&self.fitting, id).unwrap_or(1),
+            None => picked(&self.fitting, id).unwrap_or(VerNumber::FIRST),
         }
     }
 
@@ -112,10 +112,13 @@ impl<'a> VerChoice<'a> {
         Chain::new(self, id)
     }
 
-    /// Whether its chain has one of these ids.
+    /// Whether its chain has one of these ids. Where there are none, the chain is not walked.
     pub fn meets(&self, id: Id, ids: &[Id]) -> bool
         ensures { result ≡ meets (chain self.now.global.now (choice self.now) id) ids.now }
     {
+        if ids.is_empty() {
+            return false;
+        }
         self.chain(id).any(|x| is_in(ids, x))
     }
 
@@ -141,7 +144,7 @@ fn is_in(ids: &[Id], id: Id) -> bool
 }
 
 // The number that is picked for the id.
-fn picked(picks: &Table<Pick>, id: Id) -> Option<usize>
+fn picked(picks: &Table<Pick>, id: Id) -> Option<VerNumber>
     ensures { result ≡ picked picks.now id }
 {
     let pick = picks.get(id)?;
@@ -152,15 +155,15 @@ fn picked(picks: &Table<Pick>, id: Id) -> Option<usize>
 pub fn has_ver(global: &GlobalZone, srel: Srel, id: Id) -> bool
     ensures { result ≡ has_ver global.now srel id }
 {
-    numbered_ver(global, srel, id, 1).is_some()
+    numbered_ver(global, srel, id, VerNumber::FIRST).is_some()
 }
 
 /// The `++VER` of this number among those of the SYSMOD for the SREL.
-pub fn numbered_ver(global: &GlobalZone, srel: Srel, id: Id, number: usize) -> Option<&Ver>
+pub fn numbered_ver(global: &GlobalZone, srel: Srel, id: Id, number: VerNumber) -> Option<&Ver>
     ensures { option_copied result ≡ slice_get (vers_of global.now srel id) (number - 1) }
 {
     let sysmod = global.get(id)?;
-    of_srel(sysmod.vers.as_slice(), srel, number.saturating_sub(1))
+    of_srel(sysmod.vers.as_slice(), srel, number.get() - 1)
 }
 
 // The one at this place among those for the SREL.

@@ -1,8 +1,10 @@
-//! The global zone: the received SYSMODs and the holds.
-//! A `GlobalZone` keeps `IsGlobal`. `receive`, `hold`, `release`, `assign` and `reject` are the definitions', and where
-//! they fail nothing changes; `from_parts` takes two lists just where they are those of a global zone. `VerChoice`
-//! answers who is over, supersedes and owns, by the one `++VER` that counts; `Overs`, who is over whom, keeps what it
-//! has found. Times are measured only.
+//! The global zone: the received SYSMODs and the holds, and who is over, supersedes and owns among them.
+//! One half is the zone and its changes. SYSMODs stand by id, with an index of who names whom, and holds by id, kind
+//! and reason. A `GlobalZone` keeps `IsGlobal`; each change of it is the definition's, so is the fault that refuses a
+//! SYSMOD, and where a change fails, nothing changes. Two lists make a global zone just where they are those of one.
+//! The other half asks who leads to whom, for a zone's SREL and by the one `++VER` of each SYSMOD that counts
+//! (`VerChoice`): who is over an id and what it supersedes, by a search, and the chain of its FMIDs, by a walk. `Overs`
+//! keeps what it has found. Both halves use the same searches in a graph of ids. Times are measured only.
 #![tactic(auto)]
 
 mod chain;

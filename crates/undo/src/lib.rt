@@ -1,10 +1,10 @@
-//! What RESTORE decides, and how it changes its zone: which SYSMODs GROUP leads to, which tests each candidate fails,
-//! what each one needs, and the target zone without those that are taken off.
-//! `restore_list` answers SELECT's ids, or the least closed list with GROUP's; `judge_restore` the tests and the needs,
-//! for any list and any two zones. One pass over the applied SYSMODs notes who changes which element and who depends on
-//! whom. The delta of `restore` makes of a target zone the one that the definition of a restore asks
-//! for (`Restores`), whatever is kept, and each edit of it changes something. Seen in the code alone: it is one pass
-//! over the entries, and one over what is changed.
+//! What RESTORE decides, and how it changes its zone, in three parts.
+//! Its list is SELECT's ids, or the least closed list with GROUP's: whatever all of some SYSMODs and elements bring in
+//! comes in with them. What is said of a list, for any list and any two zones, is which tests each candidate fails, and
+//! what each one needs; one pass over the applied SYSMODs notes who changes which element and who depends on whom. The
+//! change is a delta that makes of a target zone the one that the definition of a restore asks for (`Restores`),
+//! whatever is kept, and each edit of it changes something. Seen in the code alone: it is one pass over the entries,
+//! and one over what is changed.
 #![tactic(auto)]
 
 mod dependences;

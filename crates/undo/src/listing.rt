@@ -28,8 +28,7 @@ fn selected(alloc: Global, scope: &Scope<'_, '_>, ids: &IdList) -> Result<IdList
     ids.try_clone(alloc)
 }
 
-/// SELECT's ids, or what GROUP's ids lead to. An error comes where memory runs out, also where GROUP's list is about
-/// 2^32 SYSMODs and elements or more.
+/// SELECT's ids, or what GROUP's ids lead to. The error comes where memory runs out.
 pub fn restore_list(
     alloc: Global,
     scope: &Scope<'_, '_>,

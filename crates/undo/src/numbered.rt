@@ -1,5 +1,5 @@
 //! What GROUP's list reaches, by numbers.
-ghost use Rattle.std.specs.Prelude.{◌≡◌, ◌<◌, ◌^◌, ◌++◌, [], length, map, All, Contains, IfOk, OnOk};
+ghost use Rattle.std.specs.Prelude.{◌≡◌, ◌++◌, [], length, map, All, Contains, IfOk, OnOk};
 ghost use Rattle.std.specs.Prelude.{if◌then◌else◌};
 ghost use Rattle.std.specs.List.{flat_map};
 ghost use Rattle.undo.specs.declared.nodes.Node.TheVariants.{Sysmod};
@@ -53,7 +53,6 @@ fn add_rule(
     step: &Step,
     rules: &mut Rules,
 ) -> Result<(), AllocError>
-    requires fits { length table.now < 2 ^ 32 }
     requires covers { Covers table.now step.now }
     requires size { length rules.old.start ≡ length table.now }
     ensures { OnOk result (AddsRule table.now (as_step step.now) rules.old rules.new) }
@@ -70,7 +69,6 @@ fn growth(
     ids: &IdList,
     steps: &[Step],
 ) -> Result<Rules, AllocError>
-    requires fits { length table.now < 2 ^ 32 }
     requires covers { All (λ s. Covers table.now s) steps.now }
     ensures { IfOk result (λ rules. IsGrowth table.now ids.now (as_steps steps.now) rules) }
 {
@@ -112,7 +110,6 @@ fn reached_over(
     ids: &IdList,
     steps: &[Step],
 ) -> Result<IdList, AllocError>
-    requires fits { length table.now < 2 ^ 32 }
     requires starts { All (λ x. Contains table.now (Sysmod x)) ids.now }
     requires covers { All (λ s. Covers table.now s) steps.now }
     ensures { IfOk result (λ found. AreReached ids.now (as_steps steps.now) found) }
@@ -129,8 +126,5 @@ pub(crate) fn reached(alloc: Global, ids: &IdList, steps: &[Step]) -> Result<IdL
     ensures { IfOk result (λ found. AreReached ids.now (as_steps steps.now) found) }
 {
     let table = Rising::from_vec(all_nodes(alloc, ids, steps)?);
-    if table.len() > u32::MAX as usize {
-        return Err(AllocError);
-    }
     reached_over(alloc, &table, ids, steps)
 }

@@ -1,5 +1,5 @@
 //! A step with numbers: the places of what it is about in a table.
-ghost use Rattle.std.specs.Prelude.{◌≡◌, ◌<◌, ◌^◌, ◌↔◌, ℕ, Some, length, map, slice_get, All, AllPairs};
+ghost use Rattle.std.specs.Prelude.{◌≡◌, ◌<◌, ◌↔◌, ℕ, Some, length, map, slice_get, All, AllPairs};
 ghost use Rattle.std.specs.Prelude.{Contains, IfOk};
 ghost use Rattle.solve.specs.Least.{IsRule};
 ghost use Rattle.solve.specs.Rules.{as_rule};
@@ -11,25 +11,15 @@ use fields::{Field, Rising};
 use solve::Rule;
 use std::alloc::{AllocError, Global};
 
-// The place of an item that stands in the list.
-fn place<T: Field>(table: &Rising<T>, item: T) -> usize
+// The place of an item that stands in the list is its number.
+fn number<T: Field>(table: &Rising<T>, item: T) -> usize
     requires { Contains table.now item }
     ensures { slice_get table.now result ≡ Some item }
 {
     table.as_slice().binary_search(&item).unwrap()
 }
 
-// The same as a number.
-fn number(table: &Rising<Node>, node: Node) -> u32
-    requires fits { length table.now < 2 ^ 32 }
-    requires there { Contains table.now node }
-    ensures { slice_get table.now result ≡ Some node }
-{
-    place(table, node) as u32
-}
-
-fn numbers(alloc: Global, table: &Rising<Node>, nodes: &[Node]) -> Result<Vec<u32>, AllocError>
-    requires fits { length table.now < 2 ^ 32 }
+fn numbers(alloc: Global, table: &Rising<Node>, nodes: &[Node]) -> Result<Vec<usize>, AllocError>
     requires there { All (λ n. Contains table.now n) nodes.now }
     ensures { IfOk result (λ found. map (slice_get table.now) found.items ≡ map (λ n. Some n) nodes.now) }
 {
@@ -41,7 +31,7 @@ fn numbers(alloc: Global, table: &Rising<Node>, nodes: &[Node]) -> Result<Vec<u3
 }
 
 // Sorts them and drops doubles.
-fn unique(mut numbers: Vec<u32>) -> Vec<u32>
+fn unique(mut numbers: Vec<usize>) -> Vec<usize>
     ensures members { (n : ℕ) → Contains result.items n ↔ Contains numbers.items n }
     ensures rising { AllPairs (λ a b. a < b) result.items }
 {
@@ -52,7 +42,6 @@ fn unique(mut numbers: Vec<u32>) -> Vec<u32>
 
 /// The step as a rule.
 pub(crate) fn rule_of(alloc: Global, table: &Rising<Node>, step: &Step) -> Result<Rule, AllocError>
-    requires fits { length table.now < 2 ^ 32 }
     requires covers { Covers table.now step.now }
     ensures numbered { IfOk result (λ rule. IsNumbered table.now (as_step step.now) (as_rule rule)) }
     ensures valid { IfOk result (λ rule. IsRule (length table.now) (as_rule rule)) }

@@ -12,7 +12,7 @@ ghost use Rattle.decide.specs.Said.{AreTests};
 ghost use Rattle.undo.specs.Tests.{is_behind, fails_test};
 
 use crate::scope::{Scope, changes_of};
-use fields::Id;
+use fields::{Id, VerNumber};
 use std::alloc::{AllocError, Global};
 use sysmod::ElemChange;
 use sysmods::VerChoice;
@@ -45,7 +45,7 @@ fn are_applied(zone: &Zone, element: &Element) -> bool
 }
 
 // Whether the zone has it applied by the `++VER` of this number.
-fn has_number(zone: &Zone, id: Id, number: usize) -> bool
+fn has_number(zone: &Zone, id: Id, number: VerNumber) -> bool
     ensures { result ≡ option_map_or (λ m. number == m.number) (applied_of zone.now id) false }
 {
     match zone.applied(id) {

@@ -3,7 +3,7 @@ ghost use Rattle.std.specs.Prelude.{◌≡◌};
 ghost use Rattle.terms.specs.Types.{an_applied};
 ghost use Rattle.terms.specs.Lookups.{has_content, waives_applied};
 
-use fields::{Attest, Id, IdList, Name, YyDdd};
+use fields::{Attest, Id, IdList, Name, VerNumber, YyDdd};
 use sorted::{Keyed, TryClone};
 use std::alloc::{AllocError, Global};
 use std::marker::Model;
@@ -14,7 +14,7 @@ use text80::Line;
 #[derive(Clone, Copy, Debug, PartialEq, Eq)]
 pub struct Applied {
     pub date: YyDdd,
-    pub number: usize,
+    pub number: VerNumber,
 }
 
 impl Model for Applied {
@@ -32,7 +32,10 @@ impl Applied {
     pub fn on(date: YyDdd) -> Applied
         ensures { result ≡ an_applied date 1 }
     {
-        Applied { date, number: 1 }
+        Applied {
+            date,
+            number: VerNumber::FIRST,
+        }
     }
 }
 

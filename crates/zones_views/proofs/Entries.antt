@@ -1,5 +1,5 @@
 -- A zone less what is gone: it has the form of a zone.
-use Rattle.std.proofs.Common.{◌≡◌, Bool, true, false, List, refl, IsTrue, All, filter, map}
+use Rattle.std.proofs.Common.{◌≡◌, Bool, true, false, List, refl, IsTrue, All, map}
 use Rattle.std.specs.Ordering.{nat_cmp}
 use Rattle.std.specs.Cmp.Lexicographic.{slice_cmp}
 use Rattle.std.proofs.lemmas.List.Elements.{All-filter, All-map, All-weaker, filter_passes}

@@ -5,3 +5,4 @@ pub mod Flats
 pub mod Requisites
 pub mod Lost
 pub mod Picking
+pub mod NoDeletions

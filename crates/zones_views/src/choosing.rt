@@ -7,7 +7,7 @@ ghost use Rattle.terms.specs.Choice.{fits, place, counting};
 ghost use Rattle.sysmods.specs.Choices.{number_in, choice};
 ghost use Rattle.zones_views.specs.Picks.{kept_pick, fitting_pick, is_further};
 
-use fields::{Attest, IdList};
+use fields::{Attest, IdList, VerNumber};
 use sorted::{Keyed, Table};
 use std::alloc::{AllocError, Global};
 use sysmod::{Sysmod, Ver};
@@ -56,7 +56,7 @@ pub fn fits(zone: &Zone, cands: &IdList, ver: &Ver) -> bool
 fn push_further(pick: Pick, picks: &mut Vec<Pick>) -> Result<(), AllocError>
     ensures { OnOk result (picks.new.items ≡ picks.old.items ++ filter is_further (pick ∷ [])) }
 {
-    if pick.number > 1 {
+    if pick.number.get() > 1 {
         picks.push(pick)?;
     }
     Ok(())
@@ -70,7 +70,7 @@ fn kept_pick(entry: &Entry) -> Pick
         id: entry.id,
         number: match entry.applied {
             Some(applied) => applied.number,
-            None => 1,
+            None => VerNumber::FIRST,
         },
     }
 }
@@ -98,16 +98,16 @@ fn first_fitting(zone: &Zone, cands: &IdList, vers: &[Ver]) -> Option<usize>
 }
 
 // The number of that one, else of the first.
-fn fitting_number(zone: &Zone, cands: &IdList, vers: &[Ver]) -> usize
+fn fitting_number(zone: &Zone, cands: &IdList, vers: &[Ver]) -> VerNumber
     ensures { result ≡ unwrap_or (position (fits zone.now (is_in cands.now))
         (filter (λ v. bytes_eq v.srel zone.now.srel) vers.now)) 0 + 1 }
 {
     if vers.len() < 2 {
-        return 1;
+        return VerNumber::FIRST;
     }
     match first_fitting(zone, cands, vers) {
-        Some(place) => place + 1,
-        None => 1,
+        Some(place) => VerNumber::behind(place),
+        None => VerNumber::FIRST,
     }
 }
 
@@ -116,7 +116,7 @@ fn fitting_pick(zone: &Zone, cands: &IdList, sysmod: &Sysmod) -> Pick
     ensures { result ≡ fitting_pick zone.now cands.now sysmod.now }
 {
     let number = if zone.is_applied(sysmod.id) {
-        1
+        VerNumber::FIRST
     } else {
         fitting_number(zone, cands, sysmod.vers.as_slice())
     };

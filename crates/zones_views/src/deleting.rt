@@ -21,9 +21,27 @@ pub fn deletions(alloc: Global, vers: &VerChoice<'_>, ids: &[Id]) -> Result<Vec<
     Ok(dels)
 }
 
-/// What the candidates in the chain of this one name in DELETE: its view is the zone less these. The error comes where
-/// memory runs out.
+/// What the candidates in the chain of this one name in DELETE: its view is the zone less these. `all` is what all
+/// candidates name there: mostly nothing, and then no chain is walked. The error comes where memory runs out.
 pub fn view_deletions(
+    alloc: Global,
+    vers: &VerChoice<'_>,
+    cands: &IdList,
+    all: &[Id],
+    id: Id,
+) -> Result<Vec<Id>, AllocError>
+    requires { all.now ≡ deletions (choice vers.now) cands.now }
+    ensures { IfOk result (λ dels. dels.items ≡ deletions (choice vers.now)
+        (filter (is_in cands.now) (chain vers.now.global.now (choice vers.now) id))) }
+{
+    if all.is_empty() {
+        return Ok(Vec::new(alloc));
+    }
+    chain_deletions(alloc, vers, cands, id)
+}
+
+// What the candidates in the chain name there.
+fn chain_deletions(
     alloc: Global,
     vers: &VerChoice<'_>,
     cands: &IdList,

@@ -8,8 +8,8 @@ use Rattle.decide.proofs.CandidateIds.{one_number}
 use Rattle.decide.proofs.Standing.{superseded_next, superseded_none}
 use Rattle.decide.proofs.serving.add_superseded.Goals as goal
 
-pub own_place-requires-clause-there : goal.own_place-requires-clause-there
-own_place-requires-clause-there c =
+pub own_place-requires : goal.own_place-requires
+own_place-requires c =
     let over = c.args.superseded.now in
     All-found (λ (p : Id × Id). Contains c.args.ids.now p.0) over c.loop-pair.pair-index c.pair-item.result
     c.requires.within

@@ -30,7 +30,7 @@ returns c =
     (requisites_of c.args.stated.now x))) [])
     (c.in_ok-append_own.ensures ∙ ap (λ l. l ++ own) c.new-found.ensures.items)
     ∙ ap (λ l. own ++ cond (is_function g x) (map (λ (r : Requisite). r.id) (filter (λ r. is_applied left r.by) l)) [])
-    (c.requires x)
+    (c.requires.stated x)
     ∙ ap (λ l. own ++ cond (is_function g x) l []) (stated_left g ch dels zone c.attest.ensures x)
     ∙ ap (λ ds. if_needed g ch (zone_less g ch ds zone) (is_in ids) x) seen)
     c.from_vec.ensures

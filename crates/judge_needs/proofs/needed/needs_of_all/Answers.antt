@@ -12,9 +12,9 @@ loop-i-preserved c =
     let left = c.args.left.now in
     let ids = left.scope.ids.now in
     needs_next (setting_of left.scope) c.args.survivors.now (left_of left) c.loop-i.i c.index-as_slice-i.result
-    c.loop-i.needs.items c.add_open.new.needs.items (subst IsRising c.as_slice.ensures.items c.as_slice.ensures.rising)
+    c.loop-i.needs.items c.add_open.new.needs.items (subst IsRising c.as_slice-in-loop-i.ensures.items c.as_slice-in-loop-i.ensures.rising)
     (slice_get_read ids (length ids) c.loop-i.i c.index-as_slice-i.result refl (omega arith)
-    (rw c.as_slice.ensures.items at c.index-as_slice-i.is))
+    (rw c.as_slice-in-loop-i.ensures.items at c.index-as_slice-i.is))
     c.in_ok-add_open.ensures c.loop-i.invariant
 
 pub returns : goal.returns

@@ -1,7 +1,11 @@
-use Rattle.std.proofs.Common.{take}
+use Rattle.std.proofs.Common.{All, take}
 use Rattle.sysmods.specs.Choices.{choice}
+use Rattle.judge_needs.specs.Closures.{IsClosure}
 use Rattle.judge_needs.specs.Pairs.{AreSuperseded}
 use Rattle.judge_needs.proofs.superseded.superseded_pairs.Given as goal
 
 abbrev pub invariant-loop-id : goal.invariant-loop-id
-invariant-loop-id l = AreSuperseded (choice l.vers) (take l.id-index l.id-items) l.pairs.items
+invariant-loop-id l = record {
+  known : All (IsClosure (choice l.vers)) l.known;
+  pairs : AreSuperseded (choice l.vers) (take l.id-index l.id-items) l.pairs.items;
+}

@@ -106,7 +106,7 @@ returns-in_err-write_report-in-Told-clause-course g c =
     (early_first g.S.Store old new act [] a b Write
     (fails_told g.S.Store old new act outcome a b
     (performs_passes g.S.Store old new c.args.date c.args.files.now command c.in_ok-performed.performed outcome
-    (λ ran. subst AnswersRun c.in-Told.is ran) c.in_ok-performed.ensures.goes)
+    (λ change ran. subst (AnswersRun change) c.in-Told.is ran) c.in_ok-performed.ensures.goes)
     (sent_part _ _ _ _ _ c.in_err-write_report-in-Told.ensures.sends c.in_err-write_report-in-Told.ensures.fault)))
 
 pub returns-in_ok-write_report-in-Told-clause-course : goal.returns-in_ok-write_report-in-Told-clause-course
@@ -118,7 +118,7 @@ returns-in_ok-write_report-in-Told-clause-course g c =
     passed_one g.S.Store old new (Perform c.args.date c.args.files.now command) outcome (g.W.Sink.taken c.args.w.now)
     (g.W.Sink.taken c.write_report.new.w)
     (performs_passes g.S.Store old new c.args.date c.args.files.now command c.in_ok-performed.performed outcome
-    (λ ran. subst AnswersRun c.in-Told.is ran) c.in_ok-performed.ensures.goes)
+    (λ change ran. subst (AnswersRun change) c.in-Told.is ran) c.in_ok-performed.ensures.goes)
     (sent_all _ _ _ _ _ c.in_ok-write_report-in-Told.ensures.sends c.in_ok-write_report-in-Told.ensures.fault)
 
 pub returns-in_err-write_report-in-Lists-clause-course : goal.returns-in_err-write_report-in-Lists-clause-course
@@ -135,7 +135,7 @@ returns-in_err-write_report-in-Lists-clause-course g c =
     (early_first g.S.Store old new act [] a b Write
     (fails_told g.S.Store old new act outcome a b
     (performs_passes g.S.Store old new c.args.date c.args.files.now command c.in_ok-performed.performed outcome
-    (λ ran. absurd (subst AnswersRun c.in-Lists.is ran)) c.in_ok-performed.ensures.goes)
+    (λ change ran. absurd (subst (AnswersRun change) c.in-Lists.is ran)) c.in_ok-performed.ensures.goes)
     (sent_part _ _ _ _ _ c.in_err-write_report-in-Lists.ensures.sends c.in_err-write_report-in-Lists.ensures.fault)))
 
 pub returns-in_ok-write_report-in-Lists-clause-course : goal.returns-in_ok-write_report-in-Lists-clause-course
@@ -147,5 +147,5 @@ returns-in_ok-write_report-in-Lists-clause-course g c =
     passed_one g.S.Store old new (Perform c.args.date c.args.files.now command) outcome (g.W.Sink.taken c.args.w.now)
     (g.W.Sink.taken c.write_report-in-Lists.new.w)
     (performs_passes g.S.Store old new c.args.date c.args.files.now command c.in_ok-performed.performed outcome
-    (λ ran. absurd (subst AnswersRun c.in-Lists.is ran)) c.in_ok-performed.ensures.goes)
+    (λ change ran. absurd (subst (AnswersRun change) c.in-Lists.is ran)) c.in_ok-performed.ensures.goes)
     (sent_all _ _ _ _ _ c.in_ok-write_report-in-Lists.ensures.sends c.in_ok-write_report-in-Lists.ensures.fault)

@@ -1,7 +1,8 @@
 use Rattle.std.proofs.Common.{[], ◌∷◌, Some, option_map, sym, subst}
 use Rattle.std.specs.String.{string_bytes}
 use Rattle.smpe_zones.specs.Definitions.{definition}
-use Rattle.smpe_command.specs.Serving.{Serves, ServesCheck, ServesList, ServesMigrate, ServesRun, ServesZone}
+use Rattle.smpe_command.specs.Serving.{Serves, ServesCheck, ServesList, ServesMigrate, ServesRun, ServesWhy}
+use Rattle.smpe_command.specs.Serving.{ServesZone}
 use Rattle.smpe_command.proofs.jobs.served.Goals as goal
 
 pub returns-in-Zone : goal.returns-in-Zone
@@ -36,6 +37,19 @@ returns-in-List g c =
     c.list.new.host c.list.new.out) (sym w.is)
     (subst (λ db. ServesList g.H.Host g.H.Disk.Store g.O.Sink c.args.host.now db c.args.out.now w.zone c.list.result
     c.list.new.host c.list.new.out) c.as_str-in-List.ensures.value c.list.ensures)
+
+pub returns-in-Why : goal.returns-in-Why
+returns-in-Why g c =
+    let w = c.in-Why in
+    subst (λ asked. Serves g.H.Host g.H.Disk.Store g.O.Sink c.args.host.now asked c.args.out.now c.told-in-Why.result
+    c.why.new.host c.why.new.out) (sym w.is) (
+      c.why.result,
+      subst (λ db. ServesWhy g.H.Host g.H.Disk.Store g.O.Sink c.args.host.now db c.args.out.now w.zone w.ids.items
+          c.why.result c.why.new.host c.why.new.out) c.as_str-in-Why.ensures.value
+          (subst (λ ids. ServesWhy g.H.Host g.H.Disk.Store g.O.Sink c.args.host.now c.as_str-in-Why.result.now
+          c.args.out.now w.zone ids c.why.result c.why.new.host c.why.new.out) c.as_slice.ensures.value c.why.ensures),
+      c.told-in-Why.ensures,
+    )
 
 pub returns-in-Check : goal.returns-in-Check
 returns-in-Check g c =

@@ -6,7 +6,7 @@ use Rattle.machine.specs.Receiving.{place_of}
 use Rattle.report.specs.declared.outcome.Line.TheVariants.{Status}
 use Rattle.report.specs.Views.{status_view}
 use Rattle.smpe_global.specs.Edits.{source_edits}
-use Rattle.smpe_global.proofs.Sources.{assigned_written}
+use Rattle.smpe_global.proofs.Sources.{assigned_written, sources_receive}
 use Rattle.smpe_global.proofs.assign.assign_id.Goals as goal
 
 pub returns : goal.returns
@@ -31,6 +31,7 @@ returns c =
             ∙ ap (StatusLine x (place_of g x)) (c.status_of.ensures
             ∙ ap (λ b. if b then Assigned source else Unknown) c.in_ok-received.ensures.received)),
       );
+      receives = sources_receive o;
       fits = written.0;
       after = written.1 ∙ sym is;
     }

@@ -1,7 +1,7 @@
 use Rattle.machine.specs.Receiving.{TakesHoldItem}
 use Rattle.mcs.specs.HoldItems.{items}
 use Rattle.machine.specs.Runs.{Runs}
-use Rattle.smpe_global.proofs.Items.{all_printed, all_fit, all_after}
+use Rattle.smpe_global.proofs.Items.{all_printed, all_fit, all_after, all_receive}
 use Rattle.smpe_global.proofs.holddata.receive_holds.Goals as goal
 
 pub returns-clause-runs : goal.returns-clause-runs
@@ -9,6 +9,12 @@ returns-clause-runs c =
     let now = c.take_hold_items.new in
     all_printed (Runs TakesHoldItem c.args.global.now (items c.args.found.items)) c.args.global.now now.global
     c.new-taken.result now.taken c.in_ok-take_hold_items.ensures c.new-taken.ensures.lines
+
+pub returns-clause-receives : goal.returns-clause-receives
+returns-clause-receives c =
+    let now = c.take_hold_items.new in
+    all_receive (Runs TakesHoldItem c.args.global.now (items c.args.found.items)) c.args.global.now now.global
+    c.new-taken.result now.taken c.in_ok-take_hold_items.ensures c.new-taken.ensures.edits
 
 pub returns-clause-fits : goal.returns-clause-fits
 returns-clause-fits c =

@@ -5,6 +5,8 @@ use Rattle.machine.specs.Outcome.{StatusLine, OfHold, Held, Replaced}
 use Rattle.report.specs.declared.outcome.Line.TheVariants.{Status}
 use Rattle.report.specs.declared.outcome.Place.TheVariants as place
 use Rattle.sysmods.specs.declared.edit.GlobalEdit.TheVariants.{PutHold}
+use Rattle.std.proofs.lemmas.List.Elements.{All-nil, All-cons}
+use Rattle.smpe_global.specs.Edits.{IsOfReceive}
 use Rattle.smpe_global.proofs.Fitting.{fits_one}
 use Rattle.smpe_global.proofs.Holds.{marked_written}
 use Rattle.smpe_global.proofs.holddata.take_hold.Goals as goal
@@ -31,6 +33,7 @@ returns c =
             ∙ ap (λ (r : Hold). StatusLine r.id (OfHold r.kind) (if replaces then Replaced r.reason else Held r.reason))
             c.hold.view_is),
       );
+      receives = All-cons IsOfReceive (PutHold copy) [] tt (All-nil IsOfReceive);
       fits = fits_one g (PutHold copy) tt;
       after = marked_written g h copy c.in_ok-copy.ensures ∙ sym c.in_ok-placed.ensures.ok;
     }

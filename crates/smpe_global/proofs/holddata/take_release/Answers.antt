@@ -33,6 +33,7 @@ returns c =
         ap (λ l. l ∷ []) (ap (StatusLine r.id (OfHold r.kind))
             (c.release_status.ensures new r refl ∙ ap (release_status r) (sym done.answers))),
       );
+      receives = done.receives;
       fits = done.fits;
       after = done.after;
     })

@@ -38,12 +38,14 @@ returns c =
     ∙ ap₂ with_subcommand first c.in_ok-run_command.ensures.shape in
     let third = c.in_ok-subcommand-3.ensures.shape c.in_ok-list_command.ensures.globals
     ∙ ap₂ with_subcommand second c.in_ok-list_command.ensures.shape in
-    let fourth = c.in_ok-subcommand-4.ensures.shape c.in_ok-check_command.ensures.globals
-    ∙ ap₂ with_subcommand third c.in_ok-check_command.ensures.shape in
-    IfOk-weaker c.subcommand-5.result _ _
+    let fourth = c.in_ok-subcommand-4.ensures.shape c.in_ok-why_command.ensures.globals
+    ∙ ap₂ with_subcommand third c.in_ok-why_command.ensures.shape in
+    let fifth = c.in_ok-subcommand-5.ensures.shape c.in_ok-check_command.ensures.globals
+    ∙ ap₂ with_subcommand fourth c.in_ok-check_command.ensures.shape in
+    IfOk-weaker c.subcommand-6.result _ _
     (λ new added. (
       zone.0,
       zone.1,
       added.shape c.in_ok-migrate_command.ensures.globals
-          ∙ ap₂ with_subcommand fourth c.in_ok-migrate_command.ensures.shape,
-    )) c.subcommand-5.ensures
+          ∙ ap₂ with_subcommand fifth c.in_ok-migrate_command.ensures.shape,
+    )) c.subcommand-6.ensures

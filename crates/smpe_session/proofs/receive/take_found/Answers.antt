@@ -13,6 +13,7 @@ returns-clause-taken c =
     both_taken c.args.source (items c.args.found.items.items) (hold_items c.args.found.holds.items) c.args.global.now _
     _ first.edits.items more.edits.items c.append.new.self.items
     (map line_view first.lines.items) (map line_view more.lines.items) (map line_view c.append-2.new.self.items)
+    c.in_ok-edits.ensures.receives c.in_ok-more.ensures.receives
     c.in_ok-edits.ensures.runs c.in_ok-edits.ensures.fits c.in_ok-edits.ensures.edits c.in_ok-more.ensures.runs
     c.in_ok-more.ensures.fits c.in_ok-more.ensures.edits
     c.in_ok-append.ensures.items (ap (map line_view) c.in_ok-append-2.ensures.items

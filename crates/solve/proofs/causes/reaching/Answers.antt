@@ -17,18 +17,23 @@ loop-next-init c =
 pub bounds-leads-z : goal.bounds-leads-z
 bounds-leads-z c =
     let below : c.loop-next.next < length c.loop-next.list.items = omega arith in
-    let z : c.index.result.now ≡ get_or c.loop-next.list.items c.loop-next.next 0 =
-    c.index.ensures ∙ get_or_default c.loop-next.list.items c.loop-next.next c.index.result.now 0 below in
+    let z : c.index-z.result.now ≡ get_or c.loop-next.list.items c.loop-next.next 0 =
+    c.index-z.ensures ∙ get_or_default c.loop-next.list.items c.loop-next.next c.index-z.result.now 0 below in
     rw z (spread_next c.args.leads.now c.args.y c.loop-next.marks c.loop-next.list.items c.loop-next.next below
     c.loop-next.invariant)
+
+pub offset_bounds-leads-z : goal.offset_bounds-leads-z
+offset_bounds-leads-z c =
+    let within = bounds-leads-z c in
+    omega (arith, within)
 
 pub mark_row-requires : goal.mark_row-requires
 mark_row-requires c =
     let list = c.loop-next.list.items in
     let next = c.loop-next.next in
-    let z = c.index.result.now in
+    let z = c.index-z.result.now in
     let below : next < length list = omega arith in
-    let read : z ≡ get_or list next 0 = c.index.ensures ∙ get_or_default list next z 0 below in
+    let read : z ≡ get_or list next 0 = c.index-z.ensures ∙ get_or_default list next z 0 below in
     let in_rows = spread_next c.args.leads.now c.args.y c.loop-next.marks list next below c.loop-next.invariant in
     let row = row_at_read c.args.leads.now z c.index-leads-z.result c.deref.result.now
     (subst (λ n. n < length c.args.leads.now) (sym read) in_rows) c.index-leads-z.is c.deref.ensures.value in
@@ -39,10 +44,10 @@ pub loop-next-preserved : goal.loop-next-preserved
 loop-next-preserved c =
     let list = c.loop-next.list.items in
     let next = c.loop-next.next in
-    let z = c.index.result.now in
+    let z = c.index-z.result.now in
     let below : next < length list = omega arith in
     let size : length c.mark_row.new.marks ≡ length c.loop-next.marks = omega arith in
-    let read : z ≡ get_or list next 0 = c.index.ensures ∙ get_or_default list next z 0 below in
+    let read : z ≡ get_or list next 0 = c.index-z.ensures ∙ get_or_default list next z 0 below in
     let in_rows = spread_next c.args.leads.now c.args.y c.loop-next.marks list next below c.loop-next.invariant in
     let row = row_at_read c.args.leads.now z c.index-leads-z.result c.deref.result.now
     (subst (λ n. n < length c.args.leads.now) (sym read) in_rows) c.index-leads-z.is c.deref.ensures.value in

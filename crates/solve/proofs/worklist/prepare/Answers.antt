@@ -11,8 +11,8 @@ pub overflow_add-turns-in-loop-k : goal.overflow_add-turns-in-loop-k
 overflow_add-turns-in-loop-k c =
     let p = c.args.s.now in
     let needs = c.needs-needs.result.now in
-    let small : p.size < 2 ^ 32 = omega arith in
-    let short : length needs < 2 ^ 64 = omega arith in
+    let small : p.size < 2 ^ 63 = omega (arith, c.eligible.ensures.len, c.eligible.type_inv) in
+    let short : length needs < 2 ^ 60 = omega (arith, c.needs-needs.type_inv) in
     omega (
       arith,
       start_room p needs c.loop-k.k c.index-needs-k.result c.needs-needs.ensures.needs c.size.ensures.valid
@@ -53,14 +53,14 @@ returns-clause-board c =
     let stands : c.in_ok-standing.standing.items ≡ p.eligible = copied ∙ c.eligible.ensures.flags in
     rw (stands, c.in_ok-with_capacity.ensures.items) (search_start p c.loop-k.living.items
     c.in_ok-with_capacity.field-0.cap c.size.ensures.valid
-    (omega (arith, c.in_ok-with_capacity.ensures.capacity, c.size-3.ensures.size)) all)
+    (omega (arith, c.in_ok-with_capacity.ensures.capacity, c.size-2.ensures.size)) all)
 
 pub returns-clause-few : goal.returns-clause-few
 returns-clause-few c =
     let p = c.args.s.now in
     let needs = c.needs-needs.result.now in
-    let small : p.size < 2 ^ 32 = omega arith in
+    let small : p.size < 2 ^ 63 = omega (arith, c.eligible.ensures.len, c.eligible.type_inv) in
     let same : length p.needs ≡ length needs = ap length (sym c.needs-needs.ensures.needs) ∙ length-map needs numbered
     in
-    let short : length p.needs < 2 ^ 64 = omega (arith, same) in
+    let short : length p.needs < 2 ^ 60 = omega (arith, same, c.needs-needs.type_inv) in
     pairs_few p c.size.ensures.valid small short

@@ -17,7 +17,7 @@ returns-then-number-eq1-clause-calls g c =
     let e = c.args.entry.now in
     let old = c.args.tx.now.conn.now in
     let new = c.remove_number.new.tx.conn.now in
-    let one = sym c.number_of-number.ensures ∙ c.if-number-eq1.true in
+    let one = sym c.number_of-number.ensures.same ∙ c.if-number-eq1.true in
     subst (λ call. RunsInside g.S.Store (call ∷ []) old new c.remove_number.result) (sym (call_first zone e one))
     (subst (λ id. RunsInside g.S.Store ((delete_chosen, entry_key zone id) ∷ []) old new c.remove_number.result)
     (ap (λ (x : Entry). x.id) c.entry.view_is) c.remove_number.ensures.calls)
@@ -28,7 +28,7 @@ returns-then-number-eq1-clause-ok g c =
     let e = c.args.entry.now in
     let old = c.args.tx.now.conn.now in
     let new = c.remove_number.new.tx.conn.now in
-    let one = sym c.number_of-number.ensures ∙ c.if-number-eq1.true in
+    let one = sym c.number_of-number.ensures.same ∙ c.if-number-eq1.true in
     on_ok c.remove_number.result _ _ (λ turned.
     turns_first zone e g.S.Store old new one
     (subst (λ id. Turns g.S.Store old new (HasContents store_schema) (in_table chosen (without (entry_key zone id))))
@@ -42,7 +42,7 @@ returns-clause-calls g c =
     let new = c.put_row.new.tx.conn.now in
     let n = c.number_of-number.result in
     subst (λ call. RunsInside g.S.Store (call ∷ []) old new c.put_row.result)
-    (sym (call_further zone e n c.if-number-eq1.false (sym c.number_of-number.ensures)))
+    (sym (call_further zone e n c.if-number-eq1.false (sym c.number_of-number.ensures.same)))
     (subst (λ id. RunsInside g.S.Store ((put_chosen, chosen_row zone id n) ∷ []) old new c.put_row.result)
     (ap (λ (x : Entry). x.id) c.entry.view_is) c.put_row.ensures.calls)
 
@@ -54,7 +54,7 @@ returns-clause-ok g c =
     let new = c.put_row.new.tx.conn.now in
     let n = c.number_of-number.result in
     on_ok c.put_row.result _ _ (λ turned.
-    turns_further zone e g.S.Store old new n c.if-number-eq1.false (sym c.number_of-number.ensures)
+    turns_further zone e g.S.Store old new n c.if-number-eq1.false (sym c.number_of-number.ensures.same)
     (subst (λ id. Turns g.S.Store old new (HasContents store_schema)
     (with_put chosen (entry_key zone id) (chosen_row zone id n)))
     (ap (λ (x : Entry). x.id) c.entry.view_is) turned)) c.put_row.ensures.ok

@@ -1,7 +1,7 @@
 use Rattle.std.proofs.Common.{sym, subst, Contains}
 use Rattle.undo.proofs.numbers.numbers.Goals as goal
 
-pub number-requires-clause-there : goal.number-requires-clause-there
-number-requires-clause-there c =
+pub number-requires : goal.number-requires
+number-requires c =
     subst (Contains c.args.table.now) (sym c.node-item.is)
     (c.requires.there c.loop-node.node-index c.node-item.result c.loop-node-test.true)

@@ -5,10 +5,11 @@ use Rattle.lemmas.proofs.Each.{All_from_each}
 use Rattle.undo.proofs.RulesOfSteps.{are_places, numbered_rule}
 use Rattle.undo.proofs.numbers.rule_of.Goals as goal
 
-pub numbers-requires-clause-there : goal.numbers-requires-clause-there
-numbers-requires-clause-there c =
-    All_from_each (Contains c.args.table.now) c.as_slice.result.now
-    (λ n h. c.requires.covers.these n (subst (λ l. Contains l n) c.as_slice.ensures.value h))
+pub numbers-requires : goal.numbers-requires
+numbers-requires c = record {
+  there = All_from_each (Contains c.args.table.now) c.as_slice.result.now
+      (λ n h. c.requires.covers.these n (subst (λ l. Contains l n) c.as_slice.ensures.value h));
+}
 
 pub returns-clause-numbered : goal.returns-clause-numbered
 returns-clause-numbered c = record {

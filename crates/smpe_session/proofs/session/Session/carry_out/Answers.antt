@@ -7,10 +7,11 @@ use Rattle.report.specs.declared.outcome.Outcome.TheVariants as report
 use Rattle.report.specs.Views.{line_view, header_view, outcome_view}
 use Rattle.smpe_session.specs.Sessions.{IsSessionOf}
 use Rattle.store.specs.Changes.{Makes}
-use Rattle.store.specs.declared.change.Change.TheVariants as Change
+use Rattle.store.specs.declared.change.Change.{Change}
+use Rattle.store.specs.declared.change.Change.TheVariants as changes
 use Rattle.smpe_zones.specs.Kept.{kept}
 use Rattle.smpe_zones.specs.Own.{IsOfZone}
-use Rattle.smpe_session.specs.Writing.{TellsRun}
+use Rattle.smpe_session.specs.Writing.{IsAtBoundary, TellsRun}
 use Rattle.smpe_session.proofs.CarriedOut.{checks, carries}
 use Rattle.smpe_session.proofs.Installed.{zone_change, install_session}
 use Rattle.smpe_session.proofs.Stepping.{stopped, run_committed, performs_ran}
@@ -38,7 +39,9 @@ returns g c = weaker c.commit_change.ensures.uses
       subst IsOfZone (sym is) tt,
       c.if-header.false,
       IfOk-weaker c.commit_change.result _ _
-          (λ outcome given. subst TellsRun (sym given) tt) c.commit_change.ensures.answer,
+          (λ outcome given. subst (TellsRun own) (sym given)
+          (subst (λ (change : Change). IsAtBoundary change (header_view c.args.header)) (sym is) c.requires))
+          c.commit_change.ensures.answer,
     ))
     (λ s inventory ended is date files command planned.
     let name = c.args.name in
@@ -47,13 +50,13 @@ returns g c = weaker c.commit_change.ensures.uses
     let outcome = Ran (header_view c.args.header) (map line_view c.args.planned.lines.items) in
     let performs = carries date files command s c.args.self.now name c.args.planned.delta c.args.header.check outcome
     planned made.0 made.1 c.if-header.false in
-    let makes : Makes (Change.Zone name c.args.planned.delta) (kept s) (kept t) =
+    let makes : Makes (changes.Zone name c.args.planned.delta) (kept s) (kept t) =
     (planned.zone, made.0, zone_change (kept s) name planned.zone made.0 inventory planned.is_there, made.1) in
     let session = install_session s name planned.zone made.0 inventory planned.is_there c.args.self.now _ is refl refl
     made.2 in
     performs_ran g.S.Store c.args.store.now c.commit_change.new.store s _ date files command c.commit_change.result
     (run_committed g.S.Store c.args.store.now c.commit_change.new.store s date files command t outcome performs
-    (Change.Zone name c.args.planned.delta) (planned.owns c.if-header.false) makes
+    (changes.Zone name c.args.planned.delta) (planned.owns c.if-header.false) makes
     (λ o u. Performs date files s command u (outcome_view o) × IsSessionOf u _)
     (report.Ran c.args.header c.args.planned.lines) (performs, session) c.commit_change.result
     (ended t makes (planned.inventory made.0 made.1 inventory))))

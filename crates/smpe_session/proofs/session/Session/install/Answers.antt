@@ -19,6 +19,9 @@ returns-in_err-planned-in-Ok g c = ran_short c.from_residual-in_err-planned-in-O
     (λ s inventory sought is files. stopped g.S.Store c.seek_related.new.store s
     (Perform c.args.date files (install_command c.args.kind c.args.install.now)) (sought is).1)
 
+pub carry_out-requires : goal.carry_out-requires
+carry_out-requires g c = c.header-header.ensures.boundary ∙ c.in-Ok.ensures.named
+
 pub returns-in_ok-planned-in-Ok : goal.returns-in_ok-planned-in-Ok
 returns-in_ok-planned-in-Ok g c = weaker (after c.in_ok-related.ensures c.carry_out.ensures)
     (λ change own.
@@ -31,14 +34,15 @@ returns-in_ok-planned-in-Ok g c = weaker (after c.in_ok-related.ensures c.carry_
     let place = c.in-Ok.place in
     let p = c.in_ok-planned-in-Ok.planned in
     let sought = both.0 is in
-    let there = c.in-Ok.ensures s sought.0.session inventory in
+    let there = c.in-Ok.ensures.has s sought.0.session inventory in
     let checks = sym (ap (λ w. w.check) c.install.view_is) ∙ sym c.header-header.ensures.check in
     let changes = install_changes c.args.date kind i s at place.name place.zone.now _ c.install.inside.selection
     c.install.inside.bypass p.delta (map line_view p.lines.items) sought.0.session there
     (c.zone_at.ensures ∙ sought.0.is_related place.name there.boundary)
     (sym (ap (λ w. w.selection) c.install.view_is)) (sym (ap (λ w. w.bypass) c.install.view_is))
     c.in_ok-planned-in-Ok.ensures files c.header-header.result.check (header_view c.header-header.result) checks
-    (c.header-header.ensures.view i (sym (ap (λ w. w.check) c.install.view_is)) ∙ ap (header_of command) is.boundary) in
+    (c.header-header.ensures.view i (sym (ap (λ w. w.check) c.install.view_is))
+    ∙ ap (header_of command) sought.0.session.boundary) in
     performs_since g.S.Store c.args.store.now c.seek_related.new.store c.carry_out.new.store s
     c.seek_related.ensures.later _ c.args.date files command c.carry_out.result
     (both.1 sought.1 sought.0.session c.args.date files command changes))
@@ -51,8 +55,8 @@ returns-in-Err g c = answered c.in_ok-related.ensures (λ own none. absurd none)
       s,
       install_refused c.args.date files command s (header_view c.header-header.result) (refusal_view c.in-Err.refusal)
           (c.header-header.ensures.view i (sym (ap (λ w. w.check) c.install.view_is))
-          ∙ ap (header_of command) is.boundary)
-          (install_at s c.args.kind i ∙ c.in-Err.ensures s sought.0.session inventory),
+          ∙ ap (header_of command) sought.0.session.boundary)
+          (install_at s c.args.kind i ∙ c.in-Err.ensures.has s sought.0.session inventory),
       sought.0.session,
       sought.1,
     ))

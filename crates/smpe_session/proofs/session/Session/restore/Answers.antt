@@ -21,6 +21,9 @@ returns-in_err-delta-in-Ok g c = ran_short c.from_residual-in_err-delta-in-Ok.en
     (λ s inventory sought is date files. stopped g.S.Store c.seek_accepted.new.store s
     (Perform date files (Restore (restore_list_of c.args.list.now) c.args.check)) (sought is).1)
 
+pub carry_out-requires : goal.carry_out-requires
+carry_out-requires g c = c.in-Ok.ensures.named
+
 pub returns-in_ok-delta-in-Ok : goal.returns-in_ok-delta-in-Ok
 returns-in_ok-delta-in-Ok g c = weaker (after c.in_ok-accepted.ensures c.carry_out.ensures) (λ change own. own)
     (λ s inventory both is date files.
@@ -30,10 +33,10 @@ returns-in_ok-delta-in-Ok g c = weaker (after c.in_ok-accepted.ensures c.carry_o
     let target = c.in-Ok.target in
     let p = c.in_ok-delta-in-Ok.field-0 in
     let sought = both.0 is in
-    let there = c.in-Ok.ensures s sought.0 inventory in
+    let there = c.in-Ok.ensures.has s sought.0 inventory in
     let changes = restore_changes s at target.name target.zone.now target.accepted.now what p.delta
     (map line_view p.lines.items) sought.0.session there c.in_ok-delta-in-Ok.ensures date files c.args.check
-    c.args.self.now.boundary is.boundary in
+    at.boundary sought.0.session.boundary in
     performs_since g.S.Store c.args.store.now c.seek_accepted.new.store c.carry_out.new.store s
     c.seek_accepted.ensures.later _ date files command c.carry_out.result
     (both.1 sought.1 sought.0.session date files command changes))
@@ -43,8 +46,9 @@ returns-in-Err g c = answered c.in_ok-accepted.ensures (λ own none. absurd none
     let command = Restore (restore_list_of c.args.list.now) c.args.check in
     let sought = found is in (
       s,
-      refused date files command s c.args.self.now.boundary (refusal_view c.in-Err.refusal) is.boundary
-          (restore_at s (restore_list_of c.args.list.now) c.args.check ∙ c.in-Err.ensures s sought.0 inventory),
+      refused date files command s c.seek_accepted.new.self.boundary (refusal_view c.in-Err.refusal)
+          sought.0.session.boundary
+          (restore_at s (restore_list_of c.args.list.now) c.args.check ∙ c.in-Err.ensures.has s sought.0 inventory),
       sought.0.session,
       sought.1,
     ))

@@ -1,0 +1,54 @@
+//! The number of a `++VER`.
+ghost use Rattle.std.specs.Prelude.{◌≡◌, ◌+◌, ◌<◌, ◌≤◌, ◌^◌};
+
+use std::marker::Model;
+
+/// Which `++VER` it is among those of its SYSMOD for one SREL, counted from 1. A contract sees it as that number. An
+/// integer column of a table can hold each.
+#[derive(Clone, Copy, Debug, PartialEq, Eq)]
+pub struct VerNumber {
+    value: usize,
+}
+
+impl Model for VerNumber {
+    ghost use Rattle.std.specs.Prelude.{◌<◌, ◌≤◌, ◌^◌, ℕ};
+
+    ghost Value = { ℕ };
+
+    ghost view = { λ n. n.value };
+
+    ghost invariant = { λ n. (1 ≤ n.value) × (n.value < 2 ^ 63) };
+
+    ghost inverse = { λ value. record { value = value } };
+}
+
+impl VerNumber {
+    /// That of the first.
+    pub const FIRST: VerNumber = VerNumber { value: 1 };
+
+    /// This number.
+    pub fn new(value: usize) -> VerNumber
+        requires first { 1 ≤ value }
+        requires fits { value < 2 ^ 63 }
+        ensures { result ≡ value }
+    {
+        VerNumber { value }
+    }
+
+    /// That of the one at this place, counted from 0.
+    pub fn behind(place: usize) -> VerNumber
+        requires { place + 1 < 2 ^ 63 }
+        ensures { result ≡ place + 1 }
+    {
+        VerNumber { value: place + 1 }
+    }
+
+    /// As a number that counts.
+    pub fn get(self) -> usize
+        ensures value { result ≡ self }
+        ensures first { 1 ≤ result }
+        ensures fits { result < 2 ^ 63 }
+    {
+        self.value
+    }
+}

@@ -1,0 +1,92 @@
+-- All facts of an id, and of ids one after the other.
+use Rattle.std.proofs.Common.{◌≡◌, ◌∙◌, List, [], ◌∷◌, ◌++◌, None, map, refl, sym, ap}
+use Rattle.std.proofs.Common.{append_assoc, append-nil}
+use Rattle.std.specs.List.{flat_map}
+use Rattle.std.proofs.lemmas.List.{map-append}
+use Rattle.std.proofs.lemmas.List.Concat.{flat_map-append}
+use Rattle.lemmas.proofs.BesideLists.{beside_more}
+use Rattle.terms.specs.Types.{Id, Global, Zone, Bypass}
+use Rattle.terms.specs.Choice.{Choice, counting}
+use Rattle.terms.specs.Lookups.{changes_of}
+use Rattle.terms.specs.CommandForms.{no_bypass}
+use Rattle.terms.specs.Tests.{Setting}
+use Rattle.terms.specs.Facts.{Fact, alone, requisites, holds_on, standing_facts, ver_facts, delete_facts, npre_facts}
+use Rattle.terms.specs.Facts.{IsRequisiteFact, IsHoldFact, IsElementFact, AreFacts, AreFactsOf, NeededFact}
+use Rattle.report_why.specs.declared.fact as code
+use Rattle.report_why.specs.declared.facts.Parts.{Parts}
+use Rattle.report_why.specs.Views.{fact_view}
+use Rattle.report_why.specs.Parts.{AreParts, in_order}
+use Rattle.report_why.specs.Needed.{AreNeeded}
+use Rattle.report_why.proofs.Besides.{beside_nil, beside_map}
+
+-- the setting of these values
+abbrev pub a_setting : Global → Choice → Zone → List Id → Bypass → Setting
+a_setting g c zone ids bypass =
+    record { global = g; choice = c; zone = zone; related = None; cands = ids; bypass = bypass }
+
+pub alone_is : (g h : Global) (c : Choice) (zone : Zone) (x : Id) (ids : List Id) (b : Bypass) → h ≡ g
+    → c ≡ counting g zone (x ∷ []) → ids ≡ x ∷ [] → b ≡ no_bypass → a_setting h c zone ids b ≡ alone g zone x
+alone_is g h c zone x ids b eg ec ei eb =
+    ap (λ v. a_setting v c zone ids b) eg
+    ∙ ap (λ v. a_setting g v zone ids b) ec
+    ∙ ap (λ v. a_setting g (counting g zone (x ∷ [])) zone v b) ei
+    ∙ ap (λ v. a_setting g (counting g zone (x ∷ [])) zone (x ∷ []) v) eb
+
+-- lists one behind the other, seen through a function
+module _ {X Y : Type 0} (f : X → Y) where
+  eight_parts : (s v r h e d p n : List X)
+      → map f (((s ++ v) ++ (r ++ h ++ e ++ d ++ p)) ++ n)
+      ≡ map f s ++ map f v ++ map f r ++ map f h ++ map f e ++ map f d ++ map f p ++ map f n
+  eight_parts s v r h e d p n = simp (map-append, append_assoc) refl
+
+  pub seen_parts : (all s v r h e d p n : List X) (sees sev sed sep sen : List Y)
+      → all ≡ ((s ++ v) ++ (r ++ h ++ e ++ d ++ p)) ++ n → map f s ≡ sees → map f v ≡ sev → map f d ≡ sed
+      → map f p ≡ sep → map f n ≡ sen
+      → map f all ≡ sees ++ sev ++ map f r ++ map f h ++ map f e ++ sed ++ sep ++ sen
+  seen_parts all s v r h e d p n sees sev sed sep sen is es ev ed ep en =
+      ap (map f) is
+      ∙ eight_parts s v r h e d p n
+      ∙ ap (λ l. l ++ map f v ++ map f r ++ map f h ++ map f e ++ map f d ++ map f p ++ map f n) es
+      ∙ ap (λ l. sees ++ l ++ map f r ++ map f h ++ map f e ++ map f d ++ map f p ++ map f n) ev
+      ∙ ap (λ l. sees ++ sev ++ map f r ++ map f h ++ map f e ++ l ++ map f p ++ map f n) ed
+      ∙ ap (λ l. sees ++ sev ++ map f r ++ map f h ++ map f e ++ sed ++ l ++ map f n) ep
+      ∙ ap (λ l. sees ++ sev ++ map f r ++ map f h ++ map f e ++ sed ++ sep ++ l) en
+
+-- the facts of an id, by its parts
+pub are_facts : (g : Global) (zone : Zone) (x : Id) (p : Parts) (all s v n : List code.Fact.Fact)
+    → all ≡ ((s ++ v) ++ in_order p) ++ n
+    → map fact_view s ≡ standing_facts g zone x → map fact_view v ≡ ver_facts g zone x
+    → AreParts (alone g zone x) x p → AreNeeded g zone x (map fact_view n) → AreFacts g zone x (map fact_view all)
+are_facts g zone x p all s v n is es ev parts needed = record {
+  of_requisites = map fact_view p.requisites.items;
+  requisites_are = beside_map (IsRequisiteFact (alone g zone x) x) fact_view (requisites (alone g zone x) x)
+      p.requisites.items parts.requisites;
+  of_holds = map fact_view p.holds.items;
+  holds_are = beside_map (IsHoldFact (alone g zone x) x) fact_view (holds_on g x) p.holds.items parts.holds;
+  of_elements = map fact_view p.elements.items;
+  elements_are = beside_map (IsElementFact (alone g zone x) x) fact_view (changes_of g x) p.elements.items
+      parts.elements;
+  needed_by = needed.ids;
+  needed_rising = needed.rising;
+  needed = needed.needed;
+  facts_are = seen_parts fact_view all s v p.requisites.items p.holds.items p.elements.items p.deletes.items
+      p.forbids.items n (standing_facts g zone x) (ver_facts g zone x) (delete_facts (alone g zone x) x)
+      (npre_facts (alone g zone x) x) (map NeededFact needed.ids) is es ev parts.deletes parts.forbids needed.facts_are;
+}
+
+-- the facts of no ids, and of one id more
+pub facts_none : (g : Global) (zone : Zone) → AreFactsOf g zone [] []
+facts_none g zone = record {
+  parts = [];
+  each = beside_nil (λ x part. AreFacts g zone x part);
+  facts_are = refl;
+}
+
+pub facts_more : (g : Global) (zone : Zone) (xs : List Id) (x : Id) (old new more : List Fact)
+    → AreFactsOf g zone xs old → AreFacts g zone x more → new ≡ old ++ more → AreFactsOf g zone (xs ++ x ∷ []) new
+facts_more g zone xs x old new more so one is = record {
+  parts = so.parts ++ more ∷ [];
+  each = beside_more (λ n x part. AreFacts g zone x part) xs so.parts x more so.each one;
+  facts_are = is ∙ ap (λ l. l ++ more) so.facts_are ∙ ap (λ l. flat_map (λ part. part) so.parts ++ l)
+      (sym (append-nil more)) ∙ sym (flat_map-append (λ part. part) so.parts (more ∷ []));
+}

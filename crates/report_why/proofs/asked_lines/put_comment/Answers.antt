@@ -1,0 +1,14 @@
+use Rattle.std.proofs.Common.{[], ◌∷◌, ◌++◌, ap, sym}
+use Rattle.std.proofs.lemmas.List.{append-nil}
+use Rattle.std.specs.Prelude.{codes}
+use Rattle.std.proofs.lemmas.Result.{IfOk-equal}
+use Rattle.machine.specs.FactText.{inner_line}
+use Rattle.report_why.proofs.asked_lines.put_comment.Goals as goal
+
+pub returns-in-Some : goal.returns-in-Some
+returns-in-Some c =
+    rw c.in-Some.is (IfOk-equal c.put_inner.result c.put_inner.new.text.items _ _ c.put_inner.ensures
+    (ap (λ t. c.args.text.now.items ++ inner_line (codes "COMMENT" ∷ t ∷ [])) c.as_bytes.ensures.value))
+
+pub returns-in-None : goal.returns-in-None
+returns-in-None c = rw c.in-None.is (sym (append-nil c.args.text.now.items))

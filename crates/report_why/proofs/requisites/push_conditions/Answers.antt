@@ -1,0 +1,30 @@
+use Rattle.std.proofs.Common.{◌∙◌, ◌++◌, [], cond, filter, ap, sym, append_assoc}
+use Rattle.std.specs.List.{flat_map}
+use Rattle.std.specs.Str.{bytes_eq}
+use Rattle.terms.specs.Lookups.{is_applied, is_function}
+use Rattle.terms.specs.Over.{chain}
+use Rattle.terms.specs.Deleted.{deletions}
+use Rattle.terms.specs.Lookups.{is_in}
+use Rattle.zones_views.specs.Scopes.{global_of, choice_of}
+use Rattle.terms.specs.Facts.{stated_by, conditions_of}
+use Rattle.judge_needs.proofs.Stating.{applied_left}
+use Rattle.report_why.specs.Asking.{view_in, is_there}
+use Rattle.report_why.proofs.requisites.push_conditions.Goals as goal
+
+pub returns : goal.returns
+returns c =
+    let a = c.args.asking.now in
+    let g = global_of a.scope in
+    let ch = choice_of a.scope in
+    let zone = a.scope.zone.now in
+    let seen = deletions ch (filter (is_in a.scope.ids.now) (chain g ch a.id)) in
+    let old = c.args.found.now.items in
+    let own = conditions_of ch (is_there a) a.id in
+    let stated = conditions_of ch (bytes_eq a.id) in
+    let others = cond (is_function g a.id) (flat_map stated (filter (is_applied (view_in a)) a.applied.now)) [] in
+    c.in_ok-push_for_function.ensures
+    ∙ ap (λ l. l ++ others) (c.in_ok-push_own.ensures
+    ∙ ap (λ ifs. old ++ flat_map (stated_by a.id) (filter (λ i. is_there a i.function) ifs)) c.ifs.ensures)
+    ∙ append_assoc old own others
+    ∙ ap (λ ids. old ++ (own ++ cond (is_function g a.id) (flat_map stated ids) []))
+    (ap (filter (is_applied (view_in a))) a.applied_is ∙ sym (applied_left g ch seen zone c.attest.ensures))

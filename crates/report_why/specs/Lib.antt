@@ -1,0 +1,7 @@
+pub mod Views
+pub mod Asking
+pub mod Numbered
+pub mod Makers
+pub mod Needed
+pub mod HoldWords
+pub mod Parts

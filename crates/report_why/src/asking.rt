@@ -1,0 +1,28 @@
+//! What the facts of an id are looked up in.
+ghost use Rattle.std.specs.Prelude.{◌≡◌, [], ◌∷◌, filter, map};
+ghost use Rattle.terms.specs.Types.{Sysmod as ASysmod};
+ghost use Rattle.terms.specs.Lookups.{is_in, applied_ids};
+ghost use Rattle.terms.specs.Over.{chain};
+ghost use Rattle.terms.specs.Deleted.{deletions};
+ghost use Rattle.zones_views.specs.Scopes.{global_of, choice_of};
+
+use fields::Id;
+use zones_views::Scope;
+
+/// The id, what an install of it alone looks into, and beside that what its view lacks (`seen` are the deletions), what
+/// its own DELETE takes out (`dropped`), and the ids that are applied and received.
+#[derive(Clone, Copy)]
+pub(crate) struct Asking<'a, 'b> {
+    pub(crate) scope: Scope<'a, 'b>,
+    pub(crate) id: Id,
+    pub(crate) seen: &'a [Id],
+    pub(crate) dropped: &'a [Id],
+    pub(crate) applied: &'a [Id],
+    pub(crate) received: &'a [Id],
+    pub ghost srel_is: { scope.vers.now.srel ≡ scope.zone.now.srel },
+    pub ghost seen_is: { seen.now
+        ≡ deletions (choice_of scope) (filter (is_in scope.ids.now) (chain (global_of scope) (choice_of scope) id)) },
+    pub ghost dropped_is: { dropped.now ≡ deletions (choice_of scope) (id ∷ []) },
+    pub ghost applied_is: { applied.now ≡ applied_ids scope.zone.now },
+    pub ghost received_is: { received.now ≡ map (λ (s : ASysmod). s.id) (global_of scope).sysmods },
+}

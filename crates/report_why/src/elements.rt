@@ -1,0 +1,132 @@
+//! The elements that an id changes, as the zone has them.
+ghost use Rattle.std.specs.Prelude.{◌≡◌, ◌∷◌, option_map, IfOk};
+ghost use Rattle.lemmas.specs.Beside.{Beside};
+ghost use Rattle.terms.specs.Changes.{is_replacement};
+ghost use Rattle.terms.specs.Lookups.{changes_of, element_of};
+ghost use Rattle.sysmods.specs.Choices.{choice};
+ghost use Rattle.zones_views.specs.Scopes.{global_of};
+ghost use Rattle.terms.specs.Facts.{IsRank, IsFound, HasFound, IsElementFact};
+ghost use Rattle.report_why.specs.Asking.{setting_in, view_in};
+ghost use Rattle.report_why.specs.Views.{rank_view, found_view, fact_view};
+ghost use Rattle.report_why.specs.Makers.{IsMaker};
+
+use crate::asking::Asking;
+use crate::fact::{Fact, Found, Maker, Rank};
+use fields::Id;
+use std::alloc::{AllocError, Global};
+use sysmod::{Action, ElemChange};
+use sysmods::{GlobalZone, VerChoice};
+use zones::Element;
+
+fn rank(alloc: Global, vers: &VerChoice<'_>, id: Id, other: Id) -> Result<Rank, AllocError>
+    ensures { IfOk result (λ rank. IsRank (choice vers.now) id other (rank_view rank)) }
+{
+    if id == other {
+        return Ok(Rank::Itself);
+    }
+    if vers.over(alloc, id, other)? {
+        return Ok(Rank::Over);
+    }
+    Ok(Rank::NotOver)
+}
+
+fn maker(alloc: Global, vers: &VerChoice<'_>, id: Id, other: Id) -> Result<Maker, AllocError>
+    ensures { IfOk result (λ m. IsMaker (choice vers.now) id other m) }
+{
+    Ok(Maker {
+        id: other,
+        rank: rank(alloc, vers, id, other)?,
+    })
+}
+
+fn makers(
+    alloc: Global,
+    vers: &VerChoice<'_>,
+    id: Id,
+    others: &[Id],
+) -> Result<Vec<Maker>, AllocError>
+    ensures { IfOk result (λ ms. Beside (λ n z m. IsMaker (choice vers.now) id z m) others.now ms.items) }
+{
+    let mut found = Vec::new(alloc);
+    for other in others {
+        found.push(maker(alloc, vers, id, *other)?)?;
+    }
+    Ok(found)
+}
+
+// What the zone has of an element.
+fn found(alloc: Global, asking: &Asking<'_, '_>, element: &Element) -> Result<Found, AllocError>
+    ensures { IfOk result (λ f. IsFound (setting_in asking.now) asking.now.id element.now (found_view f)) }
+{
+    let vers = asking.scope.vers;
+    let id = asking.id;
+    Ok(Found {
+        fmid: element.fmid,
+        owned: element.fmid == vers.owner(id),
+        rmid: maker(alloc, vers, id, element.rmid)?,
+        umids: makers(alloc, vers, id, element.umids.as_slice())?,
+    })
+}
+
+fn found_at(
+    alloc: Global,
+    asking: &Asking<'_, '_>,
+    change: &ElemChange,
+) -> Result<Option<Found>, AllocError>
+    ensures { IfOk result (λ f. HasFound (setting_in asking.now) asking.now.id
+        (element_of (view_in asking.now) change.now.elem_type change.now.name) (option_map found_view f)) }
+{
+    match asking.element(change.elem_type, change.name) {
+        Some(element) => Ok(Some(found(alloc, asking, element)?)),
+        None => Ok(None),
+    }
+}
+
+fn is_replacement(change: &ElemChange) -> bool
+    ensures { result ≡ is_replacement change.now.action }
+{
+    match change.action {
+        Action::Replaces { .. } => true,
+        Action::Updates { .. } => false,
+    }
+}
+
+fn element_fact(
+    alloc: Global,
+    asking: &Asking<'_, '_>,
+    change: &ElemChange,
+) -> Result<Fact<'static>, AllocError>
+    ensures { IfOk result (λ fact. IsElementFact (setting_in asking.now) asking.now.id change.now (fact_view fact)) }
+{
+    Ok(Fact::Element {
+        elem_type: change.elem_type,
+        name: change.name,
+        replaces: is_replacement(change),
+        found: found_at(alloc, asking, change)?,
+    })
+}
+
+// The element statements of a received SYSMOD.
+fn changes_of(global: &GlobalZone, id: Id) -> &[ElemChange]
+    ensures { result.now ≡ changes_of global.now id }
+{
+    match global.get(id) {
+        Some(sysmod) => sysmod.changes.as_slice(),
+        None => &[],
+    }
+}
+
+/// The elements that it changes. The error comes where memory runs out.
+pub(crate) fn element_facts(
+    alloc: Global,
+    asking: &Asking<'_, '_>,
+) -> Result<Vec<Fact<'static>>, AllocError>
+    ensures { IfOk result (λ facts. Beside (λ n h fact. IsElementFact (setting_in asking.now) asking.now.id h
+        (fact_view fact)) (changes_of (global_of asking.now.scope) asking.now.id) facts.items) }
+{
+    let mut facts = Vec::new(alloc);
+    for change in changes_of(asking.scope.global(), asking.id) {
+        facts.push(element_fact(alloc, asking, change)?)?;
+    }
+    Ok(facts)
+}

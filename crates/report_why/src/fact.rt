@@ -1,0 +1,125 @@
+//! What is told of an id.
+
+use fields::{Id, IdList, Name};
+use std::marker::Model;
+use sysmod::Hold;
+use terms::{ElemType, Kind, NeedKind, ZoneKind};
+use zones::Entry;
+
+/// Where an id stands in a zone. `Received` is none of those before it.
+#[derive(Clone, Copy, Debug, PartialEq, Eq)]
+pub enum Standing {
+    /// In a distribution zone it is accepted.
+    Applied(ZoneKind),
+    Superseded,
+    Deleted,
+    Received,
+    Missing,
+}
+
+/// Something that an id asks for, and who states it; the function is that of an `++IF`.
+#[derive(Clone, Copy)]
+pub struct Requisite {
+    pub kind: NeedKind,
+    pub by: Id,
+    pub function: Option<Id>,
+    pub id: Id,
+}
+
+impl Model for Requisite {
+    ghost use Rattle.terms.specs.Facts as terms;
+
+    ghost Value = { terms.Requisite };
+
+    ghost view = { λ r. terms.a_requisite r.kind r.by r.function r.id };
+
+    ghost inverse = { λ r. record { kind = r.kind; by = r.by; function = r.function; id = r.id } };
+}
+
+/// What becomes of something that is asked for.
+#[derive(Drop)]
+pub enum Answer {
+    /// These supply it.
+    Supplied(Vec<Id>),
+    Waived,
+    /// These received SYSMODs would serve it.
+    Open(IdList),
+}
+
+/// How a SYSMOD stands to one that made an element.
+#[derive(Clone, Copy, Debug, PartialEq, Eq)]
+pub enum Rank {
+    Itself,
+    Over,
+    NotOver,
+}
+
+/// The RMID or a UMID of an element, and how the SYSMOD in question stands to it.
+#[derive(Clone, Copy)]
+pub struct Maker {
+    pub id: Id,
+    pub rank: Rank,
+}
+
+/// What the zone has of an element. It is `owned` where its owner is that of the SYSMOD in question.
+#[derive(Drop)]
+pub struct Found {
+    pub fmid: Id,
+    pub owned: bool,
+    pub rmid: Maker,
+    pub umids: Vec<Maker>,
+}
+
+/// A fact of an id.
+#[derive(Drop)]
+pub enum Fact<'a> {
+    /// The type is that of a received SYSMOD.
+    Standing {
+        id: Id,
+        kind: Option<Kind>,
+        standing: Standing,
+    },
+    Entry {
+        kind: ZoneKind,
+        entry: &'a Entry,
+    },
+    /// A `++VER` for the zone's SREL, by its number.
+    Ver {
+        number: usize,
+        fmid: Option<Id>,
+        fits: bool,
+        counts: bool,
+    },
+    Requisite {
+        requisite: Requisite,
+        answer: Answer,
+    },
+    /// Of an ERROR hold, with what becomes of its reason.
+    Hold {
+        hold: &'a Hold,
+        resolution: Option<Answer>,
+    },
+    /// An element that is replaced, or else updated.
+    Element {
+        elem_type: ElemType,
+        name: Name,
+        replaces: bool,
+        found: Option<Found>,
+    },
+    /// An id of its DELETE, which may be one of its own chain.
+    Delete {
+        id: Id,
+        own: bool,
+    },
+    /// What its DELETE takes out.
+    Takes(Id),
+    /// An id of its NPRE.
+    Npre {
+        id: Id,
+        applied: bool,
+    },
+    /// An applied function whose NPRE has it.
+    Forbidden(Id),
+    /// An applied SYSMOD that needs what it supplies.
+    Needed(Id),
+}

@@ -1,0 +1,28 @@
+//! What is so of ids in a zone, and what an APPLY, ACCEPT or RESTORE of them would rest on.
+//! `facts_of` answers the facts of the definition, by the tests and needs of an install of each id alone. `facts_text`
+//! spells them, and `facts_code` is the status of the answer. Seen in the code alone: an id is one pass over the
+//! entries, and for each requisite that is open one over the received SYSMODs.
+#![tactic(auto)]
+
+mod answers;
+mod asked_lines;
+mod asking;
+mod deletes;
+mod element_lines;
+mod elements;
+mod fact;
+mod facts;
+mod forbids;
+mod holds;
+mod looks;
+mod needed;
+mod pieces;
+mod requisites;
+mod standing;
+mod text;
+mod vers;
+mod words;
+
+pub use fact::{Answer, Fact, Found, Maker, Rank, Requisite, Standing};
+pub use facts::facts_of;
+pub use text::{facts_code, facts_text};

@@ -1,0 +1,80 @@
+//! Where an id stands, and its entry.
+ghost use Rattle.std.specs.Prelude.{◌≡◌, not, is_some, option_map, IfOk, map};
+ghost use Rattle.terms.specs.Lookups.{is_nil, sysmod_of, supby_of, delby_of};
+ghost use Rattle.terms.specs.Facts.{standing, standing_facts};
+ghost use Rattle.report_why.specs.Views.{standing_view, fact_view};
+
+use crate::fact::{Fact, Standing};
+use fields::Id;
+use std::alloc::{AllocError, Global};
+use sysmods::GlobalZone;
+use terms::Kind;
+use zones::Zone;
+
+fn is_superseded(zone: &Zone, id: Id) -> bool
+    ensures { result ≡ not (is_nil (supby_of zone.now id)) }
+{
+    match zone.entry(id) {
+        Some(entry) => !entry.supby.is_empty(),
+        None => false,
+    }
+}
+
+/// Whether a function deleted it.
+pub(crate) fn is_deleted(zone: &Zone, id: Id) -> bool
+    ensures { result ≡ is_some (delby_of zone.now id) }
+{
+    match zone.entry(id) {
+        Some(entry) => entry.delby.is_some(),
+        None => false,
+    }
+}
+
+fn standing(global: &GlobalZone, zone: &Zone, id: Id) -> Standing
+    ensures { standing_view result ≡ standing global.now zone.now id }
+{
+    if zone.is_applied(id) {
+        return Standing::Applied(zone.kind());
+    }
+    if is_superseded(zone, id) {
+        return Standing::Superseded;
+    }
+    if is_deleted(zone, id) {
+        return Standing::Deleted;
+    }
+    if global.is_received(id) {
+        return Standing::Received;
+    }
+    Standing::Missing
+}
+
+fn kind_of(global: &GlobalZone, id: Id) -> Option<Kind>
+    ensures { result ≡ option_map (λ s. s.kind) (sysmod_of global.now id) }
+{
+    let sysmod = global.get(id)?;
+    Some(sysmod.kind)
+}
+
+/// Where the id stands, and its entry if there is one. The error comes where memory runs out.
+pub(crate) fn standing_facts<'a>(
+    alloc: Global,
+    global: &GlobalZone,
+    zone: &'a Zone,
+    id: Id,
+) -> Result<Vec<Fact<'a>>, AllocError>
+    ensures { IfOk result (λ facts. map fact_view facts.items ≡ standing_facts global.now zone.now id) }
+{
+    let mut facts = Vec::new(alloc);
+    facts.push(Fact::Standing {
+        id,
+        kind: kind_of(global, id),
+        standing: standing(global, zone, id),
+    })?;
+    if let Some(entry) = zone.entry(id) {
+        facts.push(Fact::Entry {
+            kind: zone.kind(),
+            entry,
+        })?;
+    }
+    Ok(facts)
+}

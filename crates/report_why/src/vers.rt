@@ -1,0 +1,76 @@
+//! The `++VER`s of an id for the zone's SREL.
+ghost use Rattle.std.specs.Prelude.{◌≡◌, ◌==◌, ◌++◌, [], ◌∷◌, filter, map, IfOk, OnOk, List};
+ghost use Rattle.std.specs.Option.{option_map_or};
+ghost use Rattle.std.specs.Str.{bytes_eq};
+ghost use Rattle.terms.specs.Types.{Ver as AVer};
+ghost use Rattle.terms.specs.Lookups.{is_in, sysmod_of};
+ghost use Rattle.terms.specs.Choice.{vers_of, fits};
+ghost use Rattle.terms.specs.Facts.{VerFact};
+ghost use Rattle.sysmods.specs.Choices.{number_in};
+ghost use Rattle.zones_views.specs.Scopes.{global_of};
+ghost use Rattle.report_why.specs.Numbered.{numbered};
+ghost use Rattle.report_why.specs.Views.{fact_view};
+
+use crate::fact::Fact;
+use fields::Id;
+use std::alloc::{AllocError, Global};
+use sysmod::Ver;
+use sysmods::GlobalZone;
+use zones_views::{Scope, fits};
+
+// The `++VER` of this number.
+fn ver_fact(scope: &Scope<'_, '_>, id: Id, ver: &Ver, number: usize) -> Fact<'static>
+    ensures { fact_view result ≡ VerFact number ver.now.fmid
+        (fits scope.now.zone.now (is_in scope.now.ids.now) ver.now) (number == number_in scope.now.vers.now id) }
+{
+    Fact::Ver {
+        number,
+        fmid: ver.fmid,
+        fits: fits(scope.zone, scope.ids, ver),
+        counts: number == scope.vers.number(id).get(),
+    }
+}
+
+// Adds the `++VER` if it is for the zone's SREL.
+fn push_ver(
+    scope: &Scope<'_, '_>,
+    id: Id,
+    ver: &Ver,
+    facts: &mut Vec<Fact<'_>>,
+) -> Result<(), AllocError>
+    ensures { OnOk result ((vs : List AVer) → map fact_view facts.old.items ≡ numbered scope.now id vs
+        → map fact_view facts.new.items
+        ≡ numbered scope.now id (vs ++ filter (λ v. bytes_eq v.srel scope.now.zone.now.srel) (ver.now ∷ []))) }
+{
+    if ver.srel == scope.zone.srel() {
+        let number = facts.len() + 1;
+        facts.push(ver_fact(scope, id, ver, number))?;
+    }
+    Ok(())
+}
+
+// The `++VER`s of a received SYSMOD, for all SRELs.
+fn vers_of(global: &GlobalZone, id: Id) -> &[Ver]
+    ensures { result.now ≡ option_map_or (λ s. s.vers) (sysmod_of global.now id) [] }
+{
+    match global.get(id) {
+        Some(sysmod) => sysmod.vers.as_slice(),
+        None => &[],
+    }
+}
+
+/// Its `++VER`s for the zone's SREL. The error comes where memory runs out.
+pub(crate) fn ver_facts(
+    alloc: Global,
+    scope: &Scope<'_, '_>,
+    id: Id,
+) -> Result<Vec<Fact<'static>>, AllocError>
+    ensures { IfOk result (λ facts. map fact_view facts.items
+        ≡ numbered scope.now id (vers_of (global_of scope.now) scope.now.zone.now.srel id)) }
+{
+    let mut facts = Vec::new(alloc);
+    for ver in vers_of(scope.global(), id) {
+        push_ver(scope, id, ver, &mut facts)?;
+    }
+    Ok(facts)
+}

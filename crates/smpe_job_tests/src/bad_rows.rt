@@ -1,0 +1,230 @@
+//! Rows that stand for no state, under jobs and under the definition of a zone: what was reported is there, and every
+//! other row is as it was.
+
+use crate::checked::{CHECKED, installed};
+use fields::Srel;
+use smpe::{JobError, ZoneError, define_zone};
+use smpe_play::{compare, opened, run_step, zone_name};
+use sqlite::{Alter, Connection};
+use std::alloc::Global;
+use std::test::Fail;
+use store::Store;
+use store_schema::StoreError;
+use terms::ZoneKind;
+
+/// Statements, behind each of which the rows of the global zone stand for none. A job meets them as it begins, and the
+/// definition of a zone does not.
+const GLOBAL: &[&str] = &[
+    "UPDATE sysmod SET kind = 'function'",
+    "INSERT INTO source (id, name) VALUES ('HAA1100', 'put2401')",
+    "UPDATE ver SET pre = 'UA0001'",
+    "INSERT INTO ifreq (id, srel, n, fmid, req) VALUES ('HAA1100', 'Z038', 2, 'HCC1100', 'UCC0001')",
+    "INSERT INTO morever (id, srel, n, fmid, pre, req, sup) VALUES ('HAA1100', 'Z038', 2, 'HBB1100', '', '', '')",
+    "INSERT INTO moreif (id, srel, v, n, fmid, req) VALUES ('HAA1100', 'Z038', 2, 1, 'HCC1100', 'UCC0001')",
+    "UPDATE elem SET type = 'mac'",
+    "INSERT INTO hold (id, kind, reason, fmid, internal) VALUES ('UA00024', 'USER', 'mine', 'HAA1100', 0)",
+];
+
+/// The same of the target zone, which a SET meets.
+const TARGET: &[&str] = &[
+    "UPDATE entry SET date = '24.000'",
+    "UPDATE zelem SET fmid = ''",
+    "INSERT INTO chosen (zone, id, n) VALUES ('TGT1', 'UA00024', 2)",
+];
+
+/// The same of the zones, which a SET and the definition of a zone meet.
+const ZONES: &[&str] = &[
+    "UPDATE zone SET kind = 'TARGET' WHERE name = 'TGT1'",
+    "UPDATE zone SET related = NULL WHERE name = 'TGT1'",
+];
+
+/// What the job reports before its SET of the target zone.
+const RECEIVED: &str = "SET GLOBAL\nRC 00\nRECEIVE GLOBAL\nUA00024 PTF      RECEIVED\nRC 00\n";
+
+/// What it writes before that.
+const RECEIVED_ROWS: &[&str] = &[
+    "INSERT INTO sysmod (id, kind, sources) VALUES ('UA00024', 'PTF', '')",
+    "INSERT INTO ver (id, srel, fmid, pre, req, sup, npre, del) VALUES ('UA00024', 'Z038', 'HAA1100', '', '', '', '', \
+        '')",
+];
+
+/// What the definition of a zone writes.
+const DEFINED_ROWS: &[&str] = &[
+    "INSERT INTO zone (name, kind, srel, related) VALUES ('NEW1', 'distribution', 'Z038', NULL)",
+];
+
+/// All rows of all tables.
+const TABLES: [&str; 13] = [
+    "SELECT k || '/' || v FROM meta ORDER BY k",
+    "SELECT id || '/' || kind || '/' || sources FROM sysmod ORDER BY id",
+    "SELECT id || '/' || name FROM source ORDER BY id, name",
+    "SELECT id || '/' || srel || '/' || ifnull(fmid, '-') || '/' || pre || '/' || req || '/' || sup || '/' || npre || \
+        '/' || del FROM ver ORDER BY id, srel",
+    "SELECT id || '/' || srel || '/' || n || '/' || fmid || '/' || req FROM ifreq ORDER BY id, srel, n",
+    "SELECT id || '/' || srel || '/' || n || '/' || ifnull(fmid, '-') || '/' || pre || '/' || req || '/' || sup FROM \
+        morever ORDER BY id, srel, n",
+    "SELECT id || '/' || srel || '/' || v || '/' || n || '/' || fmid || '/' || req FROM moreif ORDER BY id, srel, v, n",
+    "SELECT id || '/' || type || '/' || name || '/' || upd || '/' || ifnull(distlib, '-') || '/' || ifnull(syslib, \
+        '-') || '/' || hex(text) FROM elem ORDER BY id, type, name",
+    "SELECT id || '/' || kind || '/' || reason || '/' || fmid || '/' || ifnull(class, '-') || '/' || ifnull(date, \
+        '-') || '/' || ifnull(comment, '-') || '/' || internal FROM hold ORDER BY id, kind, reason",
+    "SELECT name || '/' || kind || '/' || srel || '/' || ifnull(related, '-') FROM zone ORDER BY name",
+    "SELECT zone || '/' || id || '/' || ifnull(date, '-') || '/' || supby || '/' || ifnull(delby, '-') || '/' || \
+        waived FROM entry ORDER BY zone, id",
+    "SELECT zone || '/' || type || '/' || name || '/' || fmid || '/' || rmid || '/' || umid || '/' || distlib || '/' \
+        || syslib || '/' || hex(text) FROM zelem ORDER BY zone, type, name",
+    "SELECT zone || '/' || id || '/' || n FROM chosen ORDER BY zone, id",
+];
+
+/// Appends the rows that a query finds, a line each.
+fn put_lines<S: Alter>(
+    conn: &mut Connection<S>,
+    sql: &str,
+    lines: &mut String,
+) -> Result<(), Fail> {
+    let rows = conn.query_all(sql, &[])?;
+    for row in &rows {
+        let text: String = row.get(0)?;
+        lines.push_str(text.as_str())?;
+        lines.push_str("\n")?;
+    }
+    Ok(())
+}
+
+fn all_lines<S: Alter>(alloc: Global, conn: &mut Connection<S>) -> Result<String, Fail> {
+    let mut lines = String::new(alloc);
+    for sql in TABLES {
+        put_lines(conn, sql, &mut lines)?;
+        lines.push_str("--\n")?;
+    }
+    Ok(lines)
+}
+
+/// Runs a statement that must change some row.
+fn run<S: Alter>(conn: &mut Connection<S>, sql: &str) -> Result<(), Fail> {
+    if conn.execute(sql, &[])? == 0 {
+        return Err(Fail::from(sql));
+    }
+    Ok(())
+}
+
+/// A database in which the function is installed, and then a row is spoilt.
+fn spoilt<S: Alter + Drop>(
+    alloc: Global,
+    conn: Connection<S>,
+    bad: &str,
+) -> Result<Connection<S>, Fail> {
+    let mut conn = installed(alloc, conn)?.close();
+    run(&mut conn, bad)?;
+    Ok(conn)
+}
+
+/// All rows of it once these statements are run.
+fn rows_written<S: Alter + Drop>(
+    alloc: Global,
+    conn: Connection<S>,
+    bad: &str,
+    written: &[&str],
+) -> Result<String, Fail> {
+    let mut conn = spoilt(alloc, conn, bad)?;
+    for sql in written {
+        run(&mut conn, sql)?;
+    }
+    all_lines(alloc, &mut conn)
+}
+
+/// Runs the job, which must report this and then end by `Sf3`.
+fn run_job_over<S: Alter>(alloc: Global, store: &mut Store<S>, wanted: &str) -> Result<(), Fail> {
+    let mut report = Vec::new(alloc);
+    match run_step(alloc, store, &CHECKED, &mut report)? {
+        Err(JobError::Store(StoreError::NoState)) => compare(report.as_slice(), wanted),
+        Err(other) => Err(Fail::from(other)),
+        Ok(_) => Err(Fail::from("the job went to its end")),
+    }
+}
+
+/// All rows behind that job.
+fn rows_of_job<S: Alter + Drop>(
+    alloc: Global,
+    conn: Connection<S>,
+    bad: &str,
+    wanted: &str,
+) -> Result<String, Fail> {
+    let mut store = opened(alloc, spoilt(alloc, conn, bad)?)?;
+    run_job_over(alloc, &mut store, wanted)?;
+    all_lines(alloc, &mut store.close())
+}
+
+/// Each of these is met behind this report, and leaves the rows as these statements do.
+fn check_jobs(alloc: Global, edits: &[&str], report: &str, written: &[&str]) -> Result<(), Fail> {
+    for bad in edits {
+        let got = rows_of_job(alloc, Connection::open_in_memory(alloc)?, bad, report)?;
+        let wanted = rows_written(alloc, Connection::open_in_memory(alloc)?, bad, written)?;
+        compare(got.as_bytes(), wanted.as_str())?;
+    }
+    Ok(())
+}
+
+#[test]
+fn jobs_meet_bad_rows(rt: HostRuntime) -> Result<(), Fail> {
+    let alloc = rt.alloc();
+    check_jobs(alloc, GLOBAL, "", &[])?;
+    check_jobs(alloc, TARGET, RECEIVED, RECEIVED_ROWS)?;
+    check_jobs(alloc, ZONES, RECEIVED, RECEIVED_ROWS)
+}
+
+fn define<S: Alter>(store: &mut Store<S>) -> Result<Result<(), ZoneError>, Fail> {
+    let srel = Srel::read(b"Z038").ok_or("no SREL")?;
+    Ok(define_zone(
+        store,
+        zone_name(b"NEW1")?,
+        ZoneKind::Distribution,
+        srel,
+        None,
+    ))
+}
+
+/// Defines a zone, which must be so, or must end by `Sf3`.
+fn define_over<S: Alter>(store: &mut Store<S>, is_defined: bool) -> Result<(), Fail> {
+    match define(store)? {
+        Ok(()) if is_defined => Ok(()),
+        Err(ZoneError::Store(StoreError::NoState)) if !is_defined => Ok(()),
+        Ok(()) => Err(Fail::from("the zone was defined")),
+        Err(other) => Err(Fail::from(other)),
+    }
+}
+
+/// All rows behind that definition.
+fn rows_of_definition<S: Alter + Drop>(
+    alloc: Global,
+    conn: Connection<S>,
+    bad: &str,
+    is_defined: bool,
+) -> Result<String, Fail> {
+    let mut store = opened(alloc, spoilt(alloc, conn, bad)?)?;
+    define_over(&mut store, is_defined)?;
+    all_lines(alloc, &mut store.close())
+}
+
+/// Behind each of these a zone is defined or not, and the rows are as these statements leave them.
+fn check_definitions(
+    alloc: Global,
+    edits: &[&str],
+    is_defined: bool,
+    written: &[&str],
+) -> Result<(), Fail> {
+    for bad in edits {
+        let got = rows_of_definition(alloc, Connection::open_in_memory(alloc)?, bad, is_defined)?;
+        let wanted = rows_written(alloc, Connection::open_in_memory(alloc)?, bad, written)?;
+        compare(got.as_bytes(), wanted.as_str())?;
+    }
+    Ok(())
+}
+
+#[test]
+fn definitions_meet_bad_rows(rt: HostRuntime) -> Result<(), Fail> {
+    let alloc = rt.alloc();
+    check_definitions(alloc, GLOBAL, true, DEFINED_ROWS)?;
+    check_definitions(alloc, TARGET, true, DEFINED_ROWS)?;
+    check_definitions(alloc, ZONES, false, &[])
+}

@@ -1,5 +1,0 @@
-pub mod Texts
-pub mod Selects
-pub mod HoldLemmas
-pub mod HoldLists
-pub mod Comments
