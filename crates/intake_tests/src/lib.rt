@@ -8,12 +8,6 @@ mod commands;
 #[cfg(test)]
 mod narrow;
 #[cfg(test)]
-mod narrow_elements;
-#[cfg(test)]
-mod narrow_holds;
-#[cfg(test)]
-mod narrow_sysmods;
-#[cfg(test)]
 mod program;
 #[cfg(test)]
 mod wide;
