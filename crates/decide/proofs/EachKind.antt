@@ -1,84 +1,303 @@
--- The needs of a row, kind by kind.
-use Rattle.std.proofs.Common.{◌≡◌, inl, inr, List, [], ◌∷◌, ◌++◌, Contains, sym, ap, ap₂, ◌∙◌, subst, append_assoc}
-use Rattle.std.specs.Prelude.{◌↔◌, ◌⊎◌}
-use Rattle.std.proofs.lemmas.List.{append-nil}
-use Rattle.std.proofs.lemmas.List.Elements.{Contains-append_left, Contains-push, Contains-push_cases}
+-- The needs of a row, kind by kind: in order and each once, they are those of each kind by their ids.
+use Rattle.std.proofs.Common.{◌≡◌, ◌∙◌, inl, inr, ℕ, ◌<◌, Bool, true, false, List, [], ◌∷◌, Contains, refl}
+use Rattle.std.proofs.Common.{sym, ap, ap₂, subst, filter, map, arith, IsTrue, slice_get, Some}
+use Rattle.std.specs.Prelude.{◌↔◌, ◌⊎◌, ◌==◌, ◌&&◌, AllPairs, All, IsPermutation}
+use Rattle.std.specs.Ordering.{is_eq, is_lt, nat_cmp, ordering_then}
+use Rattle.std.specs.declared.cmp.Ordering.{Ordering}
+use Rattle.std.specs.Cmp.{IsTotalOrder, IsEquivalence, unsigned_ties}
+use Rattle.std.specs.Cmp.Lexicographic.{slice_cmp, texts_ties}
+use Rattle.std.specs.List.{dedup, flat_map}
+use Rattle.std.specs.List.Sorted.{IsSorted}
+use Rattle.std.specs.Str.{bytes_eq}
+use Rattle.std.proofs.lemmas.Bool.{and_parts, cases_Bool, eqb-true, eq-eqb, ltb-true, or_cases}
+use Rattle.std.proofs.lemmas.Cmp.{then_total, on_total, and_equiv, on_equiv, nat_cmp_total, nat_eq_equiv}
+use Rattle.std.proofs.lemmas.Cmp.{nat_list_cmp_total, nat_list_eq_equiv}
+use Rattle.std.proofs.lemmas.Option.{same_Some}
+use Rattle.std.proofs.lemmas.List.Elements.{All-weaker, filter_passes}
+use Rattle.std.proofs.lemmas.List.Kept.{AllPairs-filter, IsStrictlySortedBy-dedup, Contains-dedup, Contains-from_dedup}
+use Rattle.std.proofs.lemmas.List.Sorted.{Contains-permutation, IsPermutation-sym}
+use Rattle.lemmas.proofs.Members.{in_filter, filter_in, in_map, map_in}
+use Rattle.lemmas.proofs.Orderings.{is_eq_then, lower_first}
+use Rattle.lemmas.proofs.Pairs.{AllPairs_first, AllPairs_rest, pairs_map}
+use Rattle.lemmas.proofs.Searches.{filter_none}
+use Rattle.lemmas.proofs.Texts.{same_from}
+use Rattle.terms.proofs.RisingLists.{Rises_from_sorted}
 use Rattle.terms.specs.declared.codes.NeedKind.{NeedKind}
 use Rattle.terms.specs.declared.codes.NeedKind.TheVariants.{Fmid, Pre, Req, Ifreq, HoldError, Orphan, Elem, Dep}
+use Rattle.terms.specs.contracts.codes.NeedKindOrd.TheImpl as kind_order
+use Rattle.terms.specs.contracts.codes.NeedKindPartialEq.TheImpl as kind_equality
+use Rattle.terms.specs.Failures.{all_needs}
 use Rattle.terms.specs.Types.{Id}
 use Rattle.machine.specs.Outcome.{OpenNeed}
-use Rattle.decide.specs.Open.{of_kind, AreIdsOf, AddsKind, AreNeedsOf}
+use Rattle.decide.specs.declared.failure.OpenNeed as declared
+use Rattle.decide.specs.Views.{need_view}
+use Rattle.decide.specs.Open.{need_cmp, AreEachOnce, of_kind, AreNeedsOf}
 
--- a list with one more id, of the kind or not
-pub push_of : (ids new : List Id) (kind : NeedKind) (need : NeedKind × Id) → need.0 ≡ kind → new ≡ ids ++ need.1 ∷ []
-    → (z : Id) → Contains new z ↔ (Contains ids z ⊎ ((need.0 ≡ kind) × (need.1 ≡ z)))
-push_of ids new kind need is made z = (
-  λ h. elim (Contains-push_cases ids need.1 z (subst (λ l. Contains l z) made h))
-      [ inl before ↦ inl before | inr same ↦ inr (is, same) ],
-  λ w. subst (λ l. Contains l z) (sym made) (elim w [
-    | inl before ↦ Contains-append_left ids (need.1 ∷ []) z before
-    | inr here ↦ subst (Contains (ids ++ need.1 ∷ [])) here.1 (Contains-push ids need.1)
-  ]),
-)
+abbrev Need : Type 0
+Need = NeedKind × Id
 
--- the ids of the kind in a list with one more need
-pub ids_next : (kind : NeedKind) (needs : List (NeedKind × Id)) (need : NeedKind × Id) (old new : List Id)
-    → ((z : Id) → Contains new z ↔ (Contains old z ⊎ ((need.0 ≡ kind) × (need.1 ≡ z))))
-    → ((z : Id) → Contains old z ↔ Contains needs (kind, z)) → (z : Id)
-    → Contains new z ↔ Contains (needs ++ need ∷ []) (kind, z)
-ids_next kind needs need old new added so_far z = (
-  λ h. elim ((added z).0 h) [
-    | inl before ↦ Contains-append_left needs (need ∷ []) (kind, z) ((so_far z).0 before)
-    | inr here ↦
-        let same : need ≡ (kind, z) = ap₂ (λ a b. (a, b)) here.0 here.1 in
-        subst (Contains (needs ++ need ∷ [])) same (Contains-push needs need)
-  ],
-  λ h. (added z).1 (elim (Contains-push_cases needs need (kind, z) h) [
-    | inl before ↦ inl ((so_far z).1 before)
-    | inr same ↦ inr (ap (λ p. p.0) same, ap (λ p. p.1) same)
-  ]),
-)
+-- the need as it is told
+abbrev pub open_need : Need → declared.OpenNeed
+open_need p = record { kind = p.0; id = p.1 }
 
--- what stands in front of the rest
-front : {X : Type 0} (old new more rest all : List X) → new ≡ old ++ more → all ≡ new ++ rest
-    → all ≡ old ++ (more ++ rest)
-front old new more rest all made is = is ∙ ap (λ l. l ++ rest) made ∙ append_assoc old more rest
+-- ---- the order of kinds, by their places in reports
 
--- the needs of all kinds, one kind after the other
-pub all_kinds : (row : List (NeedKind × Id)) (n1 n2 n3 n4 n5 n6 n7 n8 : List OpenNeed)
-    → AddsKind row Fmid [] n1 → AddsKind row Pre n1 n2 → AddsKind row Req n2 n3 → AddsKind row Ifreq n3 n4
-    → AddsKind row HoldError n4 n5 → AddsKind row Orphan n5 n6 → AddsKind row Elem n6 n7 → AddsKind row Dep n7 n8
-    → AreNeedsOf row n8
-all_kinds row n1 n2 n3 n4 n5 n6 n7 n8 a b c d e f g h = record {
-  ids_of = ids_of;
-  are_ids = are_ids;
-  needs_are =
-      front [] n1 (of_kind Fmid a.ids) _ n8 a.added
-      (front n1 n2 (of_kind Pre b.ids) _ n8 b.added
-      (front n2 n3 (of_kind Req c.ids) _ n8 c.added
-      (front n3 n4 (of_kind Ifreq d.ids) _ n8 d.added
-      (front n4 n5 (of_kind HoldError e.ids) _ n8 e.added
-      (front n5 n6 (of_kind Orphan f.ids) _ n8 f.added
-      (front n6 n7 (of_kind Elem g.ids) _ n8 g.added
-      (front n7 n8 (of_kind Dep h.ids) [] n8 h.added (sym (append-nil n8)))))))));
+number : NeedKind → ℕ
+number Fmid = 0
+number Pre = 1
+number Req = 2
+number Ifreq = 3
+number HoldError = 4
+number Orphan = 5
+number Elem = 6
+number Dep = 7
+
+cmp_kinds : (a b : NeedKind) → kind_order.ghosts.cmp a b ≡ nat_cmp (number a) (number b)
+unfolding number
+cmp_kinds Fmid Fmid = refl
+cmp_kinds Pre Fmid = refl
+cmp_kinds Req Fmid = refl
+cmp_kinds Ifreq Fmid = refl
+cmp_kinds HoldError Fmid = refl
+cmp_kinds Orphan Fmid = refl
+cmp_kinds Elem Fmid = refl
+cmp_kinds Dep Fmid = refl
+cmp_kinds a b = refl
+
+eq_kinds : (a b : NeedKind) → kind_equality.ghosts.eq a b ≡ (number a == number b)
+unfolding number
+eq_kinds Fmid Fmid = refl
+eq_kinds Pre Fmid = refl
+eq_kinds Req Fmid = refl
+eq_kinds Ifreq Fmid = refl
+eq_kinds HoldError Fmid = refl
+eq_kinds Orphan Fmid = refl
+eq_kinds Elem Fmid = refl
+eq_kinds Dep Fmid = refl
+eq_kinds a b = refl
+
+kind_at_number : (a : NeedKind) → slice_get all_needs (number a) ≡ Some a
+unfolding number
+kind_at_number Fmid = refl
+kind_at_number Pre = refl
+kind_at_number Req = refl
+kind_at_number Ifreq = refl
+kind_at_number HoldError = refl
+kind_at_number Orphan = refl
+kind_at_number Elem = refl
+kind_at_number Dep = refl
+
+same_kind : (a b : NeedKind) → number a ≡ number b → a ≡ b
+same_kind a b e = same_Some a b (sym (kind_at_number a) ∙ ap (slice_get all_needs) e ∙ kind_at_number b)
+
+-- ---- the order of needs
+
+numbered_cmp : Need → Need → Ordering
+numbered_cmp a b = ordering_then (nat_cmp (number a.0) (number b.0)) (slice_cmp nat_cmp a.1 b.1)
+
+numbered_total : IsTotalOrder numbered_cmp
+unfolding numbered_cmp
+numbered_total = then_total (on_total (λ (p : Need). number p.0) nat_cmp_total)
+    (on_total (λ (p : Need). p.1) nat_list_cmp_total)
+
+abbrev pub need_eq : Need → Need → Bool
+need_eq a b = kind_equality.ghosts.eq a.0 b.0 && bytes_eq a.1 b.1
+
+numbered_eq : Need → Need → Bool
+numbered_eq a b = (number a.0 == number b.0) && bytes_eq a.1 b.1
+
+eq_numbered : (a b : Need) → need_eq a b ≡ numbered_eq a b
+unfolding numbered_eq
+eq_numbered a b = ap (λ t. t && bytes_eq a.1 b.1) (eq_kinds a.0 b.0)
+
+cmp_numbered : (a b : Need) → need_cmp a b ≡ numbered_cmp a b
+unfolding numbered_cmp
+cmp_numbered a b = ap (λ r. ordering_then r (slice_cmp nat_cmp a.1 b.1)) (cmp_kinds a.0 b.0)
+
+numbered_equiv : IsEquivalence numbered_eq
+unfolding numbered_eq
+numbered_equiv = and_equiv (on_equiv (λ (p : Need). number p.0) nat_eq_equiv)
+    (on_equiv (λ (p : Need). p.1) nat_list_eq_equiv)
+
+-- the laws of what is derived, from those by number
+need_total : IsTotalOrder need_cmp
+need_total =
+    let o = numbered_total in
+    record {
+      antisymm = λ a b. rw (cmp_numbered a b, cmp_numbered b a) (o.antisymm a b);
+      trans = λ a b c less also. rw (cmp_numbered a c) (o.trans a b c (rw (cmp_numbered a b) at less)
+          (rw (cmp_numbered b c) at also));
+      congr = λ a b c tie. rw (cmp_numbered a c, cmp_numbered b c) (o.congr a b c (rw (cmp_numbered a b) at tie));
+    }
+
+need_equiv : IsEquivalence need_eq
+need_equiv =
+    let o = numbered_equiv in
+    record {
+      refl = λ a. rw (eq_numbered a a) (o.refl a);
+      symm = λ a b. rw (eq_numbered a b, eq_numbered b a) (o.symm a b);
+      congr = λ a b c same. rw (eq_numbered a c, eq_numbered b c) (o.congr a b c (rw (eq_numbered a b) at same));
+    }
+
+need_ties : (a b : Need) → need_eq a b ≡ is_eq (need_cmp a b)
+unfolding numbered_eq numbered_cmp
+need_ties a b =
+    eq_numbered a b
+    ∙ ap₂ (λ s t. s && t) (unsigned_ties (number a.0) (number b.0)) (texts_ties a.1 b.1)
+    ∙ sym (is_eq_then (nat_cmp (number a.0) (number b.0)) (slice_cmp nat_cmp a.1 b.1))
+    ∙ ap is_eq (sym (cmp_numbered a b))
+
+need_same : (a b : Need) → need_eq a b ≡ true → a ≡ b
+unfolding numbered_eq
+need_same a b on =
+    let parts = and_parts (number a.0 == number b.0) (bytes_eq a.1 b.1) (sym (eq_numbered a b) ∙ on) in
+    ap₂ (λ s t. (s, t)) (same_kind a.0 b.0 (eqb-true (number a.0) (number b.0) parts.0)) (same_from a.1 b.1 parts.1)
+
+-- what is sorted and has no doubles
+pub sorted_once : (needs sorted : List Need) → IsPermutation needs sorted → IsSorted need_cmp sorted
+    → AreEachOnce needs (dedup need_eq sorted)
+sorted_once needs sorted moved in_order = record {
+  rise = Rises_from_sorted need_cmp (dedup need_eq sorted) (IsStrictlySortedBy-dedup need_total need_ties sorted
+      in_order);
+  members = λ need. (
+    λ h. Contains-permutation sorted needs need (IsPermutation-sym needs sorted moved)
+        (Contains-from_dedup need_eq sorted need h),
+    λ h. Contains-dedup need_equiv need_same sorted need (Contains-permutation needs sorted need moved h),
+  );
 }
-  where
-    ids_of : NeedKind → List Id
-    ids_of Fmid = a.ids
-    ids_of Pre = b.ids
-    ids_of Req = c.ids
-    ids_of Ifreq = d.ids
-    ids_of HoldError = e.ids
-    ids_of Orphan = f.ids
-    ids_of Elem = g.ids
-    ids_of Dep = h.ids
 
-    are_ids : (kind : NeedKind) → AreIdsOf row kind (ids_of kind)
-    are_ids Fmid = a.are_ids
-    are_ids Pre = b.are_ids
-    are_ids Req = c.are_ids
-    are_ids Ifreq = d.are_ids
-    are_ids HoldError = e.are_ids
-    are_ids Orphan = f.are_ids
-    are_ids Elem = g.are_ids
-    are_ids Dep = h.are_ids
+-- ---- kind by kind
+
+abbrev Below : Need → Need → Type 0
+Below a b = IsTrue (is_lt (need_cmp a b))
+
+-- what is below is of no later kind, and of one kind it has the lower id
+below_parts : (a b : Need) → Below a b
+    → (number a.0 < number b.0) ⊎ ((number a.0 ≡ number b.0) × IsTrue (is_lt (slice_cmp nat_cmp a.1 b.1)))
+unfolding numbered_cmp
+below_parts a b low =
+    elim (or_cases _ _ (lower_first (number a.0) (number b.0) (slice_cmp nat_cmp a.1 b.1) (rw (cmp_numbered a b) at low))) [
+      | inl less ↦ inl (ltb-true (number a.0) (number b.0) less)
+      | inr same ↦
+          let parts = and_parts (number a.0 == number b.0) (is_lt (slice_cmp nat_cmp a.1 b.1)) same in
+          inr (eqb-true (number a.0) (number b.0) parts.0, parts.1)
+    ]
+
+is_of : NeedKind → Need → Bool
+is_of kind p = number p.0 == number kind
+
+ids_of : List Need → NeedKind → List Id
+ids_of needs kind = map (λ p. p.1) (filter (is_of kind) needs)
+
+-- none is of a kind before that of one that all others are above
+none_before : (kind : NeedKind) (first : Need) (needs : List Need) → number kind < number first.0
+    → All (Below first) needs → ids_of needs kind ≡ []
+unfolding is_of ids_of
+none_before kind first needs less low =
+    ap (map (λ p. p.1)) (filter_none (is_of kind) needs (All-weaker (Below first) (λ p. is_of kind p ≡ false)
+    (λ p below. elim (cases_Bool (number p.0 == number kind)) [
+      | inl on ↦
+          let same = eqb-true (number p.0) (number kind) on in
+          elim (below_parts first p below) [
+            | inl more ↦ absurd (omega (arith, same, more, less))
+            | inr tie ↦ absurd (omega (arith, same, tie.0, less))
+          ]
+      | inr off ↦ off
+    ]) needs low))
+
+of_one_kind : (kind : NeedKind) (needs : List Need) → AllPairs Below needs → AllPairs
+    (λ x y. IsTrue (is_lt (slice_cmp nat_cmp x y))) (ids_of needs kind)
+unfolding is_of ids_of
+of_one_kind kind needs rise =
+    let passes = filter_passes (is_of kind) needs in
+    let pairs = AllPairs-filter Below (is_of kind) needs rise in
+    pairs_map (λ a b. Below a b × (is_of kind a ≡ true) × (is_of kind b ≡ true))
+    (λ x y. IsTrue (is_lt (slice_cmp nat_cmp x y))) (λ p. p.1)
+    (λ a b h.
+    let first = eqb-true (number a.0) (number kind) h.1 in
+    let second = eqb-true (number b.0) (number kind) h.2 in
+    elim (below_parts a b h.0) [
+      | inl less ↦ absurd (omega (arith, first, second, less))
+      | inr tie ↦ tie.1
+    ])
+    (filter (is_of kind) needs)
+    (λ i j d less within. (pairs i j d less within, passes i d (omega (arith, less, within)), passes j d within))
+
+members_of : (kind : NeedKind) (needs : List Need) (z : Id) → Contains (ids_of needs kind) z ↔ Contains needs (kind, z)
+unfolding is_of ids_of
+members_of kind needs z = (
+  λ h.
+      let found = map_in (λ p. p.1) (filter (is_of kind) needs) z h in
+      let kept = filter_in (is_of kind) needs found.0 found.1 in
+      let same : found.0 ≡ (kind, z) =
+      ap₂ (λ a b. (a, b)) (same_kind found.0.0 kind (eqb-true (number found.0.0) (number kind) kept.1)) found.2 in
+      subst (Contains needs) same kept.0,
+  λ h. in_map (λ p. p.1) (filter (is_of kind) needs) (kind, z) (in_filter (is_of kind) needs (kind, z) h
+      (eq-eqb (number kind) (number kind) refl)),
+)
+
+abbrev told : Need → OpenNeed
+told p = need_view (open_need p)
+
+-- needs in order are those of the kinds, one kind after the other
+grouped : (needs : List Need) → AllPairs Below needs
+    → map told needs ≡ flat_map (λ kind. of_kind kind (ids_of needs kind)) all_needs
+unfolding number is_of ids_of
+grouped [] rise = refl
+grouped ((Fmid, z) ∷ rest) rise = ap (λ l. told (Fmid, z) ∷ l) (grouped rest (AllPairs_rest Below (Fmid, z) rest rise))
+grouped ((Pre, z) ∷ rest) rise =
+    let none : (kind : NeedKind) → number kind < number Pre → ids_of rest kind ≡ [] =
+    λ kind less. none_before kind (Pre, z) rest less (AllPairs_first Below (Pre, z) rest rise) in
+    let later = grouped rest (AllPairs_rest Below (Pre, z) rest rise) in
+    rw (none Fmid (omega arith))
+    (ap (λ l. told (Pre, z) ∷ l) (rw (none Fmid (omega arith)) at later))
+grouped ((Req, z) ∷ rest) rise =
+    let none : (kind : NeedKind) → number kind < number Req → ids_of rest kind ≡ [] =
+    λ kind less. none_before kind (Req, z) rest less (AllPairs_first Below (Req, z) rest rise) in
+    let later = grouped rest (AllPairs_rest Below (Req, z) rest rise) in
+    rw (none Fmid (omega arith), none Pre (omega arith))
+    (ap (λ l. told (Req, z) ∷ l) (rw (none Fmid (omega arith), none Pre (omega arith)) at later))
+grouped ((Ifreq, z) ∷ rest) rise =
+    let none : (kind : NeedKind) → number kind < number Ifreq → ids_of rest kind ≡ [] =
+    λ kind less. none_before kind (Ifreq, z) rest less (AllPairs_first Below (Ifreq, z) rest rise) in
+    let later = grouped rest (AllPairs_rest Below (Ifreq, z) rest rise) in
+    rw (none Fmid (omega arith), none Pre (omega arith), none Req (omega arith))
+    (ap (λ l. told (Ifreq, z) ∷ l) (rw (none Fmid (omega arith), none Pre (omega arith), none Req (omega arith)) at later))
+grouped ((HoldError, z) ∷ rest) rise =
+    let none : (kind : NeedKind) → number kind < number HoldError → ids_of rest kind ≡ [] =
+    λ kind less. none_before kind (HoldError, z) rest less (AllPairs_first Below (HoldError, z) rest rise) in
+    let later = grouped rest (AllPairs_rest Below (HoldError, z) rest rise) in
+    rw (none Fmid (omega arith), none Pre (omega arith), none Req (omega arith), none Ifreq (omega arith))
+    (ap (λ l. told (HoldError, z) ∷ l) (rw (none Fmid (omega arith), none Pre (omega arith), none Req (omega arith), none Ifreq (omega arith)) at later))
+grouped ((Orphan, z) ∷ rest) rise =
+    let none : (kind : NeedKind) → number kind < number Orphan → ids_of rest kind ≡ [] =
+    λ kind less. none_before kind (Orphan, z) rest less (AllPairs_first Below (Orphan, z) rest rise) in
+    let later = grouped rest (AllPairs_rest Below (Orphan, z) rest rise) in
+    rw (none Fmid (omega arith), none Pre (omega arith), none Req (omega arith), none Ifreq (omega arith), none HoldError (omega arith))
+    (ap (λ l. told (Orphan, z) ∷ l) (rw (none Fmid (omega arith), none Pre (omega arith), none Req (omega arith), none Ifreq (omega arith), none HoldError (omega arith)) at later))
+grouped ((Elem, z) ∷ rest) rise =
+    let none : (kind : NeedKind) → number kind < number Elem → ids_of rest kind ≡ [] =
+    λ kind less. none_before kind (Elem, z) rest less (AllPairs_first Below (Elem, z) rest rise) in
+    let later = grouped rest (AllPairs_rest Below (Elem, z) rest rise) in
+    rw (none Fmid (omega arith), none Pre (omega arith), none Req (omega arith), none Ifreq (omega arith), none HoldError (omega arith), none Orphan (omega arith))
+    (ap (λ l. told (Elem, z) ∷ l) (rw (none Fmid (omega arith), none Pre (omega arith), none Req (omega arith), none Ifreq (omega arith), none HoldError (omega arith), none Orphan (omega arith)) at later))
+grouped ((Dep, z) ∷ rest) rise =
+    let none : (kind : NeedKind) → number kind < number Dep → ids_of rest kind ≡ [] =
+    λ kind less. none_before kind (Dep, z) rest less (AllPairs_first Below (Dep, z) rest rise) in
+    let later = grouped rest (AllPairs_rest Below (Dep, z) rest rise) in
+    rw (none Fmid (omega arith), none Pre (omega arith), none Req (omega arith), none Ifreq (omega arith), none HoldError (omega arith), none Orphan (omega arith), none Elem (omega arith))
+    (ap (λ l. told (Dep, z) ∷ l) (rw (none Fmid (omega arith), none Pre (omega arith), none Req (omega arith), none Ifreq (omega arith), none HoldError (omega arith), none Orphan (omega arith), none Elem (omega arith)) at later))
+
+-- so are those of a row, sorted
+pub are_needs : (unserved needs : List Need) → AreEachOnce unserved needs → AreNeedsOf unserved (map told needs)
+are_needs unserved needs once = record {
+  ids_of = ids_of needs;
+  are_ids = λ kind. record {
+    rising = of_one_kind kind needs once.rise;
+    members = λ z. (
+      λ h. (once.members (kind, z)).0 ((members_of kind needs z).0 h),
+      λ h. (members_of kind needs z).1 ((once.members (kind, z)).1 h),
+    );
+  };
+  needs_are = grouped needs once.rise;
+}

@@ -1,15 +1,14 @@
 //! The needs that nothing kept serves.
 ghost use Rattle.std.specs.Prelude.{◌≡◌, ◌↔◌, ◌⊎◌, ◌<◌, ◌++◌, ℕ, All, Contains, IfOk, OnOk, length, map};
-ghost use Rattle.terms.specs.Types.{Id as AnId};
 ghost use Rattle.solve.specs.NumberedNeed.{numbered};
 ghost use Rattle.solve.specs.Rows.{row_at};
 ghost use Rattle.decide.specs.Views.{need_view};
 ghost use Rattle.decide.specs.Numbered.{need_of};
-ghost use Rattle.decide.specs.Open.{open_of, HaveOpen, AddsKind, AreNeedsOf};
+ghost use Rattle.decide.specs.Open.{open_of, AreEachOnce, HaveOpen, AreNeedsOf};
 
 use crate::failure::OpenNeed;
 use crate::stated::{Need, need_at};
-use fields::{Id, IdList};
+use fields::Id;
 use solve::{NumberedNeed, Problem, empty_rows, serves};
 use std::alloc::{AllocError, Global};
 use terms::NeedKind;
@@ -54,42 +53,13 @@ pub(crate) fn open_needs(
     Ok(rows)
 }
 
-// Adds the need's id if the need is of the kind.
-fn add_of(ids: &mut Vec<Id>, kind: NeedKind, need: (NeedKind, Id)) -> Result<(), AllocError>
-    ensures { OnOk result ((z : AnId) → Contains ids.new.items z
-        ↔ (Contains ids.old.items z ⊎ ((need.0 ≡ kind) × (need.1 ≡ z)))) }
+// The needs in the order of kinds and ids, each once.
+fn each_once(mut needs: Vec<(NeedKind, Id)>) -> Vec<(NeedKind, Id)>
+    ensures { AreEachOnce needs.items result.items }
 {
-    if need.0 == kind {
-        ids.push(need.1)?;
-    }
-    Ok(())
-}
-
-// The ids of the needs of the kind.
-fn ids_of(alloc: Global, unserved: &[(NeedKind, Id)], kind: NeedKind) -> Result<IdList, AllocError>
-    ensures { IfOk result (λ ids. (z : AnId) → Contains ids z ↔ Contains unserved.now (kind, z)) }
-{
-    let mut ids = Vec::new(alloc);
-    for i in 0..unserved.len() {
-        add_of(&mut ids, kind, unserved[i])?;
-    }
-    Ok(IdList::from_vec(ids))
-}
-
-// Adds the needs of the kind, by their ids.
-fn add_kind(
-    alloc: Global,
-    unserved: &[(NeedKind, Id)],
-    kind: NeedKind,
-    needs: &mut Vec<OpenNeed>,
-) -> Result<(), AllocError>
-    ensures { OnOk result (AddsKind unserved.now kind (map need_view needs.old.items) (map need_view needs.new.items)) }
-{
-    let ids = ids_of(alloc, unserved, kind)?;
-    for id in ids.as_slice() {
-        needs.push(OpenNeed { kind, id: *id })?;
-    }
-    Ok(())
+    needs.sort_unstable();
+    needs.dedup();
+    needs
 }
 
 /// The needs by kind and id, each once.
@@ -99,14 +69,8 @@ pub(crate) fn needs_of(
 ) -> Result<Vec<OpenNeed>, AllocError>
     ensures { IfOk result (λ needs. AreNeedsOf unserved.now (map need_view needs.items)) }
 {
-    let mut needs = Vec::new(alloc);
-    add_kind(alloc, unserved, NeedKind::Fmid, &mut needs)?;
-    add_kind(alloc, unserved, NeedKind::Pre, &mut needs)?;
-    add_kind(alloc, unserved, NeedKind::Req, &mut needs)?;
-    add_kind(alloc, unserved, NeedKind::Ifreq, &mut needs)?;
-    add_kind(alloc, unserved, NeedKind::HoldError, &mut needs)?;
-    add_kind(alloc, unserved, NeedKind::Orphan, &mut needs)?;
-    add_kind(alloc, unserved, NeedKind::Elem, &mut needs)?;
-    add_kind(alloc, unserved, NeedKind::Dep, &mut needs)?;
-    Ok(needs)
+    each_once(Vec::from_slice(alloc, unserved)?)
+        .into_iter()
+        .map(|(kind, id)| OpenNeed { kind, id })
+        .collect(alloc)
 }

@@ -1,16 +1,28 @@
-//! A shop's file as cards: whatever its lines and its code are, 80 columns of ASCII each, and what was assumed.
+//! A shop's file as cards, whatever its lines and its code are: 80 columns of ASCII each, and what was assumed. Also
+//! words on cards as they are printed, and what is told of a statement that is not carried just as it stands on its
+//! cards.
 #![tactic(auto)]
 
 mod card;
 mod code;
+mod comment;
 mod errors;
 mod place;
+mod printed;
 mod read;
+mod reason;
+mod remark;
+mod remarks;
 mod tables;
 mod told;
 
 pub use card::{Card, Tail};
 pub use code::{Code, Form};
+pub use comment::{laid_out, put_comment};
 pub use errors::CardError;
 pub use place::Place;
+pub use printed::PrintedCards;
 pub use read::{CardNote, CardOddity, Cards, read_cards};
+pub use reason::Reason;
+pub use remark::{Deed, Remark};
+pub use remarks::{Remarks, Subject};

@@ -131,9 +131,9 @@ fn without_end(ended: &[u8], code: Code) -> &[u8] {
     line.strip_suffix(b"\r").unwrap_or(line)
 }
 
-/// The cards of a file, which is the one of this number among those that are read. Form and code are those that are asked
-/// for, or those that the bytes tell. `LongLine` comes where more than blanks stands behind column 80 of a line, at the
-/// first such line; `ShortRecord` where the length is no multiple of 80, and records were asked for.
+/// The cards of a file, which is the one of this number among those that are read. Form and code are those that are
+/// asked for, or those that the bytes tell. `LongLine` comes where more than blanks stands behind column 80 of a line,
+/// at the first such line; `ShortRecord` where the length is no multiple of 80, and records were asked for.
 pub fn read_cards(
     alloc: Global,
     file: usize,

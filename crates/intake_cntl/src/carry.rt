@@ -4,7 +4,7 @@ use crate::scan::{CommandEnd, WideCommand, words_in};
 use crate::told::{Told, Words};
 use crate::words::{Form, Known, Spelled, command_of, is_dropped, spelling_of};
 use fields::{Class, Id, Reason as HoldReason, Source, ZoneName};
-use intake_narrow::{Deed, Reason};
+use intake_cards::{Deed, Reason};
 use intake_wide::{Place, WideOperand};
 use std::alloc::{AllocError, Global};
 
@@ -98,17 +98,9 @@ fn tell_command(
     let words = Words {
         command: wide.head.name.as_slice(),
         operand: b"",
-        text: value_of(&wide.head),
+        text: wide.head.text(),
     };
     told.tell(alloc, wide.place, words, deed, reason)
-}
-
-// What stands in the operand's parentheses, nothing where it has none.
-fn value_of(operand: &WideOperand) -> &[u8] {
-    match &operand.value {
-        Some(value) => value.as_slice(),
-        None => b"",
-    }
 }
 
 fn carried_operands(
@@ -193,14 +185,14 @@ fn carried_operand(
 ) -> Result<Option<CarriedOperand>, AllocError> {
     let operand = asked.operand;
     let Some(known) = spelling_of(asked.command.operands, operand.name.as_slice()) else {
-        asked.refuse(alloc, told, value_of(operand), Reason::NoOperand)?;
+        asked.refuse(alloc, told, operand.text(), Reason::NoOperand)?;
         return Ok(None);
     };
     if known.form == Form::Dropped {
         asked.tell(
             alloc,
             told,
-            value_of(operand),
+            operand.text(),
             Deed::Dropped,
             Reason::NoDecision,
         )?;
@@ -331,14 +323,14 @@ fn carried_member(
 ) -> Result<Option<CarriedMember>, AllocError> {
     let member = asked.operand;
     let Some(known) = spelling_of(asked.command.members, member.name.as_slice()) else {
-        asked.refuse(alloc, told, value_of(member), Reason::NoOperand)?;
+        asked.refuse(alloc, told, member.text(), Reason::NoOperand)?;
         return Ok(None);
     };
     if known.form == Form::Dropped {
         asked.tell(
             alloc,
             told,
-            value_of(member),
+            member.text(),
             Deed::Dropped,
             Reason::NoDecision,
         )?;

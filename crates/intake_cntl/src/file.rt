@@ -8,8 +8,7 @@ use crate::print::put_command;
 use crate::scan::{WideCommand, wide_commands};
 use crate::told::{Told, Words};
 use cntl::{CntlError, read_cntl};
-use intake_narrow::{Deed, Reason, Remark};
-use intake_print::Cards;
+use intake_cards::{Deed, PrintedCards, Reason, Remark};
 use intake_wide::Card;
 use std::alloc::{AllocError, Global};
 use terms::CnCode;
@@ -67,7 +66,7 @@ fn append(
     if told.refusals != before {
         return Ok(false);
     }
-    let mut cards = Cards::new(alloc);
+    let mut cards = PrintedCards::new(alloc);
     put_command(alloc, &mut cards, &command)?;
     let records = cards.into_bytes()?;
     let reason = match read_cntl(alloc, &records) {

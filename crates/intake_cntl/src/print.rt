@@ -1,13 +1,13 @@
 //! Commands on cards.
 
 use crate::carry::{Carried, CarriedMember, CarriedOperand, Value};
-use intake_print::Cards;
+use intake_cards::PrintedCards;
 use std::alloc::{AllocError, Global};
 
 /// Puts the command on cards of its own. The error comes where memory runs out.
 pub(crate) fn put_command(
     alloc: Global,
-    cards: &mut Cards,
+    cards: &mut PrintedCards,
     command: &Carried,
 ) -> Result<(), AllocError> {
     cards.begin(command.word)?;
@@ -20,7 +20,7 @@ pub(crate) fn put_command(
 
 fn put_operand(
     alloc: Global,
-    cards: &mut Cards,
+    cards: &mut PrintedCards,
     operand: &CarriedOperand,
 ) -> Result<(), AllocError> {
     match &operand.value {
@@ -37,7 +37,11 @@ fn put_operand(
 }
 
 // Commas between the members, and the parenthesis behind the last one.
-fn put_list(alloc: Global, cards: &mut Cards, members: &[Vec<u8>]) -> Result<(), AllocError> {
+fn put_list(
+    alloc: Global,
+    cards: &mut PrintedCards,
+    members: &[Vec<u8>],
+) -> Result<(), AllocError> {
     let mut left = members.len();
     for member in members {
         left = left.saturating_sub(1);
@@ -49,7 +53,7 @@ fn put_list(alloc: Global, cards: &mut Cards, members: &[Vec<u8>]) -> Result<(),
 
 fn put_members(
     alloc: Global,
-    cards: &mut Cards,
+    cards: &mut PrintedCards,
     members: &[CarriedMember],
 ) -> Result<(), AllocError> {
     let mut left = members.len();

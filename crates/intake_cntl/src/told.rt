@@ -1,6 +1,6 @@
 //! What is told of a command.
 
-use intake_narrow::{Deed, Reason, Remark};
+use intake_cards::{Deed, Reason, Remark};
 use intake_wide::Place;
 use std::alloc::{AllocError, Global};
 

@@ -5,7 +5,7 @@ use clap::error::ErrorKind;
 use clap::{Arg, ArgAction, ArgMatches, Command};
 use fields::Name;
 use intake_cards::{Code, Form};
-use intake_narrow::Syslib;
+use intake_sysmod::Syslib;
 use std::alloc::{AllocError, AllocFailed, Global};
 
 /// What `--version` prints behind the name.

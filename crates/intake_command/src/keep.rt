@@ -12,7 +12,8 @@ ghost use Rattle.intake_command.specs.Keeping.{KeepsService, KeepsCommands, Keep
 use crate::fault::Fault;
 use crate::files::Named;
 use crate::host::Host;
-use intake_print::{are_same_hold_items, are_same_items, hold_file, ptfin};
+use crate::same::{are_same_hold_items, are_same_items};
+use crate::statements::{hold_file, ptfin};
 use mcs::{HoldItem, Item, McsError, read_hold, read_ptfin};
 use std::alloc::{AllocError, Global};
 

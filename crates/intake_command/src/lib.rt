@@ -13,8 +13,10 @@ mod keep;
 mod members;
 mod program;
 mod remarks;
+mod same;
 mod service;
 mod sources;
+mod statements;
 mod summary;
 
 pub use asked::{Asked, WordsFault};
@@ -23,3 +25,5 @@ pub use files::Named;
 pub use host::Host;
 pub use keep::{keep_commands, keep_remarks, keep_service};
 pub use program::command;
+pub use same::{are_same_hold_items, are_same_items};
+pub use statements::{hold_file, ptfin};

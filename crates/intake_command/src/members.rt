@@ -5,7 +5,7 @@ use crate::fault::Fault;
 use crate::host::Host;
 use crate::sources::{Sources, cards_of, read_if_there};
 use fields::Name;
-use intake_narrow::Member;
+use intake_sysmod::Member;
 use intake_wide::{WideElement, WideFile};
 use std::alloc::Global;
 

@@ -1,7 +1,7 @@
 //! The remarks as lines.
 
 use crate::sources::Sources;
-use intake_narrow::Remark;
+use intake_cards::Remark;
 use std::alloc::{AllocError, Global};
 
 /// Appends a line for each remark, with its file and card. The error comes where memory runs out.

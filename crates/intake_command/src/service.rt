@@ -11,7 +11,9 @@ use crate::members::members;
 use crate::remarks::tell;
 use crate::sources::{Sources, cards_of, read};
 use crate::summary::{by_reason, print};
-use intake_narrow::{Deed, NarrowError, Narrowed, Options, Remark, Tally, narrow};
+use intake_cards::{Deed, Remark};
+use intake_narrow::{NarrowError, Narrowed, Tally, narrow};
+use intake_sysmod::Options;
 use intake_wide::{WideFile, read_wide};
 use std::alloc::{AllocError, Global};
 

@@ -3,7 +3,7 @@
 use crate::fault::Fault;
 use crate::files::Named;
 use crate::host::Host;
-use intake_narrow::{Deed, Reason, Remark};
+use intake_cards::{Deed, Reason, Remark};
 use std::alloc::{AllocError, Global};
 
 /// How many remarks say the same.

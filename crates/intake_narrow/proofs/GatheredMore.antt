@@ -17,12 +17,13 @@ use Rattle.intake_wide.specs.declared.items.WideSysmod.{WideSysmod}
 use Rattle.intake_wide.specs.declared.items.WideHold.{WideHold}
 use Rattle.intake_wide.specs.declared.items.WideRelease.{WideRelease}
 use Rattle.intake_wide.specs.declared.items.WideFile.{WideFile}
-use Rattle.intake_narrow.specs.NoLooser.{IsNoLooser, IsCarriedOf}
-use Rattle.intake_narrow.specs.Holds.{IsHold, IsOutside, IsHeldBy, IsAHold, IsRelease, IsReleased, IsStatedRelease}
+use Rattle.intake_sysmod.specs.NoLooser.{IsNoLooser}
+use Rattle.intake_narrow.specs.Carried.{IsCarriedOf}
+use Rattle.intake_narrow.specs.Holds.{IsHold, IsRelease, IsOutside, IsHeldBy, IsAHold, IsReleased, IsStatedRelease}
 use Rattle.intake_narrow.specs.Holds.{AreHeld}
 use Rattle.intake_narrow.specs.Holds.{holds_in, holds_inside, stated_holds}
 use Rattle.intake_narrow.specs.Gathered.{item_in, AreSysmodsOf, AreFilesOf}
-use Rattle.intake_narrow.proofs.Quantified.{Any_append_right, All_permuted}
+use Rattle.intake_sysmod.proofs.Quantified.{Any_append_right, All_permuted}
 use Rattle.intake_narrow.proofs.Held.{held_permuted, all_held_more, all_held_later}
 use Rattle.intake_narrow.proofs.Held.{released_more, released_later, released_permuted}
 
@@ -246,8 +247,8 @@ held_in_order files items assigns outside other same are = record {
 
 -- ---- as a loop goes over them
 
-pub next_sysmods : (decide : Bool) (xs : List WideSysmod) (items new : List Item) (outside after : List HoldItem) (i : ℕ)
-    (s : WideSysmod) (o : Option terms.Sysmod) (others : List HoldItem) → i < length xs → s ≡ get_or xs i s
+pub next_sysmods : (decide : Bool) (xs : List WideSysmod) (items new : List Item) (outside after : List HoldItem)
+    (i : ℕ) (s : WideSysmod) (o : Option terms.Sysmod) (others : List HoldItem) → i < length xs → s ≡ get_or xs i s
     → new ≡ items ++ item_in o → after ≡ outside ++ others → IfSome o (IsNoLooser decide s)
     → All (IsHeldBy (holds_inside (item_in o)) others) s.holds.items → All IsAHold others
     → AreSysmodsOf decide (take i xs) items outside → AreSysmodsOf decide (take (i + 1) xs) new after
@@ -262,8 +263,9 @@ pub sysmods_whole : (decide : Bool) (xs : List WideSysmod) (items : List Item) (
 sysmods_whole decide xs items outside i whole are =
     subst (λ l. AreSysmodsOf decide l items outside) (take_all i xs whole) are
 
-pub next_files : (decide : Bool) (xs : List WideFile) (items new other : List Item) (outside after others : List HoldItem)
-    (i : ℕ) (f : WideFile) → i < length xs → f ≡ get_or xs i f → new ≡ items ++ other → after ≡ outside ++ others
+pub next_files : (decide : Bool) (xs : List WideFile) (items new other : List Item)
+    (outside after others : List HoldItem) (i : ℕ) (f : WideFile) → i < length xs → f ≡ get_or xs i f
+    → new ≡ items ++ other → after ≡ outside ++ others
     → AreFilesOf decide (f ∷ []) other others → AreFilesOf decide (take i xs) items outside
     → AreFilesOf decide (take (i + 1) xs) new after
 next_files decide xs items new other outside after others i f below at items_are outside_are one are =

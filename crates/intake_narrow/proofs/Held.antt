@@ -10,8 +10,9 @@ use Rattle.mcs.specs.declared.hold_item.HoldItem.{HoldItem}
 use Rattle.mcs.specs.declared.hold_item.HoldItem.TheVariants.{Hold, Release}
 use Rattle.intake_wide.specs.declared.items.WideHold.{WideHold}
 use Rattle.intake_wide.specs.declared.items.WideRelease.{WideRelease}
-use Rattle.intake_narrow.specs.Holds.{IsHold, IsAHold, IsOutside, IsRelease, IsReleasedBy, IsStatedRelease, IsHeldBy, IsReleased}
-use Rattle.intake_narrow.proofs.Quantified.{Any_append_right, Any_permuted}
+use Rattle.intake_narrow.specs.Holds.{IsHold, IsRelease, IsAHold, IsOutside, IsReleasedBy, IsStatedRelease}
+use Rattle.intake_narrow.specs.Holds.{IsHeldBy, IsReleased}
+use Rattle.intake_sysmod.proofs.Quantified.{Any_append_right, Any_permuted}
 
 pub held_more : (inside more : List terms.Hold) (outside others : List HoldItem) (w : WideHold)
     → IsHeldBy inside outside w → IsHeldBy (inside ++ more) (outside ++ others) w

@@ -9,7 +9,8 @@ use Rattle.intake_wide.specs.declared.items.WideSysmod.{WideSysmod}
 use Rattle.intake_wide.specs.declared.items.WideFile.{WideFile}
 use Rattle.intake_narrow.specs.declared.placed.Placed.{Placed}
 use Rattle.intake_narrow.specs.declared.sysmods.Part.{Part}
-use Rattle.intake_narrow.specs.NoLooser.{IsNoLooser, IsCarriedOf}
+use Rattle.intake_sysmod.specs.NoLooser.{IsNoLooser}
+use Rattle.intake_narrow.specs.Carried.{IsCarriedOf}
 use Rattle.intake_narrow.specs.Holds.{IsHeldBy, IsAHold, holds_inside, AreHeld}
 
 abbrev pub placed_items : List Placed → List HoldItem

@@ -17,7 +17,7 @@ use Rattle.mcs.specs.declared.file.Item.{Item}
 use Rattle.mcs.specs.declared.file.Item.TheVariants.{Sysmod, Assign}
 use Rattle.mcs.specs.declared.hold_item.HoldItem.{HoldItem}
 use Rattle.mcs.specs.declared.hold_item.HoldItem.TheVariants.{Hold, Release}
-use Rattle.intake_narrow.specs.Stated.{text_in}
+use Rattle.intake_wide.specs.Stated.{text_in}
 
 abbrev pub wide_kind : HoldKind → WideHoldKind
 wide_kind kind.Error = Error

@@ -1,4 +1,3 @@
-pub mod Stated
-pub mod NoLooser
+pub mod Carried
 pub mod Holds
 pub mod Gathered

@@ -2,15 +2,15 @@
 ghost use Rattle.std.specs.Prelude.{◌≡◌, ◌++◌, IfOk, map};
 ghost use Rattle.mcs.specs.declared.file.Item.TheVariants as item;
 
-use crate::ids::MOST_IDS;
-use crate::odd::tell_odd;
-use crate::remark::{Deed, Reason};
-use crate::remarks::{Remarks, Subject};
 use fields::{Id, Source};
-use intake_wide::{WideAssign, WideFile};
+use intake_cards::{Deed, Reason, Remarks, Subject};
+use intake_wide::{WideAssign, WideFile, tell_odd};
 use mcs::{Assign, Item};
 use std::alloc::{AllocError, Global};
 use std::collections::BTreeSet;
+
+/// The most ids that an assignment may have.
+const MOST_IDS: usize = 1000;
 
 /// The source of the SYSMODs with stand-ins.
 const STAND_IN: &[u8] = b"STANDIN";
@@ -48,14 +48,7 @@ fn ids_of(
         if seen.insert(id)? {
             ids.push(id)?;
         } else {
-            remarks.tell(
-                alloc,
-                subject,
-                b"TO",
-                Deed::Carried,
-                Reason::Double,
-                text.as_slice(),
-            )?;
+            remarks.tell_carried(alloc, subject, b"TO", Reason::Double, text.as_slice())?;
         }
     }
     Ok(ids)
@@ -94,7 +87,7 @@ fn put_assign(
     }
     let ids = ids_of(alloc, remarks, &subject, stated.to.as_slice())?;
     if ids.len() > MOST_IDS {
-        remarks.tell(alloc, &subject, b"TO", Deed::Carried, Reason::Split, b"")?;
+        remarks.tell_carried(alloc, &subject, b"TO", Reason::Split, b"")?;
     }
     put_each(alloc, assigns, source, ids.as_slice())
 }

@@ -1,8 +1,6 @@
 //! COMMENT of a hold.
 
-use crate::remark::{Deed, Reason};
-use crate::remarks::{Remarks, Subject};
-use intake_print::laid_out;
+use intake_cards::{Reason, Remarks, Subject, laid_out};
 use std::alloc::{AllocError, Global};
 
 /// The most characters that a COMMENT may have.
@@ -22,19 +20,10 @@ fn is_parenthesis(byte: u8) -> bool {
     byte == b'(' || byte == b')'
 }
 
-/// Without the blanks at its end.
-pub(crate) fn without_blanks(text: &[u8]) -> &[u8] {
-    let blanks = text.iter().rev().take_while(|b| **b == b' ').count();
-    match text.split_at_checked(text.len().saturating_sub(blanks)) {
-        Some((front, _)) => front,
-        None => text,
-    }
-}
-
-/// The first 200 characters.
+/// The first 200 characters, without blanks at their end.
 fn cut(text: &[u8]) -> &[u8] {
     match text.split_at_checked(LONGEST) {
-        Some((front, _)) => without_blanks(front),
+        Some((front, _)) => front.trim_ascii_end(),
         None => text,
     }
 }
@@ -65,14 +54,7 @@ pub(crate) fn comment_of(
         laid.as_slice(),
     )?;
     if short.is_empty() {
-        remarks.tell(
-            alloc,
-            subject,
-            b"COMMENT",
-            Deed::Dropped,
-            Reason::BadValue,
-            b"",
-        )?;
+        remarks.tell_dropped(alloc, subject, b"COMMENT", Reason::BadValue, b"")?;
         return Ok(None);
     }
     match String::from_utf8(Vec::from_slice(alloc, short)?) {
@@ -102,7 +84,7 @@ fn tell(
     let mut text = stated;
     for (applies, reason) in cases {
         if applies {
-            remarks.tell(alloc, subject, b"COMMENT", Deed::Carried, reason, text)?;
+            remarks.tell_carried(alloc, subject, b"COMMENT", reason, text)?;
             text = b"";
         }
     }

@@ -1,19 +1,19 @@
 //! The statements of files.
 ghost use Rattle.std.specs.Prelude.{◌≡◌, ◌++◌, ◌∷◌, [], IfOk, All};
 ghost use Rattle.std.specs.List.{flat_map};
-ghost use Rattle.intake_narrow.specs.NoLooser.{IsCarriedOf};
+ghost use Rattle.intake_narrow.specs.Carried.{IsCarriedOf};
 ghost use Rattle.intake_narrow.specs.Holds.{AreHeld};
 ghost use Rattle.intake_narrow.specs.Gathered.{placed_items, item_in, AreSysmodsOf, AreFilesOf};
 
 use crate::assigns::{assigns_of, with_assigns};
+use crate::errors::HoldError;
 use crate::narrowed::{NarrowError, Narrowed};
-use crate::options::Options;
-use crate::others::{tell_notes, tell_others};
+use crate::notes::tell_notes;
 use crate::placed::{Placed, in_order, placed_holds, placed_releases};
 use crate::refusals::tell_refusals;
-use crate::remarks::Remarks;
-use crate::stop::Stop;
 use crate::sysmods::{Part, part_of};
+use intake_cards::Remarks;
+use intake_sysmod::{Options, tell_others};
 use intake_wide::WideFile;
 use mcs::Item;
 use std::alloc::{AllocError, Global};
@@ -47,7 +47,7 @@ fn sysmods_of(
     options: &Options,
     remarks: &mut Remarks,
     file: &WideFile,
-) -> Result<Gathered, Stop>
+) -> Result<Gathered, HoldError>
     ensures { IfOk result (λ all. AreSysmodsOf options.now.decide file.now.sysmods.items all.items.items
         (placed_items all.outside.items)) }
 {
@@ -96,7 +96,7 @@ fn of_file(
     options: &Options,
     remarks: &mut Remarks,
     file: &WideFile,
-) -> Result<Gathered, Stop>
+) -> Result<Gathered, HoldError>
     ensures { IfOk result (λ all. AreFilesOf options.now.decide (file.now ∷ []) all.items.items
         (placed_items all.outside.items)) }
 {
@@ -116,7 +116,7 @@ fn of_files(
     options: &Options,
     remarks: &mut Remarks,
     files: &[WideFile],
-) -> Result<Gathered, Stop>
+) -> Result<Gathered, HoldError>
     ensures { IfOk result (λ all. AreFilesOf options.now.decide files.now all.items.items
         (placed_items all.outside.items)) }
 {
@@ -162,8 +162,8 @@ pub fn narrow(alloc: Global, files: &[WideFile], options: Options) -> Result<Nar
     }
     let gathered = match of_files(alloc, &options, &mut remarks, files) {
         Ok(gathered) => gathered,
-        Err(Stop::Memory) => return Err(NarrowError::Memory),
-        Err(Stop::BadHold) => return Err(NarrowError::Refused(remarks.list)),
+        Err(HoldError::Memory) => return Err(NarrowError::Memory),
+        Err(HoldError::BadHold) => return Err(NarrowError::Refused(remarks.list)),
     };
     let assigns = assigns_of(alloc, &mut remarks, files)?;
     let items = with_assigns(alloc, gathered.items, assigns)?;

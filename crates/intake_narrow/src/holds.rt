@@ -3,16 +3,16 @@ ghost use Rattle.std.specs.Prelude.{◌≡◌, Some, IfOk, IfSome, IfNone, IsTru
 ghost use Rattle.terms.specs.declared.kinds.HoldKind.TheVariants.{System};
 ghost use Rattle.terms.specs.Forms.{IsClass, IsDate, IsReason};
 ghost use Rattle.intake_wide.specs.declared.items.WideHoldKind.TheVariants.{Fixcat};
-ghost use Rattle.intake_narrow.specs.Stated.{text_in};
+ghost use Rattle.intake_wide.specs.Stated.{text_in};
 ghost use Rattle.intake_narrow.specs.Holds.{wide_kind, IsFormed, IsKey, IsHoldKey, IsHold, IsRelease};
 
 use crate::comment::comment_of;
-use crate::odd::{tell_odd, tell_operands};
-use crate::remark::{Deed, Reason};
-use crate::remarks::{Remarks, Subject};
-use crate::stop::Stop;
+use crate::errors::HoldError;
 use fields::{Class, HoldDate, Id, Reason as HoldReason};
-use intake_wide::{WideHold, WideHoldKind, WideRelease};
+use intake_cards::{Deed, Reason, Remarks, Subject};
+use intake_wide::{
+    OddOperand, WideHold, WideHoldKind, WideOperand, WideRelease, tell_no_decision, tell_odd,
+};
 use mcs::Release;
 use std::alloc::{AllocError, Global};
 use sysmod::Hold;
@@ -161,14 +161,7 @@ fn class_of(
     };
     let class = Class::read(text.as_slice());
     if class.is_none() {
-        remarks.tell(
-            alloc,
-            subject,
-            b"CLASS",
-            Deed::Dropped,
-            Reason::BadValue,
-            text.as_slice(),
-        )?;
+        remarks.tell_dropped(alloc, subject, b"CLASS", Reason::BadValue, text.as_slice())?;
     }
     Ok(class)
 }
@@ -187,14 +180,7 @@ fn date_of(
     };
     let date = HoldDate::read(text.as_slice());
     if date.is_none() {
-        remarks.tell(
-            alloc,
-            subject,
-            b"DATE",
-            Deed::Dropped,
-            Reason::BadValue,
-            text.as_slice(),
-        )?;
+        remarks.tell_dropped(alloc, subject, b"DATE", Reason::BadValue, text.as_slice())?;
     }
     Ok(date)
 }
@@ -234,14 +220,42 @@ fn is_internal(key: &Release, own: Option<Id>) -> bool
     key.kind == HoldKind::System && own == Some(key.id)
 }
 
-/// The hold, or nothing for FIXCAT. `own` is the SYSMOD that it stands in. What differs is told. `BadHold` comes where
-/// it can't be said, `Memory` where memory runs out.
+/// Tells that it is left out, since it is of FIXCAT.
+fn tell_fixcat(
+    alloc: Global,
+    remarks: &mut Remarks,
+    subject: &Subject<'_>,
+) -> Result<(), AllocError> {
+    remarks.tell(
+        alloc,
+        subject,
+        b"FIXCAT",
+        Deed::LeftOut,
+        Reason::Fixcat,
+        b"",
+    )
+}
+
+/// Tells of the operands that are dropped, those that are odd too.
+fn tell_operands(
+    alloc: Global,
+    remarks: &mut Remarks,
+    subject: &Subject<'_>,
+    dropped: &[WideOperand],
+    odd: &[OddOperand],
+) -> Result<(), AllocError> {
+    tell_no_decision(alloc, remarks, subject, dropped)?;
+    tell_odd(alloc, remarks, subject, odd, Deed::Dropped)
+}
+
+/// The hold, or nothing for FIXCAT. `own` is the SYSMOD that it stands in: it is internal where it is a SYSTEM hold on
+/// that one. What differs is told. `BadHold` comes where it can't be said, `Memory` where memory runs out.
 pub(crate) fn carried_hold(
     alloc: Global,
     remarks: &mut Remarks,
     stated: &WideHold,
     own: Option<Id>,
-) -> Result<Option<Hold>, Stop>
+) -> Result<Option<Hold>, HoldError>
     ensures some { IfOk result (λ found. IfSome found (IsHold stated.now)) }
     ensures internal { IfOk result (λ found. IfSome found (λ hold. IsTrue hold.internal
         → (hold.kind ≡ System) × (own ≡ Some hold.id))) }
@@ -253,34 +267,18 @@ pub(crate) fn carried_hold(
         id: stated.id.as_slice(),
     };
     let Ok(key) = hold_key(stated) else {
-        return Err(Stop::BadHold);
+        return Err(HoldError::BadHold);
     };
     let Some(key) = key else {
-        remarks.tell(
-            alloc,
-            &subject,
-            b"FIXCAT",
-            Deed::LeftOut,
-            Reason::Fixcat,
-            b"",
-        )?;
+        tell_fixcat(alloc, remarks, &subject)?;
         return Ok(None);
     };
-    let dropped = stated.dropped.as_slice();
     tell_operands(
         alloc,
         remarks,
         &subject,
-        dropped,
-        Deed::Dropped,
-        Reason::NoDecision,
-    )?;
-    tell_odd(
-        alloc,
-        remarks,
-        &subject,
+        stated.dropped.as_slice(),
         stated.odd.as_slice(),
-        Deed::Dropped,
     )?;
     let internal = is_internal(&key, own);
     Ok(Some(hold_of(alloc, remarks, &subject, stated, key, internal)?))
@@ -292,7 +290,7 @@ pub(crate) fn carried_release(
     alloc: Global,
     remarks: &mut Remarks,
     stated: &WideRelease,
-) -> Result<Option<Release>, Stop>
+) -> Result<Option<Release>, HoldError>
     ensures some { IfOk result (λ found. IfSome found (IsRelease stated.now)) }
     ensures none { IfOk result (λ found. IfNone found (stated.now.kind ≡ Some Fixcat)) }
 {
@@ -302,34 +300,18 @@ pub(crate) fn carried_release(
         id: stated.id.as_slice(),
     };
     let Ok(key) = release_key(stated) else {
-        return Err(Stop::BadHold);
+        return Err(HoldError::BadHold);
     };
     if key.is_none() {
-        remarks.tell(
-            alloc,
-            &subject,
-            b"FIXCAT",
-            Deed::LeftOut,
-            Reason::Fixcat,
-            b"",
-        )?;
+        tell_fixcat(alloc, remarks, &subject)?;
         return Ok(None);
     }
-    let dropped = stated.dropped.as_slice();
     tell_operands(
         alloc,
         remarks,
         &subject,
-        dropped,
-        Deed::Dropped,
-        Reason::NoDecision,
-    )?;
-    tell_odd(
-        alloc,
-        remarks,
-        &subject,
+        stated.dropped.as_slice(),
         stated.odd.as_slice(),
-        Deed::Dropped,
     )?;
     Ok(key)
 }

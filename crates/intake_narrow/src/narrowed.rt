@@ -1,8 +1,7 @@
 //! What comes of narrowing.
 ghost use Rattle.std.specs.Prelude.{◌≡◌};
 
-use crate::remark::{Deed, Reason, Remark};
-use crate::remarks::Remarks;
+use intake_cards::{Deed, Reason, Remark, Remarks};
 use intake_wide::Place;
 use mcs::{HoldItem, Item};
 use std::alloc::{AllocError, AllocFailed};

@@ -4,9 +4,9 @@ ghost use Rattle.mcs.specs.declared.hold_item.HoldItem.TheVariants.{Hold as AHol
 ghost use Rattle.intake_narrow.specs.Holds.{IsHeldBy, IsAHold, IsReleased, IsStatedRelease};
 ghost use Rattle.intake_narrow.specs.Gathered.{placed_items};
 
+use crate::errors::HoldError;
 use crate::holds::{carried_hold, carried_release};
-use crate::remarks::Remarks;
-use crate::stop::Stop;
+use intake_cards::Remarks;
 use intake_wide::{Place, WideHold, WideRelease};
 use mcs::{HoldItem, Release};
 use std::alloc::{AllocError, Global};
@@ -50,7 +50,7 @@ pub(crate) fn placed_holds(
     alloc: Global,
     remarks: &mut Remarks,
     stated: &[WideHold],
-) -> Result<Vec<Placed>, Stop>
+) -> Result<Vec<Placed>, HoldError>
     ensures held { IfOk result (λ placed. All (IsHeldBy [] (placed_items placed.items)) stated.now) }
     ensures holds { IfOk result (λ placed. All IsAHold (placed_items placed.items)) }
 {
@@ -69,7 +69,7 @@ pub(crate) fn placed_releases(
     alloc: Global,
     remarks: &mut Remarks,
     stated: &[WideRelease],
-) -> Result<Vec<Placed>, Stop>
+) -> Result<Vec<Placed>, HoldError>
     ensures released { IfOk result (λ placed. All (IsReleased (placed_items placed.items)) stated.now) }
     ensures stated { IfOk result (λ placed. All (IsStatedRelease stated.now) (placed_items placed.items)) }
 {

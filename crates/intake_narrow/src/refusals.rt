@@ -1,10 +1,7 @@
 //! Holds and releases that can't be carried. With one of them nothing is carried at all.
 
 use crate::holds::{Fault, hold_key, release_key};
-use crate::odd::{reason_of, value_of};
-use crate::others::{is_broken_hold, tell_broken_hold};
-use crate::remark::Deed;
-use crate::remarks::{Remarks, Subject};
+use intake_cards::{Deed, Reason, Remarks, Subject};
 use intake_wide::{OddOperand, WideFile, WideHold, WideOther, WideRelease};
 use std::alloc::{AllocError, Global};
 
@@ -29,15 +26,8 @@ fn tell_fault(
     if let Some(one) = open_key(odd) {
         let operand = &one.operand;
         let name = operand.name.as_slice();
-        let reason = reason_of(one.reason);
-        remarks.tell(
-            alloc,
-            subject,
-            name,
-            Deed::Refused,
-            reason,
-            value_of(operand),
-        )?;
+        let reason = Reason::from(one.reason);
+        remarks.tell(alloc, subject, name, Deed::Refused, reason, operand.text())?;
         return Ok(true);
     }
     match fault {
@@ -94,6 +84,32 @@ fn tell_holds(
     Ok(any)
 }
 
+/// Whether it is a hold or a release that has something wrong with it.
+fn is_broken_hold(other: &WideOther) -> bool {
+    let word = other.word.as_slice();
+    word == b"HOLD".as_slice() || word == b"RELEASE".as_slice()
+}
+
+fn tell_broken_hold(
+    alloc: Global,
+    remarks: &mut Remarks,
+    other: &WideOther,
+) -> Result<(), AllocError> {
+    let subject = Subject {
+        place: other.place,
+        word: other.word.as_slice(),
+        id: other.name.as_slice(),
+    };
+    remarks.tell(
+        alloc,
+        &subject,
+        b"",
+        Deed::Refused,
+        Reason::from(other.reason),
+        b"",
+    )
+}
+
 fn tell_broken(
     alloc: Global,
     remarks: &mut Remarks,
@@ -109,7 +125,9 @@ fn tell_broken(
     Ok(any)
 }
 
-/// Tells of the holds and releases of a file that can't be carried, and answers whether there are any.
+/// Tells of the holds and releases of a file that can't be carried, those in SYSMODs too, and answers whether there
+/// are any. These lack something that tells a hold from others, or leave it open, or have something wrong with them.
+/// The error comes where memory runs out.
 pub(crate) fn tell_refusals(
     alloc: Global,
     remarks: &mut Remarks,

@@ -6,7 +6,17 @@ mod cards;
 #[cfg(test)]
 mod commands;
 #[cfg(test)]
-mod narrow;
+mod narrow_elements;
+#[cfg(test)]
+mod narrow_holds;
+#[cfg(test)]
+mod narrow_lines;
+#[cfg(test)]
+mod narrow_long;
+#[cfg(test)]
+mod narrow_stand_ins;
+#[cfg(test)]
+mod narrow_sysmods;
 #[cfg(test)]
 mod program;
 #[cfg(test)]

@@ -93,12 +93,15 @@ const FILES: &[(&[u8], &[u8])] = &[
         b"; PTF A; VER SREL Z038; MAC M1 DISTLIB(D) SYSLIB(S) SSI(1) MALIAS(X,Y) +4",
     ),
     (
-        b"++PTF(A).\n++MOD(M1) DISTLIB(D) DISTLIB(E) SYSLIB RELFILE(2) LMOD(L).\n\n/* END */\n++ZAP(M2) DISTLIB(D).\n NAME M2\n",
+        b"++PTF(A).\n++MOD(M1) DISTLIB(D) DISTLIB(E) SYSLIB RELFILE(2) LMOD(L).\n\n/* END */\n\
+        ++ZAP(M2) DISTLIB(D).\n NAME M2\n",
         b"; PTF A; MOD M1 DISTLIB(D) RELFILE(2) LMOD(L) again:DISTLIB(E) bad:SYSLIB +0; ZAP M2 DISTLIB(D) +1",
     ),
     (
-        b"++PTF(A).\n++SAMPENU(S1) TXLIB(T).\n++PNLJPN(P1) LKLIB(L) FROMDS(DSN(X)).\n++HFS(H1) PARM(PATHMODE(0,7)).\nX\n",
-        b"; PTF A; SAMPENU S1 in TXLIB(T) +0; PNLJPN P1 in LKLIB(L) in FROMDS(DSN(X)) +0; HFS H1 PARM(PATHMODE(0,7)) +1",
+        b"++PTF(A).\n++SAMPENU(S1) TXLIB(T).\n++PNLJPN(P1) LKLIB(L) FROMDS(DSN(X)).\n\
+        ++HFS(H1) PARM(PATHMODE(0,7)).\nX\n",
+        b"; PTF A; SAMPENU S1 in TXLIB(T) +0; PNLJPN P1 in LKLIB(L) in FROMDS(DSN(X)) +0\
+        ; HFS H1 PARM(PATHMODE(0,7)) +1",
     ),
     (
         b"++PTF(A).\n++MAC(M1) DELETE.\n++MACUPD(M2).\n./ CHANGE NAME=M2\n",
@@ -106,7 +109,8 @@ const FILES: &[(&[u8], &[u8])] = &[
     ),
     // other statements
     (
-        b"++PTF(A).\n++JCLIN.\n//S EXEC PGM=IEWL,\n// PARM='A'\n++MOVE(M) DISTLIB(D) TODISTLIB(E).\n++DELETE(L) SYSLIB(S).",
+        b"++PTF(A).\n++JCLIN.\n//S EXEC PGM=IEWL,\n// PARM='A'\n++MOVE(M) DISTLIB(D) TODISTLIB(E).\n\
+        ++DELETE(L) SYSLIB(S).",
         b"; PTF A; load modules: JCLIN  +2; load modules: MOVE M DISTLIB(D) TODISTLIB(E) +0\
         ; load modules: DELETE L SYSLIB(S) +0",
     ),
@@ -256,7 +260,8 @@ fn refused(rt: HostRuntime) -> Result<(), Fail> {
 /// Files, and their items with what is noted.
 const NOTED: &[(&[u8], &[u8])] = &[
     (
-        b"++ptf(ua00001) desc(First Fix).\n++ver(z038)\n fmid(haa1100).\n++hold(A) comment(Text).\n++MOD(a) RELFILE(1).",
+        b"++ptf(ua00001) desc(First Fix).\n++ver(z038)\n fmid(haa1100).\n++hold(A) comment(Text).\n\
+        ++MOD(a) RELFILE(1).",
         b"; PTF UA00001 -DESC(First Fix); VER SREL Z038 FMID(HAA1100); HOLD A COMMENT(Text); MOD A RELFILE(1) +0\
         ; lower 1 x 4",
     ),

@@ -1,5 +1,5 @@
-//! A service file whose statements are split over cards in every way, with a comment at every place, and cut behind each
-//! byte.
+//! A service file whose statements are split over cards in every way, with a comment at every place, and cut behind
+//! each byte.
 
 use crate::wide_spelled::{Spelled, items};
 use std::alloc::{AllocError, Global};

@@ -4,7 +4,8 @@ use intake_cards::Place;
 use std::alloc::{AllocError, AllocFailed};
 use thiserror::Error;
 
-/// Why a file of statements is not read: want of memory, or its first fault of those that no SYSMOD can be left out for.
+/// Why a file of statements is not read: want of memory, or its first fault of those that no SYSMOD can be left out
+/// for.
 #[derive(Debug, Drop, Error)]
 pub enum WideError {
     #[error("out of memory")]

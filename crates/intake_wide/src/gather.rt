@@ -85,8 +85,8 @@ impl Gathered {
         Ok(())
     }
 
-    /// Adds to the SYSMOD a statement that is none of the others. The error comes where no SYSMOD is begun, or where the
-    /// statement may not be left out.
+    /// Adds to the SYSMOD a statement that is none of the others. The error comes where no SYSMOD is begun, or where
+    /// the statement may not be left out.
     fn add_other(
         &mut self,
         reason: OtherReason,

@@ -12,6 +12,16 @@ pub struct WideOperand {
     pub value: Option<Vec<u8>>,
 }
 
+impl WideOperand {
+    /// What its parentheses hold, and nothing where it has none.
+    pub fn text(&self) -> &[u8] {
+        match &self.value {
+            Some(value) => value.as_slice(),
+            None => b"",
+        }
+    }
+}
+
 /// Why an operand could not be taken for what its name says.
 #[derive(Clone, Copy, Debug, PartialEq, Eq)]
 pub enum OddReason {

@@ -1,4 +1,5 @@
-//! The statements of a shop's files, in the wide grammar of SMP/E, as plain structs.
+//! The statements of a shop's files, in the wide grammar of SMP/E, as plain structs, and what is told of those that
+//! could not be taken for what they say.
 #![tactic(auto)]
 
 mod errors;
@@ -9,7 +10,8 @@ mod made;
 mod operands;
 mod read;
 mod statement;
-pub mod words;
+mod told;
+mod words;
 
 pub use errors::WideError;
 pub use intake_cards::{Card, Place};
@@ -19,3 +21,4 @@ pub use items::{
 };
 pub use known::is_element;
 pub use read::read_wide;
+pub use told::{tell_no_decision, tell_odd};

@@ -3,8 +3,8 @@ use crate::items::{OddOperand, OddReason, WideOperand};
 use std::alloc::{AllocError, Global};
 use std::mem;
 
-/// The members of a list in upper case, which blanks and commas separate. None: there are none, or one has a list of its
-/// own.
+/// The members of a list in upper case, which blanks and commas separate. None: there are none, or one has a list of
+/// its own.
 pub(crate) fn members(alloc: Global, text: &[u8]) -> Result<Option<Vec<Vec<u8>>>, AllocError> {
     let mut found = Vec::new(alloc);
     let mut member = Vec::new(alloc);

@@ -148,8 +148,8 @@ impl Reader {
 
 /// The statements of a file's cards. `NoStatement` comes where more than blanks and comments stands before the first
 /// statement, `OpenComment` where a comment is open behind the last card, and `Statement` where a hold, a release or an
-/// assignment has something wrong with it, or a statement that belongs to a SYSMOD or that is not known stands before the
-/// first SYSMOD.
+/// assignment has something wrong with it, or a statement that belongs to a SYSMOD or that is not known stands before
+/// the first SYSMOD.
 pub fn read_wide(alloc: Global, cards: &[Card]) -> Result<WideFile, WideError> {
     let mut reader = Reader {
         alloc,

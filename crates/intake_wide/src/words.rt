@@ -1,5 +1,5 @@
-//! The words of cards, one after the other: words, what stands in parentheses, periods. Comments separate them, and so do
-//! blanks, commas and the ends of cards; in parentheses a comment is a blank, but in those of a text (COMMENT, DESC)
+//! The words of cards, one after the other: words, what stands in parentheses, periods. Comments separate them, and so
+//! do blanks, commas and the ends of cards; in parentheses a comment is a blank, but in those of a text (COMMENT, DESC)
 //! it belongs to the text.
 use intake_cards::{Card, Place};
 use std::alloc::{AllocError, Global};
@@ -7,7 +7,7 @@ use std::mem;
 
 /// What a piece is.
 #[derive(Drop)]
-pub enum Token {
+pub(crate) enum Token {
     /// Letters, digits, `$`, `#`, `@` and other characters of names, the letters in upper case.
     Word(Vec<u8>),
     /// What stands in parentheses, as it is, inner parentheses too. Blanks at either end of a card are left away, and
@@ -22,7 +22,7 @@ pub enum Token {
 
 /// A word, a list or another character, and the card where it begins.
 #[derive(Drop)]
-pub struct Piece {
+pub(crate) struct Piece {
     pub place: Place,
     pub token: Token,
 }
@@ -42,7 +42,7 @@ enum State {
 
 /// What is open where the cards end that a scanner has taken.
 #[derive(Clone, Copy, Debug, PartialEq, Eq)]
-pub enum Open {
+pub(crate) enum Open {
     Nothing,
     /// Parentheses, and where the first of them opens.
     Parenthesis(Place),
@@ -52,7 +52,7 @@ pub enum Open {
 
 /// Takes cards, one after the other, and finds their pieces.
 #[derive(Drop)]
-pub struct Scanner {
+pub(crate) struct Scanner {
     alloc: Global,
     state: State,
     /// How many parentheses are open.
@@ -85,7 +85,7 @@ fn has_text(word: &[u8]) -> bool {
 
 impl Scanner {
     /// A scanner that has taken no card.
-    pub fn new(alloc: Global) -> Scanner {
+    pub(crate) fn new(alloc: Global) -> Scanner {
         let nowhere = Place { file: 0, card: 0 };
         Scanner {
             alloc,
@@ -104,7 +104,7 @@ impl Scanner {
     }
 
     /// What is open behind the cards that were taken.
-    pub fn open(&self) -> Open {
+    pub(crate) fn open(&self) -> Open {
         match self.state {
             State::Comment | State::Star => Open::Comment(self.comment_place),
             _ => {
@@ -118,22 +118,22 @@ impl Scanner {
     }
 
     /// The pieces so far.
-    pub fn pieces(&self) -> &[Piece] {
+    pub(crate) fn pieces(&self) -> &[Piece] {
         self.pieces.as_slice()
     }
 
     /// Whether a word so far has a letter in lower case, since pieces were taken last.
-    pub fn has_lower(&self) -> bool {
+    pub(crate) fn has_lower(&self) -> bool {
         self.has_lower
     }
 
     /// Whether a period is among the pieces so far.
-    pub fn has_period(&self) -> bool {
+    pub(crate) fn has_period(&self) -> bool {
         self.has_period
     }
 
     /// Takes the pieces so far out of it. Parentheses that are open are forgotten, and a comment stays open.
-    pub fn take_pieces(&mut self) -> Vec<Piece> {
+    pub(crate) fn take_pieces(&mut self) -> Vec<Piece> {
         self.depth = 0;
         self.has_lower = false;
         self.has_period = false;
@@ -145,7 +145,7 @@ impl Scanner {
     }
 
     /// Takes columns of a card, up to column 72. The error comes where memory runs out.
-    pub fn take(&mut self, place: Place, columns: &[u8]) -> Result<(), AllocError> {
+    pub(crate) fn take(&mut self, place: Place, columns: &[u8]) -> Result<(), AllocError> {
         for byte in columns {
             self.byte(place, *byte)?;
         }
@@ -153,7 +153,7 @@ impl Scanner {
     }
 
     /// Takes columns 1 to 72 of a card. The error comes where memory runs out.
-    pub fn take_card(&mut self, card: &Card) -> Result<(), AllocError> {
+    pub(crate) fn take_card(&mut self, card: &Card) -> Result<(), AllocError> {
         self.take(card.place, card.columns())
     }
 

@@ -1,6 +1,6 @@
 //! Text cards as records, and what is read from them as text.
 
-use fields::IdList;
+use fields::{Id, IdList, Name};
 use rec80::Record;
 use std::alloc::{AllocError, Global};
 
@@ -20,6 +20,16 @@ pub(crate) fn file(alloc: Global, cards: &[&str]) -> Result<Vec<u8>, AllocError>
         bytes.extend_from_slice(&record(card))?;
     }
     Ok(bytes)
+}
+
+/// The id of this text.
+pub(crate) fn id(text: &[u8]) -> Result<Id, &'static str> {
+    Id::read(text).ok_or("no id")
+}
+
+/// The name of this text.
+pub(crate) fn name(text: &[u8]) -> Result<Name, &'static str> {
+    Name::read(text).ok_or("no name")
 }
 
 /// A text of up to 240 bytes. What does not fit is left out.

@@ -29,15 +29,20 @@ fn ids_in(alloc: Global, cards: &[Record], name: &[u8]) -> Spelled {
     spelled
 }
 
+fn put_sources(spelled: &mut Spelled, sources: &[Source]) {
+    for source in sources {
+        spelled.put(source.as_bytes());
+    }
+}
+
 fn sources_in(alloc: Global, cards: &[Record], name: &[u8]) -> Spelled {
     let mut spelled = Spelled::new();
     let Some(word) = operand_in(cards, name) else {
         return spelled;
     };
-    if let Ok(list) = rising::<Source>(alloc, &word) {
-        for source in list.iter() {
-            spelled.put(source.as_bytes());
-        }
+    match rising::<Source>(alloc, &word) {
+        Ok(list) => put_sources(&mut spelled, list.as_slice()),
+        Err(_) => spelled.put(b"bad"),
     }
     spelled
 }

@@ -1,6 +1,6 @@
 //! Fields, and lists of ids.
 
-use crate::cards::Spelled;
+use crate::cards::{Spelled, id};
 use fields::{Class, HoldDate, Id, IdList, Name, Reason, Rising, Source, Srel, YyDdd, ZoneName};
 use std::alloc::{AllocError, Global};
 use std::test::Fail;
@@ -66,10 +66,6 @@ fn fields_are_read(rt: HostRuntime) {
 #[test]
 fn a_date(rt: HostRuntime) {
     assert_eq!(rt; YyDdd::new(2024, 138).as_bytes(), b"24.138".as_slice());
-}
-
-fn id(text: &[u8]) -> Result<Id, &'static str> {
-    Id::read(text).ok_or("no id")
 }
 
 /// Puts the ids in and takes them out in this order, and answers how often one was new.

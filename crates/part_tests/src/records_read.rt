@@ -2,7 +2,8 @@
 
 use crate::cards::{Spelled, record};
 use rec80::{
-    Commands, Group, Piece, RecError, Record, Records, StmtError, Text, Words, records, statement,
+    Commands, Group, Groups, Piece, RecError, Record, Records, StmtError, Text, Words, records,
+    statement,
 };
 
 /// Each member with its own list in parentheses and a semicolon; a `?` where there is no member.
@@ -113,18 +114,20 @@ fn statements(rt: HostRuntime) {
     }
 }
 
-/// How many records each of a file's statements has.
-fn grouped(cards: &[Record]) -> Spelled {
-    let mut spelled = Spelled::new();
-    let records = Records { all: cards };
-    let Ok(mut groups) = records.groups() else {
-        spelled.put(b"outside");
-        return spelled;
-    };
+fn put_groups(spelled: &mut Spelled, mut groups: Groups<'_>) {
     for _ in 0..9 {
         if let Some(group) = groups.next_group() {
             spelled.put_number(group.records.len());
         }
+    }
+}
+
+/// How many records each of a file's statements has.
+fn grouped(cards: &[Record]) -> Spelled {
+    let mut spelled = Spelled::new();
+    match (Records { all: cards }).groups() {
+        Ok(groups) => put_groups(&mut spelled, groups),
+        Err(_) => spelled.put(b"outside"),
     }
     spelled
 }
@@ -216,14 +219,7 @@ fn commands(rt: HostRuntime) {
 }
 
 /// A letter for each piece, and the characters that stand in no word.
-fn pieces_of(card: &str) -> Spelled {
-    let cards = [record(card)];
-    let mut spelled = Spelled::new();
-    let mut commands = Records { all: &cards }.commands();
-    let Ok(Some(command)) = commands.next_command() else {
-        return spelled;
-    };
-    let mut words = command.words;
+fn put_pieces(spelled: &mut Spelled, mut words: Words<'_>) {
     for _ in 0..9 {
         match words.next_piece() {
             Some(Piece::Word(_)) => spelled.put(b"W"),
@@ -231,6 +227,16 @@ fn pieces_of(card: &str) -> Spelled {
             Some(Piece::Stray(byte)) => spelled.put(&[byte]),
             None => {}
         }
+    }
+}
+
+/// The pieces of the first command.
+fn pieces_of(card: &str) -> Spelled {
+    let mut spelled = Spelled::new();
+    let cards = [record(card)];
+    let mut commands = Records { all: &cards }.commands();
+    if let Ok(Some(command)) = commands.next_command() {
+        put_pieces(&mut spelled, command.words);
     }
     spelled
 }

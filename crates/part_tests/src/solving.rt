@@ -14,17 +14,27 @@ fn add_need(alloc: Global, s: &mut Problem, of: usize, any: &[usize]) -> Result<
     Ok(())
 }
 
-/// A problem of these candidates and needs.
-fn problem(alloc: Global, eligible: &[bool], needs: Needs<'_>) -> Result<Problem, AllocError> {
-    let mut s = Problem::new(alloc, Vec::new(alloc));
+fn add_candidates(s: &mut Problem, eligible: &[bool]) -> Result<(), AllocError> {
     for flag in eligible {
         if s.size() < 100 {
             s.add_candidate(*flag)?;
         }
     }
+    Ok(())
+}
+
+fn add_needs(alloc: Global, s: &mut Problem, needs: Needs<'_>) -> Result<(), AllocError> {
     for (of, any) in needs {
-        add_need(alloc, &mut s, *of, any)?;
+        add_need(alloc, s, *of, any)?;
     }
+    Ok(())
+}
+
+/// A problem of these candidates and needs.
+fn problem(alloc: Global, eligible: &[bool], needs: Needs<'_>) -> Result<Problem, AllocError> {
+    let mut s = Problem::new(alloc, Vec::new(alloc));
+    add_candidates(&mut s, eligible)?;
+    add_needs(alloc, &mut s, needs)?;
     Ok(s)
 }
 
@@ -111,43 +121,55 @@ fn each_case(rt: HostRuntime) -> Result<(), AllocError> {
     Ok(())
 }
 
-/// So many eligible candidates, each of which needs the next one, and the last one `end`.
-fn chain(alloc: Global, n: usize, end: &[usize]) -> Result<Problem, AllocError> {
-    let mut s = Problem::new(alloc, vec![in alloc; true; n]?);
+/// Each of so many candidates needs the next one, and the last one `end`.
+fn add_chain(alloc: Global, s: &mut Problem, n: usize, end: &[usize]) -> Result<(), AllocError> {
     for k in 0..n {
         let next = [k.saturating_add(1)];
         let any = if next[0] < n { &next } else { end };
-        add_need(alloc, &mut s, k, any)?;
+        add_need(alloc, s, k, any)?;
     }
-    Ok(s)
+    Ok(())
+}
+
+/// How many needs a chain of so many eligible candidates has, how many of them are kept, and how many strikes that
+/// takes.
+fn chained(alloc: Global, n: usize, end: &[usize]) -> Result<(usize, usize, u128), AllocError> {
+    let mut s = Problem::new(alloc, vec![in alloc; true; n]?);
+    add_chain(alloc, &mut s, n, end)?;
+    let (kept, count) = Worklist::count(alloc, &s)?;
+    let members = kept.flags().iter().filter(|flag| **flag).count();
+    Ok((s.needs().len(), members, count.strikes))
 }
 
 #[test]
 fn long_chains(rt: HostRuntime) -> Result<(), AllocError> {
     // one falls from its end, and one ends in its begin
-    for (end, members, strikes) in [(&[][..], 0, 4999), (&[0][..], 5000, 0)] {
-        let s = chain(rt.alloc(), 5000, end)?;
-        let (kept, count) = Worklist::count(rt.alloc(), &s)?;
-        assert_eq!(rt; s.needs().len(), 5000);
-        assert_eq!(rt; kept.flags().iter().filter(|flag| **flag).count(), members);
-        assert_eq!(rt; count.strikes, strikes);
+    assert_eq!(rt; chained(rt.alloc(), 5000, &[])?, (5000, 0, 4999));
+    assert_eq!(rt; chained(rt.alloc(), 5000, &[0])?, (5000, 5000, 0));
+    Ok(())
+}
+
+fn add_rule(alloc: Global, s: &mut Rules, these: &[usize], that: usize) -> Result<(), AllocError> {
+    if s.admits(these, that) {
+        let these = these.to_vec(alloc)?;
+        s.add_rule(Rule { these, that })?;
     }
     Ok(())
 }
 
+/// Four numbers, of which the first is there, and rules for the others.
+fn rules(alloc: Global) -> Result<Rules, AllocError> {
+    let mut rules = Rules::new(alloc, &[true, false, false])?;
+    rules.add_number(false)?;
+    add_rule(alloc, &mut rules, &[0], 1)?;
+    add_rule(alloc, &mut rules, &[1, 2], 3)?;
+    add_rule(alloc, &mut rules, &[3], 2)?;
+    Ok(rules)
+}
+
 #[test]
 fn a_set_grows_by_its_rules(rt: HostRuntime) -> Result<(), AllocError> {
-    let mut rules = Rules::new(rt.alloc(), &[true, false, false])?;
-    rules.add_number(false)?;
-    let listed: [(&[usize], usize); 3] = [(&[0], 1), (&[1, 2], 3), (&[3], 2)];
-    for (these, that) in listed {
-        if rules.admits(these, that) {
-            rules.add_rule(Rule {
-                these: these.to_vec(rt.alloc())?,
-                that,
-            })?;
-        }
-    }
+    let rules = rules(rt.alloc())?;
     let set = least(rt.alloc(), &rules)?;
     assert_eq!(rt; rules.size(), 4);
     assert_eq!(rt; set.as_slice(), [true, true, false, false].as_slice());

@@ -1,5 +1,6 @@
 //! What a SYSMOD names, and how it grows.
 
+use crate::cards::{id, name};
 use fields::{Id, IdList, Name, Source, Srel};
 use std::alloc::{AllocError, Global};
 use std::test::Fail;
@@ -7,16 +8,8 @@ use sysmod::{Action, ElemChange, Sysmod, Ver};
 use terms::{ElemType, Kind};
 use text80::Line;
 
-fn id(text: &[u8]) -> Result<Id, &'static str> {
-    Id::read(text).ok_or("no id")
-}
-
 fn srel(text: &[u8]) -> Result<Srel, &'static str> {
     Srel::read(text).ok_or("no SREL")
-}
-
-fn name(text: &[u8]) -> Result<Name, &'static str> {
-    Name::read(text).ok_or("no name")
 }
 
 fn ver(alloc: Global, srel: Srel, fmid: Id) -> Ver {
@@ -47,21 +40,33 @@ fn data(alloc: Global, name: Name) -> Result<ElemChange, AllocError> {
     })
 }
 
-/// A PTF with a `++VER` for each SREL and FMID.
-fn with_vers(alloc: Global, id: Id, vers: &[(Srel, Id)]) -> Result<Sysmod, AllocError> {
-    let mut sysmod = Sysmod::new(alloc, Kind::Ptf, id);
+/// A `++VER` for each SREL and FMID.
+fn put_vers(alloc: Global, sysmod: &mut Sysmod, vers: &[(Srel, Id)]) -> Result<(), AllocError> {
     for (srel, fmid) in vers {
         sysmod.insert_ver(ver(alloc, *srel, *fmid))?;
     }
+    Ok(())
+}
+
+/// A PTF with these `++VER`s.
+fn with_vers(alloc: Global, id: Id, vers: &[(Srel, Id)]) -> Result<Sysmod, AllocError> {
+    let mut sysmod = Sysmod::new(alloc, Kind::Ptf, id);
+    put_vers(alloc, &mut sysmod, vers)?;
     Ok(sysmod)
 }
 
-/// A PTF with a data element of each name.
-fn with_data(alloc: Global, id: Id, names: &[Name]) -> Result<Sysmod, AllocError> {
-    let mut sysmod = Sysmod::new(alloc, Kind::Ptf, id);
+/// A data element of each name.
+fn put_data(alloc: Global, sysmod: &mut Sysmod, names: &[Name]) -> Result<(), AllocError> {
     for name in names {
         sysmod.insert_change(data(alloc, *name)?)?;
     }
+    Ok(())
+}
+
+/// A PTF with these elements.
+fn with_data(alloc: Global, id: Id, names: &[Name]) -> Result<Sysmod, AllocError> {
+    let mut sysmod = Sysmod::new(alloc, Kind::Ptf, id);
+    put_data(alloc, &mut sysmod, names)?;
     Ok(sysmod)
 }
 

@@ -1,70 +1,69 @@
-//! Global zones and zones for the tests.
+//! Global zones and zones for the tests, and what is told of ids in them.
 
+use crate::cards::file;
 use fields::{Id, IdList, Name, Srel, YyDdd, ZoneName};
 use mcs::{HoldItem, Item, read_hold, read_ptfin};
+use report_why::{facts_code, facts_of, facts_text};
 use sorted::Table;
 use std::alloc::{AllocError, Global};
+use std::test::Fail;
 use sysmod::{Hold, Sysmod};
 use sysmods::GlobalZone;
 use terms::{ElemType, ZoneKind};
 use zones::{Applied, Element, Entry, Zone};
 
-/// The records of these cards.
-fn file(alloc: Global, cards: &[&str]) -> Result<Vec<u8>, AllocError> {
-    let mut bytes = Vec::new(alloc);
-    for card in cards {
-        let mut record = [b' '; 80];
-        for (place, letter) in record.iter_mut().zip(card.as_bytes()) {
-            *place = *letter;
-        }
-        bytes.extend_from_slice(&record)?;
+/// The SYSMOD stands by itself, and its holds with the others.
+fn take(
+    alloc: Global,
+    item: Item,
+    sysmods: &mut Vec<Sysmod>,
+    holds: &mut Vec<Hold>,
+) -> Result<(), AllocError> {
+    if let Item::Sysmod(mut sysmod) = item {
+        holds.append(&mut sysmod.take_holds(alloc))?;
+        sysmods.push(sysmod)?;
     }
-    Ok(bytes)
+    Ok(())
 }
 
 /// The SYSMODs of these cards, with their holds laid aside.
-fn sysmods(
+fn take_sysmods(
     alloc: Global,
-    cards: &[&str],
+    cards: &[u8],
+    sysmods: &mut Vec<Sysmod>,
     holds: &mut Vec<Hold>,
-) -> Result<Vec<Sysmod>, AllocError> {
-    let bytes = file(alloc, cards)?;
-    let mut sysmods = Vec::new(alloc);
-    if let Ok(items) = read_ptfin(alloc, bytes.as_slice()) {
-        for item in items {
-            if let Item::Sysmod(mut sysmod) = item {
-                let mut own = sysmod.take_holds(alloc);
-                holds.append(&mut own)?;
-                sysmods.push(sysmod)?;
-            }
-        }
+) -> Result<(), Fail> {
+    for item in read_ptfin(alloc, cards)? {
+        take(alloc, item, sysmods, holds)?;
     }
-    Ok(sysmods)
+    Ok(())
 }
 
 /// The holds of these cards.
-fn add_holds(alloc: Global, cards: &[&str], holds: &mut Vec<Hold>) -> Result<(), AllocError> {
-    let bytes = file(alloc, cards)?;
-    if let Ok(items) = read_hold(alloc, bytes.as_slice()) {
-        for item in items {
-            if let HoldItem::Hold(hold) = item {
-                holds.push(hold)?;
-            }
+fn take_holds(alloc: Global, cards: &[u8], holds: &mut Vec<Hold>) -> Result<(), Fail> {
+    for item in read_hold(alloc, cards)? {
+        if let HoldItem::Hold(hold) = item {
+            holds.push(hold)?;
         }
     }
     Ok(())
 }
 
-/// The global zone of the SYSMODs and of the holds of these cards, if both are in order.
-pub(crate) fn global(
-    alloc: Global,
-    cards: &[&str],
-    holds: &[&str],
-) -> Result<Option<GlobalZone>, AllocError> {
+/// The global zone of the SYSMODs and of the holds of these records. The holds rise where those of the hold file come
+/// before those of the SYSMODs.
+fn global_of(alloc: Global, cards: &[u8], holds: &[u8]) -> Result<GlobalZone, Fail> {
+    let mut sysmods = Vec::new(alloc);
     let mut all = Vec::new(alloc);
-    add_holds(alloc, holds, &mut all)?;
-    let sysmods = sysmods(alloc, cards, &mut all)?;
-    GlobalZone::from_parts(alloc, sysmods, all)
+    take_holds(alloc, holds, &mut all)?;
+    take_sysmods(alloc, cards, &mut sysmods, &mut all)?;
+    Ok(GlobalZone::from_parts(alloc, sysmods, all)?.ok_or("no global zone")?)
+}
+
+/// The same of these cards.
+pub(crate) fn global(alloc: Global, cards: &[&str], holds: &[&str]) -> Result<GlobalZone, Fail> {
+    let cards = file(alloc, cards)?;
+    let holds = file(alloc, holds)?;
+    global_of(alloc, cards.as_slice(), holds.as_slice())
 }
 
 /// An entry of what was applied on the first day of 2024.
@@ -92,10 +91,34 @@ pub(crate) fn element(alloc: Global, name: Name, fmid: Id, rmid: Id) -> Element 
     }
 }
 
+/// An entry for each of these ids.
+pub(crate) fn put_entries(
+    alloc: Global,
+    entries: &mut Table<Entry>,
+    ids: &[Id],
+) -> Result<(), AllocError> {
+    for id in ids {
+        entries.put(entry(alloc, *id))?;
+    }
+    Ok(())
+}
+
 /// A target zone with these entries and elements.
-pub(crate) fn zone(entries: Table<Entry>, elements: Table<Element>) -> Option<Zone> {
-    let (Some(srel), Some(related)) = (Srel::read(b"Z038"), ZoneName::read(b"DLB1")) else {
-        return None;
-    };
-    Zone::from_tables(ZoneKind::Target, srel, Some(related), entries, elements)
+pub(crate) fn zone(entries: Table<Entry>, elements: Table<Element>) -> Result<Zone, Fail> {
+    let srel = Srel::read(b"Z038").ok_or("no SREL")?;
+    let related = ZoneName::read(b"DLB1").ok_or("no name of a zone")?;
+    let zone = Zone::from_tables(ZoneKind::Target, srel, Some(related), entries, elements);
+    Ok(zone.ok_or("no zone")?)
+}
+
+/// What is told of these ids, and its code.
+pub(crate) fn told(
+    alloc: Global,
+    global: &GlobalZone,
+    zone: &Zone,
+    ids: &[Id],
+) -> Result<(Vec<u8>, u8), AllocError> {
+    let facts = facts_of(alloc, global, zone, ids)?;
+    let text = facts_text(alloc, facts.as_slice())?;
+    Ok((text, facts_code(facts.as_slice())))
 }

@@ -1,10 +1,10 @@
 //! A PTF that may be applied, its function, and an id of which nothing is known.
 
-use crate::why_cards::{element, entry, global, zone};
-use fields::{Id, Name};
-use report_why::{facts_code, facts_of, facts_text};
+use crate::cards::{id, name};
+use crate::why_cards::{element, global, put_entries, told, zone};
+use fields::Id;
 use sorted::Table;
-use std::alloc::{AllocError, Global};
+use std::alloc::Global;
 use std::test::Fail;
 use zones::Zone;
 
@@ -56,38 +56,28 @@ HAA1100 FUNCTION APPLIED
 UA00099 -        MISSING
 ";
 
-// The function and the first PTF, which replaced the function's element, are applied.
-fn applied(alloc: Global, function: Id, fix: Id, name: Name) -> Result<Option<Zone>, AllocError> {
+/// The function and the first PTF, which replaced the function's element, are applied.
+fn applied(alloc: Global) -> Result<Zone, Fail> {
+    let (function, fix) = (id(b"HAA1100")?, id(b"UA00001")?);
     let mut entries = Table::new(alloc);
-    entries.put(entry(alloc, function))?;
-    entries.put(entry(alloc, fix))?;
+    put_entries(alloc, &mut entries, &[function, fix])?;
     let mut elements = Table::new(alloc);
-    elements.put(element(alloc, name, function, fix))?;
-    Ok(zone(entries, elements))
+    elements.put(element(alloc, name(b"X1")?, function, fix))?;
+    zone(entries, elements)
+}
+
+/// What is told of these ids, and its code.
+fn told_of(alloc: Global, ids: &[Id]) -> Result<(Vec<u8>, u8), Fail> {
+    let global = global(alloc, &CARDS, &HOLDS)?;
+    let zone = applied(alloc)?;
+    Ok(told(alloc, &global, &zone, ids)?)
 }
 
 #[test]
 fn facts_are_told(rt: HostRuntime) -> Result<(), Fail> {
-    let alloc = rt.alloc();
-    let (Some(function), Some(fix), Some(next), Some(missing), Some(name)) = (
-        Id::read(b"HAA1100"),
-        Id::read(b"UA00001"),
-        Id::read(b"UA00002"),
-        Id::read(b"UA00099"),
-        Name::read(b"X1"),
-    ) else {
-        panic!(rt; "no id");
-    };
-    let (Some(global), Some(zone)) = (
-        global(alloc, &CARDS, &HOLDS)?,
-        applied(alloc, function, fix, name)?,
-    ) else {
-        panic!(rt; "no zone");
-    };
-    let facts = facts_of(alloc, &global, &zone, &[next, function, missing])?;
-    let text = facts_text(alloc, facts.as_slice())?;
-    let told = std::str::from_utf8(text.as_slice()).unwrap_or("no text");
-    assert_eq!(rt; told, TOLD);
-    assert_eq!(rt; facts_code(facts.as_slice()), 4);
+    let ids = [id(b"UA00002")?, id(b"HAA1100")?, id(b"UA00099")?];
+    let (text, code) = told_of(rt.alloc(), &ids)?;
+    assert_eq!(rt; std::str::from_utf8(text.as_slice())?, TOLD);
+    assert_eq!(rt; code, 4);
     Ok(())
 }

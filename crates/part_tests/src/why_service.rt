@@ -1,8 +1,8 @@
 //! A function that would delete another one, what stands in its way, and service whose requisites are waived.
 
-use crate::why_cards::{entry, global, zone};
-use fields::{Id, IdList};
-use report_why::{facts_code, facts_of, facts_text};
+use crate::cards::id;
+use crate::why_cards::{entry, global, put_entries, told, zone};
+use fields::Id;
 use sorted::Table;
 use std::alloc::{AllocError, Global};
 use std::test::Fail;
@@ -44,74 +44,54 @@ UA00000 -        SUPERSEDED
   ENTRY UA00000 - SUPBY UA00001 DELBY - WAIVED -
 ";
 
-// The PTF, with what was bypassed when it was applied.
-fn waiving(alloc: Global, id: Id, waived: Id) -> Result<Entry, AllocError> {
+/// The PTF, with what was bypassed when it was applied.
+fn put_waiver(
+    alloc: Global,
+    entries: &mut Table<Entry>,
+    id: Id,
+    waived: Id,
+) -> Result<(), AllocError> {
     let mut entry = entry(alloc, id);
     entry.waived.insert(waived)?;
-    Ok(entry)
+    entries.put(entry)
 }
 
-// What the PTF supersedes.
-fn superseded(alloc: Global, id: Id, by: Id) -> Result<Entry, AllocError> {
-    let mut supby = IdList::new(alloc);
-    supby.insert(by)?;
-    Ok(Entry {
-        id,
-        applied: None,
-        supby,
-        delby: None,
-        waived: IdList::new(alloc),
-    })
-}
-
-// Both functions and their service are applied.
-fn applied(
+/// What the PTF supersedes.
+fn put_superseded(
     alloc: Global,
-    functions: &[Id],
-    other: Id,
-    waiver: Entry,
-    old: Entry,
-) -> Result<Option<Zone>, AllocError> {
+    entries: &mut Table<Entry>,
+    id: Id,
+    by: Id,
+) -> Result<(), AllocError> {
+    let mut entry = entry(alloc, id);
+    entry.applied = None;
+    entry.supby.insert(by)?;
+    entries.put(entry)
+}
+
+/// Both functions and their service are applied.
+fn applied(alloc: Global) -> Result<Zone, Fail> {
+    let alone = [id(b"HAA1100")?, id(b"HBB1100")?, id(b"UB00001")?];
+    let (fix, gone, waived) = (id(b"UA00001")?, id(b"UA00000")?, id(b"UA00007")?);
     let mut entries = Table::new(alloc);
-    for function in functions {
-        entries.put(entry(alloc, *function))?;
-    }
-    entries.put(entry(alloc, other))?;
-    entries.put(waiver)?;
-    entries.put(old)?;
-    Ok(zone(entries, Table::new(alloc)))
+    put_entries(alloc, &mut entries, &alone)?;
+    put_waiver(alloc, &mut entries, fix, waived)?;
+    put_superseded(alloc, &mut entries, gone, fix)?;
+    zone(entries, Table::new(alloc))
+}
+
+/// What is told of these ids, and its code.
+fn told_of(alloc: Global, ids: &[Id]) -> Result<(Vec<u8>, u8), Fail> {
+    let global = global(alloc, &CARDS, &[])?;
+    let zone = applied(alloc)?;
+    Ok(told(alloc, &global, &zone, ids)?)
 }
 
 #[test]
 fn a_function_that_deletes_is_told(rt: HostRuntime) -> Result<(), Fail> {
-    let alloc = rt.alloc();
-    let (Some(old), Some(new), Some(other)) = (
-        Id::read(b"HAA1100"),
-        Id::read(b"HAA1200"),
-        Id::read(b"HBB1100"),
-    ) else {
-        panic!(rt; "no function");
-    };
-    let (Some(fix), Some(gone), Some(left), Some(beside)) = (
-        Id::read(b"UA00001"),
-        Id::read(b"UA00000"),
-        Id::read(b"UA00007"),
-        Id::read(b"UB00001"),
-    ) else {
-        panic!(rt; "no service");
-    };
-    let waiver = waiving(alloc, fix, left)?;
-    let superseded = superseded(alloc, gone, fix)?;
-    let (Some(global), Some(zone)) = (
-        global(alloc, &CARDS, &[])?,
-        applied(alloc, &[old, other], beside, waiver, superseded)?,
-    ) else {
-        panic!(rt; "no zone");
-    };
-    let facts = facts_of(alloc, &global, &zone, &[new, fix, gone])?;
-    let text = facts_text(alloc, facts.as_slice())?;
-    let told = std::str::from_utf8(text.as_slice()).unwrap_or("no text");
-    assert_eq!(rt; told, TOLD);
-    assert_eq!(rt; facts_code(facts.as_slice()), 0);
+    let ids = [id(b"HAA1200")?, id(b"UA00001")?, id(b"UA00000")?];
+    let (text, code) = told_of(rt.alloc(), &ids)?;
+    assert_eq!(rt; std::str::from_utf8(text.as_slice())?, TOLD);
+    assert_eq!(rt; code, 0);
     Ok(())
 }

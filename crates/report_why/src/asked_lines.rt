@@ -58,7 +58,7 @@ fn put_condition(function: Id, by: Id, text: &mut Vec<u8>) -> Result<(), AllocEr
     put_word(by.as_bytes(), text)
 }
 
-// The same where it is stated under a function.
+// The function of an `++IF` and who states it, where a requisite is by one.
 fn put_any_condition(function: &Option<Id>, by: Id, text: &mut Vec<u8>) -> Result<(), AllocError>
     ensures { OnOk result (text.new.items
         ≡ text.old.items ++ flat_map (λ word. 32 ∷ word) (condition_words function.now by)) }

@@ -1,5 +1,5 @@
 -- What comes to be asked for once an id is: what it asks for, and what those ask for by it that name it as a function.
-use Rattle.std.proofs.Common.{◌≡◌, ◌-◌, inl, inr, Bool, true, false, not, List, [], ◌++◌, map, Option, None, Some}
+use Rattle.std.proofs.Common.{◌≡◌, ◌-◌, inl, inr, Bool, true, false, not, List, [], ◌∷◌, ◌++◌, map, Option, None, Some}
 use Rattle.std.proofs.Common.{filter, Contains, IsTrue, is_some, if◌then◌else◌, refl, sym, ap, subst, ◌↔◌}
 use Rattle.std.specs.Prelude.{ℕ, position, slice_get, unwrap_or}
 use Rattle.std.specs.List.{flat_map}
@@ -9,19 +9,19 @@ use Rattle.std.proofs.lemmas.List.Elements.{Contains-append_left, Contains-appen
 use Rattle.terms.specs.declared.kinds.HoldKind.TheVariants.{Error}
 use Rattle.terms.specs.Types.{Id, IfReq, Ver, Applied, Entry, Zone}
 use Rattle.terms.specs.Lookups.{is_in, is_applied, applied_of, entry_of, is_supplied, is_function, applied_ids}
-use Rattle.terms.specs.Lookups.{holds_of}
-use Rattle.terms.specs.Choice.{Choice, fits, counting}
-use Rattle.terms.specs.Candidates.{fmids_for}
+use Rattle.terms.specs.Lookups.{at_most_one, holds_of}
+use Rattle.terms.specs.Choice.{Choice, fits, ifs_of, counting}
+use Rattle.terms.specs.Candidates.{fmids_for, required_by}
 use Rattle.terms.specs.Conditions.{reqs_where, if_reqs, stated_for}
-use Rattle.lemmas.proofs.Members.{none_in, filter_in, in_filter, flat_in, in_flat}
+use Rattle.lemmas.proofs.Members.{here, here_or, none_in, filter_in, in_filter, flat_in, in_flat}
 use Rattle.lemmas.proofs.Places.{contains_at}
 use Rattle.lemmas.proofs.Texts.{same_from}
 use Rattle.terms.proofs.Applied.{AppliedAre, applied_dated}
 use Rattle.select.specs.Scopes.{Scope, vers_in}
-use Rattle.select.specs.Growing.{taken_up, has_grown, open_fmids, own_requisites, kept_ver, namers_in, stated, reasons}
-use Rattle.select.specs.Growing.{own_asked, required_through, asked_through, asked_by_namers}
-use Rattle.select.proofs.Needs.{for_function, Asks, Fmid, Required, Stated, Reason, in_own, own_in, AsksThrough}
-use Rattle.select.proofs.Needs.{through_required}
+use Rattle.select.specs.Growing.{taken_up, has_grown, open_fmids, fitting, required_of, required_for, kept_ver}
+use Rattle.select.specs.Growing.{namers_in, stated, reasons, own_asked, fitting_namers, asked_by_namers}
+use Rattle.select.proofs.Vers.{reqs_flat, reqs_from, in_reqs, required_from, in_required, fitting_from, in_fitting}
+use Rattle.select.proofs.Needs.{for_function, Asks, Fmid, Required, Stated, Reason, AsksThrough, if_required}
 use Rattle.select.proofs.Listed.{function_listed, if_named}
 
 some_applied : (o : Option Entry) (a : Applied) → option_and_then (λ e. e.applied) o ≡ Some a
@@ -93,13 +93,19 @@ module _ (scope : Scope) where
       counted : (y : Id) → IsTrue (is_applied zone y) → counted_ver y ≡ kept_ver scope y
       counted y on = let a = applied_dated zone y on in kept_counts y a.0 a.1
 
+      as_stated : reqs_where (bytes_eq x) (flat_map (ifs_of (kept_ver scope)) (namers_in scope x))
+          ≡ stated_for (kept_ver scope) (namers_in scope x) x
+      as_stated = reqs_flat (bytes_eq x) (ifs_of (kept_ver scope)) (namers_in scope x)
+
       by : (b : Bool)
-          → Contains (if b then stated_for (kept_ver scope) (namers_in scope x) x else []) z
+          → Contains (if b then reqs_where (bytes_eq x) (flat_map (ifs_of (kept_ver scope)) (namers_in scope x)) else [])
+          z
           ↔ Contains (if b then stated_for counted_ver (applied_ids zone) x else []) z
       by false = (λ none. none, λ none. none)
       by true = (
         λ h.
-            let from = flat_in (if_reqs (kept_ver scope) (bytes_eq x)) (namers_in scope x) z h in
+            let from = flat_in (if_reqs (kept_ver scope) (bytes_eq x)) (namers_in scope x) z
+            (subst (λ zs. Contains zs z) as_stated h) in
             let is = states x from.0 z from.2 in
             in_flat (if_reqs counted_ver (bytes_eq x)) (applied_ids zone) from.0 z ((applied from.0).1 is.on)
             (subst (λ o. Contains (reqs_at o) z) (sym (counted from.0 is.on)) from.2),
@@ -107,8 +113,9 @@ module _ (scope : Scope) where
             let from = flat_in (if_reqs counted_ver (bytes_eq x)) (applied_ids zone) z h in
             let within : Contains (if_reqs (kept_ver scope) (bytes_eq x) from.0) z =
             subst (λ o. Contains (reqs_at o) z) (counted from.0 ((applied from.0).0 from.1)) from.2 in
-            in_flat (if_reqs (kept_ver scope) (bytes_eq x)) (namers_in scope x) from.0 z
-            (states x from.0 z within).names within,
+            subst (λ zs. Contains zs z) (sym as_stated)
+            (in_flat (if_reqs (kept_ver scope) (bytes_eq x)) (namers_in scope x) from.0 z
+            (states x from.0 z within).names within),
       )
 
 module _ (scope : Scope) (seen : List Id) where
@@ -124,8 +131,11 @@ module _ (scope : Scope) (seen : List Id) where
   abbrev error_reasons : Id → List Id
   error_reasons x = map (λ h. h.reason) (holds_of scope.global Error x)
 
+  abbrev own_vers : Id → List Ver
+  own_vers x = fitting scope cands (x ∷ [])
+
   abbrev own : Id → List Id
-  own x = own_requisites scope cands x
+  own x = required_of scope.zone cands (own_vers x)
 
   abbrev all_requisites : Id → List Id
   all_requisites x = own x ++ stated scope x ++ reasons scope x
@@ -139,7 +149,8 @@ module _ (scope : Scope) (seen : List Id) where
   own_has applied x z (Fmid h) = Contains-append_left (fmids x) (filter free (all_requisites x)) z h
   own_has applied x z (Required is_free v is fit within) = in_asked x z is_free
       (Contains-append_left (own x ++ stated scope x) (reasons scope x) z
-      (Contains-append_left (own x) (stated scope x) z (in_own scope cands x z v is fit within)))
+      (Contains-append_left (own x) (stated scope x) z (in_required scope.zone cands (own_vers x) v z
+      (in_fitting scope cands (x ∷ []) x v (here x []) is fit) within)))
   own_has applied x z (Stated is_free h) = in_asked x z is_free
       (Contains-append_left (own x ++ stated scope x) (reasons scope x) z
       (Contains-append_right (own x) (stated scope x) z ((stated_same scope applied x z).1 h)))
@@ -161,11 +172,20 @@ module _ (scope : Scope) (seen : List Id) where
       reason is_free false e none = absurd (none_in z none)
       reason is_free true e is = Reason e (in_filter free (error_reasons x) z is is_free)
 
+      itself : (y : Id) → Contains (x ∷ []) y → y ≡ x
+      itself y h = elim (here_or x [] y h) [ inl same ↦ sym same | inr none ↦ absurd (none_in y none) ]
+
+      required : IsTrue (free z) → Contains (own x) z → Asks scope cands x z
+      required is_free h =
+          let from = required_from scope.zone cands (own_vers x) z h in
+          let fit = fitting_from scope cands (x ∷ []) from.0 from.1 in
+          Required is_free from.0 (subst (λ y. Contains (vers_in scope y) from.0) (itself fit.0 fit.1) fit.2) fit.3 from.2
+
       called : IsTrue (free z) → Contains (all_requisites x) z → Asks scope cands x z
       called is_free is =
           elim (Contains-append_cases (own x ++ stated scope x) (reasons scope x) z is) [
             | inl first ↦ elim (Contains-append_cases (own x) (stated scope x) z first) [
-              | inl mine ↦ own_in scope cands x z is_free mine
+              | inl mine ↦ required is_free mine
               | inr others ↦ Stated is_free ((stated_same scope applied x z).0 others)
             ]
             | inr last ↦ reason is_free scope.selection.groupextend refl last
@@ -175,18 +195,32 @@ module _ (scope : Scope) (seen : List Id) where
   abbrev growing_namers : Id → List Id
   growing_namers f = filter (has_grown scope seen) (namers_in scope f)
 
-  abbrev fitting : Id → List Ver
-  fitting y = filter (fits scope.zone cands) (vers_in scope y)
+  abbrev has_fmid : Id → Ver → Bool
+  has_fmid f v = is_in (at_most_one v.fmid) f
+
+  abbrev by_fmid : Id → List Id
+  by_fmid f = required_of scope.zone cands (filter (has_fmid f) (fitting_namers scope seen f))
+
+  abbrev by_ifs : Id → List Id
+  by_ifs f = required_for f (fitting_namers scope seen f)
 
   pub namers_have : (f y z : Id) → IsTrue (has_grown scope seen y) → AsksThrough scope cands f y z
       → Contains (asked_by_namers scope seen f) z
   namers_have f y z grows asks =
-      in_filter free (flat_map (asked_through scope seen f) (growing_namers f)) z
-      (in_flat (asked_through scope seen f) (growing_namers f) y z
-      (in_filter (has_grown scope seen) (namers_in scope f) y asks.named grows)
-      (in_flat (required_through scope.zone cands f) (fitting y) asks.ver z
-      (in_filter (fits scope.zone cands) (vers_in scope y) asks.ver asks.there asks.fit) asks.within))
-      asks.is_free
+      in_filter free (by_fmid f ++ by_ifs f) z (by (has_fmid f asks.ver) refl asks.within) asks.is_free
+    where
+      fitting_ver : Contains (fitting_namers scope seen f) asks.ver
+      fitting_ver = in_fitting scope cands (growing_namers f) y asks.ver
+          (in_filter (has_grown scope seen) (namers_in scope f) y asks.named grows) asks.there asks.fit
+
+      by : (b : Bool) → has_fmid f asks.ver ≡ b
+          → Contains (if b then required_by scope.zone cands asks.ver else reqs_where (bytes_eq f) asks.ver.ifs) z
+          → Contains (by_fmid f ++ by_ifs f) z
+      by true e h = Contains-append_left (by_fmid f) (by_ifs f) z
+          (in_required scope.zone cands (filter (has_fmid f) (fitting_namers scope seen f)) asks.ver z
+          (in_filter (has_fmid f) (fitting_namers scope seen f) asks.ver fitting_ver e) h)
+      by false e h = Contains-append_right (by_fmid f) (by_ifs f) z
+          (in_reqs (bytes_eq f) (fitting_namers scope seen f) asks.ver z fitting_ver h)
 
   -- one that grows asks for it
   abbrev pub IsCalledFor : Id → Type 0
@@ -194,12 +228,19 @@ module _ (scope : Scope) (seen : List Id) where
 
   pub namers_ask : (f z : Id) → IsTrue (cands f) → Contains (asked_by_namers scope seen f) z → IsCalledFor z
   namers_ask f z is h =
-      let passed = filter_in free (flat_map (asked_through scope seen f) (growing_namers f)) z h in
-      let from = flat_in (asked_through scope seen f) (growing_namers f) z passed.0 in
-      let grows = filter_in (has_grown scope seen) (namers_in scope f) from.0 from.1 in
-      let ver = flat_in (required_through scope.zone cands f) (fitting from.0) z from.2 in
-      let kept = filter_in (fits scope.zone cands) (vers_in scope from.0) ver.0 ver.1 in (
-        from.0,
-        grows.1,
-        Required passed.1 ver.0 kept.0 kept.1 (through_required scope.zone cands ver.0 z f is ver.2),
-      )
+      let passed = filter_in free (by_fmid f ++ by_ifs f) z h in
+      elim (Contains-append_cases (by_fmid f) (by_ifs f) z passed.0) [
+        | inl whole ↦ (
+            let from = required_from scope.zone cands (filter (has_fmid f) (fitting_namers scope seen f)) z whole in
+            called passed.1 from.0 (filter_in (has_fmid f) (fitting_namers scope seen f) from.0 from.1).0 from.2)
+        | inr ifs ↦ (
+            let from = reqs_from (bytes_eq f) (fitting_namers scope seen f) z ifs in
+            called passed.1 from.0 from.1 (if_required scope.zone cands from.0 z f is from.2))
+      ]
+    where
+      called : IsTrue (free z) → (v : Ver) → Contains (fitting_namers scope seen f) v
+          → Contains (required_by scope.zone cands v) z → IsCalledFor z
+      called is_free v there within =
+          let fit = fitting_from scope cands (growing_namers f) v there in
+          let grows = filter_in (has_grown scope seen) (namers_in scope f) fit.0 fit.1 in
+          (fit.0, grows.1, Required is_free v fit.2 fit.3 within)

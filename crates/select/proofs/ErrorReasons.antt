@@ -7,7 +7,10 @@ use Rattle.terms.specs.declared.kinds.HoldKind.TheVariants.{Error}
 use Rattle.terms.specs.Types.{Id, Hold, Global, hold_number, is_error}
 use Rattle.terms.specs.Lookups.{holds_of}
 use Rattle.terms.proofs.HoldOrder.{error_by_number}
-use Rattle.select.specs.Growing.{error_reason}
+
+-- the reason of an ERROR hold
+abbrev pub error_reason : Hold → List Id
+error_reason h = if is_error h.kind then h.reason ∷ [] else []
 
 abbrev is_error_on : Id → Hold → Bool
 is_error_on x h = bytes_eq h.id x && (hold_number h.kind == 0)

@@ -21,8 +21,8 @@ use Rattle.sysmods.specs.Namers.{namers_for}
 use Rattle.select.specs.Scopes.{Scope, is_installable_in, is_open_in, is_start_in, is_growing_start_in, IsClosed}
 use Rattle.select.specs.Scopes.{needed_in, open_reasons_in, sups_in}
 use Rattle.select.specs.Growing.{WillDo, IsAsked, is_open_among, taken_up, has_grown, asked_by, HasAsked, AreAsked}
-use Rattle.select.specs.Growing.{own_asked, asked_by_namers, own_unless_first, others_unless_start, brought_by}
-use Rattle.select.specs.Growing.{brought_if_open, superseders, next_asked, brings_others, asked_first}
+use Rattle.select.specs.Growing.{own_asked, asked_by_namers, brought_by, superseders, next_asked, brings_others}
+use Rattle.select.specs.Growing.{asked_first}
 use Rattle.select.proofs.Opened.{open_parts}
 use Rattle.select.proofs.Needs.{Asks, asks_from, IsWanted, asks_needed, asks_asked, AsksThrough, asks_with, asks_more}
 use Rattle.select.proofs.Needs.{through_still, needed_asked, reason_asked}
@@ -77,6 +77,14 @@ module _ (scope : Scope) where
 
   abbrev namers : Id → List Id
   namers z = namers_for scope.global.sysmods scope.zone.srel z
+
+  -- what others ask for by an open id
+  abbrev by_others : List Id → Id → List Id
+  by_others seen x = if is_start_in scope x then [] else asked_by_namers scope seen x
+
+  -- what an id brings that is asked for
+  abbrev brought : List Id → Id → List Id
+  brought seen x = if is_open_in scope x then brought_by scope seen x else []
 
   start_open : (x : Id) → IsTrue (is_start_in scope x) → IsTrue (is_open_in scope x)
   start_open x start = (and_parts (is_open_in scope x) _ start).0
@@ -175,32 +183,33 @@ module _ (scope : Scope) where
     -- what is brought by one that is asked for and open
     brought_asked : AppliedAre scope.zone → (x z : Id) → Contains seen x → IsTrue (is_open_in scope x)
         → Contains (brought_by scope seen x) z → IsAsked scope z
-    brought_asked applied x z there opened h =
-        elim (Contains-append_cases (own_unless_first scope seen x) (others_unless_start scope seen x) z h)
-        [ inl own ↦ by_own (is_growing_start_in scope x) own | inr others ↦ by_others (is_start_in scope x) others ]
+    brought_asked applied x z there opened h = by (is_growing_start_in scope x) h
       where
         both : IsTrue (is_open_among scope seen x)
         both = and_from (is_in seen x) (is_open_in scope x) (is_in_from_Contains seen x there) opened
 
-        by_own : (b : Bool) → Contains (if b then [] else own_asked scope seen x) z → IsAsked scope z
-        by_own true none = absurd (none_in z none)
-        by_own false own = own_is_asked applied x z (asked_grows x both) own
-
-        by_others : (b : Bool) → Contains (if b then [] else asked_by_namers scope seen x) z → IsAsked scope z
-        by_others true none = absurd (none_in z none)
-        by_others false others = namers_are_asked x z
+        others_asked : (b : Bool) → Contains (if b then [] else asked_by_namers scope seen x) z → IsAsked scope z
+        others_asked true none = absurd (none_in z none)
+        others_asked false others = namers_are_asked x z
             (or_right (is_start_in scope x) (is_open_among scope seen x) both) others
+
+        by : (b : Bool) → Contains (if b then [] else own_asked scope seen x ++ by_others seen x) z → IsAsked scope z
+        by true none = absurd (none_in z none)
+        by false h = elim (Contains-append_cases (own_asked scope seen x) (by_others seen x) z h) [
+          | inl own ↦ own_is_asked applied x z (asked_grows x both) own
+          | inr others ↦ others_asked (is_start_in scope x) others
+        ]
 
     asked_next : AppliedAre scope.zone → (z w : Id) → Contains seen z → Contains (next_asked scope seen z) w
         → IsAsked scope w
     asked_next applied z w there h =
-        elim (Contains-append_cases (brought_if_open scope seen z) (superseders scope z) w h)
+        elim (Contains-append_cases (brought seen z) (superseders scope z) w h)
         [ inl own ↦ by (is_open_in scope z) refl own | inr over ↦ over_asked w z (sound z there) over ]
       where
         by : (b : Bool) → is_open_in scope z ≡ b → Contains (if b then brought_by scope seen z else []) w
             → IsAsked scope w
         by false e none = absurd (none_in w none)
-        by true e brought = brought_asked applied z w there e brought
+        by true e h = brought_asked applied z w there e h
 
   none_asked : (z : Id) → Contains {X = Id} [] z → IsAsked scope z
   none_asked z none = absurd (none_in z none)
@@ -268,21 +277,22 @@ module _ (scope : Scope) where
     stays : (z : Id) → Contains old z → Contains new z
     stays = adds_keeps old (next_asked scope old d) new adds
 
-    brought_in : IsTrue (is_open_in scope d) → (z : Id) → Contains (brought_by scope old d) z → Contains new z
-    brought_in opened z h = adds.has z
-        (Contains-append_left (brought_if_open scope old d) (superseders scope d) z
-        (subst (λ b. Contains (if b then brought_by scope old d else []) z) (sym opened) h))
+    brought_in : IsTrue (is_open_in scope d) → is_growing_start_in scope d ≡ false → (z : Id)
+        → Contains (own_asked scope old d ++ by_others old d) z → Contains new z
+    brought_in opened other z h = adds.has z
+        (Contains-append_left (brought old d) (superseders scope d) z
+        (subst (λ b. Contains (if b then brought_by scope old d else []) z) (sym opened)
+        (subst (λ b. Contains (if b then [] else own_asked scope old d ++ by_others old d) z) (sym other) h)))
 
     own_in : IsTrue (is_open_in scope d) → is_growing_start_in scope d ≡ false → (z : Id)
         → Contains (own_asked scope old d) z → Contains new z
-    own_in opened other z h = brought_in opened z
-        (Contains-append_left (own_unless_first scope old d) (others_unless_start scope old d) z
-        (subst (λ b. Contains (if b then [] else own_asked scope old d) z) (sym other) h))
+    own_in opened other z h = brought_in opened other z
+        (Contains-append_left (own_asked scope old d) (by_others old d) z h)
 
     others_in : IsTrue (is_open_in scope d) → is_start_in scope d ≡ false → (z : Id)
         → Contains (asked_by_namers scope old d) z → Contains new z
-    others_in opened other z h = brought_in opened z
-        (Contains-append_right (own_unless_first scope old d) (others_unless_start scope old d) z
+    others_in opened other z h = brought_in opened (ap (λ b. b && brings_others scope.selection d) other) z
+        (Contains-append_right (own_asked scope old d) (by_others old d) z
         (subst (λ b. Contains (if b then [] else asked_by_namers scope old d) z) (sym other) h))
 
     -- a candidate by what is done is one by what is seen
@@ -336,7 +346,7 @@ module _ (scope : Scope) where
           ];
       over = λ y z extend there names. elim (Contains-push_cases (take n old) d z there) [
         | inl was ↦ stays y (has.over y z extend was names)
-        | inr same ↦ adds.has y (Contains-append_right (brought_if_open scope old d) (superseders scope d) y
+        | inr same ↦ adds.has y (Contains-append_right (brought old d) (superseders scope d) y
             (superseder_listed y d extend (subst (Contains (sups y)) (sym same) names)))
       ];
     }

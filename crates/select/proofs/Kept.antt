@@ -1,12 +1,9 @@
 -- What a filter keeps, and tests of what it keeps.
-use Rattle.std.proofs.Common.{◌≡◌, ◌<◌, ◌+◌, ℕ, length, take, get_or, Bool, true, false, ◌&&◌, ◌||◌, List, [], ◌∷◌}
-use Rattle.std.proofs.Common.{◌++◌, filter, cond, if◌then◌else◌, refl, sym, ap, ◌∙◌, append_assoc}
-use Rattle.std.specs.List.{list_any, flat_map}
-use Rattle.std.proofs.lemmas.Grind.{flat_map-append}
-use Rattle.std.proofs.lemmas.List.{append-nil}
+use Rattle.std.proofs.Common.{◌≡◌, Bool, true, false, ◌&&◌, ◌||◌, List, [], ◌∷◌, ◌++◌, Option, None, Some}
+use Rattle.std.proofs.Common.{map, filter, cond, refl, sym, ap, ◌∙◌}
+use Rattle.std.specs.List.{list_any, flat_map, filter_map, cons_option}
 use Rattle.std.proofs.lemmas.List.Folds.{list_any-append}
-use Rattle.lemmas.proofs.Searches.{filter_next}
-use Rattle.lemmas.proofs.Lists.{flat_next}
+use Rattle.terms.specs.Lookups.{at_most_one}
 
 -- a test of the items of what is kept
 pub any_kept : {X Y : Type 0} (p : X → Bool) (f : X → List Y) (q : Y → Bool) (xs : List X)
@@ -20,29 +17,31 @@ any_kept p f q (x ∷ xs) = by (any_kept p f q xs) (p x)
     by rest true = ap (λ r. list_any q (f x) || r) rest ∙ sym (list_any-append q (f x) (flat_map f (filter p xs)))
     by rest false = rest
 
--- what is made of what is kept so far, at one item more
-pub kept_more : {X Y : Type 0} (p : X → Bool) (f : X → List Y) (xs : List X) (i : ℕ) (x : X) → i < length xs
-    → x ≡ get_or xs i x → (old seen new : List Y) → new ≡ seen ++ (if p x then f x else [])
-    → seen ≡ old ++ flat_map f (filter p (take i xs)) → new ≡ old ++ flat_map f (filter p (take (i + 1) xs))
-kept_more p f xs i x below at old seen new more so_far =
-    more ∙ ap (λ ys. ys ++ (if p x then f x else [])) so_far
-    ∙ append_assoc old (flat_map f (filter p (take i xs))) (if p x then f x else [])
-    ∙ ap (λ ys. old ++ ys) (sym next)
+-- what some of the items have
+pub some_kept : {X Y : Type 0} (f : X → Option Y) (xs : List X)
+    → filter_map f xs ≡ flat_map (λ x. at_most_one (f x)) xs
+some_kept f [] = refl
+some_kept {Y = Y} f (x ∷ xs) = by (some_kept f xs) (f x)
   where
-    one : (b : Bool) → flat_map f (cond b (x ∷ []) []) ≡ (if b then f x else [])
-    one true = append-nil (f x)
-    one false = refl
+    by : filter_map f xs ≡ flat_map (λ x. at_most_one (f x)) xs → (o : Option Y)
+        → cons_option o (filter_map f xs) ≡ at_most_one o ++ flat_map (λ x. at_most_one (f x)) xs
+    by rest None = rest
+    by rest (Some y) = ap (λ ys. y ∷ ys) rest
 
-    next : flat_map f (filter p (take (i + 1) xs))
-        ≡ flat_map f (filter p (take i xs)) ++ (if p x then f x else [])
-    next = ap (flat_map f) (filter_next p xs i x below at)
-        ∙ flat_map-append f (filter p (take i xs)) (cond (p x) (x ∷ []) [])
-        ∙ ap (λ ys. flat_map f (filter p (take i xs)) ++ ys) (one (p x))
+-- what each of some items has, by what stands for it
+pub flat_mapped : {X Y Z : Type 0} (f : Y → List Z) (g : X → Y) (xs : List X)
+    → flat_map f (map g xs) ≡ flat_map (λ x. f (g x)) xs
+flat_mapped f g [] = refl
+flat_mapped f g (x ∷ xs) = ap (λ zs. f (g x) ++ zs) (flat_mapped f g xs)
 
--- what is made of the items so far, at one item more
-pub flat_more : {X Y : Type 0} (f : X → List Y) (xs : List X) (i : ℕ) (x : X) → i < length xs
-    → x ≡ get_or xs i x → (old seen new : List Y) → new ≡ seen ++ f x
-    → seen ≡ old ++ flat_map f (take i xs) → new ≡ old ++ flat_map f (take (i + 1) xs)
-flat_more f xs i x below at old seen new more so_far =
-    more ∙ ap (λ ys. ys ++ f x) so_far ∙ append_assoc old (flat_map f (take i xs)) (f x)
-    ∙ ap (λ ys. old ++ ys) (sym (flat_next f xs i x below at))
+-- what is kept by it
+pub kept_mapped : {X Y : Type 0} (p : Y → Bool) (g : X → Y) (xs : List X)
+    → map g (filter (λ x. p (g x)) xs) ≡ filter p (map g xs)
+kept_mapped p g [] = refl
+kept_mapped p g (x ∷ xs) = by (kept_mapped p g xs) (p (g x))
+  where
+    by : map g (filter (λ x. p (g x)) xs) ≡ filter p (map g xs) → (b : Bool)
+        → map g (cond b (x ∷ filter (λ x. p (g x)) xs) (filter (λ x. p (g x)) xs))
+        ≡ cond b (g x ∷ filter p (map g xs)) (filter p (map g xs))
+    by rest true = ap (λ ys. g x ∷ ys) rest
+    by rest false = rest

@@ -1,5 +1,6 @@
 pub mod Kept
 pub mod Adds
+pub mod Vers
 pub mod Opened
 pub mod ErrorReasons
 pub mod Needs

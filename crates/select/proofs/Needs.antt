@@ -1,6 +1,7 @@
 -- What a SYSMOD asks for where some ids are candidates, and where others are.
 use Rattle.std.proofs.Common.{◌≡◌, ◌⊎◌, inl, inr, Bool, true, false, not, ◌||◌, List, [], ◌++◌, Option, None, Some}
 use Rattle.std.proofs.Common.{filter, Contains, IsTrue, if◌then◌else◌, refl, sym, ap, subst, ◌∙◌, true≢false}
+use Rattle.std.specs.List.{flat_map}
 use Rattle.std.specs.Option.{option_map_or}
 use Rattle.std.specs.Str.{bytes_eq}
 use Rattle.std.proofs.lemmas.Bool.{or_cases, or_left, or_right}
@@ -15,13 +16,18 @@ use Rattle.terms.proofs.Ids.{is_in_from_Contains}
 use Rattle.lemmas.proofs.Members.{none_in, here, filter_in, in_filter, flat_in, in_flat}
 use Rattle.lemmas.proofs.Texts.{same_from, same_itself}
 use Rattle.select.specs.Scopes.{Scope, needed_in, open_reasons_in, vers_in}
-use Rattle.select.specs.Growing.{asked_by, open_fmids, own_requisites, namers_in, required_through}
+use Rattle.select.specs.Growing.{asked_by, open_fmids, namers_in}
 use Rattle.select.proofs.Listed.{function_listed, fmid_named, if_named}
 use Rattle.std.proofs.lemmas.Bool.{cases_Bool}
 
 module _ (zone : Zone) where
   abbrev there_with : (Id → Bool) → Id → Bool
   there_with cands f = is_applied zone f || cands f
+
+  -- what a ++VER requires by this function: all, if it is its FMID, else what its ++IFs for it do
+  abbrev pub required_through : (Id → Bool) → Id → Ver → List Id
+  required_through cands f v =
+      if is_in (at_most_one v.fmid) f then required_by zone cands v else reqs_where (bytes_eq f) v.ifs
 
   -- a function that is there with some candidates is there with others, or is a candidate of the first alone
   there_split : (cands others : Id → Bool) (f : Id) → IsTrue (there_with cands f)
@@ -78,8 +84,8 @@ module _ (zone : Zone) where
       | inr (i, _, _, is, off) ↦ absurd (true≢false (sym (more i.function is) ∙ off))
     ]
 
-    through_more : (f z : Id) → Contains (required_through zone cands f v) z
-        → Contains (required_through zone others f v) z
+    through_more : (f z : Id) → Contains (required_through cands f v) z
+        → Contains (required_through others f v) z
     through_more f z = by (is_in (at_most_one v.fmid) f)
       where
         by : (b : Bool) → Contains (if b then required_by zone cands v else reqs_where (bytes_eq f) v.ifs) z
@@ -90,7 +96,7 @@ module _ (zone : Zone) where
   -- What it requires by its FMID or by the function of an ++IF, and back.
   module _ (cands : Id → Bool) (v : Ver) (z : Id) where
     through_fmid : (f : Id) → v.fmid ≡ Some f → Contains (required_by zone cands v) z
-        → Contains (required_through zone cands f v) z
+        → Contains (required_through cands f v) z
     through_fmid f at h =
         subst (λ b. Contains (if b then required_by zone cands v else reqs_where (bytes_eq f) v.ifs) z) (sym named) h
       where
@@ -98,7 +104,7 @@ module _ (zone : Zone) where
         named = ap (λ o. is_in (at_most_one o) f) at ∙ is_in_from_Contains (at_most_one (Some f)) f (here f [])
 
     through_if : (i : IfReq) → Contains v.ifs i → Contains i.req z → Contains (required_by zone cands v) z
-        → Contains (required_through zone cands i.function v) z
+        → Contains (required_through cands i.function v) z
     through_if i has states h = by (is_in (at_most_one v.fmid) i.function)
       where
         by : (b : Bool)
@@ -107,21 +113,17 @@ module _ (zone : Zone) where
         by false = in_flat (λ (j : IfReq). j.req) (filter (λ j. bytes_eq i.function j.function) v.ifs) i z
             (in_filter (λ j. bytes_eq i.function j.function) v.ifs i has (same_itself i.function)) states
 
-    pub through_required : (f : Id) → IsTrue (cands f) → Contains (required_through zone cands f v) z
+    -- what an ++IF for a candidate requires
+    pub if_required : (f : Id) → IsTrue (cands f) → Contains (reqs_where (bytes_eq f) v.ifs) z
         → Contains (required_by zone cands v) z
-    through_required f is = by (is_in (at_most_one v.fmid) f)
-      where
-        by : (b : Bool) → Contains (if b then required_by zone cands v else reqs_where (bytes_eq f) v.ifs) z
-            → Contains (required_by zone cands v) z
-        by true h = h
-        by false h =
-            let from = flat_in (λ (i : IfReq). i.req) (filter (λ i. bytes_eq f i.function) v.ifs) z h in
-            let kept = filter_in (λ i. bytes_eq f i.function) v.ifs from.0 from.1 in
-            Contains-append_right (v.pre ++ v.req) (reqs_where (there_with cands) v.ifs) z
-            (in_flat (λ (i : IfReq). i.req) (filter (λ i. there_with cands i.function) v.ifs) from.0 z
-            (in_filter (λ i. there_with cands i.function) v.ifs from.0 kept.0
-            (or_right (is_applied zone from.0.function) (cands from.0.function)
-            (subst (λ w. IsTrue (cands w)) (same_from f from.0.function kept.1) is))) from.2)
+    if_required f is h =
+        let from = flat_in (λ (i : IfReq). i.req) (filter (λ i. bytes_eq f i.function) v.ifs) z h in
+        let kept = filter_in (λ i. bytes_eq f i.function) v.ifs from.0 from.1 in
+        Contains-append_right (v.pre ++ v.req) (reqs_where (there_with cands) v.ifs) z
+        (in_flat (λ (i : IfReq). i.req) (filter (λ i. there_with cands i.function) v.ifs) from.0 z
+        (in_filter (λ i. there_with cands i.function) v.ifs from.0 kept.0
+        (or_right (is_applied zone from.0.function) (cands from.0.function)
+        (subst (λ w. IsTrue (cands w)) (same_from f from.0.function kept.1) is))) from.2)
 
 module _ (scope : Scope) where
   abbrev zone : Zone
@@ -150,14 +152,17 @@ module _ (scope : Scope) where
     Stated : IsTrue (free z) → Contains (for_function x) z → Asks cands x z
     Reason : IsTrue scope.selection.groupextend → Contains (open_reasons_in scope x) z → Asks cands x z
 
-  -- the requisites of a ++VER that fits
-  pub in_own : (cands : Id → Bool) (x z : Id) (v : Ver) → Contains (vers_in scope x) v
-      → IsTrue (fits zone cands v) → Contains (required_by zone cands v) z → Contains (own_requisites scope cands x) z
+  -- the requisites of those of its ++VERs for the zone's SREL that fit
+  abbrev own_requisites : (Id → Bool) → Id → List Id
+  own_requisites cands x = flat_map (required_by zone cands) (filter (fits zone cands) (vers_in scope x))
+
+  in_own : (cands : Id → Bool) (x z : Id) (v : Ver) → Contains (vers_in scope x) v
+      → IsTrue (fits zone cands v) → Contains (required_by zone cands v) z → Contains (own_requisites cands x) z
   in_own cands x z v there fit within =
       in_flat (required_by zone cands) (filter (fits zone cands) (vers_in scope x)) v z
       (in_filter (fits zone cands) (vers_in scope x) v there fit) within
 
-  pub own_in : (cands : Id → Bool) (x z : Id) → IsTrue (free z) → Contains (own_requisites scope cands x) z
+  own_in : (cands : Id → Bool) (x z : Id) → IsTrue (free z) → Contains (own_requisites cands x) z
       → Asks cands x z
   own_in cands x z is_free h =
       let from = flat_in (required_by zone cands) (filter (fits zone cands) (vers_in scope x)) z h in
@@ -240,7 +245,7 @@ module _ (scope : Scope) where
       (subst (λ b. Contains (if b then open_reasons_in scope x else []) z) (sym extend) h)
 
   abbrev all_listed : (Id → Bool) → Id → List Id
-  all_listed cands x = own_requisites scope cands x ++ for_function x
+  all_listed cands x = own_requisites cands x ++ for_function x
 
   needed_are : (cands : Id → Bool) (x : Id) → needed_in scope cands x ≡ fmids x ++ filter free (all_listed cands x)
   unfolding needed_ids
@@ -261,9 +266,9 @@ module _ (scope : Scope) where
   asks_needed cands x z (Fmid h) = inl (subst (λ zs. Contains zs z) (sym (needed_are cands x))
       (Contains-append_left (fmids x) (filter free (all_listed cands x)) z h))
   asks_needed cands x z (Required is_free v there fit within) = inl (in_needed cands x z is_free
-      (Contains-append_left (own_requisites scope cands x) (for_function x) z (in_own cands x z v there fit within)))
+      (Contains-append_left (own_requisites cands x) (for_function x) z (in_own cands x z v there fit within)))
   asks_needed cands x z (Stated is_free h) = inl (in_needed cands x z is_free
-      (Contains-append_right (own_requisites scope cands x) (for_function x) z h))
+      (Contains-append_right (own_requisites cands x) (for_function x) z h))
   asks_needed cands x z (Reason extend h) = inr (extend, h)
 
   pub asks_asked : (cands : Id → Bool) (x z : Id) → Asks cands x z → Contains (asked_by scope cands x) z
@@ -290,7 +295,7 @@ module _ (scope : Scope) where
 
       listed_ask : Contains (all_listed cands x) z × (free z ≡ true) → Asks cands x z
       listed_ask (there, is_free) =
-          elim (Contains-append_cases (own_requisites scope cands x) (for_function x) z there) [
+          elim (Contains-append_cases (own_requisites cands x) (for_function x) z there) [
             | inl own ↦ own_in cands x z is_free own
             | inr others ↦ Stated is_free others
           ]

@@ -5,15 +5,15 @@ use Rattle.std.specs.List.{flat_map, list_any}
 use Rattle.std.specs.Option.{option_and_then}
 use Rattle.std.specs.Str.{bytes_eq}
 use Rattle.terms.specs.declared.kinds.HoldKind.TheVariants.{Error}
-use Rattle.terms.specs.Types.{Id, Ver, Hold, Zone, Selection, is_error}
+use Rattle.terms.specs.Types.{Id, Ver, Zone, Selection}
 use Rattle.terms.specs.Lookups.{is_applied, applied_of, is_supplied, is_function, is_in, at_most_one, holds_of}
-use Rattle.terms.specs.Choice.{Choice, fits}
+use Rattle.terms.specs.Choice.{Choice, ifs_of}
 use Rattle.terms.specs.Over.{Reaches}
-use Rattle.terms.specs.Candidates.{fmids_for, required_by}
-use Rattle.terms.specs.Conditions.{reqs_where, stated_for}
+use Rattle.terms.specs.Candidates.{fmids_for}
+use Rattle.terms.specs.Conditions.{reqs_where}
 use Rattle.sysmods.specs.Namers.{namers_for, function_namers}
 use Rattle.select.specs.Scopes.{Scope, is_open_in, is_start_in, is_growing_start_in, IsClosed}
-use Rattle.select.specs.Scopes.{needed_in, open_reasons_in, vers_in, sups_in}
+use Rattle.select.specs.Scopes.{needed_in, open_reasons_in, received_vers, vers_in, sups_in, is_for_and_fits}
 
 -- y will do for z: it is z, or under GROUPEXTEND supersedes it
 abbrev pub WillDo : Scope → Id → Id → Type 0
@@ -63,26 +63,33 @@ is_there scope seen f = is_applied scope.zone f || taken_up scope seen f
 abbrev pub open_fmids : Zone → List Id → List Id
 open_fmids zone fmids = if list_any (is_applied zone) fmids then [] else fmids
 
--- the requisites of those of its ++VERs for the zone's SREL that fit
-abbrev pub own_requisites : Scope → (Id → Bool) → Id → List Id
-own_requisites scope cands x =
-    flat_map (required_by scope.zone cands) (filter (fits scope.zone cands) (vers_in scope x))
+-- the ++VERs of these SYSMODs that are for the zone's SREL and fit
+abbrev pub fitting : Scope → (Id → Bool) → List Id → List Ver
+fitting scope cands xs = filter (is_for_and_fits scope.zone cands) (flat_map (received_vers scope) xs)
+
+-- what these ++VERs require: by PRE, by REQ, and by ++IFs whose function is applied or a candidate
+abbrev pub required_of : Zone → (Id → Bool) → List Ver → List Id
+required_of zone cands vs =
+    flat_map (λ v. v.pre) vs ++ flat_map (λ v. v.req) vs
+    ++ reqs_where (λ f. is_applied zone f || cands f) (flat_map (λ v. v.ifs) vs)
+
+-- what they require by ++IFs for a function
+abbrev pub required_for : Id → List Ver → List Id
+required_for f vs = reqs_where (bytes_eq f) (flat_map (λ v. v.ifs) vs)
 
 -- the ++VER by which an applied SYSMOD was installed
 abbrev pub kept_ver : Scope → Choice
 kept_ver scope y = option_and_then (λ a. slice_get (vers_in scope y) (a.number - 1)) (applied_of scope.zone y)
 
--- those that name it as a function
+-- the received SYSMODs that name it as a function
 abbrev pub namers_in : Scope → Id → List Id
 namers_in scope f = function_namers scope.global.sysmods f
 
 -- the requisites that applied SYSMODs state for a function by ++IF
 abbrev pub stated : Scope → Id → List Id
-stated scope x = if is_function scope.global x then stated_for (kept_ver scope) (namers_in scope x) x else []
-
--- the reason of an ERROR hold
-abbrev pub error_reason : Hold → List Id
-error_reason h = if is_error h.kind then h.reason ∷ [] else []
+stated scope x =
+    if is_function scope.global x then reqs_where (bytes_eq x) (flat_map (ifs_of (kept_ver scope)) (namers_in scope x))
+    else []
 
 -- the reasons of its ERROR holds, under GROUPEXTEND
 abbrev pub reasons : Scope → Id → List Id
@@ -93,41 +100,27 @@ abbrev pub own_asked : Scope → List Id → Id → List Id
 own_asked scope seen x =
     open_fmids scope.zone (fmids_for scope.global scope.zone.srel x)
     ++ filter (λ z. not (is_supplied scope.zone z))
-    (own_requisites scope (taken_up scope seen) x ++ stated scope x ++ reasons scope x)
+    (required_of scope.zone (taken_up scope seen) (fitting scope (taken_up scope seen) (x ∷ []))
+    ++ stated scope x ++ reasons scope x)
 
--- what a ++VER requires by this function: all, if it is its FMID, else what its ++IFs for it do
-abbrev pub required_through : Zone → (Id → Bool) → Id → Ver → List Id
-required_through zone cands f v =
-    if is_in (at_most_one v.fmid) f then required_by zone cands v else reqs_where (bytes_eq f) v.ifs
+-- the ++VERs that fit of those that grow and name the function
+abbrev pub fitting_namers : Scope → List Id → Id → List Ver
+fitting_namers scope seen f = fitting scope (taken_up scope seen) (filter (has_grown scope seen) (namers_in scope f))
 
--- What a SYSMOD asks for by this function, as far as these ids are asked for: what those of its ++VERs for the zone's
--- SREL that fit require by it.
-abbrev pub asked_through : Scope → List Id → Id → Id → List Id
-asked_through scope seen f y =
-    flat_map (required_through scope.zone (taken_up scope seen) f)
-    (filter (fits scope.zone (taken_up scope seen)) (vers_in scope y))
-
--- what those that grow and name the function ask for by it
+-- what those ask for by the function: all that a ++VER requires whose FMID it is, and what ++IFs for it do
 abbrev pub asked_by_namers : Scope → List Id → Id → List Id
 asked_by_namers scope seen f =
     filter (λ z. not (is_supplied scope.zone z))
-    (flat_map (asked_through scope seen f) (filter (has_grown scope seen) (namers_in scope f)))
+    (required_of scope.zone (taken_up scope seen)
+    (filter (λ v. is_in (at_most_one v.fmid) f) (fitting_namers scope seen f))
+    ++ required_for f (fitting_namers scope seen f))
 
--- what it asks for by itself, unless it grew from the start
-abbrev pub own_unless_first : Scope → List Id → Id → List Id
-own_unless_first scope seen x = if is_growing_start_in scope x then [] else own_asked scope seen x
-
--- what others ask for by it, unless it is of the start
-abbrev pub others_unless_start : Scope → List Id → Id → List Id
-others_unless_start scope seen x = if is_start_in scope x then [] else asked_by_namers scope seen x
-
--- what comes to be asked for once an open id is
+-- What comes to be asked for once an open id is: what it asks for by itself, unless it grew from the start, and what
+-- others ask for by it, unless it was a candidate from the start.
 abbrev pub brought_by : Scope → List Id → Id → List Id
-brought_by scope seen x = own_unless_first scope seen x ++ others_unless_start scope seen x
-
--- that, if the id is open
-abbrev pub brought_if_open : Scope → List Id → Id → List Id
-brought_if_open scope seen x = if is_open_in scope x then brought_by scope seen x else []
+brought_by scope seen x =
+    if is_growing_start_in scope x then []
+    else own_asked scope seen x ++ (if is_start_in scope x then [] else asked_by_namers scope seen x)
 
 -- those that supersede it directly, under GROUPEXTEND
 abbrev pub superseders : Scope → Id → List Id
@@ -137,7 +130,7 @@ superseders scope z =
 
 -- what comes to be asked for once an id is: if it is open, what it brings, and those that supersede it
 abbrev pub next_asked : Scope → List Id → Id → List Id
-next_asked scope seen z = brought_if_open scope seen z ++ superseders scope z
+next_asked scope seen z = (if is_open_in scope z then brought_by scope seen z else []) ++ superseders scope z
 
 -- whether an id of the start brings others in
 abbrev pub brings_others : Selection → Id → Bool

@@ -1,7 +1,9 @@
 -- What an APPLY chooses from and by, and the rules of the candidates over it.
-use Rattle.std.specs.Prelude.{◌&&◌, ◌++◌, Bool, List}
+use Rattle.std.specs.Prelude.{◌&&◌, ◌++◌, Bool, List, []}
+use Rattle.std.specs.Option.{option_map_or}
 use Rattle.std.specs.Str.{bytes_eq}
 use Rattle.terms.specs.Types.{Id, Ver, Global, Zone, Selection}
+use Rattle.terms.specs.Lookups.{sysmod_of}
 use Rattle.terms.specs.Choice.{vers_of, fits}
 use Rattle.terms.specs.Candidates.{is_installable, is_open, is_mass_chosen, is_start, is_growing_start, IsClosedPair}
 use Rattle.terms.specs.Candidates.{needed_ids, open_reasons, sups_for}
@@ -35,6 +37,10 @@ needed_in scope cands x = needed_ids scope.global scope.zone cands x
 
 abbrev pub open_reasons_in : Scope → Id → List Id
 open_reasons_in scope x = open_reasons scope.global scope.zone x
+
+-- its ++VERs, if it is received
+abbrev pub received_vers : Scope → Id → List Ver
+received_vers scope x = option_map_or (λ s. s.vers) (sysmod_of scope.global x) []
 
 -- its ++VERs for the zone's SREL
 abbrev pub vers_in : Scope → Id → List Ver

@@ -1,259 +1,124 @@
-//! What a SYSMOD that grows asks for by itself.
-ghost use Rattle.std.specs.Prelude.{◌≡◌, ◌++◌, ◌&&◌, ◌||◌, ◌==◌, [], ◌∷◌, not, filter, map, IfOk, OnOk};
-ghost use Rattle.std.specs.Prelude.{if◌then◌else◌};
-ghost use Rattle.std.specs.List.{flat_map, list_any};
+//! What a SYSMOD that grows asks for by itself: its open FMIDs, and what the zone does not supply of its requisites, of
+//! those that applied SYSMODs state for it, and of the reasons of its ERROR holds.
+ghost use Rattle.std.specs.Prelude.{◌≡◌, ◌++◌, ◌&&◌, ◌||◌, ◌==◌, [], ◌∷◌, filter, map, IfOk, OnOk, if◌then◌else◌};
+ghost use Rattle.std.specs.List.{flat_map, filter_map, list_any};
 ghost use Rattle.std.specs.Str.{bytes_eq};
 ghost use Rattle.terms.specs.declared.kinds.HoldKind.TheVariants.{Error};
-ghost use Rattle.terms.specs.Lookups.{at_most_one, is_applied, is_in, is_supplied, holds_of};
-ghost use Rattle.terms.specs.Choice.{fits};
-ghost use Rattle.terms.specs.Candidates.{required_by, fmids_for};
-ghost use Rattle.terms.specs.Conditions.{reqs_where, if_reqs, stated_for};
-ghost use Rattle.select.specs.Scopes.{is_growing_start_in, is_for_and_fits};
-ghost use Rattle.select.specs.Growing.{is_open_among, taken_up, has_grown, is_there, open_fmids, own_requisites};
-ghost use Rattle.select.specs.Growing.{kept_ver, namers_in, stated, error_reason, reasons, own_asked, brings_others};
+ghost use Rattle.terms.specs.Types.{is_error};
+ghost use Rattle.terms.specs.Lookups.{is_applied, holds_of};
+ghost use Rattle.terms.specs.Choice.{fits, ifs_of};
+ghost use Rattle.terms.specs.Candidates.{fmids_for};
+ghost use Rattle.terms.specs.Conditions.{reqs_where};
+ghost use Rattle.select.specs.Scopes.{is_for_and_fits};
+ghost use Rattle.select.specs.Growing.{is_open_among, taken_up, has_grown, is_there, open_fmids, fitting, required_of};
+ghost use Rattle.select.specs.Growing.{kept_ver, stated, reasons, own_asked};
 
 use crate::scope::Scope;
-use crate::start::is_start;
-use fields::{Id, Selection, Srel};
+use fields::{Id, Srel};
 use indexmap::IndexSet;
 use std::alloc::{AllocError, Global};
 use sysmod::{Hold, IfReq, Ver};
 use terms::HoldKind;
-use zones::Zone;
 
-/// Whether an id of the start brings others in.
-pub(crate) fn brings_others(selection: &Selection, id: Id) -> bool
-    ensures { result ≡ brings_others selection.now id }
+// The FMIDs of those for the SREL.
+fn fmids_among(alloc: Global, srel: Srel, vers: &[Ver]) -> Result<Vec<Id>, AllocError>
+    ensures { IfOk result (λ ids. ids.items ≡ filter_map (λ v. v.fmid) (filter (λ v. bytes_eq v.srel srel) vers.now)) }
 {
-    selection.groupextend || selection.group.contains(id)
+    vers.iter()
+        .filter(|ver| ver.srel == srel)
+        .filter_map(|ver| ver.fmid)
+        .collect(alloc)
 }
 
-/// Whether it is of the start and brings others in.
-pub(crate) fn is_growing_start(scope: &Scope, id: Id) -> bool
-    ensures { result ≡ is_growing_start_in scope.now id }
-{
-    is_start(scope, id) && brings_others(scope.selection, id)
-}
-
-fn is_open_among(scope: &Scope, seen: &IndexSet<Id>, id: Id) -> bool
-    ensures { result ≡ is_open_among scope.now seen.now.keys id }
-{
-    seen.contains(&id) && scope.is_open(id)
-}
-
-fn is_taken_up(scope: &Scope, seen: &IndexSet<Id>, id: Id) -> bool
-    ensures { result ≡ taken_up scope.now seen.now.keys id }
-{
-    is_start(scope, id) || is_open_among(scope, seen, id)
-}
-
-/// Whether it grows, where these ids are asked for already.
-pub(crate) fn has_grown(scope: &Scope, seen: &IndexSet<Id>, id: Id) -> bool
-    ensures { result ≡ has_grown scope.now seen.now.keys id }
-{
-    is_growing_start(scope, id) || is_open_among(scope, seen, id)
-}
-
-fn is_there(scope: &Scope, seen: &IndexSet<Id>, function: Id) -> bool
-    ensures { result ≡ is_there scope.now seen.now.keys function }
-{
-    scope.zone.is_applied(function) || is_taken_up(scope, seen, function)
-}
-
-fn append_if(passes: bool, condition: &IfReq, found: &mut Vec<Id>) -> Result<(), AllocError>
-    ensures { OnOk result (found.new.items ≡ found.old.items ++ (if passes then condition.now.req else [])) }
-{
-    if passes {
-        found.extend_from_slice(condition.req.as_slice())?;
+impl<'a> Scope<'a> {
+    // The FMIDs of its `++VER`s for the zone's SREL.
+    fn fmids(&self, alloc: Global, id: Id) -> Result<Vec<Id>, AllocError>
+        ensures { IfOk result (λ ids. ids.items ≡ fmids_for self.now.global self.now.zone.srel id) }
+    {
+        fmids_among(alloc, self.zone.srel(), self.vers(id))
     }
-    Ok(())
-}
 
-fn append_if_there(
-    scope: &Scope,
-    seen: &IndexSet<Id>,
-    condition: &IfReq,
-    found: &mut Vec<Id>,
-) -> Result<(), AllocError>
-    ensures { OnOk result (found.new.items ≡ found.old.items
-        ++ (if is_there scope.now seen.now.keys condition.now.function then condition.now.req else [])) }
-{
-    append_if(is_there(scope, seen, condition.function), condition, found)
-}
-
-// The requisites of the `++IF`s whose function is applied or a candidate.
-fn append_conditional(
-    scope: &Scope,
-    seen: &IndexSet<Id>,
-    conditions: &[IfReq],
-    found: &mut Vec<Id>,
-) -> Result<(), AllocError>
-    ensures { OnOk result (found.new.items ≡ found.old.items
-        ++ reqs_where (is_there scope.now seen.now.keys) conditions.now) }
-{
-    for condition in conditions {
-        append_if_there(scope, seen, condition, found)?;
+    fn any_applied(&self, ids: &[Id]) -> bool
+        ensures { result ≡ list_any (is_applied self.now.zone) ids.now }
+    {
+        ids.iter().any(|id| self.is_applied(*id))
     }
-    Ok(())
-}
 
-/// What the `++VER` requires by PRE, REQ and `++IF`.
-pub(crate) fn append_operands(
-    scope: &Scope,
-    seen: &IndexSet<Id>,
-    ver: &Ver,
-    found: &mut Vec<Id>,
-) -> Result<(), AllocError>
-    ensures { OnOk result (found.new.items ≡ found.old.items
-        ++ (ver.now.pre ++ ver.now.req ++ reqs_where (is_there scope.now seen.now.keys) ver.now.ifs)) }
-{
-    found.extend_from_slice(ver.pre.as_slice())?;
-    found.extend_from_slice(ver.req.as_slice())?;
-    append_conditional(scope, seen, ver.ifs.as_slice(), found)?;
-    Ok(())
-}
+    // Its FMIDs, unless one of them is applied.
+    fn open_fmids(&self, alloc: Global, id: Id) -> Result<Vec<Id>, AllocError>
+        ensures { IfOk result (λ ids. ids.items
+            ≡ open_fmids self.now.zone (fmids_for self.now.global self.now.zone.srel id)) }
+    {
+        let fmids = self.fmids(alloc, id)?;
+        if self.any_applied(fmids.as_slice()) {
+            return Ok(Vec::new(alloc));
+        }
+        Ok(fmids)
+    }
 
-// Whether it has no FMID, or one that is applied or a candidate.
-fn fits(scope: &Scope, seen: &IndexSet<Id>, ver: &Ver) -> bool
-    ensures { result ≡ fits scope.now.zone (taken_up scope.now seen.now.keys) ver.now }
-{
-    match ver.fmid {
-        Some(fmid) => is_there(scope, seen, fmid),
-        None => true,
+    // The `++IF`s of the `++VER` by which it was installed, if it is applied.
+    fn kept_ifs(&self, id: Id) -> &'a [IfReq]
+        ensures { result.now ≡ ifs_of (kept_ver self.now) id }
+    {
+        match self.kept_ver(id) {
+            Some(ver) => ver.ifs.as_slice(),
+            None => &[],
+        }
+    }
+
+    // What these state by `++IF` for the function, if they are applied.
+    fn stated_among(&self, alloc: Global, function: Id, ids: &[Id]) -> Result<Vec<Id>, AllocError>
+        ensures { IfOk result (λ found. found.items
+            ≡ reqs_where (bytes_eq function) (flat_map (ifs_of (kept_ver self.now)) ids.now)) }
+    {
+        ids.iter()
+            .flat_map(|id| self.kept_ifs(*id).iter())
+            .filter(|condition| function == condition.function)
+            .flat_map(|condition| condition.req.iter())
+            .copied()
+            .collect(alloc)
+    }
+
+    // What applied SYSMODs state by `++IF` for a function.
+    fn stated(&self, alloc: Global, id: Id) -> Result<Vec<Id>, AllocError>
+        ensures { IfOk result (λ ids. ids.items ≡ stated self.now id) }
+    {
+        if !self.global.is_function(id) {
+            return Ok(Vec::new(alloc));
+        }
+        let namers = self.function_namers(alloc, id)?;
+        self.stated_among(alloc, id, namers.as_slice())
+    }
+
+    // The reasons of its ERROR holds.
+    #[tactic(auto, using(crate::proofs::ErrorReasons::error_reasons))]
+    fn error_reasons(&self, alloc: Global, id: Id) -> Result<Vec<Id>, AllocError>
+        ensures { IfOk result (λ ids. ids.items ≡ map (λ h. h.reason) (holds_of self.now.global Error id)) }
+    {
+        let mut ids = Vec::new(alloc);
+        for hold in self.global.holds_of(HoldKind::Error, id) {
+            append_reason(hold, &mut ids)?;
+        }
+        Ok(ids)
+    }
+
+    // The reasons of its ERROR holds, under GROUPEXTEND.
+    fn reasons(&self, alloc: Global, id: Id) -> Result<Vec<Id>, AllocError>
+        ensures { IfOk result (λ ids. ids.items ≡ reasons self.now id) }
+    {
+        let selection = self.selection;
+        if selection.groupextend {
+            self.error_reasons(alloc, id)
+        } else {
+            Ok(Vec::new(alloc))
+        }
     }
 }
 
-/// Whether it is for the zone's SREL and fits.
-pub(crate) fn is_for_and_fits(scope: &Scope, seen: &IndexSet<Id>, ver: &Ver) -> bool
-    ensures { result ≡ is_for_and_fits scope.now.zone (taken_up scope.now seen.now.keys) ver.now }
-{
-    ver.srel == scope.zone.srel() && fits(scope, seen, ver)
-}
-
-// What the `++VER` requires, if it is for the zone's SREL and fits.
-fn append_required(
-    scope: &Scope,
-    seen: &IndexSet<Id>,
-    ver: &Ver,
-    found: &mut Vec<Id>,
-) -> Result<(), AllocError>
-    ensures { OnOk result (found.new.items ≡ found.old.items
-        ++ (if is_for_and_fits scope.now.zone (taken_up scope.now seen.now.keys) ver.now
-        then required_by scope.now.zone (taken_up scope.now seen.now.keys) ver.now else [])) }
-{
-    if is_for_and_fits(scope, seen, ver) {
-        append_operands(scope, seen, ver, found)?;
-    }
-    Ok(())
-}
-
-fn append_all_required(
-    scope: &Scope,
-    seen: &IndexSet<Id>,
-    vers: &[Ver],
-    found: &mut Vec<Id>,
-) -> Result<(), AllocError>
-    ensures { OnOk result (found.new.items ≡ found.old.items
-        ++ flat_map (required_by scope.now.zone (taken_up scope.now seen.now.keys))
-        (filter (is_for_and_fits scope.now.zone (taken_up scope.now seen.now.keys)) vers.now)) }
-{
-    for ver in vers {
-        append_required(scope, seen, ver, found)?;
-    }
-    Ok(())
-}
-
-fn append_own(
-    scope: &Scope,
-    seen: &IndexSet<Id>,
-    id: Id,
-    found: &mut Vec<Id>,
-) -> Result<(), AllocError>
-    ensures { OnOk result (found.new.items ≡ found.old.items
-        ++ own_requisites scope.now (taken_up scope.now seen.now.keys) id) }
-{
-    append_all_required(scope, seen, scope.vers(id), found)
-}
-
-fn append_if_for(function: Id, condition: &IfReq, found: &mut Vec<Id>) -> Result<(), AllocError>
-    ensures { OnOk result (found.new.items ≡ found.old.items
-        ++ (if bytes_eq function condition.now.function then condition.now.req else [])) }
-{
-    append_if(function == condition.function, condition, found)
-}
-
-/// What `++IF`s for the function require.
-pub(crate) fn append_all_for(
-    function: Id,
-    conditions: &[IfReq],
-    found: &mut Vec<Id>,
-) -> Result<(), AllocError>
-    ensures { OnOk result (found.new.items ≡ found.old.items ++ reqs_where (bytes_eq function) conditions.now) }
-{
-    for condition in conditions {
-        append_if_for(function, condition, found)?;
-    }
-    Ok(())
-}
-
-// What an applied SYSMOD states for the function.
-fn append_stated_by(
-    scope: &Scope,
-    function: Id,
-    namer: Id,
-    found: &mut Vec<Id>,
-) -> Result<(), AllocError>
-    ensures { OnOk result (found.new.items ≡ found.old.items
-        ++ if_reqs (kept_ver scope.now) (bytes_eq function) namer) }
-{
-    match scope.kept_ver(namer) {
-        Some(ver) => append_all_for(function, ver.ifs.as_slice(), found),
-        None => Ok(()),
-    }
-}
-
-fn append_stated_among(
-    scope: &Scope,
-    function: Id,
-    namers: &[Id],
-    found: &mut Vec<Id>,
-) -> Result<(), AllocError>
-    ensures { OnOk result (found.new.items ≡ found.old.items
-        ++ stated_for (kept_ver scope.now) namers.now function) }
-{
-    for namer in namers {
-        append_stated_by(scope, function, *namer, found)?;
-    }
-    Ok(())
-}
-
-/// Those that name it as a function.
-pub(crate) fn function_namers(alloc: Global, scope: &Scope, id: Id) -> Result<Vec<Id>, AllocError>
-    ensures { IfOk result (λ namers. namers.items ≡ namers_in scope.now id) }
-{
-    let mut namers = Vec::new(alloc);
-    scope.global.append_function_namers(id, &mut namers)?;
-    Ok(namers)
-}
-
-// The requisites that applied SYSMODs state by `++IF` for a function.
-fn append_stated(
-    alloc: Global,
-    scope: &Scope,
-    id: Id,
-    found: &mut Vec<Id>,
-) -> Result<(), AllocError>
-    ensures { OnOk result (found.new.items ≡ found.old.items ++ stated scope.now id) }
-{
-    if scope.global.is_function(id) {
-        let namers = function_namers(alloc, scope, id)?;
-        append_stated_among(scope, id, namers.as_slice(), found)?;
-    }
-    Ok(())
-}
-
+// The reason of an ERROR hold is an id.
 fn append_reason(hold: &Hold, found: &mut Vec<Id>) -> Result<(), AllocError>
-    ensures { OnOk result (found.new.items ≡ found.old.items ++ error_reason hold.now) }
+    ensures { OnOk result (found.new.items
+        ≡ found.old.items ++ (if is_error hold.now.kind then hold.now.reason ∷ [] else [])) }
 {
     if hold.kind == HoldKind::Error {
         if let Some(id) = hold.reason.as_id() {
@@ -263,115 +128,131 @@ fn append_reason(hold: &Hold, found: &mut Vec<Id>) -> Result<(), AllocError>
     Ok(())
 }
 
-#[tactic(auto, using(crate::proofs::ErrorReasons::error_reasons))]
-fn append_error_reasons(scope: &Scope, id: Id, found: &mut Vec<Id>) -> Result<(), AllocError>
-    ensures { OnOk result (found.new.items ≡ found.old.items
-        ++ map (λ h. h.reason) (holds_of scope.now.global Error id)) }
-{
-    for hold in scope.global.holds_of(HoldKind::Error, id) {
-        append_reason(hold, found)?;
-    }
-    Ok(())
-}
-
-fn append_reasons(scope: &Scope, id: Id, found: &mut Vec<Id>) -> Result<(), AllocError>
-    ensures { OnOk result (found.new.items ≡ found.old.items ++ reasons scope.now id) }
-{
-    let selection = scope.selection;
-    if selection.groupextend {
-        append_error_reasons(scope, id, found)?;
-    }
-    Ok(())
-}
-
-fn requisites(
-    alloc: Global,
-    scope: &Scope,
-    seen: &IndexSet<Id>,
-    id: Id,
-) -> Result<Vec<Id>, AllocError>
+// What they require by PRE and REQ.
+fn required_always(alloc: Global, vers: &[&Ver]) -> Result<Vec<Id>, AllocError>
     ensures { IfOk result (λ ids. ids.items
-        ≡ own_requisites scope.now (taken_up scope.now seen.now.keys) id
-        ++ stated scope.now id ++ reasons scope.now id) }
+        ≡ flat_map (λ v. v.now.pre) vers.now ++ flat_map (λ v. v.now.req) vers.now) }
 {
-    let mut ids = Vec::new(alloc);
-    append_own(scope, seen, id, &mut ids)?;
-    append_stated(alloc, scope, id, &mut ids)?;
-    append_reasons(scope, id, &mut ids)?;
-    Ok(ids)
+    let by_pre = vers.iter().copied().flat_map(|ver| ver.pre.iter());
+    let by_req = vers.iter().copied().flat_map(|ver| ver.req.iter());
+    by_pre.chain(by_req).copied().collect(alloc)
 }
 
-/// Those that the zone does not supply.
-pub(crate) fn unsupplied(alloc: Global, zone: &Zone, ids: &[Id]) -> Result<Vec<Id>, AllocError>
-    ensures { IfOk result (λ found. found.items ≡ filter (λ z. not (is_supplied zone.now z)) ids.now) }
-{
-    ids.iter()
-        .filter(|id| !zone.supplies(**id))
-        .copied()
-        .collect(alloc)
+/// What is asked for so far.
+#[derive(Drop)]
+pub(crate) struct Asked<'a> {
+    pub(crate) scope: &'a Scope<'a>,
+    pub(crate) seen: &'a IndexSet<Id>,
 }
 
-// The FMID, if the `++VER` is for the SREL.
-fn append_fmid(srel: Srel, ver: &Ver, found: &mut Vec<Id>) -> Result<(), AllocError>
-    ensures { OnOk result (found.new.items ≡ found.old.items
-        ++ (if bytes_eq ver.now.srel srel then at_most_one ver.now.fmid else [])) }
-{
-    if ver.srel == srel {
-        if let Some(fmid) = ver.fmid {
-            found.push(fmid)?;
+impl<'a> Asked<'a> {
+    // Whether it is asked for and open.
+    fn has_open(&self, id: Id) -> bool
+        ensures { result ≡ is_open_among self.now.scope.now self.now.seen.now.keys id }
+    {
+        self.seen.contains(&id) && self.scope.is_open(id)
+    }
+
+    // Whether it is a candidate: of the start, or asked for and open.
+    fn has_taken_up(&self, id: Id) -> bool
+        ensures { result ≡ taken_up self.now.scope.now self.now.seen.now.keys id }
+    {
+        self.scope.is_start(id) || self.has_open(id)
+    }
+
+    /// Whether it grows.
+    pub(crate) fn has_grown(&self, id: Id) -> bool
+        ensures { result ≡ has_grown self.now.scope.now self.now.seen.now.keys id }
+    {
+        self.scope.is_growing_start(id) || self.has_open(id)
+    }
+
+    // Whether the function is applied or a candidate.
+    fn is_there(&self, function: Id) -> bool
+        ensures { result ≡ is_there self.now.scope.now self.now.seen.now.keys function }
+    {
+        self.scope.is_applied(function) || self.has_taken_up(function)
+    }
+
+    // Whether it has no FMID, or one that is there.
+    fn has_fmid_there(&self, ver: &Ver) -> bool
+        ensures { result ≡ fits self.now.scope.now.zone (taken_up self.now.scope.now self.now.seen.now.keys) ver.now }
+    {
+        match ver.fmid {
+            Some(fmid) => self.is_there(fmid),
+            None => true,
         }
     }
-    Ok(())
-}
 
-fn append_fmids(srel: Srel, vers: &[Ver], found: &mut Vec<Id>) -> Result<(), AllocError>
-    ensures { OnOk result (found.new.items ≡ found.old.items
-        ++ flat_map (λ v. at_most_one v.fmid) (filter (λ v. bytes_eq v.srel srel) vers.now)) }
-{
-    for ver in vers {
-        append_fmid(srel, ver, found)?;
+    // Whether it is for the zone's SREL, and its FMID is there.
+    fn fits(&self, ver: &Ver) -> bool
+        ensures { result
+            ≡ is_for_and_fits self.now.scope.now.zone (taken_up self.now.scope.now self.now.seen.now.keys) ver.now }
+    {
+        self.scope.is_for(ver) && self.has_fmid_there(ver)
     }
-    Ok(())
-}
 
-// The FMIDs of its `++VER`s for the zone's SREL.
-fn fmids(alloc: Global, scope: &Scope, id: Id) -> Result<Vec<Id>, AllocError>
-    ensures { IfOk result (λ ids. ids.items ≡ fmids_for scope.now.global scope.now.zone.srel id) }
-{
-    let mut ids = Vec::new(alloc);
-    append_fmids(scope.zone.srel(), scope.vers(id), &mut ids)?;
-    Ok(ids)
-}
-
-fn any_applied(zone: &Zone, ids: &[Id]) -> bool
-    ensures { result ≡ list_any (is_applied zone.now) ids.now }
-{
-    ids.iter().any(|id| zone.is_applied(*id))
-}
-
-// These, unless one of them is applied.
-fn unless_applied(alloc: Global, zone: &Zone, ids: Vec<Id>) -> Vec<Id>
-    ensures { result.items ≡ open_fmids zone.now ids.items }
-{
-    if any_applied(zone, ids.as_slice()) {
-        Vec::new(alloc)
-    } else {
-        ids
+    /// The `++VER`s of these that fit.
+    pub(crate) fn fitting(&self, alloc: Global, ids: &[Id]) -> Result<Vec<&'a Ver>, AllocError>
+        ensures { IfOk result (λ vers. map (λ v. v.now) vers.items
+            ≡ fitting self.now.scope.now (taken_up self.now.scope.now self.now.seen.now.keys) ids.now) }
+    {
+        ids.iter()
+            .flat_map(|id| self.scope.vers(*id).iter())
+            .filter(|ver| self.fits(ver))
+            .collect(alloc)
     }
-}
 
-/// What it asks for by itself, where these ids are asked for already.
-pub(crate) fn own_asked(
-    alloc: Global,
-    scope: &Scope,
-    seen: &IndexSet<Id>,
-    id: Id,
-) -> Result<Vec<Id>, AllocError>
-    ensures { IfOk result (λ found. found.items ≡ own_asked scope.now seen.now.keys id) }
-{
-    let mut found = unless_applied(alloc, scope.zone, fmids(alloc, scope, id)?);
-    let requisites = requisites(alloc, scope, seen, id)?;
-    let wanted = unsupplied(alloc, scope.zone, requisites.as_slice())?;
-    found.extend_from_slice(wanted.as_slice())?;
-    Ok(found)
+    // What they require by `++IF`s whose function is there.
+    fn required_by_ifs(&self, alloc: Global, vers: &[&Ver]) -> Result<Vec<Id>, AllocError>
+        ensures { IfOk result (λ ids. ids.items
+            ≡ reqs_where (is_there self.now.scope.now self.now.seen.now.keys) (flat_map (λ v. v.now.ifs) vers.now)) }
+    {
+        vers.iter()
+            .copied()
+            .flat_map(|ver| ver.ifs.iter())
+            .filter(|condition| self.is_there(condition.function))
+            .flat_map(|condition| condition.req.iter())
+            .copied()
+            .collect(alloc)
+    }
+
+    /// What these `++VER`s require: by PRE, by REQ, and by `++IF`s whose function is there.
+    pub(crate) fn required_of(&self, alloc: Global, vers: &[&Ver]) -> Result<Vec<Id>, AllocError>
+        ensures { IfOk result (λ ids. ids.items
+            ≡ flat_map (λ v. v.now.pre) vers.now ++ flat_map (λ v. v.now.req) vers.now
+            ++ reqs_where (is_there self.now.scope.now self.now.seen.now.keys) (flat_map (λ v. v.now.ifs) vers.now)) }
+    {
+        let mut ids = required_always(alloc, vers)?;
+        let by_ifs = self.required_by_ifs(alloc, vers)?;
+        ids.extend_from_slice(by_ifs.as_slice())?;
+        Ok(ids)
+    }
+
+    // What it requires, what applied SYSMODs state for it, and the reasons of its ERROR holds.
+    fn wanted(&self, alloc: Global, id: Id) -> Result<Vec<Id>, AllocError>
+        ensures { IfOk result (λ ids. ids.items
+            ≡ required_of self.now.scope.now.zone (taken_up self.now.scope.now self.now.seen.now.keys)
+            (fitting self.now.scope.now (taken_up self.now.scope.now self.now.seen.now.keys) (id ∷ []))
+            ++ stated self.now.scope.now id ++ reasons self.now.scope.now id) }
+    {
+        let vers = self.fitting(alloc, &[id])?;
+        let mut ids = self.required_of(alloc, vers.as_slice())?;
+        let stated = self.scope.stated(alloc, id)?;
+        ids.extend_from_slice(stated.as_slice())?;
+        let reasons = self.scope.reasons(alloc, id)?;
+        ids.extend_from_slice(reasons.as_slice())?;
+        Ok(ids)
+    }
+
+    /// What it asks for by itself.
+    pub(crate) fn own_asked(&self, alloc: Global, id: Id) -> Result<Vec<Id>, AllocError>
+        ensures { IfOk result (λ found. found.items ≡ own_asked self.now.scope.now self.now.seen.now.keys id) }
+    {
+        let mut found = self.scope.open_fmids(alloc, id)?;
+        let wanted = self.wanted(alloc, id)?;
+        let unsupplied = self.scope.unsupplied(alloc, wanted.as_slice())?;
+        found.extend_from_slice(unsupplied.as_slice())?;
+        Ok(found)
+    }
 }

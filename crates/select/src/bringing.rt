@@ -1,21 +1,17 @@
-//! What comes to be asked for once an open id is: what it asks for by itself, and what those that name it as a function
-//! ask for by it.
-ghost use Rattle.std.specs.Prelude.{◌≡◌, ◌++◌, ◌&&◌, [], filter, IfOk, OnOk, if◌then◌else◌};
+//! What comes to be asked for once an id is: what it asks for by itself, what those that name it as a function ask for
+//! by it, and those that supersede it.
+ghost use Rattle.std.specs.Prelude.{◌≡◌, filter, map, IfOk};
 ghost use Rattle.std.specs.List.{flat_map};
 ghost use Rattle.std.specs.Str.{bytes_eq};
 ghost use Rattle.terms.specs.Lookups.{at_most_one, is_in};
-ghost use Rattle.select.specs.Scopes.{is_for_and_fits};
-ghost use Rattle.select.specs.Growing.{taken_up, has_grown, required_through, asked_through};
-ghost use Rattle.select.specs.Growing.{asked_by_namers, own_unless_first, others_unless_start, brought_by};
+ghost use Rattle.terms.specs.Conditions.{reqs_where};
+ghost use Rattle.select.specs.Scopes.{sups_in};
+ghost use Rattle.select.specs.Growing.{has_grown, fitting_namers, asked_by_namers, brought_by};
+ghost use Rattle.select.specs.Growing.{superseders, next_asked};
 
-use crate::asking::{
-    append_all_for, append_operands, function_namers, has_grown, is_for_and_fits, is_growing_start,
-    own_asked, unsupplied,
-};
+use crate::asking::Asked;
 use crate::scope::Scope;
-use crate::start::is_start;
 use fields::Id;
-use indexmap::IndexSet;
 use std::alloc::{AllocError, Global};
 use sysmod::Ver;
 
@@ -25,165 +21,117 @@ fn has_fmid(ver: &Ver, id: Id) -> bool
     ver.fmid == Some(id)
 }
 
-// What the `++VER` requires by the function.
-fn append_required_through(
-    scope: &Scope,
-    seen: &IndexSet<Id>,
-    function: Id,
-    ver: &Ver,
-    found: &mut Vec<Id>,
-) -> Result<(), AllocError>
-    ensures { OnOk result (found.new.items ≡ found.old.items
-        ++ required_through scope.now.zone (taken_up scope.now seen.now.keys) function ver.now) }
+// Those whose FMID it is.
+fn with_fmid<'a>(alloc: Global, function: Id, vers: &[&'a Ver]) -> Result<Vec<&'a Ver>, AllocError>
+    ensures { IfOk result (λ found. found.items
+        ≡ filter (λ v. is_in (at_most_one v.now.fmid) function) vers.now) }
 {
-    if has_fmid(ver, function) {
-        append_operands(scope, seen, ver, found)
-    } else {
-        append_all_for(function, ver.ifs.as_slice(), found)
+    vers.iter()
+        .filter(|ver| has_fmid(ver, function))
+        .copied()
+        .collect(alloc)
+}
+
+// What they require by `++IF`s for the function.
+fn required_for(alloc: Global, function: Id, vers: &[&Ver]) -> Result<Vec<Id>, AllocError>
+    ensures { IfOk result (λ ids. ids.items ≡ reqs_where (bytes_eq function) (flat_map (λ v. v.now.ifs) vers.now)) }
+{
+    vers.iter()
+        .copied()
+        .flat_map(|ver| ver.ifs.iter())
+        .filter(|condition| function == condition.function)
+        .flat_map(|condition| condition.req.iter())
+        .copied()
+        .collect(alloc)
+}
+
+impl<'a> Scope<'a> {
+    fn over(&self, alloc: Global, id: Id, namers: &[Id]) -> Result<Vec<Id>, AllocError>
+        ensures { IfOk result (λ found. found.items ≡ filter (λ y. is_in (sups_in self.now y) id) namers.now) }
+    {
+        namers
+            .iter()
+            .filter(|namer| self.supersedes(**namer, id))
+            .copied()
+            .collect(alloc)
+    }
+
+    // Those that supersede it directly, under GROUPEXTEND.
+    fn superseders(&self, alloc: Global, id: Id) -> Result<Vec<Id>, AllocError>
+        ensures { IfOk result (λ found. found.items ≡ superseders self.now id) }
+    {
+        let selection = self.selection;
+        let mut namers = Vec::new(alloc);
+        if !selection.groupextend {
+            return Ok(namers);
+        }
+        self.global
+            .append_namers(self.zone.srel(), id, &mut namers)?;
+        self.over(alloc, id, namers.as_slice())
     }
 }
 
-// That, if it is for the zone's SREL and fits.
-fn append_through(
-    scope: &Scope,
-    seen: &IndexSet<Id>,
-    function: Id,
-    ver: &Ver,
-    found: &mut Vec<Id>,
-) -> Result<(), AllocError>
-    ensures { OnOk result (found.new.items ≡ found.old.items
-        ++ (if is_for_and_fits scope.now.zone (taken_up scope.now seen.now.keys) ver.now
-        then required_through scope.now.zone (taken_up scope.now seen.now.keys) function ver.now else [])) }
-{
-    if is_for_and_fits(scope, seen, ver) {
-        append_required_through(scope, seen, function, ver, found)?;
+impl<'a> Asked<'a> {
+    fn grown(&self, alloc: Global, ids: &[Id]) -> Result<Vec<Id>, AllocError>
+        ensures { IfOk result (λ found. found.items
+            ≡ filter (has_grown self.now.scope.now self.now.seen.now.keys) ids.now) }
+    {
+        ids.iter()
+            .filter(|id| self.has_grown(**id))
+            .copied()
+            .collect(alloc)
     }
-    Ok(())
-}
 
-fn append_all_through(
-    scope: &Scope,
-    seen: &IndexSet<Id>,
-    function: Id,
-    vers: &[Ver],
-    found: &mut Vec<Id>,
-) -> Result<(), AllocError>
-    ensures { OnOk result (found.new.items ≡ found.old.items
-        ++ flat_map (required_through scope.now.zone (taken_up scope.now seen.now.keys) function)
-        (filter (is_for_and_fits scope.now.zone (taken_up scope.now seen.now.keys)) vers.now)) }
-{
-    for ver in vers {
-        append_through(scope, seen, function, ver, found)?;
+    // The `++VER`s that fit of those that grow and name the function.
+    fn fitting_namers(&self, alloc: Global, function: Id) -> Result<Vec<&'a Ver>, AllocError>
+        ensures { IfOk result (λ vers. map (λ v. v.now) vers.items
+            ≡ fitting_namers self.now.scope.now self.now.seen.now.keys function) }
+    {
+        let namers = self.scope.function_namers(alloc, function)?;
+        let grown = self.grown(alloc, namers.as_slice())?;
+        self.fitting(alloc, grown.as_slice())
     }
-    Ok(())
-}
 
-// What the one asks for by the function.
-fn append_asked_through(
-    scope: &Scope,
-    seen: &IndexSet<Id>,
-    function: Id,
-    namer: Id,
-    found: &mut Vec<Id>,
-) -> Result<(), AllocError>
-    ensures { OnOk result (found.new.items ≡ found.old.items
-        ++ asked_through scope.now seen.now.keys function namer) }
-{
-    append_all_through(scope, seen, function, scope.vers(namer), found)
-}
-
-fn append_if_grown(
-    scope: &Scope,
-    seen: &IndexSet<Id>,
-    function: Id,
-    namer: Id,
-    found: &mut Vec<Id>,
-) -> Result<(), AllocError>
-    ensures { OnOk result (found.new.items ≡ found.old.items
-        ++ (if has_grown scope.now seen.now.keys namer
-        then asked_through scope.now seen.now.keys function namer else [])) }
-{
-    if has_grown(scope, seen, namer) {
-        append_asked_through(scope, seen, function, namer, found)?;
+    // What those ask for by the function: all that a `++VER` requires whose FMID it is, and what `++IF`s for it do.
+    fn asked_by_namers(&self, alloc: Global, function: Id) -> Result<Vec<Id>, AllocError>
+        ensures { IfOk result (λ found. found.items
+            ≡ asked_by_namers self.now.scope.now self.now.seen.now.keys function) }
+    {
+        let vers = self.fitting_namers(alloc, function)?;
+        let its_own = with_fmid(alloc, function, vers.as_slice())?;
+        let mut ids = self.required_of(alloc, its_own.as_slice())?;
+        let by_ifs = required_for(alloc, function, vers.as_slice())?;
+        ids.extend_from_slice(by_ifs.as_slice())?;
+        self.scope.unsupplied(alloc, ids.as_slice())
     }
-    Ok(())
-}
 
-// What those that grow ask for by the function.
-fn append_all_grown(
-    scope: &Scope,
-    seen: &IndexSet<Id>,
-    function: Id,
-    namers: &[Id],
-    found: &mut Vec<Id>,
-) -> Result<(), AllocError>
-    ensures { OnOk result (found.new.items ≡ found.old.items
-        ++ flat_map (asked_through scope.now seen.now.keys function)
-        (filter (has_grown scope.now seen.now.keys) namers.now)) }
-{
-    for namer in namers {
-        append_if_grown(scope, seen, function, *namer, found)?;
+    // What comes to be asked for once the open id is. One that grew from the start has been asked, and one that was a
+    // candidate from the start was there when others were.
+    fn brought_by(&self, alloc: Global, id: Id) -> Result<Vec<Id>, AllocError>
+        ensures { IfOk result (λ found. found.items ≡ brought_by self.now.scope.now self.now.seen.now.keys id) }
+    {
+        if self.scope.is_growing_start(id) {
+            return Ok(Vec::new(alloc));
+        }
+        let mut found = self.own_asked(alloc, id)?;
+        if self.scope.is_start(id) {
+            return Ok(found);
+        }
+        let by_others = self.asked_by_namers(alloc, id)?;
+        found.extend_from_slice(by_others.as_slice())?;
+        Ok(found)
     }
-    Ok(())
-}
 
-fn asked_by_namers(
-    alloc: Global,
-    scope: &Scope,
-    seen: &IndexSet<Id>,
-    function: Id,
-) -> Result<Vec<Id>, AllocError>
-    ensures { IfOk result (λ found. found.items ≡ asked_by_namers scope.now seen.now.keys function) }
-{
-    let namers = function_namers(alloc, scope, function)?;
-    let mut asked = Vec::new(alloc);
-    append_all_grown(scope, seen, function, namers.as_slice(), &mut asked)?;
-    unsupplied(alloc, scope.zone, asked.as_slice())
-}
-
-// What it asks for by itself, unless that was found at the start.
-fn own_unless_first(
-    alloc: Global,
-    scope: &Scope,
-    seen: &IndexSet<Id>,
-    id: Id,
-) -> Result<Vec<Id>, AllocError>
-    ensures { IfOk result (λ found. found.items ≡ own_unless_first scope.now seen.now.keys id) }
-{
-    if is_growing_start(scope, id) {
-        Ok(Vec::new(alloc))
-    } else {
-        own_asked(alloc, scope, seen, id)
+    /// What comes to be asked for once the id is.
+    pub(crate) fn next(&self, alloc: Global, id: Id) -> Result<Vec<Id>, AllocError>
+        ensures { IfOk result (λ found. found.items ≡ next_asked self.now.scope.now self.now.seen.now.keys id) }
+    {
+        if !self.scope.is_open(id) {
+            return self.scope.superseders(alloc, id);
+        }
+        let mut found = self.brought_by(alloc, id)?;
+        let over = self.scope.superseders(alloc, id)?;
+        found.extend_from_slice(over.as_slice())?;
+        Ok(found)
     }
-}
-
-// What others ask for by it, unless it was a candidate from the start.
-fn others_unless_start(
-    alloc: Global,
-    scope: &Scope,
-    seen: &IndexSet<Id>,
-    id: Id,
-) -> Result<Vec<Id>, AllocError>
-    ensures { IfOk result (λ found. found.items ≡ others_unless_start scope.now seen.now.keys id) }
-{
-    if is_start(scope, id) {
-        Ok(Vec::new(alloc))
-    } else {
-        asked_by_namers(alloc, scope, seen, id)
-    }
-}
-
-/// What comes to be asked for once the open id is, where these ids are asked for already.
-pub(crate) fn brought_by(
-    alloc: Global,
-    scope: &Scope,
-    seen: &IndexSet<Id>,
-    id: Id,
-) -> Result<Vec<Id>, AllocError>
-    ensures { IfOk result (λ found. found.items ≡ brought_by scope.now seen.now.keys id) }
-{
-    let mut found = own_unless_first(alloc, scope, seen, id)?;
-    let others = others_unless_start(alloc, scope, seen, id)?;
-    found.extend_from_slice(others.as_slice())?;
-    Ok(found)
 }

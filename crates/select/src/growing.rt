@@ -3,72 +3,19 @@
 //! several premises: that one SYSMOD grows, that the FMID of the `++VER` is a candidate, and that the function of the
 //! `++IF` is. It is asked for when the last of them is met: once a function is a candidate, those that grow and name it
 //! are asked again by the `++VER`s that name it.
-ghost use Rattle.std.specs.Prelude.{◌≡◌, ◌++◌, ◌↔◌, [], filter, Contains, IsTrue, IfOk, OnOk, if◌then◌else◌};
+ghost use Rattle.std.specs.Prelude.{◌≡◌, ◌↔◌, [], Contains, IsTrue, IfOk, OnOk};
 ghost use Rattle.std.specs.List.{flat_map};
 ghost use Rattle.terms.specs.Types.{Id as AnId};
-ghost use Rattle.terms.specs.Lookups.{is_in};
 ghost use Rattle.sysmods.specs.Seen.{AddsAll};
-ghost use Rattle.select.specs.Scopes.{is_start_in, sups_in};
-ghost use Rattle.select.specs.Growing.{AreAsked, brought_if_open, asked_first, superseders, next_asked};
+ghost use Rattle.select.specs.Scopes.{is_start_in};
+ghost use Rattle.select.specs.Growing.{AreAsked, asked_first, next_asked};
 
-use crate::asking::{brings_others, own_asked};
-use crate::bringing::brought_by;
+use crate::asking::Asked;
 use crate::scope::Scope;
+use crate::start::brings_others;
 use fields::{Attest, Id};
 use indexmap::IndexSet;
 use std::alloc::{AllocError, Global};
-
-fn those_over(alloc: Global, scope: &Scope, id: Id, namers: &[Id]) -> Result<Vec<Id>, AllocError>
-    ensures { IfOk result (λ found. found.items ≡ filter (λ y. is_in (sups_in scope.now y) id) namers.now) }
-{
-    namers
-        .iter()
-        .filter(|namer| scope.supersedes(**namer, id))
-        .copied()
-        .collect(alloc)
-}
-
-fn superseders(alloc: Global, scope: &Scope, id: Id) -> Result<Vec<Id>, AllocError>
-    ensures { IfOk result (λ found. found.items ≡ superseders scope.now id) }
-{
-    let selection = scope.selection;
-    let mut namers = Vec::new(alloc);
-    if selection.groupextend {
-        scope
-            .global
-            .append_namers(scope.zone.srel(), id, &mut namers)?;
-    }
-    those_over(alloc, scope, id, namers.as_slice())
-}
-
-fn brought_if_open(
-    alloc: Global,
-    scope: &Scope,
-    seen: &IndexSet<Id>,
-    id: Id,
-) -> Result<Vec<Id>, AllocError>
-    ensures { IfOk result (λ found. found.items ≡ brought_if_open scope.now seen.now.keys id) }
-{
-    if scope.is_open(id) {
-        brought_by(alloc, scope, seen, id)
-    } else {
-        Ok(Vec::new(alloc))
-    }
-}
-
-fn next_asked(
-    alloc: Global,
-    scope: &Scope,
-    seen: &IndexSet<Id>,
-    id: Id,
-) -> Result<Vec<Id>, AllocError>
-    ensures { IfOk result (λ found. found.items ≡ next_asked scope.now seen.now.keys id) }
-{
-    let mut found = brought_if_open(alloc, scope, seen, id)?;
-    let over = superseders(alloc, scope, id)?;
-    found.extend_from_slice(over.as_slice())?;
-    Ok(found)
-}
 
 fn see_all(ids: &[Id], seen: &mut IndexSet<Id>) -> Result<(), AllocError>
     ensures { OnOk result (AddsAll seen.old.keys ids.now seen.new.keys) }
@@ -79,22 +26,24 @@ fn see_all(ids: &[Id], seen: &mut IndexSet<Id>) -> Result<(), AllocError>
     Ok(())
 }
 
+// What comes to be asked for once the id is comes in.
 fn see_next(alloc: Global, scope: &Scope, id: Id, seen: &mut IndexSet<Id>) -> Result<(), AllocError>
     ensures { OnOk result (AddsAll seen.old.keys (next_asked scope.now seen.old.keys id) seen.new.keys) }
 {
-    let found = next_asked(alloc, scope, seen, id)?;
+    let found = Asked { scope, seen }.next(alloc, id)?;
     see_all(found.as_slice(), seen)?;
     Ok(())
 }
 
+// What one of the start asks for, if it brings others in.
 fn asked_first(alloc: Global, scope: &Scope, id: Id) -> Result<Vec<Id>, AllocError>
     ensures { IfOk result (λ found. found.items ≡ asked_first scope.now id) }
 {
-    if brings_others(scope.selection, id) {
-        own_asked(alloc, scope, &IndexSet::new(alloc), id)
-    } else {
-        Ok(Vec::new(alloc))
+    if !brings_others(scope.selection, id) {
+        return Ok(Vec::new(alloc));
     }
+    let seen = &IndexSet::new(alloc);
+    Asked { scope, seen }.own_asked(alloc, id)
 }
 
 fn see_first(

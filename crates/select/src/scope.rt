@@ -1,13 +1,14 @@
 //! What is open to an APPLY.
-ghost use Rattle.std.specs.Prelude.{◌≡◌, ◌&&◌, filter, is_some, option_copied};
+ghost use Rattle.std.specs.Prelude.{◌≡◌, ◌&&◌, not, filter, is_some, option_copied, IfOk};
 ghost use Rattle.std.specs.List.{list_any};
 ghost use Rattle.std.specs.Str.{bytes_eq};
-ghost use Rattle.terms.specs.Lookups.{is_in, delby_of};
+ghost use Rattle.terms.specs.Lookups.{is_in, is_applied, is_supplied, delby_of};
 ghost use Rattle.sysmods.specs.Choices.{has_ver};
-ghost use Rattle.select.specs.Scopes.{is_installable_in, is_open_in, vers_in, sups_in};
-ghost use Rattle.select.specs.Growing.{kept_ver};
+ghost use Rattle.select.specs.Scopes.{is_installable_in, is_open_in, received_vers, sups_in};
+ghost use Rattle.select.specs.Growing.{kept_ver, namers_in};
 
 use fields::{Id, Selection, Srel};
+use std::alloc::{AllocError, Global};
 use std::marker::Model;
 use sysmod::Ver;
 use sysmods::{GlobalZone, has_ver, numbered_ver};
@@ -30,14 +31,28 @@ impl<'a> Model for Scope<'a> {
 }
 
 impl<'a> Scope<'a> {
-    /// Its `++VER`s, among which are those for the zone's SREL.
+    /// Its `++VER`s, if it is received.
     pub(crate) fn vers(&self, id: Id) -> &'a [Ver]
-        ensures { filter (λ v. bytes_eq v.srel self.now.zone.srel) result.now ≡ vers_in self.now id }
+        ensures { result.now ≡ received_vers self.now id }
     {
         match self.global.get(id) {
             Some(sysmod) => sysmod.vers.as_slice(),
             None => &[],
         }
+    }
+
+    /// Whether the `++VER` is for the zone's SREL.
+    pub(crate) fn is_for(&self, ver: &Ver) -> bool
+        ensures { result ≡ bytes_eq ver.now.srel self.now.zone.srel }
+    {
+        ver.srel == self.zone.srel()
+    }
+
+    /// Whether the zone has it applied.
+    pub(crate) fn is_applied(&self, id: Id) -> bool
+        ensures { result ≡ is_applied self.now.zone id }
+    {
+        self.zone.is_applied(id)
     }
 
     fn has_ver(&self, id: Id) -> bool
@@ -61,6 +76,26 @@ impl<'a> Scope<'a> {
         any_supersedes(self.vers(id), self.zone.srel(), other)
     }
 
+    /// The received SYSMODs that name it as a function.
+    pub(crate) fn function_namers(&self, alloc: Global, id: Id) -> Result<Vec<Id>, AllocError>
+        ensures { IfOk result (λ namers. namers.items ≡ namers_in self.now id) }
+    {
+        let mut namers = Vec::new(alloc);
+        self.global.append_function_namers(id, &mut namers)?;
+        Ok(namers)
+    }
+
+    /// Those of the ids that the zone does not supply.
+    pub(crate) fn unsupplied(&self, alloc: Global, ids: &[Id]) -> Result<Vec<Id>, AllocError>
+        ensures { IfOk result (λ found. found.items ≡ filter (λ z. not (is_supplied self.now.zone z)) ids.now) }
+    {
+        ids.iter()
+            .filter(|id| !self.zone.supplies(**id))
+            .copied()
+            .collect(alloc)
+    }
+
+    /// Whether the zone has a DELBY for it.
     pub(crate) fn is_deleted(&self, id: Id) -> bool
         ensures { result ≡ is_some (delby_of self.now.zone id) }
     {

@@ -1,32 +1,17 @@
 //! What the mass choice, SELECT and GROUP name.
-ghost use Rattle.std.specs.Prelude.{◌≡◌, ◌||◌, ◌++◌, ◌↔◌, false, filter, map, Contains, IsTrue, IfOk};
+ghost use Rattle.std.specs.Prelude.{◌≡◌, ◌||◌, ◌↔◌, false, filter, map, Contains, IsTrue, IfOk};
 ghost use Rattle.std.specs.Option.{option_map_or};
 ghost use Rattle.terms.specs.Types.{Id as AnId};
 ghost use Rattle.terms.specs.Lookups.{is_in, sysmod_of};
 ghost use Rattle.terms.specs.Candidates.{passes_filters};
-ghost use Rattle.select.specs.Scopes.{is_mass_chosen_in, is_start_in, named_ids};
+ghost use Rattle.select.specs.Scopes.{is_mass_chosen_in, is_start_in, is_growing_start_in, named_ids};
+ghost use Rattle.select.specs.Growing.{brings_others};
 
 use crate::filters::{has_mass_choice, passes_filters};
 use crate::scope::Scope;
 use fields::{Id, Selection};
 use std::alloc::{AllocError, Global};
 use sysmods::GlobalZone;
-
-fn passes(scope: &Scope, id: Id) -> bool
-    ensures { result ≡ option_map_or (passes_filters scope.now.global scope.now.zone scope.now.selection)
-        (sysmod_of scope.now.global id) false }
-{
-    match scope.global.get(id) {
-        Some(sysmod) => passes_filters(scope.global, scope.zone, scope.selection, sysmod),
-        None => false,
-    }
-}
-
-fn is_mass_chosen(scope: &Scope, id: Id) -> bool
-    ensures { result ≡ is_mass_chosen_in scope.now id }
-{
-    has_mass_choice(scope.selection) && passes(scope, id)
-}
 
 /// Whether SELECT or GROUP names it.
 pub(crate) fn is_named(selection: &Selection, id: Id) -> bool
@@ -35,11 +20,43 @@ pub(crate) fn is_named(selection: &Selection, id: Id) -> bool
     selection.select.contains(id) || selection.group.contains(id)
 }
 
-/// Whether it is open, and the mass choice, SELECT or GROUP names it.
-pub(crate) fn is_start(scope: &Scope, id: Id) -> bool
-    ensures { result ≡ is_start_in scope.now id }
+/// Whether an id of the start brings others in.
+pub(crate) fn brings_others(selection: &Selection, id: Id) -> bool
+    ensures { result ≡ brings_others selection.now id }
 {
-    scope.is_open(id) && (is_named(scope.selection, id) || is_mass_chosen(scope, id))
+    selection.groupextend || selection.group.contains(id)
+}
+
+impl<'a> Scope<'a> {
+    fn passes_filters(&self, id: Id) -> bool
+        ensures { result ≡ option_map_or (passes_filters self.now.global self.now.zone self.now.selection)
+            (sysmod_of self.now.global id) false }
+    {
+        match self.global.get(id) {
+            Some(sysmod) => passes_filters(self.global, self.zone, self.selection, sysmod),
+            None => false,
+        }
+    }
+
+    fn is_mass_chosen(&self, id: Id) -> bool
+        ensures { result ≡ is_mass_chosen_in self.now id }
+    {
+        has_mass_choice(self.selection) && self.passes_filters(id)
+    }
+
+    /// Whether it is open, and the mass choice, SELECT or GROUP names it.
+    pub(crate) fn is_start(&self, id: Id) -> bool
+        ensures { result ≡ is_start_in self.now id }
+    {
+        self.is_open(id) && (is_named(self.selection, id) || self.is_mass_chosen(id))
+    }
+
+    /// Whether it is of the start and brings others in.
+    pub(crate) fn is_growing_start(&self, id: Id) -> bool
+        ensures { result ≡ is_growing_start_in self.now id }
+    {
+        self.is_start(id) && brings_others(self.selection, id)
+    }
 }
 
 /// The ids of SELECT and of GROUP.
@@ -76,7 +93,7 @@ fn among(alloc: Global, scope: &Scope, ids: &[Id]) -> Result<Vec<Id>, AllocError
     ensures { IfOk result (λ start. start.items ≡ filter (is_start_in scope.now) ids.now) }
 {
     ids.iter()
-        .filter(|id| is_start(scope, **id))
+        .filter(|id| scope.is_start(**id))
         .copied()
         .collect(alloc)
 }

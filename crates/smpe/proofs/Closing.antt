@@ -1,6 +1,6 @@
 -- How a job ends, its zones are closed where they were.
-use Rattle.std.proofs.Common.{◌≡◌, ◌⊎◌, inl, inr, ℕ, List, [], ◌∷◌, Option, Result, Ok, Err, IsTrue, refl, sym}
-use Rattle.std.proofs.Common.{◌∙◌, ap, subst}
+use Rattle.std.proofs.Common.{◌≡◌, ◌⊎◌, inl, inr, ℕ, List, [], ◌∷◌, Option, Result, Ok, Err, IsTrue, sym}
+use Rattle.std.proofs.Common.{◌∙◌, subst}
 use Rattle.std.specs.List.{AllByRecursion}
 use Rattle.sqlite.specs.Store.{Ghosts}
 use Rattle.sqlite.specs.Held.{Held, state}
@@ -10,7 +10,7 @@ use Rattle.sqlite.specs.Tree.{Trees}
 use Rattle.lemmas.proofs.Each.{recursion_front, recursion_back}
 use Rattle.terms.specs.Closed.{AreClosed}
 use Rattle.terms.specs.Forms.{IsZoneName, IsSrel}
-use Rattle.machine.specs.State.{State, ZoneDefinition, define_zone}
+use Rattle.machine.specs.State.{State, ZoneDefinition}
 use Rattle.machine.specs.Machine as machine
 use Rattle.machine.specs.Machine.{Act, Define, Prints, Job, state_after}
 use Rattle.machine.specs.Runs.{IsAfterNext, Stopped, BrokeOff}

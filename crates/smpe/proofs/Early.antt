@@ -1,6 +1,6 @@
 -- Calls that could not go on, one after another.
-use Rattle.std.proofs.Common.{◌≡◌, ◌∙◌, ℕ, List, [], ◌∷◌, ◌++◌, Option, Result, Ok, Err, refl, sym, ap, append_assoc}
-use Rattle.std.proofs.Common.{inl, inr}
+use Rattle.std.proofs.Common.{◌∙◌, ℕ, List, [], ◌∷◌, ◌++◌, Option, Result, Ok, Err, refl, sym, ap, append_assoc}
+use Rattle.std.proofs.Common.{inl, inr, arith}
 use Rattle.std.specs.Io.KnownBytes.{Appends}
 use Rattle.std.proofs.KnownBytes.{Appends-nil, Appends-trans}
 use Rattle.sqlite.specs.Store.{Ghosts}
@@ -18,7 +18,7 @@ use Rattle.smpe_zones.proofs.Keeping.{leaves_more, cause_since}
 use Rattle.store.specs.View.{Tables, TablesIfOpen, Leaves}
 use Rattle.smpe.specs.declared.error.JobError.{JobError}
 use Rattle.smpe.specs.declared.error.JobError.TheVariants.{Memory, Store, Write}
-use Rattle.smpe.specs.Ending.{IsCaused, StoppedFaulted, EndsEarly, EndsAmong, EndsJobs}
+use Rattle.smpe.specs.Ending.{Follows, IsCaused, StoppedFaulted, EndsEarly, EndsAmong, EndsJobs}
 
 -- with acts behind that were never begun
 after_more : (s : State) (rest more : List Act) (c : Inventory) → IsAfterNext Prints kept s rest c
@@ -30,6 +30,17 @@ after_more s (next ∷ rest) more c after = after
 pub none_begun : (jobs : List Job) → AreFirstActs jobs []
 none_begun [] = refl
 none_begun (job ∷ more) = inl refl
+
+module _ {S : Type 0} (g : Ghosts S) where
+  pub follows_itself : (at : Held S) → Follows g at at
+  follows_itself at = record { clean = λ clean. clean; faults = omega arith; limit = refl }
+
+  pub follows_on : (old mid new : Held S) → Follows g old mid → Follows g mid new → Follows g old new
+  follows_on old mid new first second = record {
+    clean = λ clean. first.clean (second.clean clean);
+    faults = omega (arith, first.faults, second.faults);
+    limit = second.limit ∙ first.limit;
+  }
 
 module _ {S : Type 0} (g : Ghosts S) (began at : Held S) where
   caused_more : (before : State) (rest more : List Act) → IsCaused g began at before rest

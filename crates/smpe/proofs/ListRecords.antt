@@ -1,5 +1,5 @@
 -- Texts filled up to records.
-use Rattle.std.proofs.Common.{◌≡◌, ◌≤◌, ◌∙◌, ◌++◌, ◌-◌, ◌+◌, ℕ, codes, take, length, take_all, append_assoc, ap, arith}
+use Rattle.std.proofs.Common.{◌≡◌, ◌≤◌, ◌∙◌, ◌++◌, ◌-◌, ◌+◌, ℕ, take, length, take_all, append_assoc, ap, arith}
 use Rattle.std.specs.Prelude.{replicate}
 use Rattle.std.proofs.lemmas.List.{length-append, length-replicate}
 use Rattle.terms.specs.Types.{Text}

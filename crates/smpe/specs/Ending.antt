@@ -1,9 +1,10 @@
 -- How jobs end: the headline of the product.
-use Rattle.std.specs.Prelude.{ℕ, Bool, true, false, List, [], ◌∷◌, Option, Result, Ok, Err, IsTrue}
+use Rattle.std.specs.Prelude.{◌≡◌, ◌≤◌, ℕ, Bool, true, false, List, [], ◌∷◌, Option, Result, Ok, Err, IsTrue}
 use Rattle.std.specs.Io.KnownBytes.{Appends}
 use Rattle.sqlite.specs.Store.{Ghosts}
 use Rattle.sqlite.specs.Held.{Held, state}
 use Rattle.sqlite.specs.Schema.{Schema}
+use Rattle.sqlite.specs.State.{HasCleanDisk}
 use Rattle.sqlite.specs.Tree.{Trees}
 use Rattle.terms.specs.Closed.{AreClosed}
 use Rattle.machine.specs.State.{State}
@@ -38,12 +39,28 @@ abbrev pub is_write : {X : Type 0} → Result X JobError → Bool
 is_write (Err Write) = true
 is_write _ = false
 
+-- whether a report could not be written is what the result says, where the sink had not failed before
+abbrev pub TellsOfSink : Bool → Bool → {X : Type 0} → Result X JobError → Type 0
+TellsOfSink before after result = before ≡ false → after ≡ is_write result
+
+-- A moment of a store and a later one. Where the disk is clean at the later one, it was clean before; no failure of the
+-- disk is forgotten, and the limit on steps is the same.
+pub record Follows {S : Type 0} (g : Ghosts S) (old new : Held S) : Type 0 where
+  pub clean : HasCleanDisk (state g new) → HasCleanDisk (state g old)
+  pub faults : (state g old).faults ≤ (state g new).faults
+  pub limit : new.step_limit ≡ old.step_limit
+
 -- All zones are closed of each inventory that the tables stand for, and of each that they stand for after a crash.
 pub record StaysClosed {S : Type 0} (g : Ghosts S) (at : Held S) : Type 0 where
   pub now : (i : Inventory) → IsTrue (state g at).is_open → StandsFor i (state g at).committed
       → AreClosed i.global i.zones
   pub crash : (db : Trees) → (state g at).may_leave db → (schema : Schema) (i : Inventory)
       → StandsFor i (record { schema = schema; trees = db }) → AreClosed i.global i.zones
+
+-- Where the tables stood for a state whose zones are closed, they stay so.
+abbrev pub KeepsClosed : {S : Type 0} → Ghosts S → Held S → Held S → Type 0
+KeepsClosed g old new =
+    HasCleanDisk (state g new) → (s : State) → Keeps g old s → AreClosed s.global s.zones → StaysClosed g new
 
 -- In a call that began at `began`, the first of these acts met a fault. The cause is since then, while the tables stood for
 -- the state before the act.

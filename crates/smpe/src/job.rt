@@ -1,5 +1,5 @@
 //! One job.
-ghost use Rattle.std.specs.Prelude.{◌≡◌, ◌≤◌, ◌∷◌, [], false, map};
+ghost use Rattle.std.specs.Prelude.{◌∷◌, [], map};
 ghost use Rattle.sqlite.specs.Held.{state};
 ghost use Rattle.sqlite.specs.State.{HasCleanDisk};
 ghost use Rattle.machine.specs.State.{State};
@@ -7,8 +7,7 @@ ghost use Rattle.machine.specs.Machine.{RunFiles, Code, Perform};
 ghost use Rattle.cntl.specs.Views.{command_of};
 ghost use Rattle.smpe_session.specs.Sessions.{IsSessionOf};
 ghost use Rattle.smpe_zones.specs.Kept.{Keeps};
-ghost use Rattle.smpe.specs.Ending.{EndsJob, StaysClosed, is_write};
-ghost use Rattle.terms.specs.Closed.{AreClosed};
+ghost use Rattle.smpe.specs.Ending.{EndsJob, Follows, KeepsClosed, TellsOfSink};
 ghost use Rattle.smpe.specs.Commands.{EndsCommands};
 ghost use Rattle.smpe.specs.Course.{Goes, JobGoes};
 
@@ -31,9 +30,7 @@ fn run_command<S: Alter, W: Sink>(
     command: &Command,
     w: &mut W,
 ) -> Result<u8, JobError>
-    ensures clean { HasCleanDisk (state S.Store store.new) → HasCleanDisk (state S.Store store.old) }
-    ensures faults { (state S.Store store.old).faults ≤ (state S.Store store.new).faults }
-    ensures limit { store.new.step_limit ≡ store.old.step_limit }
+    ensures follows { Follows S.Store store.old store.new }
     ensures ended { HasCleanDisk (state S.Store store.new) → (s : State) → IsSessionOf s session.old
         → Keeps S.Store store.old s
         → EndsCommands S.Store store.old store.new s session.new date files.now (command_of command.now ∷ []) (W.taken
@@ -41,7 +38,7 @@ fn run_command<S: Alter, W: Sink>(
         (W.taken w.new) result }
     ensures course { Goes S.Store store.old store.new (Perform date files.now (command_of command.now) ∷ [])
         (W.taken w.old) (W.taken w.new) result }
-    ensures fault { W.has_failed w.old ≡ false → W.has_failed w.new ≡ is_write result }
+    ensures fault { TellsOfSink (W.has_failed w.old) (W.has_failed w.new) result }
 {
     let performed = session.perform(alloc, store, date, files, command)?;
     match performed {
@@ -60,9 +57,7 @@ fn run_commands<S: Alter, W: Sink>(
     commands: &[Command],
     w: &mut W,
 ) -> Result<u8, JobError>
-    ensures clean { HasCleanDisk (state S.Store store.new) → HasCleanDisk (state S.Store store.old) }
-    ensures faults { (state S.Store store.old).faults ≤ (state S.Store store.new).faults }
-    ensures limit { store.new.step_limit ≡ store.old.step_limit }
+    ensures follows { Follows S.Store store.old store.new }
     ensures ended { HasCleanDisk (state S.Store store.new) → (s : State) → IsSessionOf s session.old
         → Keeps S.Store store.old s
         → EndsCommands S.Store store.old store.new s session.new date files.now (map command_of commands.now) (W.taken
@@ -70,7 +65,7 @@ fn run_commands<S: Alter, W: Sink>(
         (W.taken w.new) result }
     ensures course { Goes S.Store store.old store.new (map (Perform date files.now) (map command_of commands.now))
         (W.taken w.old) (W.taken w.new) result }
-    ensures fault { W.has_failed w.old ≡ false → W.has_failed w.new ≡ is_write result }
+    ensures fault { TellsOfSink (W.has_failed w.old) (W.has_failed w.new) result }
 {
     let mut code: u8 = 0;
     for command in commands {
@@ -93,9 +88,7 @@ pub fn run_job<S: Alter, W: Sink>(
     hold: &[u8],
     w: &mut W,
 ) -> Result<u8, JobError>
-    ensures clean { HasCleanDisk (state S.Store store.new) → HasCleanDisk (state S.Store store.old) }
-    ensures faults { (state S.Store store.old).faults ≤ (state S.Store store.new).faults }
-    ensures limit { store.new.step_limit ≡ store.old.step_limit }
+    ensures follows { Follows S.Store store.old store.new }
     ensures ended { HasCleanDisk (state S.Store store.new) → (s : State) → Keeps S.Store store.old s
         → EndsJob S.Store store.old store.new s (RunFiles date cntl.now (record {
           ptfin = ptfin.now;
@@ -104,9 +97,8 @@ pub fn run_job<S: Alter, W: Sink>(
         (W.taken w.old) (W.taken w.new) Code result }
     ensures course { JobGoes S.Store store.old store.new (RunFiles date cntl.now
         (record { ptfin = ptfin.now; holds = hold.now })) (W.taken w.old) (W.taken w.new) result }
-    ensures closed { HasCleanDisk (state S.Store store.new) → (s : State) → Keeps S.Store store.old s
-        → AreClosed s.global s.zones → StaysClosed S.Store store.new }
-    ensures fault { W.has_failed w.old ≡ false → W.has_failed w.new ≡ is_write result }
+    ensures closed { KeepsClosed S.Store store.old store.new }
+    ensures fault { TellsOfSink (W.has_failed w.old) (W.has_failed w.new) result }
 {
     date.attest();
     let commands = match read_cntl(alloc, cntl) {

@@ -1,5 +1,5 @@
 //! A list of jobs.
-ghost use Rattle.std.specs.Prelude.{◌≡◌, ◌≤◌, ℕ, List, Option, false, map, length, IfOk};
+ghost use Rattle.std.specs.Prelude.{◌≡◌, ℕ, List, Option, false, map, length, IfOk};
 ghost use Rattle.sqlite.specs.Held.{state};
 ghost use Rattle.sqlite.specs.State.{HasCleanDisk};
 ghost use Rattle.machine.specs.State.{State};
@@ -7,8 +7,7 @@ ghost use Rattle.machine.specs.Machine.{NewZone};
 ghost use Rattle.smpe_zones.specs.Definitions.{definition};
 ghost use Rattle.smpe_zones.specs.Kept.{Keeps};
 ghost use Rattle.smpe.specs.Course.{JobGoes, JobsGo};
-ghost use Rattle.smpe.specs.Ending.{EndsJob, EndsJobs, StaysClosed, is_write, job_of, answer_of};
-ghost use Rattle.terms.specs.Closed.{AreClosed};
+ghost use Rattle.smpe.specs.Ending.{EndsJob, EndsJobs, Follows, KeepsClosed, TellsOfSink, is_write, job_of, answer_of};
 
 use crate::error::JobError;
 use crate::job::run_job;
@@ -54,17 +53,14 @@ fn define<S: Alter>(
     srel: Srel,
     related: Option<ZoneName>,
 ) -> Result<Answer, JobError>
-    ensures clean { HasCleanDisk (state S.Store store.new) → HasCleanDisk (state S.Store store.old) }
-    ensures faults { (state S.Store store.old).faults ≤ (state S.Store store.new).faults }
-    ensures limit { store.new.step_limit ≡ store.old.step_limit }
+    ensures follows { Follows S.Store store.old store.new }
     ensures ended { HasCleanDisk (state S.Store store.new) → (s : State) → Keeps S.Store store.old s
         → (taken : Option (List ℕ))
         → EndsJob S.Store store.old store.new s (NewZone (definition name kind srel related)) taken taken answer_of
         result }
     ensures course { (taken : Option (List ℕ)) → JobGoes S.Store store.old store.new
         (NewZone (definition name kind srel related)) taken taken result }
-    ensures closed { HasCleanDisk (state S.Store store.new) → (s : State) → Keeps S.Store store.old s
-        → AreClosed s.global s.zones → StaysClosed S.Store store.new }
+    ensures closed { KeepsClosed S.Store store.old store.new }
     ensures fault { is_write result ≡ false }
 {
     match define_zone(store, name, kind, srel, related) {
@@ -82,15 +78,12 @@ fn run_one<S: Alter, W: Sink>(
     job: &Job<'_>,
     w: &mut W,
 ) -> Result<Answer, JobError>
-    ensures clean { HasCleanDisk (state S.Store store.new) → HasCleanDisk (state S.Store store.old) }
-    ensures faults { (state S.Store store.old).faults ≤ (state S.Store store.new).faults }
-    ensures limit { store.new.step_limit ≡ store.old.step_limit }
+    ensures follows { Follows S.Store store.old store.new }
     ensures ended { HasCleanDisk (state S.Store store.new) → (s : State) → Keeps S.Store store.old s
         → EndsJob S.Store store.old store.new s (job_of job.now) (W.taken w.old) (W.taken w.new) answer_of result }
     ensures course { JobGoes S.Store store.old store.new (job_of job.now) (W.taken w.old) (W.taken w.new) result }
-    ensures closed { HasCleanDisk (state S.Store store.new) → (s : State) → Keeps S.Store store.old s
-        → AreClosed s.global s.zones → StaysClosed S.Store store.new }
-    ensures fault { W.has_failed w.old ≡ false → W.has_failed w.new ≡ is_write result }
+    ensures closed { KeepsClosed S.Store store.old store.new }
+    ensures fault { TellsOfSink (W.has_failed w.old) (W.has_failed w.new) result }
 {
     match *job {
         Job::Run {
@@ -120,16 +113,13 @@ pub fn run_jobs<S: Alter, W: Sink>(
     jobs: &[Job<'_>],
     w: &mut W,
 ) -> Result<Vec<Answer>, JobError>
-    ensures clean { HasCleanDisk (state S.Store store.new) → HasCleanDisk (state S.Store store.old) }
-    ensures faults { (state S.Store store.old).faults ≤ (state S.Store store.new).faults }
-    ensures limit { store.new.step_limit ≡ store.old.step_limit }
+    ensures follows { Follows S.Store store.old store.new }
     ensures ended { HasCleanDisk (state S.Store store.new) → (s : State) → Keeps S.Store store.old s
         → EndsJobs S.Store store.old store.new s (map job_of jobs.now) (W.taken w.old) (W.taken w.new)
         (λ v. map answer_of v.items) result }
     ensures course { JobsGo S.Store store.old store.new (map job_of jobs.now) (W.taken w.old) (W.taken w.new) result }
-    ensures closed { HasCleanDisk (state S.Store store.new) → (s : State) → Keeps S.Store store.old s
-        → AreClosed s.global s.zones → StaysClosed S.Store store.new }
-    ensures fault { W.has_failed w.old ≡ false → W.has_failed w.new ≡ is_write result }
+    ensures closed { KeepsClosed S.Store store.old store.new }
+    ensures fault { TellsOfSink (W.has_failed w.old) (W.has_failed w.new) result }
     ensures count { IfOk result (λ answers. length answers.items ≡ length jobs.now) }
 {
     let mut answers = Vec::with_capacity(alloc, jobs.len())?;

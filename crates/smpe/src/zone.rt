@@ -1,12 +1,10 @@
 //! The definition of a zone.
-ghost use Rattle.std.specs.Prelude.{◌≡◌, ◌≤◌};
 ghost use Rattle.sqlite.specs.Held.{state};
 ghost use Rattle.sqlite.specs.State.{HasCleanDisk};
-ghost use Rattle.terms.specs.Closed.{AreClosed};
 ghost use Rattle.machine.specs.State.{State};
 ghost use Rattle.smpe_zones.specs.Kept.{Keeps};
 ghost use Rattle.smpe_zones.specs.Definitions.{HasCourse, HasDefined, definition};
-ghost use Rattle.smpe.specs.Ending.{StaysClosed};
+ghost use Rattle.smpe.specs.Ending.{Follows, KeepsClosed};
 
 use fields::{Attest, Srel, ZoneName};
 use smpe_zones::ZoneError;
@@ -24,14 +22,11 @@ pub fn define_zone<S: Alter>(
     srel: Srel,
     related: Option<ZoneName>,
 ) -> Result<(), ZoneError>
-    ensures clean { HasCleanDisk (state S.Store store.new) → HasCleanDisk (state S.Store store.old) }
-    ensures faults { (state S.Store store.old).faults ≤ (state S.Store store.new).faults }
-    ensures limit { store.new.step_limit ≡ store.old.step_limit }
+    ensures follows { Follows S.Store store.old store.new }
     ensures ended { HasCleanDisk (state S.Store store.new) → (s : State) → Keeps S.Store store.old s
         → HasDefined S.Store store.old store.new s (definition name kind srel related) result }
     ensures course { HasCourse S.Store store.old store.new (definition name kind srel related) result }
-    ensures closed { HasCleanDisk (state S.Store store.new) → (s : State) → Keeps S.Store store.old s
-        → AreClosed s.global s.zones → StaysClosed S.Store store.new }
+    ensures closed { KeepsClosed S.Store store.old store.new }
 {
     name.attest();
     srel.attest();

@@ -36,7 +36,7 @@ pub(crate) fn read_files<'a, H: Host>(
     Ok(JobFiles { cntl, ptfin, hold })
 }
 
-/// The same of a service set, which has SYSMODs and may have commands.
+/// The files of a service set, which has SYSMODs and may have commands.
 pub(crate) fn read_set<'a, H: Host>(
     alloc: Global,
     host: &mut H,

@@ -1,32 +1,93 @@
 -- A planned change of a zone: with CHECK the state stays, else it is one with the zone changed.
-use Rattle.std.proofs.Common.{◌≡◌, Bool, true, false, subst, ap}
+use Rattle.std.proofs.Common.{◌≡◌, Bool, false, true, Result, Err, Bor, sym, subst, ap}
 use Rattle.std.specs.Prelude.{if◌then◌else◌}
 use Rattle.std.proofs.lemmas.List.Elements.{All-weaker}
+use Rattle.sqlite.specs.Store.{Ghosts}
+use Rattle.sqlite.specs.Held.{Held}
 use Rattle.terms.specs.Types.{Text, Zone, NamedZone, Command}
 use Rattle.terms.specs.Lookups.{IsZone}
 use Rattle.zones.specs.Delta.{ZoneDelta, IsDelta, IsChanged}
 use Rattle.zones.specs.Changed.{changed_zone}
 use Rattle.zones.proofs.Changing.{zone_changes}
+use Rattle.store.specs.Changes.{Makes}
+use Rattle.store.specs.declared.change.Change.TheVariants.{Zone as ZoneChange}
+use Rattle.store_schema.specs.declared.error.StoreError.{StoreError}
 use Rattle.store_schema.specs.Inventory.{IsInventory, IsZoneNamed}
+use Rattle.store_zones.specs.Zones.{IsZoneChange}
 use Rattle.machine.specs.Outcome.{Outcome}
 use Rattle.machine.specs.State.{State, with_zone}
-use Rattle.machine.specs.Machine.{Files, Performs}
+use Rattle.machine.specs.Machine.{Files, Perform, Performs}
+use Rattle.report.specs.declared.outcome.Outcome.{Outcome as Told}
+use Rattle.report.specs.Views.{outcome_view}
 use Rattle.smpe_zones.specs.Kept.{kept}
 use Rattle.smpe_session.specs.declared.session.Session.{Session}
 use Rattle.smpe_session.specs.Places.{ChangesZone}
+use Rattle.smpe_session.specs.Sessions.{IsSessionOf, HasPerformed}
+use Rattle.smpe_session.specs.Steps.{EndsCommitted, HasRun}
+use Rattle.smpe_session.specs.Uses.{UsesStore}
+use Rattle.smpe_session.proofs.Installed.{zone_change}
 use Rattle.smpe_session.proofs.StateZones.{each_named}
+use Rattle.smpe_session.proofs.Stepping.{run_committed, performs_ran, performs_staying}
+
+-- the zone that is named by the change which a call commits
+abbrev pub zone_of : {S X : Type 0} {g : Ghosts S} {before after : Held S} {name : Text} {old : Bor Zone} {delta : ZoneDelta}
+    {Ends : State → Result X StoreError → Type 0} {r : Result X StoreError}
+    → UsesStore g before after (λ own. own ≡ ZoneChange name old delta) Ends r → Bor Zone
+zone_of {old = old} uses = old
 
 module _ (date : Text) (files : Files) (c : Command) (s : State) (at : Session) (name : Text) (delta : ZoneDelta)
-    (check : Bool) (outcome : Outcome) (planned : ChangesZone date files c s at name delta check outcome) where
-  pub checks : IsInventory (kept s) → IsDelta delta → check ≡ true → Performs date files s c s outcome
-  checks inventory is checked =
-      let new = changed_zone delta planned.zone in
-      let was = each_named IsZone s.zones (All-weaker IsZoneNamed (λ (z : NamedZone). IsZone z.zone) (λ z is. is.zone)
-      s.zones inventory.zones) name planned.zone planned.is_there in
-      subst (λ t. Performs date files s c t outcome) (ap (λ b. if b then s else with_zone s name new) checked)
-      (planned.performs new (zone_changes delta planned.zone is was))
+    (check : Bool) (outcome : Outcome) (planned : ChangesZone date files c s at name delta check outcome)
+    (inventory : IsInventory (kept s)) where
+  -- there is a zone that the delta leads to
+  changes : IsDelta delta → IsChanged delta planned.zone (changed_zone delta planned.zone)
+  changes is = zone_changes delta planned.zone is (each_named IsZone s.zones (All-weaker IsZoneNamed
+      (λ (z : NamedZone). IsZone z.zone) (λ z is. is.zone) s.zones inventory.zones) name planned.zone planned.is_there)
 
-  pub carries : (new : Zone) → IsChanged delta planned.zone new → check ≡ false
-      → Performs date files s c (with_zone s name new) outcome
-  carries new changed unchecked = subst (λ t. Performs date files s c t outcome)
-      (ap (λ b. if b then s else with_zone s name new) unchecked) (planned.performs new changed)
+  pub checks : IsDelta delta → check ≡ true → Performs date files s c s outcome
+  checks is checked =
+      let new = changed_zone delta planned.zone in
+      subst (λ t. Performs date files s c t outcome) (ap (λ b. if b then s else with_zone s name new) checked)
+      (planned.performs new (changes is))
+
+  module _ (unchecked : check ≡ false) (old : Bor Zone) (stood : old.now ≡ planned.zone) {S : Type 0} (g : Ghosts S)
+      (before after : Held S) where
+    -- the commit of the change has ended so
+    abbrev Commits : {V : Type 0} → V → Result V StoreError → Type 0
+    Commits answer r =
+        (t : State) → Makes (ZoneChange name old delta) (kept s) (kept t) → IsInventory (kept t)
+        → EndsCommitted g before after s t (ZoneChange name old delta) answer r
+
+    runs : {V : Type 0} (LeadsTo : V → State → Type 0) (answer : V) (new : Zone) → IsChanged delta planned.zone new
+        → LeadsTo answer (with_zone s name new) → (r : Result V StoreError) → Commits answer r
+        → HasRun g before after s (Perform date files c) LeadsTo r
+    runs LeadsTo answer new changed leads r ended =
+        let t = with_zone s name new in
+        let performs = subst (λ u. Performs date files s c u outcome)
+        (ap (λ b. if b then s else with_zone s name new) unchecked) (planned.performs new changed) in
+        let makes : Makes (ZoneChange name old delta) (kept s) (kept t) = (
+          new,
+          subst (λ z. IsZoneChange name z new (kept s) (kept t)) (sym stood)
+              (zone_change (kept s) name planned.zone new inventory planned.is_there),
+          subst (λ z. IsChanged delta z new) (sym stood) changed,
+        ) in
+        run_committed g before after s date files c t outcome performs (ZoneChange name old delta)
+        (planned.owns unchecked (ZoneChange name old delta) tt) makes LeadsTo answer leads r
+        (ended t makes (planned.inventory new changed inventory))
+
+    -- it failed
+    pub fails : {V : Type 0} (answer : V) (session : Session) → IsDelta delta → (e : StoreError)
+        → Commits answer (Err e) → HasPerformed g before after s session date files c (Err e)
+    fails answer session is e ended =
+        performs_staying g before after s session date files c e
+        (runs (λ v t. Unit {0}) answer (changed_zone delta planned.zone) (changes is) tt (Err e) ended)
+
+    -- it is done, and then the session's zone is changed
+    pub carries : (answer : Told) (session : Session) (new : Zone) → IsChanged delta planned.zone new
+        → outcome_view answer ≡ outcome → IsSessionOf (with_zone s name new) session → (r : Result Told StoreError)
+        → Commits answer r → HasPerformed g before after s session date files c r
+    carries answer session new changed view here r ended =
+        let performs = subst (λ u. Performs date files s c u outcome)
+        (ap (λ b. if b then s else with_zone s name new) unchecked) (planned.performs new changed) in
+        performs_ran g before after s session date files c r
+        (runs (λ o u. Performs date files s c u (outcome_view o) × IsSessionOf u session) answer new changed
+        (subst (Performs date files s c (with_zone s name new)) (sym view) performs, here) r ended)

@@ -24,9 +24,9 @@ use Rattle.machine.specs.Installing.{InstallsSelected}
 use Rattle.machine.specs.Outcome.{Header, Line, Refusal, Outcome, Ran, Refused, header_of, or_nothing}
 use Rattle.machine.specs.State.{State, zone_named, with_zone, misplaced}
 use Rattle.machine.specs.Machine.{Files, InstallsThere, RunsThere, Performs}
-use Rattle.store.specs.declared.change.Change.TheVariants.{Zone as ZoneChange}
+use Rattle.store.specs.declared.change.Change.{Change}
 use Rattle.smpe_zones.specs.Kept.{kept}
-use Rattle.smpe_zones.specs.Own.{IsOwnOf}
+use Rattle.smpe_zones.specs.Own.{IsOfZone, IsOwnOf}
 use Rattle.machine_keeps.proofs.ZonesKept.{stands_among}
 use Rattle.machine_keeps.proofs.InstallForms.{apply_kept}
 use Rattle.smpe_session.specs.declared.session.Session.{Session}
@@ -177,9 +177,10 @@ install_changes date kind i s at name zone related sel bypass delta lines here p
           i.bypass date plan.printed inventory place.is_there (installs new changed) plan.dated;
     }
   where
-    owns : (kind : ZoneKind) → i.check ≡ false → IsOwnOf (install_command kind i) (ZoneChange name delta)
-    owns Target unchecked = (tt, unchecked)
-    owns Distribution unchecked = (tt, unchecked)
+    owns : (kind : ZoneKind) → i.check ≡ false → (change : Change) → IsOfZone change
+        → IsOwnOf (install_command kind i) change
+    owns Target unchecked change is = (is, unchecked)
+    owns Distribution unchecked change is = (is, unchecked)
 
     installs : (new : Zone) → IsChanged delta zone new
         → InstallsSelected s.global zone (related_for kind s.zones name) i.selection i.bypass date new plan.printed

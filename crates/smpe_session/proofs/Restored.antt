@@ -122,7 +122,7 @@ restore_changes s at name zone accepted what delta lines is target plan date fil
   zone = zone;
   has = target.has;
   is_there = target.is_there;
-  owns = λ unchecked. (tt, unchecked);
+  owns = λ unchecked change is. (is, unchecked);
   performs = λ new changed. headed date files (Restore what check) s (if check then s else with_zone s name new)
       boundary (λ h. Ran h lines) same (inr (
         restore_at s what check ∙ target.fits,

@@ -15,9 +15,9 @@ use Rattle.machine.specs.State.{State, zone_named, with_zone, target_of, at_kind
 use Rattle.report.specs.declared.outcome.Refusal.{Refusal}
 use Rattle.report.specs.Views.{refusal_view}
 use Rattle.store_schema.specs.Inventory.{IsInventory}
-use Rattle.store.specs.declared.change.Change.TheVariants.{Zone as ZoneChange}
+use Rattle.store.specs.declared.change.Change.{Change}
 use Rattle.smpe_zones.specs.Kept.{kept}
-use Rattle.smpe_zones.specs.Own.{IsOwnOf}
+use Rattle.smpe_zones.specs.Own.{IsOfZone, IsOwnOf}
 use Rattle.smpe_session.specs.declared.session.Session.{Session}
 use Rattle.smpe_session.specs.Sessions.{IsSessionOf}
 
@@ -58,14 +58,14 @@ pub record IsPlan (g : Global) (zone : Zone) (related : Option Zone) (sel : Sele
   pub installs : (new : Zone) → IsChanged delta zone new → InstallsSelected g zone related sel bypass date new printed
   pub lines_are : lines ≡ or_nothing printed
 
--- The command changes this zone of the session so and has this outcome. Where it checks alone, the state stays; else the
--- change of the zone is its own.
+-- The command changes this zone of the session so and has this outcome. Where it checks alone, the state stays; else a
+-- change of a zone is its own.
 pub record ChangesZone (date : Text) (files : Files) (c : Command) (s : State) (at : Session) (name : Text)
     (delta : ZoneDelta) (check : Bool) (outcome : Outcome) : Type 0 where
   pub zone : Zone
   pub has : get bytes_eq at.zones name ≡ Some zone
   pub is_there : zone_named s.zones name ≡ Some zone
-  pub owns : check ≡ false → IsOwnOf c (ZoneChange name delta)
+  pub owns : check ≡ false → (change : Change) → IsOfZone change → IsOwnOf c change
   pub performs : (new : Zone) → IsChanged delta zone new
       → Performs date files s c (if check then s else with_zone s name new) outcome
   pub inventory : (new : Zone) → IsChanged delta zone new → IsInventory (kept s)

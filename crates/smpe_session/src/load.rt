@@ -57,7 +57,7 @@ pub(crate) fn load_heads<S: Alter>(store: &mut Store<S>) -> Result<Vec<ZoneHead>
 /// Commits what leads from one state to another, and hands this answer back once that is done.
 pub(crate) fn commit_change<S: Alter, T: Drop>(
     store: &mut Store<S>,
-    change: &Change,
+    change: &Change<'_>,
     answer: T,
 ) -> Result<T, StoreError>
     ensures answer { IfOk result (λ given. given ≡ answer) }

@@ -1,9 +1,6 @@
 //! What an APPLY, ACCEPT or RESTORE comes to, and how it is carried out.
-ghost use Rattle.std.specs.Prelude.{◌≡◌, IsTrue, false, IfOk, OnOk, OnErr, Some, map};
-ghost use Rattle.std.specs.Str.{bytes_eq};
-ghost use Rattle.indexmap.specs.IndexMap.{get, Updates};
-ghost use Rattle.terms.specs.Types.{Text, Command, Zone as AZone};
-ghost use Rattle.zones.specs.Delta.{IsChanged};
+ghost use Rattle.std.specs.Prelude.{◌≡◌, false, IfOk, Some, map};
+ghost use Rattle.terms.specs.Types.{Text, Command};
 ghost use Rattle.machine.specs.Machine.{Files};
 ghost use Rattle.machine.specs.Outcome.{Ran};
 ghost use Rattle.report.specs.Views.{line_view, header_view};
@@ -16,12 +13,11 @@ ghost use Rattle.smpe_zones.specs.Own.{IsOfZone};
 use crate::load::commit_change;
 use crate::session::Session;
 use fields::{Attest, ZoneName};
-use indexmap::IndexMap;
-use report::{Header, Line, Outcome};
+use report::{Header, Line, Outcome, Refusal};
 use sqlite::Alter;
-use std::alloc::{AllocError, Global};
+use std::alloc::Global;
 use store::{Change, Store, StoreError};
-use zones::{Zone, ZoneDelta};
+use zones::ZoneDelta;
 
 /// The change of a zone, and the lines.
 #[derive(Drop)]
@@ -30,29 +26,10 @@ pub(crate) struct Planned {
     pub lines: Vec<Line>,
 }
 
-/// Changes a zone of the session, if it has one of the name. The error comes where memory runs out, and leaves the zones
-/// as they were.
-fn change_zone(
-    alloc: Global,
-    zones: &mut IndexMap<ZoneName, Zone>,
-    name: ZoneName,
-    delta: &ZoneDelta,
-) -> Result<(), AllocError>
-    ensures ok { OnOk result ((was : AZone) → get bytes_eq zones.old name ≡ Some was
-        → (new : AZone) × IsChanged delta.now was new × Updates bytes_eq zones.old zones.new name (Some new)) }
-    ensures err { OnErr result ((was : AZone) → get bytes_eq zones.old name ≡ Some was
-        → Updates bytes_eq zones.old zones.new name (Some was)) }
-{
-    let Some(zone) = zones.get_mut(&name) else {
-        return Ok(());
-    };
-    delta.apply(alloc, zone)?;
-    Ok(())
-}
-
 impl Session {
-    /// The header names the zone. Under CHECK nothing changes. Else the session's zone does, and what it became is
-    /// committed. A job whose commit fails ends there, and its session with it.
+    /// The header names the zone. Under CHECK nothing changes. Else its change is made ready and committed, and then the
+    /// session's zone changes, which takes no memory: it is never ahead of the tables. A job whose commit fails ends
+    /// there, and its session with it.
     pub(crate) fn carry_out<S: Alter>(
         &mut self,
         alloc: Global,
@@ -70,15 +47,22 @@ impl Session {
             → HasPerformed S.Store store.old store.new s self.new date files c ended) result }
     {
         let Planned { delta, lines } = planned;
+        delta.attest();
         if header.check {
-            delta.attest();
             return Ok(Outcome::Ran { header, lines });
         }
-        change_zone(alloc, &mut self.zones, name, &delta)?;
-        commit_change(
+        let Some(zone) = self.zones.get_mut(&name) else {
+            // What is planned is planned for a zone that the session has.
+            let refusal = Refusal::WrongKind;
+            return Ok(Outcome::Refused { header, refusal });
+        };
+        let prepared = zone.prepare(alloc, &delta)?;
+        let outcome = commit_change(
             store,
-            &Change::Zone(name, delta),
+            &Change::Zone(name, zone, delta),
             Outcome::Ran { header, lines },
-        )
+        )?;
+        zone.edit(prepared);
+        Ok(outcome)
     }
 }

@@ -78,7 +78,7 @@ impl Session {
 
     /// Performs a command, which is committed before it is told of. `Memory` comes where memory runs out, `Fault` where
     /// the database fails, and `NoState` where a zone is loaded whose rows stand for none. No command of the job may
-    /// follow then: the session may be ahead of the tables.
+    /// follow then: the session's global zone may be ahead of the tables.
     pub fn perform<S: Alter>(
         &mut self,
         alloc: Global,

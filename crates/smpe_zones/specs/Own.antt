@@ -18,7 +18,7 @@ IsRejected _ = ⊥
 
 -- a change of a target or distribution zone that is there
 abbrev pub IsOfZone : Change → Type 0
-IsOfZone (Zone name delta) = Unit {0}
+IsOfZone (Zone name old delta) = Unit {0}
 IsOfZone _ = ⊥
 
 -- RECEIVE and REJECT change the global zone, and APPLY, ACCEPT and RESTORE another one, unless they check alone. SET,

@@ -1,6 +1,6 @@
 -- From the rows that are written to what is committed, and what a crash leaves.
 use Rattle.std.proofs.Common.{◌≡◌, ◌⊎◌, inl, inr, ◌≤◌, ◌++◌, List, Vec, IsTrue, Option, Result, Ok, Err, true, false}
-use Rattle.std.proofs.Common.{IfErr, IsErrAnd, IsErrOf, OnOk, OnErr, arith, refl, sym, ap, subst}
+use Rattle.std.proofs.Common.{IfErr, IsErrAnd, IsErrOf, OnOk, OnErr, Bor, arith, refl, sym, ap, subst}
 use Rattle.std.specs.declared.alloc.Global.{Global as AnyGlobal}
 use Rattle.sqlite.specs.Store.{Ghosts}
 use Rattle.sqlite.specs.View.{doubt}
@@ -15,7 +15,7 @@ use Rattle.sqlite.specs.State.{State, HasCleanDisk, Survives, Shows, KeepsCommit
 use Rattle.sqlite.proofs.StateLemmas.{survives_then}
 use Rattle.sqlite.proofs.Callers.{survives_begin}
 use Rattle.terms.specs.declared.kinds.ZoneKind.{ZoneKind}
-use Rattle.terms.specs.Types.{Text}
+use Rattle.terms.specs.Types.{Text, Zone as AZone}
 use Rattle.zones.specs.Delta.{ZoneDelta, IsDelta}
 use Rattle.store_rows.specs.Calls.{Call, RunsInside}
 use Rattle.store_rows.specs.Inside.{StaysInside}
@@ -53,11 +53,11 @@ module _ {S : Type 0} (g : Ghosts S) (old new : Held S) where
       (adds i.global added.before added.after clean (subst (λ (k : Inventory).
       HasContents store_schema (rows_of k) (state g old).now) was contents))
 
-  pub delta_written : (name : Text) (delta : ZoneDelta) → IsDelta delta → ChangesZone g old new name (HasEdited delta)
-      → Writes g old (Zone name delta) new
-  delta_written name delta is_delta changes i j made inventory =
-      changes i j made.0 made.1 made.2 (is_edited delta made.0 made.1 is_delta
-      (zone_was name made.0 made.1 i j inventory made.2) made.3)
+  pub delta_written : (name : Text) (zone : Bor AZone) (delta : ZoneDelta) → IsDelta delta
+      → ChangesZone g old new name (HasEdited zone.now delta) → Writes g old (Zone name zone delta) new
+  delta_written name zone delta is_delta changes i j made inventory =
+      changes i j zone.now made.0 made.1 (is_edited delta zone.now made.0 is_delta
+      (zone_was name zone.now made.0 i j inventory made.1) made.2)
 
   pub edits_written : (edits : Vec GlobalEdit AnyGlobal) → ChangesGlobal g old new (EachFits edits.items)
       (after_edits edits.items) → Writes g old (Global edits) new

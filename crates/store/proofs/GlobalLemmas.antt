@@ -32,7 +32,7 @@ use Rattle.store_schema.specs.Inventory.{Inventory}
 use Rattle.store_schema.specs.Rows.{hold_row}
 use Rattle.store_schema.specs.Stands.{rows_of}
 use Rattle.store_schema.specs.Tables.{hold as hold_table, store_schema}
-use Rattle.store_sysmods.specs.HoldKeys.{hold_key, key_row}
+use Rattle.store_sysmods.specs.Holds.{hold_key, key_row}
 use Rattle.store_sysmods.specs.Sysmods.{ChangesGlobal}
 use Rattle.sysmods.specs.declared.edit.GlobalEdit.{GlobalEdit}
 use Rattle.sysmods.specs.declared.edit.GlobalEdit.TheVariants.{PutHold, RemoveHold}

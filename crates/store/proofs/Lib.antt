@@ -7,4 +7,5 @@ mod Loading
 pub mod NoState
 mod Parts
 pub mod Reopening
+mod Standing
 pub mod ViewLemmas

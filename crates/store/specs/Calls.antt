@@ -7,14 +7,15 @@ use Rattle.sqlite.specs.Held.{Held, state}
 use Rattle.sorted.specs.declared.edits.Edit.{Edit}
 use Rattle.sorted.specs.declared.edits.Edit.TheVariants.{Put, Remove}
 use Rattle.terms.specs.declared.kinds.ElemType.{ElemType}
-use Rattle.terms.specs.Types.{Text, Id, Entry, Element}
+use Rattle.terms.specs.Lookups.{entry_of, element_of}
+use Rattle.terms.specs.Types.{Text, Id, Entry, Element, Zone as AZone}
 use Rattle.sysmods.specs.declared.edit.GlobalEdit.{GlobalEdit}
 use Rattle.sysmods.specs.declared.edit.GlobalEdit.TheVariants.{PutHold, RemoveHold, InsertSysmod, ReplaceSources}
 use Rattle.sysmods.specs.declared.edit.GlobalEdit.TheVariants.{RemoveSysmod}
 use Rattle.zones.specs.Delta.{ZoneDelta}
 use Rattle.store_rows.specs.Calls.{Call, Refused}
 use Rattle.store_rows.specs.Reads.{HasFailed}
-use Rattle.store_sysmods.specs.HoldCalls.{put_hold_calls, remove_hold_calls}
+use Rattle.store_sysmods.specs.Holds.{put_hold_calls, remove_hold_calls}
 use Rattle.store_sysmods.specs.Calls.{insert_sysmod_calls, replace_sources_calls, remove_sysmod_calls}
 use Rattle.store_zones.specs.Calls.{zone_calls, put_entry_calls, remove_entry_calls}
 use Rattle.store_zones.specs.Calls.{put_element_calls, remove_element_calls}
@@ -22,13 +23,15 @@ use Rattle.store_zones.specs.Zones.{empty_zone}
 use Rattle.store.specs.declared.change.Change.{Change}
 use Rattle.store.specs.declared.change.Change.TheVariants.{NewZone, Zone, Global}
 
-abbrev pub entry_calls : Text → Edit Entry Id → List Call
-entry_calls zone (Put entry) = put_entry_calls zone entry
-entry_calls zone (Remove id) = remove_entry_calls zone id
+-- an edit of an entry of the zone of this name, where this one stood
+abbrev pub entry_calls : Text → AZone → Edit Entry Id → List Call
+entry_calls name zone (Put entry) = put_entry_calls name (entry_of zone entry.id) entry
+entry_calls name zone (Remove id) = remove_entry_calls name (entry_of zone id) id
 
-abbrev pub element_calls : Text → Edit Element (ElemType × Text) → List Call
-element_calls zone (Put element) = put_element_calls zone element
-element_calls zone (Remove key) = remove_element_calls zone key.0 key.1
+abbrev pub element_calls : Text → AZone → Edit Element (ElemType × Text) → List Call
+element_calls name zone (Put element) =
+    put_element_calls name (element_of zone element.elem_type element.name) element
+element_calls name zone (Remove key) = remove_element_calls name key.0 key.1
 
 abbrev pub edit_calls : GlobalEdit → List Call
 edit_calls (PutHold hold) = put_hold_calls hold
@@ -38,13 +41,14 @@ edit_calls (ReplaceSources sysmod) = replace_sources_calls sysmod
 edit_calls (RemoveSysmod id) = remove_sysmod_calls id
 
 -- the entries first, and then the elements
-abbrev pub delta_calls : Text → ZoneDelta → List Call
-delta_calls zone delta = flat_map (entry_calls zone) delta.entries ++ flat_map (element_calls zone) delta.elements
+abbrev pub delta_calls : Text → AZone → ZoneDelta → List Call
+delta_calls name zone delta =
+    flat_map (entry_calls name zone) delta.entries ++ flat_map (element_calls name zone) delta.elements
 
 -- one after the other, as they run
 abbrev pub calls_of : Change → List Call
 calls_of (NewZone name kind srel related) = zone_calls (empty_zone name kind srel related)
-calls_of (Zone name delta) = delta_calls name delta
+calls_of (Zone name old delta) = delta_calls name old.now delta
 calls_of (Global edits) = flat_map edit_calls edits.items
 
 -- the database refused one of the statements

@@ -18,5 +18,5 @@ pub record IsZoneAdded (zone : NamedZone) (i j : Inventory) : Type 0 where
 -- the second is what the change makes of the first
 abbrev pub Makes : Change → Inventory → Inventory → Type 0
 Makes (NewZone name kind srel related) i j = IsZoneAdded (empty_zone name kind srel related) i j
-Makes (Zone name delta) i j = (was : AZone) × (is : AZone) × IsZoneChange name was is i j × IsChanged delta was is
+Makes (Zone name old delta) i j = (is : AZone) × IsZoneChange name old.now is i j × IsChanged delta old.now is
 Makes (Global edits) i j = EachFits edits.items i.global × (j ≡ record i { global = after_edits edits.items i.global })

@@ -1,5 +1,5 @@
 -- What is written in the transaction of a commit, and what the commit makes of the database.
-use Rattle.std.specs.Prelude.{◌≡◌, List, IsTrue}
+use Rattle.std.specs.Prelude.{◌≡◌, List, [], ◌∷◌, IsTrue}
 use Rattle.std.specs.Ordering.{nat_cmp}
 use Rattle.std.specs.Cmp.Lexicographic.{slice_cmp}
 use Rattle.sqlite.specs.Store.{Ghosts}
@@ -9,14 +9,16 @@ use Rattle.sqlite.specs.Held.{Held, state}
 use Rattle.terms.specs.declared.kinds.ElemType.{ElemType}
 use Rattle.sorted.specs.declared.edits.Edit.{Edit}
 use Rattle.terms.specs.Types.{Text, Id, Entry, Element, Zone}
-use Rattle.terms.specs.Lookups.{element_cmp, element_key}
-use Rattle.zones.specs.Delta.{ZoneDelta}
-use Rattle.sorted.specs.Edits.{edited}
+use Rattle.terms.specs.Lookups.{IsZone, entry_of, element_of, element_cmp, element_key}
+use Rattle.terms.specs.Rising.{Rises}
+use Rattle.zones.specs.Delta.{ZoneDelta, IsDelta}
+use Rattle.sorted.specs.Edits.{edit_key, edited}
 use Rattle.store_rows.specs.Inside.{Leads}
 use Rattle.store_rows.specs.Rows.{HasContents}
 use Rattle.store_schema.specs.Inventory.{Inventory, IsInventory}
 use Rattle.store_schema.specs.Stands.{StandsFor, rows_of}
 use Rattle.store_schema.specs.Tables.{store_schema}
+use Rattle.store_zones.specs.Zones.{HasEntry, HasElement}
 use Rattle.store.specs.declared.change.Change.{Change}
 use Rattle.store.specs.Changes.{Makes}
 
@@ -35,13 +37,40 @@ HasEditedEntries edits old new = new ≡ record old { entries = entries_after ol
 abbrev pub HasEditedElements : List (Edit Element (ElemType × Text)) → Zone → Zone → Type 0
 HasEditedElements edits old new = new ≡ record old { elements = elements_after old.elements edits }
 
--- and so both
-abbrev pub HasEdited : ZoneDelta → Zone → Zone → Type 0
-HasEdited delta old new =
-    new ≡ record old {
-      entries = entries_after old.entries delta.entries;
-      elements = elements_after old.elements delta.elements;
-    }
+-- An entry is edited where the zone still has what this one had under the edit's id.
+pub record EditsEntry (zone : Zone) (edit : Edit Entry Id) (old new : Zone) : Type 0 where
+  pub was : HasEntry (edit_key (λ e. e.id) edit) (entry_of zone (edit_key (λ e. e.id) edit)) old
+  pub is : HasEditedEntries (edit ∷ []) old new
+
+-- So is an element.
+pub record EditsElement (zone : Zone) (edit : Edit Element (ElemType × Text)) (old new : Zone) : Type 0 where
+  pub was : HasElement (edit_key element_key edit).0 (edit_key element_key edit).1
+      (element_of zone (edit_key element_key edit).0 (edit_key element_key edit).1) old
+  pub is : HasEditedElements (edit ∷ []) old new
+
+-- The edits, which rise, are done to the entries of a zone that has those of this one.
+pub record EditsEntries (zone : Zone) (edits : List (Edit Entry Id)) (old new : Zone) : Type 0 where
+  pub is_zone : IsZone zone
+  pub rises : Rises (slice_cmp nat_cmp) (edit_key (λ e. e.id)) edits
+  pub was : old.entries ≡ zone.entries
+  pub is : HasEditedEntries edits old new
+
+-- and to the elements
+pub record EditsElements (zone : Zone) (edits : List (Edit Element (ElemType × Text))) (old new : Zone) : Type 0 where
+  pub is_zone : IsZone zone
+  pub rises : Rises element_cmp (edit_key element_key) edits
+  pub was : old.elements ≡ zone.elements
+  pub is : HasEditedElements edits old new
+
+-- and to both
+pub record HasEdited (zone : Zone) (delta : ZoneDelta) (old new : Zone) : Type 0 where
+  pub is_zone : IsZone zone
+  pub is_delta : IsDelta delta
+  pub was : old ≡ zone
+  pub is : new ≡ record old {
+    entries = entries_after old.entries delta.entries;
+    elements = elements_after old.elements delta.elements;
+  }
 
 module _ {S : Type 0} (g : Ghosts S) (old : Held S) (change : Change) where
   -- the rows of an inventory become those of the changed one

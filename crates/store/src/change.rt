@@ -3,15 +3,15 @@
 use fields::{Srel, ZoneName};
 use sysmods::GlobalEdit;
 use terms::ZoneKind;
-use zones::ZoneDelta;
+use zones::{Zone, ZoneDelta};
 
 /// What one transaction changes.
 #[derive(Drop)]
-pub enum Change {
+pub enum Change<'a> {
     /// A zone with no entries is added.
     NewZone(ZoneName, ZoneKind, Srel, Option<ZoneName>),
-    /// Entries and elements of the zone of this name are put and removed.
-    Zone(ZoneName, ZoneDelta),
+    /// Entries and elements of the zone of this name, which stands so, are put and removed.
+    Zone(ZoneName, &'a Zone, ZoneDelta),
     /// The global zone is edited, by the first edit first.
     Global(Vec<GlobalEdit>),
 }

@@ -1,12 +1,12 @@
 //! What a delta puts and removes, written in a transaction that is open.
 
-ghost use Rattle.std.specs.Prelude.{◌≡◌, ◌∷◌, [], OnOk};
+ghost use Rattle.std.specs.Prelude.{◌≡◌, OnOk};
 ghost use Rattle.std.specs.List.{flat_map};
 ghost use Rattle.store_rows.specs.Calls.{RunsInside};
 ghost use Rattle.store_rows.specs.Inside.{StaysInside};
 ghost use Rattle.store.specs.Calls.{entry_calls, element_calls, delta_calls};
 ghost use Rattle.store_zones.specs.Zones.{ChangesZone};
-ghost use Rattle.store.specs.Writes.{HasEditedEntries, HasEditedElements, HasEdited};
+ghost use Rattle.store.specs.Writes.{EditsEntry, EditsEntries, EditsElement, EditsElements, HasEdited};
 
 use fields::{Id, Name, ZoneName};
 use sorted::Edit;
@@ -14,58 +14,67 @@ use sqlite::{Alter, Error, Transaction};
 use std::alloc::Global;
 use store_zones::{put_element, put_entry, remove_element, remove_entry};
 use terms::ElemType;
-use zones::{Element, Entry, ZoneDelta};
+use zones::{Element, Entry, Zone, ZoneDelta};
 
 fn edit_entry<S: Alter>(
     alloc: Global,
     tx: &mut Transaction<'_, S>,
-    zone: ZoneName,
+    name: ZoneName,
+    zone: &Zone,
     edit: &Edit<Entry, Id>,
 ) -> Result<(), Error>
     ensures same_reference { tx.new.conn.ghost_name ≡ tx.old.conn.ghost_name }
     ensures inside { StaysInside S.Store tx.old.conn.now tx.new.conn.now }
-    ensures calls { RunsInside S.Store (entry_calls zone edit.now) tx.old.conn.now tx.new.conn.now result }
-    ensures ok { OnOk result (ChangesZone S.Store tx.old.conn.now tx.new.conn.now zone
-        (HasEditedEntries (edit.now ∷ []))) }
+    ensures calls { RunsInside S.Store (entry_calls name zone.now edit.now)
+        tx.old.conn.now tx.new.conn.now result }
+    ensures ok { OnOk result (ChangesZone S.Store tx.old.conn.now tx.new.conn.now name
+        (EditsEntry zone.now edit.now)) }
 {
     match edit {
-        Edit::Put(entry) => put_entry(alloc, tx, zone, entry),
-        Edit::Remove(id) => remove_entry(tx, zone, *id),
+        Edit::Put(entry) => put_entry(alloc, tx, name, zone.entry(entry.id), entry),
+        Edit::Remove(id) => remove_entry(tx, name, zone.entry(*id), *id),
     }
 }
 
 fn edit_element<S: Alter>(
     alloc: Global,
     tx: &mut Transaction<'_, S>,
-    zone: ZoneName,
+    name: ZoneName,
+    zone: &Zone,
     edit: &Edit<Element, (ElemType, Name)>,
 ) -> Result<(), Error>
     ensures same_reference { tx.new.conn.ghost_name ≡ tx.old.conn.ghost_name }
     ensures inside { StaysInside S.Store tx.old.conn.now tx.new.conn.now }
-    ensures calls { RunsInside S.Store (element_calls zone edit.now) tx.old.conn.now tx.new.conn.now result }
-    ensures ok { OnOk result (ChangesZone S.Store tx.old.conn.now tx.new.conn.now zone
-        (HasEditedElements (edit.now ∷ []))) }
+    ensures calls { RunsInside S.Store (element_calls name zone.now edit.now)
+        tx.old.conn.now tx.new.conn.now result }
+    ensures ok { OnOk result (ChangesZone S.Store tx.old.conn.now tx.new.conn.now name
+        (EditsElement zone.now edit.now)) }
 {
     match edit {
-        Edit::Put(element) => put_element(alloc, tx, zone, element),
-        Edit::Remove((elem_type, name)) => remove_element(tx, zone, *elem_type, *name),
+        Edit::Put(element) => {
+            let stood = zone.element(element.elem_type, element.name);
+            put_element(alloc, tx, name, stood, element)
+        }
+        Edit::Remove((elem_type, element)) => remove_element(tx, name, *elem_type, *element),
     }
 }
 
 fn edit_entries<S: Alter>(
     alloc: Global,
     tx: &mut Transaction<'_, S>,
-    zone: ZoneName,
+    name: ZoneName,
+    zone: &Zone,
     edits: &[Edit<Entry, Id>],
 ) -> Result<(), Error>
     ensures same_reference { tx.new.conn.ghost_name ≡ tx.old.conn.ghost_name }
     ensures inside { StaysInside S.Store tx.old.conn.now tx.new.conn.now }
-    ensures calls { RunsInside S.Store (flat_map (entry_calls zone) edits.now) tx.old.conn.now tx.new.conn.now
-        result }
-    ensures ok { OnOk result (ChangesZone S.Store tx.old.conn.now tx.new.conn.now zone (HasEditedEntries edits.now)) }
+    ensures calls { RunsInside S.Store (flat_map (entry_calls name zone.now) edits.now)
+        tx.old.conn.now tx.new.conn.now result }
+    ensures ok { OnOk result (ChangesZone S.Store tx.old.conn.now tx.new.conn.now name
+        (EditsEntries zone.now edits.now)) }
 {
     for edit in edits {
-        edit_entry(alloc, tx, zone, edit)?;
+        edit_entry(alloc, tx, name, zone, edit)?;
     }
     Ok(())
 }
@@ -73,33 +82,38 @@ fn edit_entries<S: Alter>(
 fn edit_elements<S: Alter>(
     alloc: Global,
     tx: &mut Transaction<'_, S>,
-    zone: ZoneName,
+    name: ZoneName,
+    zone: &Zone,
     edits: &[Edit<Element, (ElemType, Name)>],
 ) -> Result<(), Error>
     ensures same_reference { tx.new.conn.ghost_name ≡ tx.old.conn.ghost_name }
     ensures inside { StaysInside S.Store tx.old.conn.now tx.new.conn.now }
-    ensures calls { RunsInside S.Store (flat_map (element_calls zone) edits.now) tx.old.conn.now tx.new.conn.now
-        result }
-    ensures ok { OnOk result (ChangesZone S.Store tx.old.conn.now tx.new.conn.now zone (HasEditedElements edits.now)) }
+    ensures calls { RunsInside S.Store (flat_map (element_calls name zone.now) edits.now)
+        tx.old.conn.now tx.new.conn.now result }
+    ensures ok { OnOk result (ChangesZone S.Store tx.old.conn.now tx.new.conn.now name
+        (EditsElements zone.now edits.now)) }
 {
     for edit in edits {
-        edit_element(alloc, tx, zone, edit)?;
+        edit_element(alloc, tx, name, zone, edit)?;
     }
     Ok(())
 }
 
-/// Writes the rows of the edits alone.
+/// Writes the rows of the edits alone, of the zone that has this name and stands so.
 pub(crate) fn write_delta<S: Alter>(
     alloc: Global,
     tx: &mut Transaction<'_, S>,
-    zone: ZoneName,
+    name: ZoneName,
+    zone: &Zone,
     delta: &ZoneDelta,
 ) -> Result<(), Error>
     ensures same_reference { tx.new.conn.ghost_name ≡ tx.old.conn.ghost_name }
     ensures inside { StaysInside S.Store tx.old.conn.now tx.new.conn.now }
-    ensures calls { RunsInside S.Store (delta_calls zone delta.now) tx.old.conn.now tx.new.conn.now result }
-    ensures ok { OnOk result (ChangesZone S.Store tx.old.conn.now tx.new.conn.now zone (HasEdited delta.now)) }
+    ensures calls { RunsInside S.Store (delta_calls name zone.now delta.now)
+        tx.old.conn.now tx.new.conn.now result }
+    ensures ok { OnOk result (ChangesZone S.Store tx.old.conn.now tx.new.conn.now name
+        (HasEdited zone.now delta.now)) }
 {
-    edit_entries(alloc, tx, zone, delta.entries())?;
-    edit_elements(alloc, tx, zone, delta.elements())
+    edit_entries(alloc, tx, name, zone, delta.entries())?;
+    edit_elements(alloc, tx, name, zone, delta.elements())
 }

@@ -98,7 +98,7 @@ impl<S: Alter> Store<S> {
     /// Makes the change in one transaction. It writes the rows that change, and loads none. `Memory` comes where memory
     /// runs out, and `Fault` where the disk fails or the database refuses a row; the tables then stand for what they
     /// stood for.
-    pub fn commit(&mut self, change: &Change) -> Result<(), StoreError>
+    pub fn commit(&mut self, change: &Change<'_>) -> Result<(), StoreError>
         ensures only { OnlyCommits S.Store (calls_of change.now) self.old self.new result }
         ensures ok { OnOk result ((i j : Inventory) → Makes change.now i j → IsInventory j → Tables S.Store self.old i
             → Tables S.Store self.new j) }

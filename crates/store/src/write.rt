@@ -19,7 +19,11 @@ use sqlite::{Alter, Connection, Error, Transaction};
 use std::alloc::Global;
 use store_zones::insert_zone;
 
-fn write<S: Alter>(alloc: Global, tx: &mut Transaction<'_, S>, change: &Change) -> Result<(), Error>
+fn write<S: Alter>(
+    alloc: Global,
+    tx: &mut Transaction<'_, S>,
+    change: &Change<'_>,
+) -> Result<(), Error>
     ensures same_reference { tx.new.conn.ghost_name ≡ tx.old.conn.ghost_name }
     ensures inside { StaysInside S.Store tx.old.conn.now tx.new.conn.now }
     ensures calls { RunsInside S.Store (calls_of change.now) tx.old.conn.now tx.new.conn.now result }
@@ -29,9 +33,9 @@ fn write<S: Alter>(alloc: Global, tx: &mut Transaction<'_, S>, change: &Change) 
         Change::NewZone(name, kind, srel, related) => {
             insert_zone(tx, *name, *kind, *srel, *related)
         }
-        Change::Zone(name, delta) => {
+        Change::Zone(name, zone, delta) => {
             delta.attest();
-            write_delta(alloc, tx, *name, delta)
+            write_delta(alloc, tx, *name, zone, delta)
         }
         Change::Global(edits) => write_edits(alloc, tx, edits.as_slice()),
     }
@@ -41,7 +45,7 @@ fn write<S: Alter>(alloc: Global, tx: &mut Transaction<'_, S>, change: &Change) 
 pub(crate) fn commit_change<S: Alter>(
     alloc: Global,
     conn: &mut Connection<S>,
-    change: &Change,
+    change: &Change<'_>,
 ) -> Result<(), Error>
     requires { conn.old.in_transaction ≡ false }
     ensures made { HasCleanDisk (state S.Store conn.new) → OnOk result

@@ -21,7 +21,10 @@ use Rattle.store_schema.specs.declared.schema.Schema.TheVariants.{First, Second,
 use Rattle.lemmas.proofs.Orderings.{lower_first}
 use Rattle.store_schema.proofs.Numbered.{numbered_is}
 use Rattle.store_sysmod_loads.specs.Built.{MayDo, IsBuilt}
-use Rattle.store_sysmod_loads.specs.Flat.{HasHeadForms, HasFormsUnder, HasVerRowForms, HasIfRowForms, HasElemRowForms}
+use Rattle.store_sysmods.specs.Heads.{HasHeadForms, HasFormsUnder}
+use Rattle.store_sysmods.specs.Vers.{HasVerRowForms}
+use Rattle.store_sysmods.specs.Ifs.{HasIfRowForms}
+use Rattle.store_sysmods.specs.Elems.{HasElemRowForms}
 use Rattle.store_sysmod_loads.specs.Flats.{head_of, ifs_of, all_vers, all_ifs, all_elems, AreFormed}
 use Rattle.store_sysmod_loads.specs.Runs.{if_rows, ver_rows, elem_rows}
 

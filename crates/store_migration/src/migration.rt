@@ -24,7 +24,7 @@ fn migrated<S: Alter>(alloc: Global, conn: &mut Connection<S>) -> Result<(), Sto
     requires { conn.old.in_transaction ≡ false }
     ensures { Migrates S.Store conn.old conn.new result }
 {
-    // So what the connection shows is what it last committed.
+    // Outside a transaction, what the connection shows is what it last committed.
     prove!(conn.is_autocommit());
     attest(conn);
     let Some(schema) = found_schema(alloc, conn)? else {
@@ -53,7 +53,7 @@ pub fn migrate<S: Alter>(
     ensures ok { IfOk result (Migrated S.Store conn) }
     ensures err { IfErr result (λ e. Unmigrated S.Store conn e.0 e.1) }
 {
-    // So what the connection shows is what it last committed.
+    // Outside a transaction, what the connection shows is what it last committed.
     prove!(conn.is_autocommit());
     match migrated(alloc, &mut conn) {
         Ok(()) => Ok(Store::over(alloc, conn)),

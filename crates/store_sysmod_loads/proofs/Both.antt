@@ -9,12 +9,13 @@ use Rattle.store_rows.specs.Rows.{Contents}
 use Rattle.store_schema.specs.Tables.{ver, ifreq, morever, moreif}
 use Rattle.store_schema.specs.declared.schema.Schema.{Schema}
 use Rattle.store_schema.specs.declared.schema.Schema.TheVariants.{First, Second, Third}
-use Rattle.store_sysmod_loads.specs.declared.flat.VerRow.{VerRow}
-use Rattle.store_sysmod_loads.specs.declared.flat.IfRow.{IfRow}
+use Rattle.store_sysmods.specs.declared.ver.VerRow.{VerRow}
+use Rattle.store_sysmods.specs.declared.ifreq.IfRow.{IfRow}
 use Rattle.store_sysmod_loads.specs.Both.{AreOfBoth, AreRowsIn}
-use Rattle.store_sysmod_loads.specs.Flat.{is_first_row, is_first_if, row_of_ver, row_of_more_ver, HasFirstForms}
-use Rattle.store_sysmod_loads.specs.Flat.{HasFurtherForms, row_of_if, row_of_more_if, HasFirstIfForms}
-use Rattle.store_sysmod_loads.specs.Flat.{HasFurtherIfForms, HasVerRowForms, HasIfRowForms}
+use Rattle.store_sysmods.specs.Vers.{is_first_row, row_of_ver, HasFirstForms, HasVerRowForms}
+use Rattle.store_sysmods.specs.Ifs.{is_first_if, row_of_if, HasFirstIfForms, HasIfRowForms}
+use Rattle.store_sysmods.specs.MoreVers.{row_of_more_ver, HasFurtherForms}
+use Rattle.store_sysmods.specs.MoreIfs.{row_of_more_if, HasFurtherIfForms}
 use Rattle.store_sysmod_loads.specs.Flats.{all_vers, all_ifs, AreFormed, AreRowsOf}
 use Rattle.store_sysmod_loads.specs.Gathered.{HoldVers, HoldIfs}
 use Rattle.store_sysmod_loads.proofs.FlatLemmas.{rows_of_vers, rows_of_more_vers, rows_of_ifs, rows_of_more_ifs}

@@ -17,12 +17,17 @@ use Rattle.store_schema.specs.Rows.{sysmod_row, source_row, sources_of, ver_row,
 use Rattle.store_schema.specs.Rows.{elems_of, morever_row, morevers_of, moreif_row, moreifs_of, first_vers}
 use Rattle.store_schema.specs.Rows.{further_vers}
 use Rattle.store_schema.specs.Earlier.{first_sysmod_row}
-use Rattle.store_sysmod_loads.specs.declared.flat.HeadRow.{HeadRow}
-use Rattle.store_sysmod_loads.specs.declared.flat.VerRow.{VerRow}
-use Rattle.store_sysmod_loads.specs.declared.flat.IfRow.{IfRow}
-use Rattle.store_sysmod_loads.specs.declared.flat.ElemRow.{ElemRow}
-use Rattle.store_sysmod_loads.specs.Flat.{row_of_head, row_of_bare, row_of_source, row_of_ver, row_of_if, row_of_elem}
-use Rattle.store_sysmod_loads.specs.Flat.{is_first_row, is_first_if, row_of_more_ver, row_of_more_if}
+use Rattle.store_sysmods.specs.declared.head.HeadRow.{HeadRow}
+use Rattle.store_sysmods.specs.declared.ver.VerRow.{VerRow}
+use Rattle.store_sysmods.specs.declared.ifreq.IfRow.{IfRow}
+use Rattle.store_sysmods.specs.declared.elem.ElemRow.{ElemRow}
+use Rattle.store_sysmods.specs.Heads.{row_of_head, row_of_bare}
+use Rattle.store_sysmods.specs.Sources.{row_of_source}
+use Rattle.store_sysmods.specs.Vers.{row_of_ver, is_first_row}
+use Rattle.store_sysmods.specs.Ifs.{row_of_if, is_first_if}
+use Rattle.store_sysmods.specs.Elems.{row_of_elem}
+use Rattle.store_sysmods.specs.MoreVers.{row_of_more_ver}
+use Rattle.store_sysmods.specs.MoreIfs.{row_of_more_if}
 use Rattle.store_sysmod_loads.specs.Runs.{StandsApart, parent_of_ver, parent_of_if, parent_of_elem, source_rows}
 use Rattle.store_sysmod_loads.specs.Runs.{if_rows, ver_rows, elem_rows, HasAllIfs}
 use Rattle.store_sysmod_loads.specs.Joined.{bare_of, all_sources}

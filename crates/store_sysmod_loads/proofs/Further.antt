@@ -23,10 +23,12 @@ use Rattle.store_schema.proofs.Numbered.{numbered, numbered_is, numbered_has, nu
 use Rattle.store_schema.proofs.Numbered.{numbered_service, one_or_other, other_one}
 use Rattle.store_schema.proofs.Singles.{HasSingles, alone, numbered_alone}
 use Rattle.store_schema.proofs.OneState.{service_suits}
-use Rattle.store_sysmod_loads.specs.declared.flat.VerRow.{VerRow}
-use Rattle.store_sysmod_loads.specs.declared.flat.IfRow.{IfRow}
-use Rattle.store_sysmod_loads.specs.Flat.{is_first_row, is_first_if, HasVerRowForms, HasFirstForms, HasFurtherForms}
-use Rattle.store_sysmod_loads.specs.Flat.{HasIfRowForms, HasFirstIfForms, HasFurtherIfForms}
+use Rattle.store_sysmods.specs.declared.ver.VerRow.{VerRow}
+use Rattle.store_sysmods.specs.declared.ifreq.IfRow.{IfRow}
+use Rattle.store_sysmods.specs.Vers.{is_first_row, HasVerRowForms, HasFirstForms}
+use Rattle.store_sysmods.specs.Ifs.{is_first_if, HasIfRowForms, HasFirstIfForms}
+use Rattle.store_sysmods.specs.MoreVers.{HasFurtherForms}
+use Rattle.store_sysmods.specs.MoreIfs.{HasFurtherIfForms}
 use Rattle.store_sysmod_loads.specs.Runs.{parent_of_if, if_rows, ver_rows}
 use Rattle.store_sysmod_loads.specs.Built.{IsBuilt}
 use Rattle.store_sysmod_loads.specs.Flats.{ifs_of, all_vers, all_ifs, AreWhole, AreMoreRowsOf}

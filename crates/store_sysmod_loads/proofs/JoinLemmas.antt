@@ -8,10 +8,11 @@ use Rattle.terms.specs.Types.{Text, Id}
 use Rattle.terms.specs.Forms.{IsId, IsSource}
 use Rattle.terms.specs.Lookups.{is_before}
 use Rattle.store_schema.proofs.Spelled.{not_before_same}
-use Rattle.store_sysmod_loads.specs.declared.flat.HeadRow.{HeadRow}
-use Rattle.store_sysmod_loads.specs.declared.flat.BareHead.{BareHead}
-use Rattle.store_sysmod_loads.specs.declared.flat.SourceRow.{SourceRow}
-use Rattle.store_sysmod_loads.specs.Flat.{HasBareForms, HasSourceForms, HasHeadForms}
+use Rattle.store_sysmods.specs.declared.head.HeadRow.{HeadRow}
+use Rattle.store_sysmods.specs.declared.head.BareHead.{BareHead}
+use Rattle.store_sysmods.specs.declared.source.SourceRow.{SourceRow}
+use Rattle.store_sysmods.specs.Heads.{HasBareForms, HasHeadForms}
+use Rattle.store_sysmods.specs.Sources.{HasSourceForms}
 use Rattle.store_sysmod_loads.specs.Runs.{parent_of_source, source_rows, HasSources}
 use Rattle.store_sysmod_loads.specs.Joined.{bare_of, all_sources, AreJoined}
 use Rattle.store_sysmod_loads.proofs.FlatLemmas.{recursion_flat, stands_apart, other_by}

@@ -8,8 +8,9 @@ use Rattle.store_schema.specs.declared.schema.Schema.TheVariants.{First, Second,
 use Rattle.store_schema.specs.Rows.{sysmod_row, sources_of}
 use Rattle.store_schema.specs.Tables.{sysmod, source}
 use Rattle.store_schema.proofs.Lists.{ascending}
-use Rattle.store_sysmod_loads.specs.declared.flat.HeadRow.{HeadRow}
-use Rattle.store_sysmod_loads.specs.Flat.{row_of_bare, row_of_source, HasHeadForms, HasFormsUnder}
+use Rattle.store_sysmods.specs.declared.head.HeadRow.{HeadRow}
+use Rattle.store_sysmods.specs.Heads.{row_of_bare, HasHeadForms, HasFormsUnder}
+use Rattle.store_sysmods.specs.Sources.{row_of_source}
 use Rattle.store_sysmod_loads.specs.Joined.{bare_of, all_sources, AreJoined}
 use Rattle.store_sysmod_loads.specs.Flats.{head_of, AreFormed, AreHeadRowsOf}
 use Rattle.store_sysmod_loads.specs.Gathered.{HoldHeads}

@@ -1,6 +1,3 @@
-pub mod CellLemmas
-pub mod Texts
-pub mod Exact
 pub mod RunLemmas
 pub mod FlatLemmas
 pub mod RiseLemmas

@@ -22,13 +22,13 @@ use Rattle.terms.specs.contracts.kinds.ElemTypeOrd.TheImpl as type_order
 use Rattle.terms.proofs.ElementOrder.{cmp_keys}
 use Rattle.store_schema.proofs.Lists.{ascending}
 use Rattle.store_schema.proofs.Numbered.{numbered, IsVerBefore}
-use Rattle.store_sysmod_loads.specs.declared.flat.HeadRow.{HeadRow}
-use Rattle.store_sysmod_loads.specs.declared.flat.BareHead.{BareHead}
-use Rattle.store_sysmod_loads.specs.declared.flat.SourceRow.{SourceRow}
-use Rattle.store_sysmod_loads.specs.declared.flat.VerRow.{VerRow}
-use Rattle.store_sysmod_loads.specs.declared.flat.IfRow.{IfRow}
-use Rattle.store_sysmod_loads.specs.declared.flat.ElemRow.{ElemRow}
-use Rattle.store_sysmod_loads.specs.Flat.{HasHeadForms}
+use Rattle.store_sysmods.specs.declared.head.HeadRow.{HeadRow}
+use Rattle.store_sysmods.specs.declared.head.BareHead.{BareHead}
+use Rattle.store_sysmods.specs.declared.source.SourceRow.{SourceRow}
+use Rattle.store_sysmods.specs.declared.ver.VerRow.{VerRow}
+use Rattle.store_sysmods.specs.declared.ifreq.IfRow.{IfRow}
+use Rattle.store_sysmods.specs.declared.elem.ElemRow.{ElemRow}
+use Rattle.store_sysmods.specs.Heads.{HasHeadForms}
 use Rattle.store_sysmod_loads.specs.Runs.{source_rows, if_rows, ver_rows, elem_rows}
 use Rattle.store_sysmod_loads.specs.Joined.{bare_of, all_sources}
 use Rattle.store_sysmod_loads.specs.Built.{IsBuilt}

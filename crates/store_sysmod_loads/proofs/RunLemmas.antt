@@ -4,10 +4,10 @@ use Rattle.std.proofs.Common.{append-nil, sym, ap, subst, ◌∙◌}
 use Rattle.std.specs.Prelude.{IfSome, option_to_list}
 use Rattle.terms.specs.Types.{Text, Id, IfReq, Ver, Change}
 use Rattle.store_schema.specs.Rows.{number_behind, numbered_behind}
-use Rattle.store_sysmod_loads.specs.declared.flat.SourceRow.{SourceRow}
-use Rattle.store_sysmod_loads.specs.declared.flat.VerRow.{VerRow}
-use Rattle.store_sysmod_loads.specs.declared.flat.IfRow.{IfRow}
-use Rattle.store_sysmod_loads.specs.declared.flat.ElemRow.{ElemRow}
+use Rattle.store_sysmods.specs.declared.source.SourceRow.{SourceRow}
+use Rattle.store_sysmods.specs.declared.ver.VerRow.{VerRow}
+use Rattle.store_sysmods.specs.declared.ifreq.IfRow.{IfRow}
+use Rattle.store_sysmods.specs.declared.elem.ElemRow.{ElemRow}
 use Rattle.store_sysmod_loads.specs.Runs.{Begins, StandsApart, parent_of_source, parent_of_ver, parent_of_if}
 use Rattle.store_sysmod_loads.specs.Runs.{parent_of_elem, source_rows, if_rows, ver_rows, elem_rows, HasIfs, HasAllIfs}
 use Rattle.store_sysmod_loads.specs.Runs.{HasVersBehind, HasChanges}

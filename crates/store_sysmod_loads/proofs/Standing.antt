@@ -18,8 +18,10 @@ use Rattle.store_schema.specs.Earlier.{HasShortSources, StandsUnder}
 use Rattle.store_schema.specs.declared.schema.Schema.{Schema}
 use Rattle.store_schema.specs.declared.schema.Schema.TheVariants.{First, Second, Third}
 use Rattle.store_columns.proofs.Schemas.{rows_under}
-use Rattle.store_sysmod_loads.specs.Flat.{HasHeadForms, HasShortForms, HasFormsUnder, HasVerRowForms, HasIfRowForms}
-use Rattle.store_sysmod_loads.specs.Flat.{HasElemRowForms}
+use Rattle.store_sysmods.specs.Heads.{HasHeadForms, HasShortForms, HasFormsUnder}
+use Rattle.store_sysmods.specs.Vers.{HasVerRowForms}
+use Rattle.store_sysmods.specs.Ifs.{HasIfRowForms}
+use Rattle.store_sysmods.specs.Elems.{HasElemRowForms}
 use Rattle.store_sysmod_loads.specs.Runs.{if_rows, ver_rows, elem_rows}
 use Rattle.store_sysmod_loads.specs.Built.{MayDo, IsBuilt}
 use Rattle.store_sysmod_loads.specs.Flats.{head_of, ifs_of, AreWhole, AreFormed, AreRowsOf}

@@ -13,11 +13,14 @@ use Rattle.store_schema.specs.Earlier.{first_sysmod_row}
 use Rattle.store_schema.specs.Tables.{sysmod, source, ver, ifreq, elem, morever, moreif}
 use Rattle.store_schema.specs.declared.schema.Schema.{Schema}
 use Rattle.store_schema.specs.declared.schema.Schema.TheVariants.{First, Third}
-use Rattle.store_sysmod_loads.specs.declared.flat.HeadRow.{HeadRow}
-use Rattle.store_sysmod_loads.specs.declared.flat.VerRow.{VerRow}
-use Rattle.store_sysmod_loads.specs.declared.flat.IfRow.{IfRow}
-use Rattle.store_sysmod_loads.specs.declared.flat.ElemRow.{ElemRow}
-use Rattle.store_sysmod_loads.specs.Flat.{HasFormsUnder, HasVerRowForms, HasIfRowForms, HasElemRowForms}
+use Rattle.store_sysmods.specs.declared.head.HeadRow.{HeadRow}
+use Rattle.store_sysmods.specs.declared.ver.VerRow.{VerRow}
+use Rattle.store_sysmods.specs.declared.ifreq.IfRow.{IfRow}
+use Rattle.store_sysmods.specs.declared.elem.ElemRow.{ElemRow}
+use Rattle.store_sysmods.specs.Heads.{HasFormsUnder}
+use Rattle.store_sysmods.specs.Vers.{HasVerRowForms}
+use Rattle.store_sysmods.specs.Ifs.{HasIfRowForms}
+use Rattle.store_sysmods.specs.Elems.{HasElemRowForms}
 use Rattle.store_sysmod_loads.specs.Runs.{if_rows, ver_rows, elem_rows}
 use Rattle.store_sysmod_loads.specs.Built.{IsBuilt}
 

@@ -6,13 +6,17 @@ use Rattle.store_rows.specs.Rows.{Contents}
 use Rattle.store_schema.specs.Tables.{sysmod, source, ver, ifreq, elem, morever, moreif}
 use Rattle.store_schema.specs.declared.schema.Schema.{Schema}
 use Rattle.store_schema.specs.declared.schema.Schema.TheVariants.{First, Third}
-use Rattle.store_sysmod_loads.specs.declared.flat.HeadRow.{HeadRow}
-use Rattle.store_sysmod_loads.specs.declared.flat.VerRow.{VerRow}
-use Rattle.store_sysmod_loads.specs.declared.flat.IfRow.{IfRow}
+use Rattle.store_sysmods.specs.declared.head.HeadRow.{HeadRow}
+use Rattle.store_sysmods.specs.declared.ver.VerRow.{VerRow}
+use Rattle.store_sysmods.specs.declared.ifreq.IfRow.{IfRow}
 use Rattle.store_sysmod_loads.specs.declared.rows_of.FlatRows.{FlatRows}
-use Rattle.store_sysmod_loads.specs.Flat.{row_of_head, row_of_bare, row_of_source, row_of_ver, row_of_if, row_of_elem}
-use Rattle.store_sysmod_loads.specs.Flat.{is_first_row, is_first_if, row_of_more_ver, row_of_more_if}
-use Rattle.store_sysmod_loads.specs.Flat.{HasFormsUnder, HasVerRowForms, HasIfRowForms, HasElemRowForms}
+use Rattle.store_sysmods.specs.Heads.{row_of_head, row_of_bare, HasFormsUnder}
+use Rattle.store_sysmods.specs.Sources.{row_of_source}
+use Rattle.store_sysmods.specs.Vers.{row_of_ver, is_first_row, HasVerRowForms}
+use Rattle.store_sysmods.specs.Ifs.{row_of_if, is_first_if, HasIfRowForms}
+use Rattle.store_sysmods.specs.Elems.{row_of_elem, HasElemRowForms}
+use Rattle.store_sysmods.specs.MoreVers.{row_of_more_ver}
+use Rattle.store_sysmods.specs.MoreIfs.{row_of_more_if}
 use Rattle.store_sysmod_loads.specs.Joined.{bare_of, all_sources}
 use Rattle.store_sysmod_loads.specs.Flats.{head_of, all_vers, all_ifs, all_elems, AreWhole}
 

@@ -1,9 +1,9 @@
 -- Heads of SYSMODs, whose sources stand in a table of their own.
 use Rattle.std.specs.Prelude.{◌≡◌, List, [], ◌∷◌}
 use Rattle.std.specs.List.{flat_map}
-use Rattle.store_sysmod_loads.specs.declared.flat.HeadRow.{HeadRow}
-use Rattle.store_sysmod_loads.specs.declared.flat.BareHead.{BareHead}
-use Rattle.store_sysmod_loads.specs.declared.flat.SourceRow.{SourceRow}
+use Rattle.store_sysmods.specs.declared.head.HeadRow.{HeadRow}
+use Rattle.store_sysmods.specs.declared.head.BareHead.{BareHead}
+use Rattle.store_sysmods.specs.declared.source.SourceRow.{SourceRow}
 use Rattle.store_sysmod_loads.specs.Runs.{source_rows, HasSources}
 
 abbrev pub bare_of : HeadRow → BareHead

@@ -1,4 +1,3 @@
-pub mod Flat
 pub mod Runs
 pub mod Joined
 pub mod Both

@@ -4,10 +4,10 @@ use Rattle.std.specs.List.{AllByRecursion}
 use Rattle.terms.specs.Types.{Text, Id, IfReq, Ver, Change}
 use Rattle.terms.specs.Lookups.{IsRising}
 use Rattle.store_schema.specs.Rows.{numbered_behind}
-use Rattle.store_sysmod_loads.specs.declared.flat.SourceRow.{SourceRow}
-use Rattle.store_sysmod_loads.specs.declared.flat.VerRow.{VerRow}
-use Rattle.store_sysmod_loads.specs.declared.flat.IfRow.{IfRow}
-use Rattle.store_sysmod_loads.specs.declared.flat.ElemRow.{ElemRow}
+use Rattle.store_sysmods.specs.declared.source.SourceRow.{SourceRow}
+use Rattle.store_sysmods.specs.declared.ver.VerRow.{VerRow}
+use Rattle.store_sysmods.specs.declared.ifreq.IfRow.{IfRow}
+use Rattle.store_sysmods.specs.declared.elem.ElemRow.{ElemRow}
 
 -- a row of the parent stands first, or none does
 abbrev pub Begins : {X K : Type 0} → (X → K) → K → List X → Type 0

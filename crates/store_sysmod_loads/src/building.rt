@@ -5,19 +5,19 @@ ghost use Rattle.std.specs.Prelude.{IsErrOf};
 ghost use Rattle.terms.specs.declared.kinds.Kind.TheVariants.{Function};
 ghost use Rattle.terms.specs.Types.{Sysmod as SysmodTerm};
 ghost use Rattle.store_schema.specs.Forms.{VerSuitsKind, AreVersApart};
-ghost use Rattle.store_sysmod_loads.specs.declared.flat.VerRow.{VerRow as VerLine};
-ghost use Rattle.store_sysmod_loads.specs.declared.flat.IfRow.{IfRow as IfLine};
-ghost use Rattle.store_sysmod_loads.specs.declared.flat.ElemRow.{ElemRow as ElemLine};
+ghost use Rattle.store_sysmods.specs.declared.ver.VerRow.{VerRow as VerLine};
+ghost use Rattle.store_sysmods.specs.declared.ifreq.IfRow.{IfRow as IfLine};
+ghost use Rattle.store_sysmods.specs.declared.elem.ElemRow.{ElemRow as ElemLine};
 ghost use Rattle.store_sysmod_loads.specs.Runs.{AreBare};
 ghost use Rattle.store_sysmod_loads.specs.Built.{MayDo, IsBuilt, sysmod_from, IsTaken, AreTaken};
 
-use crate::flat::{ElemRow, HeadRow, IfRow, VerRow};
 use crate::gathering::{next_of, take_changes, take_vers};
 use fields::Id;
 use sorted::are_rising;
 use std::alloc::Global;
 use std::collections::VecDeque;
 use store_rows::ReadError;
+use store_sysmods::{ElemRow, HeadRow, IfRow, VerRow};
 use sysmod::{Action, ElemChange, Sysmod, Ver};
 use terms::Kind;
 

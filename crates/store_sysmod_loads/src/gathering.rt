@@ -1,19 +1,20 @@
 //! The statements of a SYSMOD, taken off the front of rows that are sorted.
 
-ghost use Rattle.std.specs.Prelude.{◌≡◌, ◌≤◌, ◌↔◌, List, [], ◌∷◌, length, IsTrue, IfOk, IfSome, IfNone, IsErrOf};
+ghost use Rattle.std.specs.Prelude.{◌≡◌, ◌≤◌, ◌<◌, ◌↔◌, List, [], ◌∷◌, length, IsTrue, IfOk, IfSome, IfNone};
+ghost use Rattle.std.specs.Prelude.{IsErrOf};
+ghost use Rattle.store_schema.specs.Rows.{number_behind};
 ghost use Rattle.terms.specs.Types as terms;
-ghost use Rattle.store_sysmod_loads.specs.declared.flat.VerRow.{VerRow as VerLine};
-ghost use Rattle.store_sysmod_loads.specs.declared.flat.IfRow.{IfRow as IfLine};
-ghost use Rattle.store_sysmod_loads.specs.declared.flat.ElemRow.{ElemRow as ElemLine};
+ghost use Rattle.store_sysmods.specs.declared.ver.VerRow.{VerRow as VerLine};
+ghost use Rattle.store_sysmods.specs.declared.ifreq.IfRow.{IfRow as IfLine};
+ghost use Rattle.store_sysmods.specs.declared.elem.ElemRow.{ElemRow as ElemLine};
 ghost use Rattle.store_sysmod_loads.specs.Runs.{AreBare, Begins, StandsApart, HasIfs, HasVers, HasChanges};
 
-use crate::flat::{ElemRow, IfRow, SourceRow, VerRow};
-use crate::numbers::comes_next;
 use fields::{Id, Srel};
 use sorted::Keyed;
 use std::alloc::{AllocError, Global};
 use std::collections::VecDeque;
 use store_rows::ReadError;
+use store_sysmods::{ElemRow, IfRow, SourceRow, VerRow, number_behind};
 use sysmod::{ElemChange, IfReq, Ver};
 
 /// A row that belongs to another.
@@ -158,6 +159,13 @@ fn filled(alloc: Global, ifs: &mut VecDeque<IfRow>, id: Id, row: VerRow) -> Resu
     let srel = row.ver.key();
     let found = take_ifs(alloc, ifs, id, srel, row.number)?;
     Ok(with_ifs(row.ver, found))
+}
+
+/// Whether the row has the number that comes next behind these `++VER`s, of which there are fewer than eight.
+fn comes_next(vers: &[Ver], row: &VerRow) -> bool
+    ensures { IsTrue result ↔ (length vers.now < 8) × (row.now.number ≡ number_behind vers.now row.now.ver) }
+{
+    vers.len() < 8 && row.number == number_behind(vers, &row.ver) as u64
 }
 
 /// Takes the `++VER`s of a SYSMOD, eight at most, with their `++IF`s.

@@ -5,22 +5,20 @@ ghost use Rattle.std.specs.List.{AllByRecursion};
 ghost use Rattle.store_schema.specs.declared.schema.Schema.{Schema as ARelease};
 ghost use Rattle.store_schema.specs.declared.schema.Schema.TheVariants.{First};
 ghost use Rattle.store_schema.specs.Tables.{sysmod, source};
-ghost use Rattle.store_sysmod_loads.specs.Flat.{row_of_bare, row_of_source, HasBareForms, HasSourceForms};
-ghost use Rattle.store_sysmod_loads.specs.Flat.{HasHeadForms, HasShortForms, HasFormsUnder};
+ghost use Rattle.store_sysmods.specs.Heads.{row_of_bare, HasBareForms, HasHeadForms, HasShortForms, HasFormsUnder};
+ghost use Rattle.store_sysmods.specs.Sources.{row_of_source, HasSourceForms};
 ghost use Rattle.store_sysmod_loads.specs.Flats.{head_of};
 ghost use Rattle.store_sysmod_loads.specs.Gathered.{HoldHeads};
 ghost use Rattle.store_sysmod_loads.specs.Joined.{bare_of, all_sources};
 ghost use Rattle.store_sysmod_loads.specs.Parts.{LoadsPart};
 
-use crate::flat::{BareHead, HeadRow, SourceRow};
 use crate::joining::joined;
-use crate::loading::load_sorted;
-use crate::reading::{BareHeads, Heads, Sources};
 use sqlite::{Alter, Connection};
 use std::alloc::Global;
 use std::collections::VecDeque;
 use store_rows::ReadError;
 use store_schema::Schema;
+use store_sysmods::{BareHead, BareHeads, HeadRow, Heads, SourceRow, Sources, load_sorted};
 
 /// The heads of schema 1, whose rows have the sources.
 fn load_with_sources<S: Alter>(

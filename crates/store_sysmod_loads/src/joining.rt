@@ -2,17 +2,17 @@
 
 ghost use Rattle.std.specs.Prelude.{◌≡◌, List, IfOk, IsErrOf};
 ghost use Rattle.terms.specs.Types as terms;
-ghost use Rattle.store_sysmod_loads.specs.declared.flat.HeadRow.{HeadRow as HeadLine};
-ghost use Rattle.store_sysmod_loads.specs.declared.flat.SourceRow.{SourceRow as SourceLine};
+ghost use Rattle.store_sysmods.specs.declared.head.HeadRow.{HeadRow as HeadLine};
+ghost use Rattle.store_sysmods.specs.declared.source.SourceRow.{SourceRow as SourceLine};
 ghost use Rattle.store_sysmod_loads.specs.Runs.{HasSources};
 ghost use Rattle.store_sysmod_loads.specs.Joined.{AreJoined};
 
-use crate::flat::{BareHead, HeadRow, SourceRow};
 use crate::gathering::{next_of, pop_of};
 use fields::{Id, SourceList};
 use std::alloc::Global;
 use std::collections::VecDeque;
 use store_rows::ReadError;
+use store_sysmods::{BareHead, HeadRow, SourceRow};
 
 /// Takes the sources of a SYSMOD, which rise.
 fn take_sources(

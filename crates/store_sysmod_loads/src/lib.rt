@@ -4,18 +4,11 @@
 #![tactic(auto)]
 
 mod building;
-mod cells;
-mod flat;
 mod gathering;
 mod heads;
-mod ifs_of;
 mod joining;
-mod listed;
 mod load;
 mod loading;
-mod numbers;
-mod reading;
 mod rows_of;
-mod vers_of;
 
 pub use load::load_sysmods;

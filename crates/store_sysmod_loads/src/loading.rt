@@ -1,6 +1,7 @@
-//! The rows of a table or of two, sorted.
+//! The rows of `++VER`s and of `++IF`s: a table has those of the first `++VER`s for each SREL, and another those of the
+//! further ones.
 
-ghost use Rattle.std.specs.Prelude.{◌≡◌, ◌⊎◌, ◌++◌, List, map, IfOk, IsErrOf, IsPermutation};
+ghost use Rattle.std.specs.Prelude.{◌≡◌, ◌⊎◌, ◌++◌, List, IfOk, IsErrOf, IsPermutation};
 ghost use Rattle.std.specs.List.{AllByRecursion};
 ghost use Rattle.sqlite.specs.Held.{state};
 ghost use Rattle.sqlite.specs.State.{HasCleanDisk};
@@ -16,20 +17,7 @@ use std::alloc::{AllocError, Global};
 use store_columns::{Query, load_listed};
 use store_rows::{FromRow, ReadError};
 use store_schema::Schema;
-
-/// A query of a whole table, whose rows keys tell apart.
-pub(crate) trait Listed: Query {
-    ghost use Rattle.std.specs.Prelude.{◌≡◌};
-
-    type Key: Ord + Copy;
-
-    ghost key_of: { Self.Rows.Item → Self.Key };
-
-    fn key(item: &<Self::Rows as FromRow>::Item) -> Self::Key
-        ensures { result ≡ key_of item.now };
-
-    ghost whole: { Self.width ≡ 0 };
-}
+use store_sysmods::{IfRow, Ifs, Listed, MoreIfs, MoreVers, VerRow, Vers, by_keys, load_sorted};
 
 /// A row of which two tables have some each, of the same keys, where the second came with schema 3.
 pub(crate) trait InTwo: Drop {
@@ -48,14 +36,32 @@ pub(crate) trait InTwo: Drop {
     ghost third: { Self.Furthers.knows Third };
 }
 
-/// The items by their keys.
-fn sorted<T: Listed>(mut items: Vec<<T::Rows as FromRow>::Item>) -> Vec<<T::Rows as FromRow>::Item>
-    ensures same { IsPermutation items.items result.items }
-    ensures only { (xs : List T.Rows.Item) → IsPermutation items.items xs → Rises T.Key.cmp T.key_of xs
-        → result.items ≡ xs }
-{
-    items.sort_unstable_by_key(|item| T::key(item));
-    items
+impl InTwo for VerRow {
+    ghost use Rattle.std.specs.Prelude.{refl};
+
+    type Firsts = Vers;
+
+    type Furthers = MoreVers;
+
+    ghost whole = { refl };
+
+    ghost each = { λ r. tt };
+
+    ghost third = { refl };
+}
+
+impl InTwo for IfRow {
+    ghost use Rattle.std.specs.Prelude.{refl};
+
+    type Firsts = Ifs;
+
+    type Furthers = MoreIfs;
+
+    ghost whole = { refl };
+
+    ghost each = { λ r. tt };
+
+    ghost third = { refl };
 }
 
 /// The items of both lists, by their keys.
@@ -68,32 +74,7 @@ fn merged<T: Listed>(
         → Rises T.Key.cmp T.key_of xs → all.items ≡ xs) }
 {
     items.append(&mut more)?;
-    Ok(sorted::<T>(items))
-}
-
-/// What the rows of the table stand for, by their keys.
-pub(crate) fn load_sorted<S: Alter, T: Listed>(
-    alloc: Global,
-    conn: &mut Connection<S>,
-) -> Result<Vec<<T::Rows as FromRow>::Item>, ReadError>
-    ensures found { HasCleanDisk (state S.Store conn.new) → (r : ARelease) → T.knows r → (contents : Contents)
-        → HasContents (schema_under r) contents (state S.Store conn.old).now
-        → IfOk result (λ items. IsPermutation (map T.Rows.row_of items.items) (contents T.table.tree)) }
-    ensures forms { IfOk result (λ items. AllByRecursion T.Rows.has_form items.items) }
-    ensures only { HasCleanDisk (state S.Store conn.new) → (r : ARelease) → T.knows r → (contents : Contents)
-        → HasContents (schema_under r) contents (state S.Store conn.old).now
-        → IfOk result (λ items. (xs : List T.Rows.Item) → AllByRecursion T.Rows.has_form xs
-        → Rises T.Key.cmp T.key_of xs → IsPermutation (map T.Rows.row_of xs) (contents T.table.tree)
-        → items.items ≡ xs) }
-    ensures none { HasCleanDisk (state S.Store conn.new) → IsErrOf result ReadError.BadRow → (r : ARelease)
-        → T.knows r → (contents : Contents) → HasContents (schema_under r) contents (state S.Store conn.old).now
-        → (xs : List T.Rows.Item) → AllByRecursion T.Rows.has_form xs → ¬ IsPermutation (map T.Rows.row_of xs)
-        (contents T.table.tree) }
-    ensures reads { (r : ARelease) → T.knows r
-        → OnlyReads S.Store (schema_under r) ReadError.BadRow ReadError.Fault conn.old conn.new result }
-{
-    let items = load_listed::<S, T>(alloc, conn, &[])?;
-    Ok(sorted::<T>(items))
+    Ok(by_keys::<T>(items))
 }
 
 /// What the rows of both tables stand for, by their keys.
@@ -126,7 +107,8 @@ fn load_both<S: Alter, T: InTwo>(
     Ok(rows)
 }
 
-/// What the rows that the tables of the schema have stand for, by their keys.
+/// What the rows that the tables of the schema have stand for, by their keys. Under an earlier schema each `++VER` is
+/// the first for its SREL.
 pub(crate) fn load_parted<S: Alter, T: InTwo>(
     alloc: Global,
     conn: &mut Connection<S>,

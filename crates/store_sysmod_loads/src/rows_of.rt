@@ -5,25 +5,22 @@ ghost use Rattle.std.specs.List.{AllByRecursion};
 ghost use Rattle.store_schema.specs.declared.schema.Schema.{Schema as ARelease};
 ghost use Rattle.store_schema.specs.Tables.{elem};
 ghost use Rattle.terms.specs.Types.{Sysmod as SysmodTerm};
-ghost use Rattle.store_sysmod_loads.specs.Flat.{row_of_elem, HasElemRowForms};
+ghost use Rattle.store_sysmods.specs.Elems.{row_of_elem, HasElemRowForms};
 ghost use Rattle.store_sysmod_loads.specs.Runs.{AreBare};
 ghost use Rattle.store_sysmod_loads.specs.Flats.{all_elems, AreWhole, AreFormed, AreRowsOf};
 ghost use Rattle.store_sysmod_loads.specs.Gathered.{HaveForms, HoldRows, HasRows, IsGathered};
 ghost use Rattle.store_sysmod_loads.specs.Parts.{LoadsPart};
 
 use crate::building::assemble;
-use crate::flat::{ElemRow, HeadRow, IfRow, VerRow};
 use crate::heads::load_heads;
-use crate::ifs_of::load_ifs;
-use crate::loading::load_sorted;
-use crate::reading::Elems;
-use crate::vers_of::load_vers;
+use crate::loading::load_parted;
 use sorted::are_rising;
 use sqlite::{Alter, Connection};
 use std::alloc::Global;
 use std::collections::VecDeque;
 use store_rows::ReadError;
 use store_schema::Schema;
+use store_sysmods::{ElemRow, Elems, HeadRow, IfRow, VerRow, load_sorted};
 use sysmod::Sysmod;
 
 /// The rows of SYSMODs and of their statements, each by their keys.
@@ -54,8 +51,8 @@ pub(crate) fn load_rows<S: Alter>(
     ensures forms { IfOk result (HaveForms schema) }
 {
     let heads = load_heads(alloc, conn, schema)?;
-    let vers = load_vers(alloc, conn, schema)?;
-    let ifs = load_ifs(alloc, conn, schema)?;
+    let vers = load_parted::<S, VerRow>(alloc, conn, schema)?;
+    let ifs = load_parted::<S, IfRow>(alloc, conn, schema)?;
     let elems = load_elems(alloc, conn)?;
     Ok(FlatRows {
         heads,

@@ -13,8 +13,11 @@ use Rattle.sqlite.specs.Held.{Held}
 use Rattle.sqlite.specs.declared.error.Error.{Error}
 use Rattle.terms.specs.Types.{Id, Ver}
 use Rattle.store_schema.specs.Rows.{ver_row, morever_row, ifreq_row, moreif_row, is_first, numbered_behind}
-use Rattle.store_sysmods.specs.Behind.{rows_behind, of_each, of_counted, of_numbered, first_row, further_row}
-use Rattle.store_sysmods.specs.Behind.{first_ifs, further_ifs}
+use Rattle.store_sysmods.specs.Behind.{rows_behind, of_each, of_counted, of_numbered}
+use Rattle.store_sysmods.specs.Vers.{first_row}
+use Rattle.store_sysmods.specs.MoreVers.{further_row}
+use Rattle.store_sysmods.specs.Ifs.{first_ifs}
+use Rattle.store_sysmods.specs.MoreIfs.{further_ifs}
 use Rattle.store_sysmods.specs.Steps.{Puts}
 use Rattle.store_sysmods.proofs.Steps.{puts_as, puts_then, puts_stops}
 

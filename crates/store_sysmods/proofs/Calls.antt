@@ -1,5 +1,5 @@
 -- The removal of a SYSMOD, whose children go first.
-use Rattle.std.proofs.Common.{◌≡◌, ℕ, List, [], ◌∷◌, Bool, true, false, arith, refl, ap, subst}
+use Rattle.std.proofs.Common.{◌≡◌, ℕ, List, [], ◌∷◌, Bool, true, false, arith, refl, ap}
 use Rattle.sqlite.specs.Store.{Ghosts}
 use Rattle.sqlite.specs.Held.{Held, state}
 use Rattle.sqlite.specs.State.{HasCleanDisk}
@@ -26,17 +26,17 @@ none_left id contents =
     let twice = λ (tree : ℕ). without_twice (sysmod_key id) (contents tree) in
     (twice 4, (twice 6, (twice 10, (twice 18, (twice 20, (twice 22, tt))))))
 
-module _ {S : Type 0} (g : Ghosts S) (a b c : Held S) (id : Id) where
+module _ {S : Type 0} (g : Ghosts S) where
   -- a parent is taken out whose children are gone
-  abbrev Removes : Row → Type 0
-  Removes key =
-      HasCleanDisk (state g c) → (contents : Contents) → HaveNone sysmod_children key contents
-      → HasContents store_schema contents (state g b).now
-      → HasContents store_schema (in_table sysmod (without key) contents) (state g c).now
+  abbrev pub Removes : Held S → Held S → Row → Type 0
+  Removes a b key =
+      HasCleanDisk (state g b) → (contents : Contents) → HaveNone sysmod_children key contents
+      → HasContents store_schema contents (state g a).now
+      → HasContents store_schema (in_table sysmod (without key) contents) (state g b).now
 
-  pub all_removed : (key : Row) → key ≡ sysmod_key id → StaysInside g b c
-      → Turns g a b (HasContents store_schema) (without_rows sysmod_children id) → Removes key
+  pub all_removed : (a b c : Held S) (id : Id) → StaysInside g b c
+      → Turns g a b (HasContents store_schema) (without_rows sysmod_children id) → Removes b c (sysmod_key id)
       → Turns g a c (HasContents store_schema) (without_sysmod_rows id)
-  all_removed key is inside children parent clean contents was =
-      subst Removes is parent clean (without_rows sysmod_children id contents) (none_left id contents)
+  all_removed a b c id inside children parent clean contents was =
+      parent clean (without_rows sysmod_children id contents) (none_left id contents)
       (children (omega (arith, inside.survives.clean)) contents was)

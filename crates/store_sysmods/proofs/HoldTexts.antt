@@ -7,7 +7,7 @@ use Rattle.sqlite_value.specs.Keys.{joined}
 use Rattle.store_rows.specs.Texts.{PutsByKey, TakesOut}
 use Rattle.store_rows.proofs.Meant.{puts_by_key, takes_out}
 use Rattle.store_schema.specs.Tables.{store_schema, hold}
-use Rattle.store_sysmods.specs.HoldCalls.{put_hold, delete_hold}
+use Rattle.store_sysmods.specs.Holds.{put_hold, delete_hold}
 
 pub puts_hold : PutsByKey store_schema 4 hold 3 put_hold
 unfolding understood everything

@@ -9,7 +9,9 @@ pub mod SysmodLemmas
 pub mod Steps
 pub mod Behind
 pub mod HoldTexts
-pub mod HoldSelects
+pub mod Selects
+pub mod CellLemmas
+pub mod Exact
 pub mod HoldLemmas
 pub mod HoldLists
 pub mod HoldComments

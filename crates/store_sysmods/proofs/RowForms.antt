@@ -12,7 +12,7 @@ use Rattle.store_rows.proofs.Values.{kept_optional, kept_whole, bound_optional}
 use Rattle.store_schema.specs.Rows.{flag, records, action_cells, sysmod_row, source_row, ver_row, ifreq_row, elem_row}
 use Rattle.store_schema.specs.Rows.{morever_row, moreif_row}
 use Rattle.store_schema.specs.Tables.{sysmod, ver, ifreq, elem, source, morever, moreif}
-use Rattle.store_sysmods.specs.Actions.{is_update, distlib_of, syslib_of, lines_of}
+use Rattle.store_sysmods.specs.Elems.{is_update, distlib_of, syslib_of, lines_of}
 
 -- their columns keep them
 pub kept_ver : (id : Id) (v : Ver) → SuitColumns ver.columns (ver_row id v)
@@ -115,7 +115,7 @@ pub elem_bound : (id type name text : Text) (update distlib syslib : ValueRef) (
     → value.Text id ∷ value.Text type ∷ value.Text name ∷ bound_value (owned update) ∷ bound_value (owned distlib) ∷
     bound_value (owned syslib) ∷ value.Blob text ∷ [] ≡ elem_row x c
 elem_bound id type name text update distlib syslib x c is_id is_type is_name is_update is_distlib is_syslib is_text =
-    let first : bound_value (owned update) ≡ flag (Rattle.store_sysmods.specs.Actions.is_update c.action) =
+    let first : bound_value (owned update) ≡ flag (Rattle.store_sysmods.specs.Elems.is_update c.action) =
     ap bound_value is_update in
     let dist : bound_value (owned distlib) ≡ or_null value.Text (distlib_of c.action) =
     ap bound_value is_distlib ∙ bound_optional (distlib_of c.action) in

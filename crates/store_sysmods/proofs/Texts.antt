@@ -14,10 +14,13 @@ use Rattle.store_rows.specs.Texts.{PutsIn, TakesOut, TakesOutParent, IsCascade}
 use Rattle.store_rows.proofs.Meant.{puts_in, takes_out}
 use Rattle.store_rows.proofs.Parents.{if_set_off}
 use Rattle.store_schema.specs.Tables.{store_schema, sysmod, ver, ifreq, elem, source, morever, moreif}
-use Rattle.store_sysmods.specs.Calls.{insert_source, insert_ver, insert_ifreq, insert_elem, insert_sysmod}
-use Rattle.store_sysmods.specs.Calls.{insert_morever, insert_moreif}
-use Rattle.store_sysmods.specs.Calls.{delete_vers, delete_ifreqs, delete_elems, delete_sources, delete_morevers}
-use Rattle.store_sysmods.specs.Calls.{delete_moreifs, delete_sysmod}
+use Rattle.store_sysmods.specs.Sources.{insert_source, delete_sources}
+use Rattle.store_sysmods.specs.Vers.{insert_ver, delete_vers}
+use Rattle.store_sysmods.specs.Ifs.{insert_ifreq, delete_ifreqs}
+use Rattle.store_sysmods.specs.Elems.{insert_elem, delete_elems}
+use Rattle.store_sysmods.specs.Heads.{insert_sysmod, delete_sysmod}
+use Rattle.store_sysmods.specs.MoreVers.{insert_morever, delete_morevers}
+use Rattle.store_sysmods.specs.MoreIfs.{insert_moreif, delete_moreifs}
 use Rattle.store_sysmods.specs.Sysmods.{sysmod_children}
 
 -- that what the deletion of a row sets off deletes rows of one of these tables

@@ -1,8 +1,12 @@
-pub mod Actions
 pub mod Behind
 pub mod Calls
-pub mod Lists
+pub mod Elems
+pub mod Heads
+pub mod Holds
+pub mod Ifs
+pub mod MoreIfs
+pub mod MoreVers
+pub mod Sources
 pub mod Steps
 pub mod Sysmods
-pub mod HoldCalls
-pub mod HoldKeys
+pub mod Vers

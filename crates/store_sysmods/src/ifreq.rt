@@ -1,21 +1,124 @@
 //! The table of the `++IF`s of the `++VER`s that are the first of their SREL.
 
-ghost use Rattle.std.specs.Prelude.{◌≡◌, ◌<◌, ◌^◌, [], ◌∷◌};
+ghost use Rattle.std.specs.Prelude.{◌≡◌, ◌≢◌, ◌<◌, ◌^◌, [], ◌∷◌, IfOk, IsErrOf};
 ghost use Rattle.std.specs.List.{join_with_byte};
+ghost use Rattle.store_rows.specs.Rows.{in_table, without};
 ghost use Rattle.store_schema.specs.Rows.{ifreq_row};
 ghost use Rattle.store_schema.specs.Tables.{ifreq as ifreq_table};
-ghost use Rattle.store_sysmods.specs.Calls.{insert_ifreq as into_ifreq};
-ghost use Rattle.store_sysmods.specs.Steps.{Puts};
+ghost use Rattle.store_sysmods.specs.declared.ifreq.IfRow.{IfRow as AIfRow};
+ghost use Rattle.store_sysmods.specs.Ifs.{insert_ifreq as into_ifreq, delete_ifreqs};
+ghost use Rattle.store_sysmods.specs.Steps.{Step, Puts};
+ghost use Rattle.store_sysmods.specs.Sysmods.{sysmod_key};
 
+use crate::cells::{number_in, requisites_in};
+use crate::listed::Listed;
 use crate::numbers::number_behind;
 use crate::rows::{Rows, insert_all};
 use fields::{Id, Srel};
-use sqlite::{Alter, Error, Transaction};
+use sqlite::{Alter, Error, Row, Transaction};
 use sqlite_value::value::ValueRef;
 use std::alloc::Global;
-use store_columns::joined_ids;
-use store_rows::insert;
+use store_columns::{Query, id_in, joined_ids, srel_in};
+use store_rows::{FromRow, ReadError, insert, remove};
 use sysmod::{IfReq, Ver};
+
+const SELECT: &str = "SELECT id, srel, n, fmid, req FROM ifreq";
+
+const INSERT: &str = "INSERT INTO ifreq (id, srel, n, fmid, req) VALUES (?1, ?2, ?3, ?4, ?5)";
+
+const DELETE: &str = "DELETE FROM ifreq WHERE id = ?1";
+
+// ---- as it is read
+
+/// An `++IF` and its number in a `++VER` of the SYSMOD: in the one of this place among those for this SREL.
+#[derive(Drop)]
+pub struct IfRow {
+    pub id: Id,
+    pub srel: Srel,
+    pub place: u64,
+    pub number: u64,
+    pub ifreq: IfReq,
+}
+
+/// Reads the `++IF`s of first `++VER`s.
+pub struct Ifs;
+
+impl FromRow for Ifs {
+    ghost use Rattle.store_sysmods.specs.Ifs.{row_of_if, HasFirstIfForms};
+
+    type Item = IfRow;
+
+    ghost row_of = { row_of_if };
+
+    ghost has_form = { HasFirstIfForms };
+
+    fn read(alloc: Global, row: &Row) -> Result<IfRow, ReadError>
+        ensures read { IfOk result (λ item. (row.now ≡ row_of_if item) × HasFirstIfForms item) }
+        ensures none { IsErrOf result ReadError.BadRow → (item : AIfRow) → HasFirstIfForms item
+            → row.now ≢ row_of_if item }
+        ensures fault { IsErrOf result ReadError.Fault → ⊥ }
+    {
+        if row.column_count() != 5 {
+            return Err(ReadError::BadRow);
+        }
+        let Some(id) = id_in(row, 0) else {
+            return Err(ReadError::BadRow);
+        };
+        let Some(srel) = srel_in(row, 1) else {
+            return Err(ReadError::BadRow);
+        };
+        let Some(number) = number_in(row, 2) else {
+            return Err(ReadError::BadRow);
+        };
+        let Some(function) = id_in(row, 3) else {
+            return Err(ReadError::BadRow);
+        };
+        let req = requisites_in(alloc, row, 4, id)?;
+        let ifreq = IfReq { function, req };
+        Ok(IfRow {
+            id,
+            srel,
+            place: 1,
+            number,
+            ifreq,
+        })
+    }
+}
+
+impl Query for Ifs {
+    ghost use Rattle.std.specs.Prelude.{⊤};
+    ghost use Rattle.store_schema.specs.Tables.{ifreq};
+
+    type Rows = Ifs;
+
+    ghost table = { ifreq };
+
+    ghost at = { 3 };
+
+    ghost width = { 0 };
+
+    ghost knows = { λ r. ⊤ };
+
+    fn sql() -> &'static str {
+        SELECT
+    }
+}
+
+impl Listed for Ifs {
+    ghost use Rattle.std.specs.Prelude.{refl};
+
+    type Key = (Id, (Srel, (u64, u64)));
+
+    ghost key_of = { λ row. (row.id, (row.srel, (row.place, row.number))) };
+
+    fn key(item: &IfRow) -> (Id, (Srel, (u64, u64))) {
+        (item.id, (item.srel, (item.place, item.number)))
+    }
+
+    ghost whole = { refl };
+}
+
+// ---- as it is written
 
 // Adds the `++IF`'s row, of whose requisites this is the text.
 fn insert_row<'a, S: Alter>(
@@ -37,11 +140,7 @@ fn insert_row<'a, S: Alter>(
     let number = ValueRef::Int(number as i64);
     let function = ValueRef::Text(ifreq.function.as_bytes());
     let req = ValueRef::Text(req);
-    insert(
-        tx,
-        "INSERT INTO ifreq (id, srel, n, fmid, req) VALUES (?1, ?2, ?3, ?4, ?5)",
-        &[id, srel, number, function, req],
-    )
+    insert(tx, INSERT, &[id, srel, number, function, req])
 }
 
 /// The rows of the `++IF`s of a `++VER` for the SREL, which count from 1.
@@ -56,7 +155,7 @@ impl Rows for IfsOf {
     ghost use Rattle.store_schema.specs.Rows.{ifreq_row};
     ghost use Rattle.store_schema.specs.Tables.{ifreq as ifreq_table};
     ghost use Rattle.store_sysmods.specs.Behind.{of_counted};
-    ghost use Rattle.store_sysmods.specs.Calls.{insert_ifreq as into_ifreq};
+    ghost use Rattle.store_sysmods.specs.Ifs.{insert_ifreq as into_ifreq};
 
     type Item = IfReq;
 
@@ -93,8 +192,8 @@ pub(crate) struct FirstIfs {
 
 impl Rows for FirstIfs {
     ghost use Rattle.store_schema.specs.Tables.{ifreq as ifreq_table};
-    ghost use Rattle.store_sysmods.specs.Behind.{of_numbered, first_ifs};
-    ghost use Rattle.store_sysmods.specs.Calls.{insert_ifreq as into_ifreq};
+    ghost use Rattle.store_sysmods.specs.Behind.{of_numbered};
+    ghost use Rattle.store_sysmods.specs.Ifs.{insert_ifreq as into_ifreq, first_ifs};
 
     type Item = Ver;
 
@@ -121,4 +220,14 @@ impl Rows for FirstIfs {
         };
         insert_all(tx, &ifs, ver.ifs.as_slice())
     }
+}
+
+/// Takes out the SYSMOD's rows.
+pub(crate) fn remove_rows<S: Alter>(tx: &mut Transaction<'_, S>, id: Id) -> Result<(), Error>
+    ensures same_reference { tx.new.conn.ghost_name ≡ tx.old.conn.ghost_name }
+    ensures takes { Step S.Store ((delete_ifreqs, sysmod_key id) ∷ [])
+        (in_table ifreq_table (without (sysmod_key id))) tx.old.conn.now tx.new.conn.now result }
+{
+    let key = [ValueRef::Text(id.as_bytes())];
+    remove(tx, DELETE, &key)
 }

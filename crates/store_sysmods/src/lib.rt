@@ -1,15 +1,19 @@
-//! The tables of the global zone, as they are written: received SYSMODs, with their sources, `++VER`s, `++IF`s and
-//! element statements, and holds, external ones and those of SYSMODs.
+//! The tables of the global zone: received SYSMODs, with their sources, `++VER`s, `++IF`s and element statements, and
+//! holds, external ones and those of SYSMODs. A module for each table has all that is said of it alone: its statements,
+//! and its row as it is read and as it is written.
 //! Inside a transaction, inserting a SYSMOD, replacing its sources and removing it, and a hold that is put in or taken
 //! out, change the SYSMODs and holds that the tables stand for so, and nothing else. `load_holds` answers the holds in
-//! their order, under each schema, and refuses a row only where the rows stand for none.
+//! their order, under each schema, and refuses a row only where the rows stand for none; so does `load_sorted` with the
+//! rows of any other table.
 #![tactic(auto)]
 
+mod cells;
 mod elem;
+mod head;
+mod hold;
 mod hold_comment;
-mod hold_reading;
-mod hold_writing;
 mod ifreq;
+mod listed;
 mod moreif;
 mod morever;
 mod numbers;
@@ -18,6 +22,14 @@ mod source;
 mod sysmod_rows;
 mod ver;
 
-pub use hold_reading::load_holds;
-pub use hold_writing::{put_hold, remove_hold};
+pub use elem::{ElemRow, Elems};
+pub use head::{BareHead, BareHeads, HeadRow, Heads};
+pub use hold::{load_holds, put_hold, remove_hold};
+pub use ifreq::{IfRow, Ifs};
+pub use listed::{Listed, by_keys, load_sorted};
+pub use moreif::MoreIfs;
+pub use morever::MoreVers;
+pub use numbers::number_behind;
+pub use source::{SourceRow, Sources};
 pub use sysmod_rows::{insert_sysmod, remove_sysmod, replace_sources};
+pub use ver::{VerRow, Vers};

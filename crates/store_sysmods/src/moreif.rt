@@ -1,21 +1,105 @@
 //! The table of the `++IF`s of a SYSMOD's further `++VER`s of one SREL.
 
-ghost use Rattle.std.specs.Prelude.{◌≡◌, ◌<◌, ◌^◌, [], ◌∷◌};
+ghost use Rattle.std.specs.Prelude.{◌≡◌, ◌≢◌, ◌<◌, ◌^◌, [], ◌∷◌, IfOk, IsErrOf};
 ghost use Rattle.std.specs.List.{join_with_byte};
+ghost use Rattle.store_rows.specs.Rows.{in_table, without};
 ghost use Rattle.store_schema.specs.Rows.{moreif_row};
 ghost use Rattle.store_schema.specs.Tables.{moreif as moreif_table};
-ghost use Rattle.store_sysmods.specs.Calls.{insert_moreif as into_moreif};
-ghost use Rattle.store_sysmods.specs.Steps.{Puts};
+ghost use Rattle.store_sysmods.specs.declared.ifreq.IfRow.{IfRow as AIfRow};
+ghost use Rattle.store_sysmods.specs.MoreIfs.{insert_moreif as into_moreif, delete_moreifs};
+ghost use Rattle.store_sysmods.specs.Steps.{Step, Puts};
+ghost use Rattle.store_sysmods.specs.Sysmods.{sysmod_key};
 
+use crate::cells::{further_in, number_in, requisites_in};
+use crate::ifreq::IfRow;
 use crate::numbers::number_behind;
 use crate::rows::{Rows, insert_all};
 use fields::{Id, Srel};
-use sqlite::{Alter, Error, Transaction};
+use sqlite::{Alter, Error, Row, Transaction};
 use sqlite_value::value::ValueRef;
 use std::alloc::Global;
-use store_columns::joined_ids;
-use store_rows::insert;
+use store_columns::{Query, id_in, joined_ids, srel_in};
+use store_rows::{FromRow, ReadError, insert, remove};
 use sysmod::{IfReq, Ver};
+
+const SELECT: &str = "SELECT id, srel, v, n, fmid, req FROM moreif";
+
+const INSERT: &str =
+    "INSERT INTO moreif (id, srel, v, n, fmid, req) VALUES (?1, ?2, ?3, ?4, ?5, ?6)";
+
+const DELETE: &str = "DELETE FROM moreif WHERE id = ?1";
+
+// ---- as it is read
+
+/// Reads the `++IF`s of further `++VER`s.
+pub struct MoreIfs;
+
+impl FromRow for MoreIfs {
+    ghost use Rattle.store_sysmods.specs.MoreIfs.{row_of_more_if, HasFurtherIfForms};
+
+    type Item = IfRow;
+
+    ghost row_of = { row_of_more_if };
+
+    ghost has_form = { HasFurtherIfForms };
+
+    fn read(alloc: Global, row: &Row) -> Result<IfRow, ReadError>
+        ensures read { IfOk result (λ item. (row.now ≡ row_of_more_if item) × HasFurtherIfForms item) }
+        ensures none { IsErrOf result ReadError.BadRow → (item : AIfRow) → HasFurtherIfForms item
+            → row.now ≢ row_of_more_if item }
+        ensures fault { IsErrOf result ReadError.Fault → ⊥ }
+    {
+        if row.column_count() != 6 {
+            return Err(ReadError::BadRow);
+        }
+        let Some(id) = id_in(row, 0) else {
+            return Err(ReadError::BadRow);
+        };
+        let Some(srel) = srel_in(row, 1) else {
+            return Err(ReadError::BadRow);
+        };
+        let Some(place) = further_in(row, 2) else {
+            return Err(ReadError::BadRow);
+        };
+        let Some(number) = number_in(row, 3) else {
+            return Err(ReadError::BadRow);
+        };
+        let Some(function) = id_in(row, 4) else {
+            return Err(ReadError::BadRow);
+        };
+        let req = requisites_in(alloc, row, 5, id)?;
+        let ifreq = IfReq { function, req };
+        Ok(IfRow {
+            id,
+            srel,
+            place,
+            number,
+            ifreq,
+        })
+    }
+}
+
+impl Query for MoreIfs {
+    ghost use Rattle.std.specs.Prelude.{◌≡◌};
+    ghost use Rattle.store_schema.specs.declared.schema.Schema.TheVariants.{Third};
+    ghost use Rattle.store_schema.specs.Tables.{moreif};
+
+    type Rows = MoreIfs;
+
+    ghost table = { moreif };
+
+    ghost at = { 11 };
+
+    ghost width = { 0 };
+
+    ghost knows = { λ r. r ≡ Third };
+
+    fn sql() -> &'static str {
+        SELECT
+    }
+}
+
+// ---- as it is written
 
 // Adds the row of an `++IF` of the `++VER` of the place, of whose requisites this is the text.
 fn insert_row<'a, S: Alter>(
@@ -38,11 +122,7 @@ fn insert_row<'a, S: Alter>(
     let number = ValueRef::Int(number as i64);
     let function = ValueRef::Text(ifreq.function.as_bytes());
     let req = ValueRef::Text(req);
-    insert(
-        tx,
-        "INSERT INTO moreif (id, srel, v, n, fmid, req) VALUES (?1, ?2, ?3, ?4, ?5, ?6)",
-        &[id, srel, place, number, function, req],
-    )
+    insert(tx, INSERT, &[id, srel, place, number, function, req])
 }
 
 /// The rows of the `++IF`s of the `++VER` of the place, which count from 1.
@@ -59,7 +139,7 @@ impl Rows for FurtherIfsOf {
     ghost use Rattle.store_schema.specs.Rows.{moreif_row};
     ghost use Rattle.store_schema.specs.Tables.{moreif as moreif_table};
     ghost use Rattle.store_sysmods.specs.Behind.{of_counted};
-    ghost use Rattle.store_sysmods.specs.Calls.{insert_moreif as into_moreif};
+    ghost use Rattle.store_sysmods.specs.MoreIfs.{insert_moreif as into_moreif};
 
     type Item = IfReq;
 
@@ -89,8 +169,8 @@ pub(crate) struct FurtherIfs {
 
 impl Rows for FurtherIfs {
     ghost use Rattle.store_schema.specs.Tables.{moreif as moreif_table};
-    ghost use Rattle.store_sysmods.specs.Behind.{of_numbered, further_ifs};
-    ghost use Rattle.store_sysmods.specs.Calls.{insert_moreif as into_moreif};
+    ghost use Rattle.store_sysmods.specs.Behind.{of_numbered};
+    ghost use Rattle.store_sysmods.specs.MoreIfs.{insert_moreif as into_moreif, further_ifs};
 
     type Item = Ver;
 
@@ -118,4 +198,14 @@ impl Rows for FurtherIfs {
         };
         insert_all(tx, &ifs, ver.ifs.as_slice())
     }
+}
+
+/// Takes out the SYSMOD's rows.
+pub(crate) fn remove_rows<S: Alter>(tx: &mut Transaction<'_, S>, id: Id) -> Result<(), Error>
+    ensures same_reference { tx.new.conn.ghost_name ≡ tx.old.conn.ghost_name }
+    ensures takes { Step S.Store ((delete_moreifs, sysmod_key id) ∷ [])
+        (in_table moreif_table (without (sysmod_key id))) tx.old.conn.now tx.new.conn.now result }
+{
+    let key = [ValueRef::Text(id.as_bytes())];
+    remove(tx, DELETE, &key)
 }

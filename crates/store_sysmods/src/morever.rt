@@ -1,22 +1,110 @@
-//! The table of a SYSMOD's further `++VER`s of one SREL.
+//! The table of a SYSMOD's further `++VER`s of one SREL. They have neither NPRE nor DELETE.
 
-ghost use Rattle.std.specs.Prelude.{◌≡◌, ◌<◌, ◌^◌, [], ◌∷◌};
+ghost use Rattle.std.specs.Prelude.{◌≡◌, ◌≢◌, ◌<◌, ◌^◌, [], ◌∷◌, IfOk, IsErrOf};
+ghost use Rattle.store_rows.specs.Rows.{in_table, without};
 ghost use Rattle.store_schema.specs.Rows.{morever_row};
 ghost use Rattle.store_schema.specs.Tables.{morever as morever_table};
-ghost use Rattle.store_sysmods.specs.Calls.{insert_morever as into_morever};
-ghost use Rattle.store_sysmods.specs.Lists.{AreLists};
-ghost use Rattle.store_sysmods.specs.Steps.{Puts};
+ghost use Rattle.store_sysmods.specs.declared.ver.VerRow.{VerRow as AVerRow};
+ghost use Rattle.store_sysmods.specs.MoreVers.{insert_morever as into_morever, delete_morevers};
+ghost use Rattle.store_sysmods.specs.Steps.{Step, Puts};
+ghost use Rattle.store_sysmods.specs.Sysmods.{sysmod_key};
+ghost use Rattle.store_sysmods.specs.Vers.{AreLists};
 
+use crate::cells::{further_in, other_in, others_in};
 use crate::numbers::number_behind;
 use crate::rows::Rows;
-use crate::ver::{Lists, lists_of};
-use fields::Id;
-use sqlite::{Alter, Error, Transaction};
+use crate::ver::{Lists, VerRow, lists_of};
+use fields::{Id, IdList};
+use sqlite::{Alter, Error, Row, Transaction};
 use sqlite_value::value::ValueRef;
 use std::alloc::Global;
-use store_columns::id_value;
-use store_rows::insert;
+use store_columns::{Query, id_in, id_value, srel_in};
+use store_rows::{FromRow, ReadError, insert, remove};
 use sysmod::Ver;
+
+const SELECT: &str = "SELECT id, srel, n, fmid, pre, req, sup FROM morever";
+
+const INSERT: &str =
+    "INSERT INTO morever (id, srel, n, fmid, pre, req, sup) VALUES (?1, ?2, ?3, ?4, ?5, ?6, ?7)";
+
+const DELETE: &str = "DELETE FROM morever WHERE id = ?1";
+
+// ---- as it is read
+
+/// Reads further `++VER`s for one SREL, which have neither NPRE nor DELETE.
+pub struct MoreVers;
+
+impl FromRow for MoreVers {
+    ghost use Rattle.store_sysmods.specs.MoreVers.{row_of_more_ver, HasFurtherForms};
+
+    type Item = VerRow;
+
+    ghost row_of = { row_of_more_ver };
+
+    ghost has_form = { HasFurtherForms };
+
+    fn read(alloc: Global, row: &Row) -> Result<VerRow, ReadError>
+        ensures read { IfOk result (λ item. (row.now ≡ row_of_more_ver item) × HasFurtherForms item) }
+        ensures none { IsErrOf result ReadError.BadRow → (item : AVerRow) → HasFurtherForms item
+            → row.now ≢ row_of_more_ver item }
+        ensures fault { IsErrOf result ReadError.Fault → ⊥ }
+    {
+        if row.column_count() != 7 {
+            return Err(ReadError::BadRow);
+        }
+        let Some(id) = id_in(row, 0) else {
+            return Err(ReadError::BadRow);
+        };
+        let Some(srel) = srel_in(row, 1) else {
+            return Err(ReadError::BadRow);
+        };
+        let Some(number) = further_in(row, 2) else {
+            return Err(ReadError::BadRow);
+        };
+        let Some(fmid) = other_in(row, 3, id) else {
+            return Err(ReadError::BadRow);
+        };
+        let pre = others_in(alloc, row, 4, id)?;
+        let req = others_in(alloc, row, 5, id)?;
+        let sup = others_in(alloc, row, 6, id)?;
+        let npre = IdList::new(alloc);
+        let del = IdList::new(alloc);
+        let ifs = Vec::new(alloc);
+        let ver = Ver {
+            srel,
+            fmid,
+            pre,
+            req,
+            sup,
+            npre,
+            del,
+            ifs,
+        };
+        Ok(VerRow { id, number, ver })
+    }
+}
+
+impl Query for MoreVers {
+    ghost use Rattle.std.specs.Prelude.{◌≡◌};
+    ghost use Rattle.store_schema.specs.declared.schema.Schema.TheVariants.{Third};
+    ghost use Rattle.store_schema.specs.Tables.{morever};
+
+    type Rows = MoreVers;
+
+    ghost table = { morever };
+
+    ghost at = { 10 };
+
+    ghost width = { 0 };
+
+    ghost knows = { λ r. r ≡ Third };
+
+    fn sql() -> &'static str {
+        SELECT
+    }
+}
+
+// ---- as it is written
 
 // Adds the row of the `++VER` of this number, of whose lists these are the texts. It has no others.
 fn insert_row<'a, S: Alter>(
@@ -39,11 +127,7 @@ fn insert_row<'a, S: Alter>(
     let pre = ValueRef::Text(lists.pre.as_slice());
     let req = ValueRef::Text(lists.req.as_slice());
     let sup = ValueRef::Text(lists.sup.as_slice());
-    insert(
-        tx,
-        "INSERT INTO morever (id, srel, n, fmid, pre, req, sup) VALUES (?1, ?2, ?3, ?4, ?5, ?6, ?7)",
-        &[id, srel, number, fmid, pre, req, sup],
-    )
+    insert(tx, INSERT, &[id, srel, number, fmid, pre, req, sup])
 }
 
 /// The rows of the SYSMOD's further `++VER`s, without those of their `++IF`s.
@@ -55,8 +139,8 @@ pub(crate) struct FurtherVers {
 
 impl Rows for FurtherVers {
     ghost use Rattle.store_schema.specs.Tables.{morever as morever_table};
-    ghost use Rattle.store_sysmods.specs.Behind.{of_numbered, further_row};
-    ghost use Rattle.store_sysmods.specs.Calls.{insert_morever as into_morever};
+    ghost use Rattle.store_sysmods.specs.Behind.{of_numbered};
+    ghost use Rattle.store_sysmods.specs.MoreVers.{insert_morever as into_morever, further_row};
 
     type Item = Ver;
 
@@ -79,4 +163,14 @@ impl Rows for FurtherVers {
         let lists = lists_of(self.alloc, ver)?;
         insert_row(tx, &self.id, number, ver, &lists)
     }
+}
+
+/// Takes out the SYSMOD's rows.
+pub(crate) fn remove_rows<S: Alter>(tx: &mut Transaction<'_, S>, id: Id) -> Result<(), Error>
+    ensures same_reference { tx.new.conn.ghost_name ≡ tx.old.conn.ghost_name }
+    ensures takes { Step S.Store ((delete_morevers, sysmod_key id) ∷ [])
+        (in_table morever_table (without (sysmod_key id))) tx.old.conn.now tx.new.conn.now result }
+{
+    let key = [ValueRef::Text(id.as_bytes())];
+    remove(tx, DELETE, &key)
 }

@@ -15,7 +15,7 @@ fn count_of(vers: &[Ver], srel: Srel) -> usize
 }
 
 /// The number of the `++VER` behind these others, among those of its SREL.
-pub(crate) fn number_behind(front: &[Ver], ver: &Ver) -> usize
+pub fn number_behind(front: &[Ver], ver: &Ver) -> usize
     ensures same { result ≡ number_behind front.now ver.now }
     ensures most { result ≤ length front.now + 1 }
 {

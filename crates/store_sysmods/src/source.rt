@@ -1,18 +1,115 @@
 //! The table of sources.
 
-ghost use Rattle.std.specs.Prelude.{◌≡◌, [], ◌∷◌};
+ghost use Rattle.std.specs.Prelude.{◌≡◌, ◌≢◌, ℕ, List, [], ◌∷◌, IfOk, IfSome, IfNone, IsErrOf};
+ghost use Rattle.sqlite.specs.declared.types.Value.TheVariants.{Text};
+ghost use Rattle.sqlite.specs.Order.{column};
 ghost use Rattle.store_rows.specs.Rows.{in_table, without};
 ghost use Rattle.store_schema.specs.Rows.{source_row};
 ghost use Rattle.store_schema.specs.Tables.{source as source_table};
-ghost use Rattle.store_sysmods.specs.Calls.{insert_source as into_source, delete_sources};
+ghost use Rattle.terms.specs.Forms.{IsSource};
+ghost use Rattle.store_sysmods.specs.declared.source.SourceRow.{SourceRow as ASourceRow};
+ghost use Rattle.store_sysmods.specs.Sources.{insert_source as into_source, delete_sources};
 ghost use Rattle.store_sysmods.specs.Steps.{Step, Puts};
 ghost use Rattle.store_sysmods.specs.Sysmods.{sysmod_key};
 
+use crate::listed::Listed;
 use crate::rows::Rows;
 use fields::{Id, Source};
-use sqlite::{Alter, Error, Transaction};
+use sqlite::{Alter, Error, Row, Transaction};
 use sqlite_value::value::ValueRef;
-use store_rows::{insert, remove};
+use std::alloc::Global;
+use store_columns::{Query, id_in};
+use store_rows::{FromRow, ReadError, insert, remove, text};
+
+const SELECT: &str = "SELECT id, name FROM source";
+
+const INSERT: &str = "INSERT INTO source (id, name) VALUES (?1, ?2)";
+
+const DELETE: &str = "DELETE FROM source WHERE id = ?1";
+
+// ---- as it is read
+
+/// A source of the SYSMOD.
+#[derive(Drop)]
+pub struct SourceRow {
+    pub id: Id,
+    pub name: Source,
+}
+
+/// The name of a source.
+fn source_in(row: &Row, at: usize) -> Option<Source>
+    ensures some { IfSome result (λ name. (column row.now at ≡ Text name) × IsSource name) }
+    ensures none { IfNone result ((name : List ℕ) → IsSource name → column row.now at ≢ Text name) }
+{
+    Source::read(text(row, at)?)
+}
+
+/// Reads sources.
+pub struct Sources;
+
+impl FromRow for Sources {
+    ghost use Rattle.store_sysmods.specs.Sources.{row_of_source, HasSourceForms};
+
+    type Item = SourceRow;
+
+    ghost row_of = { row_of_source };
+
+    ghost has_form = { HasSourceForms };
+
+    fn read(alloc: Global, row: &Row) -> Result<SourceRow, ReadError>
+        ensures read { IfOk result (λ item. (row.now ≡ row_of_source item) × HasSourceForms item) }
+        ensures none { IsErrOf result ReadError.BadRow → (item : ASourceRow) → HasSourceForms item
+            → row.now ≢ row_of_source item }
+        ensures fault { IsErrOf result ReadError.Fault → ⊥ }
+    {
+        if row.column_count() != 2 {
+            return Err(ReadError::BadRow);
+        }
+        let Some(id) = id_in(row, 0) else {
+            return Err(ReadError::BadRow);
+        };
+        let Some(name) = source_in(row, 1) else {
+            return Err(ReadError::BadRow);
+        };
+        Ok(SourceRow { id, name })
+    }
+}
+
+impl Query for Sources {
+    ghost use Rattle.std.specs.Prelude.{◌≢◌};
+    ghost use Rattle.store_schema.specs.declared.schema.Schema.TheVariants.{First};
+    ghost use Rattle.store_schema.specs.Tables.{source};
+
+    type Rows = Sources;
+
+    ghost table = { source };
+
+    ghost at = { 9 };
+
+    ghost width = { 0 };
+
+    ghost knows = { λ r. r ≢ First };
+
+    fn sql() -> &'static str {
+        SELECT
+    }
+}
+
+impl Listed for Sources {
+    ghost use Rattle.std.specs.Prelude.{refl};
+
+    type Key = (Id, Source);
+
+    ghost key_of = { λ row. (row.id, row.name) };
+
+    fn key(item: &SourceRow) -> (Id, Source) {
+        (item.id, item.name)
+    }
+
+    ghost whole = { refl };
+}
+
+// ---- as it is written
 
 // Adds the row of a source.
 fn insert_row<'a, S: Alter>(
@@ -26,24 +123,20 @@ fn insert_row<'a, S: Alter>(
 {
     let id = ValueRef::Text(id.as_bytes());
     let name = ValueRef::Text(source.as_bytes());
-    insert(
-        tx,
-        "INSERT INTO source (id, name) VALUES (?1, ?2)",
-        &[id, name],
-    )
+    insert(tx, INSERT, &[id, name])
 }
 
 /// The rows of the SYSMOD's sources.
 #[derive(Drop)]
-pub(crate) struct Sources {
+pub(crate) struct SourcesOf {
     pub id: Id,
 }
 
-impl Rows for Sources {
+impl Rows for SourcesOf {
     ghost use Rattle.store_schema.specs.Rows.{source_row};
     ghost use Rattle.store_schema.specs.Tables.{source as source_table};
     ghost use Rattle.store_sysmods.specs.Behind.{of_each};
-    ghost use Rattle.store_sysmods.specs.Calls.{insert_source as into_source};
+    ghost use Rattle.store_sysmods.specs.Sources.{insert_source as into_source};
 
     type Item = Source;
 
@@ -63,12 +156,12 @@ impl Rows for Sources {
     }
 }
 
-/// Takes out the rows of the SYSMOD's sources.
-pub(crate) fn remove_sources<S: Alter>(tx: &mut Transaction<'_, S>, id: Id) -> Result<(), Error>
+/// Takes out the SYSMOD's rows.
+pub(crate) fn remove_rows<S: Alter>(tx: &mut Transaction<'_, S>, id: Id) -> Result<(), Error>
     ensures same_reference { tx.new.conn.ghost_name ≡ tx.old.conn.ghost_name }
     ensures takes { Step S.Store ((delete_sources, sysmod_key id) ∷ [])
         (in_table source_table (without (sysmod_key id))) tx.old.conn.now tx.new.conn.now result }
 {
     let key = [ValueRef::Text(id.as_bytes())];
-    remove(tx, "DELETE FROM source WHERE id = ?1", &key)
+    remove(tx, DELETE, &key)
 }

@@ -1,14 +1,12 @@
 //! SYSMODs, whose rows stand in a table of their own and in those that refer to it.
 
-ghost use Rattle.std.specs.Prelude.{◌≡◌, [], ◌∷◌, OnOk};
+ghost use Rattle.std.specs.Prelude.{◌≡◌, OnOk};
 ghost use Rattle.store_rows.specs.Calls.{RunsInside};
 ghost use Rattle.store_rows.specs.Inside.{StaysInside, Turns};
 ghost use Rattle.store_rows.specs.Rows.{HasContents};
-ghost use Rattle.store_schema.specs.Rows.{sysmod_row};
-ghost use Rattle.store_schema.specs.Tables.{sysmod as sysmod_table, store_schema};
-ghost use Rattle.store_sysmods.specs.Calls.{insert_sysmod as into_sysmod, insert_sysmod_calls};
-ghost use Rattle.store_sysmods.specs.Calls.{remove_sysmod_calls, replace_sources_calls};
-ghost use Rattle.store_sysmods.specs.Steps.{Step, Puts};
+ghost use Rattle.store_schema.specs.Tables.{store_schema};
+ghost use Rattle.store_sysmods.specs.Calls.{insert_sysmod_calls, remove_sysmod_calls, replace_sources_calls};
+ghost use Rattle.store_sysmods.specs.Steps.{Step};
 ghost use Rattle.store_sysmods.specs.Sysmods.{AddsSysmod, ReplacesSources, RemovesSysmod};
 ghost use Rattle.store_sysmods.specs.Sysmods.{with_source_rows, with_sysmod_rows, without_sysmod_rows};
 
@@ -17,31 +15,13 @@ use crate::ifreq::FirstIfs;
 use crate::moreif::FurtherIfs;
 use crate::morever::FurtherVers;
 use crate::rows::insert_all;
-use crate::source::{Sources, remove_sources};
+use crate::source::SourcesOf;
 use crate::ver::FirstVers;
+use crate::{elem, head, ifreq, moreif, morever, source, ver};
 use fields::Id;
-use fields::spelling::kind_text;
 use sqlite::{Alter, Error, Transaction};
-use sqlite_value::value::ValueRef;
 use std::alloc::Global;
-use store_rows::{insert, remove, remove_parent};
 use sysmod::Sysmod;
-
-// Adds the SYSMOD's own row, whose column of sources stays empty.
-fn insert_row<S: Alter>(tx: &mut Transaction<'_, S>, sysmod: &Sysmod) -> Result<(), Error>
-    ensures same_reference { tx.new.conn.ghost_name ≡ tx.old.conn.ghost_name }
-    ensures puts { Puts S.Store into_sysmod sysmod_table (sysmod_row sysmod.now ∷ [])
-        tx.old.conn.now tx.new.conn.now result }
-{
-    let id = ValueRef::Text(sysmod.id.as_bytes());
-    let kind = ValueRef::Text(kind_text(sysmod.kind));
-    let sources = ValueRef::Text(b"");
-    insert(
-        tx,
-        "INSERT INTO sysmod (id, kind, sources) VALUES (?1, ?2, ?3)",
-        &[id, kind, sources],
-    )
-}
 
 // Adds the SYSMOD's rows, table after table.
 fn insert_rows<S: Alter>(
@@ -54,8 +34,8 @@ fn insert_rows<S: Alter>(
         tx.old.conn.now tx.new.conn.now result }
 {
     let id = sysmod.id;
-    insert_row(tx, sysmod)?;
-    insert_all(tx, &Sources { id }, sysmod.sources.as_slice())?;
+    head::insert_row(tx, sysmod)?;
+    insert_all(tx, &SourcesOf { id }, sysmod.sources.as_slice())?;
     insert_all(tx, &FirstVers { alloc, id }, sysmod.vers.as_slice())?;
     insert_all(tx, &FirstIfs { alloc, id }, sysmod.vers.as_slice())?;
     insert_all(tx, &Changes { alloc, id }, sysmod.changes.as_slice())?;
@@ -92,8 +72,8 @@ pub fn replace_sources<S: Alter>(tx: &mut Transaction<'_, S>, sysmod: &Sysmod) -
         (with_source_rows sysmod.now)) }
     ensures stands { OnOk result (ReplacesSources S.Store tx.old.conn.now tx.new.conn.now sysmod.now) }
 {
-    remove_sources(tx, sysmod.id)?;
-    insert_all(tx, &Sources { id: sysmod.id }, sysmod.sources.as_slice())
+    source::remove_rows(tx, sysmod.id)?;
+    insert_all(tx, &SourcesOf { id: sysmod.id }, sysmod.sources.as_slice())
 }
 
 /// Takes out the SYSMOD of the id, if there is one, with all its rows. The holds on it stay. An error comes where the
@@ -106,12 +86,11 @@ pub fn remove_sysmod<S: Alter>(tx: &mut Transaction<'_, S>, id: Id) -> Result<()
         (without_sysmod_rows id)) }
     ensures stands { OnOk result (RemovesSysmod S.Store tx.old.conn.now tx.new.conn.now id) }
 {
-    let key = [ValueRef::Text(id.as_bytes())];
-    remove(tx, "DELETE FROM ver WHERE id = ?1", &key)?;
-    remove(tx, "DELETE FROM ifreq WHERE id = ?1", &key)?;
-    remove(tx, "DELETE FROM elem WHERE id = ?1", &key)?;
-    remove_sources(tx, id)?;
-    remove(tx, "DELETE FROM morever WHERE id = ?1", &key)?;
-    remove(tx, "DELETE FROM moreif WHERE id = ?1", &key)?;
-    remove_parent(tx, "DELETE FROM sysmod WHERE id = ?1", &key)
+    ver::remove_rows(tx, id)?;
+    ifreq::remove_rows(tx, id)?;
+    elem::remove_rows(tx, id)?;
+    source::remove_rows(tx, id)?;
+    morever::remove_rows(tx, id)?;
+    moreif::remove_rows(tx, id)?;
+    head::remove_row(tx, id)
 }

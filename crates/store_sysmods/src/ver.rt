@@ -1,21 +1,127 @@
-//! The table of `++VER`s, of which a SYSMOD has one for each SREL here.
+//! The table of `++VER`s, of which a SYSMOD has one for each SREL here: the first.
 
-ghost use Rattle.std.specs.Prelude.{◌≡◌, [], ◌∷◌, IfOk};
+ghost use Rattle.std.specs.Prelude.{◌≡◌, ◌≢◌, [], ◌∷◌, IfOk, IsErrOf};
+ghost use Rattle.store_rows.specs.Rows.{in_table, without};
 ghost use Rattle.store_schema.specs.Rows.{ver_row};
 ghost use Rattle.store_schema.specs.Tables.{ver as ver_table};
-ghost use Rattle.store_sysmods.specs.Calls.{insert_ver as into_ver};
-ghost use Rattle.store_sysmods.specs.Lists.{AreLists};
-ghost use Rattle.store_sysmods.specs.Steps.{Puts};
+ghost use Rattle.store_sysmods.specs.declared.ver.VerRow.{VerRow as AVerRow};
+ghost use Rattle.store_sysmods.specs.Steps.{Step, Puts};
+ghost use Rattle.store_sysmods.specs.Sysmods.{sysmod_key};
+ghost use Rattle.store_sysmods.specs.Vers.{insert_ver as into_ver, delete_vers, AreLists};
 
+use crate::cells::{other_in, others_in};
+use crate::listed::Listed;
 use crate::numbers::number_behind;
 use crate::rows::Rows;
-use fields::Id;
-use sqlite::{Alter, Error, Transaction};
+use fields::{Id, Srel};
+use sqlite::{Alter, Error, Row, Transaction};
 use sqlite_value::value::ValueRef;
 use std::alloc::{AllocError, Global};
-use store_columns::{id_value, joined_ids};
-use store_rows::insert;
+use store_columns::{Query, id_in, id_value, joined_ids, srel_in};
+use store_rows::{FromRow, ReadError, insert, remove};
 use sysmod::Ver;
+
+const SELECT: &str = "SELECT id, srel, fmid, pre, req, sup, npre, del FROM ver";
+
+const INSERT: &str =
+    "INSERT INTO ver (id, srel, fmid, pre, req, sup, npre, del) VALUES (?1, ?2, ?3, ?4, ?5, ?6, ?7, ?8)";
+
+const DELETE: &str = "DELETE FROM ver WHERE id = ?1";
+
+// ---- as it is read
+
+/// A `++VER` of the SYSMOD without its `++IF`s, and its number among those for its SREL.
+#[derive(Drop)]
+pub struct VerRow {
+    pub id: Id,
+    pub number: u64,
+    pub ver: Ver,
+}
+
+/// Reads the first `++VER`s.
+pub struct Vers;
+
+impl FromRow for Vers {
+    ghost use Rattle.store_sysmods.specs.Vers.{row_of_ver, HasFirstForms};
+
+    type Item = VerRow;
+
+    ghost row_of = { row_of_ver };
+
+    ghost has_form = { HasFirstForms };
+
+    fn read(alloc: Global, row: &Row) -> Result<VerRow, ReadError>
+        ensures read { IfOk result (λ item. (row.now ≡ row_of_ver item) × HasFirstForms item) }
+        ensures none { IsErrOf result ReadError.BadRow → (item : AVerRow) → HasFirstForms item
+            → row.now ≢ row_of_ver item }
+        ensures fault { IsErrOf result ReadError.Fault → ⊥ }
+    {
+        if row.column_count() != 8 {
+            return Err(ReadError::BadRow);
+        }
+        let Some(id) = id_in(row, 0) else {
+            return Err(ReadError::BadRow);
+        };
+        let Some(srel) = srel_in(row, 1) else {
+            return Err(ReadError::BadRow);
+        };
+        let Some(fmid) = other_in(row, 2, id) else {
+            return Err(ReadError::BadRow);
+        };
+        let pre = others_in(alloc, row, 3, id)?;
+        let req = others_in(alloc, row, 4, id)?;
+        let sup = others_in(alloc, row, 5, id)?;
+        let npre = others_in(alloc, row, 6, id)?;
+        let del = others_in(alloc, row, 7, id)?;
+        let ifs = Vec::new(alloc);
+        let ver = Ver {
+            srel,
+            fmid,
+            pre,
+            req,
+            sup,
+            npre,
+            del,
+            ifs,
+        };
+        Ok(VerRow { id, number: 1, ver })
+    }
+}
+
+impl Query for Vers {
+    ghost use Rattle.std.specs.Prelude.{⊤};
+    ghost use Rattle.store_schema.specs.Tables.{ver};
+
+    type Rows = Vers;
+
+    ghost table = { ver };
+
+    ghost at = { 2 };
+
+    ghost width = { 0 };
+
+    ghost knows = { λ r. ⊤ };
+
+    fn sql() -> &'static str {
+        SELECT
+    }
+}
+
+impl Listed for Vers {
+    ghost use Rattle.std.specs.Prelude.{refl};
+
+    type Key = (Id, (Srel, u64));
+
+    ghost key_of = { λ row. (row.id, (row.ver.srel, row.number)) };
+
+    fn key(item: &VerRow) -> (Id, (Srel, u64)) {
+        (item.id, (item.ver.srel, item.number))
+    }
+
+    ghost whole = { refl };
+}
+
+// ---- as it is written
 
 /// The texts of a `++VER`'s lists.
 #[derive(Drop)]
@@ -59,11 +165,7 @@ fn insert_row<S: Alter>(
     let sup = ValueRef::Text(lists.sup.as_slice());
     let npre = ValueRef::Text(lists.npre.as_slice());
     let del = ValueRef::Text(lists.del.as_slice());
-    insert(
-        tx,
-        "INSERT INTO ver (id, srel, fmid, pre, req, sup, npre, del) VALUES (?1, ?2, ?3, ?4, ?5, ?6, ?7, ?8)",
-        &[id, srel, fmid, pre, req, sup, npre, del],
-    )
+    insert(tx, INSERT, &[id, srel, fmid, pre, req, sup, npre, del])
 }
 
 /// The rows of the SYSMOD's first `++VER`s, without those of their `++IF`s.
@@ -75,8 +177,8 @@ pub(crate) struct FirstVers {
 
 impl Rows for FirstVers {
     ghost use Rattle.store_schema.specs.Tables.{ver as ver_table};
-    ghost use Rattle.store_sysmods.specs.Behind.{of_numbered, first_row};
-    ghost use Rattle.store_sysmods.specs.Calls.{insert_ver as into_ver};
+    ghost use Rattle.store_sysmods.specs.Behind.{of_numbered};
+    ghost use Rattle.store_sysmods.specs.Vers.{insert_ver as into_ver, first_row};
 
     type Item = Ver;
 
@@ -99,4 +201,14 @@ impl Rows for FirstVers {
         let lists = lists_of(self.alloc, ver)?;
         insert_row(tx, &self.id, ver, &lists)
     }
+}
+
+/// Takes out the SYSMOD's rows.
+pub(crate) fn remove_rows<S: Alter>(tx: &mut Transaction<'_, S>, id: Id) -> Result<(), Error>
+    ensures same_reference { tx.new.conn.ghost_name ≡ tx.old.conn.ghost_name }
+    ensures takes { Step S.Store ((delete_vers, sysmod_key id) ∷ [])
+        (in_table ver_table (without (sysmod_key id))) tx.old.conn.now tx.new.conn.now result }
+{
+    let key = [ValueRef::Text(id.as_bytes())];
+    remove(tx, DELETE, &key)
 }

@@ -1,5 +1,7 @@
 //! Removals, sources in place of others, and what a commit leaves alone.
-use crate::known::{committed, doubled, filled, lines, opened, run, zone_name};
+use crate::known::{
+    commit_delta, committed, doubled, filled, lines, loaded, opened, run, zone_name,
+};
 use crate::round_trip::{all_lines, delta_to};
 use fields::{Id, IdList, Name, Reason, Source, VerNumber, YyDdd};
 use sqlite::{Alter, Connection};
@@ -9,24 +11,24 @@ use store::{Change, GlobalEdit, Store};
 use store_schema::StoreError;
 use sysmod::Sysmod;
 use terms::{ElemType, HoldKind, Kind};
-use zones::{Applied, Entry, ZoneDelta};
+use zones::{Applied, Entry, Zone, ZoneDelta};
 
 fn id(text: &[u8]) -> Result<Id, Fail> {
     Ok(Id::read(text).ok_or("no id")?)
 }
 
 /// An entry and an element of TGT1 go.
-fn removals(alloc: Global) -> Result<Change, Fail> {
+fn removals(alloc: Global) -> Result<ZoneDelta, Fail> {
     let mut delta = ZoneDelta::new(alloc);
     delta.remove_entry(id(b"UAA0001")?)?;
     delta.remove_element(ElemType::Mac, Name::read(b"MAC2").ok_or("no name")?)?;
-    Ok(Change::Zone(zone_name(b"TGT1")?, delta))
+    Ok(delta)
 }
 
 // A source of 64 characters.
 const LONG: &[u8] = b"PUT2401$RSU2404#PUT2401$RSU2404#PUT2401$RSU2404#PUT2401$RSU2404#";
 
-fn new_sources(alloc: Global) -> Result<Change, Fail> {
+fn new_sources(alloc: Global) -> Result<Change<'static>, Fail> {
     let mut sysmod = Sysmod::new(alloc, Kind::Apar, id(b"AAA0003")?);
     sysmod.insert_source(Source::read(b"PUT2402").ok_or("no source")?)?;
     sysmod.insert_source(Source::read(LONG).ok_or("no source")?)?;
@@ -34,7 +36,7 @@ fn new_sources(alloc: Global) -> Result<Change, Fail> {
 }
 
 /// A hold and a SYSMOD go.
-fn rejections(alloc: Global) -> Result<Change, Fail> {
+fn rejections(alloc: Global) -> Result<Change<'static>, Fail> {
     let reason = Reason::read(b"MINE").ok_or("no reason")?;
     Ok(Change::Global(vec![in alloc;
         GlobalEdit::RemoveHold(id(b"UZZ9999")?, HoldKind::User, reason),
@@ -43,7 +45,7 @@ fn rejections(alloc: Global) -> Result<Change, Fail> {
 }
 
 fn commit_all<S: Alter>(alloc: Global, store: &mut Store<S>) -> Result<(), Fail> {
-    committed(store.commit(&removals(alloc)?))?;
+    commit_delta(store, zone_name(b"TGT1")?, removals(alloc)?)?;
     committed(store.commit(&new_sources(alloc)?))?;
     committed(store.commit(&rejections(alloc)?))
 }
@@ -73,10 +75,9 @@ fn told_of_no_zone<S: Alter>(
     alloc: Global,
     store: &mut Store<S>,
 ) -> Result<Result<(), StoreError>, Fail> {
-    let Ok(Some(zone)) = store.load_zone(zone_name(b"TGT1")?) else {
-        return Err(Fail::from("zone"));
-    };
-    Ok(store.commit(&delta_to(alloc, zone_name(b"TGT9")?, &zone)?))
+    let zone = loaded(store, zone_name(b"TGT1")?)?;
+    let delta = delta_to(alloc, &zone)?;
+    Ok(store.commit(&Change::Zone(zone_name(b"TGT9")?, &zone, delta)))
 }
 
 #[test]
@@ -112,7 +113,7 @@ fn applied_on(date: &[u8]) -> Option<Applied> {
 }
 
 /// This entry of DLB1 is installed so.
-fn put_applied(alloc: Global, id: Id, applied: Option<Applied>) -> Result<Change, Fail> {
+fn put_applied(alloc: Global, id: Id, applied: Option<Applied>) -> Result<ZoneDelta, Fail> {
     let mut delta = ZoneDelta::new(alloc);
     let entry = Entry {
         id,
@@ -124,7 +125,7 @@ fn put_applied(alloc: Global, id: Id, applied: Option<Applied>) -> Result<Change
     if entry.has_content() && entry.waives_applied() {
         delta.put_entry(entry)?;
     }
-    Ok(Change::Zone(zone_name(b"DLB1")?, delta))
+    Ok(delta)
 }
 
 /// The rows of all entries but that one, and of all elements, by their places.
@@ -135,8 +136,8 @@ const CHANGED: &str = "SELECT zone || ' ' || id || ' ' || date FROM entry WHERE 
 
 fn commit_entry<S: Alter>(alloc: Global, store: &mut Store<S>) -> Result<(), Fail> {
     // One of the entries has another date.
-    let change = put_applied(alloc, id(b"U100500")?, applied_on(b"24.139"))?;
-    committed(store.commit(&change))
+    let delta = put_applied(alloc, id(b"U100500")?, applied_on(b"24.139"))?;
+    commit_delta(store, zone_name(b"DLB1")?, delta)
 }
 
 /// The database once that entry has another date.
@@ -169,17 +170,17 @@ fn ver_number(number: usize) -> Result<VerNumber, Fail> {
 }
 
 /// The entry of DLB1, installed by the `++VER` of this number.
-fn numbered(alloc: Global, number: usize) -> Result<Change, Fail> {
+fn numbered(alloc: Global, number: usize) -> Result<ZoneDelta, Fail> {
     let date = YyDdd::read(b"23.001").ok_or("no date")?;
     let number = ver_number(number)?;
     put_applied(alloc, id(b"HAA1100")?, Some(Applied { date, number }))
 }
 
 /// That entry goes.
-fn removed(alloc: Global) -> Result<Change, Fail> {
+fn removed(alloc: Global) -> Result<ZoneDelta, Fail> {
     let mut delta = ZoneDelta::new(alloc);
     delta.remove_entry(id(b"HAA1100")?)?;
-    Ok(Change::Zone(zone_name(b"DLB1")?, delta))
+    Ok(delta)
 }
 
 /// Puts the entry with this number, or takes it out.
@@ -188,18 +189,16 @@ fn commit_number<S: Alter>(
     store: &mut Store<S>,
     number: Option<usize>,
 ) -> Result<(), Fail> {
-    let change = match number {
+    let delta = match number {
         Some(number) => numbered(alloc, number)?,
         None => removed(alloc)?,
     };
-    committed(store.commit(&change))
+    commit_delta(store, zone_name(b"DLB1")?, delta)
 }
 
 /// The number of the entry that is loaded, if there is one.
 fn number_loaded<S: Alter>(store: &mut Store<S>) -> Result<Option<usize>, Fail> {
-    let Ok(Some(zone)) = store.load_zone(zone_name(b"DLB1")?) else {
-        return Err(Fail::from("zone"));
-    };
+    let zone = loaded(store, zone_name(b"DLB1")?)?;
     let Some(applied) = zone.applied(id(b"HAA1100")?) else {
         return Ok(None);
     };
@@ -231,10 +230,11 @@ fn numbers_after(
     Ok((lines(alloc, &mut store.close(), NUMBERS)?, loaded))
 }
 
-/// Numbers of the entry, put one after the other or taken out, the rows that they leave, and what is loaded.
+/// Numbers of the entry, which has 1, put one after the other or taken out, the rows that they leave, and what is loaded.
 const PUT_NUMBERS: &[(&[Option<usize>], &str, Option<usize>)] = &[
     (&[Some(1)], "", Some(1)),
     (&[Some(2)], "DLB1 HAA1100 2\n", Some(2)),
+    (&[Some(2), Some(2)], "DLB1 HAA1100 2\n", Some(2)),
     (&[Some(2), Some(7)], "DLB1 HAA1100 7\n", Some(7)),
     (
         &[Some(9_223_372_036_854_775_807)],
@@ -242,6 +242,9 @@ const PUT_NUMBERS: &[(&[Option<usize>], &str, Option<usize>)] = &[
         Some(9_223_372_036_854_775_807),
     ),
     (&[Some(2), Some(1)], "", Some(1)),
+    (&[None], "", None),
+    (&[None, Some(1)], "", Some(1)),
+    (&[None, Some(2)], "DLB1 HAA1100 2\n", Some(2)),
     (&[Some(2), None], "", None),
     (&[Some(2), None, Some(1)], "", Some(1)),
 ];
@@ -278,17 +281,20 @@ const WRITTEN: &[&str] = &[
     "INSERT INTO source (id, name) VALUES ('AAA0003', 'PUT2401$RSU2404#PUT2401$RSU2404#PUT2401$RSU2404#PUT2401$RSU2404#')",
 ];
 
-fn commit_two<S: Alter>(alloc: Global, store: &mut Store<S>) -> Result<(), Fail> {
-    committed(store.commit(&removals(alloc)?))?;
+fn commit_two<S: Alter>(alloc: Global, store: &mut Store<S>, zone: &Zone) -> Result<(), Fail> {
+    let change = Change::Zone(zone_name(b"TGT1")?, zone, removals(alloc)?);
+    committed(store.commit(&change))?;
     committed(store.commit(&new_sources(alloc)?))
 }
 
-/// All rows once one is bad and both are committed.
+/// All rows once one is bad and both are committed. The zone is as it was before.
 fn rows_committed(alloc: Global, bad: &str) -> Result<String, Fail> {
-    let mut conn = filled(alloc, Connection::open_in_memory(alloc)?)?;
+    let mut store = opened(alloc, filled(alloc, Connection::open_in_memory(alloc)?)?)?;
+    let zone = loaded(&mut store, zone_name(b"TGT1")?)?;
+    let mut conn = store.close();
     run(&mut conn, bad, &[])?;
     let mut store = opened(alloc, conn)?;
-    commit_two(alloc, &mut store)?;
+    commit_two(alloc, &mut store, &zone)?;
     all_lines(alloc, &mut store.close())
 }
 

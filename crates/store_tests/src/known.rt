@@ -9,9 +9,10 @@ use sqlite_disk::Memory;
 use sqlite_value::value::ValueRef;
 use std::alloc::Global;
 use std::test::Fail;
-use store::Store;
+use store::{Change, Store};
 use store_schema::StoreError;
 use text80::RECORD;
+use zones::{Zone, ZoneDelta};
 
 /// The sources of the SYSMODs, of which each has a row.
 pub(crate) const SOURCES: &[&str] = &[
@@ -179,6 +180,24 @@ pub(crate) fn committed(answer: Result<(), StoreError>) -> Result<(), Fail> {
         Ok(()) => Ok(()),
         Err(_) => Err(Fail::from("commit")),
     }
+}
+
+/// The zone of this name, as it is loaded.
+pub(crate) fn loaded<S: Alter>(store: &mut Store<S>, name: ZoneName) -> Result<Zone, Fail> {
+    match store.load_zone(name) {
+        Ok(Some(zone)) => Ok(zone),
+        _ => Err(Fail::from("zone")),
+    }
+}
+
+/// Commits the delta of the zone of this name, which is loaded first.
+pub(crate) fn commit_delta<S: Alter>(
+    store: &mut Store<S>,
+    name: ZoneName,
+    delta: ZoneDelta,
+) -> Result<(), Fail> {
+    let zone = loaded(store, name)?;
+    committed(store.commit(&Change::Zone(name, &zone, delta)))
 }
 
 /// The texts that the query finds, each in a line of its own.

@@ -1,5 +1,7 @@
 //! What is committed is loaded again, in memory and over files.
-use crate::known::{CHOSEN, FURTHER, again, committed, files, filled, lines, opened, run_all};
+use crate::known::{
+    CHOSEN, FURTHER, again, commit_delta, committed, files, filled, lines, loaded, opened, run_all,
+};
 use fields::{Id, ZoneName};
 use sorted::TryClone;
 use sqlite::{Alter, Connection, FileStore};
@@ -67,7 +69,7 @@ fn add_holds(edits: &mut Vec<GlobalEdit>, global: &GlobalZone) -> Result<(), Fai
 }
 
 /// The edits by which an empty global zone becomes this one.
-fn edits_to(alloc: Global, global: &GlobalZone) -> Result<Change, Fail> {
+fn edits_to(alloc: Global, global: &GlobalZone) -> Result<Change<'static>, Fail> {
     let mut edits = Vec::new(alloc);
     add_sysmods(alloc, &mut edits, global)?;
     add_holds(&mut edits, global)?;
@@ -91,12 +93,12 @@ fn put_elements(alloc: Global, delta: &mut ZoneDelta, zone: &Zone) -> Result<(),
     Ok(())
 }
 
-/// The change by which an empty zone of this name becomes this one.
-pub(crate) fn delta_to(alloc: Global, name: ZoneName, zone: &Zone) -> Result<Change, Fail> {
+/// The delta by which an empty zone becomes this one.
+pub(crate) fn delta_to(alloc: Global, zone: &Zone) -> Result<ZoneDelta, Fail> {
     let mut delta = ZoneDelta::new(alloc);
     put_entries(alloc, &mut delta, zone)?;
     put_elements(alloc, &mut delta, zone)?;
-    Ok(Change::Zone(name, delta))
+    Ok(delta)
 }
 
 fn copy_global<S: Alter, T: Alter>(
@@ -116,12 +118,10 @@ fn copy_zone<S: Alter, T: Alter>(
     to: &mut Store<T>,
     name: ZoneName,
 ) -> Result<(), Fail> {
-    let Ok(Some(zone)) = from.load_zone(name) else {
-        return Err(Fail::from("zone"));
-    };
+    let zone = loaded(from, name)?;
     let change = Change::NewZone(name, zone.kind(), zone.srel(), zone.related());
     committed(to.commit(&change))?;
-    committed(to.commit(&delta_to(alloc, name, &zone)?))
+    commit_delta(to, name, delta_to(alloc, &zone)?)
 }
 
 /// Commits all that one store holds to another that is empty.
@@ -205,7 +205,7 @@ fn further_vers_are_loaded_again(rt: HostRuntime) -> Result<(), Fail> {
     Ok(())
 }
 
-fn rejection(alloc: Global) -> Result<Change, Fail> {
+fn rejection(alloc: Global) -> Result<Change<'static>, Fail> {
     let id = Id::read(b"LLL0001").ok_or("no id")?;
     Ok(Change::Global(vec![in alloc; GlobalEdit::RemoveSysmod(id)]?))
 }

@@ -1,76 +1,72 @@
--- The statement for an entry's number, and what it makes of the tables.
-use Rattle.std.proofs.Common.{◌≡◌, ◌≢◌, ◌==◌, ℕ, inl, inr, List, [], ◌∷◌, ◌++◌, Option, None, Some}
-use Rattle.std.proofs.Common.{if◌then◌else◌, refl, sym, subst, ◌∙◌}
-use Rattle.std.specs.Option.{option_map_or}
-use Rattle.std.proofs.lemmas.Bool.Decides.{eqb_tells}
-use Rattle.sqlite.specs.Effect.{Database}
+-- The statement for the number of an entry, and what it makes of `chosen`.
+use Rattle.std.proofs.Common.{◌≡◌, ◌==◌, ℕ, Bool, true, false, not, List, ◌++◌, Result, OnOk, if◌then◌else◌}
+use Rattle.std.proofs.Common.{IsPermutation, refl, sym, ap, subst, ◌∙◌}
+use Rattle.std.proofs.lemmas.Bool.{eqb-true}
+use Rattle.std.proofs.lemmas.List.Sorted.{IsPermutation-sym, IsPermutation-trans, IsPermutation-cons}
+use Rattle.sqlite.specs.Order.{Row}
 use Rattle.sqlite.specs.Store.{Ghosts}
 use Rattle.sqlite.specs.Held.{Held}
-use Rattle.sqlite.specs.Order.{Row}
-use Rattle.terms.specs.Types.{Text, Applied, Entry}
+use Rattle.sqlite.specs.declared.error.Error.{Error}
+use Rattle.terms.specs.Types.{Text, Id}
+use Rattle.store_rows.specs.Calls.{RunsInside}
 use Rattle.store_rows.specs.Inside.{Turns}
-use Rattle.store_rows.specs.Rows.{Contents, HasContents, in_table, with_put, without}
-use Rattle.store_schema.specs.Rows.{chosen_row, chosen_in}
+use Rattle.store_rows.specs.Rows.{HasContents, in_table, without}
+use Rattle.store_schema.specs.Rows.{chosen_row}
 use Rattle.store_schema.specs.Tables.{store_schema, chosen}
-use Rattle.store_zones.specs.Calls.{put_chosen, delete_chosen, chosen_call}
+use Rattle.store_zones.specs.Calls.{number_calls}
 use Rattle.store_zones.specs.Keys.{entry_key}
-use Rattle.store_zones.specs.Zones.{with_number}
+use Rattle.store_zones.specs.Zones.{numbered, rows_with}
+use Rattle.store_zones.proofs.Numbers.{row_of}
 
--- the number of an entry, and 1 where it is not applied
-abbrev pub number_or_one : Entry → ℕ
-number_or_one e = option_map_or (λ a. a.number) e.applied 1
+module _ (name : Text) (id : Id) (old new : ℕ) where
+  -- what becomes of the rows where the number stays, is 1, and was 1
+  abbrev pub numbered_by : Bool → Bool → Bool → List Row → List Row
+  numbered_by same first begun rows =
+      if same then rows else if first then without (entry_key name id) rows
+      else rows_with (not begun) (entry_key name id) (chosen_row name id new) rows
 
-module _ (name : Text) (e : Entry) where
-  module _ {X : Type 0} (one : X) (more : ℕ → X) where
-    abbrev picked : Option Applied → X
-    picked o = option_map_or (λ a. if a.number == 1 then one else more a.number) o one
+  is_numbered : (same first begun : Bool) → (new == old) ≡ same → (new == 1) ≡ first → (old == 1) ≡ begun
+      → numbered_by same first begun ≡ numbered name id old new
+  is_numbered same first begun is_same is_first was_first =
+      sym (ap (λ b. numbered_by b (new == 1) (old == 1)) is_same ∙ ap (λ b. numbered_by same b (old == 1)) is_first
+      ∙ ap (numbered_by same first) was_first)
 
-    picks_first : (o : Option Applied) → option_map_or (λ a. a.number) o 1 ≡ 1 → picked o ≡ one
-    picks_first None is = refl
-    picks_first (Some a) is = rw is refl
+  pub turns_number : {S X E : Type 0} (g : Ghosts S) (a b : Held S) (q : Result X E) (same first begun : Bool)
+      → (new == old) ≡ same → (new == 1) ≡ first → (old == 1) ≡ begun
+      → OnOk q (Turns g a b (HasContents store_schema) (in_table chosen (numbered_by same first begun)))
+      → OnOk q (Turns g a b (HasContents store_schema) (in_table chosen (numbered name id old new)))
+  turns_number g a b q same first begun is_same is_first was_first =
+      subst (λ make. OnOk q (Turns g a b (HasContents store_schema) (in_table chosen make)))
+      (is_numbered same first begun is_same is_first was_first)
 
-    picks_further : (n : ℕ) → n ≢ 1 → (o : Option Applied) → option_map_or (λ a. a.number) o 1 ≡ n → picked o ≡ more n
-    picks_further n apart None is = absurd (apart (sym is))
-    picks_further n apart (Some a) is = elim (eqb_tells a.number 1) [
-      | inl same ↦ absurd (apart (sym is ∙ same.1))
-      | inr other ↦ rw (other.0, is) refl
-    ]
+  -- Rows that had the number's row, and have that of another: what the others are stays.
+  pub renumbered : (olds news : List Row) → IsPermutation olds (row_of name id old ++ without (entry_key name id) olds)
+      → IsPermutation news (row_of name id new ++ without (entry_key name id) olds)
+      → IsPermutation news (numbered name id old new olds)
+  renumbered olds news was is = by (new == old) refl (new == 1) refl (old == 1) refl
+    where
+      others : List Row
+      others = without (entry_key name id) olds
 
-  pub call_first : number_or_one e ≡ 1 → chosen_call name e ≡ (delete_chosen, entry_key name e.id)
-  call_first is =
-      picks_first (delete_chosen, entry_key name e.id) (λ n. (put_chosen, chosen_row name e.id n)) e.applied is
+      by : (same : Bool) → (new == old) ≡ same → (first : Bool) → (new == 1) ≡ first → (begun : Bool)
+          → (old == 1) ≡ begun → IsPermutation news (numbered name id old new olds)
+      by true same first is_first begun was_first =
+          let olds_are = subst (λ n. IsPermutation olds (row_of name id n ++ others)) (sym (eqb-true new old same)) was in
+          rw same (IsPermutation-trans _ _ _ is (IsPermutation-sym _ _ olds_are))
+      by false same true is_first begun was_first = rw (same, is_first) (rw is_first at is)
+      by false same false is_first true was_first =
+          rw (same, is_first, was_first) (IsPermutation-trans _ _ _ (rw is_first at is)
+          (IsPermutation-cons _ _ _ (IsPermutation-sym _ _ (rw was_first at was))))
+      by false same false is_first false was_first = rw (same, is_first, was_first) (rw is_first at is)
 
-  pub call_further : (n : ℕ) → n ≢ 1 → number_or_one e ≡ n
-      → chosen_call name e ≡ (put_chosen, chosen_row name e.id n)
-  call_further n apart is =
-      picks_further (delete_chosen, entry_key name e.id) (λ n. (put_chosen, chosen_row name e.id n)) n apart e.applied
-      is
+module _ {S X : Type 0} (g : Ghosts S) (a b : Held S) (q : Result X Error) (name : Text) where
+  -- the statement for the number ran, and `chosen` holds what it makes of it
+  abbrev pub Renumbers : Id → ℕ → ℕ → Type 0
+  Renumbers id old new =
+      RunsInside g (number_calls name id old new) a b q
+      × OnOk q (Turns g a b (HasContents store_schema) (in_table chosen (numbered name id old new)))
 
-  row_first : number_or_one e ≡ 1 → chosen_in name e ≡ []
-  row_first is = picks_first [] (λ n. chosen_row name e.id n ∷ []) e.applied is
-
-  row_further : (n : ℕ) → n ≢ 1 → number_or_one e ≡ n → chosen_in name e ≡ chosen_row name e.id n ∷ []
-  row_further n apart is = picks_further [] (λ n. chosen_row name e.id n ∷ []) n apart e.applied is
-
-  -- these rows, in place of the one of its id
-  abbrev with_those : List Row → Contents → Contents
-  with_those rows = in_table chosen (λ held. rows ++ without (entry_key name e.id) held)
-
-  put_so : (row : Row) (contents : Contents) (db : Database)
-      → HasContents store_schema (with_put chosen (entry_key name e.id) row contents) db
-      → HasContents store_schema (with_those (row ∷ []) contents) db
-  put_so row contents db h = record { schema_is = h.schema_is; sound = h.sound; tables = h.tables }
-
-  module _ {S : Type 0} (g : Ghosts S) (old new : Held S) where
-    abbrev TurnsTo : (Contents → Contents) → Type 0
-    TurnsTo make = Turns g old new (HasContents store_schema) make
-
-    pub turns_first : number_or_one e ≡ 1 → TurnsTo (in_table chosen (without (entry_key name e.id)))
-        → TurnsTo (with_number name e)
-    turns_first is h = subst (λ rows. TurnsTo (with_those rows)) (sym (row_first is)) h
-
-    pub turns_further : (n : ℕ) → n ≢ 1 → number_or_one e ≡ n
-        → TurnsTo (with_put chosen (entry_key name e.id) (chosen_row name e.id n)) → TurnsTo (with_number name e)
-    turns_further n apart is h =
-        subst (λ rows. TurnsTo (with_those rows)) (sym (row_further n apart is))
-        (λ clean contents was. put_so (chosen_row name e.id n) contents _ (h clean contents was))
+  -- the same of the numbers that were found
+  pub renumbers_as : (id x : Id) (old m new n : ℕ) → id ≡ x → old ≡ m → new ≡ n → Renumbers id old new → Renumbers x m n
+  renumbers_as id x old m new n is was becomes h =
+      subst (λ y. Renumbers y m n) is (subst (λ k. Renumbers id k n) was (subst (Renumbers id old) becomes h))

@@ -2,5 +2,5 @@ pub mod Texts
 pub mod Putting
 pub mod RowForms
 pub mod Numbers
-pub mod ZoneLemmas
 pub mod ByNumber
+pub mod ZoneLemmas

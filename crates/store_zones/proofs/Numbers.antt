@@ -1,15 +1,17 @@
 -- The numbers of entries, where they are not 1, and the rows of these.
 use Rattle.std.proofs.Common.{◌≡◌, ◌==◌, ℕ, List, [], ◌∷◌, ◌++◌, map, filter, Bool, true, false, not, Option}
-use Rattle.std.proofs.Common.{None, Some, if◌then◌else◌, IsPermutation, refl, sym, ap, subst, ◌∙◌}
+use Rattle.std.proofs.Common.{None, Some, IfSome, if◌then◌else◌, IsPermutation, refl, sym, ap, subst, ◌∙◌, append-nil}
 use Rattle.std.specs.List.{flat_map}
-use Rattle.std.specs.Option.{option_map_or}
+use Rattle.std.specs.Option.{option_map_or, option_to_list}
 use Rattle.std.specs.Str.{bytes_eq}
+use Rattle.std.proofs.lemmas.Grind.{flat_map-append}
 use Rattle.std.proofs.lemmas.List.{map-append}
 use Rattle.std.proofs.lemmas.List.Elements.{filter-append}
 use Rattle.sqlite.specs.Order.{Row}
 use Rattle.sqlite_trees.proofs.ListLemmas.{IsPermutation-flat_map, flat_map_same_on}
 use Rattle.terms.specs.Types.{Text, Id, Applied, Entry, NamedZone}
 use Rattle.store_schema.specs.Rows.{chosen_row, chosen_in, chosen_of}
+use Rattle.store_zones.specs.Numbers.{number_before}
 use Rattle.store_zones.specs.Zones.{entries_but}
 
 -- the number of an entry, and all of a zone
@@ -24,7 +26,7 @@ number_row name x = chosen_row name x.0 x.1
 
 -- ---- rows
 
-pub in_rows : (name : Text) (e : Entry) → chosen_in name e ≡ map (number_row name) (number_in e)
+in_rows : (name : Text) (e : Entry) → chosen_in name e ≡ map (number_row name) (number_in e)
 in_rows name e = by e.applied
   where
     of : (n : ℕ) (b : Bool)
@@ -36,6 +38,28 @@ in_rows name e = by e.applied
     by : (o : Option Applied)
         → option_map_or (λ a. if a.number == 1 then [] else chosen_row name e.id a.number ∷ []) o []
         ≡ map (number_row name) (option_map_or (λ a. if a.number == 1 then [] else (e.id, a.number) ∷ []) o [])
+    by None = refl
+    by (Some a) = of a.number (a.number == 1)
+
+-- the row of the number of an id
+abbrev pub row_of : Text → Id → ℕ → List Row
+row_of name id n = if n == 1 then [] else chosen_row name id n ∷ []
+
+-- that of the entry of the id, if there is one
+pub rows_by_number : (name : Text) (id : Id) (o : Option Entry) → IfSome o (λ e. e.id ≡ id)
+    → map (number_row name) (numbers (option_to_list o)) ≡ row_of name id (number_before o)
+rows_by_number name id None here = refl
+rows_by_number name id (Some e) here = rw (← here) (ap (map (number_row name)) (append-nil (number_in e)) ∙ by e.applied)
+  where
+    of : (n : ℕ) (b : Bool)
+        → map (number_row name) (if b then [] else (e.id, n) ∷ [])
+        ≡ (if b then [] else chosen_row name e.id n ∷ [])
+    of n true = refl
+    of n false = refl
+
+    by : (o : Option Applied)
+        → map (number_row name) (option_map_or (λ a. if a.number == 1 then [] else (e.id, a.number) ∷ []) o [])
+        ≡ row_of name e.id (option_map_or (λ a. a.number) o 1)
     by None = refl
     by (Some a) = of a.number (a.number == 1)
 
@@ -109,14 +133,9 @@ numbers_but id (e ∷ entries) = by (bytes_eq e.id id) refl (numbers_but id entr
         ∙ sym (split ∙ ap (λ xs. xs ++ rest) (number_kept id e false same))
 
 -- what the new entries are, but for their order, says what their numbers are
-pub numbers_put : (e : Entry) (olds news : List Entry) → IsPermutation news (e ∷ entries_but e.id olds)
-    → IsPermutation (numbers news) (number_in e ++ filter (λ x. not (bytes_eq x.0 e.id)) (numbers olds))
-numbers_put e olds news same =
-    subst (λ xs. IsPermutation (numbers news) (number_in e ++ xs)) (numbers_but e.id olds)
-    (IsPermutation-flat_map number_in news (e ∷ entries_but e.id olds) same)
-
-pub numbers_left : (id : Id) (olds news : List Entry) → IsPermutation news (entries_but id olds)
-    → IsPermutation (numbers news) (filter (λ x. not (bytes_eq x.0 id)) (numbers olds))
-numbers_left id olds news same =
-    subst (IsPermutation (numbers news)) (numbers_but id olds)
-    (IsPermutation-flat_map number_in news (entries_but id olds) same)
+pub numbers_with : (id : Id) (front olds news : List Entry) → IsPermutation news (front ++ entries_but id olds)
+    → IsPermutation (numbers news) (numbers front ++ filter (λ x. not (bytes_eq x.0 id)) (numbers olds))
+numbers_with id front olds news same =
+    subst (IsPermutation (numbers news))
+    (flat_map-append number_in front (entries_but id olds) ∙ ap (λ xs. numbers front ++ xs) (numbers_but id olds))
+    (IsPermutation-flat_map number_in news (front ++ entries_but id olds) same)

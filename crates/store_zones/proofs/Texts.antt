@@ -7,12 +7,16 @@ use Rattle.sqlite_value.specs.Keys.{joined}
 use Rattle.store_rows.specs.Texts.{PutsIn, PutsByKey, TakesOut}
 use Rattle.store_schema.specs.Tables.{store_schema, zone, entry, chosen, zelem}
 use Rattle.store_zones.specs.Calls.{put_entry, delete_entry, put_chosen, delete_chosen, put_element, delete_element}
-use Rattle.store_zones.specs.Calls.{insert_zone}
+use Rattle.store_zones.specs.Calls.{insert_zone, insert_entry, insert_chosen, insert_element}
 use Rattle.store_rows.proofs.Meant.{puts_in, puts_by_key, takes_out}
 
 pub puts_zone : PutsIn store_schema 6 zone insert_zone
 unfolding understood everything
 puts_zone = puts_in refl refl refl (refl, refl) refl refl
+
+pub adds_entry : PutsIn store_schema 7 entry insert_entry
+unfolding understood everything
+adds_entry = puts_in refl refl refl (refl, refl) refl refl
 
 pub puts_entry : PutsByKey store_schema 7 entry 2 put_entry
 unfolding understood everything
@@ -22,6 +26,10 @@ pub takes_entry : TakesOut store_schema 7 entry 2 delete_entry
 unfolding understood everything same_name joined
 takes_entry = takes_out refl refl refl (refl, refl) (omega arith) (λ olds. refl)
 
+pub adds_chosen : PutsIn store_schema 12 chosen insert_chosen
+unfolding understood everything
+adds_chosen = puts_in refl refl refl (refl, refl) refl refl
+
 pub puts_chosen : PutsByKey store_schema 12 chosen 2 put_chosen
 unfolding understood everything
 puts_chosen = puts_by_key refl refl refl (refl, refl) refl refl refl refl refl (omega arith) (λ olds news. refl)
@@ -29,6 +37,10 @@ puts_chosen = puts_by_key refl refl refl (refl, refl) refl refl refl refl refl (
 pub takes_chosen : TakesOut store_schema 12 chosen 2 delete_chosen
 unfolding understood everything same_name joined
 takes_chosen = takes_out refl refl refl (refl, refl) (omega arith) (λ olds. refl)
+
+pub adds_element : PutsIn store_schema 8 zelem insert_element
+unfolding understood everything
+adds_element = puts_in refl refl refl (refl, refl) refl refl
 
 pub puts_element : PutsByKey store_schema 8 zelem 3 put_element
 unfolding understood everything

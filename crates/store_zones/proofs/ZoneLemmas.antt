@@ -1,10 +1,13 @@
 -- What the tables hold when a zone's entries or elements change.
 use Rattle.std.proofs.Common.{◌≡◌, ◌≢◌, ℕ, List, [], ◌∷◌, ◌++◌, map, filter, Bool, not, ◌&&◌, IsPermutation, refl, sym}
-use Rattle.std.proofs.Common.{ap, ap₂, subst, subst₂, ◌∙◌}
+use Rattle.std.proofs.Common.{ap, ap₂, subst, subst₂, ◌∙◌, Option, None, Some, IfSome, is_some, slice_get}
 use Rattle.std.specs.List.{AllByRecursion, flat_map}
+use Rattle.std.specs.Option.{option_to_list}
 use Rattle.std.specs.Str.{bytes_eq}
 use Rattle.std.proofs.lemmas.List.{map-append}
 use Rattle.std.proofs.lemmas.List.Sorted.{IsPermutation-refl, IsPermutation-map, IsPermutation-middle}
+use Rattle.std.proofs.lemmas.List.Sorted.{IsPermutation-sym, IsPermutation-trans, IsPermutation-cons}
+use Rattle.std.proofs.lemmas.List.Sorted.{IsPermutation-filter_both}
 use Rattle.sqlite.specs.Order.{Row}
 use Rattle.sqlite.specs.Table.{Table}
 use Rattle.sqlite.specs.Effect.{Database}
@@ -13,22 +16,26 @@ use Rattle.terms.specs.declared.kinds.ElemType.{ElemType}
 use Rattle.terms.specs.Types as terms
 use Rattle.terms.specs.Types.{Entry, Element, Zone, NamedZone}
 use Rattle.terms.specs.Spelling.{type_text}
-use Rattle.store_rows.specs.Rows.{Contents, has_key, without, with_row, with_put, in_table, HasContents}
+use Rattle.store_rows.specs.Rows.{Contents, has_key, without, with_row, in_table, HasContents}
 use Rattle.store_rows.proofs.RowLemmas.{filter_same, filter_all, same_rows}
 use Rattle.store_rows.proofs.ContentsLemmas.{permuted}
 use Rattle.store_rows.proofs.Keys.{equals, and_true}
-use Rattle.lemmas.proofs.Texts.{same_itself, other_text}
+use Rattle.lemmas.proofs.Searches.{find_passes, first_kept}
+use Rattle.lemmas.proofs.Texts.{same_from, same_itself, other_text}
 use Rattle.store_rows.proofs.Parts.{map_same, flat_same, changed}
 use Rattle.store_schema.specs.Inventory.{Inventory}
-use Rattle.store_schema.specs.Rows.{zone_row, entry_row, zelem_row, entries_of, zelems_of, chosen_in, chosen_of}
+use Rattle.store_schema.specs.Rows.{zone_row, entry_row, zelem_row, entries_of, zelems_of, chosen_of}
 use Rattle.store_schema.specs.Stands.{rows_of}
 use Rattle.store_schema.specs.Tables.{store_schema, meta, sysmod, ver, ifreq, hold, elem, source, morever, moreif}
 use Rattle.store_schema.specs.Tables.{entry, chosen, zelem, zone as zone_table}
 use Rattle.store_schema.proofs.Spelled.{types_alike}
 use Rattle.store_zones.specs.Keys.{entry_key, element_key}
-use Rattle.store_zones.specs.Zones.{IsZoneChange, is_element, HasPutEntry, HasRemovedEntry}
-use Rattle.store_zones.specs.Zones.{HasPutElement, HasRemovedElement, with_entry, without_entry}
-use Rattle.store_zones.proofs.Numbers.{number_in, numbers, number_row, in_rows, chosen_are, numbers_put, numbers_left}
+use Rattle.store_zones.specs.Numbers.{number_of, number_before}
+use Rattle.store_zones.specs.Zones.{IsZoneChange, HasEntry, is_element, entries_but, elements_but, HasPutEntry}
+use Rattle.store_zones.specs.Zones.{HasRemovedEntry, HasPutElement, HasRemovedElement, numbered, rows_with}
+use Rattle.store_zones.specs.Zones.{with_entry, without_entry, with_element}
+use Rattle.store_zones.proofs.ByNumber.{renumbered}
+use Rattle.store_zones.proofs.Numbers.{numbers, number_row, row_of, chosen_are, rows_by_number, numbers_with}
 
 -- ---- keys
 
@@ -85,6 +92,31 @@ module _ {X : Type 0} (row : terms.Text → X → Row) (name : terms.Text) (key 
       changed (λ (z : NamedZone). map (row z.name) (items z.zone)) (λ r. not (has_key key r)) before
       (record { name = name; zone = old }) (record { name = name; zone = new }) after (map (row name) news)
       (all_left items (before ++ after) others) (subst (IsPermutation (map (row name) (items new))) left mapped)
+
+-- ---- what stood under a key
+
+-- the items are what stood there and the others
+parted : {X : Type 0} (p : X → Bool) (stood : Option X) (xs : List X) → filter p xs ≡ option_to_list stood
+    → IsPermutation xs (option_to_list stood ++ filter (λ x. not (p x)) xs)
+parted p stood xs had =
+    subst (λ front. IsPermutation xs (front ++ filter (λ x. not (p x)) xs)) had
+    (IsPermutation-filter_both p (λ x. not (p x)) (λ x. refl) xs)
+
+-- and it has the key
+of_key : {X : Type 0} (key : X → terms.Id) (k : terms.Id) (stood : Option X) (xs : List X)
+    → filter (λ x. bytes_eq (key x) k) xs ≡ option_to_list stood → IfSome stood (λ x. key x ≡ k)
+of_key key k None xs had = tt
+of_key {X} key k (Some x) xs had =
+    let p : X → Bool = λ y. bytes_eq (key y) k in
+    same_from (key x) k (find_passes p xs x (sym (first_kept p xs) ∙ ap (λ ys. slice_get ys 0) had))
+
+-- a row is put
+row_put : {X : Type 0} (row : X → Row) (key new : Row) (stood : Option X) (olds news : List Row)
+    → IsPermutation olds (map row (option_to_list stood) ++ without key olds)
+    → IsPermutation news (new ∷ without key olds) → IsPermutation news (rows_with (is_some stood) key new olds)
+row_put row key new None olds news had is =
+    IsPermutation-trans _ _ _ is (IsPermutation-cons new _ _ (IsPermutation-sym _ _ had))
+row_put row key new (Some x) olds news had is = is
 
 -- ---- all tables
 
@@ -226,51 +258,81 @@ module _ (i j : Inventory) (name : terms.Text) (was is : Zone) (c : IsZoneChange
       (same_in entries_of (ap (λ z. entries_of (record { name = name; zone = z })) rest))
       (same_in chosen_of (ap (λ z. chosen_of (record { name = name; zone = z })) rest)) (changed_in zelems_of make h)
 
-  numbers_changed : (id : terms.Id) (news : List (terms.Id × ℕ))
-      → IsPermutation (numbers is.entries) (news ++ filter (λ x. not (bytes_eq x.0 id)) (numbers was.entries))
-      → IsPermutation (flat_map chosen_of (c.before ++ new_zone ∷ c.after))
-      (map (number_row name) news ++ without (entry_key name id) (flat_map chosen_of (c.before ++ old_zone ∷ c.after)))
-  numbers_changed id news same =
-      subst₂ IsPermutation (sym (chosen_are (c.before ++ new_zone ∷ c.after)))
-      (ap (λ rows. map (number_row name) news ++ without (entry_key name id) rows)
-      (sym (chosen_are (c.before ++ old_zone ∷ c.after))))
+  -- what `entry` and `chosen` hold of a zone that has these entries of the id and its others
+  entry_rows : (id : terms.Id) (front : List Entry) (zone : Zone)
+      → IsPermutation zone.entries (front ++ entries_but id was.entries)
+      → IsPermutation (flat_map entries_of (c.before ++ record { name = name; zone = zone } ∷ c.after))
+      (map (entry_row name) front ++ without (entry_key name id) (flat_map entries_of (c.before ++ old_zone ∷ c.after)))
+  entry_rows id front zone same =
+      rows_changed entry_row name (entry_key name id) (λ x. bytes_eq x.id id)
+      (λ other x. entry_meets other name id x) (λ z. z.entries) c.before c.after was zone front c.others same
+
+  number_rows : (id : terms.Id) (o : Option Entry) (zone : Zone) → IfSome o (λ e. e.id ≡ id)
+      → IsPermutation zone.entries (option_to_list o ++ entries_but id was.entries)
+      → IsPermutation (flat_map chosen_of (c.before ++ record { name = name; zone = zone } ∷ c.after))
+      (row_of name id (number_before o)
+      ++ without (entry_key name id) (flat_map chosen_of (c.before ++ old_zone ∷ c.after)))
+  number_rows id o zone here same =
+      let front = option_to_list o in
+      let rest = without (entry_key name id) (flat_map chosen_of (c.before ++ old_zone ∷ c.after)) in
+      subst₂ IsPermutation (sym (chosen_are (c.before ++ record { name = name; zone = zone } ∷ c.after)))
+      (ap (λ rows. map (number_row name) (numbers front) ++ without (entry_key name id) rows)
+      (sym (chosen_are (c.before ++ old_zone ∷ c.after)))
+      ∙ ap (λ rows. rows ++ rest) (rows_by_number name id o here))
       (rows_changed number_row name (entry_key name id) (λ x. bytes_eq x.0 id)
-      (λ other x. number_meets other name id x) (λ z. numbers z.entries) c.before c.after was is news c.others same)
+      (λ other x. number_meets other name id x) (λ z. numbers z.entries) c.before c.after was zone (numbers front)
+      c.others (numbers_with id front was.entries zone.entries same))
 
-  pub entry_put : (e : Entry) (db : Database) → HasPutEntry e was is
-      → HasContents store_schema (with_entry name e (rows_of i)) db → HasContents store_schema (rows_of j) db
-  entry_put e db p =
+  -- the number of the id changes
+  numbers_changed : (id : terms.Id) (stood o : Option Entry) → HasEntry id stood was → IfSome o (λ e. e.id ≡ id)
+      → IsPermutation is.entries (option_to_list o ++ entries_but id was.entries)
+      → IsPermutation (flat_map chosen_of (c.before ++ new_zone ∷ c.after))
+      (numbered name id (number_before stood) (number_before o)
+      (flat_map chosen_of (c.before ++ old_zone ∷ c.after)))
+  numbers_changed id stood o had here same =
+      renumbered name id (number_before stood) (number_before o) _ _
+      (number_rows id stood was (of_key (λ (e : Entry). e.id) id stood was.entries had)
+      (parted (λ (e : Entry). bytes_eq e.id id) stood was.entries had)) (number_rows id o is here same)
+
+  pub entry_put : (stood : Option Entry) (e : Entry) (db : Database) → HasPutEntry stood e was is
+      → HasContents store_schema (with_entry name stood e (rows_of i)) db → HasContents store_schema (rows_of j) db
+  entry_put stood e db p =
       let key = entry_key name e.id in
-      permuted store_schema (with_entry name e (rows_of i)) (rows_of j) db
-      (by_entries (λ rows. with_row (entry_row name e) (without key rows))
-      (λ rows. chosen_in name e ++ without key rows) p.rest
-      (rows_changed entry_row name key (λ x. bytes_eq x.id e.id) (λ other x. entry_meets other name e.id x)
-      (λ z. z.entries) c.before c.after was is (e ∷ []) c.others p.entries)
-      (subst (λ news. IsPermutation (flat_map chosen_of (c.before ++ new_zone ∷ c.after))
-      (news ++ without key (flat_map chosen_of (c.before ++ old_zone ∷ c.after)))) (sym (in_rows name e))
-      (numbers_changed e.id (number_in e) (numbers_put e was.entries is.entries p.entries))))
+      permuted store_schema (with_entry name stood e (rows_of i)) (rows_of j) db
+      (by_entries (rows_with (is_some stood) key (entry_row name e))
+      (numbered name e.id (number_before stood) (number_of e)) p.rest
+      (row_put (entry_row name) key (entry_row name e) stood _ _
+      (entry_rows e.id (option_to_list stood) was (parted (λ (x : Entry). bytes_eq x.id e.id) stood was.entries p.was))
+      (entry_rows e.id (e ∷ []) is p.entries))
+      (numbers_changed e.id stood (Some e) p.was refl p.entries))
 
-  pub entry_removed : (id : terms.Id) (db : Database) → HasRemovedEntry id was is
-      → HasContents store_schema (without_entry name id (rows_of i)) db → HasContents store_schema (rows_of j) db
-  entry_removed id db p =
-      let key = entry_key name id in
-      permuted store_schema (without_entry name id (rows_of i)) (rows_of j) db
-      (by_entries (without key) (without key) p.rest
-      (rows_changed entry_row name key (λ x. bytes_eq x.id id) (λ other x. entry_meets other name id x) (λ z. z.entries)
-      c.before c.after was is [] c.others p.entries)
-      (numbers_changed id [] (numbers_left id was.entries is.entries p.entries)))
+  pub entry_removed : (stood : Option Entry) (id : terms.Id) (db : Database) → HasRemovedEntry stood id was is
+      → HasContents store_schema (without_entry name stood id (rows_of i)) db → HasContents store_schema (rows_of j) db
+  entry_removed stood id db p =
+      permuted store_schema (without_entry name stood id (rows_of i)) (rows_of j) db
+      (by_entries (without (entry_key name id)) (numbered name id (number_before stood) 1) p.rest
+      (entry_rows id [] is p.entries) (numbers_changed id stood None p.was tt p.entries))
 
-  pub element_put : (e : Element) (db : Database) → HasPutElement e was is
-      → HasContents store_schema (with_put zelem (element_key name e.elem_type e.name) (zelem_row name e) (rows_of i))
-      db
-      → HasContents store_schema (rows_of j) db
-  element_put e db p =
+  -- what `zelem` holds of a zone that has these elements of the type and name and its others
+  element_rows : (type : ElemType) (x : terms.Text) (front : List Element) (zone : Zone)
+      → IsPermutation zone.elements (front ++ elements_but type x was.elements)
+      → IsPermutation (flat_map zelems_of (c.before ++ record { name = name; zone = zone } ∷ c.after))
+      (map (zelem_row name) front
+      ++ without (element_key name type x) (flat_map zelems_of (c.before ++ old_zone ∷ c.after)))
+  element_rows type x front zone same =
+      rows_changed zelem_row name (element_key name type x) (is_element type x)
+      (λ other y. element_meets other name type x y) (λ z. z.elements) c.before c.after was zone front c.others same
+
+  pub element_put : (stood : Option Element) (e : Element) (db : Database) → HasPutElement stood e was is
+      → HasContents store_schema (with_element name stood e (rows_of i)) db → HasContents store_schema (rows_of j) db
+  element_put stood e db p =
       let key = element_key name e.elem_type e.name in
-      permuted store_schema (with_put zelem key (zelem_row name e) (rows_of i)) (rows_of j) db
-      (by_elements (λ rows. with_row (zelem_row name e) (without key rows)) p.rest
-      (rows_changed zelem_row name key (is_element e.elem_type e.name)
-      (λ other x. element_meets other name e.elem_type e.name x) (λ z. z.elements) c.before c.after was is (e ∷ [])
-      c.others p.elements))
+      permuted store_schema (with_element name stood e (rows_of i)) (rows_of j) db
+      (by_elements (rows_with (is_some stood) key (zelem_row name e)) p.rest
+      (row_put (zelem_row name) key (zelem_row name e) stood _ _
+      (element_rows e.elem_type e.name (option_to_list stood) was
+      (parted (is_element e.elem_type e.name) stood was.elements p.was))
+      (element_rows e.elem_type e.name (e ∷ []) is p.elements)))
 
   pub element_removed : (type : ElemType) (x : terms.Text) (db : Database) → HasRemovedElement type x was is
       → HasContents store_schema (in_table zelem (without (element_key name type x)) (rows_of i)) db
@@ -278,9 +340,7 @@ module _ (i j : Inventory) (name : terms.Text) (was is : Zone) (c : IsZoneChange
   element_removed type x db p =
       let key = element_key name type x in
       permuted store_schema (in_table zelem (without key) (rows_of i)) (rows_of j) db
-      (by_elements (without key) p.rest
-      (rows_changed zelem_row name key (is_element type x) (λ other y. element_meets other name type x y)
-      (λ z. z.elements) c.before c.after was is [] c.others p.elements))
+      (by_elements (without key) p.rest (element_rows type x [] is p.elements))
 
 -- ---- one more zone
 

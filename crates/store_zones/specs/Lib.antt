@@ -1,3 +1,4 @@
 pub mod Calls
 pub mod Keys
+pub mod Numbers
 pub mod Zones

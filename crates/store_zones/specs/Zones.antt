@@ -1,32 +1,49 @@
 -- What a change of one zone's entries or elements makes of the inventory.
-use Rattle.std.specs.Prelude.{◌≡◌, ◌≢◌, ◌&&◌, ◌==◌, not, Bool, List, ◌∷◌, ◌++◌, filter, Option, [], IsPermutation}
+use Rattle.std.specs.Prelude.{◌≡◌, ◌≢◌, ◌&&◌, ◌==◌, not, ℕ, Bool, List, ◌∷◌, ◌++◌, filter, Option, [], is_some}
+use Rattle.std.specs.Prelude.{IsPermutation, if◌then◌else◌}
 use Rattle.std.specs.List.{AllByRecursion}
+use Rattle.std.specs.Option.{option_to_list}
 use Rattle.std.specs.Str.{bytes_eq}
 use Rattle.sqlite.specs.Store.{Ghosts}
 use Rattle.sqlite.specs.Held.{Held}
+use Rattle.sqlite.specs.Order.{Row}
 use Rattle.terms.specs.declared.kinds.ElemType.{ElemType}
 use Rattle.terms.specs.declared.kinds.ZoneKind.{ZoneKind}
 use Rattle.terms.specs.Types.{Text, Id, type_number, Entry, Element, Global, Zone, NamedZone}
 use Rattle.store_rows.specs.Inside.{Leads}
-use Rattle.store_rows.specs.Rows.{Contents, HasContents, in_table, without, with_put}
+use Rattle.store_rows.specs.Rows.{Contents, HasContents, in_table, without}
 use Rattle.store_schema.specs.Inventory.{Inventory}
-use Rattle.store_schema.specs.Rows.{entry_row, chosen_in}
+use Rattle.store_schema.specs.Rows.{entry_row, chosen_row, zelem_row}
 use Rattle.store_schema.specs.Stands.{rows_of}
-use Rattle.store_schema.specs.Tables.{entry, chosen, store_schema}
-use Rattle.store_zones.specs.Keys.{entry_key}
+use Rattle.store_schema.specs.Tables.{entry, chosen, zelem, store_schema}
+use Rattle.store_zones.specs.Keys.{entry_key, element_key}
+use Rattle.store_zones.specs.Numbers.{number_of, number_before}
 
--- `chosen` has the row of the entry, if it has one, in place of that of its id
-abbrev pub with_number : Text → Entry → Contents → Contents
-with_number zone e = in_table chosen (λ rows. chosen_in zone e ++ without (entry_key zone e.id) rows)
+-- one more row, in place of those of its key where one stood
+abbrev pub rows_with : Bool → Row → Row → List Row → List Row
+rows_with stood key row rows = row ∷ (if stood then without key rows else rows)
 
--- and so has `entry`
-abbrev pub with_entry : Text → Entry → Contents → Contents
-with_entry zone e contents = with_number zone e (with_put entry (entry_key zone e.id) (entry_row zone e) contents)
+-- what `chosen` holds when the number of the entry of this id has become another
+abbrev pub numbered : Text → Id → ℕ → ℕ → List Row → List Row
+numbered zone id old new rows =
+    if new == old then rows else if new == 1 then without (entry_key zone id) rows
+    else rows_with (not (old == 1)) (entry_key zone id) (chosen_row zone id new) rows
+
+-- `entry` has the row of the entry, and `chosen` its number
+abbrev pub with_entry : Text → Option Entry → Entry → Contents → Contents
+with_entry zone stood e contents =
+    in_table chosen (numbered zone e.id (number_before stood) (number_of e))
+    (in_table entry (rows_with (is_some stood) (entry_key zone e.id) (entry_row zone e)) contents)
 
 -- neither has a row of the id
-abbrev pub without_entry : Text → Id → Contents → Contents
-without_entry zone id contents =
-    in_table chosen (without (entry_key zone id)) (in_table entry (without (entry_key zone id)) contents)
+abbrev pub without_entry : Text → Option Entry → Id → Contents → Contents
+without_entry zone stood id contents =
+    in_table chosen (numbered zone id (number_before stood) 1) (in_table entry (without (entry_key zone id)) contents)
+
+-- `zelem` has the row of the element
+abbrev pub with_element : Text → Option Element → Element → Contents → Contents
+with_element zone stood e =
+    in_table zelem (rows_with (is_some stood) (element_key zone e.elem_type e.name) (zelem_row zone e))
 
 -- The zone of this name becomes another. No other zone has the name, and nothing else changes.
 pub record IsZoneChange (name : Text) (old new : Zone) (i j : Inventory) : Type 0 where
@@ -36,6 +53,10 @@ pub record IsZoneChange (name : Text) (old new : Zone) (i j : Inventory) : Type 
   pub is : j ≡ record { global = i.global; zones = before ++ record { name = name; zone = new } ∷ after }
   pub others : AllByRecursion (λ z. z.name ≢ name) (before ++ after)
 
+-- the zone has this entry of the id and no other of it, or none
+abbrev pub HasEntry : Id → Option Entry → Zone → Type 0
+HasEntry id stood zone = filter (λ e. bytes_eq e.id id) zone.entries ≡ option_to_list stood
+
 -- the entries of other ids
 abbrev pub entries_but : Id → List Entry → List Entry
 entries_but id entries = filter (λ e. not (bytes_eq e.id id)) entries
@@ -44,22 +65,29 @@ entries_but id entries = filter (λ e. not (bytes_eq e.id id)) entries
 abbrev pub is_element : ElemType → Text → Element → Bool
 is_element type name e = (type_number e.elem_type == type_number type) && bytes_eq e.name name
 
+-- the zone has this element of the type and name and no other of it, or none
+abbrev pub HasElement : ElemType → Text → Option Element → Zone → Type 0
+HasElement type name stood zone = filter (is_element type name) zone.elements ≡ option_to_list stood
+
 -- the elements of other types and names
 abbrev pub elements_but : ElemType → Text → List Element → List Element
 elements_but type name elements = filter (λ e. not (is_element type name e)) elements
 
--- the entry in place of the one of its id; what order they are in is left open
-pub record HasPutEntry (put : Entry) (old new : Zone) : Type 0 where
+-- the entry in place of the one of its id, which is this; what order they are in is left open
+pub record HasPutEntry (stood : Option Entry) (put : Entry) (old new : Zone) : Type 0 where
+  pub was : HasEntry put.id stood old
   pub rest : new ≡ record old { entries = new.entries }
   pub entries : IsPermutation new.entries (put ∷ entries_but put.id old.entries)
 
--- no entry of the id
-pub record HasRemovedEntry (id : Id) (old new : Zone) : Type 0 where
+-- no entry of the id, where this was there
+pub record HasRemovedEntry (stood : Option Entry) (id : Id) (old new : Zone) : Type 0 where
+  pub was : HasEntry id stood old
   pub rest : new ≡ record old { entries = new.entries }
   pub entries : IsPermutation new.entries (entries_but id old.entries)
 
--- the element in place of the one of its type and name
-pub record HasPutElement (element : Element) (old new : Zone) : Type 0 where
+-- the element in place of the one of its type and name, which is this
+pub record HasPutElement (stood : Option Element) (element : Element) (old new : Zone) : Type 0 where
+  pub was : HasElement element.elem_type element.name stood old
   pub rest : new ≡ record old { elements = new.elements }
   pub elements : IsPermutation new.elements (element ∷ elements_but element.elem_type element.name old.elements)
 

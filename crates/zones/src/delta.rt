@@ -5,11 +5,9 @@ ghost use Rattle.std.specs.Cmp.Lexicographic.{slice_cmp};
 ghost use Rattle.sorted.specs.declared.edits.Edit.TheVariants.{Put, Remove};
 ghost use Rattle.terms.specs.Lookups.{element_cmp, element_key, has_content, waives_applied};
 ghost use Rattle.terms.specs.Rising.{with_item};
-ghost use Rattle.zones.specs.Delta.{IsChanged};
 ghost use Rattle.sorted.specs.Edits.{edit_key};
 
 use crate::entries::{Element, Entry};
-use crate::zone::Zone;
 use fields::{Attest, Id, Name};
 use sorted::{Edit, Table};
 use std::alloc::{AllocError, Global};
@@ -136,14 +134,5 @@ impl ZoneDelta {
     {
         self.elements.put(Edit::Remove((elem_type, name)))?;
         Ok(())
-    }
-
-    /// Changes the zone: what the delta puts comes in, and what it removes goes. Only what it puts is copied, in time
-    /// that goes with the size of both. The error comes where memory runs out, and changes nothing.
-    pub fn apply(&self, alloc: Global, zone: &mut Zone) -> Result<(), AllocError>
-        ensures ok { OnOk result (IsChanged self.now zone.old zone.new) }
-        ensures err { OnErr result (zone.new ≡ zone.old) }
-    {
-        zone.change(alloc, self)
     }
 }

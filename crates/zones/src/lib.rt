@@ -11,4 +11,4 @@ mod zone;
 pub use delta::ZoneDelta;
 pub use entries::{Applied, Element, Entry};
 pub use equal::{are_same, is_element, is_same_entry};
-pub use zone::Zone;
+pub use zone::{PreparedZone, Zone};

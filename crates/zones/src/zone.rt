@@ -1,5 +1,6 @@
 //! A zone: a map from ids to entries, and one from types and names to elements.
-ghost use Rattle.std.specs.Prelude.{◌≡◌, ◌↔◌, [], All, IsTrue, IsSome, IfSome, OnOk, OnErr, is_some, option_copied};
+ghost use Rattle.std.specs.Prelude.{◌≡◌, ◌↔◌, [], All, IsTrue, IsSome, IfSome, IfOk, is_some, option_copied};
+ghost use Rattle.zones.specs.Changed.{HasRoom, IsReady, delta_of};
 ghost use Rattle.zones.specs.Delta.{IsChanged};
 ghost use Rattle.terms.specs.Types.{a_zone, is_target};
 ghost use Rattle.terms.specs.Lookups.{IsRising, entry_of, element_of, applied_of, is_applied, is_supplied};
@@ -8,7 +9,7 @@ ghost use Rattle.terms.specs.Lookups.{has_content, waives_applied};
 use crate::delta::ZoneDelta;
 use crate::entries::{Applied, Element, Entry};
 use fields::{Attest, Id, Name, Srel, ZoneName};
-use sorted::Table;
+use sorted::{Prepared, Table};
 use std::alloc::{AllocError, Global};
 use std::marker::Model;
 use terms::{ElemType, ZoneKind};
@@ -41,6 +42,24 @@ impl Model for Zone {
     ghost invariant = { λ z. All (λ e. IsTrue (has_content e)) z.entries
         × All (λ e. IsTrue (waives_applied e)) z.entries
         × (is_some z.related ≡ is_target z.kind) };
+}
+
+/// A change of a zone that can be made without memory.
+#[derive(Drop)]
+pub struct PreparedZone {
+    entries: Prepared<Entry>,
+    elements: Prepared<Element>,
+}
+
+impl Model for PreparedZone {
+    ghost use Rattle.zones.specs.Changed.{PreparedDelta, delta_of};
+    ghost use Rattle.zones.specs.Delta.{IsDelta};
+
+    ghost Value = { PreparedDelta };
+
+    ghost view = { λ p. record { entries = p.entries; elements = p.elements } };
+
+    ghost invariant = { λ p. IsDelta (delta_of (record { entries = p.entries; elements = p.elements })) };
 }
 
 impl Attest for Zone {
@@ -179,18 +198,28 @@ impl Zone {
         }
     }
 
-    /// Changes the zone as the delta says. All that takes memory comes first.
-    pub(crate) fn change(&mut self, alloc: Global, delta: &ZoneDelta) -> Result<(), AllocError>
-        ensures ok { OnOk result (IsChanged delta.now self.old self.new) }
-        ensures err { OnErr result (self.new ≡ self.old) }
+    /// Memory for this change of the zone: `edit` takes none then. Only what the delta puts is copied. The error comes
+    /// where memory runs out.
+    pub fn prepare(&self, alloc: Global, delta: &ZoneDelta) -> Result<PreparedZone, AllocError>
+        ensures { IfOk result (IsReady self.now delta.now) }
     {
         delta.attest();
+        Ok(PreparedZone {
+            entries: self.entries.prepare(alloc, delta.entry_edits())?,
+            elements: self.elements.prepare(alloc, delta.element_edits())?,
+        })
+    }
+
+    /// Changes the zone: what the delta puts comes in, and what it removes goes, in time that goes with the size of
+    /// both.
+    pub fn edit(&mut self, prepared: PreparedZone)
+        requires { HasRoom self.old prepared }
+        ensures { IsChanged (delta_of prepared) self.old self.new }
+    {
         self.attest();
-        let entries = self.entries.prepare(alloc, delta.entry_edits())?;
-        let elements = self.elements.prepare(alloc, delta.element_edits())?;
+        let PreparedZone { entries, elements } = prepared;
         self.entries.edit(entries);
         self.elements.edit(elements);
-        Ok(())
     }
 }
 

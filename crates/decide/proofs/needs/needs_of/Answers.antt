@@ -1,9 +1,19 @@
-use Rattle.decide.proofs.EachKind.{all_kinds}
+use Rattle.std.proofs.Common.{◌≡◌, ◌∙◌, sym, ap, map, subst, rules}
+use Rattle.std.specs.Prelude.{IfOk}
+use Rattle.std.proofs.lemmas.Simd.{map-map}
+use Rattle.std.proofs.lemmas.Result.{IfOk-weaker}
+use Rattle.decide.specs.Open.{AreEachOnce, AreNeedsOf}
+use Rattle.decide.specs.Views.{need_view}
+use Rattle.decide.proofs.EachKind.{are_needs, open_need}
 use Rattle.decide.proofs.needs.needs_of.Goals as goal
 
 pub returns : goal.returns
 returns c =
-    all_kinds c.args.unserved.now _ _ _ _ _ _ _ _ (rw c.new-needs.ensures.items at c.in_ok-add_kind.ensures)
-    c.in_ok-add_kind-2.ensures c.in_ok-add_kind-3.ensures
-    c.in_ok-add_kind-4.ensures c.in_ok-add_kind-5.ensures c.in_ok-add_kind-6.ensures c.in_ok-add_kind-7.ensures
-    c.in_ok-add_kind-8.ensures
+    let row = c.args.unserved.now in
+    let once = c.each_once.result.items in
+    let made : IfOk c.collect.result (λ found. found.items ≡ map open_need once) = search rules in
+    let needs = are_needs row once (subst (λ l. AreEachOnce l once) c.in_ok-from_slice.ensures.items
+    c.each_once.ensures) in
+    IfOk-weaker c.collect.result (λ found. found.items ≡ map open_need once)
+    (λ found. AreNeedsOf row (map need_view found.items))
+    (λ found is. subst (AreNeedsOf row) (sym (ap (map need_view) is ∙ map-map need_view open_need once)) needs) made

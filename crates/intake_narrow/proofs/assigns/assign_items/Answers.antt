@@ -8,7 +8,8 @@ pub loop-assign-preserved : goal.loop-assign-preserved
 loop-assign-preserved c =
     let at = c.loop-assign in
     let x = c.in-Some.assign in
-    let steps : into_iter_items at.assign-iterator ≡ x ∷ into_iter_items c.next.new.self = c.in-Some.ensures.steps.0 in (
+    let steps : into_iter_items at.assign-iterator ≡ x ∷ into_iter_items c.next.new.self =
+    c.in-Some.ensures.steps.0 in (
       append_assoc at.yielded (x ∷ []) _ ∙ rw (← steps) at.invariant.0,
       c.in_ok-push.ensures.items ∙ ap (λ xs. xs ++ item.Assign x ∷ []) at.invariant.1
           ∙ sym (map-append item.Assign at.yielded (x ∷ [])),

@@ -2,7 +2,7 @@ use Rattle.std.proofs.Common.{subst, subst₂, sym, ◌∙◌}
 use Rattle.std.specs.Prelude.{All}
 use Rattle.std.specs.List.{flat_map}
 use Rattle.intake_wide.specs.declared.items.WideFile.{WideFile}
-use Rattle.intake_narrow.specs.NoLooser.{IsCarriedOf}
+use Rattle.intake_narrow.specs.Carried.{IsCarriedOf}
 use Rattle.intake_narrow.specs.Holds.{AreHeld}
 use Rattle.intake_narrow.specs.Gathered.{placed_items}
 use Rattle.intake_narrow.proofs.GatheredMore.{carried_assigns, held_in_order}

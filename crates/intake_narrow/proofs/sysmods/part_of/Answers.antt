@@ -2,7 +2,7 @@ use Rattle.std.proofs.Common.{[], subst}
 use Rattle.std.specs.Prelude.{All}
 use Rattle.intake_narrow.specs.Holds.{IsHeldBy}
 use Rattle.intake_narrow.specs.Gathered.{placed_items}
-use Rattle.intake_narrow.proofs.Whole.{with_its_holds}
+use Rattle.intake_narrow.proofs.WithHolds.{with_its_holds}
 use Rattle.intake_narrow.proofs.sysmods.part_of.Goals as goal
 
 pub returns-in_default : goal.returns-in_default

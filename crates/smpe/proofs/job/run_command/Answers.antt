@@ -1,4 +1,4 @@
-use Rattle.std.proofs.Common.{[], ◌∷◌, Err, refl, sym, ap, subst}
+use Rattle.std.proofs.Common.{[], ◌∷◌, Err, sym, ap, subst}
 use Rattle.machine.specs.Machine.{Perform, Performs}
 use Rattle.cntl.specs.Views.{command_of}
 use Rattle.report.specs.Views.{outcome_view}

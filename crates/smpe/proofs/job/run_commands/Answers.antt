@@ -1,10 +1,11 @@
-use Rattle.std.proofs.Common.{◌∷◌, [], ◌+◌, ◌∙◌, map, take, drop, ◌++◌, sym, subst, max, Ok, arith}
+use Rattle.std.proofs.Common.{◌∷◌, [], ◌+◌, map, take, drop, ◌++◌, sym, subst, max, Ok, arith}
 use Rattle.std.proofs.lemmas.List.{take_all}
 use Rattle.cntl.specs.Views.{command_of}
 use Rattle.smpe.specs.Ending.{EndsEarly}
 use Rattle.machine.specs.Machine.{Perform}
 use Rattle.smpe.specs.Commands.{EndsCommands}
 use Rattle.smpe.specs.Course.{Passed, GoesEarly}
+use Rattle.smpe.proofs.Early.{follows_on}
 use Rattle.smpe.proofs.Taken.{taken_more, taken_split}
 use Rattle.smpe.proofs.Commanding.{commands_err, commands_more, commands_stop, commands_early}
 use Rattle.smpe.proofs.Coursing.{commands_passed, early_commands, goes_early}
@@ -12,9 +13,8 @@ use Rattle.smpe.proofs.job.run_commands.Goals as goal
 
 pub loop-command-preserved : goal.loop-command-preserved
 loop-command-preserved g c = record {
-  clean = λ clean. c.loop-command.invariant.clean (c.run_command.ensures.clean clean);
-  faults = omega (arith, c.loop-command.invariant.faults, c.run_command.ensures.faults);
-  limit = c.run_command.ensures.limit ∙ c.loop-command.invariant.limit;
+  follows = follows_on g.S.Store c.args.store.now c.loop-command.store c.run_command.new.store
+      c.loop-command.invariant.follows c.run_command.ensures.follows;
   ran = λ clean s is keeps.
       let done = map command_of (take c.loop-command.command-index c.args.commands.now) in
       let old = g.W.Sink.taken c.args.w.now in
@@ -30,7 +30,7 @@ loop-command-preserved g c = record {
       c.loop-command.session c.run_command.new.session
       done (command_of c.command-item.result ∷ []) old (g.W.Sink.taken c.loop-command.w) new c.loop-command.code
       c.in_ok-next.next
-      (c.loop-command.invariant.ran (c.run_command.ensures.clean clean) s is keeps)
+      (c.loop-command.invariant.ran (c.run_command.ensures.follows.clean clean) s is keeps)
       (λ t at stands. c.in_ok-next.ensures.ended clean t at stands)));
   course =
       let done = map command_of (take c.loop-command.command-index c.args.commands.now) in
@@ -67,8 +67,8 @@ returns-in_err-next-clause-ended g c clean s is keeps =
     c.loop-command.session
     c.run_command.new.session
     done (command_of c.command-item.result ∷ []) old (g.W.Sink.taken c.loop-command.w) new c.loop-command.code error
-    (c.loop-command.invariant.faults, c.loop-command.invariant.limit)
-    (c.loop-command.invariant.ran (c.run_command.ensures.clean clean) s is keeps)
+    (c.loop-command.invariant.follows.faults, c.loop-command.invariant.follows.limit)
+    (c.loop-command.invariant.ran (c.run_command.ensures.follows.clean clean) s is keeps)
     (λ t session stands. c.in_err-next.ensures.ended clean t session stands))))
 
 pub returns-in_err-next-clause-course : goal.returns-in_err-next-clause-course

@@ -1,4 +1,4 @@
-use Rattle.std.proofs.Common.{◌≡◌, ◌≤◌, false, map, take, Ok}
+use Rattle.std.proofs.Common.{◌≡◌, false, map, take, Ok}
 use Rattle.sqlite.specs.Held.{state}
 use Rattle.sqlite.specs.State.{HasCleanDisk}
 use Rattle.machine.specs.State.{State}
@@ -8,13 +8,12 @@ use Rattle.smpe_zones.specs.Kept.{Keeps}
 use Rattle.machine.specs.Machine.{Perform}
 use Rattle.smpe.specs.Commands.{EndsCommands}
 use Rattle.smpe.specs.Course.{Passed}
+use Rattle.smpe.specs.Ending.{Follows}
 use Rattle.smpe.proofs.job.run_commands.Given as goal
 
 abbrev pub invariant-loop-command : goal.invariant-loop-command
 invariant-loop-command g l = record {
-  clean : HasCleanDisk (state g.S.Store l.store) → HasCleanDisk (state g.S.Store l.fn.store);
-  faults : (state g.S.Store l.fn.store).faults ≤ (state g.S.Store l.store).faults;
-  limit : l.store.step_limit ≡ l.fn.store.step_limit;
+  follows : Follows g.S.Store l.fn.store l.store;
   ran : HasCleanDisk (state g.S.Store l.store) → (s : State) → IsSessionOf s l.fn.session → Keeps g.S.Store l.fn.store s
       →
       EndsCommands g.S.Store l.fn.store l.store s l.session l.fn.date l.fn.files (map command_of (take l.command-index

@@ -62,7 +62,7 @@ returns-in_err-session-clause-ended g c clean s keeps =
 
 pub returns-clause-ended : goal.returns-clause-ended
 returns-clause-ended g c clean s keeps =
-    let loaded = c.in_ok-session.ensures.ended (c.run_commands.ensures.clean clean) s keeps in
+    let loaded = c.in_ok-session.ensures.ended (c.run_commands.ensures.follows.clean clean) s keeps in
     let old = g.W.Sink.taken c.args.w.now in
     let new = g.W.Sink.taken c.run_commands.new.w in
     begun g.S.Store c.args.store.now c.run_commands.new.store s c.args.date c.args.cntl.now
@@ -96,7 +96,7 @@ returns-in_err-session-clause-closed g c clean s keeps closed =
 pub returns-clause-closed : goal.returns-clause-closed
 returns-clause-closed g c clean s keeps closed =
     job_closed g.S.Store c.args.store.now c.run_commands.new.store s
-    (c.begin.ensures.clean (c.run_commands.ensures.clean clean)) clean keeps closed
+    (c.begin.ensures.clean (c.run_commands.ensures.follows.clean clean)) clean keeps closed
     (RunFiles c.args.date c.args.cntl.now (record { ptfin = c.args.ptfin.now; holds = c.args.hold.now }))
     (g.W.Sink.taken c.args.w.now) (g.W.Sink.taken c.run_commands.new.w) Code c.run_commands.result c.attest.ensures
     (returns-clause-ended g c clean s keeps)

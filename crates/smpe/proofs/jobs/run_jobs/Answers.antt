@@ -2,7 +2,7 @@ use Rattle.std.proofs.Common.{◌∷◌, [], ◌++◌, ◌+◌, map, take, drop,
 use Rattle.std.proofs.lemmas.List.{map-append, take_all}
 use Rattle.smpe.specs.declared.error.JobError.TheVariants.{Memory}
 use Rattle.smpe.specs.Ending.{EndsAmong, EndsJobs, job_of, answer_of}
-use Rattle.smpe.proofs.Early.{ends_unbegun}
+use Rattle.smpe.proofs.Early.{ends_unbegun, follows_itself, follows_on}
 use Rattle.smpe.proofs.Taken.{taken_more, taken_split}
 use Rattle.smpe.proofs.Listing.{jobs_err, jobs_more, jobs_stop}
 use Rattle.smpe.proofs.Closing.{keeps_closed, closed_now}
@@ -32,8 +32,8 @@ returns-in_err-answer-clause-ended g c clean s keeps =
     (jobs_stop g.S.Store s c.args.store.now c.loop-job.store at done (job_of c.job-item.result) old (g.W.Sink.taken
     c.loop-job.w) new
     (map answer_of c.loop-job.answers.items) rest error
-    (c.loop-job.invariant.faults, c.loop-job.invariant.limit)
-    (c.loop-job.invariant.ran (c.run_one.ensures.clean clean) s keeps)
+    (c.loop-job.invariant.follows.faults, c.loop-job.invariant.follows.limit)
+    (c.loop-job.invariant.ran (c.run_one.ensures.follows.clean clean) s keeps)
     (λ t stands. c.in_err-answer.ensures.ended clean t stands)))
 
 pub loop-job-preserved : goal.loop-job-preserved
@@ -41,9 +41,8 @@ loop-job-preserved g c =
     let pushed = rw c.unwrap.ensures at c.push.ensures.items in
     let counted = rw c.unwrap.ensures at c.push.ensures.len in
     record {
-      clean = λ clean. c.loop-job.invariant.clean (c.run_one.ensures.clean clean);
-      faults = omega (arith, c.loop-job.invariant.faults, c.run_one.ensures.faults);
-      limit = c.run_one.ensures.limit ∙ c.loop-job.invariant.limit;
+      follows = follows_on g.S.Store c.args.store.now c.loop-job.store c.run_one.new.store
+          c.loop-job.invariant.follows c.run_one.ensures.follows;
       ran = λ clean s keeps.
           let done = map job_of (take c.loop-job.job-index c.args.jobs.now) in
           let at = c.run_one.new.store in
@@ -62,7 +61,7 @@ loop-job-preserved g c =
           (jobs_more g.S.Store s c.args.store.now c.loop-job.store at done (job_of c.job-item.result) old
           (g.W.Sink.taken c.loop-job.w)
           new answers answer
-          (c.loop-job.invariant.ran (c.run_one.ensures.clean clean) s keeps)
+          (c.loop-job.invariant.ran (c.run_one.ensures.follows.clean clean) s keeps)
           (λ t stands. c.in_ok-answer.ensures.ended clean t stands)));
       course =
           let done = map job_of (take c.loop-job.job-index c.args.jobs.now) in
@@ -74,7 +73,7 @@ loop-job-preserved g c =
           (went_more g.S.Store c.args.store.now c.loop-job.store c.run_one.new.store done (job_of c.job-item.result) old
           (g.W.Sink.taken c.loop-job.w) new c.loop-job.invariant.course c.in_ok-answer.ensures.course);
       closed = λ clean s keeps closed.
-          let was = c.run_one.ensures.clean clean in
+          let was = c.run_one.ensures.follows.clean clean in
           let ran = c.loop-job.invariant.ran was s keeps in
           c.run_one.ensures.closed clean ran.0 ran.3
           (closed_now g.S.Store c.loop-job.store was ran.0 ran.3 (c.loop-job.invariant.closed was s keeps closed));
@@ -85,9 +84,7 @@ loop-job-preserved g c =
 
 pub loop-job-init : goal.loop-job-init
 loop-job-init g c = record {
-  clean = search rules;
-  faults = omega arith;
-  limit = refl;
+  follows = follows_itself g.S.Store c.args.store.now;
   ran = search rules;
   course = ([], refl, passed_none g.S.Store c.args.store.now (g.W.Sink.taken c.args.w.now));
   closed = λ clean s keeps closed. keeps_closed g.S.Store c.args.store.now clean s keeps closed;
@@ -102,7 +99,7 @@ returns-in_err-answers-clause-closed g c clean s keeps closed =
 
 pub returns-in_err-answer-clause-closed : goal.returns-in_err-answer-clause-closed
 returns-in_err-answer-clause-closed g c clean s keeps closed =
-    let was = c.run_one.ensures.clean clean in
+    let was = c.run_one.ensures.follows.clean clean in
     let ran = c.loop-job.invariant.ran was s keeps in
     c.run_one.ensures.closed clean ran.0 ran.3
     (closed_now g.S.Store c.loop-job.store was ran.0 ran.3 (c.loop-job.invariant.closed was s keeps closed))

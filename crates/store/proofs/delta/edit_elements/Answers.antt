@@ -15,18 +15,18 @@ loop-edit-preserved g c =
     record {
       same_reference = c.edit_element.ensures.same_reference ∙ c.loop-edit.invariant.same_reference;
       inside = stays_then g.S.Store old mid new c.loop-edit.invariant.inside c.edit_element.ensures.inside;
-      calls = one_more g.S.Store (element_calls c.args.zone) c.args.edits.now c.loop-edit.edit-index old mid new _
+      calls = one_more g.S.Store (element_calls c.args.name c.args.zone.now) c.args.edits.now c.loop-edit.edit-index old mid new _
           (omega arith)
           c.edit-item.is c.loop-edit.invariant.inside c.edit_element.ensures.inside c.loop-edit.invariant.calls
           c.in_ok-edit_element.was c.edit_element.ensures.calls;
-      changes = elements_go_on g.S.Store c.args.zone old mid new c.args.edits.now c.loop-edit.edit-index _ (omega arith)
+      changes = elements_go_on g.S.Store c.args.name c.args.zone.now old mid new c.args.edits.now c.loop-edit.edit-index _ (omega arith)
           c.edit-item.is
           c.edit_element.ensures.inside c.loop-edit.invariant.changes c.in_ok-edit_element.ensures.ok;
     }
 
 pub returns-clause-calls : goal.returns-clause-calls
 returns-clause-calls g c =
-    all_written g.S.Store (element_calls c.args.zone) c.args.edits.now c.loop-edit.edit-index _ _ (omega arith)
+    all_written g.S.Store (element_calls c.args.name c.args.zone.now) c.args.edits.now c.loop-edit.edit-index _ _ (omega arith)
     c.loop-edit.invariant.calls
 
 pub returns-clause-ok : goal.returns-clause-ok
@@ -35,7 +35,7 @@ returns-clause-ok g c =
 
 pub returns-in_err-edit_element-clause-calls : goal.returns-in_err-edit_element-clause-calls
 returns-in_err-edit_element-clause-calls g c =
-    one_failed g.S.Store (element_calls c.args.zone) c.args.edits.now c.loop-edit.edit-index c.args.tx.now.conn.now
+    one_failed g.S.Store (element_calls c.args.name c.args.zone.now) c.args.edits.now c.loop-edit.edit-index c.args.tx.now.conn.now
     c.loop-edit.tx.conn.now
     c.edit_element.new.tx.conn.now c.edit_element.result c.from_residual.result _ (omega arith) c.edit-item.is
     c.loop-edit.invariant.inside c.edit_element.ensures.inside c.loop-edit.invariant.calls (search rules)

@@ -4,14 +4,15 @@ use Rattle.store_rows.specs.Calls.{RunsInside}
 use Rattle.store_rows.specs.Inside.{StaysInside}
 use Rattle.store.specs.Calls.{element_calls}
 use Rattle.store_zones.specs.Zones.{ChangesZone}
-use Rattle.store.specs.Writes.{HasEditedElements}
+use Rattle.store.specs.Writes.{EditsElements}
 use Rattle.store.proofs.delta.edit_elements.Given as goal
 
 abbrev pub invariant-loop-edit : goal.invariant-loop-edit
 invariant-loop-edit g l = record {
   same_reference : l.tx.conn.ghost_name ≡ l.fn.tx.conn.ghost_name;
   inside : StaysInside g.S.Store l.fn.tx.conn.now l.tx.conn.now;
-  calls : RunsInside g.S.Store (flat_map (element_calls l.zone) (take l.edit-index l.edits)) l.fn.tx.conn.now
+  calls : RunsInside g.S.Store (flat_map (element_calls l.name l.zone) (take l.edit-index l.edits)) l.fn.tx.conn.now
       l.tx.conn.now {X = Unit {0}} (Ok tt);
-  changes : ChangesZone g.S.Store l.fn.tx.conn.now l.tx.conn.now l.zone (HasEditedElements (take l.edit-index l.edits));
+  changes : ChangesZone g.S.Store l.fn.tx.conn.now l.tx.conn.now l.name
+      (EditsElements l.zone (take l.edit-index l.edits));
 }

@@ -5,7 +5,7 @@ use Rattle.store_rows.proofs.CallLemmas.{runs_then, runs_err, follows_err}
 use Rattle.store_rows.proofs.InsideLemmas.{on_ok}
 use Rattle.store_zones.specs.Zones.{ChangesZone}
 use Rattle.store.specs.Calls.{entry_calls, element_calls}
-use Rattle.store.specs.Writes.{HasEditedEntries, HasEditedElements}
+use Rattle.store.specs.Writes.{EditsEntries, EditsElements}
 use Rattle.store.proofs.DeltaLemmas.{both}
 use Rattle.store.proofs.delta.write_delta.Goals as goal
 
@@ -16,10 +16,10 @@ returns-clause-ok g c =
     let mid = c.edit_entries.new.tx.conn.now in
     let new = c.edit_elements.new.tx.conn.now in
     on_ok c.edit_elements.result _ _
-    (λ later. both s c.args.zone old mid new c.args.delta.now c.edit_elements.ensures.inside
-    (subst (λ edits. ChangesZone s old mid c.args.zone (HasEditedEntries edits)) c.entries.ensures
+    (λ later. both s c.args.name c.args.zone.now old mid new c.args.delta.now c.edit_elements.ensures.inside
+    (subst (λ edits. ChangesZone s old mid c.args.name (EditsEntries c.args.zone.now edits)) c.entries.ensures
     c.in_ok-edit_entries.ensures.ok)
-    (subst (λ edits. ChangesZone s mid new c.args.zone (HasEditedElements edits)) c.elements.ensures later))
+    (subst (λ edits. ChangesZone s mid new c.args.name (EditsElements c.args.zone.now edits)) c.elements.ensures later))
     c.edit_elements.ensures.ok
 
 pub returns-clause-calls : goal.returns-clause-calls
@@ -29,8 +29,8 @@ returns-clause-calls g c =
     let mid = c.edit_entries.new.tx.conn.now in
     let new = c.edit_elements.new.tx.conn.now in
     let delta = c.args.delta.now in
-    let entries = entry_calls c.args.zone in
-    let elements = element_calls c.args.zone in
+    let entries = entry_calls c.args.name c.args.zone.now in
+    let elements = element_calls c.args.name c.args.zone.now in
     runs_then s (flat_map entries delta.entries) (flat_map elements delta.elements) old mid new c.edit_entries.result
     (tt {0}) c.edit_elements.result c.edit_entries.ensures.inside c.edit_elements.ensures.inside
     c.in_ok-edit_entries.was
@@ -45,8 +45,8 @@ returns-in_err-edit_entries-clause-calls g c =
     let old = c.args.tx.now.conn.now in
     let mid = c.edit_entries.new.tx.conn.now in
     let delta = c.args.delta.now in
-    let entries = entry_calls c.args.zone in
-    runs_err s (flat_map entries delta.entries) (flat_map (element_calls c.args.zone) delta.elements) old mid
+    let entries = entry_calls c.args.name c.args.zone.now in
+    runs_err s (flat_map entries delta.entries) (flat_map (element_calls c.args.name c.args.zone.now) delta.elements) old mid
     c.edit_entries.result c.from_residual.result (search rules)
     (follows_err c.edit_entries.result _ _ c.in_err-edit_entries.was c.from_residual.ensures.1)
     (subst (λ edits. RunsInside s (flat_map entries edits) old mid c.edit_entries.result) c.entries.ensures

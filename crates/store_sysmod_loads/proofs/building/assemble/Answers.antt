@@ -3,10 +3,10 @@ use Rattle.std.proofs.Common.{◌∙◌}
 use Rattle.std.proofs.lemmas.Grind.{common_steps}
 use Rattle.store_rows.specs.declared.error.ReadError.TheVariants.{BadRow}
 use Rattle.terms.specs.Types.{Sysmod}
-use Rattle.store_sysmod_loads.specs.declared.flat.HeadRow.{HeadRow}
-use Rattle.store_sysmod_loads.specs.declared.flat.VerRow.{VerRow}
-use Rattle.store_sysmod_loads.specs.declared.flat.IfRow.{IfRow}
-use Rattle.store_sysmod_loads.specs.declared.flat.ElemRow.{ElemRow}
+use Rattle.store_sysmods.specs.declared.head.HeadRow.{HeadRow}
+use Rattle.store_sysmods.specs.declared.ver.VerRow.{VerRow}
+use Rattle.store_sysmods.specs.declared.ifreq.IfRow.{IfRow}
+use Rattle.store_sysmods.specs.declared.elem.ElemRow.{ElemRow}
 use Rattle.store_sysmod_loads.specs.Built.{AreTaken}
 use Rattle.std.proofs.lemmas.List.{nil_from_length}
 use Rattle.store_sysmod_loads.proofs.RunLemmas.{next_left}

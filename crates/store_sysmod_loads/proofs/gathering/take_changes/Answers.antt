@@ -1,6 +1,6 @@
 use Rattle.std.proofs.Common.{◌≡◌, ◌++◌, ◌∷◌, [], List, append-nil, sym, ap, subst, ◌∙◌}
 use Rattle.terms.specs.Types.{Change}
-use Rattle.store_sysmod_loads.specs.declared.flat.ElemRow.{ElemRow}
+use Rattle.store_sysmods.specs.declared.elem.ElemRow.{ElemRow}
 use Rattle.store_sysmod_loads.specs.Runs.{HasChanges}
 use Rattle.store_sysmod_loads.proofs.RunLemmas.{changes_told, changes_step, changes_end, next_left}
 use Rattle.store_sysmod_loads.proofs.gathering.take_changes.Goals as goal

@@ -1,6 +1,6 @@
 use Rattle.std.proofs.Common.{◌≡◌, List, ◌++◌, length}
 use Rattle.terms.specs.Types.{Change}
-use Rattle.store_sysmod_loads.specs.declared.flat.ElemRow.{ElemRow}
+use Rattle.store_sysmods.specs.declared.elem.ElemRow.{ElemRow}
 use Rattle.store_sysmod_loads.specs.Runs.{elem_rows, HasChanges}
 use Rattle.store_sysmod_loads.proofs.gathering.take_changes.Given as goal
 

@@ -2,7 +2,7 @@ use Rattle.std.proofs.Common.{◌≡◌, ◌+◌, ◌++◌, ◌∷◌, [], List,
 use Rattle.std.proofs.Common.{subst, ◌∙◌}
 use Rattle.std.proofs.lemmas.Grind.{common_steps}
 use Rattle.terms.specs.Types.{IfReq}
-use Rattle.store_sysmod_loads.specs.declared.flat.IfRow.{IfRow}
+use Rattle.store_sysmods.specs.declared.ifreq.IfRow.{IfRow}
 use Rattle.store_sysmod_loads.specs.Runs.{HasIfs}
 use Rattle.store_sysmod_loads.proofs.RunLemmas.{ifs_told, ifs_step, ifs_end, next_left}
 use Rattle.store_sysmod_loads.proofs.gathering.take_ifs.Goals as goal

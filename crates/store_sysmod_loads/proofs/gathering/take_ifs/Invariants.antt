@@ -1,6 +1,6 @@
 use Rattle.std.proofs.Common.{◌≡◌, ◌+◌, List, ◌++◌, length}
 use Rattle.terms.specs.Types.{IfReq}
-use Rattle.store_sysmod_loads.specs.declared.flat.IfRow.{IfRow}
+use Rattle.store_sysmods.specs.declared.ifreq.IfRow.{IfRow}
 use Rattle.store_sysmod_loads.specs.Runs.{if_rows, HasIfs}
 use Rattle.store_sysmod_loads.proofs.gathering.take_ifs.Given as goal
 

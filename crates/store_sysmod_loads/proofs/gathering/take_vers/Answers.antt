@@ -3,8 +3,8 @@ use Rattle.std.proofs.Common.{true, false, sym, ap, subst, ◌∙◌}
 use Rattle.std.proofs.lemmas.Grind.{common_steps}
 use Rattle.terms.specs.Types.{IfReq, Ver}
 use Rattle.store_schema.specs.Rows.{number_behind, numbered_behind}
-use Rattle.store_sysmod_loads.specs.declared.flat.VerRow.{VerRow}
-use Rattle.store_sysmod_loads.specs.declared.flat.IfRow.{IfRow}
+use Rattle.store_sysmods.specs.declared.ver.VerRow.{VerRow}
+use Rattle.store_sysmods.specs.declared.ifreq.IfRow.{IfRow}
 use Rattle.store_sysmod_loads.specs.Runs.{AreBare, ver_rows, HasIfs, HasAllIfs, HasVersBehind}
 use Rattle.store_sysmod_loads.proofs.RunLemmas.{vers_told, ver_ifs_more, vers_step, vers_end, next_left}
 use Rattle.store_sysmod_loads.proofs.gathering.take_vers.Goals as goal

@@ -1,8 +1,8 @@
 use Rattle.std.proofs.Common.{◌≡◌, ◌≤◌, List, ◌++◌, [], length}
 use Rattle.terms.specs.Types.{Ver}
 use Rattle.store_schema.specs.Rows.{numbered_behind}
-use Rattle.store_sysmod_loads.specs.declared.flat.VerRow.{VerRow}
-use Rattle.store_sysmod_loads.specs.declared.flat.IfRow.{IfRow}
+use Rattle.store_sysmods.specs.declared.ver.VerRow.{VerRow}
+use Rattle.store_sysmods.specs.declared.ifreq.IfRow.{IfRow}
 use Rattle.store_sysmod_loads.specs.Runs.{AreBare, ver_rows, HasAllIfs, HasVers, HasVersBehind}
 use Rattle.store_sysmod_loads.proofs.gathering.take_vers.Given as goal
 

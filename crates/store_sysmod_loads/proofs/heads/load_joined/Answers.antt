@@ -2,9 +2,10 @@ use Rattle.std.proofs.Common.{List, map, IsPermutation, rules, sym, subst, â—Œâˆ
 use Rattle.std.specs.List.{AllByRecursion}
 use Rattle.store_rows.proofs.InsideLemmas.{if_ok}
 use Rattle.store_schema.specs.Tables.{sysmod, source}
-use Rattle.store_sysmod_loads.specs.declared.flat.BareHead.{BareHead}
-use Rattle.store_sysmod_loads.specs.declared.flat.SourceRow.{SourceRow}
-use Rattle.store_sysmod_loads.specs.Flat.{row_of_bare, row_of_source, HasBareForms, HasSourceForms}
+use Rattle.store_sysmods.specs.declared.head.BareHead.{BareHead}
+use Rattle.store_sysmods.specs.declared.source.SourceRow.{SourceRow}
+use Rattle.store_sysmods.specs.Heads.{row_of_bare, HasBareForms}
+use Rattle.store_sysmods.specs.Sources.{row_of_source, HasSourceForms}
 use Rattle.store_sysmod_loads.specs.Flats.{head_of}
 use Rattle.store_sysmod_loads.proofs.JoinLemmas.{joined_flat, joined_formed, joined_as}
 use Rattle.store_sysmod_loads.proofs.Later.{later_held, later_joined}

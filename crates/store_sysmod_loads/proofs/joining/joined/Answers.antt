@@ -1,9 +1,9 @@
 use Rattle.std.proofs.Common.{◌≡◌, ◌++◌, ◌∷◌, [], List, append-nil, append_assoc, arith, refl, sym, ap, subst, ◌∙◌}
 use Rattle.std.proofs.lemmas.Grind.{common_steps}
 use Rattle.std.proofs.lemmas.List.{nil_from_length}
-use Rattle.store_sysmod_loads.specs.declared.flat.HeadRow.{HeadRow}
-use Rattle.store_sysmod_loads.specs.declared.flat.BareHead.{BareHead}
-use Rattle.store_sysmod_loads.specs.declared.flat.SourceRow.{SourceRow}
+use Rattle.store_sysmods.specs.declared.head.HeadRow.{HeadRow}
+use Rattle.store_sysmods.specs.declared.head.BareHead.{BareHead}
+use Rattle.store_sysmods.specs.declared.source.SourceRow.{SourceRow}
 use Rattle.store_sysmod_loads.specs.Joined.{AreJoined}
 use Rattle.store_sysmod_loads.proofs.RunLemmas.{next_left}
 use Rattle.store_sysmod_loads.proofs.JoinLemmas.{joined_step, whole_head}

@@ -1,5 +1,5 @@
 use Rattle.std.proofs.Common.{◌≡◌, List, ◌++◌, length}
-use Rattle.store_sysmod_loads.specs.declared.flat.HeadRow.{HeadRow}
+use Rattle.store_sysmods.specs.declared.head.HeadRow.{HeadRow}
 use Rattle.store_sysmod_loads.specs.Joined.{AreJoined}
 use Rattle.store_sysmod_loads.proofs.joining.joined.Given as goal
 

@@ -1,7 +1,7 @@
 use Rattle.std.proofs.Common.{◌≡◌, List, ◌++◌, length}
 use Rattle.terms.specs.Types.{Text}
 use Rattle.terms.specs.Lookups.{IsRising}
-use Rattle.store_sysmod_loads.specs.declared.flat.SourceRow.{SourceRow}
+use Rattle.store_sysmods.specs.declared.source.SourceRow.{SourceRow}
 use Rattle.store_sysmod_loads.specs.Runs.{source_rows}
 use Rattle.store_sysmod_loads.proofs.RunLemmas.{AreNamed}
 use Rattle.store_sysmod_loads.proofs.joining.take_sources.Given as goal

@@ -3,7 +3,7 @@ use Rattle.std.specs.Ordering.{nat_cmp}
 use Rattle.std.specs.Cmp.Lexicographic.{slice_cmp}
 use Rattle.store_rows.proofs.InsideLemmas.{if_ok}
 use Rattle.terms.specs.Rising.{Rises}
-use Rattle.store_sysmod_loads.specs.declared.flat.HeadRow.{HeadRow}
+use Rattle.store_sysmods.specs.declared.head.HeadRow.{HeadRow}
 use Rattle.store_sysmod_loads.proofs.FlatLemmas.{taken_flat, flat_taken, taken_as}
 use Rattle.store_sysmod_loads.proofs.RiseLemmas.{ids_up, heads_rise, ids_rise}
 use Rattle.store_sysmod_loads.proofs.rows_of.gathered.Goals as goal

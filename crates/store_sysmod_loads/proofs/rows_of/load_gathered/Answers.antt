@@ -3,12 +3,13 @@ use Rattle.std.specs.List.{AllByRecursion}
 use Rattle.lemmas.proofs.Each.{recursion_weaker}
 use Rattle.store_rows.proofs.InsideLemmas.{if_ok}
 use Rattle.store_schema.specs.Tables.{ver, ifreq, elem}
-use Rattle.store_sysmod_loads.specs.declared.flat.HeadRow.{HeadRow}
-use Rattle.store_sysmod_loads.specs.declared.flat.VerRow.{VerRow}
-use Rattle.store_sysmod_loads.specs.declared.flat.IfRow.{IfRow}
-use Rattle.store_sysmod_loads.specs.Flat.{is_first_row, is_first_if}
-use Rattle.store_sysmod_loads.specs.Flat.{row_of_ver, row_of_if, row_of_elem, HasFormsUnder, HasVerRowForms}
-use Rattle.store_sysmod_loads.specs.Flat.{HasIfRowForms, HasElemRowForms}
+use Rattle.store_sysmods.specs.declared.head.HeadRow.{HeadRow}
+use Rattle.store_sysmods.specs.declared.ver.VerRow.{VerRow}
+use Rattle.store_sysmods.specs.declared.ifreq.IfRow.{IfRow}
+use Rattle.store_sysmods.specs.Vers.{is_first_row, row_of_ver, HasVerRowForms}
+use Rattle.store_sysmods.specs.Ifs.{is_first_if, row_of_if, HasIfRowForms}
+use Rattle.store_sysmods.specs.Elems.{row_of_elem, HasElemRowForms}
+use Rattle.store_sysmods.specs.Heads.{HasFormsUnder}
 use Rattle.store_sysmod_loads.specs.Gathered.{HoldHeads, HoldMoreVers, HoldMoreIfs}
 use Rattle.store_sysmod_loads.proofs.FlatLemmas.{rows_of_vers, rows_of_ifs, rows_of_elems}
 use Rattle.store_sysmod_loads.proofs.Further.{more_held}

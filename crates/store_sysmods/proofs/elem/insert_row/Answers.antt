@@ -6,10 +6,9 @@ use Rattle.terms.specs.Spelling.{type_text}
 use Rattle.store_rows.proofs.InsideLemmas.{on_ok}
 use Rattle.store_schema.specs.Rows.{flag}
 use Rattle.store_schema.specs.Tables.{store_schema, elem}
-use Rattle.store_sysmods.specs.Actions.{is_update, distlib_of, syslib_of}
+use Rattle.store_sysmods.specs.Elems.{is_update, distlib_of, syslib_of, insert_elem}
 use Rattle.store_sysmods.proofs.Texts.{puts_elem}
 use Rattle.store_sysmods.proofs.RowForms.{kept_elem, elem_bound}
-use Rattle.store_sysmods.specs.Calls.{insert_elem}
 use Rattle.store_sysmods.proofs.Steps.{puts_row}
 use Rattle.store_sysmods.proofs.elem.insert_row.Goals as goal
 

@@ -2,7 +2,7 @@ use Rattle.std.proofs.Common.{rules, ap, ◌∙◌}
 use Rattle.terms.specs.Types.{IfReq}
 use Rattle.store_rows.proofs.InsideLemmas.{on_ok}
 use Rattle.store_schema.specs.Tables.{store_schema, moreif}
-use Rattle.store_sysmods.specs.Calls.{insert_moreif}
+use Rattle.store_sysmods.specs.MoreIfs.{insert_moreif}
 use Rattle.store_sysmods.proofs.Texts.{puts_moreif}
 use Rattle.store_sysmods.proofs.RowForms.{kept_moreif, moreif_bound}
 use Rattle.store_sysmods.proofs.Steps.{puts_row}

@@ -2,7 +2,7 @@ use Rattle.std.proofs.Common.{rules, ap, ◌∙◌}
 use Rattle.terms.specs.Types.{Ver}
 use Rattle.store_rows.proofs.InsideLemmas.{on_ok}
 use Rattle.store_schema.specs.Tables.{store_schema, morever}
-use Rattle.store_sysmods.specs.Calls.{insert_morever}
+use Rattle.store_sysmods.specs.MoreVers.{insert_morever}
 use Rattle.store_sysmods.proofs.Texts.{puts_morever}
 use Rattle.store_sysmods.proofs.RowForms.{kept_morever, morever_bound}
 use Rattle.store_sysmods.proofs.Steps.{puts_row}

@@ -1,6 +1,6 @@
 use Rattle.store_rows.proofs.InsideLemmas.{on_ok}
 use Rattle.store_schema.specs.Tables.{store_schema, source}
-use Rattle.store_sysmods.specs.Calls.{insert_source}
+use Rattle.store_sysmods.specs.Sources.{insert_source}
 use Rattle.store_sysmods.proofs.Texts.{puts_source}
 use Rattle.store_sysmods.proofs.RowForms.{kept_source, source_bound}
 use Rattle.store_sysmods.proofs.Steps.{puts_row}

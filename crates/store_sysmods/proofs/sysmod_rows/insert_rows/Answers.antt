@@ -5,8 +5,13 @@ use Rattle.store_rows.specs.Calls.{Call}
 use Rattle.store_schema.specs.Rows.{source_row, sources_of, ver_row, vers_of, ifreq_row, ifreqs_of, elem_row, elems_of}
 use Rattle.store_schema.specs.Rows.{morever_row, morevers_of, moreif_row, moreifs_of, numbered_behind, is_first}
 use Rattle.store_schema.specs.Tables.{source, ver, ifreq, elem, morever, moreif}
-use Rattle.store_sysmods.specs.Calls.{puts, insert_source, insert_ver, insert_ifreq, insert_elem, insert_morever}
-use Rattle.store_sysmods.specs.Calls.{insert_moreif}
+use Rattle.store_sysmods.specs.Calls.{puts}
+use Rattle.store_sysmods.specs.Sources.{insert_source}
+use Rattle.store_sysmods.specs.Vers.{insert_ver}
+use Rattle.store_sysmods.specs.Ifs.{insert_ifreq}
+use Rattle.store_sysmods.specs.Elems.{insert_elem}
+use Rattle.store_sysmods.specs.MoreVers.{insert_morever}
+use Rattle.store_sysmods.specs.MoreIfs.{insert_moreif}
 use Rattle.store_sysmods.specs.Steps.{Puts}
 use Rattle.store_sysmods.proofs.Behind.{each_behind, first_rows, further_rows, first_if_rows, further_if_rows}
 use Rattle.store_sysmods.proofs.Steps.{puts_as, step_ok, step_then, step_stops, step_errs}

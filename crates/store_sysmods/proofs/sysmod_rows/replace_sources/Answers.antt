@@ -4,7 +4,8 @@ use Rattle.store_rows.proofs.InsideLemmas.{on_ok}
 use Rattle.store_schema.specs.Rows.{source_row, sources_of}
 use Rattle.store_schema.specs.Stands.{rows_of}
 use Rattle.store_schema.specs.Tables.{source}
-use Rattle.store_sysmods.specs.Calls.{replace_sources_calls, delete_sources, insert_source, puts}
+use Rattle.store_sysmods.specs.Calls.{replace_sources_calls, puts}
+use Rattle.store_sysmods.specs.Sources.{delete_sources, insert_source}
 use Rattle.store_sysmods.specs.Steps.{Step}
 use Rattle.store_sysmods.specs.Sysmods.{with_source_rows}
 use Rattle.store_sysmods.proofs.Behind.{each_behind}
@@ -22,8 +23,8 @@ replaced g c =
     let id = ap (λ (t : Sysmod). t.id) view in
     let rows = ap₂ (λ x names. map (source_row x) names) id (c.as_slice.ensures.items
     ∙ ap (λ (t : Sysmod). t.sources) view) in
-    step_then g.S.Store (step_ok g.S.Store c.in_ok-remove_sources.was
-    (step_takes_of g.S.Store delete_sources source id c.remove_sources.ensures.takes))
+    step_then g.S.Store (step_ok g.S.Store c.in_ok-remove_rows.was
+    (step_takes_of g.S.Store delete_sources source id c.remove_rows.ensures.takes))
     (puts_as g.S.Store insert_source source (each_behind (source_row c.sysmod.inside.id) [] c.as_slice.result.now
     ∙ rows) c.insert_all.ensures.puts)
 
@@ -41,8 +42,8 @@ returns-clause-stands g c =
 pub returns-clause-calls : goal.returns-clause-calls
 returns-clause-calls g c = (replaced g (goal.at.returns-clause-calls g c).After-insert_all).runs
 
-pub returns-in_err-remove_sources-clause-calls : goal.returns-in_err-remove_sources-clause-calls
-returns-in_err-remove_sources-clause-calls g c =
+pub returns-in_err-remove_rows-clause-calls : goal.returns-in_err-remove_rows-clause-calls
+returns-in_err-remove_rows-clause-calls g c =
     (step_stops g.S.Store (puts insert_source (sources_of c.args.sysmod.now)) c.from_residual.result
-    c.in_err-remove_sources.was c.from_residual.ensures.1 (step_takes_of g.S.Store delete_sources
-    source (ap (λ (t : Sysmod). t.id) c.sysmod.view_is) c.remove_sources.ensures.takes)).runs
+    c.in_err-remove_rows.was c.from_residual.ensures.1 (step_takes_of g.S.Store delete_sources
+    source (ap (λ (t : Sysmod). t.id) c.sysmod.view_is) c.remove_rows.ensures.takes)).runs

@@ -2,7 +2,7 @@ use Rattle.std.proofs.Common.{ap, ◌∙◌}
 use Rattle.terms.specs.Types.{Ver}
 use Rattle.store_rows.proofs.InsideLemmas.{on_ok}
 use Rattle.store_schema.specs.Tables.{store_schema, ver}
-use Rattle.store_sysmods.specs.Calls.{insert_ver}
+use Rattle.store_sysmods.specs.Vers.{insert_ver}
 use Rattle.store_sysmods.proofs.Texts.{puts_ver}
 use Rattle.store_sysmods.proofs.RowForms.{kept_ver, ver_bound}
 use Rattle.store_sysmods.proofs.Steps.{puts_row}

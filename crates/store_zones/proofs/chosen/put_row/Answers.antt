@@ -10,13 +10,13 @@ use Rattle.store_zones.proofs.chosen.put_row.Given.{Over}
 use Rattle.store_zones.proofs.chosen.put_row.Goals.{After-put}
 use Rattle.store_zones.proofs.chosen.put_row.Goals as goal
 
-put : (g : Over) (c : After-put g) → PutsRow g.S.Store put_chosen chosen 2 c.args.tx.now.conn.now
-    c.put.new.tx.conn.now c.put.result (chosen_row c.args.zone.now c.args.id.now c.args.number)
+put : (g : Over) (c : After-put g) → PutsRow g.S.Store put_chosen chosen c.args.tx.now.conn.now
+    c.put.new.tx.conn.now c.put.result 2 (chosen_row c.args.zone.now c.args.id.now c.args.number)
 put g c =
     let zone = c.args.zone.now in
     let id = c.args.id.now in
     let n = c.args.number in
-    puts_row g.S.Store put_chosen chosen 2 c.args.tx.now.conn.now c.put.new.tx.conn.now c.put.result
+    puts_row g.S.Store put_chosen chosen c.args.tx.now.conn.now c.put.new.tx.conn.now c.put.result 2
     (chosen_row zone id n) _ (chosen_bound c.as_bytes.result.now c.as_bytes-2.result.now _ zone id n
     c.as_bytes.ensures.same c.as_bytes-2.ensures.same (search rules)) (kept_chosen zone id n) c.put.ensures.calls
     (on_ok c.put.result _ _ (λ ran. ran store_schema 12 chosen 2 puts_chosen) c.put.ensures.ok)

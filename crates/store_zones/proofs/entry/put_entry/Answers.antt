@@ -1,45 +1,67 @@
-use Rattle.std.proofs.Common.{[], ◌∷◌, rules}
-use Rattle.store_rows.specs.Rows.{HasContents, with_put}
+use Rattle.std.proofs.Common.{[], ◌∷◌, is_some, option_copied, if◌then◌else◌, ap, rules}
+use Rattle.terms.specs.Types.{Entry}
+use Rattle.store_rows.specs.Rows.{HasContents, in_table}
 use Rattle.store_rows.proofs.CallLemmas.{runs_then, runs_err, follows_err}
 use Rattle.store_rows.proofs.InsideLemmas.{on_ok, turns_then}
 use Rattle.store_schema.specs.Rows.{entry_row}
 use Rattle.store_schema.specs.Stands.{rows_of}
-use Rattle.store_schema.specs.Tables.{store_schema, entry}
-use Rattle.store_zones.specs.Calls.{put_entry, chosen_call}
+use Rattle.store_schema.specs.Tables.{store_schema, entry, chosen}
+use Rattle.store_zones.specs.Calls.{insert_entry, put_entry, number_calls}
 use Rattle.store_zones.specs.Keys.{entry_key}
-use Rattle.store_zones.specs.Zones.{with_number}
+use Rattle.store_zones.specs.Numbers.{number_of, number_before}
+use Rattle.store_zones.specs.Zones.{numbered, rows_with}
+use Rattle.store_zones.proofs.ByNumber.{Renumbers, renumbers_as}
 use Rattle.store_zones.proofs.ZoneLemmas.{entry_put}
+use Rattle.store_zones.proofs.entry.put_entry.Given.{Over}
+use Rattle.store_zones.proofs.entry.put_entry.Goals.{After-change_number}
 use Rattle.store_zones.proofs.entry.put_entry.Goals as goal
+
+changed : (g : Over) (c : After-change_number g) → Renumbers g.S.Store c.put_row.new.tx.conn.now
+    c.change_number.new.tx.conn.now c.change_number.result c.args.zone c.args.entry.now.id
+    (number_before (option_copied c.args.stood)) (number_of c.args.entry.now)
+changed g c =
+    renumbers_as g.S.Store c.put_row.new.tx.conn.now c.change_number.new.tx.conn.now c.change_number.result c.args.zone
+    _ c.args.entry.now.id _ (number_before (option_copied c.args.stood)) _ (number_of c.args.entry.now)
+    (ap (λ (x : Entry). x.id) c.entry.view_is) c.number_before.ensures c.number_of.ensures.same
+    (c.change_number.ensures.calls, c.change_number.ensures.ok)
 
 pub returns-clause-ok : goal.returns-clause-ok
 returns-clause-ok g c =
     let zone = c.args.zone in
+    let stood = option_copied c.args.stood in
     let e = c.args.entry.now in
-    on_ok c.put_number.result _ _
-    (turns_then g.S.Store c.args.tx.now.conn.now c.put_row.new.tx.conn.now c.put_number.new.tx.conn.now
-    (HasContents store_schema) (with_put entry (entry_key zone e.id) (entry_row zone e)) (with_number zone e)
-    c.put_number.ensures.inside c.in_ok-put_row.ensures.ok) c.put_number.ensures.ok
+    on_ok c.change_number.result _ _
+    (turns_then g.S.Store c.args.tx.now.conn.now c.put_row.new.tx.conn.now c.change_number.new.tx.conn.now
+    (HasContents store_schema)
+    (in_table entry (rows_with (is_some stood) (entry_key zone e.id) (entry_row zone e)))
+    (in_table chosen (numbered zone e.id (number_before stood) (number_of e)))
+    c.change_number.ensures.inside c.in_ok-put_row.ensures.ok)
+    (changed g (goal.at.returns-clause-ok g c).After-change_number).1
 
 pub returns-clause-stands : goal.returns-clause-stands
 returns-clause-stands g c =
-    on_ok c.put_number.result _ _ (λ turned i j was is change put clean held.
-    entry_put i j c.args.zone was is change c.args.entry.now _ put (turned clean (rows_of i) held))
-    (returns-clause-ok g c)
+    on_ok c.change_number.result _ _ (λ turned i j was is change put clean held.
+    entry_put i j c.args.zone was is change (option_copied c.args.stood) c.args.entry.now _ put
+    (turned clean (rows_of i) held)) (returns-clause-ok g c)
 
 pub returns-clause-calls : goal.returns-clause-calls
 returns-clause-calls g c =
     let zone = c.args.zone in
+    let stood = option_copied c.args.stood in
     let e = c.args.entry.now in
-    runs_then g.S.Store ((put_entry, entry_row zone e) ∷ []) (chosen_call zone e ∷ []) c.args.tx.now.conn.now
-    c.put_row.new.tx.conn.now c.put_number.new.tx.conn.now c.put_row.result (tt {0}) c.put_number.result
-    c.put_row.ensures.inside c.put_number.ensures.inside c.in_ok-put_row.was c.put_row.ensures.calls
-    c.put_number.ensures.calls
+    runs_then g.S.Store ((if is_some stood then put_entry else insert_entry, entry_row zone e) ∷ [])
+    (number_calls zone e.id (number_before stood) (number_of e)) c.args.tx.now.conn.now
+    c.put_row.new.tx.conn.now c.change_number.new.tx.conn.now c.put_row.result (tt {0}) c.change_number.result
+    c.put_row.ensures.inside c.change_number.ensures.inside c.in_ok-put_row.was c.put_row.ensures.calls
+    (changed g (goal.at.returns-clause-calls g c).After-change_number).0
 
 pub returns-in_err-put_row-clause-calls : goal.returns-in_err-put_row-clause-calls
 returns-in_err-put_row-clause-calls g c =
     let zone = c.args.zone in
+    let stood = option_copied c.args.stood in
     let e = c.args.entry.now in
-    runs_err g.S.Store ((put_entry, entry_row zone e) ∷ []) (chosen_call zone e ∷ []) c.args.tx.now.conn.now
+    runs_err g.S.Store ((if is_some stood then put_entry else insert_entry, entry_row zone e) ∷ [])
+    (number_calls zone e.id (number_before stood) (number_of e)) c.args.tx.now.conn.now
     c.put_row.new.tx.conn.now c.put_row.result c.from_residual-in_err-put_row.result (search rules)
     (follows_err c.put_row.result _ _ c.in_err-put_row.was c.from_residual-in_err-put_row.ensures.1)
     c.put_row.ensures.calls

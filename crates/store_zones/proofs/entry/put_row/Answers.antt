@@ -1,36 +1,70 @@
-use Rattle.std.proofs.Common.{◌≡◌, sym, ap, subst, ◌∙◌}
+use Rattle.std.proofs.Common.{◌≡◌, Bool, true, false, is_some, option_copied, sym, ap, subst, ◌∙◌}
 use Rattle.std.specs.List.{join_with_byte}
 use Rattle.terms.specs.Types.{Entry}
 use Rattle.store_rows.proofs.InsideLemmas.{on_ok}
 use Rattle.store_schema.specs.Rows.{entry_row}
 use Rattle.store_schema.specs.Tables.{store_schema, entry}
-use Rattle.store_zones.specs.Calls.{put_entry}
+use Rattle.store_zones.specs.Calls.{insert_entry, put_entry}
+use Rattle.store_zones.specs.Keys.{entry_key}
 use Rattle.zones.specs.contracts.entries.Entry.{the_view}
-use Rattle.store_zones.proofs.Texts.{puts_entry}
+use Rattle.store_zones.proofs.Texts.{adds_entry, puts_entry}
 use Rattle.store_zones.proofs.RowForms.{kept_entry, entry_bound}
-use Rattle.store_zones.proofs.Putting.{PutsRow, puts_row}
+use Rattle.store_zones.proofs.Putting.{WritesRow, inserts_row, puts_row, entry_rows_with}
 use Rattle.store_zones.proofs.entry.put_row.Given.{Over}
-use Rattle.store_zones.proofs.entry.put_row.Goals.{After-put}
+use Rattle.store_zones.proofs.entry.put_row.Goals.{After-put, After-insert}
 use Rattle.store_zones.proofs.entry.put_row.Goals as goal
 
-put : (g : Over) (c : After-put g) → PutsRow g.S.Store put_entry entry 2 c.args.tx.now.conn.now
-    c.put.new.tx.conn.now c.put.result (entry_row c.args.zone.now c.args.entry.now)
+put : (g : Over) (c : After-put g) → WritesRow g.S.Store put_entry insert_entry entry 2 c.args.tx.now.conn.now
+    c.put.new.tx.conn.now c.put.result (entry_row c.args.zone.now c.args.entry.now) (is_some (option_copied c.args.stood))
 put g c =
     let e = the_view c.entry.inside in
     let view : e ≡ c.args.entry.now = c.entry.view_is in
     let zone = c.args.zone.now in
+    let old = c.args.tx.now.conn.now in
+    let new = c.put.new.tx.conn.now in
+    let q = c.put.result in
     let row = entry_bound c.as_bytes.result.now c.as_bytes-2.result.now c.args.supby.now c.args.waived.now
-    c.date_value-date.result c.id_value-delby.result zone e c.as_bytes.ensures.same c.as_bytes-2.ensures.same
-    c.date_value-date.ensures (c.requires.supby ∙ sym (ap (λ (x : Entry). join_with_byte 44 x.supby) view))
-    c.id_value-delby.ensures (c.requires.waived ∙ sym (ap (λ (x : Entry). join_with_byte 44 x.waived) view)) in
-    subst (λ (x : Entry). PutsRow g.S.Store put_entry entry 2 c.args.tx.now.conn.now c.put.new.tx.conn.now
-    c.put.result (entry_row zone x)) view
-    (puts_row g.S.Store put_entry entry 2 c.args.tx.now.conn.now c.put.new.tx.conn.now c.put.result
-    (entry_row zone e) _ row (kept_entry zone e) c.put.ensures.calls
-    (on_ok c.put.result _ _ (λ ran. ran store_schema 7 entry 2 puts_entry) c.put.ensures.ok))
+    c.date_value.result c.id_value.result zone e c.as_bytes.ensures.same c.as_bytes-2.ensures.same
+    c.date_value.ensures (c.requires.supby ∙ sym (ap (λ (x : Entry). join_with_byte 44 x.supby) view))
+    c.id_value.ensures (c.requires.waived ∙ sym (ap (λ (x : Entry). join_with_byte 44 x.waived) view)) in
+    let ran = puts_row g.S.Store put_entry entry old new q 2 (entry_row zone e) _ row (kept_entry zone e)
+    c.put.ensures.calls (on_ok q _ _ (λ ran. ran store_schema 7 entry 2 puts_entry) c.put.ensures.ok) in
+    subst (λ (b : Bool). WritesRow g.S.Store put_entry insert_entry entry 2 old new q
+    (entry_row zone c.args.entry.now) b) (sym (ap (λ o. is_some (option_copied o)) c.in-Some.is))
+    (subst (λ (x : Entry). WritesRow g.S.Store put_entry insert_entry entry 2 old new q (entry_row zone x) true) view (
+      ran.0,
+      on_ok q _ _ (λ put clean contents was.
+          entry_rows_with (entry_key zone e.id) (entry_row zone e) contents _ (put clean contents was)) ran.1,
+    ))
 
-pub returns-clause-ok : goal.returns-clause-ok
-returns-clause-ok g c = (put g (goal.at.returns-clause-ok g c).After-put).1
+insert : (g : Over) (c : After-insert g) → WritesRow g.S.Store put_entry insert_entry entry 2 c.args.tx.now.conn.now
+    c.insert.new.tx.conn.now c.insert.result (entry_row c.args.zone.now c.args.entry.now)
+    (is_some (option_copied c.args.stood))
+insert g c =
+    let e = the_view c.entry.inside in
+    let view : e ≡ c.args.entry.now = c.entry.view_is in
+    let zone = c.args.zone.now in
+    let old = c.args.tx.now.conn.now in
+    let new = c.insert.new.tx.conn.now in
+    let q = c.insert.result in
+    let row = entry_bound c.as_bytes.result.now c.as_bytes-2.result.now c.args.supby.now c.args.waived.now
+    c.date_value.result c.id_value.result zone e c.as_bytes.ensures.same c.as_bytes-2.ensures.same
+    c.date_value.ensures (c.requires.supby ∙ sym (ap (λ (x : Entry). join_with_byte 44 x.supby) view))
+    c.id_value.ensures (c.requires.waived ∙ sym (ap (λ (x : Entry). join_with_byte 44 x.waived) view)) in
+    subst (λ (b : Bool). WritesRow g.S.Store put_entry insert_entry entry 2 old new q
+    (entry_row zone c.args.entry.now) b) (sym (ap (λ o. is_some (option_copied o)) c.in-None.is))
+    (subst (λ (x : Entry). WritesRow g.S.Store put_entry insert_entry entry 2 old new q (entry_row zone x) false) view
+    (inserts_row g.S.Store insert_entry entry old new q (entry_row zone e) _ row (kept_entry zone e)
+    c.insert.ensures.calls (on_ok q _ _ (λ ran. ran store_schema 7 entry adds_entry) c.insert.ensures.ok)))
 
-pub returns-clause-calls : goal.returns-clause-calls
-returns-clause-calls g c = (put g (goal.at.returns-clause-calls g c).After-put).0
+pub returns-in-Some-clause-ok : goal.returns-in-Some-clause-ok
+returns-in-Some-clause-ok g c = (put g (goal.at.returns-in-Some-clause-ok g c).After-put).1
+
+pub returns-in-Some-clause-calls : goal.returns-in-Some-clause-calls
+returns-in-Some-clause-calls g c = (put g (goal.at.returns-in-Some-clause-calls g c).After-put).0
+
+pub returns-in-None-clause-ok : goal.returns-in-None-clause-ok
+returns-in-None-clause-ok g c = (insert g (goal.at.returns-in-None-clause-ok g c).After-insert).1
+
+pub returns-in-None-clause-calls : goal.returns-in-None-clause-calls
+returns-in-None-clause-calls g c = (insert g (goal.at.returns-in-None-clause-calls g c).After-insert).0

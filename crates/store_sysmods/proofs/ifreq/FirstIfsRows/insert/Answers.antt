@@ -3,7 +3,7 @@ use Rattle.std.specs.List.{enumerate_from}
 use Rattle.terms.specs.Types.{Ver}
 use Rattle.store_schema.specs.Rows.{ifreq_row, number_behind}
 use Rattle.store_schema.specs.Tables.{ifreq}
-use Rattle.store_sysmods.specs.Calls.{insert_ifreq}
+use Rattle.store_sysmods.specs.Ifs.{insert_ifreq}
 use Rattle.store_sysmods.proofs.Adding.{some_first, none_first}
 use Rattle.store_sysmods.proofs.Behind.{counted_behind}
 use Rattle.store_sysmods.proofs.Steps.{puts_as, puts_none}

@@ -3,7 +3,7 @@ use Rattle.std.specs.List.{enumerate_from}
 use Rattle.terms.specs.Types.{Ver}
 use Rattle.store_schema.specs.Rows.{moreif_row, number_behind}
 use Rattle.store_schema.specs.Tables.{moreif}
-use Rattle.store_sysmods.specs.Calls.{insert_moreif}
+use Rattle.store_sysmods.specs.MoreIfs.{insert_moreif}
 use Rattle.store_sysmods.proofs.Adding.{some_further, none_further}
 use Rattle.store_sysmods.proofs.Behind.{counted_behind}
 use Rattle.store_sysmods.proofs.Steps.{puts_as, puts_none}

@@ -1,7 +1,7 @@
 use Rattle.std.proofs.Common.{[], ◌∷◌, ap, ◌∙◌}
 use Rattle.store_schema.specs.Rows.{morever_row, number_behind}
 use Rattle.store_schema.specs.Tables.{morever}
-use Rattle.store_sysmods.specs.Calls.{insert_morever}
+use Rattle.store_sysmods.specs.MoreVers.{insert_morever}
 use Rattle.store_sysmods.proofs.Adding.{some_further, none_further}
 use Rattle.store_sysmods.proofs.Steps.{puts_as, puts_none}
 use Rattle.store_sysmods.proofs.morever.FurtherVersRows.insert.Goals as goal

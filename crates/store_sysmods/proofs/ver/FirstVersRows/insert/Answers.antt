@@ -1,7 +1,7 @@
 use Rattle.std.proofs.Common.{[], ◌∷◌}
 use Rattle.store_schema.specs.Rows.{ver_row, number_behind}
 use Rattle.store_schema.specs.Tables.{ver}
-use Rattle.store_sysmods.specs.Calls.{insert_ver}
+use Rattle.store_sysmods.specs.Vers.{insert_ver}
 use Rattle.store_sysmods.proofs.Adding.{some_first, none_first}
 use Rattle.store_sysmods.proofs.Steps.{puts_as, puts_none}
 use Rattle.store_sysmods.proofs.ver.FirstVersRows.insert.Goals as goal

@@ -1,0 +1,98 @@
+//! Cards as they are printed: words on cards of 80 bytes.
+ghost use Rattle.std.specs.Prelude.{◌<◌};
+
+use std::alloc::{AllocError, Global};
+
+/// The length of a card.
+const CARD: usize = 80;
+
+/// The last column that a word may stand in.
+const LAST: usize = 71;
+
+/// A card of blanks.
+const BLANKS: &[u8; CARD] = &[b' '; CARD];
+
+/// Cards of 80 bytes each, one after the other. The last one may be begun.
+#[derive(Debug, Drop)]
+pub struct PrintedCards {
+    bytes: Vec<u8>,
+}
+
+impl PrintedCards {
+    /// No cards.
+    pub fn new(alloc: Global) -> PrintedCards {
+        PrintedCards {
+            bytes: Vec::new(alloc),
+        }
+    }
+
+    /// How many columns of the last card are filled, and 0 where none is begun.
+    fn column(&self) -> usize
+        ensures { result < 80 }
+    {
+        self.bytes.len() % CARD
+    }
+
+    /// Fills the card that is begun with blanks. The error comes where memory runs out.
+    pub fn end_card(&mut self) -> Result<(), AllocError> {
+        let column = self.column();
+        if column != 0 {
+            let blanks = &BLANKS[..];
+            self.bytes.extend_from_slice(&blanks[column..])?;
+        }
+        Ok(())
+    }
+
+    /// Begins a card with the text. The error comes where memory runs out.
+    pub fn begin(&mut self, text: &[u8]) -> Result<(), AllocError> {
+        self.end_card()?;
+        self.bytes.extend_from_slice(text)?;
+        Ok(())
+    }
+
+    /// Puts the word behind a blank, or at the front of a card where it does not fit into 71 columns. The error comes
+    /// where memory runs out.
+    pub fn word(&mut self, word: &[u8]) -> Result<(), AllocError> {
+        if word.len() < LAST && self.column() + word.len() < LAST {
+            self.bytes.push(b' ')?;
+            self.bytes.extend_from_slice(word)?;
+            return Ok(());
+        }
+        self.begin(word)
+    }
+
+    /// Puts the text directly behind what is there, or at the front of a card where it does not fit into 71 columns.
+    /// The error comes where memory runs out.
+    pub fn joined(&mut self, text: &[u8]) -> Result<(), AllocError> {
+        if text.len() <= LAST && self.column() + text.len() <= LAST {
+            self.bytes.extend_from_slice(text)?;
+            return Ok(());
+        }
+        self.begin(text)
+    }
+
+    /// Puts the text directly behind what is there, wherever it ends. The error comes where memory runs out.
+    pub fn text(&mut self, text: &[u8]) -> Result<(), AllocError> {
+        self.bytes.extend_from_slice(text)?;
+        Ok(())
+    }
+
+    /// Puts a word with one member in parentheses behind it. The error comes where memory runs out.
+    pub fn value(&mut self, word: &[u8], member: &[u8]) -> Result<(), AllocError> {
+        self.word(word)?;
+        self.listed(member)
+    }
+
+    /// Puts one member in parentheses. The error comes where memory runs out.
+    pub fn listed(&mut self, member: &[u8]) -> Result<(), AllocError> {
+        self.joined(b"(")?;
+        self.joined(member)?;
+        self.joined(b")")
+    }
+
+    /// The bytes of all cards. The error comes where memory runs out.
+    pub fn into_bytes(mut self) -> Result<Vec<u8>, AllocError> {
+        self.end_card()?;
+        Ok(self.bytes)
+    }
+}

@@ -1,0 +1,84 @@
+//! What is told of a statement that is not carried just as it stands.
+
+use crate::place::Place;
+use crate::reason::Reason;
+use std::alloc::{AllocError, Global};
+
+/// What was done with a statement or an operand.
+#[derive(Clone, Copy, Debug, PartialEq, Eq)]
+pub enum Deed {
+    /// It says the same in other words, or a shorter text.
+    Carried,
+    /// The operand or statement is not there; what it belongs to is.
+    Dropped,
+    /// The whole SYSMOD, hold or release is not there.
+    LeftOut,
+    /// Nothing is written.
+    Refused,
+}
+
+/// What is told of one statement, or one operand of it.
+#[derive(Debug, Drop)]
+pub struct Remark {
+    /// Where the statement begins.
+    pub place: Place,
+    /// The statement's word, with its plus signs.
+    pub statement: Vec<u8>,
+    /// The id or the name in it, and nothing where it has none.
+    pub id: Vec<u8>,
+    /// The operand's word, or nothing where the whole statement is meant.
+    pub operand: Vec<u8>,
+    pub deed: Deed,
+    pub reason: Reason,
+    /// The value or the text that is meant, as it stood.
+    pub text: Vec<u8>,
+}
+
+impl Deed {
+    /// What was done, in words.
+    pub fn words(self) -> &'static str {
+        match self {
+            Deed::Carried => "carried otherwise",
+            Deed::Dropped => "dropped",
+            Deed::LeftOut => "left out",
+            Deed::Refused => "refused",
+        }
+    }
+}
+
+impl Remark {
+    /// Whether what is told leaves out something that may be asked for.
+    pub fn matters(&self) -> bool {
+        match self.deed {
+            Deed::Carried | Deed::Dropped => false,
+            Deed::LeftOut => self.reason != Reason::Fixcat,
+            Deed::Refused => true,
+        }
+    }
+
+    /// The line that tells it, without an end of line. `file` is the name of its file, `unit` is "record" or "line".
+    /// The error comes where memory runs out.
+    pub fn line(&self, alloc: Global, file: &str, unit: &str) -> Result<Vec<u8>, AllocError> {
+        let card = self.place.card;
+        let mut line = format!(in alloc; "{file} {unit} {card}: ")?.into_bytes();
+        line.extend_from_slice(&self.statement)?;
+        if !self.id.is_empty() {
+            line.extend_from_slice(b"(")?;
+            line.extend_from_slice(&self.id)?;
+            line.extend_from_slice(b")")?;
+        }
+        if !self.operand.is_empty() {
+            line.extend_from_slice(b" ")?;
+            line.extend_from_slice(&self.operand)?;
+        }
+        line.extend_from_slice(b": ")?;
+        line.extend_from_slice(self.deed.words().as_bytes())?;
+        line.extend_from_slice(b": ")?;
+        line.extend_from_slice(self.reason.words().as_bytes())?;
+        if !self.text.is_empty() {
+            line.extend_from_slice(b": ")?;
+            line.extend_from_slice(&self.text)?;
+        }
+        Ok(line)
+    }
+}

@@ -1,6 +1,0 @@
-use Rattle.std.proofs.Common.{◌≡◌, take}
-use Rattle.intake_narrow.specs.Stated.{texts}
-use Rattle.intake_narrow.proofs.ids.read_ids.Given as goal
-
-abbrev pub invariant-loop-text : goal.invariant-loop-text
-invariant-loop-text l = l.ids.items ≡ texts (take l.text-index l.stated)

@@ -1,0 +1,5 @@
+pub mod Changed
+pub mod Quantified
+pub mod SameIds
+pub mod VersMore
+pub mod Whole

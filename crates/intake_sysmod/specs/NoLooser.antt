@@ -1,0 +1,64 @@
+-- What a SYSMOD that is carried keeps of what the file states of it. The operands are those of ++VER and ++IF in
+-- IBM z/OS SMP/E Reference, "SMP/E modification control statements".
+use Rattle.std.specs.Prelude.{◌≡◌, Bool, List, Some, All}
+use Rattle.std.specs.List.{Any}
+use Rattle.terms.specs.Types.{Text, IfReq, Ver, Sysmod}
+use Rattle.lemmas.specs.Beside.{Beside}
+use Rattle.intake_wide.specs.declared.items.WideIf.{WideIf}
+use Rattle.intake_wide.specs.declared.items.WideVer.{WideVer}
+use Rattle.intake_wide.specs.declared.items.WideSysmod.{WideSysmod}
+use Rattle.intake_sysmod.specs.declared.ver_operands.Lists.{Lists}
+use Rattle.intake_sysmod.specs.declared.ver_operands.Operands.{Operands}
+use Rattle.intake_wide.specs.Stated.{text_in, AreSame}
+use Rattle.intake_sysmod.specs.Elements.{IsChanged}
+
+-- the ++IF of the file: its function and its requisites
+pub record IsIf (stated : WideIf) (carried : IfReq) : Type 0 where
+  pub function_is : text_in stated.fmid ≡ Some carried.function
+  pub req_is : AreSame stated.req.items carried.req
+
+-- the ++VER of the file for one of its SRELs: the FMID, just the ids of each list, and the ++IFs
+pub record IsVer (stated : WideVer) (release : Text) (carried : Ver) : Type 0 where
+  pub srel_is : carried.srel ≡ release
+  pub fmid_is : text_in stated.fmid ≡ carried.fmid
+  pub pre_is : AreSame stated.pre.items carried.pre
+  pub req_is : AreSame stated.req.items carried.req
+  pub sup_is : AreSame stated.sup.items carried.sup
+  pub npre_is : AreSame stated.npre.items carried.npre
+  pub delete_is : AreSame stated.delete.items carried.del
+  pub ifs_are : Beside (λ _. IsIf) stated.ifs.items carried.ifs
+
+-- the lists of a ++VER as they are read
+pub record AreLists (stated : WideVer) (lists : Lists) : Type 0 where
+  pub pre_is : AreSame stated.pre.items lists.pre
+  pub req_is : AreSame stated.req.items lists.req
+  pub sup_is : AreSame stated.sup.items lists.sup
+  pub npre_is : AreSame stated.npre.items lists.npre
+  pub delete_is : AreSame stated.delete.items lists.delete
+
+-- all that it says for whichever SREL
+pub record AreOperands (stated : WideVer) (operands : Operands) : Type 0 where
+  pub fmid_is : text_in stated.fmid ≡ operands.fmid
+  pub lists_are : AreLists stated operands.lists
+  pub ifs_are : Beside (λ _. IsIf) stated.ifs.items operands.ifs.items
+
+-- for some SREL of the ++VER
+abbrev pub IsSaidBy : WideVer → Ver → Type 0
+IsSaidBy stated carried = Any (λ s. IsVer stated s.items carried) stated.srels.items
+
+-- for each SREL of it there is one
+abbrev pub IsCarriedIn : List Ver → WideVer → Type 0
+IsCarriedIn carried stated = All (λ s. Any (IsVer stated s.items) carried) stated.srels.items
+
+-- All that is stated is there, and nothing else is there.
+pub record AreVers (stated : List WideVer) (carried : List Ver) : Type 0 where
+  pub carried_all : All (IsCarriedIn carried) stated
+  pub said_all : All (λ w. Any (λ v. IsSaidBy v w) stated) carried
+
+-- It has the id and the kind, for each SREL the FMID and each PRE, REQ, ++IF REQ, NPRE and DELETE that is stated, no
+-- SUP that is not, and changes each element that the file's SYSMOD changes.
+pub record IsNoLooser (decide : Bool) (stated : WideSysmod) (carried : Sysmod) : Type 0 where
+  pub id_is : carried.id ≡ stated.id.items
+  pub kind_is : carried.kind ≡ stated.kind
+  pub vers_are : AreVers stated.vers.items carried.vers
+  pub changed : All (IsChanged decide carried.changes) stated.elements.items

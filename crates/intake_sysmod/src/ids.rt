@@ -1,0 +1,86 @@
+//! Lists of ids.
+ghost use Rattle.std.specs.Prelude.{◌≡◌, IfOk, IfSome};
+ghost use Rattle.intake_wide.specs.Stated.{texts, AreSame};
+
+use fields::{Id, IdList};
+use intake_cards::{Reason, Remarks, Subject};
+use std::alloc::{AllocError, Global};
+
+/// The most ids that a list may have.
+pub(crate) const MOST_IDS: usize = 1000;
+
+/// The texts as ids, or nothing where one has not the form.
+fn read_ids(alloc: Global, stated: &[Vec<u8>]) -> Result<Option<Vec<Id>>, AllocError>
+    ensures { IfOk result (λ found. IfSome found (λ ids. ids.items ≡ texts stated.now)) }
+{
+    let mut ids = Vec::with_capacity(alloc, stated.len())?;
+    for text in stated {
+        let Some(id) = Id::read(text.as_slice()) else {
+            return Ok(None);
+        };
+        ids.push(id)?;
+    }
+    Ok(Some(ids))
+}
+
+/// The texts as a list of ids, or nothing where one has not the form.
+fn read_list(alloc: Global, stated: &[Vec<u8>]) -> Result<Option<IdList>, AllocError>
+    ensures { IfOk result (λ found. IfSome found (λ ids. AreSame stated.now ids)) }
+{
+    match read_ids(alloc, stated)? {
+        Some(ids) => Ok(Some(IdList::from_vec(ids))),
+        None => Ok(None),
+    }
+}
+
+/// The first of the texts that is no id, or nothing.
+fn bad_id(stated: &[Vec<u8>]) -> &[u8] {
+    for text in stated {
+        if Id::read(text.as_slice()).is_none() {
+            return text.as_slice();
+        }
+    }
+    b""
+}
+
+/// The ids of an operand. It is told where there are none to answer: where one has not the form of an id, or there are
+/// more than 1,000.
+pub(crate) fn ids_of(
+    alloc: Global,
+    remarks: &mut Remarks,
+    subject: &Subject<'_>,
+    operand: &[u8],
+    stated: &[Vec<u8>],
+) -> Result<Option<IdList>, AllocError>
+    ensures { IfOk result (λ found. IfSome found (λ ids. AreSame stated.now ids)) }
+{
+    let Some(ids) = read_list(alloc, stated)? else {
+        remarks.leave_out(alloc, subject, operand, Reason::BadId, bad_id(stated))?;
+        return Ok(None);
+    };
+    if ids.len() > MOST_IDS {
+        remarks.leave_out(alloc, subject, operand, Reason::LongList, b"")?;
+        return Ok(None);
+    }
+    if ids.len() != stated.len() {
+        remarks.tell_carried(alloc, subject, operand, Reason::Double, b"")?;
+    }
+    Ok(Some(ids))
+}
+
+/// The id that an operand may have: the answer is nothing where it has not the form, which is told.
+pub(crate) fn id_of(
+    alloc: Global,
+    remarks: &mut Remarks,
+    subject: &Subject<'_>,
+    operand: &[u8],
+    stated: &[u8],
+) -> Result<Option<Id>, AllocError>
+    ensures { IfOk result (λ found. IfSome found (λ id. id ≡ stated.now)) }
+{
+    let id = Id::read(stated);
+    if id.is_none() {
+        remarks.leave_out(alloc, subject, operand, Reason::BadId, stated)?;
+    }
+    Ok(id)
+}

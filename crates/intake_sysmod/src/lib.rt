@@ -1,0 +1,23 @@
+//! The SYSMODs of a shop's files, but for their holds: `++VER`s with their `++IF`s, and the elements that are brought
+//! or updated, with their texts. Each element is carried, or has a stand-in where that is asked for, or is told.
+//! A SYSMOD is carried whole or not at all, so that it is never looser than what the file states: `carried_sysmod`
+//! promises it.
+#![tactic(auto)]
+
+mod carried;
+mod changes;
+mod elements;
+mod ids;
+mod ifs;
+mod options;
+mod others;
+mod stand_ins;
+mod texts;
+mod updates;
+mod ver_operands;
+mod vers;
+mod words;
+
+pub use carried::carried_sysmod;
+pub use options::{Member, Options, Syslib};
+pub use others::tell_others;

@@ -1,0 +1,33 @@
+//! Statements that are carried nowhere.
+
+use crate::options::Options;
+use intake_cards::{Reason, Remarks, Subject};
+use intake_wide::{OtherReason, WideOther};
+use std::alloc::{AllocError, Global};
+
+/// Tells of the statements of a SYSMOD or of a file that are carried nowhere, and answers whether a SYSMOD can be
+/// carried without them. The error comes where memory runs out.
+pub fn tell_others(
+    alloc: Global,
+    options: &Options,
+    remarks: &mut Remarks,
+    others: &[WideOther],
+) -> Result<bool, AllocError> {
+    let mut good = true;
+    for other in others {
+        let subject = Subject {
+            place: other.place,
+            word: other.word.as_slice(),
+            id: other.name.as_slice(),
+        };
+        if other.reason == OtherReason::NoService {
+            remarks.tell_dropped(alloc, &subject, b"", Reason::NoService, b"")?;
+        } else if other.reason == OtherReason::LoadModules && options.decide {
+            remarks.tell_dropped(alloc, &subject, b"", Reason::LoadModules, b"")?;
+        } else {
+            remarks.leave_out(alloc, &subject, b"", Reason::from(other.reason), b"")?;
+            good = false;
+        }
+    }
+    Ok(good)
+}

@@ -1,0 +1,156 @@
+//! `++VER`.
+ghost use Rattle.std.specs.Prelude.{◌≡◌, IfOk, IfSome, IsPermutation};
+ghost use Rattle.lemmas.specs.Beside.{Beside};
+ghost use Rattle.intake_sysmod.specs.NoLooser.{IsVer, AreVers, AreOperands};
+
+use crate::ver_operands::{Operands, operands_of};
+use fields::Srel;
+use intake_cards::{Reason, Remarks, Subject};
+use intake_wide::{WideSysmod, WideVer};
+use sorted::copied;
+use std::alloc::{AllocError, Global};
+use sysmod::Ver;
+use terms::Kind;
+
+/// The most `++VER`s that a SYSMOD may have.
+const MOST_VERS: usize = 8;
+
+/// The `++VER` of these operands for one SREL.
+fn ver_of(alloc: Global, srel: Srel, operands: &Operands) -> Result<Ver, AllocError>
+    ensures { IfOk result (λ ver. (ver.srel ≡ srel) × (ver.fmid ≡ operands.now.fmid)
+        × (ver.pre ≡ operands.now.lists.pre) × (ver.req ≡ operands.now.lists.req)
+        × (ver.sup ≡ operands.now.lists.sup) × (ver.npre ≡ operands.now.lists.npre)
+        × (ver.del ≡ operands.now.lists.delete) × (ver.ifs ≡ operands.now.ifs.items)) }
+{
+    let lists = &operands.lists;
+    Ok(Ver {
+        srel,
+        fmid: operands.fmid,
+        pre: lists.pre.try_clone(alloc)?,
+        req: lists.req.try_clone(alloc)?,
+        sup: lists.sup.try_clone(alloc)?,
+        npre: lists.npre.try_clone(alloc)?,
+        del: lists.delete.try_clone(alloc)?,
+        ifs: copied(alloc, operands.ifs.as_slice())?,
+    })
+}
+
+/// The `++VER`s for the SRELs, or nothing where one of these has not the form, which is told.
+fn for_srels(
+    alloc: Global,
+    remarks: &mut Remarks,
+    subject: &Subject<'_>,
+    stated: &WideVer,
+    operands: &Operands,
+) -> Result<Option<Vec<Ver>>, AllocError>
+    requires { AreOperands stated.now operands.now }
+    ensures { IfOk result (λ found. IfSome found (λ vers.
+        Beside (λ _ s. IsVer stated.now s.items) stated.now.srels.items vers.items)) }
+{
+    let mut vers = Vec::with_capacity(alloc, stated.srels.len())?;
+    for srel in stated.srels.iter() {
+        let Some(srel) = Srel::read(srel.as_slice()) else {
+            remarks.leave_out(alloc, subject, b"SREL", Reason::BadValue, srel.as_slice())?;
+            return Ok(None);
+        };
+        vers.push(ver_of(alloc, srel, operands)?)?;
+    }
+    Ok(Some(vers))
+}
+
+/// The `++VER`s of one statement, one for each SREL, or nothing where it can't be carried, which is told.
+fn vers_for(
+    alloc: Global,
+    remarks: &mut Remarks,
+    sysmod: &WideSysmod,
+    stated: &WideVer,
+) -> Result<Option<Vec<Ver>>, AllocError>
+    ensures { IfOk result (λ found. IfSome found (λ vers.
+        Beside (λ _ s. IsVer stated.now s.items) stated.now.srels.items vers.items)) }
+{
+    let subject = Subject {
+        place: stated.place,
+        word: b"VER",
+        id: sysmod.id.as_slice(),
+    };
+    if stated.srels.is_empty() {
+        remarks.leave_out(alloc, &subject, b"SREL", Reason::Missing, b"")?;
+        return Ok(None);
+    }
+    match operands_of(alloc, remarks, sysmod, stated)? {
+        Some(operands) => for_srels(alloc, remarks, &subject, stated, &operands),
+        None => Ok(None),
+    }
+}
+
+/// The `++VER`s of all statements, as they stand, or nothing where one can't be carried. Each of those is told.
+fn stated_vers(
+    alloc: Global,
+    remarks: &mut Remarks,
+    sysmod: &WideSysmod,
+) -> Result<Option<Vec<Ver>>, AllocError>
+    ensures { IfOk result (λ found. IfSome found (λ vers. AreVers sysmod.now.vers.items vers.items)) }
+{
+    let mut vers = Vec::new(alloc);
+    let mut all = true;
+    for stated in sysmod.vers.iter() {
+        let Some(mut those) = vers_for(alloc, remarks, sysmod, stated)? else {
+            all = false;
+            continue;
+        };
+        vers.append(&mut those)?;
+    }
+    if all { Ok(Some(vers)) } else { Ok(None) }
+}
+
+/// The `++VER`s by their SRELs, those of one SREL as they stand.
+fn by_srel(mut vers: Vec<Ver>) -> Result<Vec<Ver>, AllocError>
+    ensures { IfOk result (λ sorted. IsPermutation vers.items sorted.items) }
+{
+    vers.sort_by_key(|ver| ver.srel)?;
+    Ok(vers)
+}
+
+/// Whether a SYSMOD of the kind may have both.
+fn are_apart(kind: Kind, one: &Ver, other: &Ver) -> bool {
+    one.srel != other.srel || (kind != Kind::Function && one.fmid != other.fmid)
+}
+
+/// A `++VER` that may not stand beside an earlier one.
+fn second(kind: Kind, vers: &[Ver]) -> Option<&Ver> {
+    for (place, ver) in vers.iter().enumerate() {
+        for earlier in &vers[..place] {
+            if !are_apart(kind, earlier, ver) {
+                return Some(ver);
+            }
+        }
+    }
+    None
+}
+
+/// The `++VER`s of a SYSMOD by their SRELs, or nothing where they can't be carried. Why is told.
+pub(crate) fn vers_of(
+    alloc: Global,
+    remarks: &mut Remarks,
+    subject: &Subject<'_>,
+    sysmod: &WideSysmod,
+) -> Result<Option<Vec<Ver>>, AllocError>
+    ensures { IfOk result (λ found. IfSome found (λ vers. AreVers sysmod.now.vers.items vers.items)) }
+{
+    let Some(vers) = stated_vers(alloc, remarks, sysmod)? else {
+        return Ok(None);
+    };
+    if vers.is_empty() {
+        remarks.leave_out(alloc, subject, b"VER", Reason::Missing, b"")?;
+        return Ok(None);
+    }
+    if vers.len() > MOST_VERS {
+        remarks.leave_out(alloc, subject, b"VER", Reason::TooMany, b"")?;
+        return Ok(None);
+    }
+    if let Some(ver) = second(sysmod.kind, vers.as_slice()) {
+        remarks.leave_out(alloc, subject, b"VER", Reason::Twice, ver.srel.as_bytes())?;
+        return Ok(None);
+    }
+    Ok(Some(by_srel(vers)?))
+}

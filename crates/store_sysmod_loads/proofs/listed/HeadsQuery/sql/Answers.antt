@@ -1,6 +1,0 @@
-use Rattle.store_sysmod_loads.proofs.Texts.{heads}
-use Rattle.store_sysmod_loads.proofs.Exact.{exact_head}
-use Rattle.store_sysmod_loads.proofs.listed.HeadsQuery.sql.Goals as goal
-
-pub returns : goal.returns
-returns c = record { reads = heads.reads; there = heads.there; selects = heads.selects; exact = exact_head }

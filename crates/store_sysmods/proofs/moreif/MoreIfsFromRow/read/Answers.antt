@@ -1,0 +1,23 @@
+use Rattle.std.proofs.Common.{◌≡◌, length, sym, ◌∙◌}
+use Rattle.store_sysmods.proofs.Exact.{formed_if}
+use Rattle.store_sysmods.proofs.CellLemmas.{whole_more_if}
+use Rattle.store_sysmods.proofs.moreif.MoreIfsFromRow.read.Goals as goal
+
+pub returns-clause-read : goal.returns-clause-read
+returns-clause-read c =
+    let len : length c.args.row.now ≡ 6 = sym c.column_count.ensures ∙ c.if-column_count-ne6.false in (
+      whole_more_if c.args.row.now c.in-Some.id c.in-Some-srel_in.srel c.in-Some-further_in.place
+          c.in-Some-number_in.number
+          c.in-Some-id_in.function c.in_ok-req.req len
+          c.in-Some.ensures.some.0 c.in-Some-srel_in.ensures.some.0 c.in-Some-further_in.ensures.some.0
+          c.in-Some-number_in.ensures.some
+          c.in-Some-id_in.ensures.some.0 c.in_ok-req.ensures.some.0,
+      (
+        (
+          c.in-Some.ensures.some.1,
+          c.in-Some-srel_in.ensures.some.1,
+          formed_if _ _ _ c.in-Some-id_in.ensures.some.1 (c.in_ok-req.ensures.some.1, c.in_ok-req.ensures.some.2),
+        ),
+        c.in-Some-further_in.ensures.some.1,
+      ),
+    )

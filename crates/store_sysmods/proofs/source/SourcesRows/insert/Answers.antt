@@ -1,4 +1,0 @@
-use Rattle.store_sysmods.proofs.source.SourcesRows.insert.Goals as goal
-
-pub returns-clause-puts : goal.returns-clause-puts
-returns-clause-puts g c = c.insert_row.ensures.puts

@@ -1,0 +1,263 @@
+//! The table of SYSMODs, each without its statements. Under schema 1 its rows have the sources too.
+
+ghost use Rattle.std.specs.Prelude.{◌≡◌, ◌≢◌, ◌≤◌, ◌↔◌, ℕ, List, [], ◌∷◌, length, IsTrue, IfOk, IsErrOf, OnOk};
+ghost use Rattle.sqlite.specs.Held.{state};
+ghost use Rattle.sqlite.specs.Order.{column};
+ghost use Rattle.sqlite.specs.State.{HasCleanDisk};
+ghost use Rattle.store_rows.specs.Calls.{RunsInside};
+ghost use Rattle.store_rows.specs.Inside.{StaysInside};
+ghost use Rattle.store_rows.specs.Rows.{Contents, HasContents, HaveNone, in_table, without};
+ghost use Rattle.store_schema.specs.Forms.{AreSorted};
+ghost use Rattle.store_schema.specs.Rows.{ids, sysmod_row};
+ghost use Rattle.store_schema.specs.Tables.{sysmod as sysmod_table, store_schema};
+ghost use Rattle.terms.specs.Forms.{IsSource};
+ghost use Rattle.store_sysmods.specs.declared.head.HeadRow.{HeadRow as AHeadRow};
+ghost use Rattle.store_sysmods.specs.declared.head.BareHead.{BareHead as ABareHead};
+ghost use Rattle.store_sysmods.specs.Heads.{insert_sysmod as into_sysmod, delete_sysmod, AreShort};
+ghost use Rattle.store_sysmods.specs.Steps.{Puts};
+ghost use Rattle.store_sysmods.specs.Sysmods.{sysmod_key, sysmod_children};
+
+use crate::listed::Listed;
+use fields::spelling::kind_text;
+use fields::{Id, Source, SourceList};
+use sorted::Keyed;
+use sqlite::{Alter, Error, Row, Transaction};
+use sqlite_value::value::ValueRef;
+use std::alloc::Global;
+use store_columns::{Query, id_in, kind_in, sources_in};
+use store_rows::{FromRow, ReadError, insert, remove_parent, text};
+use sysmod::Sysmod;
+use terms::Kind;
+
+const SELECT: &str = "SELECT id, kind, sources FROM sysmod";
+
+const INSERT: &str = "INSERT INTO sysmod (id, kind, sources) VALUES (?1, ?2, ?3)";
+
+const DELETE: &str = "DELETE FROM sysmod WHERE id = ?1";
+
+// ---- as it is read
+
+/// A SYSMOD without its statements.
+#[derive(Drop)]
+pub struct HeadRow {
+    pub id: Id,
+    pub kind: Kind,
+    pub sources: SourceList,
+}
+
+impl Keyed for HeadRow {
+    type Key = Id;
+
+    ghost key_of = { λ head. head.id };
+
+    fn key(&self) -> Id {
+        self.id
+    }
+}
+
+fn is_short(name: Source) -> bool
+    ensures { IsTrue result ↔ (length name ≤ 8) }
+{
+    name.as_bytes().len() <= 8
+}
+
+fn are_short(names: &[Source]) -> bool
+    ensures { IsTrue result ↔ AreShort names.now }
+{
+    names.iter().all(|name| is_short(*name))
+}
+
+/// The sources of schema 1, which had 8 characters at most.
+fn short_sources_in(alloc: Global, row: &Row, at: usize) -> Result<SourceList, ReadError>
+    ensures some { IfOk result (λ names. (column row.now at ≡ ids names) × AreSorted IsSource names × AreShort names) }
+    ensures none { IsErrOf result ReadError.BadRow → (names : List (List ℕ)) → AreSorted IsSource names
+        → AreShort names → column row.now at ≢ ids names }
+    ensures fault { IsErrOf result ReadError.Fault → ⊥ }
+{
+    let names = sources_in(alloc, row, at)?;
+    if !are_short(names.as_slice()) {
+        return Err(ReadError::BadRow);
+    }
+    Ok(names)
+}
+
+/// Reads SYSMODs with their sources, as schema 1 has them.
+pub struct Heads;
+
+impl FromRow for Heads {
+    ghost use Rattle.store_sysmods.specs.Heads.{row_of_head, HasShortForms};
+
+    type Item = HeadRow;
+
+    ghost row_of = { row_of_head };
+
+    ghost has_form = { HasShortForms };
+
+    fn read(alloc: Global, row: &Row) -> Result<HeadRow, ReadError>
+        ensures read { IfOk result (λ item. (row.now ≡ row_of_head item) × HasShortForms item) }
+        ensures none { IsErrOf result ReadError.BadRow → (item : AHeadRow) → HasShortForms item
+            → row.now ≢ row_of_head item }
+        ensures fault { IsErrOf result ReadError.Fault → ⊥ }
+    {
+        if row.column_count() != 3 {
+            return Err(ReadError::BadRow);
+        }
+        let Some(id) = id_in(row, 0) else {
+            return Err(ReadError::BadRow);
+        };
+        let Some(kind) = kind_in(row, 1) else {
+            return Err(ReadError::BadRow);
+        };
+        let sources = short_sources_in(alloc, row, 2)?;
+        Ok(HeadRow { id, kind, sources })
+    }
+}
+
+impl Query for Heads {
+    ghost use Rattle.std.specs.Prelude.{⊤};
+    ghost use Rattle.store_schema.specs.Tables.{sysmod};
+
+    type Rows = Heads;
+
+    ghost table = { sysmod };
+
+    ghost at = { 1 };
+
+    ghost width = { 0 };
+
+    ghost knows = { λ r. ⊤ };
+
+    fn sql() -> &'static str {
+        SELECT
+    }
+}
+
+impl Listed for Heads {
+    ghost use Rattle.std.specs.Prelude.{refl};
+
+    type Key = Id;
+
+    ghost key_of = { λ row. row.id };
+
+    fn key(item: &HeadRow) -> Id {
+        item.id
+    }
+
+    ghost whole = { refl };
+}
+
+/// Whether the column says that there is no source.
+fn is_bare(row: &Row, at: usize) -> bool
+    ensures { IsTrue result ↔ (column row.now at ≡ ids []) }
+{
+    match text(row, at) {
+        Some(text) => text.is_empty(),
+        None => false,
+    }
+}
+
+/// A SYSMOD without its statements and its sources.
+#[derive(Drop)]
+pub struct BareHead {
+    pub id: Id,
+    pub kind: Kind,
+}
+
+/// Reads SYSMODs without their sources.
+pub struct BareHeads;
+
+impl FromRow for BareHeads {
+    ghost use Rattle.store_sysmods.specs.Heads.{row_of_bare, HasBareForms};
+
+    type Item = BareHead;
+
+    ghost row_of = { row_of_bare };
+
+    ghost has_form = { HasBareForms };
+
+    fn read(alloc: Global, row: &Row) -> Result<BareHead, ReadError>
+        ensures read { IfOk result (λ item. (row.now ≡ row_of_bare item) × HasBareForms item) }
+        ensures none { IsErrOf result ReadError.BadRow → (item : ABareHead) → HasBareForms item
+            → row.now ≢ row_of_bare item }
+        ensures fault { IsErrOf result ReadError.Fault → ⊥ }
+    {
+        if row.column_count() != 3 {
+            return Err(ReadError::BadRow);
+        }
+        let Some(id) = id_in(row, 0) else {
+            return Err(ReadError::BadRow);
+        };
+        let Some(kind) = kind_in(row, 1) else {
+            return Err(ReadError::BadRow);
+        };
+        if !is_bare(row, 2) {
+            return Err(ReadError::BadRow);
+        }
+        Ok(BareHead { id, kind })
+    }
+}
+
+impl Query for BareHeads {
+    ghost use Rattle.std.specs.Prelude.{⊤};
+    ghost use Rattle.store_schema.specs.Tables.{sysmod};
+
+    type Rows = BareHeads;
+
+    ghost table = { sysmod };
+
+    ghost at = { 1 };
+
+    ghost width = { 0 };
+
+    ghost knows = { λ r. ⊤ };
+
+    fn sql() -> &'static str {
+        SELECT
+    }
+}
+
+impl Listed for BareHeads {
+    ghost use Rattle.std.specs.Prelude.{refl};
+
+    type Key = Id;
+
+    ghost key_of = { λ row. row.id };
+
+    fn key(item: &BareHead) -> Id {
+        item.id
+    }
+
+    ghost whole = { refl };
+}
+
+// ---- as it is written
+
+/// Adds the SYSMOD's own row, whose column of sources stays empty.
+pub(crate) fn insert_row<S: Alter>(
+    tx: &mut Transaction<'_, S>,
+    sysmod: &Sysmod,
+) -> Result<(), Error>
+    ensures same_reference { tx.new.conn.ghost_name ≡ tx.old.conn.ghost_name }
+    ensures puts { Puts S.Store into_sysmod sysmod_table (sysmod_row sysmod.now ∷ [])
+        tx.old.conn.now tx.new.conn.now result }
+{
+    let id = ValueRef::Text(sysmod.id.as_bytes());
+    let kind = ValueRef::Text(kind_text(sysmod.kind));
+    let sources = ValueRef::Text(b"");
+    insert(tx, INSERT, &[id, kind, sources])
+}
+
+/// Takes out the SYSMOD's own row, where the tables that refer to it hold none of the SYSMOD.
+pub(crate) fn remove_row<S: Alter>(tx: &mut Transaction<'_, S>, id: Id) -> Result<(), Error>
+    ensures same_reference { tx.new.conn.ghost_name ≡ tx.old.conn.ghost_name }
+    ensures inside { StaysInside S.Store tx.old.conn.now tx.new.conn.now }
+    ensures calls { RunsInside S.Store ((delete_sysmod, sysmod_key id) ∷ []) tx.old.conn.now tx.new.conn.now result }
+    ensures ok { OnOk result (HasCleanDisk (state S.Store tx.new.conn.now) → (contents : Contents)
+        → HaveNone sysmod_children (sysmod_key id) contents
+        → HasContents store_schema contents (state S.Store tx.old.conn.now).now
+        → HasContents store_schema (in_table sysmod_table (without (sysmod_key id)) contents)
+        (state S.Store tx.new.conn.now).now) }
+{
+    let key = [ValueRef::Text(id.as_bytes())];
+    remove_parent(tx, DELETE, &key)
+}

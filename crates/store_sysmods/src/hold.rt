@@ -1,0 +1,282 @@
+//! The table of holds: external ones and those of SYSMODs.
+
+ghost use Rattle.std.specs.Prelude.{◌≡◌, ◌≢◌, ◌↔◌, ℕ, List, Option, map, option_map, IsTrue, IfOk, IfSome, IfNone};
+ghost use Rattle.std.specs.Prelude.{IsErrOf, IsPermutation, OnOk};
+ghost use Rattle.std.specs.List.{AllByRecursion};
+ghost use Rattle.std.specs.String.{string_bytes};
+ghost use Rattle.sqlite.specs.declared.types.Value.TheVariants.{Text};
+ghost use Rattle.sqlite.specs.Held.{state};
+ghost use Rattle.sqlite.specs.Order.{column};
+ghost use Rattle.sqlite.specs.State.{HasCleanDisk};
+ghost use Rattle.sqlite.specs.Values.{or_null};
+ghost use Rattle.sqlite_value.specs.Value.{owned};
+ghost use Rattle.store_rows.specs.Calls.{RunsInside};
+ghost use Rattle.store_rows.specs.Inside.{StaysInside, Turns};
+ghost use Rattle.store_rows.specs.Reads.{OnlyReads};
+ghost use Rattle.store_rows.specs.Rows.{Contents, HasContents, in_table, without, with_put};
+ghost use Rattle.store_schema.specs.declared.schema.Schema.{Schema};
+ghost use Rattle.store_schema.specs.Earlier.{schema_under, StandsUnder};
+ghost use Rattle.store_schema.specs.Forms.{IsComment, HasHoldForms};
+ghost use Rattle.store_schema.specs.Inventory.{Inventory};
+ghost use Rattle.store_schema.specs.Rows.{hold_row, flag as flag_of};
+ghost use Rattle.store_schema.specs.Tables.{hold as hold_table, store_schema};
+ghost use Rattle.terms.specs.Forms.{IsReason};
+ghost use Rattle.terms.specs.Global.{hold_cmp};
+ghost use Rattle.terms.specs.Rising.{Rises};
+ghost use Rattle.terms.specs.Types as terms;
+ghost use Rattle.store_sysmods.specs.Holds.{hold_key, key_row, put_hold_calls, remove_hold_calls};
+
+use crate::hold_comment::is_comment;
+use fields::spelling::hold_text;
+use fields::{Class, HoldDate, Id, Reason};
+use sqlite::{Alter, Connection, Error, Row, Transaction};
+use sqlite_value::value::ValueRef;
+use std::alloc::Global;
+use store_columns::{Query, class_in, flag_in, hold_date_in, hold_kind_in, id_in, load_listed};
+use store_rows::{FromRow, ReadError, optional_text, put, remove, text};
+use sysmod::Hold;
+use terms::HoldKind;
+
+const SELECT: &str = "SELECT id, kind, reason, fmid, class, date, comment, internal FROM hold";
+
+const PUT: &str = "INSERT INTO hold (id, kind, reason, fmid, class, date, comment, internal) \
+    VALUES (?1, ?2, ?3, ?4, ?5, ?6, ?7, ?8) \
+    ON CONFLICT (id, kind, reason) DO UPDATE SET fmid = excluded.fmid, class = excluded.class, \
+    date = excluded.date, comment = excluded.comment, internal = excluded.internal";
+
+const DELETE: &str = "DELETE FROM hold WHERE id = ?1 AND kind = ?2 AND reason = ?3";
+
+// ---- as it is read
+
+/// Whether the reason suits the kind.
+fn suits(kind: HoldKind, reason: Reason) -> bool
+    ensures { IsTrue result ↔ IsReason kind reason }
+{
+    match kind {
+        HoldKind::Error => reason.is_id(),
+        _ => true,
+    }
+}
+
+fn reason_in(row: &Row, at: usize, kind: HoldKind) -> Option<Reason>
+    ensures some { IfSome result (λ reason. (column row.now at ≡ Text reason) × IsReason kind reason) }
+    ensures none { IfNone result ((reason : List ℕ) → IsReason kind reason → column row.now at ≢ Text reason) }
+{
+    let reason = Reason::read(text(row, at)?)?;
+    if !suits(kind, reason) {
+        return None;
+    }
+    Some(reason)
+}
+
+fn comment_in(alloc: Global, row: &Row, at: usize) -> Result<Option<String>, ReadError>
+    ensures some { IfOk result (λ comment. (column row.now at ≡ or_null Text (option_map string_bytes comment))
+        × IfSome (option_map string_bytes comment) IsComment) }
+    ensures none { IsErrOf result ReadError.BadRow → (comment : Option (List ℕ)) → IfSome comment IsComment
+        → column row.now at ≢ or_null Text comment }
+    ensures fault { IsErrOf result ReadError.Fault → ⊥ }
+{
+    let bytes = match optional_text(row, at) {
+        Some(Some(bytes)) => bytes,
+        Some(None) => return Ok(None),
+        None => return Err(ReadError::BadRow),
+    };
+    if !is_comment(bytes) {
+        return Err(ReadError::BadRow);
+    }
+    match std::str::from_utf8(bytes) {
+        Ok(comment) => Ok(Some(String::from_str(alloc, comment)?)),
+        Err(_) => Err(ReadError::BadRow),
+    }
+}
+
+/// Reads holds.
+struct Holds;
+
+impl FromRow for Holds {
+    ghost use Rattle.store_schema.specs.Rows.{hold_row};
+    ghost use Rattle.store_schema.specs.Forms.{HasHoldForms};
+
+    type Item = Hold;
+
+    ghost row_of = { hold_row };
+
+    ghost has_form = { HasHoldForms };
+
+    fn read(alloc: Global, row: &Row) -> Result<Hold, ReadError>
+        ensures read { IfOk result (λ hold. (row.now ≡ hold_row hold) × HasHoldForms hold) }
+        ensures none { IsErrOf result ReadError.BadRow → (hold : terms.Hold) → HasHoldForms hold
+            → row.now ≢ hold_row hold }
+        ensures fault { IsErrOf result ReadError.Fault → ⊥ }
+    {
+        if row.column_count() != 8 {
+            return Err(ReadError::BadRow);
+        }
+        let Some(id) = id_in(row, 0) else {
+            return Err(ReadError::BadRow);
+        };
+        let Some(kind) = hold_kind_in(row, 1) else {
+            return Err(ReadError::BadRow);
+        };
+        let Some(reason) = reason_in(row, 2, kind) else {
+            return Err(ReadError::BadRow);
+        };
+        let Some(fmid) = id_in(row, 3) else {
+            return Err(ReadError::BadRow);
+        };
+        let Some(class) = class_in(row, 4) else {
+            return Err(ReadError::BadRow);
+        };
+        let Some(date) = hold_date_in(row, 5) else {
+            return Err(ReadError::BadRow);
+        };
+        let comment = comment_in(alloc, row, 6)?;
+        let Some(internal) = flag_in(row, 7) else {
+            return Err(ReadError::BadRow);
+        };
+        Ok(Hold {
+            id,
+            kind,
+            reason,
+            fmid,
+            class,
+            date,
+            comment,
+            internal,
+        })
+    }
+}
+
+impl Query for Holds {
+    ghost use Rattle.std.specs.Prelude.{⊤};
+    ghost use Rattle.store_schema.specs.Tables.{hold};
+
+    type Rows = Holds;
+
+    ghost table = { hold };
+
+    ghost at = { 4 };
+
+    ghost width = { 0 };
+
+    ghost knows = { λ r. ⊤ };
+
+    fn sql() -> &'static str {
+        SELECT
+    }
+}
+
+/// The holds by their keys.
+fn by_key(mut holds: Vec<Hold>) -> Vec<Hold>
+    ensures same { IsPermutation holds.items result.items }
+    ensures only { (others : List terms.Hold) → IsPermutation holds.items others → Rises hold_cmp (λ h. h) others
+        → result.items ≡ others }
+{
+    holds.sort_unstable_by(|a, b| a.order(b));
+    holds
+}
+
+/// All holds, by id, kind and reason. `BadRow` comes where a row is no hold, `Memory` where memory is short, and
+/// `Fault` where the disk fails or the tables are others.
+pub fn load_holds<S: Alter>(alloc: Global, conn: &mut Connection<S>) -> Result<Vec<Hold>, ReadError>
+    ensures found { HasCleanDisk (state S.Store conn.new) → (r : Schema) (contents : Contents)
+        → HasContents (schema_under r) contents (state S.Store conn.old).now
+        → IfOk result (λ holds. IsPermutation (map hold_row holds.items) (contents hold_table.tree)) }
+    ensures ordered { HasCleanDisk (state S.Store conn.new) → (r : Schema) (i : Inventory)
+        → StandsUnder r i (state S.Store conn.old).now → IfOk result (λ holds. holds.items ≡ i.global.holds) }
+    ensures forms { IfOk result (λ holds. AllByRecursion HasHoldForms holds.items) }
+    ensures none { HasCleanDisk (state S.Store conn.new) → IsErrOf result ReadError.BadRow → (r : Schema)
+        → (contents : Contents) → HasContents (schema_under r) contents (state S.Store conn.old).now
+        → (holds : List terms.Hold) → AllByRecursion HasHoldForms holds
+        → ¬ IsPermutation (map hold_row holds) (contents hold_table.tree) }
+    ensures no_state { HasCleanDisk (state S.Store conn.new) → IsErrOf result ReadError.BadRow → (r : Schema)
+        → (i : Inventory) → ¬ StandsUnder r i (state S.Store conn.old).now }
+    ensures reads { (r : Schema) → OnlyReads S.Store (schema_under r) ReadError.BadRow ReadError.Fault conn.old
+        conn.new result }
+{
+    let holds = load_listed::<S, Holds>(alloc, conn, &[])?;
+    Ok(by_key(holds))
+}
+
+// ---- as it is written
+
+fn class_value(class: &Option<Class>) -> ValueRef<'_>
+    ensures { owned result ≡ or_null Text class.now }
+{
+    match class {
+        Some(class) => ValueRef::Text(class.as_bytes()),
+        None => ValueRef::Null,
+    }
+}
+
+fn date_value(date: &Option<HoldDate>) -> ValueRef<'_>
+    ensures { owned result ≡ or_null Text date.now }
+{
+    match date {
+        Some(date) => ValueRef::Text(date.as_bytes()),
+        None => ValueRef::Null,
+    }
+}
+
+fn comment_value(comment: &Option<String>) -> ValueRef<'_>
+    ensures { owned result ≡ or_null Text (option_map string_bytes comment.now) }
+{
+    match comment {
+        Some(comment) => ValueRef::Text(comment.as_bytes()),
+        None => ValueRef::Null,
+    }
+}
+
+fn flag_value(flag: bool) -> ValueRef<'static>
+    ensures { owned result ≡ flag_of flag }
+{
+    if flag {
+        return ValueRef::Int(1);
+    }
+    ValueRef::Int(0)
+}
+
+/// Takes out the hold that has the key, if there is one. An error comes where the disk fails or memory is short.
+pub fn remove_hold<S: Alter>(
+    tx: &mut Transaction<'_, S>,
+    id: Id,
+    kind: HoldKind,
+    reason: Reason,
+) -> Result<(), Error>
+    ensures same_reference { tx.new.conn.ghost_name ≡ tx.old.conn.ghost_name }
+    ensures inside { StaysInside S.Store tx.old.conn.now tx.new.conn.now }
+    ensures calls { RunsInside S.Store (remove_hold_calls id kind reason) tx.old.conn.now tx.new.conn.now result }
+    ensures ok { OnOk result (Turns S.Store tx.old.conn.now tx.new.conn.now (HasContents store_schema)
+        (in_table hold_table (without (key_row id kind reason)))) }
+{
+    let key = [
+        ValueRef::Text(id.as_bytes()),
+        ValueRef::Text(hold_text(kind)),
+        ValueRef::Text(reason.as_bytes()),
+    ];
+    remove(tx, DELETE, &key)
+}
+
+/// Puts the hold in place of the one that has its key, if there is one. An error comes where the disk fails or memory
+/// is short.
+pub fn put_hold<S: Alter>(tx: &mut Transaction<'_, S>, hold: &Hold) -> Result<(), Error>
+    ensures same_reference { tx.new.conn.ghost_name ≡ tx.old.conn.ghost_name }
+    ensures inside { StaysInside S.Store tx.old.conn.now tx.new.conn.now }
+    ensures calls { RunsInside S.Store (put_hold_calls hold.now) tx.old.conn.now tx.new.conn.now result }
+    ensures ok { OnOk result (Turns S.Store tx.old.conn.now tx.new.conn.now (HasContents store_schema)
+        (with_put hold_table (hold_key hold.now) (hold_row hold.now))) }
+{
+    let id = ValueRef::Text(hold.id.as_bytes());
+    let kind = ValueRef::Text(hold_text(hold.kind));
+    let reason = ValueRef::Text(hold.reason.as_bytes());
+    let fmid = ValueRef::Text(hold.fmid.as_bytes());
+    let class = class_value(&hold.class);
+    let date = date_value(&hold.date);
+    let comment = comment_value(&hold.comment);
+    let internal = flag_value(hold.internal);
+    put(
+        tx,
+        PUT,
+        &[id, kind, reason, fmid, class, date, comment, internal],
+    )
+}
