@@ -176,7 +176,8 @@ below_parts : (a b : Need) → Below a b
     → (number a.0 < number b.0) ⊎ ((number a.0 ≡ number b.0) × IsTrue (is_lt (slice_cmp nat_cmp a.1 b.1)))
 unfolding numbered_cmp
 below_parts a b low =
-    elim (or_cases _ _ (lower_first (number a.0) (number b.0) (slice_cmp nat_cmp a.1 b.1) (rw (cmp_numbered a b) at low))) [
+    let numbered = rw (cmp_numbered a b) at low in
+    elim (or_cases _ _ (lower_first (number a.0) (number b.0) (slice_cmp nat_cmp a.1 b.1) numbered)) [
       | inl less ↦ inl (ltb-true (number a.0) (number b.0) less)
       | inr same ↦
           let parts = and_parts (number a.0 == number b.0) (is_lt (slice_cmp nat_cmp a.1 b.1)) same in
@@ -236,57 +237,76 @@ members_of kind needs z = (
       (eq-eqb (number kind) (number kind) refl)),
 )
 
+-- so of the rest behind the first one
+none_behind : (first : Need) (rest : List Need) → AllPairs Below (first ∷ rest) → (kind : NeedKind)
+    → number kind < number first.0 → ids_of rest kind ≡ []
+none_behind first rest rise kind less = none_before kind first rest less (AllPairs_first Below first rest rise)
+
 abbrev told : Need → OpenNeed
 told p = need_view (open_need p)
 
--- needs in order are those of the kinds, one kind after the other
+-- Needs in order are those of the kinds, one kind after the other: behind the first one, none is of a kind before its.
 grouped : (needs : List Need) → AllPairs Below needs
     → map told needs ≡ flat_map (λ kind. of_kind kind (ids_of needs kind)) all_needs
 unfolding number is_of ids_of
 grouped [] rise = refl
 grouped ((Fmid, z) ∷ rest) rise = ap (λ l. told (Fmid, z) ∷ l) (grouped rest (AllPairs_rest Below (Fmid, z) rest rise))
 grouped ((Pre, z) ∷ rest) rise =
-    let none : (kind : NeedKind) → number kind < number Pre → ids_of rest kind ≡ [] =
-    λ kind less. none_before kind (Pre, z) rest less (AllPairs_first Below (Pre, z) rest rise) in
-    let later = grouped rest (AllPairs_rest Below (Pre, z) rest rise) in
-    rw (none Fmid (omega arith))
-    (ap (λ l. told (Pre, z) ∷ l) (rw (none Fmid (omega arith)) at later))
+    let none = none_behind (Pre, z) rest rise in
+    let fmid = none Fmid (omega arith) in
+    rw fmid (ap (λ l. told (Pre, z) ∷ l)
+    (rw fmid at (grouped rest (AllPairs_rest Below (Pre, z) rest rise))))
 grouped ((Req, z) ∷ rest) rise =
-    let none : (kind : NeedKind) → number kind < number Req → ids_of rest kind ≡ [] =
-    λ kind less. none_before kind (Req, z) rest less (AllPairs_first Below (Req, z) rest rise) in
-    let later = grouped rest (AllPairs_rest Below (Req, z) rest rise) in
-    rw (none Fmid (omega arith), none Pre (omega arith))
-    (ap (λ l. told (Req, z) ∷ l) (rw (none Fmid (omega arith), none Pre (omega arith)) at later))
+    let none = none_behind (Req, z) rest rise in
+    let fmid = none Fmid (omega arith) in
+    let pre = none Pre (omega arith) in
+    rw (fmid, pre) (ap (λ l. told (Req, z) ∷ l)
+    (rw (fmid, pre) at (grouped rest (AllPairs_rest Below (Req, z) rest rise))))
 grouped ((Ifreq, z) ∷ rest) rise =
-    let none : (kind : NeedKind) → number kind < number Ifreq → ids_of rest kind ≡ [] =
-    λ kind less. none_before kind (Ifreq, z) rest less (AllPairs_first Below (Ifreq, z) rest rise) in
-    let later = grouped rest (AllPairs_rest Below (Ifreq, z) rest rise) in
-    rw (none Fmid (omega arith), none Pre (omega arith), none Req (omega arith))
-    (ap (λ l. told (Ifreq, z) ∷ l) (rw (none Fmid (omega arith), none Pre (omega arith), none Req (omega arith)) at later))
+    let none = none_behind (Ifreq, z) rest rise in
+    let fmid = none Fmid (omega arith) in
+    let pre = none Pre (omega arith) in
+    let req = none Req (omega arith) in
+    rw (fmid, pre, req) (ap (λ l. told (Ifreq, z) ∷ l)
+    (rw (fmid, pre, req) at (grouped rest (AllPairs_rest Below (Ifreq, z) rest rise))))
 grouped ((HoldError, z) ∷ rest) rise =
-    let none : (kind : NeedKind) → number kind < number HoldError → ids_of rest kind ≡ [] =
-    λ kind less. none_before kind (HoldError, z) rest less (AllPairs_first Below (HoldError, z) rest rise) in
-    let later = grouped rest (AllPairs_rest Below (HoldError, z) rest rise) in
-    rw (none Fmid (omega arith), none Pre (omega arith), none Req (omega arith), none Ifreq (omega arith))
-    (ap (λ l. told (HoldError, z) ∷ l) (rw (none Fmid (omega arith), none Pre (omega arith), none Req (omega arith), none Ifreq (omega arith)) at later))
+    let none = none_behind (HoldError, z) rest rise in
+    let fmid = none Fmid (omega arith) in
+    let pre = none Pre (omega arith) in
+    let req = none Req (omega arith) in
+    let ifreq = none Ifreq (omega arith) in
+    rw (fmid, pre, req, ifreq) (ap (λ l. told (HoldError, z) ∷ l)
+    (rw (fmid, pre, req, ifreq) at (grouped rest (AllPairs_rest Below (HoldError, z) rest rise))))
 grouped ((Orphan, z) ∷ rest) rise =
-    let none : (kind : NeedKind) → number kind < number Orphan → ids_of rest kind ≡ [] =
-    λ kind less. none_before kind (Orphan, z) rest less (AllPairs_first Below (Orphan, z) rest rise) in
-    let later = grouped rest (AllPairs_rest Below (Orphan, z) rest rise) in
-    rw (none Fmid (omega arith), none Pre (omega arith), none Req (omega arith), none Ifreq (omega arith), none HoldError (omega arith))
-    (ap (λ l. told (Orphan, z) ∷ l) (rw (none Fmid (omega arith), none Pre (omega arith), none Req (omega arith), none Ifreq (omega arith), none HoldError (omega arith)) at later))
+    let none = none_behind (Orphan, z) rest rise in
+    let fmid = none Fmid (omega arith) in
+    let pre = none Pre (omega arith) in
+    let req = none Req (omega arith) in
+    let ifreq = none Ifreq (omega arith) in
+    let held = none HoldError (omega arith) in
+    rw (fmid, pre, req, ifreq, held) (ap (λ l. told (Orphan, z) ∷ l)
+    (rw (fmid, pre, req, ifreq, held) at (grouped rest (AllPairs_rest Below (Orphan, z) rest rise))))
 grouped ((Elem, z) ∷ rest) rise =
-    let none : (kind : NeedKind) → number kind < number Elem → ids_of rest kind ≡ [] =
-    λ kind less. none_before kind (Elem, z) rest less (AllPairs_first Below (Elem, z) rest rise) in
-    let later = grouped rest (AllPairs_rest Below (Elem, z) rest rise) in
-    rw (none Fmid (omega arith), none Pre (omega arith), none Req (omega arith), none Ifreq (omega arith), none HoldError (omega arith), none Orphan (omega arith))
-    (ap (λ l. told (Elem, z) ∷ l) (rw (none Fmid (omega arith), none Pre (omega arith), none Req (omega arith), none Ifreq (omega arith), none HoldError (omega arith), none Orphan (omega arith)) at later))
+    let none = none_behind (Elem, z) rest rise in
+    let fmid = none Fmid (omega arith) in
+    let pre = none Pre (omega arith) in
+    let req = none Req (omega arith) in
+    let ifreq = none Ifreq (omega arith) in
+    let held = none HoldError (omega arith) in
+    let orphan = none Orphan (omega arith) in
+    rw (fmid, pre, req, ifreq, held, orphan) (ap (λ l. told (Elem, z) ∷ l)
+    (rw (fmid, pre, req, ifreq, held, orphan) at (grouped rest (AllPairs_rest Below (Elem, z) rest rise))))
 grouped ((Dep, z) ∷ rest) rise =
-    let none : (kind : NeedKind) → number kind < number Dep → ids_of rest kind ≡ [] =
-    λ kind less. none_before kind (Dep, z) rest less (AllPairs_first Below (Dep, z) rest rise) in
-    let later = grouped rest (AllPairs_rest Below (Dep, z) rest rise) in
-    rw (none Fmid (omega arith), none Pre (omega arith), none Req (omega arith), none Ifreq (omega arith), none HoldError (omega arith), none Orphan (omega arith), none Elem (omega arith))
-    (ap (λ l. told (Dep, z) ∷ l) (rw (none Fmid (omega arith), none Pre (omega arith), none Req (omega arith), none Ifreq (omega arith), none HoldError (omega arith), none Orphan (omega arith), none Elem (omega arith)) at later))
+    let none = none_behind (Dep, z) rest rise in
+    let fmid = none Fmid (omega arith) in
+    let pre = none Pre (omega arith) in
+    let req = none Req (omega arith) in
+    let ifreq = none Ifreq (omega arith) in
+    let held = none HoldError (omega arith) in
+    let orphan = none Orphan (omega arith) in
+    let elem = none Elem (omega arith) in
+    rw (fmid, pre, req, ifreq, held, orphan, elem) (ap (λ l. told (Dep, z) ∷ l)
+    (rw (fmid, pre, req, ifreq, held, orphan, elem) at (grouped rest (AllPairs_rest Below (Dep, z) rest rise))))
 
 -- so are those of a row, sorted
 pub are_needs : (unserved needs : List Need) → AreEachOnce unserved needs → AreNeedsOf unserved (map told needs)

@@ -59,7 +59,7 @@ fn global_of(alloc: Global, cards: &[u8], holds: &[u8]) -> Result<GlobalZone, Fa
     Ok(GlobalZone::from_parts(alloc, sysmods, all)?.ok_or("no global zone")?)
 }
 
-/// The same of these cards.
+/// The global zone of the SYSMODs and of the holds of these cards.
 pub(crate) fn global(alloc: Global, cards: &[&str], holds: &[&str]) -> Result<GlobalZone, Fail> {
     let cards = file(alloc, cards)?;
     let holds = file(alloc, holds)?;

@@ -46,6 +46,7 @@ fn required_for(alloc: Global, function: Id, vers: &[&Ver]) -> Result<Vec<Id>, A
 }
 
 impl<'a> Scope<'a> {
+    // Those of the namers that supersede the id directly.
     fn over(&self, alloc: Global, id: Id, namers: &[Id]) -> Result<Vec<Id>, AllocError>
         ensures { IfOk result (λ found. found.items ≡ filter (λ y. is_in (sups_in self.now y) id) namers.now) }
     {
@@ -72,6 +73,7 @@ impl<'a> Scope<'a> {
 }
 
 impl<'a> Asked<'a> {
+    // Those that grow.
     fn grown(&self, alloc: Global, ids: &[Id]) -> Result<Vec<Id>, AllocError>
         ensures { IfOk result (λ found. found.items
             ≡ filter (has_grown self.now.scope.now self.now.seen.now.keys) ids.now) }

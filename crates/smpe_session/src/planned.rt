@@ -27,9 +27,9 @@ pub(crate) struct Planned {
 }
 
 impl Session {
-    /// The header names the zone. Under CHECK nothing changes. Else its change is made ready and committed, and then the
-    /// session's zone changes, which takes no memory: it is never ahead of the tables. A job whose commit fails ends
-    /// there, and its session with it.
+    /// The header names the zone. Under CHECK nothing changes. Else its change is made ready and committed, and then
+    /// the session's zone changes, which takes no memory: it is never ahead of the tables. A job whose commit fails
+    /// ends there, and its session with it.
     pub(crate) fn carry_out<S: Alter>(
         &mut self,
         alloc: Global,

@@ -230,7 +230,8 @@ fn numbers_after(
     Ok((lines(alloc, &mut store.close(), NUMBERS)?, loaded))
 }
 
-/// Numbers of the entry, which has 1, put one after the other or taken out, the rows that they leave, and what is loaded.
+/// Numbers of the entry, which has 1, put one after the other or taken out, the rows that they leave, and what is
+/// loaded.
 const PUT_NUMBERS: &[(&[Option<usize>], &str, Option<usize>)] = &[
     (&[Some(1)], "", Some(1)),
     (&[Some(2)], "DLB1 HAA1100 2\n", Some(2)),

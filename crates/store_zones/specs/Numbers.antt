@@ -7,6 +7,6 @@ use Rattle.terms.specs.Types.{Entry}
 abbrev pub number_of : Entry → ℕ
 number_of e = option_map_or (λ a. a.number) e.applied 1
 
--- the same of an entry that may have stood
+-- the number of what stood under an id, and 1 where nothing did
 abbrev pub number_before : Option Entry → ℕ
 number_before stood = option_map_or number_of stood 1

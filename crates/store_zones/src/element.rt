@@ -22,8 +22,8 @@ use terms::ElemType;
 use text80::bytes_of;
 use zones::Element;
 
-/// Puts the element into the zone, which has this one of its type and name, or none. An error comes where it has one after
-/// all, where there is no such zone, where the disk fails or memory is short.
+/// Puts the element into the zone, which has this one of its type and name, or none. An error comes where it has one
+/// after all, where there is no such zone, where the disk fails or memory is short.
 pub fn put_element<S: Alter>(
     alloc: Global,
     tx: &mut Transaction<'_, S>,

@@ -22,8 +22,8 @@ use store_columns::{id_value, joined_ids};
 use store_rows::{insert, put, remove};
 use zones::Entry;
 
-/// Puts the entry into the zone, which has this one of its id, or none. An error comes where it has one after all, where
-/// there is no such zone, where the disk fails or memory is short.
+/// Puts the entry into the zone, which has this one of its id, or none. An error comes where it has one after all,
+/// where there is no such zone, where the disk fails or memory is short.
 pub fn put_entry<S: Alter>(
     alloc: Global,
     tx: &mut Transaction<'_, S>,
@@ -105,8 +105,8 @@ fn remove_row<S: Alter>(tx: &mut Transaction<'_, S>, zone: &ZoneName, id: &Id) -
     remove(tx, "DELETE FROM entry WHERE zone = ?1 AND id = ?2", &key)
 }
 
-/// Takes the entry of the id, which is this one, out of the zone, if there is one. An error comes where the disk fails or
-/// memory is short.
+/// Takes the entry of the id, which is this one, out of the zone, if there is one. An error comes where the disk fails
+/// or memory is short.
 pub fn remove_entry<S: Alter>(
     tx: &mut Transaction<'_, S>,
     zone: ZoneName,
