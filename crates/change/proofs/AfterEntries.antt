@@ -6,9 +6,9 @@ use Rattle.std.specs.Option.{option_map_or, option_and_then}
 use Rattle.std.specs.Str.{bytes_eq}
 use Rattle.std.proofs.lemmas.Bool.{and_parts, not-true, false_from_ne_true}
 use Rattle.std.proofs.lemmas.List.Elements.{Contains-append_left, Contains-append_right, Contains-append_cases}
-use Rattle.lemmas.proofs.Members.{here, none_in}
-use Rattle.lemmas.proofs.Searches.{All_find}
-use Rattle.lemmas.proofs.Texts.{same_or_not}
+use Rattle.terms.proofs.ListMembers.{here, none_in}
+use Rattle.terms.proofs.Searches.{All_find}
+use Rattle.terms.proofs.TextOrder.{same_or_not}
 use Rattle.terms.specs.Types.{Text, Id, Entry, Zone, Applied, an_applied}
 use Rattle.terms.specs.Lookups.{IsRising, IsZone, is_nil, is_in, has_content, waives_applied, entry_of, applied_of}
 use Rattle.terms.specs.Lookups.{supby_of, delby_of, waived_of, is_applied, is_supplied}

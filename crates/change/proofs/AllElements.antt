@@ -18,9 +18,9 @@ use Rattle.std.proofs.lemmas.List.Kept.{AllPairs-cons, AllPairs-filter}
 use Rattle.std.proofs.lemmas.List.Sorted.{Contains-permutation, IsPermutation-sym}
 use Rattle.std.proofs.lemmas.Map.Keys.{sorted_head, sorted_tail}
 use Rattle.std.proofs.lemmas.Map.Views.{Contains-from_lookup}
-use Rattle.lemmas.proofs.Members.{here, none_in, in_filter, filter_in, in_map, map_in}
-use Rattle.lemmas.proofs.Pairs.{pairs_unmap}
-use Rattle.lemmas.proofs.Searches.{find_gives}
+use Rattle.terms.proofs.ListMembers.{here, none_in, in_filter, filter_in, in_map, map_in}
+use Rattle.terms.proofs.Pairs.{pairs_unmap}
+use Rattle.terms.proofs.Searches.{find_gives}
 use Rattle.terms.specs.declared.kinds.ElemType.{ElemType}
 use Rattle.terms.specs.Types.{Text, Id, Global, Element, Zone}
 use Rattle.terms.specs.Lookups.{element_cmp, element_key, has_change, element_of}
@@ -33,7 +33,7 @@ use Rattle.terms.specs.Over.{IsOver}
 use Rattle.terms.specs.Tests.{ShareElement}
 use Rattle.terms.proofs.ChangedElements.{replaces_changes}
 use Rattle.terms.proofs.ElementOrder.{cmp_keys, same_key}
-use Rattle.lemmas.proofs.Each.{any_in, in_any}
+use Rattle.terms.proofs.Each.{any_in, in_any}
 use Rattle.change.specs.Elements.{IsInstallOf, AreElementsAfter}
 use Rattle.change.specs.Folding.{AreChangers}
 use Rattle.sorted.specs.ElementKeys.{Key, key_cmp}

@@ -7,11 +7,11 @@ use Rattle.std.specs.Option.{option_map_or, option_and_then}
 use Rattle.std.specs.Str.{bytes_eq}
 use Rattle.std.proofs.lemmas.List.Elements.{Contains-append_left, Contains-append_right}
 use Rattle.std.proofs.lemmas.List.Elements.{All-contains}
-use Rattle.lemmas.proofs.Booleans.{neither}
-use Rattle.lemmas.proofs.Members.{here, none_in, in_map, filter_in, in_flat}
-use Rattle.lemmas.proofs.Places.{contains_at}
-use Rattle.lemmas.proofs.Searches.{find_gives, All_find, none_passes}
-use Rattle.lemmas.proofs.Texts.{same_from}
+use Rattle.terms.proofs.Booleans.{neither}
+use Rattle.terms.proofs.ListMembers.{here, none_in, in_map, filter_in, in_flat}
+use Rattle.terms.proofs.Places.{contains_at}
+use Rattle.terms.proofs.Searches.{find_gives, All_find, none_passes}
+use Rattle.terms.proofs.TextOrder.{same_from}
 use Rattle.terms.specs.Types.{Text, Id, IfReq, Ver, Sysmod, Global, Zone}
 use Rattle.terms.specs.Lookups.{at_most_one, sysmod_of, is_received, is_function}
 use Rattle.terms.specs.Choice.{Choice, vers_of, place, counting, fmid_of, sup_of, del_of}

@@ -7,8 +7,8 @@ use Rattle.std.specs.Option.{option_map_or}
 use Rattle.std.specs.Ordering.{is_eq}
 use Rattle.std.proofs.lemmas.Cmp.{tied_itself}
 use Rattle.std.proofs.lemmas.List.{map-append}
-use Rattle.lemmas.proofs.Options.{None_from_is_some}
-use Rattle.lemmas.proofs.Searches.{is_some_find, list_any_map}
+use Rattle.terms.proofs.Options.{None_from_is_some}
+use Rattle.terms.proofs.Searches.{is_some_find, list_any_map}
 use Rattle.sorted.specs.Edits.{edit_key, edit_put}
 use Rattle.terms.specs.Types.{Zone}
 use Rattle.terms.specs.Lookups.{element_cmp, element_eq, element_key, element_of}

@@ -7,8 +7,8 @@ use Rattle.std.proofs.lemmas.Bool.{or_right}
 use Rattle.std.proofs.lemmas.List.{length-map}
 use Rattle.std.proofs.lemmas.List.Elements.{Contains-get_or, Contains-append_right}
 use Rattle.std.proofs.lemmas.List.Kept.{AllPairs-cons}
-use Rattle.lemmas.proofs.Apart.{AreApart, apart_le}
-use Rattle.lemmas.proofs.Members.{here, here_or, none_in}
+use Rattle.terms.proofs.Apart.{AreApart, apart_le}
+use Rattle.terms.proofs.ListMembers.{here, here_or, none_in}
 use Rattle.terms.specs.Types.{Id, Global}
 use Rattle.terms.specs.Lookups.{at_most_one, is_in, meets, is_function}
 use Rattle.terms.specs.Choice.{Choice, fmid_of, pre_of, sup_of}

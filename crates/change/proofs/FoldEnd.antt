@@ -5,8 +5,8 @@ use Rattle.std.specs.Prelude.{◌↔◌, is_some, IsFalse, IfSome, Any}
 use Rattle.std.specs.Option.{IsSome, option_map_or}
 use Rattle.std.proofs.lemmas.List.{take-append-drop}
 use Rattle.std.proofs.lemmas.List.Elements.{Contains-append_right, Contains-append_cases}
-use Rattle.lemmas.proofs.Members.{there, here_or, none_in, in_middle}
-use Rattle.lemmas.proofs.Pairs.{AllPairs_parts}
+use Rattle.terms.proofs.ListMembers.{there, here_or, none_in, in_middle}
+use Rattle.terms.proofs.Pairs.{AllPairs_parts}
 use Rattle.terms.specs.declared.kinds.ElemType.{ElemType}
 use Rattle.terms.specs.Types.{Text, Id, Lines, Global, Element}
 use Rattle.terms.specs.Lookups.{IsRising, has_change, element_of}

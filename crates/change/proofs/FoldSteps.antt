@@ -3,7 +3,7 @@ use Rattle.std.proofs.Common.{◌≡◌, ◌≢◌, ◌⊎◌, inl, inr, List, [
 use Rattle.std.proofs.Common.{ap, ◌∙◌, subst, arith, append_assoc, Contains}
 use Rattle.std.specs.Prelude.{ℕ}
 use Rattle.std.proofs.lemmas.List.Elements.{Contains-append_left, Contains-append_right, Contains-append_cases}
-use Rattle.lemmas.proofs.Members.{there, here_or, none_in, in_middle}
+use Rattle.terms.proofs.ListMembers.{there, here_or, none_in, in_middle}
 use Rattle.terms.specs.declared.kinds.ElemType.{ElemType}
 use Rattle.terms.specs.Types.{Text, Id, Lines, Action, Replaces, Updates, Global, Element}
 use Rattle.terms.specs.Lookups.{IsRising, change_of}

@@ -11,14 +11,14 @@ use Rattle.std.specs.Str.{bytes_eq}
 use Rattle.std.proofs.lemmas.Bool.{and_parts, eqb-true}
 use Rattle.std.proofs.lemmas.Cmp.{nat_list_cmp_total}
 use Rattle.std.proofs.lemmas.List.Elements.{Contains-append_left, Contains-append_right, Contains-append_cases}
-use Rattle.lemmas.proofs.Members.{here_or, none_in, in_middle, in_filter, filter_in}
-use Rattle.lemmas.proofs.Texts.{same_from}
+use Rattle.terms.proofs.ListMembers.{here_or, none_in, in_middle, in_filter, filter_in}
+use Rattle.terms.proofs.TextOrder.{same_from}
 use Rattle.terms.specs.declared.kinds.ElemType.{ElemType}
 use Rattle.terms.specs.Types.{Text, Id, Lines, type_number, Change, Sysmod, Global, Element}
 use Rattle.terms.specs.Lookups.{IsRising, sysmod_of, change_of, changes_of, has_change}
 use Rattle.terms.specs.Rising.{before, behind, with_item}
 use Rattle.terms.specs.Texts.{IsMerge}
-use Rattle.lemmas.proofs.Searches.{find_passes}
+use Rattle.terms.proofs.Searches.{find_passes}
 use Rattle.sysmods.proofs.First.{find_position, find_no_position}
 use Rattle.terms.proofs.ElementOrder.{type_from_number}
 use Rattle.change.specs.Folding.{is_for, IsUpdateOf}

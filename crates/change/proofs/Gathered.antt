@@ -11,8 +11,8 @@ use Rattle.std.specs.Cmp.Lexicographic.{slice_cmp, texts_ties}
 use Rattle.std.proofs.lemmas.Cmp.{nat_list_cmp_total}
 use Rattle.std.proofs.lemmas.List.{take_more}
 use Rattle.std.proofs.lemmas.List.Elements.{Contains-append_left, Contains-append_right, Contains-append_cases}
-use Rattle.lemmas.proofs.Members.{here, here_or, none_in, in_filter, filter_in}
-use Rattle.lemmas.proofs.Texts.{same_from}
+use Rattle.terms.proofs.ListMembers.{here, here_or, none_in, in_filter, filter_in}
+use Rattle.terms.proofs.TextOrder.{same_from}
 use Rattle.terms.specs.Types.{Id}
 use Rattle.terms.specs.Rising.{with_item, before, behind}
 use Rattle.sorted.specs.Lists.{Lists, Adds, Holds}

@@ -9,10 +9,10 @@ use Rattle.std.specs.Map.{lookup}
 use Rattle.std.specs.BTreeMap.{is_at}
 use Rattle.std.proofs.lemmas.List.{take-map, get_or-map, length-map}
 use Rattle.std.proofs.lemmas.List.Elements.{filter-append}
-use Rattle.lemmas.proofs.Lists.{front_more}
-use Rattle.lemmas.proofs.Orderings.{Less_from_is_lt}
-use Rattle.lemmas.proofs.Pairs.{AllPairs_first, AllPairs_rest}
-use Rattle.lemmas.proofs.Searches.{find_over}
+use Rattle.terms.proofs.Lists.{front_more}
+use Rattle.terms.proofs.Orderings.{Less_from_is_lt}
+use Rattle.terms.proofs.Pairs.{AllPairs_first, AllPairs_rest}
+use Rattle.terms.proofs.Searches.{find_over}
 use Rattle.terms.specs.Types.{Id, Change, Global}
 use Rattle.terms.specs.Lookups.{change_key, element_cmp, element_eq, changes_of, has_change}
 use Rattle.terms.specs.Rising.{Rises}

@@ -6,7 +6,7 @@ use Rattle.std.proofs.lemmas.Bool.{and_parts, not-true}
 use Rattle.terms.specs.Types.{Id, Entry, Global, Zone}
 use Rattle.terms.specs.Lookups.{IsZone, is_nil, has_content, entry_of, delby_of, is_supplied}
 use Rattle.terms.specs.Candidates.{is_installable}
-use Rattle.lemmas.proofs.Searches.{All_find}
+use Rattle.terms.proofs.Searches.{All_find}
 use Rattle.change.specs.Plans.{IsFresh}
 
 -- what is installable is fresh

@@ -5,8 +5,8 @@ use Rattle.std.specs.Prelude.{◌↔◌, ◌&&◌, ◌||◌, ◌==◌}
 use Rattle.std.specs.Option.{option_map_or}
 use Rattle.std.specs.Str.{bytes_eq}
 use Rattle.std.proofs.lemmas.Bool.{and_parts}
-use Rattle.lemmas.proofs.Members.{here}
-use Rattle.lemmas.proofs.Texts.{same_or_not}
+use Rattle.terms.proofs.ListMembers.{here}
+use Rattle.terms.proofs.TextOrder.{same_or_not}
 use Rattle.terms.specs.declared.kinds.ElemType.{ElemType}
 use Rattle.terms.specs.declared.codes.NeedKind.TheVariants.{Fmid}
 use Rattle.terms.specs.declared.codes.Test.TheVariants.{J4, J6}

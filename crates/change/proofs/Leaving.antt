@@ -5,9 +5,9 @@ use Rattle.std.specs.Prelude.{◌&&◌, ◌||◌, is_some, slice_get, unwrap_or,
 use Rattle.std.specs.Option.{option_map, option_map_or, option_and_then}
 use Rattle.std.specs.Str.{bytes_eq}
 use Rattle.std.proofs.lemmas.List.Elements.{Contains-append_left, Contains-append_right}
-use Rattle.lemmas.proofs.Members.{in_map, none_in, in_flat}
-use Rattle.lemmas.proofs.Searches.{find_gives, All_find, first_kept}
-use Rattle.lemmas.proofs.Texts.{same_from}
+use Rattle.terms.proofs.ListMembers.{in_map, none_in, in_flat}
+use Rattle.terms.proofs.Searches.{find_gives, All_find, first_kept}
+use Rattle.terms.proofs.TextOrder.{same_from}
 use Rattle.terms.specs.Types.{Text, Id, Entry, Global, Zone, Applied}
 use Rattle.terms.specs.Lookups.{IsZone, is_nil, has_content, waives_applied, is_in, is_function, entry_of, delby_of}
 use Rattle.terms.specs.Choice.{Choice, del_of}

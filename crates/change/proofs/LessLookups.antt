@@ -7,8 +7,8 @@ use Rattle.std.specs.Cmp.Lexicographic.{texts_ties}
 use Rattle.std.specs.Str.{bytes_eq}
 use Rattle.std.proofs.lemmas.Cmp.{nat_list_cmp_total}
 use Rattle.std.proofs.lemmas.List.Folds.{Any-from_list_any, list_any-from_Any}
-use Rattle.lemmas.proofs.Members.{map_in, in_filter, filter_in, flat_in}
-use Rattle.lemmas.proofs.Searches.{find_gives, find_some}
+use Rattle.terms.proofs.ListMembers.{map_in, in_filter, filter_in, flat_in}
+use Rattle.terms.proofs.Searches.{find_gives, find_some}
 use Rattle.terms.specs.declared.kinds.ElemType.{ElemType}
 use Rattle.terms.specs.Types.{Text, Id, type_number, Global, Entry, Element, Zone}
 use Rattle.terms.specs.Lookups.{has_content, is_in, IsZone, entry_of, element_of, is_applied}

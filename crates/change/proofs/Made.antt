@@ -3,9 +3,9 @@ use Rattle.std.proofs.Common.{◌≡◌, true, false, List, ◌++◌, Option, So
 use Rattle.std.proofs.Common.{sym, ap, ap₂, ◌∙◌, subst, true≢false, IsTrue}
 use Rattle.std.specs.Prelude.{◌↔◌, ◌||◌, Contains, filter, is_some, unwrap_or}
 use Rattle.std.specs.Str.{bytes_eq}
-use Rattle.lemmas.proofs.Members.{in_filter, filter_in}
-use Rattle.lemmas.proofs.Searches.{find_gives, All_find}
-use Rattle.lemmas.proofs.Texts.{same_from}
+use Rattle.terms.proofs.ListMembers.{in_filter, filter_in}
+use Rattle.terms.proofs.Searches.{find_gives, All_find}
+use Rattle.terms.proofs.TextOrder.{same_from}
 use Rattle.terms.specs.Types.{Id, Entry, Zone}
 use Rattle.terms.specs.Lookups.{IsRising, IsZone, is_nil, is_in, waives_applied, entry_of}
 use Rattle.terms.specs.Deleted.{zone_less}

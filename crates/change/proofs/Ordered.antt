@@ -9,7 +9,7 @@ use Rattle.std.proofs.lemmas.List.{take-append-drop, take_more, get_or-take, len
 use Rattle.std.proofs.lemmas.List.Elements.{Contains-append_right, Contains-get_or, All-cons, All-contains}
 use Rattle.std.proofs.lemmas.List.Sorted.{Contains-permutation, IsPermutation-sym, IsPermutation-insert}
 use Rattle.std.proofs.lemmas.List.Sorted.{IsPermutation-push_more}
-use Rattle.lemmas.proofs.Pairs.{AllPairs_between, AllPairs_parts, AllPairs_rest}
+use Rattle.terms.proofs.Pairs.{AllPairs_between, AllPairs_parts, AllPairs_rest}
 use Rattle.terms.specs.Types.{Id}
 use Rattle.terms.specs.Choice.{Choice}
 use Rattle.terms.specs.Over.{IsOver, names}

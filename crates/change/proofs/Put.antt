@@ -8,8 +8,8 @@ use Rattle.std.specs.Cmp.Lexicographic.{slice_cmp, texts_ties}
 use Rattle.std.specs.Str.{bytes_eq}
 use Rattle.std.proofs.lemmas.Cmp.{nat_list_cmp_total}
 use Rattle.std.proofs.lemmas.List.Elements.{All-nil}
-use Rattle.lemmas.proofs.Members.{none_in}
-use Rattle.lemmas.proofs.Texts.{same_from, same_itself}
+use Rattle.terms.proofs.ListMembers.{none_in}
+use Rattle.terms.proofs.TextOrder.{same_from, same_itself}
 use Rattle.sorted.specs.declared.edits.Edit.TheVariants.{Put, Remove}
 use Rattle.terms.specs.Types.{Id, Entry, Zone}
 use Rattle.terms.specs.Lookups.{has_content, entry_of}

@@ -15,8 +15,8 @@ use Rattle.terms.proofs.NothingDeleted.{is_deleted_none}
 use Rattle.terms.specs.Lookups.{element_eq}
 use Rattle.sorted.specs.Edits.{edit_key, edit_put, after_edits}
 use Rattle.terms.proofs.ElementOrder.{element_cmp_total, element_ties}
-use Rattle.lemmas.proofs.Members.{in_map, map_in, in_filter, filter_in}
-use Rattle.lemmas.proofs.Searches.{find_gives}
+use Rattle.terms.proofs.ListMembers.{in_map, map_in, in_filter, filter_in}
+use Rattle.terms.proofs.Searches.{find_gives}
 use Rattle.zones_views.proofs.Filtered.{passing}
 use Rattle.zones_views.proofs.Lookups.{element_of_less}
 use Rattle.change.specs.declared.deleting.Deleting.{Deleting}

@@ -1,15 +1,20 @@
--- Who supersedes whom, as pairs of a SYSMOD and an id that it supersedes.
-use Rattle.std.specs.Prelude.{◌↔◌, List, Contains}
+-- Who supersedes whom among kept SYSMODs.
+use Rattle.std.specs.Prelude.{◌↔◌, ◌⊎◌, List, Contains}
 use Rattle.terms.specs.Types.{Id}
 use Rattle.terms.specs.Choice.{Choice}
 use Rattle.terms.specs.Over.{Supersedes}
 
--- of these SYSMODs, the pairs have each with each id that it supersedes; of others they may say what they like
-abbrev pub HaveSuperseded : Choice → List Id → List (Id × Id) → Type 0
-HaveSuperseded c xs pairs =
-    (x z : Id) → Contains xs x → Contains {X = Id × Id} pairs (x, z) ↔ Supersedes c x z
-
--- one of these SYSMODs that none of them supersedes by the pairs
-pub record IsUnsuperseded (xs : List Id) (pairs : List (Id × Id)) (x : Id) : Type 0 where
+-- one of these SYSMODs that none of them supersedes
+pub record IsUnsuperseded (c : Choice) (xs : List Id) (x : Id) : Type 0 where
   pub member : Contains xs x
-  pub first : (y : Id) → Contains xs y → ¬ Contains {X = Id × Id} pairs (y, x)
+  pub first : (y : Id) → Contains xs y → ¬ Supersedes c y x
+
+-- Pairs of one of these SYSMODs and an id that it supersedes, and the ids that are seen so. A first id has all its
+-- pairs, and so has each of these SYSMODs that is not seen.
+pub record AreFound (c : Choice) (xs : List Id) (pairs : List (Id × Id)) (seen : List Id) : Type 0 where
+  pub right : (x z : Id) → Contains {X = Id × Id} pairs (x, z) → Contains xs x × Supersedes c x z
+  pub whole : (x z w : Id) → Contains {X = Id × Id} pairs (x, z) → Supersedes c x w
+      → Contains {X = Id × Id} pairs (x, w)
+  pub each : (x : Id) → Contains xs x
+      → ((w : Id) → Supersedes c x w → Contains {X = Id × Id} pairs (x, w)) ⊎ Contains seen x
+  pub seconds : (z : Id) → Contains seen z ↔ ((x : Id) × Contains {X = Id × Id} pairs (x, z))

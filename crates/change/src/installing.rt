@@ -9,7 +9,6 @@ ghost use Rattle.terms.specs.Install.{HasInstalled, TakesEffect};
 ghost use Rattle.change.specs.Elements.{HasBases};
 ghost use Rattle.zones.specs.Differing.{EachChanges};
 ghost use Rattle.change.specs.Plans.{installation_of, IsFresh};
-ghost use Rattle.change.specs.Superseded.{HaveSuperseded};
 ghost use Rattle.change.specs.Puts.{with_elements, less_element, less_elements};
 
 use crate::deleting::Deleting;
@@ -24,13 +23,12 @@ use sysmods::Overs;
 use zones::{Element, Zone, ZoneDelta};
 use zones_views::deletions;
 
-/// What is installed into which zone. `superseded` has each kept SYSMOD with each id that it supersedes, and `bypassed`
-/// SYSMODs with a bypassed requisite of theirs; both in any order, and what they say of others does not matter.
+/// What is installed into which zone. `bypassed` has SYSMODs with a bypassed requisite of theirs, in any order; what it
+/// says of others does not matter.
 #[derive(Clone, Copy)]
 pub struct Installing<'a> {
     pub zone: &'a Zone,
     pub kept: &'a IdList,
-    pub superseded: &'a [(Id, Id)],
     pub bypassed: &'a [(Id, Id)],
     pub date: YyDdd,
 }
@@ -50,7 +48,6 @@ pub fn install(
     mut overs: Overs<'_, '_>,
 ) -> Result<Installed, AllocError>
     requires fresh { All (IsFresh installing.now.zone.now) installing.now.kept.now }
-    requires superseded { HaveSuperseded (choice overs) installing.now.kept.now installing.now.superseded.now }
     requires order { (x y : AnId) → Contains installing.now.kept.now x → Contains installing.now.kept.now y → x ≢ y
         → ShareElement overs.global.now x y → IsOver (choice overs) x y ⊎ IsOver (choice overs) y x }
     requires base { HasBases (installation_of overs installing.now) }

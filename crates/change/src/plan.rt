@@ -1,14 +1,12 @@
 //! What an install does to entries.
 ghost use Rattle.std.specs.Prelude.{◌≡◌, ◌↔◌, ◌++◌, Contains, IfOk, OnOk, map};
 ghost use Rattle.terms.specs.Types.{Id as AnId};
-ghost use Rattle.sysmods.specs.Choices.{choice};
 ghost use Rattle.change.specs.Deleting.{at_stake};
 ghost use Rattle.change.specs.Plans.{IsPlan, installation_of};
-ghost use Rattle.change.specs.Superseded.{HaveSuperseded};
 
-use crate::effective::taking_effect;
+use crate::effective::{Effective, taking_effect};
 use crate::installing::Installing;
-use crate::pairs::{grouped, grouped_by_second, pairs_of, seconds};
+use crate::pairs::{grouped, grouped_by_second, seconds};
 use fields::{Attest, Id, IdList, YyDdd};
 use sorted::lists::Lists;
 use std::alloc::{AllocError, Global};
@@ -32,12 +30,13 @@ pub(crate) fn planned(
     installing: &Installing<'_>,
     dels: &[Id],
 ) -> Result<Plan, AllocError>
-    requires { HaveSuperseded (choice vers.now) installing.now.kept.now installing.now.superseded.now }
     ensures { IfOk result (IsPlan (installation_of vers.now installing.now) dels.now) }
 {
     vers.global().attest();
-    let effective = taking_effect(alloc, installing.kept, installing.superseded)?;
-    let pairs = pairs_of(alloc, &effective, installing.superseded)?;
+    let Effective {
+        ids: effective,
+        superseded: pairs,
+    } = taking_effect(alloc, vers, installing.kept)?;
     let at_stake = at_stake(alloc, installing.zone, dels)?;
     let touched = touched(alloc, effective.as_slice(), pairs.as_slice(), &at_stake)?;
     Ok(Plan {

@@ -16,7 +16,7 @@ use Rattle.terms.specs.Commands.{runs_from, runs_in, has_double}
 use Rattle.terms.specs.Operands.{list_behind, is_often}
 use Rattle.terms.proofs.BypassMembers.{behind_operand}
 use Rattle.terms.proofs.ExactBypass.{are_members}
-use Rattle.operands.specs.Left.{AreNamed}
+use Rattle.rec80.specs.Left.{AreNamed}
 use Rattle.cntl.specs.Singles.{AreSingle}
 use Rattle.terms.proofs.Reasons.{class_of}
 

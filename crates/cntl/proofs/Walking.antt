@@ -1,7 +1,7 @@
 -- A walk over the runs of a list, one byte more, and at its end.
 use Rattle.std.proofs.Common.{◌≡◌, ◌≢◌, ◌<◌, ◌+◌, ℕ, true, false, [], ◌∷◌, ◌++◌, length, sym, ◌∙◌, ap, cond}
 use Rattle.std.specs.Str.{bytes_eq}
-use Rattle.lemmas.proofs.Texts.{same_itself, other_text}
+use Rattle.terms.proofs.TextOrder.{same_itself, other_text}
 use Rattle.terms.specs.Types.{Text}
 use Rattle.terms.specs.Forms.{is_word_byte}
 use Rattle.terms.specs.Statement.{BeginsNoWord}

@@ -10,17 +10,15 @@ ghost use Rattle.terms.specs.CommandForms.{members_of, HasShort, HasReasons, Has
 ghost use Rattle.terms.specs.Commands.{runs_from};
 ghost use Rattle.terms.specs.Operands.{is_often};
 ghost use Rattle.rec80.specs.Cursors.{text_of};
-ghost use Rattle.rec80.specs.Views.{word_of};
-ghost use Rattle.operands.specs.Left.{LeavesWords};
-ghost use Rattle.operands.specs.Failing.{Excludes};
+ghost use Rattle.rec80.specs.Views.{word_of, words_of};
+ghost use Rattle.rec80.specs.Failing.{Excludes};
 ghost use Rattle.fields.specs.Choices.{reasons_in};
 ghost use Rattle.cntl.specs.Singles.{AreSingle};
 
 use crate::tables::members_of;
 use crate::values::short_list;
 use fields::{Bypass, Class, ClassList, Reason, ReasonList, Reasons};
-use operands::{BadOperand, OperandError, are_members, flag, named_member, operand};
-use rec80::{Text, Word, Words};
+use rec80::{BadOperand, OperandError, Text, Word, are_members, flag, named_member, operand};
 use std::alloc::Global;
 use terms::{CommandWord, HoldKind};
 
@@ -147,11 +145,11 @@ fn bypass_list(alloc: Global, word: CommandWord, list: &Text<'_>) -> Result<Bypa
 /// What BYPASS says, of whose members none is there twice. Where it is absent, nothing is bypassed. `Memory` comes
 /// where memory runs out, `Bad` where BYPASS is there and has no list, or one with a member that the command's BYPASS
 /// has not, or has in another form.
-pub fn bypass(alloc: Global, word: CommandWord, words: &Words<'_>) -> Result<Bypass, OperandError>
-    ensures ok { (ws : List grammar.Word) → LeavesWords words.now ws → AreSingle word ws
-        → IfOk result (λ b. HasBypass word (operand (codes "BYPASS") ws) b) }
-    ensures bad { (ws : List grammar.Word) → LeavesWords words.now ws → IfErr result (λ e. Excludes e
-        ((b : terms.Bypass) × HasBypass word (operand (codes "BYPASS") ws) b)) }
+pub fn bypass(alloc: Global, word: CommandWord, words: &[Word<'_>]) -> Result<Bypass, OperandError>
+    ensures ok { AreSingle word (words_of words.now)
+        → IfOk result (λ b. HasBypass word (operand (codes "BYPASS") (words_of words.now)) b) }
+    ensures bad { IfErr result (λ e. Excludes e
+        ((b : terms.Bypass) × HasBypass word (operand (codes "BYPASS") (words_of words.now)) b)) }
 {
     let Some(found) = operand(words, b"BYPASS") else {
         return Ok(Bypass::none(alloc));

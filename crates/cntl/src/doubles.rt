@@ -5,41 +5,40 @@ ghost use Rattle.terms.specs.Statement.{Piece};
 ghost use Rattle.terms.specs.CommandForms.{operands_of, members_of};
 ghost use Rattle.terms.specs.Commands.{runs_in, has_double};
 ghost use Rattle.terms.specs.Operands.{words_in, list_behind, is_often};
-ghost use Rattle.operands.specs.Left.{LeavesPieces};
+ghost use Rattle.rec80.specs.Read.{IsRead};
 
 use crate::runs::any_run_twice;
 use crate::tables::{members_of, operands_of};
-use operands::{any_twice, list_behind};
-use rec80::Words;
+use rec80::Operands;
 use terms::CommandWord;
 
 /// Whether a known operand of the command is there twice.
-fn has_operand_twice(word: CommandWord, words: &Words<'_>) -> bool
-    ensures { (pieces : List Piece) → LeavesPieces words.now pieces
+fn has_operand_twice(word: CommandWord, operands: &Operands<'_>) -> bool
+    ensures { (pieces : List Piece) → IsRead pieces operands.now
         → result ≡ list_any (is_often 2 (words_in pieces)) (operands_of word) }
 {
-    any_twice(operands_of(word), words)
+    operands.has_twice(operands_of(word))
 }
 
 /// Whether a member that BYPASS may have is there twice.
-fn has_member_twice(word: CommandWord, words: &Words<'_>) -> bool
-    ensures { (pieces : List Piece) → LeavesPieces words.now pieces
+fn has_member_twice(word: CommandWord, operands: &Operands<'_>) -> bool
+    ensures { (pieces : List Piece) → IsRead pieces operands.now
         → result ≡ list_any (is_often 2 (runs_in (list_behind (codes "BYPASS") pieces)))
         (members_of word) }
 {
-    let Some(list) = list_behind(words, b"BYPASS") else {
+    let Some(list) = operands.list_behind(b"BYPASS") else {
         return false;
     };
     any_run_twice(members_of(word), &list)
 }
 
 /// Whether a known operand of the command is there twice, or a member of its BYPASS.
-pub fn has_double(word: CommandWord, words: &Words<'_>) -> bool
-    ensures { (pieces : List Piece) → LeavesPieces words.now pieces
+pub fn has_double(word: CommandWord, operands: &Operands<'_>) -> bool
+    ensures { (pieces : List Piece) → IsRead pieces operands.now
         → result ≡ has_double word pieces }
 {
-    if has_operand_twice(word, words) {
+    if has_operand_twice(word, operands) {
         return true;
     }
-    has_member_twice(word, words)
+    has_member_twice(word, operands)
 }

@@ -1,12 +1,11 @@
 //! The operands of each command.
-ghost use Rattle.std.specs.Prelude.{◌≡◌, true, List, codes, IfOk, IfErr, OnErr};
+ghost use Rattle.std.specs.Prelude.{◌≡◌, true, codes, IfOk, IfErr, OnErr};
 ghost use Rattle.terms.specs.Types as terms;
-ghost use Rattle.terms.specs.Words as grammar;
 ghost use Rattle.terms.specs.Operands.{operand, HasFlag};
 ghost use Rattle.terms.specs.CommandForms.{HasReceive, HasSelection, HasInstall, HasRestoreList, HasOperands};
 ghost use Rattle.terms.specs.CommandForms.{command_word};
-ghost use Rattle.operands.specs.Left.{LeavesWords};
-ghost use Rattle.operands.specs.Failing.{Excludes};
+ghost use Rattle.rec80.specs.Views.{words_of};
+ghost use Rattle.rec80.specs.Failing.{Excludes};
 ghost use Rattle.fields.specs.Choices.{restore_list_of};
 ghost use Rattle.cntl.specs.Views.{command_of};
 ghost use Rattle.cntl.specs.Singles.{AreSingle};
@@ -15,15 +14,13 @@ use crate::bypassed::bypass;
 use crate::command::{Command, Install};
 use crate::values::{flag_of, id_list, is_absent, some_ids, source_list, zone};
 use fields::{ReceiveWhat, RestoreList, Selection, Source};
-use operands::{BadOperand, OperandError, optional};
-use rec80::Words;
+use rec80::{BadOperand, OperandError, Word, optional};
 use std::alloc::Global;
 use terms::CommandWord;
 
-fn receive(words: &Words<'_>) -> Result<ReceiveWhat, BadOperand>
-    ensures ok { (ws : List grammar.Word) → LeavesWords words.now ws → IfOk result (λ what. HasReceive ws what) }
-    ensures bad { (ws : List grammar.Word) → LeavesWords words.now ws → OnErr result ((what : terms.ReceiveWhat)
-        → HasReceive ws what → ⊥) }
+fn receive(words: &[Word<'_>]) -> Result<ReceiveWhat, BadOperand>
+    ensures ok { IfOk result (λ what. HasReceive (words_of words.now) what) }
+    ensures bad { OnErr result ((what : terms.ReceiveWhat) → HasReceive (words_of words.now) what → ⊥) }
 {
     let sysmods = flag_of(words, b"SYSMODS")?;
     let holddata = flag_of(words, b"HOLDDATA")?;
@@ -36,11 +33,9 @@ fn receive(words: &Words<'_>) -> Result<ReceiveWhat, BadOperand>
 }
 
 /// Whether REPORT names what it reports.
-fn errsysmods(words: &Words<'_>) -> Result<(), BadOperand>
-    ensures ok { (ws : List grammar.Word) → LeavesWords words.now ws
-        → IfOk result (λ _. HasFlag (operand (codes "ERRSYSMODS") ws) true) }
-    ensures bad { (ws : List grammar.Word) → LeavesWords words.now ws
-        → OnErr result (HasFlag (operand (codes "ERRSYSMODS") ws) true → ⊥) }
+fn errsysmods(words: &[Word<'_>]) -> Result<(), BadOperand>
+    ensures ok { IfOk result (λ _. HasFlag (operand (codes "ERRSYSMODS") (words_of words.now)) true) }
+    ensures bad { OnErr result (HasFlag (operand (codes "ERRSYSMODS") (words_of words.now)) true → ⊥) }
 {
     if !flag_of(words, b"ERRSYSMODS")? {
         return Err(BadOperand);
@@ -48,10 +43,9 @@ fn errsysmods(words: &Words<'_>) -> Result<(), BadOperand>
     Ok(())
 }
 
-fn selection(alloc: Global, words: &Words<'_>) -> Result<Selection, OperandError>
-    ensures ok { (ws : List grammar.Word) → LeavesWords words.now ws → IfOk result (λ s. HasSelection ws s) }
-    ensures bad { (ws : List grammar.Word) → LeavesWords words.now ws
-        → IfErr result (λ e. Excludes e ((s : terms.Selection) × HasSelection ws s)) }
+fn selection(alloc: Global, words: &[Word<'_>]) -> Result<Selection, OperandError>
+    ensures ok { IfOk result (λ s. HasSelection (words_of words.now) s) }
+    ensures bad { IfErr result (λ e. Excludes e ((s : terms.Selection) × HasSelection (words_of words.now) s)) }
 {
     let functions = flag_of(words, b"FUNCTIONS")?;
     let ptfs = flag_of(words, b"PTFS")?;
@@ -77,11 +71,9 @@ fn selection(alloc: Global, words: &Words<'_>) -> Result<Selection, OperandError
     })
 }
 
-fn install(alloc: Global, word: CommandWord, words: &Words<'_>) -> Result<Install, OperandError>
-    ensures ok { (ws : List grammar.Word) → LeavesWords words.now ws → AreSingle word ws
-        → IfOk result (λ i. HasInstall word ws i) }
-    ensures bad { (ws : List grammar.Word) → LeavesWords words.now ws
-        → IfErr result (λ e. Excludes e ((i : terms.Install) × HasInstall word ws i)) }
+fn install(alloc: Global, word: CommandWord, words: &[Word<'_>]) -> Result<Install, OperandError>
+    ensures ok { AreSingle word (words_of words.now) → IfOk result (λ i. HasInstall word (words_of words.now) i) }
+    ensures bad { IfErr result (λ e. Excludes e ((i : terms.Install) × HasInstall word (words_of words.now) i)) }
 {
     let check = flag_of(words, b"CHECK")?;
     let selection = selection(alloc, words)?;
@@ -94,11 +86,10 @@ fn install(alloc: Global, word: CommandWord, words: &Words<'_>) -> Result<Instal
 }
 
 /// The ids of SELECT or of GROUP, where not both are there.
-fn restore_list(alloc: Global, words: &Words<'_>) -> Result<RestoreList, OperandError>
-    ensures ok { (ws : List grammar.Word) → LeavesWords words.now ws
-        → IfOk result (λ list. HasRestoreList ws (restore_list_of list)) }
-    ensures bad { (ws : List grammar.Word) → LeavesWords words.now ws
-        → IfErr result (λ e. Excludes e ((list : terms.RestoreList) × HasRestoreList ws list)) }
+fn restore_list(alloc: Global, words: &[Word<'_>]) -> Result<RestoreList, OperandError>
+    ensures ok { IfOk result (λ list. HasRestoreList (words_of words.now) (restore_list_of list)) }
+    ensures bad { IfErr result (λ e. Excludes e ((list : terms.RestoreList)
+        × HasRestoreList (words_of words.now) list)) }
 {
     if is_absent(words, b"GROUP") {
         return Ok(RestoreList::Select(some_ids(alloc, words, b"SELECT")?));
@@ -115,14 +106,13 @@ fn restore_list(alloc: Global, words: &Words<'_>) -> Result<RestoreList, Operand
 pub fn read_operands(
     alloc: Global,
     word: CommandWord,
-    words: &Words<'_>,
+    words: &[Word<'_>],
 ) -> Result<Command, OperandError>
     ensures word { IfOk result (λ c. command_word (command_of c) ≡ word) }
-    ensures ok { (ws : List grammar.Word) → LeavesWords words.now ws → AreSingle word ws
-        → IfOk result (λ c. HasOperands ws (command_of c)) }
-    ensures bad { (ws : List grammar.Word) → LeavesWords words.now ws
-        → IfErr result (λ e. Excludes e ((c : terms.Command) × ((command_word c ≡ word)
-        × HasOperands ws c))) }
+    ensures ok { AreSingle word (words_of words.now)
+        → IfOk result (λ c. HasOperands (words_of words.now) (command_of c)) }
+    ensures bad { IfErr result (λ e. Excludes e ((c : terms.Command) × ((command_word c ≡ word)
+        × HasOperands (words_of words.now) c))) }
 {
     match word {
         CommandWord::Set => Ok(Command::Set(zone(words)?)),

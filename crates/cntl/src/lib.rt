@@ -10,7 +10,6 @@ mod doubles;
 mod errors;
 mod file;
 mod forms;
-mod operand_words;
 mod read;
 mod runs;
 mod tables;

@@ -4,7 +4,7 @@ ghost use Rattle.terms.specs.declared.codes.CommandWord.{CommandWord};
 ghost use Rattle.terms.specs.Statement.{Piece as AnyPiece};
 ghost use Rattle.terms.specs.CommandForms.{IsCommand};
 ghost use Rattle.terms.specs.Commands.{BeginsWith};
-ghost use Rattle.operands.specs.Left.{LeavesPieces};
+ghost use Rattle.rec80.specs.Left.{LeavesPieces};
 ghost use Rattle.cntl.specs.Views.{command_of};
 ghost use Rattle.cntl.specs.Faults.{FailsCommand};
 
@@ -12,11 +12,10 @@ use crate::command::Command;
 use crate::doubles::has_double;
 use crate::errors::CommandError;
 use crate::forms::read_operands;
-use crate::operand_words::are_operands;
+use crate::tables::operands_of;
 use crate::unchosen::is_unchosen;
 use fields::spelling::read_word;
-use operands::OperandError;
-use rec80::{Piece, Words};
+use rec80::{OperandError, Piece, Words};
 use std::alloc::Global;
 use terms::{CnCode, CommandWord};
 
@@ -47,16 +46,19 @@ pub fn read_command(alloc: Global, words: &Words<'_>) -> Result<Command, Command
     let Some(word) = take_command_word(&mut rest) else {
         return Err(CommandError::Fault(CnCode::Cn1));
     };
-    if has_double(word, &rest) {
+    let Ok(operands) = rest.operands(alloc) else {
+        return Err(CommandError::Memory);
+    };
+    if has_double(word, &operands) {
         return Err(CommandError::Fault(CnCode::Cn3));
     }
-    if is_unchosen(word, &rest) {
+    if is_unchosen(word, &operands) {
         return Err(CommandError::Fault(CnCode::Cn4));
     }
-    if !are_operands(word, &rest) {
+    let Some(named) = operands.named(operands_of(word)) else {
         return Err(CommandError::Fault(CnCode::Cn2));
-    }
-    match read_operands(alloc, word, &rest) {
+    };
+    match read_operands(alloc, word, named) {
         Ok(command) => Ok(command),
         Err(OperandError::Memory) => Err(CommandError::Memory),
         Err(OperandError::Bad) => Err(CommandError::Fault(CnCode::Cn2)),

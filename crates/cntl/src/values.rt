@@ -1,45 +1,40 @@
 //! The values of single operands.
 ghost use Rattle.std.specs.Prelude.{◌≡◌, ◌↔◌, ℕ, Bool, None, List, IsTrue, codes, map, IfOk, IfErr, OnErr};
 ghost use Rattle.terms.specs.Forms.{IsId, IsSource, IsZoneName};
-ghost use Rattle.terms.specs.Words as grammar;
 ghost use Rattle.terms.specs.Words.{IsShort};
 ghost use Rattle.terms.specs.Operands.{operand, HasFlag, HasSorted, HasRequired};
 ghost use Rattle.terms.specs.CommandForms.{HasShort, HasSome};
-ghost use Rattle.rec80.specs.Views.{word_of};
-ghost use Rattle.operands.specs.Left.{LeavesWords};
-ghost use Rattle.operands.specs.Failing.{Excludes};
+ghost use Rattle.rec80.specs.Views.{word_of, words_of};
+ghost use Rattle.rec80.specs.Failing.{Excludes};
 
 use fields::{Id, IdList, Rising, Source, SourceList, ZoneName};
-use operands::{BadOperand, Member, OperandError, flag, operand, required, rising};
-use rec80::{Word, Words};
+use rec80::{BadOperand, Member, OperandError, Word, flag, operand, required, rising};
 use std::alloc::Global;
 
 /// How many members a list may have.
 const MOST: usize = 1000;
 
 /// Whether the operand of that name is there, which has no list. The error comes where it has one.
-pub fn flag_of(words: &Words<'_>, name: &[u8]) -> Result<bool, BadOperand>
-    ensures ok { (ws : List grammar.Word) → LeavesWords words.now ws
-        → IfOk result (λ flag. HasFlag (operand name.now ws) flag) }
-    ensures bad { (ws : List grammar.Word) → LeavesWords words.now ws → OnErr result ((flag : Bool)
-        → HasFlag (operand name.now ws) flag → ⊥) }
+pub fn flag_of(words: &[Word<'_>], name: &[u8]) -> Result<bool, BadOperand>
+    ensures ok { IfOk result (λ flag. HasFlag (operand name.now (words_of words.now)) flag) }
+    ensures bad { OnErr result ((flag : Bool)
+        → HasFlag (operand name.now (words_of words.now)) flag → ⊥) }
 {
     flag(&operand(words, name))
 }
 
 /// Whether there is no operand of that name.
-pub fn is_absent(words: &Words<'_>, name: &[u8]) -> bool
-    ensures { (ws : List grammar.Word) → LeavesWords words.now ws → IsTrue result ↔ (operand name.now ws ≡ None) }
+pub fn is_absent(words: &[Word<'_>], name: &[u8]) -> bool
+    ensures { IsTrue result ↔ (operand name.now (words_of words.now) ≡ None) }
 {
     operand(words, name).is_none()
 }
 
 /// The zone that SET names. The error comes where there is no BDY with a list of one zone name.
-pub fn zone(words: &Words<'_>) -> Result<ZoneName, BadOperand>
-    ensures ok { (ws : List grammar.Word) → LeavesWords words.now ws
-        → IfOk result (λ zone. HasRequired IsZoneName (operand (codes "BDY") ws) zone) }
-    ensures bad { (ws : List grammar.Word) → LeavesWords words.now ws
-        → OnErr result ((zone : List ℕ) → HasRequired IsZoneName (operand (codes "BDY") ws) zone → ⊥) }
+pub fn zone(words: &[Word<'_>]) -> Result<ZoneName, BadOperand>
+    ensures ok { IfOk result (λ zone. HasRequired IsZoneName (operand (codes "BDY") (words_of words.now)) zone) }
+    ensures bad { OnErr result ((zone : List ℕ)
+        → HasRequired IsZoneName (operand (codes "BDY") (words_of words.now)) zone → ⊥) }
 {
     match required::<ZoneName>(words, b"BDY") {
         Some(zone) => Ok(zone),
@@ -64,11 +59,10 @@ pub fn short_list<T: Member>(alloc: Global, word: &Word<'_>) -> Result<Rising<T>
 
 /// The ids of an operand, none where it is absent. `Memory` comes where memory runs out, `Bad` where the operand is
 /// there and has no list of ids, more than 1,000 of them, or one of them twice.
-pub fn id_list(alloc: Global, words: &Words<'_>, name: &[u8]) -> Result<IdList, OperandError>
-    ensures ok { (ws : List grammar.Word) → LeavesWords words.now ws
-        → IfOk result (λ list. HasShort IsId (operand name.now ws) list) }
-    ensures bad { (ws : List grammar.Word) → LeavesWords words.now ws
-        → IfErr result (λ e. Excludes e ((list : List (List ℕ)) × HasShort IsId (operand name.now ws) list)) }
+pub fn id_list(alloc: Global, words: &[Word<'_>], name: &[u8]) -> Result<IdList, OperandError>
+    ensures ok { IfOk result (λ list. HasShort IsId (operand name.now (words_of words.now)) list) }
+    ensures bad { IfErr result (λ e. Excludes e ((list : List (List ℕ))
+        × HasShort IsId (operand name.now (words_of words.now)) list)) }
 {
     match operand(words, name) {
         Some(word) => short_list::<Id>(alloc, &word),
@@ -78,11 +72,10 @@ pub fn id_list(alloc: Global, words: &Words<'_>, name: &[u8]) -> Result<IdList, 
 
 /// The ids of an operand that must be there. `Memory` comes where memory runs out, `Bad` where it is not, or has no
 /// list of ids, more than 1,000 of them, or one of them twice.
-pub fn some_ids(alloc: Global, words: &Words<'_>, name: &[u8]) -> Result<IdList, OperandError>
-    ensures ok { (ws : List grammar.Word) → LeavesWords words.now ws
-        → IfOk result (λ list. HasSome IsId (operand name.now ws) list) }
-    ensures bad { (ws : List grammar.Word) → LeavesWords words.now ws
-        → IfErr result (λ e. Excludes e ((list : List (List ℕ)) × HasSome IsId (operand name.now ws) list)) }
+pub fn some_ids(alloc: Global, words: &[Word<'_>], name: &[u8]) -> Result<IdList, OperandError>
+    ensures ok { IfOk result (λ list. HasSome IsId (operand name.now (words_of words.now)) list) }
+    ensures bad { IfErr result (λ e. Excludes e ((list : List (List ℕ))
+        × HasSome IsId (operand name.now (words_of words.now)) list)) }
 {
     match operand(words, name) {
         Some(word) => short_list::<Id>(alloc, &word),
@@ -94,13 +87,12 @@ pub fn some_ids(alloc: Global, words: &Words<'_>, name: &[u8]) -> Result<IdList,
 /// there and has no list of sources, more than 1,000 of them, or one of them twice.
 pub fn source_list(
     alloc: Global,
-    words: &Words<'_>,
+    words: &[Word<'_>],
     name: &[u8],
 ) -> Result<SourceList, OperandError>
-    ensures ok { (ws : List grammar.Word) → LeavesWords words.now ws
-        → IfOk result (λ list. HasShort IsSource (operand name.now ws) list) }
-    ensures bad { (ws : List grammar.Word) → LeavesWords words.now ws
-        → IfErr result (λ e. Excludes e ((list : List (List ℕ)) × HasShort IsSource (operand name.now ws) list)) }
+    ensures ok { IfOk result (λ list. HasShort IsSource (operand name.now (words_of words.now)) list) }
+    ensures bad { IfErr result (λ e. Excludes e ((list : List (List ℕ))
+        × HasShort IsSource (operand name.now (words_of words.now)) list)) }
 {
     match operand(words, name) {
         Some(word) => short_list::<Source>(alloc, &word),

@@ -9,7 +9,7 @@ use Rattle.terms.specs.Types.{Id}
 use Rattle.terms.specs.Lookups.{is_in}
 use Rattle.terms.specs.Kept.{StaysKept}
 use Rattle.terms.specs.Failures.{HasFailed, IsOpenNeed, LeadsTo, LeadsThrough, HasBareNeed, IsRoot, IsCauser}
-use Rattle.lemmas.proofs.Members.{filter_in, in_map}
+use Rattle.terms.proofs.ListMembers.{filter_in, in_map}
 use Rattle.machine.specs.Outcome.{Failure}
 use Rattle.machine.specs.Installing.{IsFailure}
 use Rattle.decide.specs.Said.{Said, FailsTest, IsEligible, Needs, Serves, IsSaid}

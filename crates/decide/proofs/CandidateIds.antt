@@ -19,17 +19,17 @@ use Rattle.terms.specs.declared.codes.Test.{Test}
 use Rattle.terms.specs.Types.{Id}
 use Rattle.terms.specs.Kept.{StaysKept}
 use Rattle.terms.specs.Lookups.{IsRising, is_before, is_in}
-use Rattle.solve.specs.Problem.{NumberedNeed, Problem, IsNumberedNeed, holds}
-use Rattle.solve.specs.Numbered.{IsProblemOf}
-use Rattle.solve.specs.Causes as numbered
+use Rattle.decide.specs.Problem.{NumberedNeed, Problem, IsNumberedNeed, holds}
+use Rattle.decide.specs.NumberedIds.{IsProblemOf}
+use Rattle.decide.specs.Causes as numbered
 use Rattle.terms.specs.Failures.{IsOpenNeed, IsCauser, all_tests}
-use Rattle.lemmas.proofs.Members.{in_map, map_in}
-use Rattle.lemmas.proofs.Pairs.{pairs_map}
-use Rattle.solve.proofs.Numbered.{stays_from_kept, kept_from_stays}
-use Rattle.lemmas.proofs.Places.{All-found, contains_at, found_at}
-use Rattle.solve.proofs.NumberedCauses.{causer_id, causer_number}
-use Rattle.solve.specs.Rows.{row_at}
-use Rattle.lemmas.proofs.Searches.{All_from_no_list_any}
+use Rattle.terms.proofs.ListMembers.{in_map, map_in}
+use Rattle.terms.proofs.Pairs.{pairs_map}
+use Rattle.decide.proofs.ProblemOfIds.{stays_from_kept, kept_from_stays}
+use Rattle.terms.proofs.Places.{All-found, contains_at, found_at}
+use Rattle.decide.proofs.NumberedCauses.{causer_id, causer_number}
+use Rattle.decide.specs.Rows.{row_at}
+use Rattle.terms.proofs.Searches.{All_from_no_list_any}
 use Rattle.machine.specs.Outcome as machine
 use Rattle.machine.specs.Installing.{IsFailure}
 use Rattle.decide.specs.declared.failure.Failure.{Failure}

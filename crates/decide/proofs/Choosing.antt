@@ -4,8 +4,8 @@ use Rattle.std.proofs.Common.{Contains, refl, sym, ap, ◌∙◌, subst, arith, 
 use Rattle.std.specs.Prelude.{◌↔◌}
 use Rattle.std.proofs.lemmas.Bool.{cases_lt}
 use Rattle.std.proofs.lemmas.List.Elements.{Contains-append_left, Contains-append_right, Contains-append_cases}
-use Rattle.solve.specs.Problem.{holds}
-use Rattle.lemmas.proofs.Members.{here_or}
+use Rattle.decide.specs.Problem.{holds}
+use Rattle.terms.proofs.ListMembers.{here_or}
 
 -- an item is taken where the test holds
 pub taken : {X : Type 0} (b : Bool) (x z : X) → Contains (cond b (x ∷ []) []) z → IsTrue b × (x ≡ z)

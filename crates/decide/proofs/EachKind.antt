@@ -16,11 +16,11 @@ use Rattle.std.proofs.lemmas.Option.{same_Some}
 use Rattle.std.proofs.lemmas.List.Elements.{All-weaker, filter_passes}
 use Rattle.std.proofs.lemmas.List.Kept.{AllPairs-filter, IsStrictlySortedBy-dedup, Contains-dedup, Contains-from_dedup}
 use Rattle.std.proofs.lemmas.List.Sorted.{Contains-permutation, IsPermutation-sym}
-use Rattle.lemmas.proofs.Members.{in_filter, filter_in, in_map, map_in}
-use Rattle.lemmas.proofs.Orderings.{is_eq_then, lower_first}
-use Rattle.lemmas.proofs.Pairs.{AllPairs_first, AllPairs_rest, pairs_map}
-use Rattle.lemmas.proofs.Searches.{filter_none}
-use Rattle.lemmas.proofs.Texts.{same_from}
+use Rattle.terms.proofs.ListMembers.{in_filter, filter_in, in_map, map_in}
+use Rattle.terms.proofs.Orderings.{is_eq_then, lower_first}
+use Rattle.terms.proofs.Pairs.{AllPairs_first, AllPairs_rest, pairs_map}
+use Rattle.terms.proofs.Searches.{filter_none}
+use Rattle.terms.proofs.TextOrder.{same_from}
 use Rattle.terms.proofs.RisingLists.{Rises_from_sorted}
 use Rattle.terms.specs.declared.codes.NeedKind.{NeedKind}
 use Rattle.terms.specs.declared.codes.NeedKind.TheVariants.{Fmid, Pre, Req, Ifreq, HoldError, Orphan, Elem, Dep}

@@ -1,23 +1,21 @@
 -- The numbered needs of a problem stand beside the needs, and so it is the problem of what is said.
-use Rattle.std.proofs.Common.{◌≡◌, ◌≢◌, inl, inr, ℕ, ◌<◌, ◌+◌, Bool, List, [], ◌∷◌, ◌++◌, Some, IsTrue, Contains, refl}
-use Rattle.std.proofs.Common.{sym, ap, ◌∙◌, subst, map, filter, slice_get}
+use Rattle.std.proofs.Common.{◌≡◌, ◌≢◌, inl, inr, ℕ, ◌<◌, ◌+◌, Bool, List, [], ◌∷◌, ◌++◌, Some, IsTrue, Contains}
+use Rattle.std.proofs.Common.{sym, ap, ◌∙◌, subst, map, slice_get}
 use Rattle.std.specs.Prelude.{◌↔◌, AllPairs, take}
 use Rattle.std.specs.Option.{option_map}
 use Rattle.std.proofs.lemmas.Bool.{cases_order}
 use Rattle.std.proofs.lemmas.List.{length-map}
 use Rattle.std.proofs.lemmas.Option.{slice_get_within, slice_get-map, get_or_from_slice_get, same_Some}
-use Rattle.lemmas.proofs.Places.{contains_at, found_at, at_place}
-use Rattle.lemmas.proofs.BesideLists.{beside_at}
-use Rattle.lemmas.proofs.Members.{in_filter, filter_in, in_map, map_in}
-use Rattle.terms.proofs.Ids.{is_in_from_Contains}
+use Rattle.terms.proofs.Places.{contains_at, found_at, at_place}
+use Rattle.terms.proofs.BesideLists.{beside_at}
 use Rattle.terms.specs.declared.codes.NeedKind.{NeedKind}
 use Rattle.terms.specs.Types.{Id}
-use Rattle.terms.specs.Lookups.{IsRising, is_in}
-use Rattle.solve.specs.Problem.{NumberedNeed, Problem, IsProblem, holds}
-use Rattle.solve.specs.Numbered.{IsProblemOf}
+use Rattle.terms.specs.Lookups.{IsRising}
+use Rattle.decide.specs.Problem.{NumberedNeed, Problem, IsProblem, holds}
+use Rattle.decide.specs.NumberedIds.{IsProblemOf}
 use Rattle.decide.specs.declared.stated.Need.{Need}
 use Rattle.decide.specs.Said.{Said, a_need, IsEligible, Needs, Serves}
-use Rattle.decide.specs.Numbered.{need_of, IsNumberedNeedFor, HasNumberedNeeds, AddsNumberedNeed, HasProblem, IsNeeded}
+use Rattle.decide.specs.Numbered.{need_of, IsNumberedNeedFor, HasNumberedNeeds, AddsNumberedNeed, HasProblem}
 use Rattle.decide.proofs.CandidateIds.{one_number}
 
 adds_over : (old new : Problem) (d : NumberedNeed) → new ≡ record old { needs = old.needs ++ d ∷ [] }
@@ -87,34 +85,6 @@ module _ (ids : List Id) (pairs : List (Id × ℕ)) (flags : List Bool) where
             rw (← get_or_from_slice_get stated i v v at_v, ← get_or_from_slice_get stated j w v at_w)
             (once i j v less (slice_get_within stated j w at_w))
 
-pub are_needed : (stated : List Need) (needed : List Id)
-    → ((z : Id) → Contains needed z ↔ Contains (map (λ (w : Need). w.id) stated) z) → (z : Id)
-    → Contains needed z ↔ IsNeeded stated z
-are_needed stated needed same z = (
-  λ h. map_in (λ (w : Need). w.id) stated z ((same z).0 h),
-  λ w. (same z).1 (subst (Contains (map (λ (w : Need). w.id) stated)) w.2
-      (in_map (λ (w : Need). w.id) stated w.0 w.1)),
-)
-
--- of what is needed the same pairs are asked for as are there
-pub asked_alike : (stated : List Need) (needed : List Id) (superseded : List (Id × Id))
-    → ((z : Id) → Contains needed z ↔ IsNeeded stated z) → (y z : Id) → IsNeeded stated z
-    → Contains (filter (λ p. is_in needed p.1) superseded) (y, z) ↔ Contains superseded (y, z)
-asked_alike stated needed superseded are y z need = (
-  λ h. (filter_in (λ p. is_in needed p.1) superseded (y, z) h).0,
-  λ h. in_filter (λ p. is_in needed p.1) superseded (y, z) h (is_in_from_Contains needed z ((are z).1 need)),
-)
-
--- at what is needed the pairs that are asked for serve as all do
-serves_alike : {ids : List Id} {superseded : List (Id × Id)} {flags : List Bool} {stated : List Need} {p : Problem}
-    → (has : HasProblem ids superseded flags stated p) (kind : NeedKind) (y z : Id) → IsNeeded stated z
-    → Serves has.asked kind y z ↔ Serves superseded kind y z
-serves_alike has kind y z needed =
-    let same = has.same y z needed in (
-      λ h. elim h [ inl own ↦ inl own | inr over ↦ inr (over.0, same.0 over.1) ],
-      λ h. elim h [ inl own ↦ inl own | inr over ↦ inr (over.0, same.1 over.1) ],
-    )
-
 -- the problem of what is said
 pub said_problem : (s : Said) (flags : List Bool) (p : Problem) → IsRising s.cands → AllPairs (λ v w. v ≢ w) s.needs
     → ((n : ℕ) (x : Id) → slice_get s.cands n ≡ Some x → IsTrue (holds flags n) ↔ IsEligible s x) → IsProblem p
@@ -133,14 +103,7 @@ said_problem s flags p rising once eligible numbers has =
           record {
             of = (w.0.of, w.2.of, subst (Contains s.needs) w.3 (contains_at s.needs i w.0 w.1));
             any = λ n y at.
-                let places = (subst (λ v. IsNumberedNeedFor ids has.pairs v d) w.3 w.2).any has.asked has.served n y at in
-                let stands = serves_alike has need.0 y need.1 (
-                  a_need w.0.of need.0 need.1,
-                  subst (Contains s.needs) w.3
-                      (contains_at s.needs i w.0 w.1),
-                  refl,
-                ) in
-                (λ there. stands.0 (places.0 there), λ serves. places.1 (stands.1 serves));
+                (subst (λ v. IsNumberedNeedFor ids has.pairs v d) w.3 w.2).any s.superseded has.served n y at;
           };
       all = λ n x z kind at need.
           let found = found_at s.needs (a_need x kind z) need in

@@ -10,10 +10,10 @@ use Rattle.std.proofs.lemmas.List.{get_or-set_same, get_or-set_other, length-map
 use Rattle.std.proofs.lemmas.List.Elements.{Contains-append_left, Contains-append_right, Contains-append_cases}
 use Rattle.terms.specs.declared.codes.NeedKind.{NeedKind}
 use Rattle.terms.specs.Types.{Id}
-use Rattle.solve.specs.Problem.{NumberedNeed, holds}
-use Rattle.solve.specs.Rows.{row_at}
-use Rattle.solve.proofs.Added.{row_at_get_or}
-use Rattle.solve.proofs.Times.{eqb_other}
+use Rattle.decide.specs.Problem.{NumberedNeed, holds}
+use Rattle.decide.specs.Rows.{row_at}
+use Rattle.decide.proofs.Added.{row_at_get_or}
+use Rattle.decide.proofs.Times.{eqb_other}
 use Rattle.decide.specs.Open.{is_open_of, open_of, HaveOpen}
 use Rattle.decide.proofs.Choosing.{taken, take_one, same_at}
 

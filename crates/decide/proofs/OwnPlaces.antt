@@ -6,8 +6,8 @@ use Rattle.std.specs.Ordering.{nat_cmp}
 use Rattle.std.specs.Cmp.Lexicographic.{slice_cmp}
 use Rattle.std.proofs.lemmas.Map.Lookups.{exact_bytes}
 use Rattle.std.proofs.lemmas.Option.{slice_get-get_or, same_Some}
-use Rattle.lemmas.proofs.Members.{here_or, none_in}
-use Rattle.lemmas.proofs.Places.{contains_at}
+use Rattle.terms.proofs.ListMembers.{here_or, none_in}
+use Rattle.terms.proofs.Places.{contains_at}
 use Rattle.terms.specs.Rising.{StandsAt}
 use Rattle.terms.specs.Types.{Id}
 use Rattle.terms.specs.Lookups.{IsRising, is_in}

@@ -5,14 +5,14 @@ use Rattle.std.specs.Prelude.{◌↔◌, IsFalse}
 use Rattle.std.specs.Option.{option_map}
 use Rattle.std.proofs.lemmas.Bool.{false_from_ne_true}
 use Rattle.std.proofs.lemmas.Option.{slice_get-map, get_or_from_slice_get}
-use Rattle.lemmas.proofs.Members.{filter_in, in_filter, none_in}
-use Rattle.lemmas.proofs.Places.{contains_at}
+use Rattle.terms.proofs.ListMembers.{filter_in, in_filter, none_in}
+use Rattle.terms.proofs.Places.{contains_at}
 use Rattle.terms.specs.declared.codes.Test.{Test}
 use Rattle.terms.specs.declared.codes.Test.TheVariants.{J1, J2, J3, J4, J5, J6, J7, J8, J9, J10, J11, J12, J13}
 use Rattle.terms.specs.Types.{Id}
 use Rattle.terms.specs.Lookups.{is_nil}
 use Rattle.terms.specs.Failures.{all_tests}
-use Rattle.solve.specs.Problem.{holds}
+use Rattle.decide.specs.Problem.{holds}
 use Rattle.decide.specs.Said.{Said, IsEligible, AreTests}
 
 pub all_there : (t : Test) → Contains all_tests t

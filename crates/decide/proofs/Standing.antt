@@ -23,12 +23,12 @@ use Rattle.terms.specs.declared.codes.NeedKind.{NeedKind}
 use Rattle.terms.specs.Types.{Id}
 use Rattle.terms.specs.Needs.{takes_superseder}
 use Rattle.terms.proofs.RisingLists.{Rises_from_sorted}
-use Rattle.lemmas.proofs.Members.{map_in, in_map, filter_in, in_filter, none_in}
-use Rattle.lemmas.proofs.Pairs.{pairs_map}
+use Rattle.terms.proofs.ListMembers.{map_in, in_map, filter_in, in_filter, none_in}
+use Rattle.terms.proofs.Pairs.{pairs_map}
 use Rattle.decide.specs.Said.{Serves}
 use Rattle.decide.specs.Serving.{StandsFor, AreOwn, AddsSuperseded, AreServed, AreOwnPlaces, IsServedIn}
 use Rattle.decide.specs.Serving.{is_between}
-use Rattle.lemmas.proofs.Orderings.{between_then, Equal_from_is_eq}
+use Rattle.terms.proofs.Orderings.{between_then, Equal_from_is_eq}
 
 -- a pair in a list
 abbrev pub Has : List (Id × ℕ) → Id → ℕ → Type 0

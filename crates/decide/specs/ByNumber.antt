@@ -4,9 +4,9 @@ use Rattle.terms.specs.declared.codes.NeedKind.{NeedKind}
 use Rattle.terms.specs.declared.codes.Test.{Test}
 use Rattle.terms.specs.Types.{Id}
 use Rattle.terms.specs.Lookups.{IsRising}
-use Rattle.solve.specs.Problem.{Problem, holds, AreKept}
-use Rattle.solve.specs.Causes as numbered
-use Rattle.solve.specs.Rows.{row_at}
+use Rattle.decide.specs.Problem.{Problem, holds, AreKept}
+use Rattle.decide.specs.Causes as numbered
+use Rattle.decide.specs.Rows.{row_at}
 use Rattle.decide.specs.declared.failure.Failure.{Failure}
 use Rattle.decide.specs.declared.failures.Findings.{Findings}
 use Rattle.decide.specs.Findings.{AreFailures}

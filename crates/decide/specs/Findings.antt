@@ -5,7 +5,7 @@ use Rattle.terms.specs.declared.codes.NeedKind.{NeedKind}
 use Rattle.terms.specs.declared.codes.Test.{Test}
 use Rattle.terms.specs.Types.{Id}
 use Rattle.terms.specs.Lookups.{is_in}
-use Rattle.solve.specs.Rows.{row_at}
+use Rattle.decide.specs.Rows.{row_at}
 use Rattle.machine.specs.Outcome as machine
 use Rattle.decide.specs.declared.failure.Failure.{Failure}
 use Rattle.decide.specs.Views.{failure_view}

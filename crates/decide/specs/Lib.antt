@@ -8,3 +8,14 @@ pub mod Numbered
 pub mod Findings
 pub mod Open
 pub mod ByNumber
+pub mod NumberedNeed
+pub mod Viewed
+pub mod Parts
+pub mod Rows
+pub mod Marks
+pub mod Board
+pub mod Rules
+pub mod Problem
+pub mod Causes
+pub mod Least
+pub mod NumberedIds

@@ -1,9 +1,9 @@
 -- The numbered problem of the needs.
-use Rattle.std.specs.Prelude.{◌≡◌, ◌↔◌, ℕ, Bool, List, [], ◌∷◌, ◌++◌, Some, Contains, length, slice_get}
-use Rattle.lemmas.specs.Beside.{Beside}
+use Rattle.std.specs.Prelude.{◌≡◌, ℕ, Bool, List, [], ◌∷◌, ◌++◌, Some, length, slice_get}
+use Rattle.terms.specs.Beside.{Beside}
 use Rattle.terms.specs.declared.codes.NeedKind.{NeedKind}
 use Rattle.terms.specs.Types.{Id}
-use Rattle.solve.specs.Problem.{NumberedNeed, Problem}
+use Rattle.decide.specs.Problem.{NumberedNeed, Problem}
 use Rattle.decide.specs.declared.stated.Need.{Need}
 use Rattle.decide.specs.Serving.{AreServed, IsServedIn}
 
@@ -30,16 +30,9 @@ pub record AddsNumberedNeed (ids : List Id) (pairs : List (Id × ℕ)) (w : Need
   pub for : IsNumberedNeedFor ids pairs w numbered
   pub problem : new ≡ record old { needs = old.needs ++ numbered ∷ [] }
 
--- somebody needs it
-abbrev pub IsNeeded : List Need → Id → Type 0
-IsNeeded stated z = (w : Need) × Contains stated w × (w.id ≡ z)
-
--- the problem of the candidates with these flags has these needs, served by who stands for an id; only the pairs of
--- what is needed are looked at
+-- the problem of the candidates with these flags has these needs, served by who stands for an id
 pub record HasProblem (ids : List Id) (superseded : List (Id × Id)) (flags : List Bool) (stated : List Need)
     (p : Problem) : Type 0 where
   pub pairs : List (Id × ℕ)
-  pub asked : List (Id × Id)
-  pub same : (y z : Id) → IsNeeded stated z → Contains asked (y, z) ↔ Contains superseded (y, z)
-  pub served : AreServed ids asked pairs
+  pub served : AreServed ids superseded pairs
   pub needs : HasNumberedNeeds ids pairs flags stated p

@@ -10,8 +10,8 @@ use Rattle.std.specs.declared.alloc.Global.{Global}
 use Rattle.terms.specs.declared.codes.NeedKind.{NeedKind}
 use Rattle.terms.specs.Types.{Id}
 use Rattle.terms.specs.Lookups.{IsRising}
-use Rattle.solve.specs.Problem.{NumberedNeed, holds}
-use Rattle.solve.specs.Rows.{row_at}
+use Rattle.decide.specs.Problem.{NumberedNeed, holds}
+use Rattle.decide.specs.Rows.{row_at}
 use Rattle.machine.specs.Outcome.{OpenNeed}
 use Rattle.terms.specs.Failures.{all_needs}
 

@@ -8,14 +8,17 @@ ghost use Rattle.decide.specs.Numbered.{need_of};
 ghost use Rattle.decide.specs.Decided.{Decides};
 ghost use Rattle.decide.specs.ByNumber.{IsDecidedBy};
 
+use crate::causes::causers;
 use crate::failure::Failure;
 use crate::failures::{Findings, failures};
 use crate::kept::kept_ids;
 use crate::needs::open_needs;
 use crate::numbered::{all_eligible, numbered};
+use crate::problem::Problem;
+use crate::solver::Solver;
 use crate::stated::Need;
+use crate::worklist::Worklist;
 use fields::{Attest, Id, IdList};
-use solve::{Problem, Solver, Worklist, causers};
 use std::alloc::{AllocError, Global};
 use terms::Test;
 
@@ -27,8 +30,8 @@ pub struct Decided {
 }
 
 /// Decides on candidates, beside which stand the tests that each one fails, by what they need, each need once, and by
-/// pairs of a candidate and one that it supersedes. It keeps the greatest set of those that fail no test and that
-/// supports itself. The error comes where memory runs out.
+/// pairs of a candidate and an id that it supersedes, of which only those with a needed id count. It keeps the greatest
+/// set of those that fail no test and that supports itself. The error comes where memory runs out.
 pub fn decide(
     alloc: Global,
     ids: &IdList,

@@ -2,7 +2,7 @@
 ghost use Rattle.std.specs.Prelude.{◌≡◌, ◌↔◌, ◌<◌, ◌++◌, [], ◌∷◌, ℕ, Some, All, Contains, IsTrue, IfOk, OnOk, length};
 ghost use Rattle.std.specs.Prelude.{map, slice_get, slice_index_or, if◌then◌else◌};
 ghost use Rattle.terms.specs.Types.{Id as AnId};
-ghost use Rattle.solve.specs.Problem.{holds};
+ghost use Rattle.decide.specs.Problem.{holds};
 
 use fields::{Id, IdList};
 use std::alloc::{AllocError, Global};

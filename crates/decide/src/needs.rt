@@ -1,15 +1,17 @@
 //! The needs that nothing kept serves.
 ghost use Rattle.std.specs.Prelude.{◌≡◌, ◌↔◌, ◌⊎◌, ◌<◌, ◌++◌, ℕ, All, Contains, IfOk, OnOk, length, map};
-ghost use Rattle.solve.specs.NumberedNeed.{numbered};
-ghost use Rattle.solve.specs.Rows.{row_at};
+ghost use Rattle.decide.specs.NumberedNeed.{numbered};
+ghost use Rattle.decide.specs.Rows.{row_at};
 ghost use Rattle.decide.specs.Views.{need_view};
 ghost use Rattle.decide.specs.Numbered.{need_of};
 ghost use Rattle.decide.specs.Open.{open_of, AreEachOnce, HaveOpen, AreNeedsOf};
 
 use crate::failure::OpenNeed;
+use crate::problem::{NumberedNeed, Problem};
+use crate::rows::empty_rows;
+use crate::sets::serves;
 use crate::stated::{Need, need_at};
 use fields::Id;
-use solve::{NumberedNeed, Problem, empty_rows, serves};
 use std::alloc::{AllocError, Global};
 use terms::NeedKind;
 

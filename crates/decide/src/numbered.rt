@@ -1,14 +1,13 @@
 //! The numbered problem of who is eligible and needs whom.
-ghost use Rattle.std.specs.Prelude.{◌≡◌, length, map, filter, All, Contains, OnOk, IfOk};
-ghost use Rattle.terms.specs.Lookups.{is_in, is_nil};
-ghost use Rattle.solve.specs.Problem.{IsProblem};
-ghost use Rattle.decide.specs.declared.stated.Need.{Need as ANeed};
+ghost use Rattle.std.specs.Prelude.{◌≡◌, length, map, All, Contains, OnOk, IfOk};
+ghost use Rattle.terms.specs.Lookups.{is_nil};
+ghost use Rattle.decide.specs.Problem.{IsProblem};
 ghost use Rattle.decide.specs.Numbered.{AddsNumberedNeed, HasNumberedNeeds, HasProblem};
 
+use crate::problem::{NumberedNeed, Problem};
 use crate::serving::{own_place, places_of, served};
 use crate::stated::{Need, need_at};
 use fields::{Id, IdList};
-use solve::{NumberedNeed, Problem};
 use std::alloc::{AllocError, Global};
 use std::collections::BTreeSet;
 use terms::Test;
@@ -53,7 +52,8 @@ fn with_needs(
     requires within { All (λ w. Contains ids.now w.of) stated.now }
     requires flags { length eligible.items ≡ length ids.now }
     ensures valid { IfOk result (λ problem. IsProblem problem) }
-    ensures needs { IfOk result (λ problem. HasNumberedNeeds ids.now served.now.keys eligible.items stated.now problem) }
+    ensures needs { IfOk result (λ problem. HasNumberedNeeds ids.now served.now.keys eligible.items stated.now
+        problem) }
 {
     let mut problem = Problem::new(alloc, eligible);
     for i in 0..stated.len() {
@@ -62,29 +62,6 @@ fn with_needs(
     }
     let _ = problem.size();
     Ok(problem)
-}
-
-// The ids that are needed.
-fn needed_ids(alloc: Global, stated: &[Need]) -> Result<Vec<Id>, AllocError>
-    ensures { IfOk result (λ ids. ids.items ≡ map (λ (w : ANeed). w.id) stated.now) }
-{
-    stated.iter().map(|need| need.id).collect(alloc)
-}
-
-// The pairs that a need can ask for: of a candidate and one that it supersedes and that is needed. Mostly these are few
-// among all pairs.
-fn asked(
-    alloc: Global,
-    superseded: &[(Id, Id)],
-    needed: &IdList,
-) -> Result<Vec<(Id, Id)>, AllocError>
-    ensures { IfOk result (λ pairs. pairs.items ≡ filter (λ p. is_in needed.now p.1) superseded.now) }
-{
-    superseded
-        .iter()
-        .filter(|pair| needed.contains(pair.1))
-        .copied()
-        .collect(alloc)
 }
 
 /// The problem of candidates with these flags and these needs, of which some supersede what is needed.
@@ -101,9 +78,7 @@ pub(crate) fn numbered(
     ensures valid { IfOk result (λ problem. IsProblem problem) }
     ensures problem { IfOk result (λ problem. HasProblem ids.now superseded.now eligible.items stated.now problem) }
 {
-    let needed = IdList::from_vec(needed_ids(alloc, stated)?);
-    let asked = asked(alloc, superseded, &needed)?;
-    let served = served(alloc, ids, asked.as_slice())?;
+    let served = served(alloc, ids, superseded)?;
     let problem = with_needs(alloc, ids, &served, stated, eligible)?;
     Ok(problem)
 }

@@ -23,7 +23,7 @@ impl Model for VerNumber {
 }
 
 impl VerNumber {
-    /// That of the first.
+    /// The number of the first `++VER`.
     pub const FIRST: VerNumber = VerNumber { value: 1 };
 
     /// This number.
@@ -35,7 +35,7 @@ impl VerNumber {
         VerNumber { value }
     }
 
-    /// That of the one at this place, counted from 0.
+    /// The number of the `++VER` at this place, counted from 0.
     pub fn behind(place: usize) -> VerNumber
         requires { place + 1 < 2 ^ 63 }
         ensures { result ≡ place + 1 }
@@ -43,7 +43,7 @@ impl VerNumber {
         VerNumber { value: place + 1 }
     }
 
-    /// As a number that counts.
+    /// The number, counted from 1.
     pub fn get(self) -> usize
         ensures value { result ≡ self }
         ensures first { 1 ≤ result }

@@ -3,8 +3,8 @@ use Rattle.std.proofs.Common.{◌≡◌, ◌<◌, ◌+◌, ℕ, List, [], ◌++�
 use Rattle.std.proofs.Common.{refl, arith}
 use Rattle.std.specs.List.{All, Any}
 use Rattle.std.proofs.lemmas.List.Elements.{All-weaker, All-push}
-use Rattle.lemmas.proofs.Each.{Any_append_left}
-use Rattle.lemmas.proofs.BesideLists.{all_next}
+use Rattle.terms.proofs.Each.{Any_append_left}
+use Rattle.terms.proofs.BesideLists.{all_next}
 use Rattle.terms.specs.Types as terms
 use Rattle.mcs.specs.declared.hold_item.HoldItem.{HoldItem}
 use Rattle.mcs.specs.declared.hold_item.HoldItem.TheVariants.{Hold, Release}

@@ -4,13 +4,13 @@ use Rattle.std.specs.List.{All, list_any}
 use Rattle.std.specs.Str.{bytes_eq}
 use Rattle.std.proofs.lemmas.Bool.{and_parts, eqb-true}
 use Rattle.std.proofs.lemmas.List.Folds.{Any-from_list_any}
-use Rattle.lemmas.proofs.Texts.{same_from}
+use Rattle.terms.proofs.TextOrder.{same_from}
 use Rattle.std.specs.declared.cmp.Ordering.{Ordering}
 use Rattle.std.specs.declared.cmp.Ordering.TheVariants.{Less, Equal, Greater}
 use Rattle.std.specs.Ordering.{is_lt, is_eq, ordering_reverse}
 use Rattle.std.proofs.lemmas.List.Elements.{All-weaker, Contains-append_left, Contains-append_right}
-use Rattle.lemmas.proofs.Each.{any_in, in_any, any_weaker}
-use Rattle.lemmas.proofs.Members.{here, in_filter}
+use Rattle.terms.proofs.Each.{any_in, in_any, any_weaker}
+use Rattle.terms.proofs.ListMembers.{here, in_filter}
 use Rattle.terms.specs.declared.kinds.ElemType.{ElemType}
 use Rattle.terms.specs.Types.{Text, Change, type_number}
 use Rattle.terms.specs.Global.{change_cmp}

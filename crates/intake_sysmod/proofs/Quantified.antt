@@ -4,8 +4,8 @@ use Rattle.std.specs.List.{All, Any}
 use Rattle.std.proofs.lemmas.List.Elements.{Contains-append_right, All-contains}
 use Rattle.std.proofs.lemmas.List.Sorted.{Contains-permutation, IsPermutation-sym}
 use Rattle.std.proofs.lemmas.Option.{slice_get_within, get_or_from_slice_get}
-use Rattle.lemmas.proofs.Each.{any_in, in_any, All_from_each}
-use Rattle.lemmas.proofs.Places.{at_place}
+use Rattle.terms.proofs.Each.{any_in, in_any, All_from_each}
+use Rattle.terms.proofs.Places.{at_place}
 
 pub Any_append_right : {X : Type 0} (P : X → Type 0) (xs ys : List X) → Any P ys → Any P (xs ++ ys)
 Any_append_right P xs ys any =

@@ -4,10 +4,10 @@ use Rattle.std.proofs.Common.{subst, sym, ap, ◌∙◌, arith, refl}
 use Rattle.std.proofs.lemmas.List.{take_more, take_all}
 use Rattle.std.specs.List.{All, Any}
 use Rattle.std.proofs.lemmas.List.Elements.{All-weaker, All-append, All-push, All-nil}
-use Rattle.lemmas.specs.Beside.{Beside}
-use Rattle.lemmas.proofs.Each.{any_in, All_from_each, Any_append_left}
-use Rattle.lemmas.proofs.BesideLists.{beside_there}
-use Rattle.lemmas.proofs.Places.{at_place}
+use Rattle.terms.specs.Beside.{Beside}
+use Rattle.terms.proofs.Each.{any_in, All_from_each, Any_append_left}
+use Rattle.terms.proofs.BesideLists.{beside_there}
+use Rattle.terms.proofs.Places.{at_place}
 use Rattle.std.proofs.lemmas.Option.{slice_get_within}
 use Rattle.terms.specs.Types.{Text, Ver}
 use Rattle.intake_wide.specs.declared.items.WideVer.{WideVer}

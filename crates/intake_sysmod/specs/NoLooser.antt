@@ -3,7 +3,7 @@
 use Rattle.std.specs.Prelude.{◌≡◌, Bool, List, Some, All}
 use Rattle.std.specs.List.{Any}
 use Rattle.terms.specs.Types.{Text, IfReq, Ver, Sysmod}
-use Rattle.lemmas.specs.Beside.{Beside}
+use Rattle.terms.specs.Beside.{Beside}
 use Rattle.intake_wide.specs.declared.items.WideIf.{WideIf}
 use Rattle.intake_wide.specs.declared.items.WideVer.{WideVer}
 use Rattle.intake_wide.specs.declared.items.WideSysmod.{WideSysmod}

@@ -1,6 +1,6 @@
 //! `++IF`.
 ghost use Rattle.std.specs.Prelude.{IfOk, IfSome};
-ghost use Rattle.lemmas.specs.Beside.{Beside};
+ghost use Rattle.terms.specs.Beside.{Beside};
 ghost use Rattle.intake_sysmod.specs.NoLooser.{IsIf};
 
 use crate::ids::{id_of, ids_of};

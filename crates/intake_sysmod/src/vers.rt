@@ -1,6 +1,6 @@
 //! `++VER`.
 ghost use Rattle.std.specs.Prelude.{◌≡◌, IfOk, IfSome, IsPermutation};
-ghost use Rattle.lemmas.specs.Beside.{Beside};
+ghost use Rattle.terms.specs.Beside.{Beside};
 ghost use Rattle.intake_sysmod.specs.NoLooser.{IsVer, AreVers, AreOperands};
 
 use crate::ver_operands::{Operands, operands_of};

@@ -2,6 +2,7 @@
 
 use intake_cards::{CardError, CardOddity, Cards, Code, Form, Place, Tail, read_cards};
 use std::alloc::{AllocError, Global};
+use std::process::Abort;
 use std::test::Fail;
 
 /// `++PTF(UA00001).` in EBCDIC.
@@ -29,12 +30,19 @@ fn texts(alloc: Global, cards: &Cards) -> Result<Vec<u8>, AllocError> {
 }
 
 /// Records with these texts.
-fn wanted(alloc: Global, lines: &[&[u8]]) -> Result<Vec<u8>, AllocError> {
+fn records(alloc: Global, lines: &[&[u8]]) -> Result<Vec<u8>, AllocError> {
     let mut all = Vec::new(alloc);
     for line in lines {
         all.extend_from_slice(&card_text(line))?;
     }
     Ok(all)
+}
+
+/// The cards have these texts.
+fn check_texts(rt: &impl Abort, alloc: Global, cards: &Cards, lines: &[&[u8]]) -> Result<(), Fail> {
+    let wanted = records(alloc, lines)?;
+    assert_eq!(rt; texts(alloc, cards)?.as_slice(), wanted.as_slice());
+    Ok(())
 }
 
 /// A record of EBCDIC with this text at its beginning.
@@ -47,8 +55,8 @@ fn ebcdic_record(text: &[u8]) -> [u8; 80] {
 }
 
 #[test]
-fn lines_and_their_ends(rt: HostRuntime) -> Result<(), Fail> {
-    let wanted = wanted(rt.alloc(), &[b"++PTF(UA00001).", b"", b" /*X*/"])?;
+fn lines_may_end_in_each_way(rt: HostRuntime) -> Result<(), Fail> {
+    let lines: [&[u8]; 3] = [b"++PTF(UA00001).", b"", b" /*X*/"];
     let files: [&[u8]; 3] = [
         b"++PTF(UA00001).\n\n /*X*/\n",
         b"++PTF(UA00001).\r\n\r\n /*X*/\r\n",
@@ -57,7 +65,7 @@ fn lines_and_their_ends(rt: HostRuntime) -> Result<(), Fail> {
     for file in files {
         let cards = read_cards(rt.alloc(), 3, file, None, None)?;
         assert_eq!(rt; (cards.form, cards.code), (Form::Text, Code::Ascii));
-        assert_eq!(rt; texts(rt.alloc(), &cards)?.as_slice(), wanted.as_slice());
+        check_texts(&rt, rt.alloc(), &cards, &lines)?;
         let last = cards.cards.last().ok_or("no card")?;
         assert_eq!(rt; last.place, Place { file: 3, card: 3 });
         assert!(rt; cards.notes.is_empty());
@@ -66,11 +74,12 @@ fn lines_and_their_ends(rt: HostRuntime) -> Result<(), Fail> {
 }
 
 #[test]
-fn records_are_told(rt: HostRuntime) -> Result<(), Fail> {
-    let wanted = wanted(rt.alloc(), &[b"++PTF(UA00001).", b"++VER(Z038)."])?;
-    let cards = read_cards(rt.alloc(), 0, wanted.as_slice(), None, None)?;
+fn a_file_of_records_is_told(rt: HostRuntime) -> Result<(), Fail> {
+    let lines: [&[u8]; 2] = [b"++PTF(UA00001).", b"++VER(Z038)."];
+    let records = records(rt.alloc(), &lines)?;
+    let cards = read_cards(rt.alloc(), 0, records.as_slice(), None, None)?;
     assert_eq!(rt; (cards.form, cards.code), (Form::Records, Code::Ascii));
-    assert_eq!(rt; texts(rt.alloc(), &cards)?.as_slice(), wanted.as_slice());
+    check_texts(&rt, rt.alloc(), &cards, &lines)?;
     let none = read_cards(rt.alloc(), 0, b"", None, None)?;
     assert!(rt; none.cards.is_empty());
     Ok(())
@@ -99,39 +108,18 @@ fn ebcdic_is_told(rt: HostRuntime) -> Result<(), Fail> {
     lines.extend_from_slice(b"\x0D\x25")?;
     let cards = read_cards(rt.alloc(), 0, lines.as_slice(), None, None)?;
     assert_eq!(rt; (cards.form, cards.code), (Form::Text, Code::Ibm1047));
-    let wanted = wanted(rt.alloc(), &[b"SET BDY(A$#@).", b"SET BDY(A$#@)."])?;
-    assert_eq!(rt; texts(rt.alloc(), &cards)?.as_slice(), wanted.as_slice());
-    Ok(())
+    let lines: [&[u8]; 2] = [b"SET BDY(A$#@).", b"SET BDY(A$#@)."];
+    check_texts(&rt, rt.alloc(), &cards, &lines)
 }
 
 #[test]
-fn code_that_is_asked_for(rt: HostRuntime) -> Result<(), Fail> {
+fn a_code_that_is_asked_for_is_taken(rt: HostRuntime) -> Result<(), Fail> {
     let brackets = b"\xAD\xBD\x5F\xBA\xBB\xB0\x15";
-    let open = read_cards(
-        rt.alloc(),
-        0,
-        brackets,
-        Some(Form::Text),
-        Some(Code::Ibm1047),
-    )?;
-    let wanted_open = wanted(rt.alloc(), &[b"[]^\xDD\xA8\xAC"])?;
-    assert_eq!(rt;
-        texts(rt.alloc(), &open)?.as_slice(),
-        wanted_open.as_slice()
-    );
-    let data_set = read_cards(
-        rt.alloc(),
-        0,
-        brackets,
-        Some(Form::Text),
-        Some(Code::Ibm037),
-    )?;
-    let wanted_data_set = wanted(rt.alloc(), &[b"\xDD\xA8\xAC[]^"])?;
-    assert_eq!(rt;
-        texts(rt.alloc(), &data_set)?.as_slice(),
-        wanted_data_set.as_slice()
-    );
-    Ok(())
+    let text = Some(Form::Text);
+    let open = read_cards(rt.alloc(), 0, brackets, text, Some(Code::Ibm1047))?;
+    check_texts(&rt, rt.alloc(), &open, &[b"[]^\xDD\xA8\xAC"])?;
+    let data_set = read_cards(rt.alloc(), 0, brackets, text, Some(Code::Ibm037))?;
+    check_texts(&rt, rt.alloc(), &data_set, &[b"\xDD\xA8\xAC[]^"])
 }
 
 /// A line of so many of this byte.
@@ -145,7 +133,7 @@ fn line_of(alloc: Global, byte: u8, len: usize, tail: &[u8]) -> Result<Vec<u8>, 
 }
 
 #[test]
-fn long_lines(rt: HostRuntime) -> Result<(), Fail> {
+fn a_line_longer_than_a_card_is_told(rt: HostRuntime) -> Result<(), Fail> {
     let whole = line_of(rt.alloc(), b'A', 80, b"\nB\n")?;
     assert_eq!(rt;
         read_cards(rt.alloc(), 0, whole.as_slice(), None, None)?
@@ -183,20 +171,12 @@ fn odd_characters_are_noted(rt: HostRuntime) -> Result<(), Fail> {
         (CardOddity::NotPrintable, 3, 2),
     ];
     assert_eq!(rt; found.as_slice(), wanted.as_slice());
-    let wanted_texts = wanted_texts(rt.alloc())?;
-    assert_eq!(rt;
-        texts(rt.alloc(), &cards)?.as_slice(),
-        wanted_texts.as_slice()
-    );
-    Ok(())
-}
-
-fn wanted_texts(alloc: Global) -> Result<Vec<u8>, AllocError> {
-    wanted(alloc, &[b"++PTF(UA00001).", b"\tX", b"\x00\t", b"\xC3\x9C"])
+    let lines: [&[u8]; 4] = [b"++PTF(UA00001).", b"\tX", b"\x00\t", b"\xC3\x9C"];
+    check_texts(&rt, rt.alloc(), &cards, &lines)
 }
 
 #[test]
-fn tails(rt: HostRuntime) -> Result<(), Fail> {
+fn columns_73_to_80_are_told_apart(rt: HostRuntime) -> Result<(), Fail> {
     let mut numbered = line_of(rt.alloc(), b' ', 72, b"00000100\n")?;
     numbered.extend_from_slice(line_of(rt.alloc(), b' ', 72, b"  UA1 10\n")?.as_slice())?;
     numbered.extend_from_slice(line_of(rt.alloc(), b'A', 72, b"\n")?.as_slice())?;

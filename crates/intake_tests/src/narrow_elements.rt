@@ -1,6 +1,6 @@
 //! Elements, updates and their texts: what is carried of them, and what is told.
 
-use crate::narrow_lines::{joined, options, outcome};
+use crate::narrow_lines::{check, check_with};
 use fields::Name;
 use intake_cards::read_cards;
 use intake_sysmod::{Member, Options, Syslib};
@@ -8,215 +8,121 @@ use std::alloc::Global;
 use std::test::Fail;
 
 /// Elements for which a SYSMOD is left out.
-const ELEMENTS: &[&[u8]] = &[
-    b"++PTF(UA00001).",
-    b"++VER(Z038) FMID(HAA1100).",
-    b"++MOD(MODA) DISTLIB(AMOD).",
-    b"++PTF(UA00002).",
-    b"++VER(Z038) FMID(HAA1100).",
-    b"++MAC(MACA) DISTLIB(AMACLIB).",
-    b"         TEXT",
-    b"++PTF(UA00003).",
-    b"++VER(Z038) FMID(HAA1100).",
-    b"++MAC(MACA) DISTLIB(AMACLIB) SYSLIB(MACLIB) RELFILE(1).",
-    b"++PTF(UA00004).",
-    b"++VER(Z038) FMID(HAA1100).",
-    b"++MAC(MACA) DISTLIB(AMACLIB) SYSLIB(MACLIB) TXLIB(SMPTX).",
-    b"++PTF(UA00005).",
-    b"++VER(Z038) FMID(HAA1100).",
-    b"++MAC(MACA) SYSLIB(MACLIB).",
-    b"         TEXT",
-    b"++PTF(UA00006).",
-    b"++VER(Z038) FMID(HAA1100).",
-    b"++MAC(MACA) DISTLIB(AMACLIB) SYSLIB(MACLIB).",
-    b"         TEXT",
-    b"++MACUPD(MACA).",
-    b"./ CHANGE NAME=MACA",
-    b"++PTF(UA00007).",
-    b"++VER(Z038) FMID(HAA1100).",
-    b"++MAC(1MACA) DISTLIB(AMACLIB) SYSLIB(MACLIB).",
-    b"         TEXT",
-    b"++PTF(UA00008).",
-    b"++VER(Z038) FMID(HAA1100).",
-    b"++JCLIN.",
-    b"//A JOB",
-    b"++PTF(UA00009).",
-    b"++VER(Z038) FMID(HAA1100).",
-    b"++STRANGE(X).",
-    b"++PTF(UA00010).",
-    b"++VER(Z038) FMID(HAA1100).",
-    b"++MAC(MACA) DISTLIB(AMACLIB) SYSLIB(MACLIB) DELETE.",
-];
+const ELEMENTS: &[u8] =
+    b"++PTF(UA00001).\n++VER(Z038) FMID(HAA1100).\n++MOD(MODA) DISTLIB(AMOD).\n++PTF(UA00002).\n\
+    ++VER(Z038) FMID(HAA1100).\n++MAC(MACA) DISTLIB(AMACLIB).\n         TEXT\n++PTF(UA00003).\n\
+    ++VER(Z038) FMID(HAA1100).\n++MAC(MACA) DISTLIB(AMACLIB) SYSLIB(MACLIB) RELFILE(1).\n++PTF(UA00004).\n\
+    ++VER(Z038) FMID(HAA1100).\n++MAC(MACA) DISTLIB(AMACLIB) SYSLIB(MACLIB) TXLIB(SMPTX).\n++PTF(UA00005).\n\
+    ++VER(Z038) FMID(HAA1100).\n++MAC(MACA) SYSLIB(MACLIB).\n         TEXT\n++PTF(UA00006).\n\
+    ++VER(Z038) FMID(HAA1100).\n++MAC(MACA) DISTLIB(AMACLIB) SYSLIB(MACLIB).\n         TEXT\n++MACUPD(MACA).\n\
+    ./ CHANGE NAME=MACA\n++PTF(UA00007).\n++VER(Z038) FMID(HAA1100).\n\
+    ++MAC(1MACA) DISTLIB(AMACLIB) SYSLIB(MACLIB).\n         TEXT\n++PTF(UA00008).\n++VER(Z038) FMID(HAA1100).\n\
+    ++JCLIN.\n//A JOB\n++PTF(UA00009).\n++VER(Z038) FMID(HAA1100).\n++STRANGE(X).\n++PTF(UA00010).\n\
+    ++VER(Z038) FMID(HAA1100).\n++MAC(MACA) DISTLIB(AMACLIB) SYSLIB(MACLIB) DELETE.\n";
 
-const ELEMENTS_CARRIED: &[&str] = &[
-    "==",
-    "! f line 3: ++MOD(MODA): left out: no statement of the profile",
-    "! f line 1: ++PTF(UA00001): left out: a statement of it can't be carried",
-    "! f line 6: ++MAC(MACA) SYSLIB: left out: no SYSLIB, and none given by --syslib: AMACLIB",
-    "! f line 4: ++PTF(UA00002): left out: a statement of it can't be carried",
-    "! f line 10: ++MAC(MACA) RELFILE: left out: the text is elsewhere: 1",
-    "! f line 8: ++PTF(UA00003): left out: a statement of it can't be carried",
-    "! f line 13: ++MAC(MACA) TXLIB: left out: the text is elsewhere: SMPTX",
-    "! f line 11: ++PTF(UA00004): left out: a statement of it can't be carried",
-    "! f line 16: ++MAC(MACA) DISTLIB: left out: missing",
-    "! f line 14: ++PTF(UA00005): left out: a statement of it can't be carried",
-    "- f line 20: ++MAC(MACA): carried otherwise: the text got numbers",
-    "! f line 22: ++MACUPD(MACA): left out: stands there twice",
-    "! f line 18: ++PTF(UA00006): left out: a statement of it can't be carried",
-    "! f line 26: ++MAC(1MACA): left out: a bad name",
-    "! f line 24: ++PTF(UA00007): left out: a statement of it can't be carried",
-    "! f line 30: ++JCLIN: left out: no statement of the profile",
-    "! f line 28: ++PTF(UA00008): left out: a statement of it can't be carried",
-    "! f line 34: ++STRANGE(X): left out: an unknown statement",
-    "! f line 32: ++PTF(UA00009): left out: a statement of it can't be carried",
-    "! f line 37: ++MAC(MACA) DELETE: left out: an unknown operand",
-    "! f line 35: ++PTF(UA00010): left out: a statement of it can't be carried",
-];
+const ELEMENTS_CARRIED: &str =
+    "==\n! f line 3: ++MOD(MODA): left out: no statement of the profile\n\
+    ! f line 1: ++PTF(UA00001): left out: a statement of it can't be carried\n\
+    ! f line 6: ++MAC(MACA) SYSLIB: left out: no SYSLIB, and none given by --syslib: AMACLIB\n\
+    ! f line 4: ++PTF(UA00002): left out: a statement of it can't be carried\n\
+    ! f line 10: ++MAC(MACA) RELFILE: left out: the text is elsewhere: 1\n\
+    ! f line 8: ++PTF(UA00003): left out: a statement of it can't be carried\n\
+    ! f line 13: ++MAC(MACA) TXLIB: left out: the text is elsewhere: SMPTX\n\
+    ! f line 11: ++PTF(UA00004): left out: a statement of it can't be carried\n\
+    ! f line 16: ++MAC(MACA) DISTLIB: left out: missing\n\
+    ! f line 14: ++PTF(UA00005): left out: a statement of it can't be carried\n\
+    - f line 20: ++MAC(MACA): carried otherwise: the text got numbers\n\
+    ! f line 22: ++MACUPD(MACA): left out: stands there twice\n\
+    ! f line 18: ++PTF(UA00006): left out: a statement of it can't be carried\n\
+    ! f line 26: ++MAC(1MACA): left out: a bad name\n\
+    ! f line 24: ++PTF(UA00007): left out: a statement of it can't be carried\n\
+    ! f line 30: ++JCLIN: left out: no statement of the profile\n\
+    ! f line 28: ++PTF(UA00008): left out: a statement of it can't be carried\n\
+    ! f line 34: ++STRANGE(X): left out: an unknown statement\n\
+    ! f line 32: ++PTF(UA00009): left out: a statement of it can't be carried\n\
+    ! f line 37: ++MAC(MACA) DELETE: left out: an unknown operand\n\
+    ! f line 35: ++PTF(UA00010): left out: a statement of it can't be carried\n";
 
 #[test]
-fn elements(rt: HostRuntime) -> Result<(), Fail> {
-    let options = options(rt.alloc(), false);
-    assert_eq!(rt;
-        outcome(rt.alloc(), ELEMENTS, options)?,
-        joined(rt.alloc(), ELEMENTS_CARRIED)?
-    );
-    Ok(())
+fn elements_that_can_not_be_carried_leave_their_sysmod_out(rt: HostRuntime) -> Result<(), Fail> {
+    check(rt.alloc(), ELEMENTS, ELEMENTS_CARRIED)
 }
 
 /// `./` records.
-const UPDATES: &[&[u8]] = &[
-    b"++PTF(UA00001).",
-    b"++VER(Z038) FMID(HAA1100).",
-    b"++MACUPD(MACA) DISTLIB(AMACLIB) SYSLIB(MACLIB).",
-    b"./ CHANGE NAME=MACA,LIST=ALL",
-    b"         NEW RECORD                                                     00000200",
-    b"./  DELETE SEQ1=300,SEQ2=00000400",
-    b"./ ENDUP",
-    b"++SRCUPD(SRCA).",
-    b"./ CHANGE NAME=SRCA",
-    b"++PTF(UA00002).",
-    b"++VER(Z038) FMID(HAA1100).",
-    b"++SRCUPD(SRCA).",
-    b"./ CHANGE NAME=SRCA",
-    b"./ NUMBER SEQ1=ALL,NEW1=100,INCR=100",
-    b"++PTF(UA00003).",
-    b"++VER(Z038) FMID(HAA1100).",
-    b"++SRCUPD(SRCA).",
-    b"./ CHANGE NAME=SRCB",
-    b"++PTF(UA00004).",
-    b"++VER(Z038) FMID(HAA1100).",
-    b"++SRCUPD(SRCA).",
-    b"./ CHANGE NAME=SRCA",
-    b"         NO NUMBER",
-];
+const UPDATES: &[u8] =
+    b"++PTF(UA00001).\n++VER(Z038) FMID(HAA1100).\n++MACUPD(MACA) DISTLIB(AMACLIB) SYSLIB(MACLIB).\n\
+    ./ CHANGE NAME=MACA,LIST=ALL\n\
+    \x20        NEW RECORD                                                     00000200\n\
+    ./  DELETE SEQ1=300,SEQ2=00000400\n./ ENDUP\n++SRCUPD(SRCA).\n./ CHANGE NAME=SRCA\n++PTF(UA00002).\n\
+    ++VER(Z038) FMID(HAA1100).\n++SRCUPD(SRCA).\n./ CHANGE NAME=SRCA\n./ NUMBER SEQ1=ALL,NEW1=100,INCR=100\n\
+    ++PTF(UA00003).\n++VER(Z038) FMID(HAA1100).\n++SRCUPD(SRCA).\n./ CHANGE NAME=SRCB\n++PTF(UA00004).\n\
+    ++VER(Z038) FMID(HAA1100).\n++SRCUPD(SRCA).\n./ CHANGE NAME=SRCA\n         NO NUMBER\n";
 
-const UPDATES_CARRIED: &[&str] = &[
-    "++PTF(UA00001).",
-    "++VER(Z038) FMID(HAA1100).",
-    "++MACUPD(MACA).",
-    "./ CHANGE NAME=MACA",
-    "         NEW RECORD                                                     00000200",
-    "./ DELETE SEQ1=00000300,SEQ2=00000400",
-    "++SRCUPD(SRCA).",
-    "./ CHANGE NAME=SRCA",
-    "==",
-    "- f line 3: ++MACUPD(MACA) DISTLIB: dropped: it changes no decision: AMACLIB",
-    "- f line 3: ++MACUPD(MACA) SYSLIB: dropped: it changes no decision: MACLIB",
-    "- f line 3: ++MACUPD(MACA) LIST: dropped: it changes no decision: ./ CHANGE NAME=MACA,LIST=ALL",
-    "- f line 3: ++MACUPD(MACA) ./ DELETE: carried otherwise: got eight digits: ./  DELETE SEQ1=300,SEQ2=00000400",
-    "- f line 3: ++MACUPD(MACA) ./ ENDUP: dropped: an update ends without it",
-    "! f line 12: ++SRCUPD(SRCA) ./: left out: a bad text: ./ NUMBER SEQ1=ALL,NEW1=100,INCR=100",
-    "! f line 10: ++PTF(UA00002): left out: a statement of it can't be carried",
-    "! f line 17: ++SRCUPD(SRCA): left out: a bad text",
-    "! f line 15: ++PTF(UA00003): left out: a statement of it can't be carried",
-    "! f line 21: ++SRCUPD(SRCA): left out: a bad text",
-    "! f line 19: ++PTF(UA00004): left out: a statement of it can't be carried",
-];
+const UPDATES_CARRIED: &str =
+    "++PTF(UA00001).\n++VER(Z038) FMID(HAA1100).\n++MACUPD(MACA).\n./ CHANGE NAME=MACA\n\
+    \x20        NEW RECORD                                                     00000200\n\
+    ./ DELETE SEQ1=00000300,SEQ2=00000400\n++SRCUPD(SRCA).\n./ CHANGE NAME=SRCA\n==\n\
+    - f line 3: ++MACUPD(MACA) DISTLIB: dropped: it changes no decision: AMACLIB\n\
+    - f line 3: ++MACUPD(MACA) SYSLIB: dropped: it changes no decision: MACLIB\n\
+    - f line 3: ++MACUPD(MACA) LIST: dropped: it changes no decision: ./ CHANGE NAME=MACA,LIST=ALL\n\
+    - f line 3: ++MACUPD(MACA) ./ DELETE: carried otherwise: got eight digits: ./  DELETE SEQ1=300,SEQ2=00000400\n\
+    - f line 3: ++MACUPD(MACA) ./ ENDUP: dropped: an update ends without it\n\
+    ! f line 12: ++SRCUPD(SRCA) ./: left out: a bad text: ./ NUMBER SEQ1=ALL,NEW1=100,INCR=100\n\
+    ! f line 10: ++PTF(UA00002): left out: a statement of it can't be carried\n\
+    ! f line 17: ++SRCUPD(SRCA): left out: a bad text\n\
+    ! f line 15: ++PTF(UA00003): left out: a statement of it can't be carried\n\
+    ! f line 21: ++SRCUPD(SRCA): left out: a bad text\n\
+    ! f line 19: ++PTF(UA00004): left out: a statement of it can't be carried\n";
 
 #[test]
-fn updates(rt: HostRuntime) -> Result<(), Fail> {
-    let options = options(rt.alloc(), false);
-    assert_eq!(rt;
-        outcome(rt.alloc(), UPDATES, options)?,
-        joined(rt.alloc(), UPDATES_CARRIED)?
-    );
-    Ok(())
+fn records_of_updates_are_spelled_as_they_must_be(rt: HostRuntime) -> Result<(), Fail> {
+    check(rt.alloc(), UPDATES, UPDATES_CARRIED)
 }
 
 /// Numbers of texts, no text, and characters that are no ASCII.
-const NUMBERS: &[&[u8]] = &[
-    b"++PTF(UA00001).",
-    b"++VER(Z038) FMID(HAA1100).",
-    b"++MAC(MACA) DISTLIB(AMACLIB) SYSLIB(MACLIB).",
-    b"         TEXT                                                           00000010",
-    b"         TEXT                                                           00000020",
-    b"++PTF(UA00002).",
-    b"++VER(Z038) FMID(HAA1100).",
-    b"++MAC(MACA) DISTLIB(AMACLIB) SYSLIB(MACLIB).",
-    b"         TEXT                                                           00000010",
-    b"         TEXT                                                           00000010",
-    b"++PTF(UA00003).",
-    b"++VER(Z038) FMID(HAA1100).",
-    b"++MAC(MACA) DISTLIB(AMACLIB) SYSLIB(MACLIB).",
-    b"++PTF(UA00004).",
-    b"++VER(Z038) FMID(HAA1100).",
-    b"++MAC(MACA) DISTLIB(AMACLIB) SYSLIB(MACLIB).",
-    b"         CAF\xE9",
-];
+const NUMBERS: &[u8] =
+    b"++PTF(UA00001).\n++VER(Z038) FMID(HAA1100).\n++MAC(MACA) DISTLIB(AMACLIB) SYSLIB(MACLIB).\n\
+    \x20        TEXT                                                           00000010\n\
+    \x20        TEXT                                                           00000020\n++PTF(UA00002).\n\
+    ++VER(Z038) FMID(HAA1100).\n++MAC(MACA) DISTLIB(AMACLIB) SYSLIB(MACLIB).\n\
+    \x20        TEXT                                                           00000010\n\
+    \x20        TEXT                                                           00000010\n++PTF(UA00003).\n\
+    ++VER(Z038) FMID(HAA1100).\n++MAC(MACA) DISTLIB(AMACLIB) SYSLIB(MACLIB).\n++PTF(UA00004).\n\
+    ++VER(Z038) FMID(HAA1100).\n++MAC(MACA) DISTLIB(AMACLIB) SYSLIB(MACLIB).\n         CAF\xE9\n";
 
-const NUMBERS_CARRIED: &[&str] = &[
-    "++PTF(UA00001).",
-    "++VER(Z038) FMID(HAA1100).",
-    "++MAC(MACA) DISTLIB(AMACLIB) SYSLIB(MACLIB).",
-    "         TEXT                                                           00000010",
-    "         TEXT                                                           00000020",
-    "==",
-    "! f line 8: ++MAC(MACA): left out: a bad text",
-    "! f line 6: ++PTF(UA00002): left out: a statement of it can't be carried",
-    "! f line 13: ++MAC(MACA): left out: the text is elsewhere",
-    "! f line 11: ++PTF(UA00003): left out: a statement of it can't be carried",
-    "! f line 16: ++MAC(MACA): left out: characters that are no ASCII",
-    "! f line 14: ++PTF(UA00004): left out: a statement of it can't be carried",
-];
+const NUMBERS_CARRIED: &str =
+    "++PTF(UA00001).\n++VER(Z038) FMID(HAA1100).\n++MAC(MACA) DISTLIB(AMACLIB) SYSLIB(MACLIB).\n\
+    \x20        TEXT                                                           00000010\n\
+    \x20        TEXT                                                           00000020\n==\n\
+    ! f line 8: ++MAC(MACA): left out: a bad text\n\
+    ! f line 6: ++PTF(UA00002): left out: a statement of it can't be carried\n\
+    ! f line 13: ++MAC(MACA): left out: the text is elsewhere\n\
+    ! f line 11: ++PTF(UA00003): left out: a statement of it can't be carried\n\
+    ! f line 16: ++MAC(MACA): left out: characters that are no ASCII\n\
+    ! f line 14: ++PTF(UA00004): left out: a statement of it can't be carried\n";
 
 #[test]
-fn numbers(rt: HostRuntime) -> Result<(), Fail> {
-    let options = options(rt.alloc(), false);
-    assert_eq!(rt;
-        outcome(rt.alloc(), NUMBERS, options)?,
-        joined(rt.alloc(), NUMBERS_CARRIED)?
-    );
-    Ok(())
+fn texts_without_good_numbers_are_told(rt: HostRuntime) -> Result<(), Fail> {
+    check(rt.alloc(), NUMBERS, NUMBERS_CARRIED)
 }
 
 /// Elements whose SYSLIB is given, and whose texts are in other files.
-const ELSEWHERE: &[&[u8]] = &[
-    b"++PTF(UA00001).",
-    b"++VER(Z038) FMID(HAA1100).",
-    b"++MAC(MACA) DISTLIB(AMACLIB) RELFILE(1).",
-    b"++DATA(DATAA) DISTLIB(ADATA) SYSLIB(DATA) RELFILE(12).",
-    b"++PTF(UA00002).",
-    b"++VER(Z038) FMID(HAA1100).",
-    b"++MAC(MACA) DISTLIB(AMACLIB) RELFILE(12).",
-];
+const ELSEWHERE: &[u8] =
+    b"++PTF(UA00001).\n++VER(Z038) FMID(HAA1100).\n++MAC(MACA) DISTLIB(AMACLIB) RELFILE(1).\n\
+    ++DATA(DATAA) DISTLIB(ADATA) SYSLIB(DATA) RELFILE(12).\n++PTF(UA00002).\n++VER(Z038) FMID(HAA1100).\n\
+    ++MAC(MACA) DISTLIB(AMACLIB) RELFILE(12).\n";
 
-const ELSEWHERE_CARRIED: &[&str] = &[
-    "++PTF(UA00001).",
-    "++VER(Z038) FMID(HAA1100).",
-    "++MAC(MACA) DISTLIB(AMACLIB) SYSLIB(MACLIB).",
-    "         MACRO                                                          00000100",
-    "++DATA(DATAA) DISTLIB(ADATA) SYSLIB(DATA).",
-    "A LINE",
-    "ANOTHER LINE",
-    "==",
-    "- f line 3: ++MAC(MACA) SYSLIB: carried otherwise: SYSLIB as given by --syslib: MACLIB",
-    "- f line 3: ++MAC(MACA) RELFILE: carried otherwise: the text is that of a file of --relfile: 1",
-    "- f line 3: ++MAC(MACA): carried otherwise: the text got numbers",
-    "- f line 4: ++DATA(DATAA) RELFILE: carried otherwise: the text is that of a file of --relfile: 12",
-    "- f line 7: ++MAC(MACA) SYSLIB: carried otherwise: SYSLIB as given by --syslib: MACLIB",
-    "! f line 7: ++MAC(MACA) RELFILE: left out: the text is elsewhere: 12",
-    "! f line 5: ++PTF(UA00002): left out: a statement of it can't be carried",
-];
+const ELSEWHERE_CARRIED: &str =
+    "++PTF(UA00001).\n++VER(Z038) FMID(HAA1100).\n++MAC(MACA) DISTLIB(AMACLIB) SYSLIB(MACLIB).\n\
+    \x20        MACRO                                                          00000100\n\
+    ++DATA(DATAA) DISTLIB(ADATA) SYSLIB(DATA).\nA LINE\nANOTHER LINE\n==\n\
+    - f line 3: ++MAC(MACA) SYSLIB: carried otherwise: SYSLIB as given by --syslib: MACLIB\n\
+    - f line 3: ++MAC(MACA) RELFILE: carried otherwise: the text is that of a file of --relfile: 1\n\
+    - f line 3: ++MAC(MACA): carried otherwise: the text got numbers\n\
+    - f line 4: ++DATA(DATAA) RELFILE: carried otherwise: the text is that of a file of --relfile: 12\n\
+    - f line 7: ++MAC(MACA) SYSLIB: carried otherwise: SYSLIB as given by --syslib: MACLIB\n\
+    ! f line 7: ++MAC(MACA) RELFILE: left out: the text is elsewhere: 12\n\
+    ! f line 5: ++PTF(UA00002): left out: a statement of it can't be carried\n";
 
 /// The cards of a text.
 fn member(alloc: Global, relfile: &[u8], name: &[u8], text: &[u8]) -> Result<Member, Fail> {
@@ -245,11 +151,7 @@ fn options_elsewhere(alloc: Global) -> Result<Options, Fail> {
 }
 
 #[test]
-fn elsewhere(rt: HostRuntime) -> Result<(), Fail> {
+fn texts_in_other_files_are_taken_in(rt: HostRuntime) -> Result<(), Fail> {
     let options = options_elsewhere(rt.alloc())?;
-    assert_eq!(rt;
-        outcome(rt.alloc(), ELSEWHERE, options)?,
-        joined(rt.alloc(), ELSEWHERE_CARRIED)?
-    );
-    Ok(())
+    check_with(rt.alloc(), ELSEWHERE, options, ELSEWHERE_CARRIED)
 }

@@ -9,14 +9,9 @@ use mcs::{read_hold, read_ptfin};
 use std::alloc::{AllocError, Global};
 use std::test::Fail;
 
-/// The statements of a file of these lines.
-fn wide(alloc: Global, lines: &[&[u8]]) -> Result<Vec<WideFile>, Fail> {
-    let mut text = Vec::new(alloc);
-    for line in lines {
-        text.extend_from_slice(line)?;
-        text.push(b'\n')?;
-    }
-    let cards = read_cards(alloc, 0, text.as_slice(), None, None)?;
+/// The statements of a file.
+fn wide(alloc: Global, text: &[u8]) -> Result<Vec<WideFile>, Fail> {
+    let cards = read_cards(alloc, 0, text, None, None)?;
     let file = read_wide(alloc, cards.cards.as_slice())?;
     let mut files = Vec::new(alloc);
     files.push(file)?;
@@ -80,18 +75,8 @@ fn lines(alloc: Global, narrowed: &Narrowed) -> Result<Vec<u8>, Fail> {
     Ok(lines)
 }
 
-/// The lines, each with its end.
-pub(crate) fn joined(alloc: Global, lines: &[&str]) -> Result<String, Fail> {
-    let mut text = String::new(alloc);
-    for line in lines {
-        text.push_str(line)?;
-        text.push_str("\n")?;
-    }
-    Ok(text)
-}
-
 /// What comes of a file.
-pub(crate) fn outcome(alloc: Global, text: &[&[u8]], options: Options) -> Result<String, Fail> {
+fn outcome(alloc: Global, text: &[u8], options: Options) -> Result<String, Fail> {
     let files = wide(alloc, text)?;
     let lines = match narrow(alloc, files.as_slice(), options) {
         Ok(narrowed) => lines(alloc, &narrowed)?,
@@ -104,4 +89,23 @@ pub(crate) fn outcome(alloc: Global, text: &[&[u8]], options: Options) -> Result
         Err(NarrowError::Memory) => return Err("out of memory".into()),
     };
     Ok(String::from_utf8(lines)?)
+}
+
+/// A failure, unless these lines come of the file under the options.
+pub(crate) fn check_with(
+    alloc: Global,
+    text: &[u8],
+    options: Options,
+    wanted: &str,
+) -> Result<(), Fail> {
+    let got = outcome(alloc, text, options)?;
+    if got.as_str() == wanted {
+        return Ok(());
+    }
+    Err(Fail::new(format_args!("got {got}, wanted {wanted}")))
+}
+
+/// A failure, unless these lines come of the file under no options.
+pub(crate) fn check(alloc: Global, text: &[u8], wanted: &str) -> Result<(), Fail> {
+    check_with(alloc, text, options(alloc, false), wanted)
 }

@@ -27,11 +27,11 @@ use Rattle.terms.specs.Tests.{FailsJ1, FailsJ2, FailsJ4, FailsJ5, FailsJ6, Fails
 use Rattle.terms.specs.Tests.{FailsAlone, PassesAlone, Fails, Survives, has_candidate_base}
 use Rattle.terms.proofs.ElementOrder.{element_cmp_total, element_ties}
 use Rattle.terms.proofs.RisingLists.{find_there, Splits_around}
-use Rattle.lemmas.proofs.Members.{here, none_in, filter_in, in_filter, parts}
-use Rattle.lemmas.proofs.Texts.{same_from, same_itself}
+use Rattle.terms.proofs.ListMembers.{here, none_in, filter_in, in_filter, parts}
+use Rattle.terms.proofs.TextOrder.{same_from, same_itself}
 use Rattle.terms.proofs.ChangedElements.{change_there, change_found, change_has, changes_rise}
-use Rattle.lemmas.proofs.Booleans.{false_from_not}
-use Rattle.lemmas.proofs.Options.{None_from_is_some}
+use Rattle.terms.proofs.Booleans.{false_from_not}
+use Rattle.terms.proofs.Options.{None_from_is_some}
 use Rattle.judge_faults.specs.declared.own.OwnFaults.{OwnFaults}
 use Rattle.judge_faults.specs.Own.{is_foreign_at, is_bare_at, HasFaults, passes_alone, passes}
 use Rattle.judge_faults.specs.Rows.{fails_test}

@@ -1,6 +1,6 @@
 -- The claims of the candidates, and the claims of one element side by side.
-use Rattle.std.proofs.Common.{◌≡◌, ◌≢◌, inl, inr, ℕ, ◌+◌, Bool, true, false, List, [], ◌++◌}
-use Rattle.std.proofs.Common.{Some, refl, sym, ap, ap₂, ◌∙◌, subst, true≢false, map, Contains, cond, arith, slice_get}
+use Rattle.std.proofs.Common.{◌≡◌, ◌≢◌, inl, inr, ℕ, ◌+◌, true, false, List, ◌++◌}
+use Rattle.std.proofs.Common.{Some, refl, sym, ap, ap₂, ◌∙◌, subst, true≢false, map, Contains, arith, slice_get}
 use Rattle.std.proofs.Common.{IsPermutation, ◌<◌, ◌≤◌, length, get_or}
 use Rattle.std.specs.List.Sorted.{IsSortedByKey}
 use Rattle.std.specs.declared.cmp.Ordering.{Ordering}
@@ -11,14 +11,13 @@ use Rattle.std.specs.Cmp.Lexicographic.{slice_cmp}
 use Rattle.std.proofs.lemmas.List.Sorted.{Contains-permutation, IsPermutation-sym, ranks_by, sorted_far}
 use Rattle.std.proofs.lemmas.Map.Lookups.{exact_bytes, exact_pairs, exact_unsigned, CmpEqualImpliesEq}
 use Rattle.std.proofs.lemmas.Bool.{cases_eq}
-use Rattle.std.proofs.lemmas.List.{append-nil}
 use Rattle.std.proofs.lemmas.List.Elements.{Contains-append_left, Contains-append_right, Contains-append_cases}
 use Rattle.std.proofs.lemmas.Option.{same_Some, slice_get_within, get_or_from_slice_get}
 use Rattle.terms.specs.declared.kinds.ElemType.{ElemType}
 use Rattle.terms.specs.Types.{Text, Id, Global, type_number}
 use Rattle.terms.specs.Lookups.{changes_of, change_key, element_cmp}
 use Rattle.terms.proofs.ElementOrder.{cmp_keys, element_cmp_total, type_from_number}
-use Rattle.lemmas.proofs.Members.{in_map, map_in}
+use Rattle.terms.proofs.ListMembers.{in_map, map_in}
 use Rattle.terms.specs.contracts.kinds.ElemTypeOrd.TheImpl as type_order
 use Rattle.judge_faults.specs.declared.own.OwnFaults.{OwnFaults}
 use Rattle.judge_faults.specs.declared.claims.Claim.{Claim}
@@ -41,7 +40,7 @@ module _ (g : Global) (ids : List Id) (faults : List OwnFaults) where
   }
 
   -- the next candidate fails by itself
-  claims_skip : (k : ℕ) (own : OwnFaults) (claims : List Claim) → slice_get faults k ≡ Some own → passes own ≡ false
+  pub claims_skip : (k : ℕ) (own : OwnFaults) (claims : List Claim) → slice_get faults k ≡ Some own → passes own ≡ false
       → AreClaims g ids faults k claims → AreClaims g ids faults (k + 1) claims
   claims_skip k own claims at fails are key x n = (
     λ h. wider k key x n ((are key x n).0 h),
@@ -58,7 +57,7 @@ module _ (g : Global) (ids : List Id) (faults : List OwnFaults) where
   claims_at k x = map (λ h. a_claim (change_key h) x k) (changes_of g x)
 
   -- the next candidate claims what it changes
-  claims_more : (k : ℕ) (y : Id) (own : OwnFaults) (claims : List Claim) → slice_get ids k ≡ Some y
+  pub claims_more : (k : ℕ) (y : Id) (own : OwnFaults) (claims : List Claim) → slice_get ids k ≡ Some y
       → slice_get faults k ≡ Some own
       → passes own ≡ true → AreClaims g ids faults k claims
       → AreClaims g ids faults (k + 1) (claims ++ claims_at k y)
@@ -95,21 +94,6 @@ module _ (g : Global) (ids : List Id) (faults : List OwnFaults) where
         | inr other ↦ Contains-append_left claims (claims_at k y) (a_claim key x n)
             ((are key x n).1 (narrower k key x n other h))
       ]
-
-  pub claims_next : (k : ℕ) (x : Id) (own : OwnFaults) (claims new : List Claim) → slice_get ids k ≡ Some x
-      → slice_get faults k ≡ Some own
-      → new ≡ claims ++ cond (passes own) (map (λ h. a_claim (change_key h) x k) (changes_of g x)) []
-      → AreClaims g ids faults k claims → AreClaims g ids faults (k + 1) new
-  claims_next k x own claims new at own_at made are = by (passes own) refl
-    where
-      by : (b : Bool) → passes own ≡ b → AreClaims g ids faults (k + 1) new
-      by true on =
-          subst (AreClaims g ids faults (k + 1)) (sym (made ∙ ap (λ b. claims ++ cond b (claims_at k x) []) on))
-          (claims_more k x own claims at own_at on are)
-      by false fails =
-          subst (AreClaims g ids faults (k + 1)) (sym (made ∙ ap (λ b. claims ++ cond b (claims_at k x) []) fails
-          ∙ append-nil claims))
-          (claims_skip k own claims own_at fails are)
 
   -- another order of the claims
   pub claims_moved : (end : ℕ) (claims found : List Claim) → IsPermutation claims found

@@ -3,8 +3,8 @@ use Rattle.std.proofs.Common.{◌≡◌, ◌∙◌, inl, inr, ℕ, List, length,
 use Rattle.std.proofs.Common.{subst, map, Contains, slice_get}
 use Rattle.std.specs.Prelude.{◌↔◌, ◌⊎◌}
 use Rattle.std.proofs.lemmas.Option.{slice_get_within, same_Some}
-use Rattle.lemmas.proofs.Members.{map_in}
-use Rattle.lemmas.proofs.Places.{found_at}
+use Rattle.terms.proofs.ListMembers.{map_in}
+use Rattle.terms.proofs.Places.{found_at}
 use Rattle.terms.specs.declared.kinds.ElemType.{ElemType}
 use Rattle.terms.specs.Types.{Text, Id, Global}
 use Rattle.terms.specs.Lookups.{changes_of, change_key, has_change}
@@ -17,7 +17,7 @@ use Rattle.judge_faults.specs.Own.{passes}
 use Rattle.judge_faults.specs.Claims.{a_claim, PassesAt, AreClaims}
 use Rattle.judge_faults.specs.Sharing.{ClashesOnOne, IsAmong, IsClashing}
 use Rattle.judge_faults.specs.Forbidding.{IsForbidding}
-use Rattle.lemmas.proofs.BesideLists.{beside_there}
+use Rattle.terms.proofs.BesideLists.{beside_there}
 
 -- what it claims, it changes
 changes_from : (g : Global) (x : Id) (key : ElemType × Text) → Contains (map change_key (changes_of g x)) key

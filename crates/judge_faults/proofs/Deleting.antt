@@ -1,10 +1,9 @@
 -- J8: whom the DELETEs take of those that pass J1 to J7, and J13.
-use Rattle.std.proofs.Common.{◌≡◌, ◌∙◌, inl, inr, ℕ, ◌<◌, ◌+◌, Bool, true, false, List, [], ◌∷◌, ◌++◌}
-use Rattle.std.proofs.Common.{Some, length, refl, sym, ap, subst, cond, Contains, IsTrue, true≢false, slice_get, arith}
+use Rattle.std.proofs.Common.{◌≡◌, ◌∙◌, inl, inr, ℕ, ◌+◌, Bool, true, false, List, [], ◌∷◌, ◌++◌}
+use Rattle.std.proofs.Common.{Some, length, sym, ap, subst, Contains, IsTrue, true≢false, slice_get, arith}
 use Rattle.std.specs.Prelude.{◌↔◌, ◌&&◌}
 use Rattle.std.proofs.lemmas.Bool.{and_parts, cases_eq}
 use Rattle.std.proofs.lemmas.Option.{same_Some, slice_get_within}
-use Rattle.std.proofs.lemmas.List.{append-nil}
 use Rattle.std.proofs.lemmas.List.Elements.{Contains-append_left, Contains-append_right, Contains-append_cases}
 use Rattle.std.proofs.lemmas.List.Elements.{Contains-push, Contains-push_cases}
 use Rattle.std.proofs.lemmas.List.Folds.{Any-from_list_any, list_any-from_Any}
@@ -16,14 +15,14 @@ use Rattle.terms.specs.Deleted.{deletions, is_deleted}
 use Rattle.terms.specs.Global.{IsGlobal}
 use Rattle.terms.specs.Tests.{Setting, PassesAlone, FailsJ8}
 use Rattle.terms.proofs.Ids.{is_in_from_Contains, Contains_from_is_in}
-use Rattle.lemmas.proofs.Members.{here_or, here, there, none_in}
-use Rattle.lemmas.proofs.Places.{contains_at, found_at}
+use Rattle.terms.proofs.ListMembers.{here_or, here, there, none_in}
+use Rattle.terms.proofs.Places.{contains_at, found_at}
 use Rattle.judge_faults.specs.declared.own.OwnFaults.{OwnFaults}
 use Rattle.judge_faults.specs.Own.{HasFaults, passes_alone}
-use Rattle.lemmas.specs.Beside.{Beside}
+use Rattle.terms.specs.Beside.{Beside}
 use Rattle.judge_faults.specs.Deletes.{PassesAloneAt, ArePassing, AreDeletions, with_deleted, IsMarked}
 use Rattle.judge_faults.proofs.Alone.{alone_if}
-use Rattle.lemmas.proofs.BesideLists.{beside_there}
+use Rattle.terms.proofs.BesideLists.{beside_there}
 
 -- what some SYSMODs name in DELETE
 pub deletions_in : (c : Choice) (xs : List Id) (z : Id)
@@ -49,47 +48,44 @@ module _ (ids : List Id) (faults : List OwnFaults) where
     λ h. absurd (omega (arith, h.1)),
   )
 
-  -- the next candidate comes in if it passes
-  pub passing_next : (k : ℕ) (y : Id) (own : OwnFaults) (old new : List Id) → slice_get ids k ≡ Some y
-      → slice_get faults k ≡ Some own → new ≡ old ++ cond (passes_alone own) (y ∷ []) []
-      → ArePassing ids faults k old → ArePassing ids faults (k + 1) new
-  passing_next k y own old new at own_at made are x = by (passes_alone own) refl
-    where
-      own_is : (h : PassesAloneAt ids faults k x) → own ≡ h.own
-      own_is h = same_Some own h.own (sym own_at ∙ h.own_at)
+  -- the next candidate does not pass
+  pub passing_skip : (k : ℕ) (own : OwnFaults) (old : List Id) → slice_get faults k ≡ Some own
+      → passes_alone own ≡ false → ArePassing ids faults k old → ArePassing ids faults (k + 1) old
+  passing_skip k own old own_at off are x = (
+    λ h. let p = (are x).0 h in (p.0, omega (arith, p.1), p.2),
+    λ h. elim (cases_eq h.0 k) [
+      | inl last ↦
+          let p = subst (λ n. PassesAloneAt ids faults n x) last h.2 in
+          let own_is : own ≡ p.own = same_Some own p.own (sym own_at ∙ p.own_at) in
+          absurd (true≢false (sym p.passing ∙ ap passes_alone (sym own_is) ∙ off))
+      | inr other ↦ (are x).1 (h.0, omega (arith, h.1, other), h.2)
+    ],
+  )
 
-      by : (b : Bool) → passes_alone own ≡ b → Contains new x ↔ ((n : ℕ) × (n < k + 1) × PassesAloneAt ids faults n x)
-      by true on =
-          let is : new ≡ old ++ y ∷ [] = made ∙ ap (λ b. old ++ cond b (y ∷ []) []) on in (
-            λ h. elim (Contains-push_cases old y x (subst (λ l. Contains l x) is h)) [
-              | inl was ↦ let p = (are x).0 was in (p.0, omega (arith, p.1), p.2)
-              | inr last ↦ (
-                k,
-                omega arith,
-                record {
-                  at = at ∙ ap (λ v. Some v) last;
-                  own = own;
-                  own_at = own_at;
-                  passing = on;
-                },
-              )
-            ],
-            λ h. subst (λ l. Contains l x) (sym is) (elim (cases_eq h.0 k) [
-              | inl last ↦ subst (Contains (old ++ y ∷ [])) (same_Some y x (sym at
-                  ∙ subst (λ n. slice_get ids n ≡ Some x) last h.2.at)) (Contains-push old y)
-              | inr other ↦ Contains-append_left old (y ∷ []) x ((are x).1 (h.0, omega (arith, h.1, other), h.2))
-            ]),
-          )
-      by false off =
-          let is : new ≡ old = made ∙ ap (λ b. old ++ cond b (y ∷ []) []) off ∙ append-nil old in (
-            λ h. let p = (are x).0 (subst (λ l. Contains l x) is h) in (p.0, omega (arith, p.1), p.2),
-            λ h. subst (λ l. Contains l x) (sym is) (elim (cases_eq h.0 k) [
-              | inl last ↦
-                  let p = subst (λ n. PassesAloneAt ids faults n x) last h.2 in
-                  absurd (true≢false (sym p.passing ∙ ap passes_alone (sym (own_is p)) ∙ off))
-              | inr other ↦ (are x).1 (h.0, omega (arith, h.1, other), h.2)
-            ]),
-          )
+  -- and comes in if it does
+  pub passing_more : (k : ℕ) (y : Id) (own : OwnFaults) (old : List Id) → slice_get ids k ≡ Some y
+      → slice_get faults k ≡ Some own → passes_alone own ≡ true → ArePassing ids faults k old
+      → ArePassing ids faults (k + 1) (old ++ y ∷ [])
+  passing_more k y own old at own_at on are x = (
+    λ h. elim (Contains-push_cases old y x h) [
+      | inl was ↦ let p = (are x).0 was in (p.0, omega (arith, p.1), p.2)
+      | inr last ↦ (
+        k,
+        omega arith,
+        record {
+          at = at ∙ ap (λ v. Some v) last;
+          own = own;
+          own_at = own_at;
+          passing = on;
+        },
+      )
+    ],
+    λ h. elim (cases_eq h.0 k) [
+      | inl last ↦ subst (Contains (old ++ y ∷ [])) (same_Some y x (sym at
+          ∙ subst (λ n. slice_get ids n ≡ Some x) last h.2.at)) (Contains-push old y)
+      | inr other ↦ Contains-append_left old (y ∷ []) x ((are x).1 (h.0, omega (arith, h.1, other), h.2))
+    ],
+  )
 
   -- what those name that pass
   pub are_deletions : (c : Choice) (passing dels found : List Id) → ArePassing ids faults (length ids) passing

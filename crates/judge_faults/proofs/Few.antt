@@ -9,7 +9,7 @@ use Rattle.terms.specs.Types.{Id, Global, Zone}
 use Rattle.terms.specs.Lookups.{IsRising}
 use Rattle.terms.specs.Candidates.{is_installable}
 use Rattle.terms.specs.Global.{IsGlobal}
-use Rattle.lemmas.proofs.Apart.{apart_le}
+use Rattle.terms.proofs.Apart.{apart_le}
 
 module _ (g : Global) (zone : Zone) where
   pub few : IsGlobal g → (ids : List Id) → IsRising ids → All (λ x. IsTrue (is_installable g zone x)) ids

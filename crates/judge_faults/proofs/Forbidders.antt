@@ -15,7 +15,7 @@ use Rattle.terms.specs.Lookups.{IsZone, is_applied, is_function}
 use Rattle.terms.specs.Choice.{Choice, npre_of}
 use Rattle.terms.specs.Deleted.{is_deleted, zone_less}
 use Rattle.terms.proofs.Applied.{in_applied_ids}
-use Rattle.lemmas.proofs.Members.{filter_in, map_in}
+use Rattle.terms.proofs.ListMembers.{filter_in, map_in}
 use Rattle.zones_views.proofs.Lookups.{is_applied_less}
 use Rattle.judge_faults.specs.Forbidders.{ForbidsBy, AreForbidders, IsForbidden}
 

@@ -11,4 +11,3 @@ pub mod Forbidders
 pub mod Naming
 pub mod Deleting
 pub mod Faulted
-pub mod Filled

@@ -8,8 +8,8 @@ use Rattle.std.proofs.lemmas.List.Elements.{Contains-append_left, Contains-appen
 use Rattle.std.proofs.lemmas.List.Elements.{Contains-push, Contains-push_cases, All-contains}
 use Rattle.indexmap.specs.IndexSet.{insert_key}
 use Rattle.indexmap.proofs.CallerLemmas.{Contains-insert_key}
-use Rattle.lemmas.proofs.Members.{none_in, here_or, in_middle, there}
-use Rattle.lemmas.proofs.Pairs.{AllPairs_between}
+use Rattle.terms.proofs.ListMembers.{none_in, here_or, in_middle, there}
+use Rattle.terms.proofs.Pairs.{AllPairs_between}
 use Rattle.terms.specs.Types.{Id, Global}
 use Rattle.terms.specs.Choice.{Choice}
 use Rattle.judge_faults.specs.declared.claims.Claim.{Claim}

@@ -10,8 +10,8 @@ use Rattle.terms.specs.Types.{Id, Global}
 use Rattle.terms.specs.Lookups.{IsRising, is_in}
 use Rattle.terms.specs.Choice.{Choice, npre_of}
 use Rattle.terms.proofs.Ids.{is_in_from_Contains}
-use Rattle.lemmas.proofs.Places.{contains_at}
-use Rattle.lemmas.proofs.Lists.{front_more}
+use Rattle.terms.proofs.Places.{contains_at}
+use Rattle.terms.proofs.Lists.{front_more}
 use Rattle.judge_faults.specs.declared.own.OwnFaults.{OwnFaults}
 use Rattle.judge_faults.specs.Own.{passes}
 use Rattle.judge_faults.specs.Claims.{PassesAt}
@@ -57,6 +57,31 @@ either_marked i m old middle new first second =
     marks_join (λ n. n ≡ i) (λ n. n ≡ m) (IsEither i m) old middle new first second (λ n. (λ h. h, λ h. h))
 
 module _ (ids : List Id) (faults : List OwnFaults) where
+  -- ---- the place of a candidate that passes
+
+  pub none_passing : (x : Id) → ((n : ℕ) → (nowhere ≡ Some n) ↔ (slice_get ids n ≡ Some x)) → (n : ℕ)
+      → (nowhere ≡ Some n) ↔ PassesAt ids faults n x
+  none_passing x told n = (λ e. absurd (cc e), λ p. (told n).1 p.at)
+
+  module _ (i : ℕ) (x : Id) (own : OwnFaults) (at : (n : ℕ) → (Some i ≡ Some n) ↔ (slice_get ids n ≡ Some x))
+      (own_at : slice_get faults i ≡ Some own) where
+    pub one_passing : passes own ≡ true → (n : ℕ) → (Some i ≡ Some n) ↔ PassesAt ids faults n x
+    one_passing on n = (
+      λ e. subst (λ k. PassesAt ids faults k x) (same_Some i n e)
+          (record { at = (at i).0 refl; own = own; own_at = own_at; passing = on }),
+      λ p. (at n).1 p.at,
+    )
+
+    pub one_failing : passes own ≡ false → (n : ℕ) → (nowhere ≡ Some n) ↔ PassesAt ids faults n x
+    one_failing off n = (
+      λ e. absurd (cc e),
+      λ p.
+          let here : i ≡ n = same_Some i n ((at n).1 p.at) in
+          let same : own ≡ p.own = same_Some own p.own (sym own_at ∙ subst (λ k. slice_get faults k ≡ Some p.own)
+          (sym here) p.own_at) in
+          absurd (true≢false (sym p.passing ∙ ap passes (sym same) ∙ off)),
+    )
+
   -- ---- x, and one that it names
 
   pub named_none : (i : ℕ) (x y : Id) (old new : List ℕ) → new ≡ old

@@ -17,19 +17,19 @@ use Rattle.terms.specs.Types.{Id}
 use Rattle.terms.specs.Lookups.{IsRising, is_before}
 use Rattle.terms.specs.Tests.{Setting, FailsJ8, FailsJ9, Survives, Fails}
 use Rattle.terms.specs.Global.{IsGlobal}
-use Rattle.lemmas.proofs.Pairs.{AllPairs_rest}
-use Rattle.lemmas.proofs.Places.{contains_at}
-use Rattle.lemmas.proofs.Texts.{same_itself}
+use Rattle.terms.proofs.Pairs.{AllPairs_rest}
+use Rattle.terms.proofs.Places.{contains_at}
+use Rattle.terms.proofs.TextOrder.{same_itself}
 use Rattle.terms.specs.Failures.{all_tests}
 use Rattle.judge_faults.specs.declared.own.OwnFaults.{OwnFaults}
 use Rattle.judge_faults.specs.Failed.{AreFailedTests}
-use Rattle.lemmas.specs.Beside.{Beside}
+use Rattle.terms.specs.Beside.{Beside}
 use Rattle.judge_faults.specs.Own.{HasFaults, passes}
 use Rattle.judge_faults.specs.Forbidding.{AreClashing}
 use Rattle.judge_faults.specs.Rows.{fails_test, is_among, row_of}
 use Rattle.terms.proofs.IdPlaces.{two_places}
 use Rattle.judge_faults.proofs.Clashing.{fails_nine}
-use Rattle.lemmas.proofs.BesideLists.{beside_there}
+use Rattle.terms.proofs.BesideLists.{beside_there}
 use Rattle.judge_faults.proofs.Alone.{bytes_differ, survives_if as survives-alone, test_fails as fails-alone}
 
 -- the place of an id and what it fails by itself

@@ -17,19 +17,7 @@ fn have_one_owner(vers: &VerChoice<'_>, x: Id, y: Id) -> bool
     vers.owner(x) == vers.owner(y)
 }
 
-// Whether over orders them.
-fn are_ordered(alloc: Global, overs: &mut Overs<'_, '_>, x: Id, y: Id) -> Result<bool, AllocError>
-    ensures ordered { IfOk result (λ ordered. IsTrue ordered ↔ (IsOver (choice overs.old) x y
-        ⊎ IsOver (choice overs.old) y x)) }
-    ensures same { overs.new ≡ overs.old }
-{
-    if overs.over(alloc, x, y)? {
-        return Ok(true);
-    }
-    overs.over(alloc, y, x)
-}
-
-/// Whether two SYSMODs may not change one element.
+/// Whether two SYSMODs may not change one element: they have two owners, or over does not order them.
 pub(crate) fn may_not_share(
     alloc: Global,
     overs: &mut Overs<'_, '_>,
@@ -42,7 +30,10 @@ pub(crate) fn may_not_share(
     if !have_one_owner(overs.vers(), x, y) {
         return Ok(true);
     }
-    Ok(!are_ordered(alloc, overs, x, y)?)
+    if overs.over(alloc, x, y)? {
+        return Ok(false);
+    }
+    Ok(!overs.over(alloc, y, x)?)
 }
 
 // Whether the second is over the first, and both have one owner.
@@ -124,32 +115,6 @@ fn is_in_front(
     is_below(alloc, overs, claim, &chain[place])
 }
 
-// Where a claim fits into the chain that is neither over all of it nor below all.
-fn place_inside(
-    alloc: Global,
-    overs: &mut Overs<'_, '_>,
-    chain: &[Claim],
-    claim: &Claim,
-) -> Result<Option<usize>, AllocError>
-    ensures within { IfOk result (λ place. IfSome place (λ k. k ≤ length chain.now)) }
-    ensures fits { IfOk result (λ place. IfSome place (λ k. IsChain overs.old.global.now (choice overs.old) chain.now
-        → FitsAt overs.old.global.now (choice overs.old) chain.now claim.now k)) }
-    ensures same { overs.new ≡ overs.old }
-{
-    let Some(first) = chain.first() else {
-        return Ok(None);
-    };
-    // What is not over the first fits nowhere, and needs no search for its place.
-    if !is_below(alloc, overs, first, claim)? {
-        return Ok(None);
-    }
-    let place = search_end(alloc, overs, chain, claim)?;
-    if !is_in_front(alloc, overs, chain, place, claim)? {
-        return Ok(None);
-    }
-    Ok(Some(place))
-}
-
 /// Where the claim fits into the chain, if it may share the element with each in it: mostly at its end.
 pub(crate) fn place_in(
     alloc: Global,
@@ -168,5 +133,16 @@ pub(crate) fn place_in(
     if is_in_front(alloc, overs, chain, 0, claim)? {
         return Ok(Some(0));
     }
-    place_inside(alloc, overs, chain, claim)
+    let Some(first) = chain.first() else {
+        return Ok(None);
+    };
+    // What is not over the first fits nowhere, and needs no search for its place.
+    if !is_below(alloc, overs, first, claim)? {
+        return Ok(None);
+    }
+    let place = search_end(alloc, overs, chain, claim)?;
+    if !is_in_front(alloc, overs, chain, place, claim)? {
+        return Ok(None);
+    }
+    Ok(Some(place))
 }

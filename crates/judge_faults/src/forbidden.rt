@@ -3,7 +3,7 @@ ghost use Rattle.std.specs.Prelude.{◌≡◌, ◌↔◌, IsTrue, OnOk, IfOk};
 ghost use Rattle.std.specs.List.{list_any};
 ghost use Rattle.std.specs.Ordering.{nat_cmp};
 ghost use Rattle.std.specs.Cmp.Lexicographic.{slice_cmp};
-ghost use Rattle.sorted.specs.Lists.{Gains, listed};
+ghost use Rattle.sorted.specs.Lists.{Gains};
 ghost use Rattle.terms.specs.Lookups.{is_applied};
 ghost use Rattle.terms.specs.Choice.{npre_of};
 ghost use Rattle.sysmods.specs.Choices.{choice};
@@ -68,12 +68,6 @@ fn any_applied(view: &View<'_, '_>, ids: &[Id]) -> bool
     ids.iter().any(|id| view.is_applied(*id))
 }
 
-fn any_forbidder(view: &View<'_, '_>, forbidders: &Forbidders, id: Id) -> bool
-    ensures { result ≡ list_any (is_applied (seen view.now)) (listed (slice_cmp nat_cmp) forbidders.now id) }
-{
-    any_applied(view, listed(forbidders, id))
-}
-
 /// Whether the candidate forbids what is applied in its view, or a function that is applied there forbids it.
 pub(crate) fn is_forbidden(view: &View<'_, '_>, forbidders: &Forbidders, id: Id) -> bool
     requires { AreForbidders view.now.vers.now.global.now (choice view.now.vers.now) view.now.zone.now.entries
@@ -81,5 +75,5 @@ pub(crate) fn is_forbidden(view: &View<'_, '_>, forbidders: &Forbidders, id: Id)
     ensures { IsTrue result ↔ IsForbidden view.now.vers.now.global.now (choice view.now.vers.now) (seen view.now) id }
 {
     view.zone.attest();
-    any_applied(view, npre(view.vers, id)) || any_forbidder(view, forbidders, id)
+    any_applied(view, npre(view.vers, id)) || any_applied(view, listed(forbidders, id))
 }

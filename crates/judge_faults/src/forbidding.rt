@@ -1,9 +1,8 @@
 //! J9: which candidates clash with another one, by an element that they share or by NPRE.
-ghost use Rattle.std.specs.Prelude.{◌≡◌, ◌↔◌, ◌<◌, ◌^◌, ℕ, Some, length, slice_get, OnOk, IfOk};
-ghost use Rattle.terms.specs.Lookups.{IsRising};
+ghost use Rattle.std.specs.Prelude.{◌≡◌, ◌↔◌, ◌<◌, ℕ, Some, length, OnOk, IfOk};
 ghost use Rattle.sysmods.specs.Choices.{choice};
 ghost use Rattle.judge_faults.specs.Claims.{PassesAt};
-ghost use Rattle.judge_faults.specs.Forbidding.{IsEither, IsOfNamed, IsOfOne, IsByNpre, IsForbidding, AreClashing};
+ghost use Rattle.judge_faults.specs.Forbidding.{AreCandidates, IsOfNamed, IsByNpre, AreClashing};
 ghost use Rattle.judge_faults.specs.Sharing.{Marks};
 
 use crate::forbidden::npre;
@@ -14,38 +13,21 @@ use indexmap::IndexSet;
 use std::alloc::{AllocError, Global};
 use sysmods::{Overs, VerChoice};
 
-fn mark_both(marked: &mut IndexSet<u32>, one: u32, other: u32) -> Result<(), AllocError>
-    ensures { OnOk result (Marks (IsEither one other) marked.old.keys marked.new.keys) }
-{
-    marked.insert(one)?;
-    marked.insert(other)?;
-    Ok(())
-}
-
-fn candidate_place(ids: &[Id], id: Id) -> Option<usize>
-    requires { IsRising ids.now }
-    ensures { (n : ℕ) → (result ≡ Some n) ↔ (slice_get ids.now n ≡ Some id) }
+// The place of the candidate, if it is one that passes by itself.
+fn passing_place(ids: &[Id], faults: &[OwnFaults], id: Id) -> Option<usize>
+    requires { AreCandidates ids.now faults.now }
+    ensures { (n : ℕ) → (result ≡ Some n) ↔ PassesAt ids.now faults.now n id }
 {
     let Ok(place) = ids.binary_search(&id) else {
         return None;
     };
-    Some(place)
-}
-
-// The place of the candidate, if it is one that passes by itself.
-fn passing_place(ids: &[Id], faults: &[OwnFaults], id: Id) -> Option<usize>
-    requires rising { IsRising ids.now }
-    requires lengths { length faults.now ≡ length ids.now }
-    ensures { (n : ℕ) → (result ≡ Some n) ↔ PassesAt ids.now faults.now n id }
-{
-    let place = candidate_place(ids, id)?;
     if !own_at(faults, place).passes() {
         return None;
     }
     Some(place)
 }
 
-// Marks a candidate and this one that it names, if that is another one and passes by itself.
+// Marks the candidate at the place and this one that it names, if that is another one and passes by itself.
 fn mark_named(
     ids: &[Id],
     faults: &[OwnFaults],
@@ -54,9 +36,7 @@ fn mark_named(
     named: Id,
     marked: &mut IndexSet<u32>,
 ) -> Result<(), AllocError>
-    requires rising { IsRising ids.now }
-    requires lengths { length faults.now ≡ length ids.now }
-    requires fits { length ids.now < 2 ^ 32 }
+    requires { AreCandidates ids.now faults.now }
     ensures { OnOk result (Marks (IsOfNamed ids.now faults.now place id named) marked.old.keys marked.new.keys) }
 {
     if id == named {
@@ -65,26 +45,8 @@ fn mark_named(
     let Some(other) = passing_place(ids, faults, named) else {
         return Ok(());
     };
-    mark_both(marked, place, other as u32)?;
-    Ok(())
-}
-
-fn mark_each(
-    ids: &[Id],
-    faults: &[OwnFaults],
-    place: u32,
-    id: Id,
-    named: &[Id],
-    marked: &mut IndexSet<u32>,
-) -> Result<(), AllocError>
-    requires rising { IsRising ids.now }
-    requires lengths { length faults.now ≡ length ids.now }
-    requires fits { length ids.now < 2 ^ 32 }
-    ensures { OnOk result (Marks (IsOfOne ids.now faults.now place id named.now) marked.old.keys marked.new.keys) }
-{
-    for other in named {
-        mark_named(ids, faults, place, id, *other, marked)?;
-    }
+    marked.insert(place)?;
+    marked.insert(other as u32)?;
     Ok(())
 }
 
@@ -96,34 +58,18 @@ fn mark_by(
     place: usize,
     marked: &mut IndexSet<u32>,
 ) -> Result<(), AllocError>
-    requires rising { IsRising ids.now }
-    requires lengths { length faults.now ≡ length ids.now }
-    requires fits { length ids.now < 2 ^ 32 }
+    requires are { AreCandidates ids.now faults.now }
     requires below { place < length ids.now }
     ensures { OnOk result (Marks (IsByNpre (choice vers.now) ids.now faults.now place) marked.old.keys
         marked.new.keys) }
 {
-    let id = ids[place];
-    if own_at(faults, place).passes() {
-        mark_each(ids, faults, place as u32, id, npre(vers, id), marked)?;
+    if !own_at(faults, place).passes() {
+        return Ok(());
     }
-    Ok(())
-}
-
-// Marks all that name each other in NPRE.
-fn mark_forbidding(
-    vers: &VerChoice<'_>,
-    ids: &[Id],
-    faults: &[OwnFaults],
-    marked: &mut IndexSet<u32>,
-) -> Result<(), AllocError>
-    requires rising { IsRising ids.now }
-    requires lengths { length faults.now ≡ length ids.now }
-    requires fits { length ids.now < 2 ^ 32 }
-    ensures { OnOk result (Marks (IsForbidding (choice vers.now) ids.now faults.now) marked.old.keys marked.new.keys) }
-{
-    for i in 0..ids.len() {
-        mark_by(vers, ids, faults, i, marked)?;
+    let id = ids[place];
+    let named = npre(vers, id);
+    for other in named {
+        mark_named(ids, faults, place as u32, id, *other, marked)?;
     }
     Ok(())
 }
@@ -135,14 +81,15 @@ pub(crate) fn clashing_places(
     ids: &[Id],
     faults: &[OwnFaults],
 ) -> Result<IndexSet<u32>, AllocError>
-    requires rising { IsRising ids.now }
-    requires lengths { length faults.now ≡ length ids.now }
-    requires fits { length ids.now < 2 ^ 32 }
+    requires { AreCandidates ids.now faults.now }
     ensures clashing { IfOk result (λ places. AreClashing overs.old.global.now (choice overs.old) ids.now faults.now
         places.keys) }
     ensures same { overs.new ≡ overs.old }
 {
     let mut marked = shared_places(alloc, overs, ids, faults)?;
-    mark_forbidding(overs.vers(), ids, faults, &mut marked)?;
+    let vers = overs.vers();
+    for i in 0..ids.len() {
+        mark_by(vers, ids, faults, i, &mut marked)?;
+    }
     Ok(marked)
 }

@@ -13,7 +13,7 @@ ghost use Rattle.sysmods.specs.Choices.{choice};
 ghost use Rattle.judge_faults.specs.Forbidders.{AreForbidders};
 ghost use Rattle.zones_views.specs.Scopes.{global_of, choice_of, setting_of, setting_with};
 ghost use Rattle.judge_faults.specs.Own.{IsLowerAt, HasFaults, passes_alone, passes};
-ghost use Rattle.lemmas.specs.Beside.{Beside};
+ghost use Rattle.terms.specs.Beside.{Beside};
 ghost use Rattle.judge_faults.specs.Views.{seen};
 
 use crate::elements::{has_bare_update, is_foreign, is_lower_somewhere};

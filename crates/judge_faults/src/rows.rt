@@ -1,45 +1,54 @@
 //! The failed tests of each candidate.
-ghost use Rattle.std.specs.Prelude.{◌≡◌, ◌<◌, ◌^◌, ◌++◌, [], ◌∷◌, length, filter, OnOk, IfOk, if◌then◌else◌};
-ghost use Rattle.terms.specs.Failures.{all_tests};
-ghost use Rattle.lemmas.specs.Beside.{Beside};
-ghost use Rattle.judge_faults.specs.Rows.{fails_test, is_among, row_of};
+ghost use Rattle.std.specs.Prelude.{◌≡◌, ◌<◌, ◌^◌, [], ◌∷◌, length, filter, IfOk};
+ghost use Rattle.terms.specs.Beside.{Beside};
+ghost use Rattle.terms.specs.declared.codes.Test.TheVariants.{J1, J2, J3, J4, J5, J6, J7, J8, J9, J13};
+ghost use Rattle.judge_faults.specs.Rows.{fails_test, row_of};
 
 use crate::own::{OwnFaults, own_at};
 use indexmap::IndexSet;
 use std::alloc::{AllocError, Global};
 use terms::Test;
 
-fn add_if(tests: &mut Vec<Test>, fails: bool, test: Test) -> Result<(), AllocError>
-    ensures { OnOk result (tests.new.items ≡ tests.old.items ++ (if fails then test ∷ [] else [])) }
+// Whether a candidate fails the test, by what it fails by itself and whether it clashes with another one.
+fn fails(own: OwnFaults, clashes: bool, test: Test) -> bool
+    ensures { result ≡ fails_test own clashes test }
 {
-    if fails {
-        tests.push(test)?;
+    match test {
+        Test::J1 => own.system_held,
+        Test::J2 => own.user_held,
+        Test::J3 => own.forbidden,
+        Test::J4 => own.foreign,
+        Test::J5 => own.lower,
+        Test::J6 => own.bare,
+        Test::J7 => own.unapplied,
+        Test::J8 => own.deleted,
+        Test::J9 => clashes,
+        Test::J13 => own.ambiguous,
+        _ => false,
     }
-    Ok(())
 }
 
 // The tests that a candidate fails.
 fn row_of(alloc: Global, own: OwnFaults, clashes: bool) -> Result<Vec<Test>, AllocError>
-    ensures { IfOk result (λ row. row.items ≡ filter (fails_test own clashes) all_tests) }
+    ensures { IfOk result (λ row. row.items ≡ filter (fails_test own clashes)
+        (J1 ∷ J2 ∷ J3 ∷ J4 ∷ J5 ∷ J6 ∷ J7 ∷ J8 ∷ J9 ∷ J13 ∷ [])) }
 {
-    let mut tests = Vec::new(alloc);
-    add_if(&mut tests, own.system_held, Test::J1)?;
-    add_if(&mut tests, own.user_held, Test::J2)?;
-    add_if(&mut tests, own.forbidden, Test::J3)?;
-    add_if(&mut tests, own.foreign, Test::J4)?;
-    add_if(&mut tests, own.lower, Test::J5)?;
-    add_if(&mut tests, own.bare, Test::J6)?;
-    add_if(&mut tests, own.unapplied, Test::J7)?;
-    add_if(&mut tests, own.deleted, Test::J8)?;
-    add_if(&mut tests, clashes, Test::J9)?;
-    add_if(&mut tests, own.ambiguous, Test::J13)?;
-    Ok(tests)
-}
-
-fn is_among(places: &IndexSet<u32>, place: u32) -> bool
-    ensures { result ≡ is_among places.now.keys place }
-{
-    places.contains(&place)
+    [
+        Test::J1,
+        Test::J2,
+        Test::J3,
+        Test::J4,
+        Test::J5,
+        Test::J6,
+        Test::J7,
+        Test::J8,
+        Test::J9,
+        Test::J13,
+    ]
+    .iter()
+    .filter(|test| fails(own, clashes, **test))
+    .copied()
+    .collect(alloc)
 }
 
 /// The tests that each candidate fails, given who clashes.
@@ -54,8 +63,8 @@ pub(crate) fn all_rows(
 {
     let mut rows = Vec::new(alloc);
     for i in 0..faults.len() {
-        let own = own_at(faults, i);
-        rows.push(row_of(alloc, own, is_among(clashing, i as u32))?)?;
+        let clashes = clashing.contains(&(i as u32));
+        rows.push(row_of(alloc, own_at(faults, i), clashes)?)?;
     }
     Ok(rows)
 }

@@ -2,8 +2,7 @@
 ghost use Rattle.std.specs.Prelude.{◌≡◌, ◌↔◌, ◌<◌, ◌^◌, ◌⊎◌, [], ◌∷◌, ◌++◌, ℕ, List, length, IsTrue};
 ghost use Rattle.std.specs.Prelude.{Contains, OnOk, IfOk};
 ghost use Rattle.sysmods.specs.Choices.{choice};
-ghost use Rattle.judge_faults.specs.Claims.{AreGrouped};
-ghost use Rattle.judge_faults.specs.Sharing.{Marks, IsOfPair, IsAgainst, IsAmong, Clashes, ClashesOnOne, AreMarked};
+ghost use Rattle.judge_faults.specs.Sharing.{Marks, IsOfPair, IsAgainst, IsAmong, Clashes, AreMarked};
 ghost use Rattle.judge_faults.specs.Sharing.{IsRun, IsClashing};
 
 use crate::chains::{may_not_share, place_in};
@@ -131,27 +130,6 @@ fn run_end(claims: &[Claim], start: usize) -> usize
     end
 }
 
-// Marks the claims that clash.
-fn shared_among(
-    alloc: Global,
-    overs: &mut Overs<'_, '_>,
-    claims: &[Claim],
-) -> Result<IndexSet<u32>, AllocError>
-    requires { AreGrouped claims.now }
-    ensures shared { IfOk result (λ shared. (n : ℕ) → Contains shared.keys n
-        ↔ IsAmong (ClashesOnOne overs.old.global.now (choice overs.old)) claims.now n) }
-    ensures same { overs.new ≡ overs.old }
-{
-    let mut shared = IndexSet::new(alloc);
-    let mut start = 0;
-    while start < claims.len() {
-        let end = run_end(claims, start);
-        mark_run(alloc, overs, &claims[start..end], &mut shared)?;
-        start = end;
-    }
-    Ok(shared)
-}
-
 /// The places of the candidates that pass by themselves and change an element that they may not share with another
 /// such one.
 pub(crate) fn shared_places(
@@ -166,6 +144,14 @@ pub(crate) fn shared_places(
         ↔ IsClashing overs.old.global.now (choice overs.old) ids.now faults.now n) }
     ensures same { overs.new ≡ overs.old }
 {
-    let claims = claims_of(alloc, overs.vers().global(), ids, faults)?;
-    shared_among(alloc, overs, claims.as_slice())
+    let all = claims_of(alloc, overs.vers().global(), ids, faults)?;
+    let claims = all.as_slice();
+    let mut shared = IndexSet::new(alloc);
+    let mut start = 0;
+    while start < claims.len() {
+        let end = run_end(claims, start);
+        mark_run(alloc, overs, &claims[start..end], &mut shared)?;
+        start = end;
+    }
+    Ok(shared)
 }

@@ -15,9 +15,9 @@ use Rattle.terms.specs.Types.{Id, Zone, Bypass}
 use Rattle.terms.specs.Lookups.{IsRising, is_before}
 use Rattle.terms.specs.Tests.{Setting}
 use Rattle.terms.specs.Needs.{asked, zone_left}
-use Rattle.lemmas.proofs.Members.{map_in, in_map, filter_in, in_filter, none_in}
-use Rattle.lemmas.proofs.Places.{contains_at, found_at}
-use Rattle.lemmas.proofs.Pairs.{AllPairs_join, pairs_map}
+use Rattle.terms.proofs.ListMembers.{map_in, in_map, filter_in, in_filter, none_in}
+use Rattle.terms.proofs.Places.{contains_at, found_at}
+use Rattle.terms.proofs.Pairs.{AllPairs_join, pairs_map}
 use Rattle.decide.specs.declared.stated.Need.{Need}
 use Rattle.decide.specs.Said.{a_need}
 use Rattle.judge_needs.specs.Needed.{is_open, IsOpen, AreAllNeeds, AddsPart, IsOfKind, IsOpenAt, AreNeeds}

@@ -1,87 +1,166 @@
--- All that SYSMODs supersede, from what those below them do.
-use Rattle.std.proofs.Common.{◌≡◌, ◌⊎◌, inl, inr, Bool, true, false, List, [], ◌∷◌, ◌++◌, Contains, All, refl, sym, subst}
-use Rattle.std.specs.Prelude.{◌↔◌, if◌then◌else◌}
+-- The needed ids that SYSMODs supersede, from what those below them do.
+use Rattle.std.proofs.Common.{◌≡◌, ◌⊎◌, inl, inr, ℕ, ◌<◌, ◌+◌, Bool, true, false, List, [], ◌∷◌, ◌++◌, Contains, All}
+use Rattle.std.proofs.Common.{refl, sym, ap, ◌∙◌, subst, filter, map, take, length, get_or}
+use Rattle.std.specs.Prelude.{◌↔◌, ◌||◌, not, if◌then◌else◌}
+use Rattle.std.specs.Str.{bytes_eq}
 use Rattle.std.proofs.lemmas.List.Elements.{All-push, Contains-append_left, Contains-append_right, Contains-append_cases}
-use Rattle.lemmas.proofs.Members.{here, here_or, none_in, there}
+use Rattle.std.proofs.lemmas.Slice.Eq.{bytes_eq-Decides}
+use Rattle.terms.proofs.ListMembers.{here, here_or, none_in, none_in_nil, in_filter, filter_in, in_map, map_in}
+use Rattle.terms.proofs.Ids.{is_in_from_Contains, Contains_from_is_in}
+use Rattle.terms.proofs.Lists.{front_more}
+use Rattle.terms.proofs.Leads.{reaches_named, reaches_first}
 use Rattle.terms.specs.Types.{Id}
+use Rattle.terms.specs.Lookups.{is_in}
 use Rattle.terms.specs.Choice.{Choice, sup_of}
 use Rattle.terms.specs.Over.{Supersedes}
-use Rattle.terms.proofs.Leads.{reaches_named, reaches_first, reaches_through}
+use Rattle.decide.specs.declared.stated.Need.{Need}
 use Rattle.judge_needs.specs.declared.superseded.Closure.{Closure}
-use Rattle.judge_needs.specs.Closures.{AreBelow, IsBelow, IsClosure}
+use Rattle.judge_needs.specs.Closures.{AddsBelow, AreEnough, IsClosure, SupersedesOne, is_asked}
+use Rattle.judge_needs.specs.Pairs.{ArePairs, AreSuperseded, IsNeeded}
 
-module _ (c : Choice) where
+-- those of the named ids that the highest one does not name in SUP, and that one
+pub enough_are : (c : Choice) (highest : Id) (named some : List Id) → Contains named highest
+    → some ≡ filter (is_asked highest (sup_of c highest)) named → AreEnough c named some
+enough_are c highest named some in_named is = record {
+  of = λ x h. (filter_in asked named x (subst (λ l. Contains l x) is h)).0;
+  all = λ x h. by x h (is_in (sup_of c highest) x) refl;
+}
+  where
+    asked : Id → Bool
+    asked = is_asked highest (sup_of c highest)
+
+    among : (x : Id) → Contains named x → asked x ≡ true → Contains some x
+    among x h passes = subst (λ l. Contains l x) (sym is) (in_filter asked named x h passes)
+
+    either : (b : Bool) → (b || true) ≡ true
+    either true = refl
+    either false = refl
+
+    by : (x : Id) → Contains named x → (b : Bool) → is_in (sup_of c highest) x ≡ b
+        → Contains some x ⊎ ((y : Id) × Contains some y × Contains (sup_of c y) x)
+    by x h true e = inr (
+      highest,
+      among highest in_named (ap (λ b. b || not (is_in (sup_of c highest) highest))
+          ((bytes_eq-Decides highest highest).1 refl)),
+      Contains_from_is_in (sup_of c highest) x e,
+    )
+    by x h false e =
+        inl (among x h (ap (λ b. bytes_eq x highest || not b) e ∙ either (bytes_eq x highest)))
+
+pub enough_none : (c : Choice) (named : List Id) → named ≡ [] → AreEnough c named []
+enough_none c named is = record {
+  of = λ x h. absurd (none_in x h);
+  all = λ x h. none_in_nil named x is h;
+}
+
+module _ (c : Choice) (needed : List Id) where
   -- what is known, and one more of it, if it comes in
-  pub known_more : (known new : List Closure) (k : Closure) (fits : Bool) → All (IsClosure c) known → IsClosure c k
-      → new ≡ (if fits then known ++ k ∷ [] else known) → All (IsClosure c) new
+  pub known_more : (known new : List Closure) (k : Closure) (fits : Bool) → All (IsClosure c needed) known
+      → IsClosure c needed k → new ≡ (if fits then known ++ k ∷ [] else known) → All (IsClosure c needed) new
   known_more known new k true all own are =
-      subst (All (IsClosure c)) (sym are) (All-push (IsClosure c) known k all own)
-  known_more known new k false all own are = subst (All (IsClosure c)) (sym are) all
+      subst (All (IsClosure c needed)) (sym are) (All-push (IsClosure c needed) known k all own)
+  known_more known new k false all own are = subst (All (IsClosure c needed)) (sym are) all
 
-  pub below_none : AreBelow c [] []
-  below_none z = (λ h. absurd (none_in z h), λ h. absurd (none_in h.0 h.1))
+  -- the needed ones among all that it supersedes
+  pub needed_below : (x : Id) (all some : List Id) → ((z : Id) → Contains all z ↔ Supersedes c x z)
+      → some ≡ filter (is_in needed) all → (z : Id) → Contains some z ↔ SupersedesOne c needed x z
+  needed_below x all some are is z = (
+    λ h.
+        let f = filter_in (is_in needed) all z (subst (λ l. Contains l z) is h) in
+        (Contains_from_is_in needed z f.1, (are z).0 f.0),
+    λ h. subst (λ l. Contains l z) (sym is)
+        (in_filter (is_in needed) all z ((are z).1 h.1) (is_in_from_Contains needed z h.0)),
+  )
 
-  below_more : (x : Id) (ds : List Id) (z : Id) → IsBelow c ds z → IsBelow c (x ∷ ds) z
-  below_more x ds z h = (h.0, there x ds h.0 h.1, h.2)
+  pub below_none : (l : List Id) → AddsBelow c needed [] l l
+  below_none l z = (λ h. inl h, λ h. elim h [ inl was ↦ was | inr by ↦ absurd (none_in by.0 by.1) ])
 
-  -- what is below an id that is below these is below them
-  below_through : (ds : List Id) (x z : Id) → IsBelow c ds x → (x ≡ z) ⊎ Supersedes c x z → IsBelow c ds z
-  below_through ds x z h (inl same) = subst (IsBelow c ds) same h
-  below_through ds x z (d, in_ds, inl same) (inr below) =
-      (d, in_ds, inr (subst (λ y. Supersedes c y z) (sym same) below))
-  below_through ds x z (d, in_ds, inr above) (inr below) =
-      (d, in_ds, inr (reaches_through (sup_of c) d x z above below))
-
-  -- an id that is in already
-  pub below_there : (ds old : List Id) (x : Id) → AreBelow c ds old → Contains old x → AreBelow c (x ∷ ds) old
-  below_there ds old x are in_old z = (λ h. below_more x ds z ((are z).0 h), down)
+  pub below_one : (x : Id) (ids old new : List Id) → ((z : Id) → Contains ids z ↔ SupersedesOne c needed x z)
+      → new ≡ old ++ ids → AddsBelow c needed (x ∷ []) old new
+  below_one x ids old new are is z = (up, down)
     where
-      down : IsBelow c (x ∷ ds) z → Contains old z
-      down h = elim (here_or x ds h.0 h.1) [
-        | inl same ↦ (are z).1 (below_through ds x z ((are x).0 in_old)
-            (subst (λ y. (y ≡ z) ⊎ Supersedes c y z) (sym same) h.2))
-        | inr later ↦ (are z).1 (h.0, later, h.2)
+      up : Contains new z → Contains old z ⊎ ((y : Id) × Contains (x ∷ []) y × SupersedesOne c needed y z)
+      up h = elim (Contains-append_cases old ids z (subst (λ l. Contains l z) is h)) [
+        | inl was ↦ inl was
+        | inr own ↦ inr (x, here x [], (are z).0 own)
       ]
 
-  -- an id more, with all that it supersedes
-  pub below_known : (ds old ids all : List Id) (x : Id) → AreBelow c ds old
-      → ((z : Id) → Contains ids z ↔ Supersedes c x z) → all ≡ (old ++ x ∷ []) ++ ids → AreBelow c (x ∷ ds) all
-  below_known ds old ids all x are closure all_are z = (up, down)
+      down : Contains old z ⊎ ((y : Id) × Contains (x ∷ []) y × SupersedesOne c needed y z) → Contains new z
+      down (inl was) = subst (λ l. Contains l z) (sym is) (Contains-append_left old ids z was)
+      down (inr (y, in_one, over)) = elim (here_or x [] y in_one) [
+        | inl same ↦ subst (λ l. Contains l z) (sym is) (Contains-append_right old ids z
+            ((are z).1 (subst (λ v. SupersedesOne c needed v z) (sym same) over)))
+        | inr none ↦ absurd (none_in y none)
+      ]
+
+  -- the next one
+  pub below_next : (xs : List Id) (k : ℕ) (x : Id) (old mid new : List Id) → k < length xs → x ≡ get_or xs k x
+      → AddsBelow c needed (take k xs) old mid → AddsBelow c needed (x ∷ []) mid new
+      → AddsBelow c needed (take (k + 1) xs) old new
+  below_next xs k x old mid new below at first next =
+      subst (λ l. AddsBelow c needed l old new) (sym (front_more xs k x below at)) (λ z. (up z, down z))
     where
-      up : Contains all z → IsBelow c (x ∷ ds) z
-      up h = elim (Contains-append_cases (old ++ x ∷ []) ids z (subst (λ l. Contains l z) all_are h)) [
-        | inl front ↦ elim (Contains-append_cases old (x ∷ []) z front) [
-          | inl was ↦ below_more x ds z ((are z).0 was)
-          | inr own ↦ elim (here_or x [] z own) [
-            | inl same ↦ (x, here x ds, inl same)
-            | inr none ↦ absurd (none_in z none)
-          ]
+      up : (z : Id) → Contains new z
+          → Contains old z ⊎ ((y : Id) × Contains (take k xs ++ x ∷ []) y × SupersedesOne c needed y z)
+      up z h = elim ((next z).0 h) [
+        | inl in_mid ↦ elim ((first z).0 in_mid) [
+          | inl was ↦ inl was
+          | inr by ↦ inr (by.0, Contains-append_left (take k xs) (x ∷ []) by.0 by.1, by.2)
         ]
-        | inr below ↦ (x, here x ds, inr ((closure z).0 below))
+        | inr by ↦ inr (by.0, Contains-append_right (take k xs) (x ∷ []) by.0 by.1, by.2)
       ]
 
-      there_in : Contains ((old ++ x ∷ []) ++ ids) z → Contains all z
-      there_in h = subst (λ l. Contains l z) (sym all_are) h
-
-      down : IsBelow c (x ∷ ds) z → Contains all z
-      down (d, in_ds, how) = elim (here_or x ds d in_ds) [
-        | inl same ↦ elim (subst (λ y. (y ≡ z) ⊎ Supersedes c y z) (sym same) how) [
-          | inl own ↦ there_in (Contains-append_left (old ++ x ∷ []) ids z
-              (Contains-append_right old (x ∷ []) z (subst (Contains (x ∷ [])) own (here x []))))
-          | inr below ↦ there_in (Contains-append_right (old ++ x ∷ []) ids z ((closure z).1 below))
-        ]
-        | inr later ↦ there_in (Contains-append_left (old ++ x ∷ []) ids z
-            (Contains-append_left old (x ∷ []) z ((are z).1 (d, later, how))))
+      down : (z : Id)
+          → Contains old z ⊎ ((y : Id) × Contains (take k xs ++ x ∷ []) y × SupersedesOne c needed y z)
+          → Contains new z
+      down z (inl was) = (next z).1 (inl ((first z).1 (inl was)))
+      down z (inr (y, in_both, over)) = elim (Contains-append_cases (take k xs) (x ∷ []) y in_both) [
+        | inl front ↦ (next z).1 (inl ((first z).1 (inr (y, front, over))))
+        | inr last ↦ (next z).1 (inr (y, last, over))
       ]
 
-  -- what a SYSMOD supersedes begins with its SUP
-  pub below_sup : (x z : Id) → IsBelow c (sup_of c x) z ↔ Supersedes c x z
-  below_sup x z = (up, down)
+  -- what a SYSMOD supersedes is what it names in SUP and what enough of these supersede
+  pub all_below : (x : Id) (some named found : List Id) → AreEnough c (sup_of c x) some
+      → named ≡ filter (is_in needed) (sup_of c x) → AddsBelow c needed some named found
+      → (z : Id) → Contains found z ↔ SupersedesOne c needed x z
+  all_below x some named found enough is adds z = (λ h. up ((adds z).0 h), λ h. (adds z).1 (down h.0 h.1))
     where
-      up : IsBelow c (sup_of c x) z → Supersedes c x z
-      up (d, named, inl same) = reaches_named (sup_of c) x z (subst (Contains (sup_of c x)) same named)
-      up (d, named, inr below) = reaches_first (sup_of c) x d z named below
+      up : Contains named z ⊎ ((y : Id) × Contains some y × SupersedesOne c needed y z) → SupersedesOne c needed x z
+      up (inl h) =
+          let f = filter_in (is_in needed) (sup_of c x) z (subst (λ l. Contains l z) is h) in
+          (Contains_from_is_in needed z f.1, reaches_named (sup_of c) x z f.0)
+      up (inr (y, in_some, over)) = (over.0, reaches_first (sup_of c) x y z (enough.of y in_some) over.1)
 
-      down : Supersedes c x z → IsBelow c (sup_of c x) z
-      down ([], named) = (z, named, inl refl)
-      down (y ∷ ys, steps) = (y, steps.0, inr (ys, steps.1))
+      down : Contains needed z → Supersedes c x z
+          → Contains named z ⊎ ((y : Id) × Contains some y × SupersedesOne c needed y z)
+      down need ([], direct) = inl (subst (λ l. Contains l z) (sym is)
+          (in_filter (is_in needed) (sup_of c x) z direct (is_in_from_Contains needed z need)))
+      down need (y ∷ ys, steps) = elim (enough.all y steps.0) [
+        | inl in_some ↦ inr (y, in_some, (need, (ys, steps.1)))
+        | inr by ↦ inr (by.0, by.1, (need, reaches_first (sup_of c) by.0 y z by.2 (ys, steps.1)))
+      ]
+
+module _ (needs : List Need) (needed : List Id)
+    (same : (z : Id) → Contains needed z ↔ Contains (map (λ (w : Need). w.id) needs) z) where
+  -- the ids that somebody needs
+  are_needed : (z : Id) → Contains needed z ↔ IsNeeded needs z
+  are_needed z = (
+    λ h. map_in (λ (w : Need). w.id) needs z ((same z).0 h),
+    λ w. (same z).1 (subst (Contains (map (λ (w : Need). w.id) needs)) w.2
+        (in_map (λ (w : Need). w.id) needs w.0 w.1)),
+  )
+
+  pub pairs_needed : (c : Choice) (xs : List Id) (pairs : List (Id × Id)) → ArePairs (SupersedesOne c needed) xs pairs
+      → AreSuperseded c needs xs pairs
+  pairs_needed c xs pairs are x z = (
+    λ h. let m = (are x z).0 h in (m.0, ((are_needed z).0 m.1.0, m.1.1)),
+    λ h. (are x z).1 (h.0, ((are_needed z).1 h.1.0, h.1.1)),
+  )
+
+  -- where nothing is needed, there are none
+  pub none_needed : (c : Choice) (xs : List Id) (pairs : List (Id × Id)) → needed ≡ [] → pairs ≡ []
+      → AreSuperseded c needs xs pairs
+  none_needed c xs pairs is empty x z = (
+    λ h. none_in_nil pairs (x, z) empty h,
+    λ h. none_in_nil needed z is ((are_needed z).1 h.1.0),
+  )

@@ -1,6 +1,9 @@
 -- Lists of requisites that grow as ++IFs are gone through.
 use Rattle.std.proofs.Common.{◌≡◌, ◌<◌, ◌+◌, ℕ, Bool, true, false, List, [], ◌∷◌, ◌++◌, map, take, filter, length}
 use Rattle.std.proofs.Common.{get_or, refl, sym, ap, ◌∙◌, cond, append_assoc, append-nil}
+use Rattle.std.proofs.Common.{Result, Ok, Err}
+use Rattle.std.specs.Prelude.{OnOk, if◌then◌else◌}
+use Rattle.std.specs.Result.{is_ok}
 use Rattle.std.specs.List.{flat_map}
 use Rattle.std.specs.Str.{bytes_eq}
 use Rattle.std.specs.Ordering.{nat_cmp}
@@ -9,11 +12,17 @@ use Rattle.std.proofs.lemmas.Map.Text.{is_eq-slice_cmp}
 use Rattle.std.proofs.lemmas.List.Elements.{filter-append}
 use Rattle.std.proofs.lemmas.List.Concat.{flat_map-append}
 use Rattle.terms.specs.Types.{Id, IfReq}
-use Rattle.lemmas.proofs.Texts.{same_back}
-use Rattle.lemmas.proofs.Lists.{front_more}
+use Rattle.terms.proofs.TextOrder.{same_back}
+use Rattle.terms.proofs.Lists.{front_more}
 use Rattle.sorted.specs.Lists.{Adds}
 use Rattle.judge_needs.specs.declared.stated.Requisite.{Requisite}
 use Rattle.judge_needs.specs.Conditions.{Stated, requisites_of, AddsMore}
+
+-- what holds once a call has gone well that is the last one
+pub on_ok_from : {T E X P : Type 0} (r : Result T E) (new more old : X) → new ≡ (if is_ok r then more else old)
+    → (new ≡ more → P) → OnOk r P
+on_ok_from (Ok t) new more old is holds = holds is
+on_ok_from (Err e) new more old is holds = tt
 
 -- what grew by one part more
 pub grown : {X : Type 0} (base old part next new whole : List X) → old ≡ base ++ part → new ≡ old ++ next

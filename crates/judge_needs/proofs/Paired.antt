@@ -4,8 +4,8 @@ use Rattle.std.proofs.Common.{sym, ap, subst}
 use Rattle.std.specs.Prelude.{◌↔◌}
 use Rattle.std.proofs.lemmas.List.Elements.{Contains-append_left, Contains-append_right, Contains-append_cases}
 use Rattle.terms.specs.Types.{Id}
-use Rattle.lemmas.proofs.Members.{here, here_or, none_in, in_map, map_in}
-use Rattle.lemmas.proofs.Lists.{front_more}
+use Rattle.terms.proofs.ListMembers.{here, here_or, none_in, in_map, map_in}
+use Rattle.terms.proofs.Lists.{front_more}
 use Rattle.judge_needs.specs.Pairs.{AddsBy, AddsPairs, ArePairs}
 
 pub pairs_map : (x : Id) (more : List Id) (old new : List (Id × Id)) → new ≡ old ++ map (λ z. (x, z)) more

@@ -7,8 +7,8 @@ use Rattle.std.specs.Option.{option_map_or}
 use Rattle.std.specs.Str.{bytes_eq}
 use Rattle.std.proofs.lemmas.List.{map-append}
 use Rattle.std.proofs.lemmas.List.Elements.{filter-append}
-use Rattle.lemmas.proofs.Members.{here, there}
-use Rattle.lemmas.proofs.Options.{is_some_unless}
+use Rattle.terms.proofs.ListMembers.{here, there}
+use Rattle.terms.proofs.Options.{is_some_unless}
 use Rattle.terms.specs.Types.{Id, Global, Entry, Zone}
 use Rattle.terms.specs.Lookups.{has_content, is_applied, applied_ids, IsZone}
 use Rattle.terms.specs.Choice.{Choice}

@@ -1,18 +1,30 @@
--- All that SYSMODs supersede.
-use Rattle.std.specs.Prelude.{◌≡◌, ◌↔◌, ◌⊎◌, List, Contains}
+-- The needed ids that SYSMODs supersede.
+use Rattle.std.specs.Prelude.{◌↔◌, ◌⊎◌, ◌||◌, Bool, not, List, Contains}
+use Rattle.std.specs.Str.{bytes_eq}
 use Rattle.terms.specs.Types.{Id}
-use Rattle.terms.specs.Choice.{Choice}
+use Rattle.terms.specs.Lookups.{is_in}
+use Rattle.terms.specs.Choice.{Choice, sup_of}
 use Rattle.terms.specs.Over.{Supersedes}
 use Rattle.judge_needs.specs.declared.superseded.Closure.{Closure}
 
--- it has all that its SYSMOD supersedes
-abbrev pub IsClosure : Choice → Closure → Type 0
-IsClosure c k = (z : Id) → Contains k.ids z ↔ Supersedes c k.id z
+-- x supersedes the id, which is needed
+abbrev pub SupersedesOne : Choice → List Id → Id → Id → Type 0
+SupersedesOne c needed x z = Contains needed z × Supersedes c x z
 
--- the id is one of these, or one of them supersedes it
-abbrev pub IsBelow : Choice → List Id → Id → Type 0
-IsBelow c ds z = (d : Id) × Contains ds d × ((d ≡ z) ⊎ Supersedes c d z)
+-- it has the needed ids that its SYSMOD supersedes
+abbrev pub IsClosure : Choice → List Id → Closure → Type 0
+IsClosure c needed k = (z : Id) → Contains k.ids z ↔ SupersedesOne c needed k.id z
 
--- these are all such ids
-abbrev pub AreBelow : Choice → List Id → List Id → Type 0
-AreBelow c ds ids = (z : Id) → Contains ids z ↔ IsBelow c ds z
+-- what these supersede of the needed ids comes in
+abbrev pub AddsBelow : Choice → List Id → List Id → List Id → List Id → Type 0
+AddsBelow c needed xs old new =
+    (z : Id) → Contains new z ↔ (Contains old z ⊎ ((x : Id) × Contains xs x × SupersedesOne c needed x z))
+
+-- whether it is the highest one, or none of those that the highest one names in SUP
+abbrev pub is_asked : Id → List Id → Id → Bool
+is_asked highest sup d = bytes_eq d highest || not (is_in sup d)
+
+-- some of these ids, of which one names each other one of these in SUP
+pub record AreEnough (c : Choice) (xs some : List Id) : Type 0 where
+  pub of : (x : Id) → Contains some x → Contains xs x
+  pub all : (x : Id) → Contains xs x → Contains some x ⊎ ((y : Id) × Contains some y × Contains (sup_of c y) x)

@@ -1,10 +1,11 @@
--- Pairs of a candidate and an id: its bypassed requisites, and whom it supersedes.
+-- Pairs of a candidate and an id: its bypassed requisites, and the needed ids that it supersedes.
 use Rattle.std.specs.Prelude.{◌≡◌, ◌↔◌, ◌⊎◌, List, Contains}
 use Rattle.terms.specs.Types.{Id}
 use Rattle.terms.specs.Choice.{Choice}
 use Rattle.terms.specs.Over.{Supersedes}
 use Rattle.terms.specs.Tests.{Setting}
 use Rattle.terms.specs.Needs.{bypassed_ids}
+use Rattle.decide.specs.declared.stated.Need.{Need}
 
 -- the pairs of an id with these come in
 abbrev pub AddsBy : Id → (Id → Type 0) → List (Id × Id) → List (Id × Id) → Type 0
@@ -21,6 +22,10 @@ ArePairs Of xs pairs = (x z : Id) → Contains pairs (x, z) ↔ (Contains xs x �
 abbrev pub AreBypassed : Setting → List Id → List (Id × Id) → Type 0
 AreBypassed s xs pairs = ArePairs (λ x. Contains (bypassed_ids s x)) xs pairs
 
--- with whom they supersede
-abbrev pub AreSuperseded : Choice → List Id → List (Id × Id) → Type 0
-AreSuperseded c xs pairs = ArePairs (Supersedes c) xs pairs
+-- somebody needs it
+abbrev pub IsNeeded : List Need → Id → Type 0
+IsNeeded needs z = (w : Need) × Contains needs w × (w.id ≡ z)
+
+-- with the needed ids that they supersede
+abbrev pub AreSuperseded : Choice → List Need → List Id → List (Id × Id) → Type 0
+AreSuperseded c needs xs pairs = ArePairs (λ x z. IsNeeded needs z × Supersedes c x z) xs pairs

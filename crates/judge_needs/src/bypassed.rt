@@ -2,7 +2,7 @@
 ghost use Rattle.std.specs.Prelude.{◌≡◌, ◌++◌, [], map, OnOk, IfOk, if◌then◌else◌};
 ghost use Rattle.terms.specs.declared.codes.NeedKind.TheVariants.{Ifreq};
 ghost use Rattle.terms.specs.Deleted.{deletions};
-ghost use Rattle.terms.specs.Needs.{asked, bypassed_ids};
+ghost use Rattle.terms.specs.Needs.{asked, bypassed_ids, is_bypassed};
 ghost use Rattle.judge_needs.specs.Conditions.{AreStated};
 ghost use Rattle.zones_views.specs.Scopes.{choice_of, setting_of};
 ghost use Rattle.judge_needs.specs.Pairs.{AddsPairs, AreBypassed};
@@ -28,19 +28,15 @@ pub(crate) fn add_pairs(
     Ok(())
 }
 
-fn add_if(
-    pairs: &mut Vec<(Id, Id)>,
-    is_bypassed: bool,
-    id: Id,
-    requisites: &[Id],
-) -> Result<(), AllocError>
-    ensures { OnOk result (AddsPairs id (if is_bypassed then requisites.now else []) pairs.old.items
-        pairs.new.items) }
+// These requisites of one kind, if BYPASS covers it.
+fn covered<'a>(scope: &Scope<'_, '_>, kind: NeedKind, requisites: &'a [Id]) -> &'a [Id]
+    ensures { result.now ≡ if is_bypassed scope.now.bypass.now kind then requisites.now else [] }
 {
-    if is_bypassed {
-        add_pairs(pairs, id, requisites)?;
+    if scope.is_bypassed(kind) {
+        requisites
+    } else {
+        &[]
     }
-    Ok(())
 }
 
 // Adds those by `++IF`.
@@ -77,8 +73,8 @@ fn add_bypassed(
     requires dels { all_dels.now ≡ deletions (choice_of scope.now) scope.now.ids.now }
     ensures { OnOk result (AddsPairs id (bypassed_ids (setting_of scope.now) id) pairs.old.items pairs.new.items) }
 {
-    add_if(pairs, scope.is_bypassed(NeedKind::Pre), id, scope.pre(id))?;
-    add_if(pairs, scope.is_bypassed(NeedKind::Req), id, scope.req(id))?;
+    add_pairs(pairs, id, covered(scope, NeedKind::Pre, scope.pre(id)))?;
+    add_pairs(pairs, id, covered(scope, NeedKind::Req, scope.req(id)))?;
     add_ifreq(alloc, scope, stated, all_dels, id, pairs)?;
     Ok(())
 }

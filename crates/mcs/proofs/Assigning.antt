@@ -7,9 +7,9 @@ use Rattle.terms.specs.Statement.{Piece}
 use Rattle.terms.specs.Words.{Word, HasWords, IsShort}
 use Rattle.terms.specs.Statements.{SaysAssign, IsAssignOf}
 use Rattle.terms.specs.Ptfin.{Begun, sysmod_in, HasValue}
-use Rattle.operands.specs.declared.errors.OperandError.{OperandError}
-use Rattle.operands.specs.declared.errors.OperandError.TheVariants.{Memory, Bad}
-use Rattle.operands.specs.Failing.{Excludes}
+use Rattle.rec80.specs.declared.operand_errors.OperandError.{OperandError}
+use Rattle.rec80.specs.declared.operand_errors.OperandError.TheVariants.{Memory, Bad}
+use Rattle.rec80.specs.Failing.{Excludes}
 use Rattle.mcs.specs.Faults.{value_error}
 use Rattle.mcs.specs.Said.{IsSaid, IsSaidError}
 use Rattle.mcs.proofs.Saying.{assign_excludes}

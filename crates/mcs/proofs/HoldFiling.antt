@@ -9,7 +9,7 @@ use Rattle.terms.specs.Records.{HasRecords, IsRecord}
 use Rattle.terms.specs.Groups.{Group, TakesGroup}
 use Rattle.terms.specs.HoldFile.{IsGoodItem, IsItemFault, BeginsWithItems, IsHoldFile}
 use Rattle.terms.proofs.ExactHoldFile.{hold_file_fault_no_items}
-use Rattle.lemmas.proofs.Each.{All_front, All_back}
+use Rattle.terms.proofs.Each.{All_front, All_back}
 use Rattle.mcs.specs.declared.fault.StatementError.{StatementError}
 use Rattle.mcs.specs.declared.fault.StatementError.TheVariants as statement
 use Rattle.mcs.specs.FileFaults.{error_at, IsFileError}

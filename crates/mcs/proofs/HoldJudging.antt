@@ -11,12 +11,13 @@ use Rattle.terms.specs.Words.{Word, HasWords}
 use Rattle.terms.specs.HoldStatements.{IsHoldOf, IsReleaseOf}
 use Rattle.terms.specs.HoldFile.{StandsInHoldFile, HasItem, IsGoodItem}
 use Rattle.terms.specs.Ptfin.{IsKnown}
-use Rattle.operands.specs.declared.errors.OperandError.{OperandError}
-use Rattle.operands.specs.declared.errors.OperandError.TheVariants as operand
-use Rattle.operands.specs.Failing.{Excludes}
+use Rattle.rec80.specs.declared.operand_errors.OperandError.{OperandError}
+use Rattle.rec80.specs.declared.operand_errors.OperandError.TheVariants as operand
+use Rattle.rec80.specs.Failing.{Excludes}
 use Rattle.mcs.specs.declared.fault.StatementError.{StatementError}
 use Rattle.mcs.specs.declared.fault.StatementError.TheVariants.{Memory, Fault}
 use Rattle.mcs.specs.Faults.{value_error}
+use Rattle.mcs.specs.Forms.{IsFormError}
 use Rattle.mcs.specs.declared.hold_item.HoldItem.{HoldItem}
 use Rattle.mcs.specs.HoldItems.{item_of, IsSaid, IsSaidError, IsItemError}
 
@@ -52,6 +53,16 @@ pub hold_error : (w : StatementWord) (own : Option Text) (rest : List Piece) (er
     → IsSaidError w own rest (value_error error)
 hold_error w own rest operand.Memory is x = tt
 hold_error w own rest operand.Bad is x = no_hold w own rest is (λ ws h words i. x (ws, h, words, i))
+
+-- a fault of the statement's form, or of its word
+pub form_error : (records : Lines) (e : StatementError) → IsFormError records e → IsItemError records e
+form_error records Memory f = tt
+form_error records (Fault Mc1) f = f
+form_error records (Fault Mc2) f = f
+form_error records (Fault Mc3) f = absurd f
+form_error records (Fault Mc4) f = absurd f
+form_error records (Fault Mc5) f = absurd f
+form_error records (Fault Mc6) f = absurd f
 
 pub text_behind : (w : StatementWord) (inline : Lines) → inline ≢ [] → StandsInHoldFile w inline → ⊥
 text_behind (word.Header kind) inline some m = m

@@ -15,6 +15,9 @@ pub release_is : (own : Option Text) (ws : List Word) (r : Release) → AreOpera
     → IsReleaseOf own ws r
 release_is own ws r are k = record { id = k.id; are_operands = are; kind = k.kind; fmid = k.fmid; reason = k.reason }
 
+pub release_key : (own : Option Text) (ws : List Word) (r : Release) → IsReleaseOf own ws r → HasKey own ws r
+release_key own ws r i = record { id = i.id; kind = i.kind; fmid = i.fmid; reason = i.reason }
+
 abbrev pub key_of : Hold → Release
 key_of h = record { id = h.id; kind = h.kind; reason = h.reason; fmid = h.fmid }
 

@@ -14,9 +14,9 @@ use Rattle.terms.specs.Ptfin.{Begun, sysmod_in, HasValue}
 use Rattle.terms.proofs.ExactHolds.{kind_only}
 use Rattle.terms.proofs.ExactOperands.{own_only}
 use Rattle.terms.proofs.ExactWords.{words_only}
-use Rattle.operands.specs.declared.errors.OperandError.{OperandError}
-use Rattle.operands.specs.declared.errors.OperandError.TheVariants.{Memory, Bad}
-use Rattle.operands.specs.Failing.{Excludes}
+use Rattle.rec80.specs.declared.operand_errors.OperandError.{OperandError}
+use Rattle.rec80.specs.declared.operand_errors.OperandError.TheVariants.{Memory, Bad}
+use Rattle.rec80.specs.Failing.{Excludes}
 use Rattle.mcs.specs.Faults.{value_error}
 use Rattle.mcs.specs.Said.{IsSaid, IsSaidError}
 use Rattle.mcs.proofs.Saying.{hold_excludes}

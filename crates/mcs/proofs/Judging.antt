@@ -12,6 +12,7 @@ use Rattle.terms.specs.Ptfin.{IsGoodStatement}
 use Rattle.mcs.specs.declared.said.Statement.{Statement as Read}
 use Rattle.mcs.specs.declared.fault.StatementError.{StatementError}
 use Rattle.mcs.specs.declared.fault.StatementError.TheVariants.{Memory, Fault}
+use Rattle.mcs.specs.Forms.{IsFormError}
 use Rattle.mcs.specs.Said.{IsSaid, IsSaidError, IsStatementError}
 use Rattle.mcs.specs.Statements.{statement_of}
 
@@ -67,6 +68,17 @@ pub bad_statement : (current : Option Begun) (later records : Lines) (w : Statem
 bad_statement current later records w own rest inline (Ok s) at f = tt
 bad_statement current later records w own rest inline (Err e) at f =
     error_of current later records w own rest inline e at f
+
+-- a fault of the statement's form, or of its word
+pub form_error : (current : Option Begun) (later records : Lines) (e : StatementError) → IsFormError records e
+    → IsStatementError current later records e
+form_error current later records Memory f = tt
+form_error current later records (Fault Mc1) f = f
+form_error current later records (Fault Mc2) f = f
+form_error current later records (Fault Mc3) f = absurd f
+form_error current later records (Fault Mc4) f = absurd f
+form_error current later records (Fault Mc5) f = absurd f
+form_error current later records (Fault Mc6) f = absurd f
 
 may_not_release : (s : Option Sysmod) → MayStand s word.Release → ⊥
 may_not_release None h = h

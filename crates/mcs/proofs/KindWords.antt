@@ -11,8 +11,8 @@ use Rattle.terms.specs.Words.{Word, plain}
 use Rattle.terms.specs.Operands.{operand, HasFlag}
 use Rattle.terms.specs.HoldStatements.{HasKind}
 use Rattle.terms.proofs.ExactOperands.{flag_only}
-use Rattle.lemmas.proofs.Texts.{same_from}
-use Rattle.lemmas.proofs.Searches.{find_passes}
+use Rattle.terms.proofs.TextOrder.{same_from}
+use Rattle.terms.proofs.Searches.{find_passes}
 use Rattle.mcs.specs.Holds.{kind_from}
 
 pub plain_is : (name : Text) (w : Word) → w.word ≡ name → w.list ≡ None → w ≡ plain name

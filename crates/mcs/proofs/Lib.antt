@@ -1,6 +1,4 @@
 pub mod Beginning
-pub mod Remaining
-pub mod Finding
 pub mod KindWords
 pub mod Printables
 pub mod Trimming

@@ -18,10 +18,10 @@ use Rattle.terms.specs.Statement.{Piece}
 use Rattle.terms.specs.Operands.{HasOwn, list_behind}
 use Rattle.terms.specs.Statements.{changed_type}
 use Rattle.terms.specs.Ptfin.{NamesFmid, IsSecond}
-use Rattle.lemmas.proofs.Texts.{same_from, same_itself}
+use Rattle.terms.proofs.TextOrder.{same_from, same_itself}
 use Rattle.terms.proofs.ElementOrder.{type_from_number}
 use Rattle.terms.proofs.ExactOperands.{own_only}
-use Rattle.lemmas.proofs.Each.{any_weaker}
+use Rattle.terms.proofs.Each.{any_weaker}
 
 -- FMID names that id just where it was read
 read_names : (rest : List Piece) (named : Option Text) (f : Text) → IfSome named (NamesFmid rest) → named ≡ Some f

@@ -5,7 +5,7 @@ use Rattle.std.specs.Prelude.{All, IfSome, slice_index, if◌then◌else◌}
 use Rattle.std.specs.List.{flat_map}
 use Rattle.std.specs.Str.{bytes_eq}
 use Rattle.std.proofs.lemmas.List.Elements.{All-nil, All-cons, All-head, All-tail, All-append, All-take, All-filter}
-use Rattle.lemmas.proofs.Each.{All_front, All_back}
+use Rattle.terms.proofs.Each.{All_front, All_back}
 use Rattle.terms.specs.declared.statement_words.StatementWord.{StatementWord}
 use Rattle.terms.specs.Types.{Text, Lines}
 use Rattle.terms.specs.Records.{IsPrintable, IsRecord, front}

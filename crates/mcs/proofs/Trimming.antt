@@ -8,7 +8,7 @@ use Rattle.std.proofs.lemmas.Str.Ascii.{IsAscii-from_all}
 use Rattle.terms.specs.Types.{Text}
 use Rattle.terms.specs.Records.{IsPrintable}
 use Rattle.terms.specs.Forms.{AreBlanks, BeginsDark, IsTrimmed}
-use Rattle.lemmas.proofs.Each.{All_front, All_back}
+use Rattle.terms.proofs.Each.{All_front, All_back}
 use Rattle.mcs.specs.Trimmed.{SkipsBlanks, DropsBlanks}
 
 pub skips_more : (text rest next : Text) (b : ℕ) → SkipsBlanks text rest → rest ≡ b ∷ next → b ≡ 32

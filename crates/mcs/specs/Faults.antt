@@ -1,7 +1,7 @@
 -- What the errors of one statement say.
 use Rattle.terms.specs.declared.codes.McCode.TheVariants.{Mc3}
-use Rattle.operands.specs.declared.errors.OperandError.{OperandError}
-use Rattle.operands.specs.declared.errors.OperandError.TheVariants as operand
+use Rattle.rec80.specs.declared.operand_errors.OperandError.{OperandError}
+use Rattle.rec80.specs.declared.operand_errors.OperandError.TheVariants as operand
 use Rattle.mcs.specs.declared.fault.StatementError.{StatementError}
 use Rattle.mcs.specs.declared.fault.StatementError.TheVariants.{Memory, Fault}
 

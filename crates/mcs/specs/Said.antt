@@ -4,10 +4,10 @@ use Rattle.terms.specs.declared.codes.McCode.{McCode}
 use Rattle.terms.specs.declared.codes.McCode.TheVariants.{Mc3, Mc5, Mc6}
 use Rattle.terms.specs.declared.statement_words.StatementWord.{StatementWord}
 use Rattle.terms.specs.Types.{Text, Lines}
-use Rattle.terms.specs.Statement.{Piece, HasSolid}
+use Rattle.terms.specs.Statement.{Piece}
 use Rattle.terms.specs.Statements.{Statement}
 use Rattle.terms.specs.Ptfin.{Begun, sysmod_in, HasValue, IsWithin, HasGoodText, IsStatementFault}
-use Rattle.rec80.specs.Views.{left_of}
+use Rattle.rec80.specs.Read.{IsRead}
 use Rattle.mcs.specs.declared.begin.Known.{Known}
 use Rattle.mcs.specs.KnownWords.{own_list}
 use Rattle.mcs.specs.Holds.{ArePrintable}
@@ -46,18 +46,18 @@ IsStatementError current later records (Fault code) = IsStatementFault current l
 -- A statement of a known word says what is answered.
 abbrev pub Says : Option file.Begun → Known → Result Said StatementError → Type 0
 Says current known result =
-    (rest : List Piece) → HasSolid (left_of known.rest) rest
-    → IfOk result (λ s. IsSaid (begun_in current) known.word (own_list known) rest known.rest.inline.now
+    (rest : List Piece) → IsRead rest known.operands
+    → IfOk result (λ s. IsSaid (begun_in current) known.word (own_list known) rest known.inline.now
     (statement_of s))
 
 -- It says nothing, and the error is its first fault, or want of memory.
 abbrev pub Fails : Option file.Begun → Known → Result Said StatementError → Type 0
 Fails current known result =
-    (rest : List Piece) → HasSolid (left_of known.rest) rest
-    → IfErr result (IsSaidError (begun_in current) known.word (own_list known) rest known.rest.inline.now)
+    (rest : List Piece) → IsRead rest known.operands
+    → IfErr result (IsSaidError (begun_in current) known.word (own_list known) rest known.inline.now)
 
 -- The same where its lists have no byte that a record has not.
 abbrev pub FailsPrintable : Option file.Begun → Known → Result Said StatementError → Type 0
 FailsPrintable current known result =
-    (rest : List Piece) → HasSolid (left_of known.rest) rest → ArePrintable rest
-    → IfErr result (IsSaidError (begun_in current) known.word (own_list known) rest known.rest.inline.now)
+    (rest : List Piece) → IsRead rest known.operands → ArePrintable rest
+    → IfErr result (IsSaidError (begun_in current) known.word (own_list known) rest known.inline.now)

@@ -5,11 +5,11 @@ ghost use Rattle.terms.specs.Types.{Assign as AnyAssign};
 ghost use Rattle.terms.specs.Forms.{IsId};
 ghost use Rattle.terms.specs.Words as grammar;
 ghost use Rattle.terms.specs.Operands.{operand, HasListed};
-ghost use Rattle.terms.specs.Statement.{Piece, HasSolid};
+ghost use Rattle.terms.specs.Statement.{Piece};
 ghost use Rattle.terms.specs.Statements.{IsAssignOf};
-ghost use Rattle.operands.specs.Left.{LeavesWords};
-ghost use Rattle.operands.specs.Failing.{Excludes};
-ghost use Rattle.rec80.specs.Views.{left_of};
+ghost use Rattle.rec80.specs.Views.{words_of};
+ghost use Rattle.rec80.specs.Failing.{Excludes};
+ghost use Rattle.rec80.specs.Read.{IsRead};
 ghost use Rattle.mcs.specs.KnownWords.{own_list};
 ghost use Rattle.mcs.specs.Said.{Says, Fails};
 
@@ -17,10 +17,8 @@ use crate::begin::Known;
 use crate::fault::{StatementError, no_value};
 use crate::file::{Assign, Begun};
 use crate::said::Statement;
-use crate::values::are_operands;
 use fields::{Id, Source};
-use operands::{OperandError, listed_ids, operand, required};
-use rec80::Words;
+use rec80::{OperandError, Word, listed_ids, operand, required};
 use std::alloc::Global;
 use terms::McCode;
 
@@ -28,12 +26,11 @@ use terms::McCode;
 const OPERANDS: &[&[u8]] = &[b"SOURCEID", b"TO"];
 
 /// The ids of the operand, which must be there, as they stand.
-fn required_ids(alloc: Global, words: &Words<'_>, name: &[u8]) -> Result<Vec<Id>, OperandError>
-    ensures ok { (ws : List grammar.Word) → LeavesWords words.now ws
-        → IfOk result (λ ids. IsSomeAnd (operand name.now ws) (λ w. HasListed IsId w ids.items)) }
-    ensures bad { (ws : List grammar.Word) → LeavesWords words.now ws
-        → IfErr result (λ e. Excludes e ((ids : List (List ℕ))
-        × IsSomeAnd (operand name.now ws) (λ w. HasListed IsId w ids))) }
+fn required_ids(alloc: Global, words: &[Word<'_>], name: &[u8]) -> Result<Vec<Id>, OperandError>
+    ensures ok { IfOk result (λ ids. IsSomeAnd (operand name.now (words_of words.now))
+        (λ w. HasListed IsId w ids.items)) }
+    ensures bad { IfErr result (λ e. Excludes e ((ids : List (List ℕ))
+        × IsSomeAnd (operand name.now (words_of words.now)) (λ w. HasListed IsId w ids))) }
 {
     let Some(word) = operand(words, name) else {
         return Err(OperandError::Bad);
@@ -43,23 +40,23 @@ fn required_ids(alloc: Global, words: &Words<'_>, name: &[u8]) -> Result<Vec<Id>
 
 /// The `++ASSIGN`.
 fn read_assign(alloc: Global, known: &Known<'_>) -> Result<Assign, OperandError>
-    ensures ok { (rest : List Piece) → HasSolid (left_of known.now.rest) rest
+    ensures ok { (rest : List Piece) → IsRead rest known.now.operands
         → IfOk result (λ a. (ws : List grammar.Word) × grammar.HasWords rest ws
         × IsAssignOf (own_list known.now) ws a) }
-    ensures bad { (rest : List Piece) → HasSolid (left_of known.now.rest) rest
+    ensures bad { (rest : List Piece) → IsRead rest known.now.operands
         → IfErr result (λ e. Excludes e ((a : AnyAssign) × ((ws : List grammar.Word) × grammar.HasWords rest ws
         × IsAssignOf (own_list known.now) ws a))) }
 {
     if known.first.list.is_some() {
         return Err(OperandError::Bad);
     }
-    if !are_operands(&known.rest, OPERANDS) {
-        return Err(OperandError::Bad);
-    }
-    let Some(source) = required::<Source>(&known.rest, b"SOURCEID") else {
+    let Some(words) = known.operands.named(OPERANDS) else {
         return Err(OperandError::Bad);
     };
-    let to = match required_ids(alloc, &known.rest, b"TO") {
+    let Some(source) = required::<Source>(words, b"SOURCEID") else {
+        return Err(OperandError::Bad);
+    };
+    let to = match required_ids(alloc, words, b"TO") {
         Ok(to) => to,
         Err(error) => return Err(error),
     };

@@ -1,44 +1,48 @@
 //! The word that a statement begins with.
 ghost use Rattle.std.specs.Prelude.{List, IfOk, IfErr};
-ghost use Rattle.terms.specs.Statement.{Piece, HasSolid};
+ghost use Rattle.terms.specs.Statement.{Piece};
 ghost use Rattle.terms.specs.Ptfin.{IsKnown};
-ghost use Rattle.rec80.specs.Views.{left_of};
-ghost use Rattle.mcs.specs.Forms.{IsFormFault};
+ghost use Rattle.rec80.specs.Read.{IsRead};
+ghost use Rattle.mcs.specs.Forms.{IsFormError};
 ghost use Rattle.mcs.specs.KnownWords.{own_list};
 
+use crate::fault::StatementError;
 use crate::words::statement_word;
-use rec80::{Group, Word, Words, statement};
+use rec80::{Group, Operands, Record, Word, statement};
+use std::alloc::Global;
 use terms::{McCode, StatementWord};
 
-/// A statement of a known word. Behind its first word stand the others, and its inline records.
-#[derive(Clone, Copy, Debug)]
+/// A statement of a known word. Behind its first word stand its operands, and its inline records.
+#[derive(Drop)]
 pub struct Known<'a> {
     pub word: StatementWord,
     pub first: Word<'a>,
-    pub rest: Words<'a>,
+    pub operands: Operands<'a>,
+    pub inline: &'a [Record],
 }
 
-/// The statement's word. `Mc1` comes where the statement's form is at fault, and `Mc2` where it begins with no known
-/// word.
-pub fn begun<'a>(group: &Group<'a>) -> Result<Known<'a>, McCode>
+/// The statement's word and its operands. `Memory` comes where memory runs out. `Fault` is `Mc1` where the statement's
+/// form is at fault, and `Mc2` where it begins with no known word.
+pub fn begun<'a>(alloc: Global, group: &Group<'a>) -> Result<Known<'a>, StatementError>
     ensures ok { IfOk result (λ b. (rest : List Piece)
-        × IsKnown group.now.records.now b.word (own_list b) rest b.rest.inline.now × HasSolid (left_of b.rest) rest) }
-    ensures fault { IfErr result (IsFormFault group.now.records.now) }
+        × IsKnown group.now.records.now b.word (own_list b) rest b.inline.now × IsRead rest b.operands) }
+    ensures fault { IfErr result (IsFormError group.now.records.now) }
 {
     let Ok(mut words) = statement(group) else {
-        return Err(McCode::Mc1);
+        return Err(StatementError::Fault(McCode::Mc1));
     };
     let first = match words.next_word() {
         Ok(Some(first)) => first,
-        Ok(None) => return Err(McCode::Mc2),
-        Err(_) => return Err(McCode::Mc2),
+        Ok(None) => return Err(StatementError::Fault(McCode::Mc2)),
+        Err(_) => return Err(StatementError::Fault(McCode::Mc2)),
     };
     let Some(word) = statement_word(first.word) else {
-        return Err(McCode::Mc2);
+        return Err(StatementError::Fault(McCode::Mc2));
     };
     Ok(Known {
         word,
         first,
-        rest: words,
+        operands: words.operands(alloc)?,
+        inline: words.inline,
     })
 }

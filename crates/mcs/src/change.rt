@@ -4,23 +4,20 @@ ghost use Rattle.terms.specs.declared.statement_words.StatementWord.TheVariants 
 ghost use Rattle.terms.specs.Statements.{changed_type};
 ghost use Rattle.terms.specs.Ptfin.{IsUpdateWord};
 ghost use Rattle.terms.specs.Words as grammar;
-ghost use Rattle.terms.specs.Statement.{Piece, HasSolid};
+ghost use Rattle.terms.specs.Statement.{Piece};
 ghost use Rattle.terms.specs.Texts.{IsReplacement, IsUpdate};
-ghost use Rattle.rec80.specs.Views.{left_of};
+ghost use Rattle.rec80.specs.Read.{IsRead};
 ghost use Rattle.mcs.specs.KnownWords.{own_list};
 ghost use Rattle.mcs.specs.Elements.{HasNames, IsTextError, IsUpdateTextError};
 ghost use Rattle.mcs.specs.Files.{begun_in};
 ghost use Rattle.mcs.specs.Said.{Says, Fails};
 
 use crate::begin::Known;
-use crate::ended::is_ended;
 use crate::fault::StatementError;
 use crate::file::Begun;
 use crate::said::Statement;
-use crate::values::are_operands;
 use fields::Name;
-use operands::{one, required};
-use rec80::Record;
+use rec80::{Record, one, required};
 use std::alloc::{AllocError, Global};
 use sysmod::{Action, ElemChange};
 use terms::{ElemType, McCode};
@@ -38,23 +35,23 @@ struct Names {
 }
 
 fn read_names(known: &Known<'_>) -> Option<Names>
-    ensures some { (rest : List Piece) → HasSolid (left_of known.now.rest) rest
+    ensures some { (rest : List Piece) → IsRead rest known.now.operands
         → IfSome result (λ n. (ws : List grammar.Word) × grammar.HasWords rest ws
         × HasNames (own_list known.now) ws n.name n.distlib n.syslib) }
-    ensures none { (rest : List Piece) → HasSolid (left_of known.now.rest) rest
+    ensures none { (rest : List Piece) → IsRead rest known.now.operands
         → IfNone result ((ws : List grammar.Word) (name distlib syslib : List ℕ) → grammar.HasWords rest ws
         → HasNames (own_list known.now) ws name distlib syslib → ⊥) }
 {
-    if !are_operands(&known.rest, OPERANDS) {
+    let Some(words) = known.operands.named(OPERANDS) else {
         return None;
-    }
+    };
     let Some(name) = one::<Name>(&known.first) else {
         return None;
     };
-    let Some(distlib) = required::<Name>(&known.rest, b"DISTLIB") else {
+    let Some(distlib) = required::<Name>(words, b"DISTLIB") else {
         return None;
     };
-    let Some(syslib) = required::<Name>(&known.rest, b"SYSLIB") else {
+    let Some(syslib) = required::<Name>(words, b"SYSLIB") else {
         return None;
     };
     Some(Names {
@@ -115,7 +112,7 @@ pub fn change_statement(
     let Some(names) = read_names(known) else {
         return Err(StatementError::Fault(McCode::Mc3));
     };
-    let inline = known.rest.inline;
+    let inline = known.inline;
     if !is_within(current, inline) {
         return Err(StatementError::Fault(McCode::Mc6));
     }
@@ -167,13 +164,13 @@ pub fn update_statement(
     ensures said { Says current.now known.now result }
     ensures fault { Fails current.now known.now result }
 {
-    if !is_ended(&known.rest) {
+    if !known.operands.is_empty() {
         return Err(StatementError::Fault(McCode::Mc3));
     }
     let Some(name) = one::<Name>(&known.first) else {
         return Err(StatementError::Fault(McCode::Mc3));
     };
-    let inline = known.rest.inline;
+    let inline = known.inline;
     if !is_within(current, inline) {
         return Err(StatementError::Fault(McCode::Mc6));
     }

@@ -2,17 +2,15 @@
 ghost use Rattle.std.specs.Prelude.{◌≡◌, ℕ, List, Option, All, reverse, option_map, IfOk, IfErr, IfSome, IfNone};
 ghost use Rattle.std.specs.String.{string_bytes};
 ghost use Rattle.terms.specs.Records.{IsPrintable};
-ghost use Rattle.terms.specs.Words as grammar;
 ghost use Rattle.terms.specs.Forms.{IsTrimmed};
 ghost use Rattle.terms.specs.Operands.{operand};
 ghost use Rattle.terms.specs.HoldStatements.{HasComment};
 ghost use Rattle.rec80.specs.Cursors.{text_of};
-ghost use Rattle.operands.specs.Left.{LeavesWords};
-ghost use Rattle.operands.specs.Failing.{Excludes};
+ghost use Rattle.rec80.specs.Views.{words_of};
+ghost use Rattle.rec80.specs.Failing.{Excludes};
 ghost use Rattle.mcs.specs.Trimmed.{SkipsBlanks, DropsBlanks, BeginsNoBlank};
 
-use operands::{OperandError, operand};
-use rec80::{Text, Words};
+use rec80::{OperandError, Text, Word, operand};
 use std::alloc::{AllocError, Global};
 
 /// A copy of the text.
@@ -91,14 +89,14 @@ fn comment_in(alloc: Global, text: &Text<'_>) -> Result<String, OperandError>
 /// and its list is absent, blank or no UTF-8.
 pub fn optional_comment(
     alloc: Global,
-    words: &Words<'_>,
+    words: &[Word<'_>],
     name: &[u8],
 ) -> Result<Option<String>, OperandError>
-    ensures ok { (ws : List grammar.Word) → LeavesWords words.now ws
-        → IfOk result (λ comment. HasComment (operand name.now ws) (option_map string_bytes comment)) }
-    ensures bad { (ws : List grammar.Word) → LeavesWords words.now ws
-        → IfSome (operand name.now ws) (λ w. IfSome w.list (All IsPrintable))
-        → IfErr result (λ e. Excludes e ((comment : Option (List ℕ)) × HasComment (operand name.now ws) comment)) }
+    ensures ok { IfOk result (λ comment. HasComment (operand name.now (words_of words.now))
+        (option_map string_bytes comment)) }
+    ensures bad { IfSome (operand name.now (words_of words.now)) (λ w. IfSome w.list (All IsPrintable))
+        → IfErr result (λ e. Excludes e ((comment : Option (List ℕ))
+        × HasComment (operand name.now (words_of words.now)) comment)) }
 {
     let Some(word) = operand(words, name) else {
         return Ok(None);

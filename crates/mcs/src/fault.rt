@@ -2,7 +2,7 @@
 ghost use Rattle.std.specs.Prelude.{◌≡◌};
 ghost use Rattle.mcs.specs.Faults.{value_error};
 
-use operands::OperandError;
+use rec80::OperandError;
 use std::alloc::{AllocError, AllocFailed};
 use terms::McCode;
 

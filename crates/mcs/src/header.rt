@@ -4,12 +4,11 @@ ghost use Rattle.terms.specs.declared.statement_words.StatementWord.TheVariants 
 ghost use Rattle.mcs.specs.Said.{Says, Fails};
 
 use crate::begin::Known;
-use crate::ended::is_ended;
 use crate::fault::StatementError;
 use crate::file::Begun;
 use crate::said::Statement;
 use fields::Id;
-use operands::one;
+use rec80::one;
 use terms::{Kind, McCode};
 
 /// What a header says. `Fault` is `Mc3` where it has anything but one id. `Memory` never comes.
@@ -22,7 +21,7 @@ pub fn header_statement(
     ensures said { Says current.now known.now result }
     ensures fault { Fails current.now known.now result }
 {
-    if !is_ended(&known.rest) {
+    if !known.operands.is_empty() {
         return Err(StatementError::Fault(McCode::Mc3));
     }
     match one::<Id>(&known.first) {

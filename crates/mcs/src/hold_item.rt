@@ -2,9 +2,9 @@
 ghost use Rattle.std.specs.Prelude.{◌≡◌, List, All, IfOk, IfErr};
 ghost use Rattle.terms.specs.declared.statement_words.StatementWord.TheVariants as word;
 ghost use Rattle.terms.specs.Records.{IsRecord};
-ghost use Rattle.terms.specs.Statement.{Piece, HasSolid};
+ghost use Rattle.terms.specs.Statement.{Piece};
 ghost use Rattle.terms.specs.HoldFile.{IsGoodItem};
-ghost use Rattle.rec80.specs.Views.{left_of};
+ghost use Rattle.rec80.specs.Read.{IsRead};
 ghost use Rattle.mcs.specs.KnownWords.{own_list};
 ghost use Rattle.mcs.specs.Holds.{ArePrintable};
 ghost use Rattle.mcs.specs.HoldItems.{item_of, IsSaid, IsSaidError, IsItemError};
@@ -27,9 +27,9 @@ pub enum HoldItem {
 /// What a `++HOLD` says. Its hold is external.
 fn hold_item(alloc: Global, known: &Known<'_>) -> Result<HoldItem, StatementError>
     requires { known.now.word ≡ word.Hold }
-    ensures said { (rest : List Piece) → HasSolid (left_of known.now.rest) rest
+    ensures said { (rest : List Piece) → IsRead rest known.now.operands
         → IfOk result (λ item. IsSaid known.now.word (own_list known.now) rest (item_of item)) }
-    ensures fault { (rest : List Piece) → HasSolid (left_of known.now.rest) rest → ArePrintable rest
+    ensures fault { (rest : List Piece) → IsRead rest known.now.operands → ArePrintable rest
         → IfErr result (IsSaidError known.now.word (own_list known.now) rest) }
 {
     let hold = match hold_of_operands(alloc, known, false) {
@@ -45,9 +45,9 @@ fn hold_item(alloc: Global, known: &Known<'_>) -> Result<HoldItem, StatementErro
 /// What a `++RELEASE` says.
 fn release_item(known: &Known<'_>) -> Result<HoldItem, StatementError>
     requires { known.now.word ≡ word.Release }
-    ensures said { (rest : List Piece) → HasSolid (left_of known.now.rest) rest
+    ensures said { (rest : List Piece) → IsRead rest known.now.operands
         → IfOk result (λ item. IsSaid known.now.word (own_list known.now) rest (item_of item)) }
-    ensures fault { (rest : List Piece) → HasSolid (left_of known.now.rest) rest
+    ensures fault { (rest : List Piece) → IsRead rest known.now.operands
         → IfErr result (IsSaidError known.now.word (own_list known.now) rest) }
 {
     match release_of_operands(known) {
@@ -63,11 +63,11 @@ pub(crate) fn read_item(alloc: Global, group: &Group<'_>) -> Result<HoldItem, St
     ensures good { IfOk result (λ item. IsGoodItem group.now.records.now (item_of item)) }
     ensures fault { All IsRecord group.now.records.now → IfErr result (IsItemError group.now.records.now) }
 {
-    let known = match begun(group) {
+    let known = match begun(alloc, group) {
         Ok(known) => known,
-        Err(code) => return Err(StatementError::Fault(code)),
+        Err(error) => return Err(error),
     };
-    if !known.rest.inline.is_empty() {
+    if !known.inline.is_empty() {
         return Err(StatementError::Fault(McCode::Mc4));
     }
     match known.word {

@@ -1,21 +1,21 @@
 //! `++HOLD` and `++RELEASE`, whichever file they stand in.
 ghost use Rattle.std.specs.Prelude.{◌≡◌, ◌↔◌, List, IsTrue, IfOk, IfErr, IfSome, IfNone, OnErr};
 ghost use Rattle.terms.specs.Types.{Hold as AnyHold, Release as AnyRelease};
-ghost use Rattle.terms.specs.Statement.{Piece, HasSolid};
+ghost use Rattle.terms.specs.Statement.{Piece};
 ghost use Rattle.terms.specs.Words as grammar;
 ghost use Rattle.terms.specs.HoldStatements.{IsHoldOf, IsReleaseOf, HasShortComment};
-ghost use Rattle.rec80.specs.Views.{left_of};
-ghost use Rattle.operands.specs.Left.{LeavesWords};
-ghost use Rattle.operands.specs.Failing.{Excludes};
+ghost use Rattle.rec80.specs.Read.{IsRead};
+ghost use Rattle.rec80.specs.Views.{words_of};
+ghost use Rattle.rec80.specs.Failing.{Excludes};
 ghost use Rattle.mcs.specs.KnownWords.{own_list};
 ghost use Rattle.mcs.specs.Holds.{HasKey, ArePrintable};
 
 use crate::begin::Known;
 use crate::comment::optional_comment;
 use crate::kind::kind_word;
-use crate::values::{are_operands, required_reason};
+use crate::values::required_reason;
 use fields::{Class, HoldDate, Id, Reason};
-use operands::{BadOperand, OperandError, one, optional, required};
+use rec80::{BadOperand, OperandError, Word, one, optional, required};
 use std::alloc::Global;
 use std::marker::Model;
 use sysmod::Hold;
@@ -55,22 +55,20 @@ impl Model for Release {
 }
 
 /// The key of a hold and its FMID.
-fn read_key(known: &Known<'_>) -> Option<Release>
-    ensures some { (ws : List grammar.Word) → LeavesWords known.now.rest ws
-        → IfSome result (λ r. HasKey (own_list known.now) ws r) }
-    ensures none { (ws : List grammar.Word) → LeavesWords known.now.rest ws → IfNone result ((r : AnyRelease)
-        → HasKey (own_list known.now) ws r → ⊥) }
+fn read_key(known: &Known<'_>, words: &[Word<'_>]) -> Option<Release>
+    ensures some { IfSome result (λ r. HasKey (own_list known.now) (words_of words.now) r) }
+    ensures none { IfNone result ((r : AnyRelease) → HasKey (own_list known.now) (words_of words.now) r → ⊥) }
 {
     let Some(id) = one::<Id>(&known.first) else {
         return None;
     };
-    let Some(kind) = kind_word(&known.rest) else {
+    let Some(kind) = kind_word(words) else {
         return None;
     };
-    let Some(fmid) = required::<Id>(&known.rest, b"FMID") else {
+    let Some(fmid) = required::<Id>(words, b"FMID") else {
         return None;
     };
-    let Some(reason) = required_reason(kind, &known.rest, b"REASON") else {
+    let Some(reason) = required_reason(kind, words, b"REASON") else {
         return None;
     };
     Some(Release {
@@ -84,17 +82,17 @@ fn read_key(known: &Known<'_>) -> Option<Release>
 /// What a `++RELEASE` says. The error comes where an operand is unknown, comes twice, has not its form or is missing: a
 /// `++RELEASE` has an id, one of ERROR, SYSTEM and USER, FMID and REASON.
 pub fn release_of_operands(known: &Known<'_>) -> Result<Release, BadOperand>
-    ensures ok { (rest : List Piece) → HasSolid (left_of known.now.rest) rest
+    ensures ok { (rest : List Piece) → IsRead rest known.now.operands
         → IfOk result (λ r. (ws : List grammar.Word) × grammar.HasWords rest ws
         × IsReleaseOf (own_list known.now) ws r) }
-    ensures bad { (rest : List Piece) → HasSolid (left_of known.now.rest) rest
+    ensures bad { (rest : List Piece) → IsRead rest known.now.operands
         → OnErr result ((ws : List grammar.Word) (r : AnyRelease) → grammar.HasWords rest ws
         → IsReleaseOf (own_list known.now) ws r → ⊥) }
 {
-    if !are_operands(&known.rest, RELEASE_OPERANDS) {
+    let Some(words) = known.operands.named(RELEASE_OPERANDS) else {
         return Err(BadOperand);
-    }
-    match read_key(known) {
+    };
+    match read_key(known, words) {
         Some(release) => Ok(release),
         None => Err(BadOperand),
     }
@@ -108,26 +106,26 @@ pub fn hold_of_operands(
     known: &Known<'_>,
     internal: bool,
 ) -> Result<Hold, OperandError>
-    ensures ok { (rest : List Piece) → HasSolid (left_of known.now.rest) rest
+    ensures ok { (rest : List Piece) → IsRead rest known.now.operands
         → IfOk result (λ h. (ws : List grammar.Word) × grammar.HasWords rest ws × IsHoldOf (own_list known.now) ws h) }
     ensures internal { IfOk result (λ h. h.internal ≡ internal) }
-    ensures bad { (rest : List Piece) → HasSolid (left_of known.now.rest) rest → ArePrintable rest
+    ensures bad { (rest : List Piece) → IsRead rest known.now.operands → ArePrintable rest
         → IfErr result (λ e. Excludes e ((ws : List grammar.Word) × (h : AnyHold) × grammar.HasWords rest ws
         × IsHoldOf (own_list known.now) ws h)) }
 {
-    if !are_operands(&known.rest, HOLD_OPERANDS) {
-        return Err(OperandError::Bad);
-    }
-    let Some(key) = read_key(known) else {
+    let Some(words) = known.operands.named(HOLD_OPERANDS) else {
         return Err(OperandError::Bad);
     };
-    let Ok(class) = optional::<Class>(&known.rest, b"CLASS") else {
+    let Some(key) = read_key(known, words) else {
         return Err(OperandError::Bad);
     };
-    let Ok(date) = optional::<HoldDate>(&known.rest, b"DATE") else {
+    let Ok(class) = optional::<Class>(words, b"CLASS") else {
         return Err(OperandError::Bad);
     };
-    let comment = match optional_comment(alloc, &known.rest, b"COMMENT") {
+    let Ok(date) = optional::<HoldDate>(words, b"DATE") else {
+        return Err(OperandError::Bad);
+    };
+    let comment = match optional_comment(alloc, words, b"COMMENT") {
         Ok(comment) => comment,
         Err(error) => return Err(error),
     };

@@ -4,10 +4,10 @@ ghost use Rattle.terms.specs.declared.statement_words.StatementWord.TheVariants 
 ghost use Rattle.terms.specs.declared.kinds.HoldKind.TheVariants.{System};
 ghost use Rattle.terms.specs.Types.{Hold as AnyHold};
 ghost use Rattle.terms.specs.Words as grammar;
-ghost use Rattle.terms.specs.Statement.{Piece, HasSolid};
+ghost use Rattle.terms.specs.Statement.{Piece};
 ghost use Rattle.terms.specs.Statements.{IsOwnHoldOf};
-ghost use Rattle.operands.specs.Failing.{Excludes};
-ghost use Rattle.rec80.specs.Views.{left_of};
+ghost use Rattle.rec80.specs.Failing.{Excludes};
+ghost use Rattle.rec80.specs.Read.{IsRead};
 ghost use Rattle.mcs.specs.KnownWords.{own_list};
 ghost use Rattle.mcs.specs.Holds.{ArePrintable};
 ghost use Rattle.mcs.specs.Said.{Says, FailsPrintable};
@@ -17,7 +17,7 @@ use crate::fault::{StatementError, no_value};
 use crate::file::Begun;
 use crate::hold_operands::{has_short_comment, hold_of_operands};
 use crate::said::Statement;
-use operands::OperandError;
+use rec80::OperandError;
 use std::alloc::Global;
 use sysmod::{Hold, Sysmod};
 use terms::{HoldKind, McCode};
@@ -31,10 +31,10 @@ fn is_own(sysmod: &Sysmod, hold: &Hold) -> bool
 
 /// The `++HOLD` of the SYSMOD.
 fn read_own_hold(alloc: Global, sysmod: &Sysmod, known: &Known<'_>) -> Result<Hold, OperandError>
-    ensures ok { (rest : List Piece) → HasSolid (left_of known.now.rest) rest
+    ensures ok { (rest : List Piece) → IsRead rest known.now.operands
         → IfOk result (λ h. (ws : List grammar.Word) × grammar.HasWords rest ws
         × IsOwnHoldOf sysmod.now (own_list known.now) ws h) }
-    ensures bad { (rest : List Piece) → HasSolid (left_of known.now.rest) rest → ArePrintable rest
+    ensures bad { (rest : List Piece) → IsRead rest known.now.operands → ArePrintable rest
         → IfErr result (λ e. Excludes e ((h : AnyHold) × ((ws : List grammar.Word) × grammar.HasWords rest ws
         × IsOwnHoldOf sysmod.now (own_list known.now) ws h))) }
 {

@@ -1,26 +1,23 @@
 //! `++IF`.
-ghost use Rattle.std.specs.Prelude.{◌≡◌, ◌↔◌, ◌<◌, List, [], ◌∷◌, length, codes, IsTrue, IfOk, IfErr, IfSome, IfNone};
+ghost use Rattle.std.specs.Prelude.{◌≡◌, ◌≢◌, ◌↔◌, ◌<◌, [], ◌∷◌, length, codes, IsTrue, IfOk, IfErr, IfSome, IfNone};
 ghost use Rattle.std.specs.Prelude.{option_copied};
 ghost use Rattle.terms.specs.declared.statement_words.StatementWord.TheVariants as word;
 ghost use Rattle.terms.specs.Types.{IfReq as AnyIf};
 ghost use Rattle.terms.specs.Words as grammar;
-ghost use Rattle.terms.specs.Statement.{Piece, HasSolid};
 ghost use Rattle.terms.specs.Statements.{IsIfOf};
 ghost use Rattle.terms.specs.Ptfin.{last_of};
-ghost use Rattle.operands.specs.Failing.{Excludes};
-ghost use Rattle.rec80.specs.Views.{left_of, word_of};
+ghost use Rattle.rec80.specs.Failing.{Excludes};
+ghost use Rattle.rec80.specs.Views.{word_of, words_of};
 ghost use Rattle.mcs.specs.KnownWords.{own_list};
 ghost use Rattle.mcs.specs.Files.{begun_of};
 ghost use Rattle.mcs.specs.Said.{Says, Fails};
 
 use crate::begin::Known;
-use crate::ended::is_ended;
 use crate::fault::{StatementError, no_value};
 use crate::file::Begun;
 use crate::said::Statement;
 use fields::Id;
-use operands::{OperandError, ids, one};
-use rec80::{Word, Words};
+use rec80::{OperandError, Word, ids, one};
 use std::alloc::Global;
 use sysmod::{IfReq, Sysmod, Ver};
 use terms::McCode;
@@ -32,25 +29,15 @@ fn is_named(word: &Word<'_>, name: &[u8]) -> bool
     word.word == name
 }
 
-/// Takes the next word, where it is this one.
-fn take_named<'a>(words: &mut Words<'a>, name: &[u8]) -> Option<Word<'a>>
-    ensures some { (pieces : List Piece) → HasSolid (left_of words.old) pieces
-        → IfSome result (λ w. ((word_of w).word ≡ name.now) × ((rest : List Piece)
-        × grammar.TakesWord pieces (word_of w) rest × HasSolid (left_of words.new) rest)) }
-    ensures none { (pieces : List Piece) → HasSolid (left_of words.old) pieces
-        → IfNone result ((w : grammar.Word) (ws : List grammar.Word) → w.word ≡ name.now
-        → grammar.HasWords pieces (w ∷ ws) → ⊥) }
+/// The words, where there are three.
+fn three<'a>(words: &[Word<'a>]) -> Option<(Word<'a>, Word<'a>, Word<'a>)>
+    ensures some { IfSome result (λ x. words.now ≡ x.0 ∷ x.1 ∷ x.2 ∷ []) }
+    ensures none { IfNone result (length words.now ≢ 3) }
 {
-    let Ok(found) = words.next_word() else {
-        return None;
-    };
-    let Some(word) = found else {
-        return None;
-    };
-    if !is_named(&word, name) {
-        return None;
+    match words {
+        [first, second, third] => Some((*first, *second, *third)),
+        _ => None,
     }
-    Some(word)
 }
 
 /// The words of an `++IF` that have a list.
@@ -60,48 +47,48 @@ struct Lists<'a> {
     req: Word<'a>,
 }
 
-/// FMID, THEN and REQ, in this order.
-fn read_lists<'a>(words: &Words<'a>) -> Option<Lists<'a>>
-    ensures some { (pieces : List Piece) → HasSolid (left_of words.now) pieces
-        → IfSome result (λ l.
-        grammar.HasWords pieces (word_of l.fmid ∷ grammar.plain (codes "THEN") ∷ word_of l.req ∷ [])
+/// FMID, THEN and REQ, in this order, and nothing else.
+fn read_lists<'a>(words: &[Word<'a>]) -> Option<Lists<'a>>
+    ensures some { IfSome result (λ l. (words_of words.now
+        ≡ word_of l.fmid ∷ grammar.plain (codes "THEN") ∷ word_of l.req ∷ [])
         × ((word_of l.fmid).word ≡ codes "FMID") × ((word_of l.req).word ≡ codes "REQ")) }
-    ensures none { (pieces : List Piece) → HasSolid (left_of words.now) pieces
-        → IfNone result ((fmid req : grammar.Word) → fmid.word ≡ codes "FMID" → req.word ≡ codes "REQ"
-        → grammar.HasWords pieces (fmid ∷ grammar.plain (codes "THEN") ∷ req ∷ []) → ⊥) }
+    ensures none { IfNone result ((fmid req : grammar.Word) → fmid.word ≡ codes "FMID" → req.word ≡ codes "REQ"
+        → words_of words.now ≡ fmid ∷ grammar.plain (codes "THEN") ∷ req ∷ [] → ⊥) }
 {
-    let mut left = *words;
-    let Some(fmid) = take_named(&mut left, b"FMID") else {
+    let Some(found) = three(words) else {
         return None;
     };
-    let Some(then) = take_named(&mut left, b"THEN") else {
+    let (fmid, then, req) = found;
+    if !is_named(&fmid, b"FMID") {
         return None;
-    };
-    let Some(req) = take_named(&mut left, b"REQ") else {
+    }
+    if !is_named(&then, b"THEN") {
         return None;
-    };
+    }
     if then.list.is_some() {
         return None;
     }
-    if !is_ended(&left) {
+    if !is_named(&req, b"REQ") {
         return None;
     }
     Some(Lists { fmid, req })
 }
 
-/// The `++IF`.
-fn read_if(alloc: Global, sysmod: &Sysmod, known: &Known<'_>) -> Result<IfReq, OperandError>
-    ensures ok { (rest : List Piece) → HasSolid (left_of known.now.rest) rest
-        → IfOk result (λ i. (ws : List grammar.Word) × grammar.HasWords rest ws
-        × IsIfOf sysmod.now (own_list known.now) ws i) }
-    ensures bad { (rest : List Piece) → HasSolid (left_of known.now.rest) rest
-        → IfErr result (λ e. Excludes e ((i : AnyIf) × ((ws : List grammar.Word) × grammar.HasWords rest ws
-        × IsIfOf sysmod.now (own_list known.now) ws i))) }
+/// The `++IF` of these words.
+fn read_if(
+    alloc: Global,
+    sysmod: &Sysmod,
+    known: &Known<'_>,
+    words: &[Word<'_>],
+) -> Result<IfReq, OperandError>
+    ensures ok { IfOk result (λ i. IsIfOf sysmod.now (own_list known.now) (words_of words.now) i) }
+    ensures bad { IfErr result (λ e. Excludes e ((i : AnyIf)
+        × IsIfOf sysmod.now (own_list known.now) (words_of words.now) i)) }
 {
     if known.first.list.is_some() {
         return Err(OperandError::Bad);
     }
-    let Some(lists) = read_lists(&known.rest) else {
+    let Some(lists) = read_lists(words) else {
         return Err(OperandError::Bad);
     };
     let Some(function) = one::<Id>(&lists.fmid) else {
@@ -158,7 +145,10 @@ pub fn if_statement(
     let Some(begun) = current else {
         return Err(StatementError::Fault(McCode::Mc3));
     };
-    let condition = match read_if(alloc, &begun.sysmod, known) {
+    let Some(words) = known.operands.only() else {
+        return Err(StatementError::Fault(McCode::Mc3));
+    };
+    let condition = match read_if(alloc, &begun.sysmod, known, words) {
         Ok(condition) => condition,
         Err(error) => return Err(no_value(error)),
     };

@@ -1,13 +1,11 @@
 //! The kind of a hold.
-ghost use Rattle.std.specs.Prelude.{◌≡◌, List, IfSome, IfNone};
+ghost use Rattle.std.specs.Prelude.{◌≡◌, IfSome, IfNone};
 ghost use Rattle.terms.specs.declared.kinds.HoldKind.{HoldKind as AnyKind};
-ghost use Rattle.terms.specs.Words as grammar;
 ghost use Rattle.terms.specs.HoldStatements.{HasKind};
-ghost use Rattle.operands.specs.Left.{LeavesWords};
+ghost use Rattle.rec80.specs.Views.{words_of};
 ghost use Rattle.mcs.specs.Holds.{kind_from};
 
-use operands::{flag, operand};
-use rec80::Words;
+use rec80::{Word, flag, operand};
 use terms::HoldKind;
 
 /// The kind whose word alone is there.
@@ -23,10 +21,10 @@ fn kind_from(error: bool, system: bool, user: bool) -> Option<HoldKind>
 }
 
 /// The kind of a hold, whose word stands among the operands.
-pub fn kind_word(words: &Words<'_>) -> Option<HoldKind>
-    ensures some { (ws : List grammar.Word) → LeavesWords words.now ws → IfSome result (λ kind. HasKind ws kind) }
-    ensures none { (ws : List grammar.Word) → LeavesWords words.now ws → IfNone result ((kind : AnyKind)
-        → HasKind ws kind → ⊥) }
+pub fn kind_word(words: &[Word<'_>]) -> Option<HoldKind>
+    ensures some { IfSome result (λ kind. HasKind (words_of words.now) kind) }
+    ensures none { IfNone result ((kind : AnyKind)
+        → HasKind (words_of words.now) kind → ⊥) }
 {
     let Ok(error) = flag(&operand(words, b"ERROR")) else {
         return None;

@@ -10,7 +10,6 @@ mod assign;
 mod begin;
 mod change;
 mod comment;
-mod ended;
 mod error;
 mod fault;
 mod file;

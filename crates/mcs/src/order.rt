@@ -3,17 +3,16 @@ ghost use Rattle.std.specs.Prelude.{◌≡◌, ◌↔◌, ◌⊎◌, ℕ, List, 
 ghost use Rattle.terms.specs.declared.statement_words.StatementWord.TheVariants as word;
 ghost use Rattle.terms.specs.declared.kinds.Kind.TheVariants.{Function};
 ghost use Rattle.terms.specs.Statements.{changed_type};
-ghost use Rattle.terms.specs.Statement.{Piece, HasSolid};
+ghost use Rattle.terms.specs.Statement.{Piece};
 ghost use Rattle.terms.specs.Ptfin.{MayStand, NamesFmid, IsSecond, IsUpdateWord, Disorder, IsMisplaced, sysmod_in};
-ghost use Rattle.rec80.specs.Views.{left_of};
+ghost use Rattle.rec80.specs.Read.{IsRead};
 ghost use Rattle.mcs.specs.KnownWords.{own_list};
 ghost use Rattle.mcs.specs.Files.{begun_in};
 
 use crate::begin::Known;
 use crate::file::Begun;
 use fields::{Id, Name, Srel};
-use operands::{any_twice, list_behind, one};
-use rec80::{Record, Word, Words};
+use rec80::{Operands, Record, Word, one};
 use sysmod::{Sysmod, Ver};
 use terms::{ElemType, Kind, StatementWord};
 
@@ -71,16 +70,16 @@ fn may_stand(current: &Option<Begun>, word: StatementWord) -> bool
 /// The operand that names an FMID where it stands once.
 const FMID: &[&[u8]] = &[b"FMID"];
 
-/// The id that FMID names, whatever else stands among the words.
-fn named_fmid(words: &Words<'_>) -> Option<Id>
-    ensures some { (rest : List Piece) → HasSolid (left_of words.now) rest → IfSome result (NamesFmid rest) }
-    ensures none { (rest : List Piece) → HasSolid (left_of words.now) rest
+/// The id that FMID names, whatever else stands among the operands.
+fn named_fmid(operands: &Operands<'_>) -> Option<Id>
+    ensures some { (rest : List Piece) → IsRead rest operands.now → IfSome result (NamesFmid rest) }
+    ensures none { (rest : List Piece) → IsRead rest operands.now
         → IfNone result ((fmid : List ℕ) → NamesFmid rest fmid → ⊥) }
 {
-    if any_twice(FMID, words) {
+    if operands.has_twice(FMID) {
         return None;
     }
-    let list = list_behind(words, b"FMID");
+    let list = operands.list_behind(b"FMID");
     one::<Id>(&Word {
         word: b"FMID",
         list,
@@ -116,11 +115,11 @@ fn has_like(kind: Kind, vers: &[Ver], srel: Srel, named: Option<Id>) -> bool
 /// Whether it is a second `++VER` of one SREL in a function, or of one SREL and FMID in another SYSMOD.
 fn is_second_ver(sysmod: &Sysmod, known: &Known<'_>) -> bool
     requires { known.now.word ≡ word.Ver }
-    ensures { (rest : List Piece) → HasSolid (left_of known.now.rest) rest
+    ensures { (rest : List Piece) → IsRead rest known.now.operands
         → IsTrue result ↔ IsSecond sysmod.now known.now.word (own_list known.now) rest }
 {
     match one::<Srel>(&known.first) {
-        Some(srel) => has_like(sysmod.kind, &sysmod.vers, srel, named_fmid(&known.rest)),
+        Some(srel) => has_like(sysmod.kind, &sysmod.vers, srel, named_fmid(&known.operands)),
         None => false,
     }
 }
@@ -138,7 +137,7 @@ fn is_second_change(sysmod: &Sysmod, elem_type: ElemType, known: &Known<'_>) -> 
 
 /// Whether it is a second `++VER`, or a second change of one element.
 fn is_second(sysmod: &Sysmod, known: &Known<'_>) -> bool
-    ensures { (rest : List Piece) → HasSolid (left_of known.now.rest) rest
+    ensures { (rest : List Piece) → IsRead rest known.now.operands
         → IsTrue result ↔ IsSecond sysmod.now known.now.word (own_list known.now) rest }
 {
     if matches!(known.word, StatementWord::Ver) {
@@ -160,9 +159,9 @@ fn is_update_in_function(sysmod: &Sysmod, word: StatementWord) -> bool
 
 /// Whether the statement is out of order behind the statements so far.
 pub fn is_misplaced(current: &Option<Begun>, later: &[Record], known: &Known<'_>) -> bool
-    ensures { (rest : List Piece) → HasSolid (left_of known.now.rest) rest → IsTrue result ↔ ((why : Disorder)
+    ensures { (rest : List Piece) → IsRead rest known.now.operands → IsTrue result ↔ ((why : Disorder)
         × IsMisplaced (sysmod_in (begun_in current.now)) later.now known.now.word (own_list known.now) rest
-        known.now.rest.inline.now why) }
+        known.now.inline.now why) }
 {
     if !may_stand(current, known.word) {
         return true;
@@ -171,7 +170,7 @@ pub fn is_misplaced(current: &Option<Begun>, later: &[Record], known: &Known<'_>
     if is_header && later.is_empty() {
         return true;
     }
-    if changed_type(known.word).is_none() && !known.rest.inline.is_empty() {
+    if changed_type(known.word).is_none() && !known.inline.is_empty() {
         return true;
     }
     match current {

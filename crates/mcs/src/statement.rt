@@ -59,9 +59,9 @@ pub fn read_statement(
     ensures fault { All IsRecord group.now.records.now
         → IfErr result (IsStatementError (begun_in current.now) later.now group.now.records.now) }
 {
-    let known = match begun(group) {
+    let known = match begun(alloc, group) {
         Ok(known) => known,
-        Err(code) => return Err(StatementError::Fault(code)),
+        Err(error) => return Err(error),
     };
     if is_misplaced(current, later, &known) {
         return Err(StatementError::Fault(McCode::Mc4));

@@ -4,12 +4,11 @@ ghost use Rattle.terms.specs.declared.statement_words.StatementWord.TheVariants 
 ghost use Rattle.terms.specs.Types.{Ver as AnyVer};
 ghost use Rattle.std.specs.List.{list_all};
 ghost use Rattle.terms.specs.Lookups.{is_in};
-ghost use Rattle.terms.specs.Words as grammar;
 ghost use Rattle.terms.specs.Statements.{IsVerOf, SuitsKind, ver_operands, lists_of};
 ghost use Rattle.terms.specs.Operands.{AreOperands};
 ghost use Rattle.terms.specs.Words.{IsShort};
-ghost use Rattle.operands.specs.Left.{LeavesWords};
-ghost use Rattle.operands.specs.Failing.{Excludes};
+ghost use Rattle.rec80.specs.Views.{words_of};
+ghost use Rattle.rec80.specs.Failing.{Excludes};
 ghost use Rattle.mcs.specs.KnownWords.{own_list};
 ghost use Rattle.mcs.specs.VerOperands.{HasLists};
 ghost use Rattle.mcs.specs.Said.{Says, Fails};
@@ -18,10 +17,9 @@ use crate::begin::Known;
 use crate::fault::{StatementError, no_value};
 use crate::file::Begun;
 use crate::said::Statement;
-use crate::values::{are_operands, listed_ids};
+use crate::values::listed_ids;
 use fields::{Id, IdList, Srel};
-use operands::{OperandError, one, operand, optional};
-use rec80::Words;
+use rec80::{OperandError, Word, one, operand, optional};
 use std::alloc::Global;
 use sysmod::{Sysmod, Ver};
 use terms::{Kind, McCode};
@@ -30,8 +28,8 @@ use terms::{Kind, McCode};
 const OPERANDS: &[&[u8]] = &[b"FMID", b"PRE", b"REQ", b"SUP", b"NPRE", b"DELETE"];
 
 /// Whether the operands are those of a SYSMOD of the kind.
-fn suits_kind(kind: Kind, words: &Words<'_>) -> bool
-    ensures { (ws : List grammar.Word) → LeavesWords words.now ws → IsTrue result ↔ SuitsKind kind ws }
+fn suits_kind(kind: Kind, words: &[Word<'_>]) -> bool
+    ensures { IsTrue result ↔ SuitsKind kind (words_of words.now) }
 {
     match kind {
         Kind::Function => true,
@@ -81,11 +79,11 @@ fn has_fmid(ver: &Ver, id: Id) -> bool
     }
 }
 
-fn read_lists(alloc: Global, words: &Words<'_>) -> Result<VerLists, OperandError>
-    ensures ok { (ws : List grammar.Word) → LeavesWords words.now ws
-        → IfOk result (λ lists. HasLists ws lists.pre lists.req lists.sup lists.npre lists.del) }
-    ensures bad { (ws : List grammar.Word) → LeavesWords words.now ws
-        → IfErr result (λ e. Excludes e ((pre req sup npre del : List (List ℕ)) × HasLists ws pre req sup npre del)) }
+fn read_lists(alloc: Global, words: &[Word<'_>]) -> Result<VerLists, OperandError>
+    ensures ok { IfOk result (λ lists. HasLists (words_of words.now) lists.pre lists.req lists.sup lists.npre
+        lists.del) }
+    ensures bad { IfErr result (λ e. Excludes e ((pre req sup npre del : List (List ℕ))
+        × HasLists (words_of words.now) pre req sup npre del)) }
 {
     let pre = listed_ids(alloc, words, b"PRE")?;
     let req = listed_ids(alloc, words, b"REQ")?;
@@ -132,24 +130,29 @@ fn made_of(alloc: Global, srel: Srel, fmid: Option<Id>, lists: VerLists) -> Ver
     }
 }
 
-/// The `++VER`, whose operands are known ones.
-fn read_ver(alloc: Global, sysmod: &Sysmod, known: &Known<'_>) -> Result<Ver, OperandError>
-    ensures ok { (ws : List grammar.Word) → LeavesWords known.now.rest ws → AreOperands ver_operands ws
-        → IfOk result (λ v. IsVerOf sysmod.now (own_list known.now) ws v) }
-    ensures bad { (ws : List grammar.Word) → LeavesWords known.now.rest ws
-        → IfErr result (λ e. Excludes e ((v : AnyVer) × IsVerOf sysmod.now (own_list known.now) ws v)) }
+/// The `++VER` of these operands, which are known ones.
+fn read_ver(
+    alloc: Global,
+    sysmod: &Sysmod,
+    known: &Known<'_>,
+    words: &[Word<'_>],
+) -> Result<Ver, OperandError>
+    requires { AreOperands ver_operands (words_of words.now) }
+    ensures ok { IfOk result (λ v. IsVerOf sysmod.now (own_list known.now) (words_of words.now) v) }
+    ensures bad { IfErr result (λ e. Excludes e ((v : AnyVer)
+        × IsVerOf sysmod.now (own_list known.now) (words_of words.now) v)) }
 {
     let Some(srel) = one::<Srel>(&known.first) else {
         return Err(OperandError::Bad);
     };
-    if !suits_kind(sysmod.kind, &known.rest) {
+    if !suits_kind(sysmod.kind, words) {
         return Err(OperandError::Bad);
     }
-    let fmid = match optional::<Id>(&known.rest, b"FMID") {
+    let fmid = match optional::<Id>(words, b"FMID") {
         Ok(fmid) => fmid,
         Err(_) => return Err(OperandError::Bad),
     };
-    let lists = match read_lists(alloc, &known.rest) {
+    let lists = match read_lists(alloc, words) {
         Ok(lists) => lists,
         Err(error) => return Err(error),
     };
@@ -197,10 +200,10 @@ pub fn ver_statement(
     let Some(begun) = current else {
         return Err(StatementError::Fault(McCode::Mc3));
     };
-    if !are_operands(&known.rest, OPERANDS) {
+    let Some(words) = known.operands.named(OPERANDS) else {
         return Err(StatementError::Fault(McCode::Mc3));
-    }
-    let ver = match read_ver(alloc, &begun.sysmod, known) {
+    };
+    let ver = match read_ver(alloc, &begun.sysmod, known, words) {
         Ok(ver) => ver,
         Err(error) => return Err(no_value(error)),
     };

@@ -4,19 +4,46 @@ use fields::{Id, IdList, Name};
 use rec80::Record;
 use std::alloc::{AllocError, Global};
 
-/// A record with this text.
-pub(crate) fn record(card: &str) -> Record {
+/// A record with this text, in which a tab leads to column 73.
+pub(crate) fn record(text: &str) -> Record {
     let mut record = [b' '; 80];
-    for (place, letter) in record.iter_mut().zip(card.as_bytes()) {
-        *place = *letter;
+    let mut column: usize = 0;
+    for letter in text.as_bytes() {
+        if *letter == b'\t' {
+            column = 72;
+        } else if let Some(place) = record.get_mut(column) {
+            *place = *letter;
+            column = column.saturating_add(1);
+        }
     }
     record
 }
 
-/// The records of a file.
-pub(crate) fn file(alloc: Global, cards: &[&str]) -> Result<Vec<u8>, AllocError> {
+fn put_records(bytes: &mut Vec<u8>, text: &str) -> Result<(), AllocError> {
+    for line in text.split('\n') {
+        bytes.extend_from_slice(&record(line))?;
+    }
+    Ok(())
+}
+
+/// The records of a file, one for each line of these texts. A tab leads to column 73.
+pub(crate) fn file(alloc: Global, texts: &[&str]) -> Result<Vec<u8>, AllocError> {
     let mut bytes = Vec::new(alloc);
-    for card in cards {
+    for text in texts {
+        put_records(&mut bytes, text)?;
+    }
+    Ok(bytes)
+}
+
+/// The cards of a case, with a bar between two, and what is wanted of them, which stands behind an arrow.
+pub(crate) fn case(line: &str) -> Result<(&str, &str), &'static str> {
+    line.split_once(" => ").ok_or("no arrow in a case")
+}
+
+/// The records of a file of these cards, with a bar between two.
+pub(crate) fn file_of(alloc: Global, cards: &str) -> Result<Vec<u8>, AllocError> {
+    let mut bytes = Vec::new(alloc);
+    for card in cards.split('|') {
         bytes.extend_from_slice(&record(card))?;
     }
     Ok(bytes)

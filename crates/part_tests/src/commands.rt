@@ -1,25 +1,25 @@
 //! Operands and command files.
 
-use crate::cards::{Spelled, file, record};
+use crate::cards::{Spelled, case, file_of, record};
 use cntl::{CntlError, Command, Install, read_cntl};
 use fields::spelling::cn_text;
 use fields::{Bypass, Reasons, ReceiveWhat, RestoreList, Source, ZoneName};
-use operands::{flag, ids, one, operand, rising};
-use rec80::{Record, Records, Word};
+use rec80::{Record, Records, Word, flag, ids, one, operand, rising};
 use std::alloc::{AllocError, Global};
 use std::test::Fail;
 
 /// The operand of this name in the first command.
-fn operand_in<'a>(cards: &'a [Record], name: &[u8]) -> Option<Word<'a>> {
+fn operand_in<'a>(alloc: Global, cards: &'a [Record], name: &[u8]) -> Option<Word<'a>> {
     let mut commands = Records { all: cards }.commands();
     let command = commands.next_command().ok()??;
-    operand(&command.words, name)
+    let operands = command.words.operands(alloc).ok()?;
+    operand(operands.only()?, name)
 }
 
 /// The ids of the operand.
 fn ids_in(alloc: Global, cards: &[Record], name: &[u8]) -> Spelled {
     let mut spelled = Spelled::new();
-    let Some(word) = operand_in(cards, name) else {
+    let Some(word) = operand_in(alloc, cards, name) else {
         return spelled;
     };
     match ids(alloc, &word) {
@@ -37,7 +37,7 @@ fn put_sources(spelled: &mut Spelled, sources: &[Source]) {
 
 fn sources_in(alloc: Global, cards: &[Record], name: &[u8]) -> Spelled {
     let mut spelled = Spelled::new();
-    let Some(word) = operand_in(cards, name) else {
+    let Some(word) = operand_in(alloc, cards, name) else {
         return spelled;
     };
     match rising::<Source>(alloc, &word) {
@@ -48,9 +48,9 @@ fn sources_in(alloc: Global, cards: &[Record], name: &[u8]) -> Spelled {
 }
 
 /// What the operand is without a list, and the name of a zone that is all its list has.
-fn flag_in(cards: &[Record], name: &[u8]) -> Spelled {
+fn flag_in(alloc: Global, cards: &[Record], name: &[u8]) -> Spelled {
     let mut spelled = Spelled::new();
-    let found = operand_in(cards, name);
+    let found = operand_in(alloc, cards, name);
     spelled.put(match flag(&found) {
         Ok(true) => b"there",
         Ok(false) => b"none",
@@ -65,7 +65,7 @@ fn flag_in(cards: &[Record], name: &[u8]) -> Spelled {
 }
 
 #[test]
-fn operands(rt: HostRuntime) {
+fn operands_are_found_by_name(rt: HostRuntime) {
     let cards = [
         record("APPLY SELECT(UA00002, UA00001) SOURCEID( B A ) CHECK"),
         record(" GROUP(UA00001,UA00002,UA00001) BDY(T)."),
@@ -77,159 +77,104 @@ fn operands(rt: HostRuntime) {
     );
     assert_eq!(rt; ids_in(alloc, &cards, b"GROUP").text(), "bad");
     assert_eq!(rt; sources_in(alloc, &cards, b"SOURCEID").text(), "AB");
-    assert_eq!(rt; flag_in(&cards, b"CHECK").text(), "there");
-    assert_eq!(rt; flag_in(&cards, b"TEXT").text(), "none");
-    assert_eq!(rt; flag_in(&cards, b"GROUP").text(), "list ");
-    assert_eq!(rt; flag_in(&cards, b"BDY").text(), "list T");
+    assert_eq!(rt; flag_in(alloc, &cards, b"CHECK").text(), "there");
+    assert_eq!(rt; flag_in(alloc, &cards, b"TEXT").text(), "none");
+    assert_eq!(rt; flag_in(alloc, &cards, b"GROUP").text(), "list ");
+    assert_eq!(rt; flag_in(alloc, &cards, b"BDY").text(), "list T");
 }
 
-/// Two cards, and their commands, or the record and the code of the first fault.
-const FILES: &[[&str; 3]] = &[
-    ["", "", ""],
-    ["SET BDY(GLOBAL).", "", "SET GLOBAL all;"],
-    ["SET BDY(TGT1).", "APPLY CHECK.", "SET TGT1;APPLY CHECK;"],
-    [
-        "APPLY SELECT(UA00002,",
-        "UA00001) PTFS GROUPEXTEND.",
-        "APPLY PTFS EXTEND SELECT(UA00001 UA00002 );",
-    ],
-    [
-        "REJECT SELECT(UA00003 UA00001).",
-        "",
-        "REJECT SELECT(UA00001 UA00003 );",
-    ],
-    ["RECEIVE.", "", "RECEIVE SYSMODS HOLDDATA;"],
-    [
-        "RECEIVE SOURCEID(PUT2401).",
-        "",
-        "RECEIVE SYSMODS HOLDDATA PUT2401;",
-    ],
-    ["RECEIVE SOURCEID(A).", "", "RECEIVE SYSMODS HOLDDATA A;"],
-    [
-        "RECEIVE SOURCEID(PUT2401$).",
-        "",
-        "RECEIVE SYSMODS HOLDDATA PUT2401$;",
-    ],
-    [
-        "RECEIVE SOURCEID(",
-        "PUT2401$RSU2404#PUT2401$RSU2404#PUT2401$RSU2404#PUT2401$RSU2404#).",
-        "RECEIVE SYSMODS HOLDDATA PUT2401$RSU2404#PUT2401$RSU2404#PUT2401$RSU2404#PUT2401$RSU2404#;",
-    ],
-    [
-        "RECEIVE SOURCEID(",
-        "PUT2401$RSU2404#PUT2401$RSU2404#PUT2401$RSU2404#PUT2401$RSU2404#A).",
-        "1 Cn2",
-    ],
-    ["RECEIVE HOLDDATA SYSMODS.", "", "RECEIVE SYSMODS HOLDDATA;"],
-    ["RECEIVE SYSMODS.", "", "RECEIVE SYSMODS;"],
-    ["RECEIVE HOLDDATA.", "", "RECEIVE HOLDDATA;"],
-    [" , RECEIVE /* , */ ,(A).", "", "1 Cn2"],
-    ["RECEIVE SYSMODS SYSMODS.", "", "1 Cn3"],
-    ["RECEIVE SYSMODS(A).", "", "1 Cn2"],
-    ["RECEIVE SOURCEID(A B).", "", "1 Cn2"],
-    ["RECEIVE SELECT(UA00001).", "", "1 Cn2"],
-    ["REJECT SELECT(UA00001).", "REJECT.", "2 Cn2"],
-    ["REJECT SELECT.", "", "1 Cn2"],
-    ["REJECT GROUP(UA00001).", "", "1 Cn2"],
-    ["REJECT SELECT(UA00001) CHECK.", "", "1 Cn2"],
-    ["REJECT SELECT(UA00001) SELECT(UA00002).", "", "1 Cn3"],
-    ["SET BDY(TGT1).", "APPLY!.", "2 Cn2"],
-    ["SET BDY(1).", "", "1 Cn2"],
-    ["SET BDY(A) BDY.", "", "1 Cn3"],
-    ["APPLY CHECK - CHECK.", "", "1 Cn3"],
-    ["APPLY NEW NEW.", "", "1 Cn2"],
-    ["APPLY SELECT(UA00001 UA00001).", "", "1 Cn2"],
-    ["APPLY SELECT(UA0001).", "", "1 Cn2"],
-    ["APPLY SELECT.", "", "1 Cn2"],
-    ["APPLY CHECK(A).", "", "1 Cn2"],
-    ["APPLY(A) CHECK.", "", "1 Cn2"],
-    ["/* between", "*/ APPLY NO.", "2 Cn2"],
-    ["UNDO NO.", "LIST", "1 Cn1"],
-    [".", "", "1 Cn1"],
-    ["(APPLY).", "", "1 Cn1"],
-    ["APPLY. APPLY.", "", "1 Cn5"],
-    ["APPLY.", "/* open", "2 Cn5"],
-    ["APPLY.", "APPLY NO", "2 Cn5"],
-    [
-        "APPLY BYPASS(PRE,REQ IFREQ , ID",
-        "HOLDUSER,HOLDSYSTEM) CHECK.",
-        "APPLY CHECK PRE REQ IFREQ ID HOLDSYSTEM HOLDUSER;",
-    ],
-    [
-        "APPLY BYPASS(HOLDERROR (AA00002,AA00001)",
-        " HOLDSYSTEM(DOC A),HOLDUSER(PRE REQ),PRE HOLDCLASS(C B)).",
-        "APPLY PRE HOLDERROR(AA00001 AA00002 ) HOLDSYSTEM(A DOC ) HOLDUSER(PRE REQ ) HOLDCLASS(B C );",
-    ],
-    ["APPLY BYPASS(PRE PRE).", "", "1 Cn3"],
-    ["APPLY BYPASS(PRE!PRE) NO.", "", "1 Cn3"],
-    ["APPLY BYPASS(PRE,,PRE).", "", "1 Cn3"],
-    ["APPLY BYPASS(PRE) BYPASS(REQ).", "", "1 Cn3"],
-    ["APPLY BYPASS(PRE,,REQ).", "", "1 Cn2"],
-    ["APPLY BYPASS(,PRE).", "", "1 Cn2"],
-    ["APPLY BYPASS(PRE,).", "", "1 Cn2"],
-    ["APPLY BYPASS(HOLDUSER(A)PRE).", "", "1 Cn2"],
-    ["APPLY BYPASS(HOLDERROR(A)).", "", "1 Cn2"],
-    ["APPLY BYPASS(HOLDCLASS).", "", "1 Cn2"],
-    ["APPLY BYPASS(PRE(A)).", "", "1 Cn2"],
-    ["APPLY BYPASS(APPLYCHECK).", "", "1 Cn2"],
-    ["APPLY BYPASS(APPLYCHECK APPLYCHECK).", "", "1 Cn2"],
-    ["APPLY BYPASS.", "BYPASS", "1 Cn2"],
-    ["APPLY BYPASS( ).", "", "1 Cn2"],
-    ["REJECT SELECT(UA00001) BYPASS(PRE PRE).", "", "1 Cn2"],
-    [
-        "SET BDY(DLB1).",
-        "ACCEPT SELECT(UA00024).",
-        "SET DLB1;ACCEPT SELECT(UA00024 );",
-    ],
-    [
-        "ACCEPT SELECT(UA00024)",
-        "BYPASS(APPLYCHECK).",
-        "ACCEPT SELECT(UA00024 ) APPLYCHECK;",
-    ],
-    [
-        "ACCEPT BYPASS(HOLDCLASS(B) PRE",
-        "APPLYCHECK) CHECK.",
-        "ACCEPT CHECK PRE APPLYCHECK HOLDCLASS(B );",
-    ],
-    ["ACCEPT CHECK CHECK.", "", "1 Cn3"],
-    ["ACCEPT BYPASS(APPLYCHECK,,APPLYCHECK).", "", "1 Cn3"],
-    ["ACCEPT BYPASS(APPLYCHECK(A)).", "", "1 Cn2"],
-    ["ACCEPT TEXT.", "", "1 Cn2"],
-    ["LIST.", "LIST TEXT.", "LIST;LIST TEXT;"],
-    ["LIST!.", "", "1 Cn2"],
-    ["!LIST.", "", "1 Cn1"],
-    ["(LIST).", "", "1 Cn1"],
-    ["LIST TEXT TEXT(A).", "", "1 Cn3"],
-    ["LIST TEXT(A).", "", "1 Cn2"],
-    ["LIST CHECK.", "", "1 Cn2"],
-    [
-        "SET BDY(TGT1).",
-        "REPORT ERRSYSMODS.",
-        "SET TGT1;REPORT ERRSYSMODS;",
-    ],
-    ["REPORT.", "", "1 Cn2"],
-    ["REPORT ERRSYSMODS(A).", "", "1 Cn2"],
-    ["REPORT ERRSYSMODS", "ERRSYSMODS.", "1 Cn3"],
-    [
-        "SET BDY(TGT1).",
-        "RESTORE SELECT(HAA1100,UA00017).",
-        "SET TGT1;RESTORE SELECT(HAA1100 UA00017 );",
-    ],
-    [
-        "RESTORE CHECK GROUP(UA00021).",
-        "",
-        "RESTORE CHECK GROUP(UA00021 );",
-    ],
-    ["APPLY.", "RESTORE SELECT(UA00001) GROUP(UA00002).", "2 Cn4"],
-    ["RESTORE.", "", "1 Cn4"],
-    ["RESTORE CHECK NO.", "", "1 Cn4"],
-    ["RESTORE SELECT GROUP(UA00001).", "", "1 Cn4"],
-    ["RESTORE SELECT(UA0001).", "", "1 Cn2"],
-    ["RESTORE GROUP.", "", "1 Cn2"],
-    ["RESTORE SELECT(UA00001) SELECT(UA00002).", "", "1 Cn3"],
-    ["RESTORE SELECT(UA00001) BYPASS(PRE).", "", "1 Cn2"],
-    ["UNDO SELECT(UA00001).", "", "1 Cn1"],
-];
+/// Cards, with a bar between two, and their commands, or the record and the code of the first fault.
+const FILES: &str = "\
+SET BDY(GLOBAL). => SET GLOBAL all;
+SET BDY(TGT1).|APPLY CHECK. => SET TGT1;APPLY CHECK;
+APPLY SELECT(UA00002,|UA00001) PTFS GROUPEXTEND. => APPLY PTFS EXTEND SELECT(UA00001 UA00002 );
+REJECT SELECT(UA00003 UA00001). => REJECT SELECT(UA00001 UA00003 );
+RECEIVE. => RECEIVE SYSMODS HOLDDATA;
+RECEIVE SOURCEID(PUT2401). => RECEIVE SYSMODS HOLDDATA PUT2401;
+RECEIVE SOURCEID(A). => RECEIVE SYSMODS HOLDDATA A;
+RECEIVE SOURCEID(PUT2401$). => RECEIVE SYSMODS HOLDDATA PUT2401$;
+RECEIVE SOURCEID(|PUT2401$RSU2404#PUT2401$RSU2404#PUT2401$RSU2404#PUT2401$RSU2404#). => \
+RECEIVE SYSMODS HOLDDATA PUT2401$RSU2404#PUT2401$RSU2404#PUT2401$RSU2404#PUT2401$RSU2404#;
+RECEIVE SOURCEID(|PUT2401$RSU2404#PUT2401$RSU2404#PUT2401$RSU2404#PUT2401$RSU2404#A). => 1 Cn2
+RECEIVE HOLDDATA SYSMODS. => RECEIVE SYSMODS HOLDDATA;
+RECEIVE SYSMODS. => RECEIVE SYSMODS;
+RECEIVE HOLDDATA. => RECEIVE HOLDDATA;
+ , RECEIVE /* , */ ,(A). => 1 Cn2
+RECEIVE SYSMODS SYSMODS. => 1 Cn3
+RECEIVE SYSMODS(A). => 1 Cn2
+RECEIVE SOURCEID(A B). => 1 Cn2
+RECEIVE SELECT(UA00001). => 1 Cn2
+REJECT SELECT(UA00001).|REJECT. => 2 Cn2
+REJECT SELECT. => 1 Cn2
+REJECT GROUP(UA00001). => 1 Cn2
+REJECT SELECT(UA00001) CHECK. => 1 Cn2
+REJECT SELECT(UA00001) SELECT(UA00002). => 1 Cn3
+SET BDY(TGT1).|APPLY!. => 2 Cn2
+SET BDY(1). => 1 Cn2
+SET BDY(A) BDY. => 1 Cn3
+APPLY CHECK - CHECK. => 1 Cn3
+APPLY NEW NEW. => 1 Cn2
+APPLY SELECT(UA00001 UA00001). => 1 Cn2
+APPLY SELECT(UA0001). => 1 Cn2
+APPLY SELECT. => 1 Cn2
+APPLY CHECK(A). => 1 Cn2
+APPLY(A) CHECK. => 1 Cn2
+/* between|*/ APPLY NO. => 2 Cn2
+UNDO NO.|LIST => 1 Cn1
+. => 1 Cn1
+(APPLY). => 1 Cn1
+APPLY. APPLY. => 1 Cn5
+APPLY.|/* open => 2 Cn5
+APPLY.|APPLY NO => 2 Cn5
+APPLY BYPASS(PRE,REQ IFREQ , ID|HOLDUSER,HOLDSYSTEM) CHECK. => APPLY CHECK PRE REQ IFREQ ID HOLDSYSTEM HOLDUSER;
+APPLY BYPASS(HOLDERROR (AA00002,AA00001)| HOLDSYSTEM(DOC A),HOLDUSER(PRE REQ),PRE HOLDCLASS(C B)). => \
+APPLY PRE HOLDERROR(AA00001 AA00002 ) HOLDSYSTEM(A DOC ) HOLDUSER(PRE REQ ) HOLDCLASS(B C );
+APPLY BYPASS(PRE PRE). => 1 Cn3
+APPLY BYPASS(PRE!PRE) NO. => 1 Cn3
+APPLY BYPASS(PRE,,PRE). => 1 Cn3
+APPLY BYPASS(PRE) BYPASS(REQ). => 1 Cn3
+APPLY BYPASS(PRE,,REQ). => 1 Cn2
+APPLY BYPASS(,PRE). => 1 Cn2
+APPLY BYPASS(PRE,). => 1 Cn2
+APPLY BYPASS(HOLDUSER(A)PRE). => 1 Cn2
+APPLY BYPASS(HOLDERROR(A)). => 1 Cn2
+APPLY BYPASS(HOLDCLASS). => 1 Cn2
+APPLY BYPASS(PRE(A)). => 1 Cn2
+APPLY BYPASS(APPLYCHECK). => 1 Cn2
+APPLY BYPASS(APPLYCHECK APPLYCHECK). => 1 Cn2
+APPLY BYPASS.|BYPASS => 1 Cn2
+APPLY BYPASS( ). => 1 Cn2
+REJECT SELECT(UA00001) BYPASS(PRE PRE). => 1 Cn2
+SET BDY(DLB1).|ACCEPT SELECT(UA00024). => SET DLB1;ACCEPT SELECT(UA00024 );
+ACCEPT SELECT(UA00024)|BYPASS(APPLYCHECK). => ACCEPT SELECT(UA00024 ) APPLYCHECK;
+ACCEPT BYPASS(HOLDCLASS(B) PRE|APPLYCHECK) CHECK. => ACCEPT CHECK PRE APPLYCHECK HOLDCLASS(B );
+ACCEPT CHECK CHECK. => 1 Cn3
+ACCEPT BYPASS(APPLYCHECK,,APPLYCHECK). => 1 Cn3
+ACCEPT BYPASS(APPLYCHECK(A)). => 1 Cn2
+ACCEPT TEXT. => 1 Cn2
+LIST.|LIST TEXT. => LIST;LIST TEXT;
+LIST!. => 1 Cn2
+!LIST. => 1 Cn1
+(LIST). => 1 Cn1
+LIST TEXT TEXT(A). => 1 Cn3
+LIST TEXT(A). => 1 Cn2
+LIST CHECK. => 1 Cn2
+SET BDY(TGT1).|REPORT ERRSYSMODS. => SET TGT1;REPORT ERRSYSMODS;
+REPORT. => 1 Cn2
+REPORT ERRSYSMODS(A). => 1 Cn2
+REPORT ERRSYSMODS|ERRSYSMODS. => 1 Cn3
+SET BDY(TGT1).|RESTORE SELECT(HAA1100,UA00017). => SET TGT1;RESTORE SELECT(HAA1100 UA00017 );
+RESTORE CHECK GROUP(UA00021). => RESTORE CHECK GROUP(UA00021 );
+APPLY.|RESTORE SELECT(UA00001) GROUP(UA00002). => 2 Cn4
+RESTORE. => 1 Cn4
+RESTORE CHECK NO. => 1 Cn4
+RESTORE SELECT GROUP(UA00001). => 1 Cn4
+RESTORE SELECT(UA0001). => 1 Cn2
+RESTORE GROUP. => 1 Cn2
+RESTORE SELECT(UA00001) SELECT(UA00002). => 1 Cn3
+RESTORE SELECT(UA00001) BYPASS(PRE). => 1 Cn2
+UNDO SELECT(UA00001). => 1 Cn1
+";
 
 fn put_flag(spelled: &mut Spelled, is_there: bool, word: &[u8]) {
     if is_there {
@@ -333,17 +278,19 @@ fn commanded(alloc: Global, bytes: &[u8]) -> Spelled {
     spelled
 }
 
-fn commanded_by(alloc: Global, cards: &[&str]) -> Result<Spelled, AllocError> {
-    let bytes = file(alloc, cards)?;
+fn commanded_by(alloc: Global, cards: &str) -> Result<Spelled, AllocError> {
+    let bytes = file_of(alloc, cards)?;
     Ok(commanded(alloc, bytes.as_slice()))
 }
 
 #[test]
-fn command_files(rt: HostRuntime) -> Result<(), Fail> {
-    for [first, second, wanted] in FILES {
-        let spelled = commanded_by(rt.alloc(), &[first, second])?;
-        assert_eq!(rt; spelled.text(), *wanted, "{first}");
+fn command_files_are_read_or_told(rt: HostRuntime) -> Result<(), Fail> {
+    for line in FILES.lines() {
+        let (cards, wanted) = case(line)?;
+        let spelled = commanded_by(rt.alloc(), cards)?;
+        assert_eq!(rt; spelled.text(), wanted, "{cards}");
     }
+    assert_eq!(rt; commanded_by(rt.alloc(), " | ")?.text(), "");
     assert_eq!(rt; commanded(rt.alloc(), &[]).text(), "");
     assert_eq!(rt; commanded(rt.alloc(), b"SET").text(), "1 Cn5");
     Ok(())

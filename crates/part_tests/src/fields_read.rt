@@ -1,34 +1,32 @@
 //! Fields, and lists of ids.
 
-use crate::cards::{Spelled, id};
+use crate::cards::{Spelled, case, id};
 use fields::{Class, HoldDate, Id, IdList, Name, Reason, Rising, Source, Srel, YyDdd, ZoneName};
 use std::alloc::{AllocError, Global};
 use std::test::Fail;
 
 /// A text, and a letter for each field that has it: an id, a source, a class, a reason, a name, a zone's name, an SREL,
 /// the date of a hold and that of an APPLY.
-const ROWS: &[[&str; 2]] = &[
-    ["UA00001", "ISCRNZ"],
-    ["0A$#@01", "ISCR"],
-    ["AMACLIB8", "SN"],
-    ["$MACRO", "SCRN"],
-    ["Z038", "SCRNZL"],
-    ["24366", "SCRH"],
-    ["24367", "SCR"],
-    ["24.001", "D"],
-    ["24.000", ""],
-    ["AMACLIB89", "S"],
-    ["A", "SCRNZ"],
-    [
-        "PUT2401$RSU2404#PUT2401$RSU2404#PUT2401$RSU2404#PUT2401$RSU2404#",
-        "S",
-    ],
-    [
-        "PUT2401$RSU2404#PUT2401$RSU2404#PUT2401$RSU2404#PUT2401$RSU2404#A",
-        "",
-    ],
-    ["ua00001", ""],
-    ["", ""],
+const ROWS: &str = "\
+UA00001 => ISCRNZ
+0A$#@01 => ISCR
+AMACLIB8 => SN
+$MACRO => SCRN
+Z038 => SCRNZL
+24366 => SCRH
+24367 => SCR
+24.001 => D
+AMACLIB89 => S
+A => SCRNZ
+PUT2401$RSU2404#PUT2401$RSU2404#PUT2401$RSU2404#PUT2401$RSU2404# => S
+";
+
+/// Texts that no field has.
+const NO_FIELDS: &[&str] = &[
+    "24.000",
+    "PUT2401$RSU2404#PUT2401$RSU2404#PUT2401$RSU2404#PUT2401$RSU2404#A",
+    "ua00001",
+    "",
 ];
 
 /// Whether the letter's field has this text.
@@ -57,14 +55,19 @@ fn fields_of(text: &str) -> Spelled {
 }
 
 #[test]
-fn fields_are_read(rt: HostRuntime) {
-    for [text, wanted] in ROWS {
-        assert_eq!(rt; fields_of(text).text(), *wanted, "{text}");
+fn fields_are_read(rt: HostRuntime) -> Result<(), Fail> {
+    for line in ROWS.lines() {
+        let (text, wanted) = case(line)?;
+        assert_eq!(rt; fields_of(text).text(), wanted, "{text}");
     }
+    for text in NO_FIELDS {
+        assert_eq!(rt; fields_of(text).text(), "", "{text}");
+    }
+    Ok(())
 }
 
 #[test]
-fn a_date(rt: HostRuntime) {
+fn a_date_is_spelled(rt: HostRuntime) {
     assert_eq!(rt; YyDdd::new(2024, 138).as_bytes(), b"24.138".as_slice());
 }
 
@@ -98,7 +101,7 @@ fn ids_rise(rt: HostRuntime) -> Result<(), Fail> {
 }
 
 #[test]
-fn doubles_go(rt: HostRuntime) -> Result<(), Fail> {
+fn doubles_leave_a_list(rt: HostRuntime) -> Result<(), Fail> {
     let [first, second] = [id(b"HAA1100")?, id(b"UA00003")?];
     let list = copy_of(rt.alloc(), &[second, first, second])?;
     assert_eq!(rt; list.as_slice(), [first, second].as_slice());

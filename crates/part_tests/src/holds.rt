@@ -1,10 +1,10 @@
 //! Hold files.
 
-use crate::cards::{Spelled, file};
+use crate::cards::{Spelled, case, file, file_of};
 use fields::spelling::{hold_text, mc_text};
 use fields::{Id, Reason};
 use mcs::{HoldItem, McsError, read_hold};
-use std::alloc::{AllocError, Global};
+use std::alloc::Global;
 use std::test::Fail;
 use sysmod::Hold;
 use terms::HoldKind;
@@ -58,59 +58,49 @@ pub(crate) fn put_error(spelled: &mut Spelled, error: McsError) {
     }
 }
 
-fn held(alloc: Global, cards: &[&str]) -> Result<Spelled, AllocError> {
-    let bytes = file(alloc, cards)?;
+fn held(alloc: Global, bytes: &[u8]) -> Spelled {
     let mut spelled = Spelled::new();
-    match read_hold(alloc, bytes.as_slice()) {
+    match read_hold(alloc, bytes) {
         Ok(items) => put_items(&mut spelled, items.as_slice()),
         Err(error) => put_error(&mut spelled, error),
     }
-    Ok(spelled)
+    spelled
 }
 
-const GOOD: &str = "++HOLD(UA00001) SYSTEM FMID(HAA1100) REASON(ACTION).";
-
-const TWO_KINDS: &str = "++HOLD(UA00001) SYSTEM USER FMID(HAA1100) REASON(A).";
-
-const NO_ID: &str = "++HOLD(UA00001) ERROR FMID(HAA1100) REASON(ACTION).";
-
-const RELEASED_CLASS: &str = "++RELEASE(UA00001) USER FMID(HAA1100) REASON(A) CLASS(B).";
-
-const EMPTY_COMMENT: &str = "++HOLD(UA00001) USER FMID(HAA1100) REASON(X) COMMENT( ).";
-
-/// Three cards, and the items of the hold file that begins with the good card and has these behind it, or the record
-/// and the code of its first fault.
-const FILES: &[[&str; 4]] = &[
-    [
-        "++HOLD(UA00001) ERROR REASON(AA12345) CLASS(HIPER)",
-        "  FMID(HAA1100) DATE(26327)",
-        "  COMMENT(  SEE THE /* LETTER (A), FIRST. ) .",
-        "HOLD UA00001 ERROR AA12345 HAA1100 HIPER 26327 SEE THE /* LETTER (A), FIRST.;",
-    ],
-    [
-        GOOD,
-        "++RELEASE (UA00002) FMID(HAA1100),",
-        "  USER REASON(X).",
-        "HOLD UA00001 SYSTEM ACTION HAA1100;RELEASE UA00002 USER X HAA1100;",
-    ],
-    ["++HOLD(UA00001)", "", "", "1 Mc1"],
-    ["++XYZ(UA00001).", "", "", "1 Mc2"],
-    [GOOD, "++PTF(UA00001).", "", "2 Mc4"],
-    [GOOD, "", "", "1 Mc4"],
-    ["", GOOD, GOOD, "1 Mc4"],
-    [TWO_KINDS, GOOD, GOOD, "1 Mc3"],
-    [GOOD, GOOD, NO_ID, "3 Mc3"],
-    [GOOD, GOOD, RELEASED_CLASS, "3 Mc3"],
-    [GOOD, GOOD, EMPTY_COMMENT, "3 Mc3"],
-];
+/// Three cards, with a bar between two, and the items of their hold file, or the record and the code of its fault.
+const FILES: &str = "\
+++HOLD(UA00001) ERROR REASON(AA12345) CLASS(HIPER)|  FMID(HAA1100) DATE(26327)|\
+\x20 COMMENT(  SEE THE /* LETTER (A), FIRST. ) . => \
+HOLD UA00001 ERROR AA12345 HAA1100 HIPER 26327 SEE THE /* LETTER (A), FIRST.;
+++HOLD(UA00001) SYSTEM FMID(HAA1100) REASON(ACTION).|++RELEASE (UA00002) FMID(HAA1100),|  USER REASON(X). => \
+HOLD UA00001 SYSTEM ACTION HAA1100;RELEASE UA00002 USER X HAA1100;
+++HOLD(UA00001)|| => 1 Mc1
+++XYZ(UA00001).|| => 1 Mc2
+++HOLD(UA00001) SYSTEM FMID(HAA1100) REASON(ACTION).|++PTF(UA00001).| => 2 Mc4
+++HOLD(UA00001) SYSTEM FMID(HAA1100) REASON(ACTION).|| => 1 Mc4
+|++HOLD(UA00001) SYSTEM FMID(HAA1100) REASON(ACTION).|++HOLD(UA00001) SYSTEM FMID(HAA1100) REASON(ACTION). => 1 Mc4
+++HOLD(UA00001) SYSTEM USER FMID(HAA1100) REASON(A).|++HOLD(UA00001) SYSTEM FMID(HAA1100) REASON(ACTION).|\
+++HOLD(UA00001) SYSTEM FMID(HAA1100) REASON(ACTION). => 1 Mc3
+++HOLD(UA00001) SYSTEM FMID(HAA1100) REASON(ACTION).|++HOLD(UA00001) SYSTEM FMID(HAA1100) REASON(ACTION).|\
+++HOLD(UA00001) ERROR FMID(HAA1100) REASON(ACTION). => 3 Mc3
+++HOLD(UA00001) SYSTEM FMID(HAA1100) REASON(ACTION).|++HOLD(UA00001) SYSTEM FMID(HAA1100) REASON(ACTION).|\
+++RELEASE(UA00001) USER FMID(HAA1100) REASON(A) CLASS(B). => 3 Mc3
+++HOLD(UA00001) SYSTEM FMID(HAA1100) REASON(ACTION).|++HOLD(UA00001) SYSTEM FMID(HAA1100) REASON(ACTION).|\
+++HOLD(UA00001) USER FMID(HAA1100) REASON(X) COMMENT( ). => 3 Mc3
+";
 
 #[test]
-fn hold_files(rt: HostRuntime) -> Result<(), Fail> {
-    for [first, second, third, wanted] in FILES {
-        let spelled = held(rt.alloc(), &[first, second, third])?;
-        assert_eq!(rt; spelled.text(), *wanted, "{first}");
+fn hold_files_are_read_or_told(rt: HostRuntime) -> Result<(), Fail> {
+    for line in FILES.lines() {
+        let (cards, wanted) = case(line)?;
+        let bytes = file_of(rt.alloc(), cards)?;
+        assert_eq!(rt;
+            held(rt.alloc(), bytes.as_slice()).text(),
+            wanted,
+            "{cards}"
+        );
     }
-    assert_eq!(rt; held(rt.alloc(), &[])?.text(), "");
+    assert_eq!(rt; held(rt.alloc(), &[]).text(), "");
     Ok(())
 }
 
@@ -131,9 +121,10 @@ const LONG: &[[&str; 2]] = &[
 ];
 
 #[test]
-fn long_comments(rt: HostRuntime) -> Result<(), Fail> {
+fn a_comment_of_more_than_200_characters_is_told(rt: HostRuntime) -> Result<(), Fail> {
     for [last, wanted] in LONG {
-        let spelled = held(rt.alloc(), &[COMMENTED, LINE, LINE, last])?;
+        let bytes = file(rt.alloc(), &[COMMENTED, LINE, LINE, last])?;
+        let spelled = held(rt.alloc(), bytes.as_slice());
         let got = spelled.text();
         assert!(rt;
             got.starts_with(wanted),

@@ -1,6 +1,6 @@
 //! Files cut at each byte: what is left is read, or has the fault that the cut makes.
 
-use crate::cards::file;
+use crate::cards::file_of;
 use cntl::{CntlError, read_cntl};
 use mcs::{McsError, read_ptfin};
 use std::alloc::Global;
@@ -8,19 +8,11 @@ use std::test::Fail;
 use terms::{CnCode, McCode};
 
 /// A PTF, in two records.
-const PTFIN: &[&str] = &["++PTF(UA00024).", "++VER(Z038) FMID(HAA1100)."];
+const PTFIN: &str = "++PTF(UA00024).|++VER(Z038) FMID(HAA1100).";
 
 /// Eight commands, a record each.
-const CNTL: &[&str] = &[
-    "SET BDY(GLOBAL).",
-    "RECEIVE SYSMODS.",
-    "SET BDY(TGT1).",
-    "APPLY SELECT(UA00024) CHECK.",
-    "APPLY SELECT(UA00024).",
-    "APPLY SELECT(UA00024).",
-    "SET BDY(GLOBAL).",
-    "RECEIVE SYSMODS.",
-];
+const CNTL: &str = "SET BDY(GLOBAL).|RECEIVE SYSMODS.|SET BDY(TGT1).|APPLY SELECT(UA00024) CHECK.|\
+    APPLY SELECT(UA00024).|APPLY SELECT(UA00024).|SET BDY(GLOBAL).|RECEIVE SYSMODS.";
 
 /// Of a PTFIN that is cut behind so many whole records and so many bytes of the next: how many items it has, or its
 /// fault. A cut record is no record; a header needs a statement behind it.
@@ -58,8 +50,8 @@ fn cntl_got(alloc: Global, bytes: &[u8]) -> Result<usize, (usize, CnCode)> {
 }
 
 #[test]
-fn ptfin_cut_at_each_byte(rt: HostRuntime) -> Result<(), Fail> {
-    let bytes = file(rt.alloc(), PTFIN)?;
+fn a_ptfin_that_is_cut_at_any_byte_is_told(rt: HostRuntime) -> Result<(), Fail> {
+    let bytes = file_of(rt.alloc(), PTFIN)?;
     for n in 0..=bytes.len() {
         let got = ptfin_got(rt.alloc(), &bytes[..n]);
         assert_eq!(rt; got, ptfin_wanted(n / 80, n % 80), "{n} bytes");
@@ -68,8 +60,8 @@ fn ptfin_cut_at_each_byte(rt: HostRuntime) -> Result<(), Fail> {
 }
 
 #[test]
-fn commands_cut_at_each_byte(rt: HostRuntime) -> Result<(), Fail> {
-    let bytes = file(rt.alloc(), CNTL)?;
+fn a_command_file_that_is_cut_at_any_byte_is_told(rt: HostRuntime) -> Result<(), Fail> {
+    let bytes = file_of(rt.alloc(), CNTL)?;
     for n in 0..=bytes.len() {
         let got = cntl_got(rt.alloc(), &bytes[..n]);
         assert_eq!(rt; got, cntl_wanted(n / 80, n % 80), "{n} bytes");

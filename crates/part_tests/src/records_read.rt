@@ -1,10 +1,11 @@
 //! Records, statements, commands and their words.
 
-use crate::cards::{Spelled, record};
+use crate::cards::{Spelled, case, record};
 use rec80::{
     Commands, Group, Groups, Piece, RecError, Record, Records, StmtError, Text, Words, records,
     statement,
 };
+use std::test::Fail;
 
 /// Each member with its own list in parentheses and a semicolon; a `?` where there is no member.
 fn put_members(spelled: &mut Spelled, list: &Text<'_>) {
@@ -54,48 +55,28 @@ fn put_fault(spelled: &mut Spelled, error: StmtError) {
     });
 }
 
-/// Two cards, and the words of their statement or its fault.
-const STATEMENTS: &[[&str; 3]] = &[
-    ["++PTF(UA00001).", "", "++PTF(UA00001;) "],
-    [
-        "++VER(Z038) PRE (A1,",
-        " B2)REQ(C3).",
-        "++VER(Z038;) PRE(A1;B2;) REQ(C3;) ",
-    ],
-    ["++PTF /* , */ ,(A). /* ) */ ,", "", "++PTF(A;) "],
-    ["++MAC(M1).", "any text /*", "++MAC(M1;) "],
-    [
-        "++PTF(A).                                                              X00000010",
-        "",
-        "St4",
-    ],
-    [
-        "++PTF(A).                                                               00000010",
-        "",
-        "++PTF(A;) ",
-    ],
-    ["++PTF(/*A).", "", "++PTF(/*A;) "],
-    ["++PTF-X(A).", "", "++PTF ?"],
-    ["++PTF(A)(B).", "", "++PTF(A;) ?"],
-    ["++PTF(A,,B).", "", "++PTF(A;?) "],
-    [
-        "++PTF(,A) X(A,) Y() Z( B C ).",
-        "",
-        "++PTF(?) X(A;?) Y(?) Z(B;C;) ",
-    ],
-    [
-        "++X(HOLDUSER (A,B) PRE) Y(U(A)PRE).",
-        "",
-        "++X(HOLDUSER(A,B);PRE;) Y(U(A);?) ",
-    ],
-    ["++PTF(UA00001)", "", "St1"],
-    ["++PTF(A) /*/.", " .", "St2"],
-    ["++PTF(A(B(C))).", "", "St3"],
-    ["++PTF(A)).", "", "St3"],
-    ["++PTF(A", "", "St3"],
-    ["++PTF(A). X", "", "St4"],
-    ["++PTF(A). /* open", "*/", "St4"],
-];
+/// A card or two, with a bar between, and the words of their statement or its fault.
+const STATEMENTS: &str = "\
+++PTF(UA00001). => ++PTF(UA00001;)
+++VER(Z038) PRE (A1,| B2)REQ(C3). => ++VER(Z038;) PRE(A1;B2;) REQ(C3;)
+++PTF /* , */ ,(A). /* ) */ , => ++PTF(A;)
+++MAC(M1).|any text /* => ++MAC(M1;)
+++PTF(A).                                                              X\t00000010 => St4
+++PTF(A).\t00000010 => ++PTF(A;)
+++PTF(/*A). => ++PTF(/*A;)
+++PTF-X(A). => ++PTF ?
+++PTF(A)(B). => ++PTF(A;) ?
+++PTF(A,,B). => ++PTF(A;?)
+++PTF(,A) X(A,) Y() Z( B C ). => ++PTF(?) X(A;?) Y(?) Z(B;C;)
+++X(HOLDUSER (A,B) PRE) Y(U(A)PRE). => ++X(HOLDUSER(A,B);PRE;) Y(U(A);?)
+++PTF(UA00001) => St1
+++PTF(A) /*/.| . => St2
+++PTF(A(B(C))). => St3
+++PTF(A)). => St3
+++PTF(A => St3
+++PTF(A). X => St4
+++PTF(A). /* open|*/ => St4
+";
 
 fn stated(first: &str, second: &str) -> Spelled {
     let records = &[record(first), record(second)];
@@ -108,10 +89,13 @@ fn stated(first: &str, second: &str) -> Spelled {
 }
 
 #[test]
-fn statements(rt: HostRuntime) {
-    for [first, second, wanted] in STATEMENTS {
-        assert_eq!(rt; stated(first, second).text(), *wanted, "{first}");
+fn statements_have_words_or_a_fault(rt: HostRuntime) -> Result<(), Fail> {
+    for line in STATEMENTS.lines() {
+        let (cards, wanted) = case(line)?;
+        let (first, second) = cards.split_once('|').unwrap_or((cards, ""));
+        assert_eq!(rt; stated(first, second).text().trim_end(), wanted, "{cards}");
     }
+    Ok(())
 }
 
 fn put_groups(spelled: &mut Spelled, mut groups: Groups<'_>) {
@@ -133,7 +117,7 @@ fn grouped(cards: &[Record]) -> Spelled {
 }
 
 #[test]
-fn files_of_statements(rt: HostRuntime) {
+fn a_file_is_cut_into_statements(rt: HostRuntime) {
     let cards = [
         record("++PTF(A) /* ."),
         record("++VER(Z038)."),
@@ -153,7 +137,7 @@ fn fault_at(place: usize, byte: u8) -> Option<RecError> {
 }
 
 #[test]
-fn records_are_read(rt: HostRuntime) {
+fn bytes_outside_records_are_told(rt: HostRuntime) {
     let (record, column) = (2, 80);
     assert_eq!(rt;
         fault_at(159, 0x7F),
@@ -212,7 +196,7 @@ fn commanded(first: &str, second: &str, third: &str) -> Spelled {
 }
 
 #[test]
-fn commands(rt: HostRuntime) {
+fn commands_have_words_or_a_fault(rt: HostRuntime) {
     for [first, second, third, wanted] in COMMANDS {
         assert_eq!(rt; commanded(first, second, third).text(), *wanted, "{first}");
     }
@@ -242,7 +226,7 @@ fn pieces_of(card: &str) -> Spelled {
 }
 
 #[test]
-fn pieces(rt: HostRuntime) {
+fn pieces_are_words_lists_and_strays(rt: HostRuntime) {
     assert_eq!(rt; pieces_of("APPLY CHECK -, (A) CHECK.").text(), "WW-LW");
 }
 
@@ -266,6 +250,6 @@ fn lines_of(first: &str, second: &str) -> Spelled {
 }
 
 #[test]
-fn a_list_of_two_records(rt: HostRuntime) {
+fn a_list_may_run_over_two_records(rt: HostRuntime) {
     assert_eq!(rt; lines_of("++HOLD(one", "two).").text(), "one/two/t");
 }

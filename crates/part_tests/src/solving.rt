@@ -1,5 +1,5 @@
 //! The greatest set that supports itself, who causes failures, and the least set that grows.
-use solve::{NumberedNeed, Problem, Rule, Rules, Solver, Sweep, Worklist, causers, least};
+use decide::{NumberedNeed, Problem, Rule, Rules, Solver, Sweep, Worklist, causers, least};
 use std::alloc::{AllocError, Global};
 use std::process::Abort;
 
@@ -114,7 +114,7 @@ fn check(rt: &impl Abort, alloc: Global, case: &Case<'_>) -> Result<(), AllocErr
 }
 
 #[test]
-fn each_case(rt: HostRuntime) -> Result<(), AllocError> {
+fn candidates_stay_or_fail_by_their_causers(rt: HostRuntime) -> Result<(), AllocError> {
     for case in &CASES {
         check(&rt, rt.alloc(), case)?;
     }
@@ -142,7 +142,7 @@ fn chained(alloc: Global, n: usize, end: &[usize]) -> Result<(usize, usize, u128
 }
 
 #[test]
-fn long_chains(rt: HostRuntime) -> Result<(), AllocError> {
+fn a_chain_of_thousands_falls_or_stays(rt: HostRuntime) -> Result<(), AllocError> {
     // one falls from its end, and one ends in its begin
     assert_eq!(rt; chained(rt.alloc(), 5000, &[])?, (5000, 0, 4999));
     assert_eq!(rt; chained(rt.alloc(), 5000, &[0])?, (5000, 5000, 0));

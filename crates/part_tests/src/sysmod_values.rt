@@ -78,7 +78,7 @@ fn named_for(alloc: Global, sysmod: &Sysmod, srel: Srel) -> Result<Vec<Id>, Allo
 }
 
 #[test]
-fn vers(rt: HostRuntime) -> Result<(), Fail> {
+fn a_sysmod_names_ids_by_its_vers(rt: HostRuntime) -> Result<(), Fail> {
     let (function, other, fix) = (id(b"HAA1100")?, id(b"HBB1100")?, id(b"UA00003")?);
     let (low, high, none) = (srel(b"P004")?, srel(b"Z038")?, srel(b"C150")?);
     let vers = [(high, other), (low, function), (high, function)];
@@ -100,7 +100,7 @@ fn vers(rt: HostRuntime) -> Result<(), Fail> {
 }
 
 #[test]
-fn changes(rt: HostRuntime) -> Result<(), Fail> {
+fn a_sysmod_has_one_change_for_an_element(rt: HostRuntime) -> Result<(), Fail> {
     let (first, second) = (name(b"AABC")?, name(b"BABC")?);
     let mut fix = with_data(rt.alloc(), id(b"UA00003")?, &[second, first, second])?;
     assert_eq!(rt; fix.changes.len(), 2);

@@ -6,20 +6,15 @@ use std::test::Fail;
 use terms::{TextCode, TextFault};
 use text80::{Line, Numbered, TextError, Update, bytes_of, lines_of, merge};
 
-const OLD_TEN: &str =
-    "O                                                                       00000010";
+const OLD_TEN: &str = "O\t00000010";
 
-const OLD_TWENTY: &str =
-    "O                                                                       00000020";
+const OLD_TWENTY: &str = "O\t00000020";
 
-const FIVE: &str =
-    "U                                                                       00000005";
+const FIVE: &str = "U\t00000005";
 
-const TEN: &str =
-    "U                                                                       00000010";
+const TEN: &str = "U\t00000010";
 
-const TWENTY: &str =
-    "U                                                                       00000020";
+const TWENTY: &str = "U\t00000020";
 
 const CHANGE: &str = "./ CHANGE NAME=M1";
 
@@ -55,7 +50,7 @@ fn merged(alloc: Global, cards: &[&str]) -> Result<Numbered, TextError> {
 }
 
 #[test]
-fn merges(rt: HostRuntime) -> Result<(), Fail> {
+fn updates_are_merged_into_texts(rt: HostRuntime) -> Result<(), Fail> {
     for [cards, wanted] in MERGES {
         let merged = merged(rt.alloc(), cards)?;
         assert_eq!(rt; merged.lines(), lines(rt.alloc(), wanted)?.as_slice());
@@ -98,7 +93,7 @@ fn fault(number: usize, code: TextCode) -> Option<TextFault> {
 }
 
 #[test]
-fn faults(rt: HostRuntime) -> Result<(), Fail> {
+fn bad_texts_and_updates_are_told(rt: HostRuntime) -> Result<(), Fail> {
     for (cards, number, code) in TEXTS {
         assert_eq!(rt; text_fault(rt.alloc(), cards)?, fault(*number, *code));
     }

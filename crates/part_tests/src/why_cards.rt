@@ -60,8 +60,8 @@ fn global_of(alloc: Global, cards: &[u8], holds: &[u8]) -> Result<GlobalZone, Fa
 }
 
 /// The global zone of the SYSMODs and of the holds of these cards.
-pub(crate) fn global(alloc: Global, cards: &[&str], holds: &[&str]) -> Result<GlobalZone, Fail> {
-    let cards = file(alloc, cards)?;
+fn global(alloc: Global, cards: &str, holds: &[&str]) -> Result<GlobalZone, Fail> {
+    let cards = file(alloc, &[cards])?;
     let holds = file(alloc, holds)?;
     global_of(alloc, cards.as_slice(), holds.as_slice())
 }
@@ -112,7 +112,7 @@ pub(crate) fn zone(entries: Table<Entry>, elements: Table<Element>) -> Result<Zo
 }
 
 /// What is told of these ids, and its code.
-pub(crate) fn told(
+fn told(
     alloc: Global,
     global: &GlobalZone,
     zone: &Zone,
@@ -121,4 +121,24 @@ pub(crate) fn told(
     let facts = facts_of(alloc, global, zone, ids)?;
     let text = facts_text(alloc, facts.as_slice())?;
     Ok((text, facts_code(facts.as_slice())))
+}
+
+/// A global zone by its cards, and what must be told of ids in it.
+pub(crate) struct Wanted {
+    pub(crate) cards: &'static str,
+    pub(crate) holds: &'static [&'static str],
+    pub(crate) text: &'static str,
+    pub(crate) code: u8,
+}
+
+/// A failure, unless this is told of these ids in the zone.
+pub(crate) fn check(alloc: Global, zone: &Zone, ids: &[Id], wanted: &Wanted) -> Result<(), Fail> {
+    let global = global(alloc, wanted.cards, wanted.holds)?;
+    let (text, code) = told(alloc, &global, zone, ids)?;
+    if text.as_slice() == wanted.text.as_bytes() && code == wanted.code {
+        return Ok(());
+    }
+    let got = std::str::from_utf8(text.as_slice())?;
+    let (wanted, wanted_code) = (wanted.text, wanted.code);
+    Err(Fail::new(format_args!("got {got} and {code}, wanted {wanted} and {wanted_code}")))
 }

@@ -1,35 +1,18 @@
 //! A PTF that may be applied, its function, and an id of which nothing is known.
 
 use crate::cards::{id, name};
-use crate::why_cards::{element, global, put_entries, told, zone};
-use fields::Id;
+use crate::why_cards::{Wanted, check, element, put_entries, zone};
 use sorted::Table;
 use std::alloc::Global;
 use std::test::Fail;
 use zones::Zone;
 
-const CARDS: [&str; 18] = [
-    "++FUNCTION(HAA1100).",
-    "++VER(Z038).",
-    "++DATA(X1) DISTLIB(A) SYSLIB(B).",
-    "FIRST",
-    "++PTF(UA00001).",
-    "++VER(Z038) FMID(HAA1100).",
-    "++DATA(X1) DISTLIB(A) SYSLIB(B).",
-    "SECOND",
-    "++PTF(UA00002).",
-    "++VER(Z038) FMID(HAA1100) PRE(UA00001) REQ(UA00003).",
-    "++IF FMID(HAA1100) THEN REQ(UA00004).",
-    "++HOLD(UA00002) SYSTEM FMID(HAA1100) REASON(ACTION) DATE(24123)",
-    "  COMMENT(READ THIS).",
-    "++DATA(X1) DISTLIB(A) SYSLIB(B).",
-    "THIRD",
-    "++PTF(UA00005).",
-    "++VER(Z038) FMID(HAA1100)",
-    "  SUP(UA00003).",
-];
-
-const HOLDS: [&str; 1] = ["++HOLD(UA00002) ERROR FMID(HAA1100) REASON(AA00009)."];
+const CARDS: &str =
+    "++FUNCTION(HAA1100).\n++VER(Z038).\n++DATA(X1) DISTLIB(A) SYSLIB(B).\nFIRST\n++PTF(UA00001).\n\
+        ++VER(Z038) FMID(HAA1100).\n++DATA(X1) DISTLIB(A) SYSLIB(B).\nSECOND\n++PTF(UA00002).\n\
+        ++VER(Z038) FMID(HAA1100) PRE(UA00001) REQ(UA00003).\n++IF FMID(HAA1100) THEN REQ(UA00004).\n\
+        ++HOLD(UA00002) SYSTEM FMID(HAA1100) REASON(ACTION) DATE(24123)\n  COMMENT(READ THIS).\n\
+        ++DATA(X1) DISTLIB(A) SYSLIB(B).\nTHIRD\n++PTF(UA00005).\n++VER(Z038) FMID(HAA1100)\n  SUP(UA00003).";
 
 const TOLD: &str = "UA00002 PTF      RECEIVED
   VER 1 FMID HAA1100 FITS COUNTS
@@ -66,18 +49,15 @@ fn applied(alloc: Global) -> Result<Zone, Fail> {
     zone(entries, elements)
 }
 
-/// What is told of these ids, and its code.
-fn told_of(alloc: Global, ids: &[Id]) -> Result<(Vec<u8>, u8), Fail> {
-    let global = global(alloc, &CARDS, &HOLDS)?;
-    let zone = applied(alloc)?;
-    Ok(told(alloc, &global, &zone, ids)?)
-}
+const WANTED: Wanted = Wanted {
+    cards: CARDS,
+    holds: &["++HOLD(UA00002) ERROR FMID(HAA1100) REASON(AA00009)."],
+    text: TOLD,
+    code: 4,
+};
 
 #[test]
-fn facts_are_told(rt: HostRuntime) -> Result<(), Fail> {
+fn what_may_be_applied_and_what_is_missing_is_told(rt: HostRuntime) -> Result<(), Fail> {
     let ids = [id(b"UA00002")?, id(b"HAA1100")?, id(b"UA00099")?];
-    let (text, code) = told_of(rt.alloc(), &ids)?;
-    assert_eq!(rt; std::str::from_utf8(text.as_slice())?, TOLD);
-    assert_eq!(rt; code, 4);
-    Ok(())
+    check(rt.alloc(), &applied(rt.alloc())?, &ids, &WANTED)
 }

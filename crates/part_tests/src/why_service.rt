@@ -1,26 +1,18 @@
 //! A function that would delete another one, what stands in its way, and service whose requisites are waived.
 
 use crate::cards::id;
-use crate::why_cards::{entry, global, put_entries, told, zone};
+use crate::why_cards::{Wanted, check, entry, put_entries, zone};
 use fields::Id;
 use sorted::Table;
 use std::alloc::{AllocError, Global};
 use std::test::Fail;
 use zones::{Entry, Zone};
 
-const CARDS: [&str; 11] = [
-    "++FUNCTION(HAA1100).",
-    "++VER(Z038).",
-    "++FUNCTION(HAA1200).",
-    "++VER(Z038) DELETE(HAA1100) NPRE(HBB1100).",
-    "++FUNCTION(HBB1100).",
-    "++VER(Z038) NPRE(HAA1200).",
-    "++PTF(UA00001).",
-    "++VER(Z038) FMID(HAA1100) PRE(UA00007) SUP(UA00000).",
-    "++PTF(UB00001).",
-    "++VER(Z038) FMID(HBB1100) REQ(UA00001).",
-    "++IF FMID(HAA1200) THEN REQ(UB00002).",
-];
+const CARDS: &str =
+    "++FUNCTION(HAA1100).\n++VER(Z038).\n++FUNCTION(HAA1200).\n++VER(Z038) DELETE(HAA1100) NPRE(HBB1100).\n\
+        ++FUNCTION(HBB1100).\n++VER(Z038) NPRE(HAA1200).\n++PTF(UA00001).\n\
+        ++VER(Z038) FMID(HAA1100) PRE(UA00007) SUP(UA00000).\n++PTF(UB00001).\n\
+        ++VER(Z038) FMID(HBB1100) REQ(UA00001).\n++IF FMID(HAA1200) THEN REQ(UB00002).";
 
 const TOLD: &str = "HAA1200 FUNCTION RECEIVED
   VER 1 FMID - FITS COUNTS
@@ -80,18 +72,15 @@ fn applied(alloc: Global) -> Result<Zone, Fail> {
     zone(entries, Table::new(alloc))
 }
 
-/// What is told of these ids, and its code.
-fn told_of(alloc: Global, ids: &[Id]) -> Result<(Vec<u8>, u8), Fail> {
-    let global = global(alloc, &CARDS, &[])?;
-    let zone = applied(alloc)?;
-    Ok(told(alloc, &global, &zone, ids)?)
-}
+const WANTED: Wanted = Wanted {
+    cards: CARDS,
+    holds: &[],
+    text: TOLD,
+    code: 0,
+};
 
 #[test]
 fn a_function_that_deletes_is_told(rt: HostRuntime) -> Result<(), Fail> {
     let ids = [id(b"HAA1200")?, id(b"UA00001")?, id(b"UA00000")?];
-    let (text, code) = told_of(rt.alloc(), &ids)?;
-    assert_eq!(rt; std::str::from_utf8(text.as_slice())?, TOLD);
-    assert_eq!(rt; code, 0);
-    Ok(())
+    check(rt.alloc(), &applied(rt.alloc())?, &ids, &WANTED)
 }

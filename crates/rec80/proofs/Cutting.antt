@@ -12,7 +12,7 @@ use Rattle.rec80.proofs.Cuts.{BeginsOutside, back_fails}
 use Rattle.rec80.specs.declared.cursor.Cursor.{Cursor}
 use Rattle.rec80.specs.Cursors.{IsAhead}
 use Rattle.std.proofs.lemmas.List.Sums.{prefix_len-le-length}
-use Rattle.lemmas.proofs.Searches.{prefix_passes}
+use Rattle.terms.proofs.Searches.{prefix_passes}
 
 no_word_behind : (line : Text) (later : List (List ℕ)) → BeginsOutside is_word_byte line
     → BeginsNoWord (line ++ followed later)

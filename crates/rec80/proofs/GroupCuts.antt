@@ -7,7 +7,7 @@ use Rattle.std.proofs.lemmas.List.Elements.{All-weaker}
 use Rattle.std.proofs.lemmas.Bool.{not-true, not-false}
 use Rattle.terms.specs.Groups.{begins_statement, starts_outside, IsGroup}
 use Rattle.rec80.proofs.Cuts.{BeginsOutside, back_fails}
-use Rattle.lemmas.proofs.Searches.{prefix_passes}
+use Rattle.terms.proofs.Searches.{prefix_passes}
 
 abbrev pub is_later : List ℕ → Bool
 is_later r = not (begins_statement r)

@@ -9,3 +9,10 @@ pub mod Reading
 pub mod Stating
 pub mod Commanding
 pub mod Listing
+pub mod Finding
+pub mod OperandReading
+pub mod Distinct
+pub mod Failing
+pub mod Owning
+pub mod WordsAmong
+pub mod Naming

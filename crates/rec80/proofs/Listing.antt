@@ -17,7 +17,7 @@ use Rattle.terms.proofs.Members.{no_comma, next_only, blanks_none, member_first,
 use Rattle.rec80.proofs.Cuts.{BeginsOutside, back_fails}
 use Rattle.rec80.specs.Lists.{SkipsBlanks, HasLeft}
 use Rattle.std.proofs.lemmas.List.Sums.{prefix_len-le-length}
-use Rattle.lemmas.proofs.Searches.{prefix_passes}
+use Rattle.terms.proofs.Searches.{prefix_passes}
 
 pub skips_blank : (text next after : Text) (b : ℕ) → text ≡ b ∷ next → b ≡ 32 → SkipsBlanks next after
     → SkipsBlanks text after

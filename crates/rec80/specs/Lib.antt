@@ -4,3 +4,6 @@ pub mod Cursors
 pub mod Pieces
 pub mod Walks
 pub mod Lists
+pub mod Left
+pub mod Failing
+pub mod Read

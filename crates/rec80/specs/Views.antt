@@ -1,5 +1,5 @@
 -- What the types of this crate stand for.
-use Rattle.std.specs.Prelude.{ℕ, List, option_map}
+use Rattle.std.specs.Prelude.{ℕ, List, map, option_map}
 use Rattle.terms.specs.Groups as groups
 use Rattle.terms.specs.Words as grammar
 use Rattle.rec80.specs.declared.groups.Group.{Group}
@@ -16,3 +16,6 @@ left_of words = rest_of words.rest
 
 abbrev pub word_of : Word → grammar.Word
 word_of w = record { word = w.word.now; list = option_map text_of w.list }
+
+abbrev pub words_of : List Word → List grammar.Word
+words_of ws = map word_of ws

@@ -1,32 +1,50 @@
-//! Files of 80-byte records: their statements and commands, and the words of these, as slices of the file. Nothing here
-//! takes memory.
+//! Files of 80-byte records: their statements and commands, the words of these, as slices of the file, and the
+//! operands among the words. Only lists of values take memory.
 //! A file is these records, or has this first fault (`records`). Groups, statements, commands, words, members and
 //! inline records are the grammar's, or the named fault (`next_group`, `statement`, `next_command`, `next_word`,
 //! `members`).
+//! The words are read once, by `operands`, whatever stands among them. Of them `operand` is the operand of a name, and
+//! of a list's members `named_member` is. A flag, a list's only member, and a list without doubles, in rising order,
+//! are read just where the word has that form.
 #![tactic(auto)]
 
+mod among;
 mod commands;
 mod cursor;
 mod errors;
 mod files;
+mod find;
 mod groups;
 mod lists;
+mod member;
 mod members;
+mod operand_errors;
+mod operand_lists;
+mod operand_members;
+mod operands;
 mod piece;
 mod read;
 mod scan;
 mod statements;
 mod text;
+mod values;
 mod walk;
 mod words;
 
+pub use among::{are_members, is_among};
 pub use commands::{Command, CommandError, Commands};
 pub use errors::{RecError, StmtError};
 pub use files::{Record, Records};
+pub use find::{named_member, operand};
 pub use groups::{Group, Groups, StartsOutside};
+pub use member::Member;
 pub use members::{Members, NoMembers};
+pub use operand_errors::{BadOperand, OperandError};
+pub use operand_lists::{ids, listed_ids, rising};
+pub use operands::Operands;
 pub use piece::Piece;
 pub use read::records;
 pub use statements::statement;
 pub use text::Text;
+pub use values::{flag, one, optional, required};
 pub use words::{NoWord, Word, Words};

@@ -1,5 +1,5 @@
 //! The words of a statement or a command, each with its list.
-ghost use Rattle.std.specs.Prelude.{◌≡◌, ◌<◌, ℕ, List, [], ◌∷◌, length, IfOk, IfSome, IfNone, OnErr};
+ghost use Rattle.std.specs.Prelude.{◌≡◌, ◌<◌, ℕ, List, [], ◌∷◌, length, IfOk, IfErr, IfSome, IfNone, OnErr};
 ghost use Rattle.std.specs.Prelude.{MatchOption};
 ghost use Rattle.terms.specs.Statement.{Piece as AnyPiece, HasSolid, TakesPiece, TheList};
 ghost use Rattle.terms.specs.Words.{TakesWord, BeginsNoWords};
@@ -79,6 +79,29 @@ impl<'a> Words<'a> {
         }
         self.rest = behind;
         Ok(Some(Word { word, list: None }))
+    }
+
+    /// Takes the next word, with its list, or the piece that stands in place of one. Behind the last one there is none.
+    pub(crate) fn next_operand(&mut self) -> Option<Result<Word<'a>, NoWord>>
+        ensures word { (pieces : List AnyPiece) → HasSolid (left_of self.old) pieces
+            → IfSome result (λ found. IfOk found (λ w. (rest : List AnyPiece) × TakesWord pieces (word_of w) rest
+            × HasSolid (left_of self.new) rest)) }
+        ensures other { (pieces : List AnyPiece) → HasSolid (left_of self.old) pieces
+            → IfSome result (λ found. IfErr found (λ _. BeginsNoWords pieces × ((p : AnyPiece) × (rest : List AnyPiece)
+            × (pieces ≡ p ∷ rest) × HasSolid (left_of self.new) rest))) }
+        ensures end { (pieces : List AnyPiece) → HasSolid (left_of self.old) pieces → IfNone result (pieces ≡ []) }
+        ensures shorter { IfSome result (λ found. length (left_of self.new) < length (left_of self.old)) }
+    {
+        let Ok(found) = self.next_word() else {
+            let Some(_) = self.next_piece() else {
+                return None;
+            };
+            return Some(Err(NoWord));
+        };
+        let Some(word) = found else {
+            return None;
+        };
+        Some(Ok(word))
     }
 
     /// Takes the next word, list or other character. Behind the last one there is none.

@@ -8,7 +8,7 @@ use Rattle.std.specs.declared.cmp.Ordering.{Ordering}
 use Rattle.std.specs.Cmp.Lexicographic.{slice_cmp}
 use Rattle.std.proofs.lemmas.Cmp.{nat_list_cmp_total}
 use Rattle.std.proofs.lemmas.Map.Lookups.{exact_bytes}
-use Rattle.lemmas.proofs.Members.{here, here_or, none_in, in_map, in_filter, filter_in}
+use Rattle.terms.proofs.ListMembers.{here, here_or, none_in, in_map, in_filter, filter_in}
 use Rattle.sorted.specs.Lists.{AddsToAll, Gains, Holds, OneOf}
 use Rattle.sorted.proofs.Gaining.{gains_alike, gains_join, gains_more, gains_none, gains_to_all, holds_gained}
 use Rattle.terms.specs.Types as terms

@@ -1,94 +1,49 @@
 -- The lines of LIST and of REPORT, as pieces.
 use Rattle.std.proofs.Common.{◌≡◌, ◌<◌, ℕ, List, [], ◌∷◌, ◌++◌, length, refl, ◌∙◌, ap, arith, map}
-use Rattle.std.specs.Prelude.{codes, Option, Some, None, Bool, true, false}
-use Rattle.std.specs.List.{flat_map, join_with_byte}
+use Rattle.std.specs.Prelude.{codes, Some, None, Bool, true, false, if◌then◌else◌}
+use Rattle.std.specs.List.{flat_map}
 use Rattle.std.proofs.lemmas.List.Concat.{flat_map-append}
 use Rattle.terms.specs.declared.kinds.ZoneKind.{ZoneKind}
 use Rattle.terms.specs.declared.kinds.ZoneKind.TheVariants.{Target, Distribution}
-use Rattle.terms.specs.Types.{Element, Global, Zone}
+use Rattle.terms.specs.Types.{Applied, Entry, Element, Global, Zone}
 use Rattle.machine.specs.Outcome.{Line, lines_code, EntryLine, TextLine, SysmodLine, HoldLine, list_global, list_zone}
 use Rattle.machine.specs.Outcome.{element_lines}
-use Rattle.machine.specs.Report.{words_line, detail_line, resolver_text, applied_words}
-use Rattle.report.proofs.Texts.{words_line_more}
+use Rattle.machine.specs.Report.{words_line, detail_line, list_text, optional_text, mark_text, resolver_text, line_text}
+use Rattle.report.specs.Views.{applied_word}
 
--- a text that is a line of these words
-record IsLine (text : List ℕ) (words : List (List ℕ)) : Type 0 where
-  pub is : text ≡ words_line words
+-- resolvers, where there are none or some
+pub resolvers_none : (xs : List (List ℕ)) → length xs ≡ 0
+    → detail_line (codes "RESOLVER" ∷ codes "-" ∷ []) ≡ resolver_text xs
+resolvers_none [] none = refl
+resolvers_none (x ∷ xs) none = absurd (omega (arith, none))
 
-last : (x : List ℕ) → IsLine (x ++ 10 ∷ []) (x ∷ [])
-last x = record { is = refl }
-
--- a word before the others of a line
-then : (x : List ℕ) {t y : List ℕ} {ys : List (List ℕ)} → IsLine t (y ∷ ys) → IsLine (x ++ 32 ∷ t) (x ∷ y ∷ ys)
-then x {t} {y} {ys} line = record { is = ap (λ t. x ++ 32 ∷ t) line.is ∙ words_line_more x y ys }
-
--- the words of a SYSMOD
-pub sysmod_parts : (id kind sources : List ℕ)
-    → codes "SYSMOD " ++ (id ++ (32 ∷ (kind ++ (codes " SOURCEID " ++ (sources ++ 10 ∷ [])))))
-    ≡ words_line (codes "SYSMOD" ∷ id ∷ kind ∷ codes "SOURCEID" ∷ sources ∷ [])
-sysmod_parts id kind sources =
-    let line = then (codes "SYSMOD") (then id (then kind (then (codes "SOURCEID") (last sources)))) in line.is
-
--- the words of a hold
-pub hold_parts : (id kind reason mark : List ℕ)
-    → codes "HOLD " ++ (id ++ (32 ∷ (kind ++ (32 ∷ (reason ++ (32 ∷ (mark ++ 10 ∷ [])))))))
-    ≡ words_line (codes "HOLD" ∷ id ∷ kind ∷ reason ∷ mark ∷ [])
-hold_parts id kind reason mark =
-    let line = then (codes "HOLD") (then id (then kind (then reason (last mark)))) in line.is
-
--- the words of a held SYSMOD that is applied
-pub errsysmod_parts : (id reason : List ℕ)
-    → codes "ERRSYSMOD " ++ (id ++ (32 ∷ (reason ++ 10 ∷ []))) ≡ words_line (codes "ERRSYSMOD" ∷ id ∷ reason ∷ [])
-errsysmod_parts id reason = let line = then (codes "ERRSYSMOD") (then id (last reason)) in line.is
-
--- resolvers, where there are some
 pub resolvers_some : (xs : List (List ℕ)) → 0 < length xs
     → flat_map (λ id. detail_line (codes "RESOLVER" ∷ id ∷ [])) xs ≡ resolver_text xs
 resolvers_some [] some = absurd (omega (arith, some))
 resolvers_some (x ∷ xs) some = refl
 
--- the words of an entry behind the date
-supby_parts : (supby delby waived : List ℕ)
-    → IsLine (codes "SUPBY " ++ (supby ++ (codes " DELBY " ++ (delby ++ (codes " WAIVED " ++ (waived ++ 10 ∷ []))))))
-    (codes "SUPBY" ∷ supby ∷ codes "DELBY" ∷ delby ∷ codes "WAIVED" ∷ waived ∷ [])
-supby_parts supby delby waived =
-    then (codes "SUPBY") (then supby (then (codes "DELBY") (then delby (then (codes "WAIVED") (last waived)))))
+-- the words of an entry that is applied, or is not
+pub entry_applied : (kind : ZoneKind) (e : Entry) (a : Applied) {id word date delby : List ℕ} {supby waived : List
+    (List ℕ)} → e.applied ≡ Some a
+    → id ≡ e.id → word ≡ applied_word kind → date ≡ a.date → delby ≡ optional_text e.delby → supby ≡ e.supby
+    → waived ≡ e.waived
+    → words_line (codes "ENTRY" ∷ id ∷ word ∷ date ∷ codes "SUPBY" ∷ list_text supby ∷ codes "DELBY" ∷ delby
+    ∷ codes "WAIVED" ∷ list_text waived ∷ []) ≡ line_text (EntryLine kind e)
+entry_applied Target e a is id word date delby supby waived = rw (is, id, word, date, delby, supby, waived) refl
+entry_applied Distribution e a is id word date delby supby waived = rw (is, id, word, date, delby, supby, waived) refl
 
-dated : (word date id supby delby waived : List ℕ)
-    → codes "ENTRY " ++ (id ++ (32 ∷ (word ++ 32 ∷ (date
-    ++ (codes " SUPBY " ++ (supby ++ (codes " DELBY " ++ (delby ++ (codes " WAIVED " ++ (waived ++ 10 ∷ []))))))))))
-    ≡ words_line (codes "ENTRY" ∷ id ∷ word ∷ date ∷ codes "SUPBY" ∷ supby ∷ codes "DELBY" ∷ delby
-    ∷ codes "WAIVED" ∷ waived ∷ [])
-dated word date id supby delby waived =
-    let line = then (codes "ENTRY") (then id (then word (then date (supby_parts supby delby waived)))) in line.is
+pub entry_bare : (kind : ZoneKind) (e : Entry) {id delby : List ℕ} {supby waived : List (List ℕ)} → e.applied ≡ None
+    → id ≡ e.id
+    → delby ≡ optional_text e.delby → supby ≡ e.supby → waived ≡ e.waived
+    → words_line (codes "ENTRY" ∷ id ∷ codes "-" ∷ codes "SUPBY" ∷ list_text supby ∷ codes "DELBY" ∷ delby
+    ∷ codes "WAIVED" ∷ list_text waived ∷ []) ≡ line_text (EntryLine kind e)
+entry_bare Target e is id delby supby waived = rw (is, id, delby, supby, waived) refl
+entry_bare Distribution e is id delby supby waived = rw (is, id, delby, supby, waived) refl
 
--- the words of an entry
-pub entry_parts : (kind : ZoneKind) (applied : Option (List ℕ)) (id supby delby waived : List ℕ)
-    → codes "ENTRY " ++ (id ++ (32 ∷ (join_with_byte 32 (applied_words kind applied)
-    ++ (codes " SUPBY " ++ (supby ++ (codes " DELBY " ++ (delby ++ (codes " WAIVED " ++ (waived ++ 10 ∷ [])))))))))
-    ≡ words_line (codes "ENTRY" ∷ id ∷ applied_words kind applied
-    ++ codes "SUPBY" ∷ supby ∷ codes "DELBY" ∷ delby ∷ codes "WAIVED" ∷ waived ∷ [])
-entry_parts Target None id supby delby waived =
-    let line = then (codes "ENTRY") (then id (then (codes "-") (supby_parts supby delby waived))) in line.is
-entry_parts Distribution None id supby delby waived =
-    let line = then (codes "ENTRY") (then id (then (codes "-") (supby_parts supby delby waived))) in line.is
-entry_parts Target (Some date) id supby delby waived =
-    dated (codes "APPLIED") date id supby delby waived
-entry_parts Distribution (Some date) id supby delby waived =
-    dated (codes "ACCEPTED") date id supby delby waived
-
--- the words of an element
-pub element_parts : (type name fmid rmid umids distlib syslib : List ℕ)
-    → codes "ELEM " ++ (type ++ (32 ∷ (name ++ (codes " FMID " ++ (fmid ++ (codes " RMID " ++ (rmid
-    ++ (codes " UMID " ++
-    (umids ++ (codes " DISTLIB " ++ (distlib ++ (codes " SYSLIB " ++ (syslib ++ 10 ∷ [])))))))))))))
-    ≡ words_line (codes "ELEM" ∷ type ∷ name ∷ codes "FMID" ∷ fmid ∷ codes "RMID" ∷ rmid ∷ codes "UMID" ∷ umids
-    ∷ codes "DISTLIB" ∷ distlib ∷ codes "SYSLIB" ∷ syslib ∷ [])
-element_parts type name fmid rmid umids distlib syslib =
-    let line = then (codes "ELEM") (then type (then name (then (codes "FMID") (then fmid (then (codes "RMID") (then rmid
-    (then (codes "UMID") (then umids (then (codes "DISTLIB") (then distlib (then (codes "SYSLIB")
-    (last syslib)))))))))))) in
-    line.is
+-- whether a hold is internal
+pub mark_is : (b : Bool) → (if b then codes "INTERNAL" else codes "EXTERNAL") ≡ mark_text b
+mark_is true = refl
+mark_is false = refl
 
 -- the texts of lists of lists
 pub flat_map_flat_map : {X Y Z : Type 0} (f : Y → List Z) (h : X → List Y) (xs : List X)

@@ -9,15 +9,15 @@ use Rattle.std.specs.Option.{option_map_or}
 use Rattle.std.specs.Str.{bytes_eq}
 use Rattle.std.proofs.lemmas.List.Elements.{Contains-append_left, Contains-append_right}
 use Rattle.std.proofs.lemmas.List.Kept.{AllPairs-filter}
-use Rattle.lemmas.proofs.Members.{here, none_in, in_map, in_filter, filter_in, in_flat}
-use Rattle.lemmas.proofs.Pairs.{pairs_map}
-use Rattle.lemmas.proofs.Searches.{find_gives}
-use Rattle.lemmas.proofs.Texts.{same_from, same_or_not}
+use Rattle.terms.proofs.ListMembers.{here, none_in, in_map, in_filter, filter_in, in_flat}
+use Rattle.terms.proofs.Pairs.{pairs_map}
+use Rattle.terms.proofs.Searches.{find_gives}
+use Rattle.terms.proofs.TextOrder.{same_from, same_or_not}
 use Rattle.terms.specs.Types.{Id, Ver, Sysmod, Entry, Global, Zone}
 use Rattle.terms.specs.Lookups.{IsRising, at_most_one, is_nil, sysmod_of, is_before}
 use Rattle.terms.specs.Choice.{Choice, vers_of, place, counting, sup_of}
 use Rattle.sysmods.specs.Choices.{has_ver}
-use Rattle.lemmas.proofs.Places.{contains_at}
+use Rattle.terms.proofs.Places.{contains_at}
 use Rattle.terms.specs.Over.{Reaches}
 use Rattle.terms.specs.Global.{IsGlobal, named, names_for}
 use Rattle.terms.proofs.Leads.{reaches_more}

@@ -15,11 +15,6 @@ use Rattle.report.specs.Resolvers.{Resolvers, resolvers_of}
 abbrev pub Resolve : Resolvers → OpenError → List Id → Type 0
 Resolve all o ids = IsRising ids × ((y : Id) → Contains ids y ↔ Contains (resolvers_of all o.reason) y)
 
--- the line of a hold
-abbrev pub IsLineOf : Resolvers → OpenError → Line → Type 0
-IsLineOf all o line =
-    (ids : List Id) → Resolve all o ids → line_view line ≡ machine.ErrsysmodLine o.id o.reason ids
-
 -- a line for each hold
 abbrev pub AreLinesOf : Resolvers → List OpenError → List Line → Type 0
 AreLinesOf all errors lines =

@@ -2,7 +2,7 @@
 ghost use Rattle.std.specs.Prelude.{◌≡◌, ◌++◌, IfOk, OnOk, filter};
 ghost use Rattle.std.specs.List.{flat_map};
 ghost use Rattle.machine.specs.Errsysmods.{is_current};
-ghost use Rattle.report.specs.ErrorHolds.{open_of, open_on, open_in};
+ghost use Rattle.report.specs.ErrorHolds.{open_of, open_on};
 
 use fields::Id;
 use std::alloc::{AllocError, Global};
@@ -58,21 +58,6 @@ fn is_current(entry: &Entry) -> bool
     entry.applied.is_some() && entry.supby.is_empty()
 }
 
-// Those on an entry, if it is applied and superseded by nothing.
-fn append_of_entry(
-    global: &GlobalZone,
-    zone: &Zone,
-    entry: &Entry,
-    found: &mut Vec<OpenError>,
-) -> Result<(), AllocError>
-    ensures { OnOk result (found.new.items ≡ found.old.items ++ open_in global.now zone.now entry.now) }
-{
-    if is_current(entry) {
-        append_holds(global, zone, entry.id, found)?;
-    }
-    Ok(())
-}
-
 /// The open ERROR holds, by the entries and then by reason.
 pub(crate) fn open_errors(
     alloc: Global,
@@ -84,7 +69,9 @@ pub(crate) fn open_errors(
 {
     let mut found = Vec::new(alloc);
     for entry in zone.entries() {
-        append_of_entry(global, zone, entry, &mut found)?;
+        if is_current(entry) {
+            append_holds(global, zone, entry.id, &mut found)?;
+        }
     }
     Ok(found)
 }

@@ -2,7 +2,7 @@
 ghost use Rattle.std.specs.Prelude.{◌≡◌, [], IfOk};
 ghost use Rattle.terms.specs.Choice.{counting};
 ghost use Rattle.sysmods.specs.Choices.{has_ver};
-ghost use Rattle.report.specs.ErrsysmodLines.{AreLinesOf, IsLineOf, IsReportOf};
+ghost use Rattle.report.specs.ErrsysmodLines.{AreLinesOf, IsReportOf};
 ghost use Rattle.report.specs.Resolvers.{AreResolvers};
 
 use crate::error_holds::{OpenError, open_errors};
@@ -22,44 +22,22 @@ fn reason_of(id: Id) -> Reason
     Reason::read(id.as_bytes()).unwrap()
 }
 
-fn line_of(alloc: Global, all: &Resolvers, error: OpenError) -> Result<Line, AllocError>
-    ensures { IfOk result (IsLineOf all.now error) }
-{
-    let ids = resolvers(alloc, all, error.reason)?;
-    Ok(Line::Errsysmod {
-        id: error.id,
-        reason: reason_of(error.reason),
-        resolvers: Vec::from_slice(alloc, ids.as_slice())?,
-    })
-}
-
 fn lines_of(alloc: Global, all: &Resolvers, errors: &[OpenError]) -> Result<Vec<Line>, AllocError>
     ensures { IfOk result (λ lines. AreLinesOf all.now errors.now lines.items) }
 {
     let mut lines = Vec::new(alloc);
     for error in errors {
-        lines.push(line_of(alloc, all, *error)?)?;
+        let ids = resolvers(alloc, all, error.reason)?;
+        lines.push(Line::Errsysmod {
+            id: error.id,
+            reason: reason_of(error.reason),
+            resolvers: Vec::from_slice(alloc, ids.as_slice())?,
+        })?;
     }
     Ok(lines)
 }
 
-// What resolves each reason of them, among all received SYSMODs.
-fn searched(
-    alloc: Global,
-    global: &GlobalZone,
-    zone: &Zone,
-    errors: &[OpenError],
-) -> Result<Resolvers, AllocError>
-    ensures { IfOk result
-        (AreResolvers global.now (has_ver global.now zone.now.srel) (counting global.now zone.now []) errors.now) }
-{
-    let cands = IdList::new(alloc);
-    let vers = choose(alloc, global, zone, &cands)?;
-    let asked = reasons(alloc, errors)?;
-    all_resolvers(alloc, global, &vers, &asked)
-}
-
-// What resolves each reason of them. Where nothing is held, nothing is searched.
+// What resolves each reason of them, among all received SYSMODs. Where nothing is held, nothing is searched.
 fn gathered(
     alloc: Global,
     global: &GlobalZone,
@@ -72,7 +50,10 @@ fn gathered(
     if errors.is_empty() {
         return Ok(BTreeMap::new(alloc));
     }
-    searched(alloc, global, zone, errors)
+    let cands = IdList::new(alloc);
+    let vers = choose(alloc, global, zone, &cands)?;
+    let asked = reasons(alloc, errors)?;
+    all_resolvers(alloc, global, &vers, &asked)
 }
 
 /// REPORT ERRSYSMODS of the zone of this name. An error comes where memory runs out.

@@ -17,6 +17,7 @@ mod pieces;
 mod places;
 mod resolvers;
 mod sink;
+mod words;
 mod write;
 mod zone_lines;
 

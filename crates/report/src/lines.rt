@@ -1,10 +1,9 @@
 //! The text of lines.
-ghost use Rattle.std.specs.Prelude.{◌≡◌, ◌∷◌, [], codes, decimal, option_map, if◌then◌else◌};
-ghost use Rattle.std.specs.List.{flat_map};
+ghost use Rattle.std.specs.Prelude.{◌≡◌, ◌∷◌, [], codes, decimal, option_map};
 ghost use Rattle.terms.specs.Spelling.{mc_text, test_text, need_text};
 ghost use Rattle.machine.specs.Outcome.{StatusLine};
 ghost use Rattle.machine.specs.Report.{words_line, optional_text, header_text, refused_text, place_text, status_word};
-ghost use Rattle.machine.specs.Report.{status_detail, failure_text, details, line_text, detail_line};
+ghost use Rattle.machine.specs.Report.{status_detail, failure_text, details, line_text, left_in};
 ghost use Rattle.terms.specs.Lookups.{at_most_one};
 ghost use Rattle.report.specs.Paged.{Paged};
 ghost use Rattle.decide.specs.Views.{failure_view};
@@ -13,14 +12,14 @@ ghost use Rattle.report.specs.Views.{header_view, refusal_view, place_view, stat
 use crate::errsysmod::put_errsysmod;
 use crate::outcome::{Header, Line, Place, Refusal, Status};
 use crate::page::Page;
-use crate::pieces::{put_left, put_number};
 use crate::sink::Sink;
-use decide::{Failure, OpenNeed};
+use crate::words::{Word, put_words};
+use decide::Failure;
 use fields::spelling::{
     hold_text, kind_text, mc_text, need_text, refusal_text, test_text, word_text,
 };
 use fields::{Id, ZoneName};
-use terms::{McCode, Test};
+use terms::McCode;
 
 fn zone_text(zone: &Option<ZoneName>) -> &[u8]
     ensures { result.now ≡ optional_text zone.now }
@@ -31,21 +30,17 @@ fn zone_text(zone: &Option<ZoneName>) -> &[u8]
     }
 }
 
-fn check_text(check: bool) -> &'static [u8]
-    ensures { result.now ≡ (if check then codes " CHECK" else []) }
-{
-    if check { b" CHECK" } else { b"" }
-}
-
 /// A command's word, its boundary or `-`, and CHECK.
 pub(crate) fn put_header<W: Sink>(header: &Header, page: &mut Page<'_, W>)
     ensures { Paged W.Sink page.old page.new (header_text (header_view header.now)) }
 {
-    page.put(word_text(header.word));
-    page.put(b" ");
-    page.put(zone_text(&header.boundary));
-    page.put(check_text(header.check));
-    page.put(b"\n");
+    let word = word_text(header.word);
+    let zone = Word::Of(zone_text(&header.boundary));
+    if header.check {
+        put_words(word, &[zone, Word::Of(b"CHECK")], page);
+        return;
+    }
+    put_words(word, &[zone], page);
 }
 
 /// The place of a fault, and its code.
@@ -53,13 +48,13 @@ fn put_fault<W: Sink>(word: &[u8], number: usize, code: McCode, page: &mut Page<
     ensures { Paged W.Sink page.old page.new
         (words_line (codes "REFUSED" ∷ word.now ∷ codes "RECORD" ∷ decimal number ∷ mc_text code ∷ [])) }
 {
-    page.put(b"REFUSED ");
-    page.put(word);
-    page.put(b" RECORD ");
-    put_number(number, page);
-    page.put(b" ");
-    page.put(mc_text(code));
-    page.put(b"\n");
+    let words = [
+        Word::Of(word),
+        Word::Of(b"RECORD"),
+        Word::Number(number),
+        Word::Of(mc_text(code)),
+    ];
+    put_words(b"REFUSED", &words, page);
 }
 
 /// The one line of a refused command.
@@ -123,51 +118,38 @@ fn status_detail(status: &Status) -> Option<&[u8]>
     }
 }
 
-/// `TEST` lines.
-fn put_tests<W: Sink>(tests: &[Test], page: &mut Page<'_, W>)
-    ensures { Paged W.Sink page.old page.new
-        (flat_map (λ t. detail_line (codes "TEST" ∷ test_text t ∷ [])) tests.now) }
-{
-    for test in tests {
-        page.put(b"  TEST ");
-        page.put(test_text(*test));
-        page.put(b"\n");
-    }
-}
-
-/// `NEED` lines.
-fn put_needs<W: Sink>(needs: &[OpenNeed], page: &mut Page<'_, W>)
-    ensures { Paged W.Sink page.old page.new
-        (flat_map (λ n. detail_line (codes "NEED" ∷ need_text n.kind ∷ n.id ∷ [])) needs.now) }
-{
-    for need in needs {
-        page.put(b"  NEED ");
-        page.put(need_text(need.kind));
-        page.put(b" ");
-        page.put(need.id.as_bytes());
-        page.put(b"\n");
-    }
-}
-
-/// `CAUSER` lines.
-fn put_causers<W: Sink>(causers: &[Id], page: &mut Page<'_, W>)
-    ensures { Paged W.Sink page.old page.new
-        (flat_map (λ id. detail_line (codes "CAUSER" ∷ id ∷ [])) causers.now) }
-{
-    for causer in causers {
-        page.put(b"  CAUSER ");
-        page.put(causer.as_bytes());
-        page.put(b"\n");
-    }
-}
-
 /// The lines behind FAILED.
 fn put_failure<W: Sink>(failure: &Failure, page: &mut Page<'_, W>)
     ensures { Paged W.Sink page.old page.new (failure_text (failure_view failure.now)) }
 {
-    put_tests(&failure.tests, page);
-    put_needs(&failure.needs, page);
-    put_causers(&failure.causers, page);
+    for test in failure.tests.as_slice() {
+        put_words(b"  TEST", &[Word::Of(test_text(*test))], page);
+    }
+    for need in failure.needs.as_slice() {
+        let words = [Word::Of(need_text(need.kind)), Word::Of(need.id.as_bytes())];
+        put_words(b"  NEED", &words, page);
+    }
+    for causer in failure.causers.as_slice() {
+        put_words(b"  CAUSER", &[Word::Of(causer.as_bytes())], page);
+    }
+}
+
+/// A status line alone.
+fn put_status_words<'a, W: Sink>(
+    id: Id,
+    place: &'a Place,
+    status: &'a Status,
+    page: &mut Page<'_, W>,
+)
+    ensures { Paged W.Sink page.old page.new (words_line (id ∷ left_in 8 (place_text (place_view place.now))
+        ∷ status_word (status_view status.now) ∷ status_detail (status_view status.now))) }
+{
+    let place = Word::Left(8, place_text(place));
+    let word = Word::Of(status_word(status));
+    match status_detail(status) {
+        Some(detail) => put_words(id.as_bytes(), &[place, word, Word::Of(detail)], page),
+        None => put_words(id.as_bytes(), &[place, word], page),
+    }
 }
 
 /// A status line, and the lines behind FAILED.
@@ -175,25 +157,8 @@ fn put_status<W: Sink>(id: Id, place: &Place, status: &Status, page: &mut Page<'
     ensures { Paged W.Sink page.old page.new
         (line_text (StatusLine id (place_view place.now) (status_view status.now))) }
 {
-    page.put(id.as_bytes());
-    page.put(b" ");
-    put_left(place_text(place), 8, page);
-    page.put(b" ");
-    page.put(status_word(status));
-    put_detail(status_detail(status), page);
-    page.put(b"\n");
+    put_status_words(id, place, status, page);
     put_details(status, page);
-}
-
-/// A word behind a blank, if there is one.
-fn put_detail<W: Sink>(detail: Option<&[u8]>, page: &mut Page<'_, W>)
-    ensures { Paged W.Sink page.old page.new
-        (flat_map (λ t. 32 ∷ t) (at_most_one (option_map (λ t. t.now) detail.entry))) }
-{
-    if let Some(text) = detail {
-        page.put(b" ");
-        page.put(text);
-    }
 }
 
 /// The lines behind FAILED; behind another status there are none.
@@ -216,6 +181,6 @@ pub(crate) fn put_line<W: Sink>(line: &Line, page: &mut Page<'_, W>)
             id,
             reason,
             resolvers,
-        } => put_errsysmod(*id, *reason, resolvers, page),
+        } => put_errsysmod(id, reason, resolvers, page),
     }
 }

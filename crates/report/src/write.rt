@@ -1,42 +1,36 @@
 //! The text of an outcome.
 ghost use Rattle.std.specs.Prelude.{◌≡◌, ◌<◌, ◌≤◌, [], map, length, is_err, IfOk};
 ghost use Rattle.std.specs.List.{flat_map};
-ghost use Rattle.machine.specs.Outcome.{status_code, line_code, lines_code, outcome_code, Control};
+ghost use Rattle.machine.specs.Outcome.{line_code, lines_code, outcome_code, Control};
 ghost use Rattle.machine.specs.Report.{line_text, code_text, text};
 ghost use Rattle.report.specs.Paged.{Paged};
 ghost use Rattle.report.specs.Sent.{Sent};
-ghost use Rattle.report.specs.Views.{status_view, line_view, outcome_view};
+ghost use Rattle.report.specs.Views.{line_view, outcome_view};
 
 use crate::global_lines::put_global;
 use crate::lines::{put_header, put_line, put_refusal};
 use crate::outcome::{Line, Outcome, Status};
 use crate::page::Page;
-use crate::pieces::put_number;
 use crate::sink::{Sink, WriteFault};
+use crate::words::{Word, put_words};
 use crate::zone_lines::put_zone;
 use fields::spelling::cn_text;
-use terms::{CnCode, IdRefusal};
-
-fn status_code(status: &Status) -> u8
-    ensures { result ≡ status_code (status_view status.now) }
-{
-    match status {
-        Status::Already | Status::Unknown => 4,
-        Status::Refused(IdRefusal::Rl1 | IdRefusal::Rl2) => 4,
-        Status::Refused(_) => 8,
-        Status::Failed(_) | Status::Deleted | Status::Missing => 8,
-        Status::NoVer | Status::NotApplied => 8,
-        _ => 0,
-    }
-}
+use terms::IdRefusal;
 
 fn line_code(line: &Line) -> u8
     ensures code { result ≡ line_code (line_view line.now) }
     ensures most { result ≤ 12 }
 {
     match line {
-        Line::Status { status, .. } => status_code(status),
         Line::Nothing | Line::Errsysmod { .. } => 4,
+        Line::Status { status, .. } => match status {
+            Status::Already | Status::Unknown => 4,
+            Status::Refused(IdRefusal::Rl1 | IdRefusal::Rl2) => 4,
+            Status::Refused(_) => 8,
+            Status::Failed(_) | Status::Deleted | Status::Missing => 8,
+            Status::NoVer | Status::NotApplied => 8,
+            _ => 0,
+        },
     }
 }
 
@@ -61,18 +55,6 @@ fn put_code<W: Sink>(code: u8, page: &mut Page<'_, W>)
     ensures some { 0 < length page.new.waiting.items }
 {
     page.put(&[b'R', b'C', b' ', b'0' + code / 10, b'0' + code % 10, b'\n']);
-}
-
-/// Puts the one line of a command file that is at fault on the page.
-fn put_control<W: Sink>(number: usize, code: CnCode, page: &mut Page<'_, W>)
-    ensures paged { Paged W.Sink page.old page.new (text (Control (record { number = number; code = code }))) }
-    ensures some { 0 < length page.new.waiting.items }
-{
-    page.put(b"CONTROL RECORD ");
-    put_number(number, page);
-    page.put(b" ");
-    page.put(cn_text(code));
-    page.put(b"\n");
 }
 
 /// Puts the text of an outcome on the page, and answers its return code.
@@ -107,7 +89,12 @@ fn put_outcome<W: Sink>(outcome: &Outcome<'_>, page: &mut Page<'_, W>) -> u8
             12
         }
         Outcome::Control { number, code } => {
-            put_control(*number, *code, page);
+            let words = [
+                Word::Of(b"RECORD"),
+                Word::Number(*number),
+                Word::Of(cn_text(*code)),
+            ];
+            put_words(b"CONTROL", &words, page);
             12
         }
     }

@@ -2,8 +2,8 @@
 use Rattle.std.proofs.Common.{◌≡◌, ◌∙◌, ℕ, zero, suc, List, [], ◌∷◌, ◌++◌, map}
 use Rattle.std.proofs.Common.{Some, refl, sym, ap, subst, slice_get}
 use Rattle.std.proofs.Common.{append_assoc, append-nil, subst₂}
-use Rattle.lemmas.specs.Beside.{Beside}
-use Rattle.lemmas.proofs.BesideLists.{beside_more}
+use Rattle.terms.specs.Beside.{Beside}
+use Rattle.terms.proofs.BesideLists.{beside_more}
 
 module _ {X Y : Type 0} (R : X → Y → Type 0) where
   abbrev pub By : ℕ → X → Y → Type 0

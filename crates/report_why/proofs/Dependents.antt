@@ -2,7 +2,7 @@
 use Rattle.std.proofs.Common.{◌≡◌, ◌∙◌, inl, inr, Bool, List, [], ◌∷◌, filter, refl, sym, ap, subst, Contains}
 use Rattle.std.specs.Prelude.{◌↔◌, All}
 use Rattle.std.proofs.lemmas.List.Elements.{All-contains}
-use Rattle.lemmas.proofs.Members.{here, here_or, none_in, in_filter, filter_in, in_flat, flat_in}
+use Rattle.terms.proofs.ListMembers.{here, here_or, none_in, in_filter, filter_in, in_flat, flat_in}
 use Rattle.terms.specs.declared.codes.NeedKind.{NeedKind}
 use Rattle.terms.specs.declared.codes.NeedKind.TheVariants.{Fmid, Pre, Req, Ifreq, HoldError, Orphan, Elem, Dep}
 use Rattle.terms.specs.Types.{Id, Global, Zone}

@@ -1,7 +1,7 @@
 -- Who made an element, as it is found.
 use Rattle.std.proofs.Common.{◌≡◌, map}
 use Rattle.std.specs.Str.{bytes_eq}
-use Rattle.lemmas.specs.Beside.{Beside}
+use Rattle.terms.specs.Beside.{Beside}
 use Rattle.terms.specs.Types.{Id, Element}
 use Rattle.terms.specs.Tests.{Setting, owner_of}
 use Rattle.terms.specs.Facts.{IsRank, IsFound}

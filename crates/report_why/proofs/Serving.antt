@@ -1,13 +1,13 @@
 -- Those of a list that may serve, as they come in.
 use Rattle.std.proofs.Common.{◌≡◌, ◌∙◌, ◌⊎◌, inl, inr, ℕ, ◌<◌, ◌+◌, List, [], ◌∷◌, ◌++◌, take, length, get_or, Contains}
-use Rattle.std.proofs.Common.{sym, ap, subst, refl, Bool, true, false, cond, append-nil, true≢false, IsTrue}
+use Rattle.std.proofs.Common.{sym, ap, subst, refl, Bool, true, false, cond, append-nil, true≢false, filter, IsTrue}
 use Rattle.std.proofs.lemmas.Bool.{false≢true}
 use Rattle.std.specs.Prelude.{◌↔◌}
 use Rattle.std.proofs.lemmas.List.{take_more}
 use Rattle.std.proofs.lemmas.List.Elements.{Contains-append_left, Contains-append_right, Contains-append_cases}
 use Rattle.std.specs.Str.{bytes_eq}
-use Rattle.lemmas.proofs.Texts.{same_itself}
-use Rattle.lemmas.proofs.Members.{here, here_or, none_in}
+use Rattle.terms.proofs.TextOrder.{same_itself}
+use Rattle.terms.proofs.ListMembers.{here, here_or, none_in, in_filter, filter_in}
 use Rattle.terms.specs.declared.codes.NeedKind.{NeedKind}
 use Rattle.terms.specs.Types.{Id}
 use Rattle.terms.specs.Lookups.{is_in}
@@ -83,11 +83,17 @@ module _ (May : Id → Type 0) where
         ],
       )
 
-  -- those of a list that has all of them, in another order
-  pub all_serving : (xs known found ids : List Id) → ((y : Id) → May y → Contains known y) → xs ≡ known
-      → ((y : Id) → Contains found y ↔ (Contains xs y × May y)) → ((y : Id) → Contains ids y ↔ Contains found y)
-      → (y : Id) → Contains ids y ↔ May y
-  all_serving xs known found ids all same are sorted y = (
-    λ h. ((are y).0 ((sorted y).0 h)).1,
-    λ may. (sorted y).1 ((are y).1 (subst (λ l. Contains l y) (sym same) (all y may), may)),
-  )
+-- those of the SYSMODs that may be installed that serve, in another order
+pub all_serving : (p : Id → Bool) (Serve : Id → Type 0) (xs known given found ids : List Id)
+    → ((y : Id) → IsTrue (p y) → Contains known y) → xs ≡ known → given ≡ filter p xs
+    → ((y : Id) → Contains found y ↔ (Contains given y × Serve y))
+    → ((y : Id) → Contains ids y ↔ Contains found y) → (y : Id) → Contains ids y ↔ (IsTrue (p y) × Serve y)
+all_serving p Serve xs known given found ids all same passing are sorted y = (
+  λ h. let both = (are y).0 ((sorted y).0 h) in
+      ((filter_in p xs y (subst (λ l. Contains l y) passing both.0)).1, both.1),
+  λ h. (sorted y).1 ((are y).1 (
+    subst (λ l. Contains l y) (sym passing)
+        (in_filter p xs y (subst (λ l. Contains l y) (sym same) (all y h.0)) h.0),
+    h.1,
+  )),
+)

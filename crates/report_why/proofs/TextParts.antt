@@ -1,23 +1,25 @@
--- Texts of facts, as the pieces that are put one behind the other.
-use Rattle.std.proofs.Common.{◌≡◌, ◌∙◌, ◌<◌, ◌+◌, ℕ, List, [], ◌∷◌, ◌++◌, Option, None, Some, length, map, take, drop}
-use Rattle.std.proofs.Common.{get_or, refl, sym, ap, arith, append_assoc, add-one, drop-cons}
-use Rattle.std.specs.Prelude.{codes, max}
-use Rattle.std.specs.List.{flat_map, join_with_byte}
+-- Texts of facts, as the lines that are put one behind the other.
+use Rattle.std.proofs.Common.{◌≡◌, ◌∙◌, ◌<◌, ◌+◌, ℕ, Bool, true, false, List, [], ◌∷◌, ◌++◌, None, Some, length, map}
+use Rattle.std.proofs.Common.{take}
+use Rattle.std.proofs.Common.{drop, get_or, refl, sym, ap, arith, append_assoc, add-one, drop-cons}
+use Rattle.std.specs.Prelude.{codes, max, if◌then◌else◌}
+use Rattle.std.specs.List.{flat_map}
 use Rattle.std.proofs.lemmas.List.{append-nil}
-use Rattle.std.proofs.lemmas.List.Concat.{flat_map-append}
-use Rattle.lemmas.proofs.Lists.{joined, flat_next}
+use Rattle.std.proofs.lemmas.List.Folds.{flat_map-map}
+use Rattle.terms.proofs.Lists.{joined, flat_next}
 use Rattle.terms.specs.declared.kinds.ZoneKind.{ZoneKind}
 use Rattle.terms.specs.declared.kinds.ZoneKind.TheVariants.{Target, Distribution}
-use Rattle.terms.specs.Types.{Hold}
-use Rattle.terms.specs.Spelling.{need_text, hold_text}
-use Rattle.terms.specs.Facts.{Requisite, Answer, Found, RequisiteFact, HoldFact, StandsApplied}
-use Rattle.machine.specs.Report.{words_line, detail_line, list_text, applied_words, left_in, mark_text, optional_text}
-use Rattle.machine.specs.FactText.{inner_line, id_lines, answer_word, answer_lines, condition_words, found_words}
-use Rattle.machine.specs.FactText.{found_lines, maker_line, owned_text, standing_text, resolution_words}
-use Rattle.machine.specs.FactText.{resolution_lines, comment_line, fact_text, fact_code, facts_code}
+use Rattle.terms.specs.declared.kinds.ElemType.{ElemType}
+use Rattle.terms.specs.Types.{Hold, Entry, Applied}
+use Rattle.terms.specs.Spelling.{need_text, hold_text, type_text}
+use Rattle.terms.specs.Facts.{Requisite, Answer, Found, RequisiteFact, HoldFact, ElementFact, EntryFact, StandsApplied}
+use Rattle.machine.specs.Report.{words_line, left_in, list_text, mark_text, optional_text}
+use Rattle.machine.specs.FactText.{inner_line, id_lines, answer_word, answer_lines, owned_text, change_text, word_if}
+use Rattle.machine.specs.FactText.{maker_line, standing_text, comment_line, fact_text, fact_code, facts_code}
+use Rattle.report_why.specs.declared.line.Word.{Word}
 use Rattle.report_why.specs.declared.fact.Fact.{Fact}
+use Rattle.report_why.specs.LineWords.{word_text}
 use Rattle.report_why.specs.Views.{fact_view}
-use Rattle.report_why.specs.HoldWords.{hold_words}
 
 -- the text of one item more
 pub flat_more : {X : Type 0} (f : X → List ℕ) (xs : List X) (i : ℕ) (x : X) (old mid new : List ℕ) → i < length xs
@@ -27,19 +29,22 @@ flat_more f xs i x old mid new below at before more =
     more ∙ ap (λ l. l ++ f x) before ∙ append_assoc old (flat_map f (take i xs)) (f x)
     ∙ ap (λ l. old ++ l) (sym (flat_next f xs i x below at))
 
--- a list of no ids, and one of some: the first, and each other one behind a comma
-pub list_text_none : (xs : List (List ℕ)) → length xs ≡ 0 → list_text xs ≡ codes "-"
-list_text_none [] none = refl
-list_text_none (x ∷ xs) none = absurd (omega (arith, none))
-
-pub list_text_parts : (xs : List (List ℕ)) (d : List ℕ) → 0 < length xs
-    → get_or xs 0 d ++ flat_map (λ y. 44 ∷ y) (drop 1 xs) ≡ list_text xs
-list_text_parts [] d some = absurd (omega (arith, some))
-list_text_parts (x ∷ xs) d some = joined 44 x xs
+-- the first word, the others, each behind a blank, and the newline
+pub words_put : (words : List Word) (start old : List ℕ) {t1 t2 : List ℕ} → t1 ≡ old ++ start
+    → t2 ≡ t1 ++ flat_map (λ w. 32 ∷ word_text w) words
+    → t2 ++ 10 ∷ [] ≡ old ++ words_line (start ∷ map word_text words)
+words_put words start old e1 e2 =
+    ap (λ t. t ++ 10 ∷ []) (e2 ∙ ap (λ t. t ++ flat_map (λ w. 32 ∷ word_text w) words) e1)
+    ∙ regroup old start (flat_map (λ w. 32 ∷ word_text w) words) (10 ∷ [])
+    ∙ ap (λ t. old ++ (t ++ 10 ∷ []))
+    (ap (λ t. start ++ t) (sym (flat_map-map (λ w. 32 ∷ w) word_text words)) ∙ joined 32 start (map word_text words))
+  where
+    regroup : (a b c d : List ℕ) → ((a ++ b) ++ c) ++ d ≡ a ++ ((b ++ c) ++ d)
+    regroup a b c d = simp append_assoc
 
 -- the lines of no ids, and of some
 pub id_lines_none : (word : List ℕ) (xs : List (List ℕ)) → length xs ≡ 0
-    → id_lines word xs ≡ inner_line (word ∷ codes "-" ∷ [])
+    → inner_line (word ∷ codes "-" ∷ []) ≡ id_lines word xs
 id_lines_none word [] none = refl
 id_lines_none word (x ∷ xs) none = absurd (omega (arith, none))
 
@@ -48,199 +53,104 @@ pub id_lines_some : (word : List ℕ) (xs : List (List ℕ)) → 0 < length xs
 id_lines_some word [] some = absurd (omega (arith, some))
 id_lines_some word (x ∷ xs) some = refl
 
--- words behind the words of a line
-words_more : (x : List ℕ) (xs more : List (List ℕ))
-    → join_with_byte 32 (x ∷ xs) ++ flat_map (λ w. 32 ∷ w) more ≡ join_with_byte 32 (x ∷ (xs ++ more))
-words_more x xs more =
-    ap (λ t. t ++ flat_map (λ w. 32 ∷ w) more) (sym (joined 32 x xs))
-    ∙ append_assoc x (flat_map (λ w. 32 ∷ w) xs) (flat_map (λ w. 32 ∷ w) more)
-    ∙ ap (λ t. x ++ t) (sym (flat_map-append (λ w. 32 ∷ w) xs more))
-    ∙ joined 32 x (xs ++ more)
+-- words that tell whether something is so
+pub flag_is : (b : Bool) (word : List ℕ) → (if b then word else codes "-") ≡ word_if b word
+flag_is true word = refl
+flag_is false word = refl
 
--- the words of something that is asked for, and the lines behind them
-requisite_words : (kind id : List ℕ) (condition : List (List ℕ)) (answer : List ℕ)
-    → kind ++ 32 ∷ (id ++ (flat_map (λ w. 32 ∷ w) condition ++ 32 ∷ answer))
-    ≡ join_with_byte 32 (kind ∷ id ∷ (condition ++ (answer ∷ [])))
-requisite_words kind id condition answer =
-    ap (λ t. kind ++ 32 ∷ (id ++ (flat_map (λ w. 32 ∷ w) condition ++ 32 ∷ t))) (sym (append-nil answer))
-    ∙ ap (λ t. kind ++ 32 ∷ (id ++ t)) (sym (flat_map-append (λ w. 32 ∷ w) condition (answer ∷ [])))
-    ∙ joined 32 kind (id ∷ (condition ++ (answer ∷ [])))
+mark_is : (b : Bool) → (if b then codes "INTERNAL" else codes "EXTERNAL") ≡ mark_text b
+mark_is true = refl
+mark_is false = refl
 
-seven_pieces : (a b c d e f g h : List ℕ)
-    → ((((((a ++ b) ++ c) ++ d) ++ e) ++ f) ++ g) ++ h ≡ (a ++ (b ++ (c ++ (d ++ (e ++ (f ++ g)))))) ++ h
-seven_pieces a b c d e f g h = simp append_assoc
+owned_is : (b : Bool) → (if b then codes "OWNED" else codes "NOTOWNED") ≡ owned_text b
+owned_is true = refl
+owned_is false = refl
 
-requisite_line : (old kind id condition answer lines : List ℕ)
-    → ((((((old ++ 32 ∷ 32 ∷ []) ++ kind) ++ 32 ∷ id) ++ condition) ++ 32 ∷ answer) ++ 10 ∷ []) ++ lines
-    ≡ old ++ ((32 ∷ 32 ∷ ((kind ++ 32 ∷ (id ++ (condition ++ 32 ∷ answer))) ++ 10 ∷ [])) ++ lines)
-requisite_line old kind id condition answer lines =
-    seven_pieces old (32 ∷ 32 ∷ []) kind (32 ∷ id) condition (32 ∷ answer) (10 ∷ []) lines
-    ∙ append_assoc old (32 ∷ 32 ∷ (kind ++ 32 ∷ (id ++ (condition ++ 32 ∷ (answer ++ 10 ∷ []))))) lines
-    ∙ ap (λ t. old ++ (32 ∷ 32 ∷ (t ++ lines)))
-    (sym (append_assoc kind (32 ∷ (id ++ (condition ++ 32 ∷ answer))) (10 ∷ [])
-    ∙ ap (λ t. kind ++ 32 ∷ t) (append_assoc id (condition ++ 32 ∷ answer) (10 ∷ [])
-    ∙ ap (λ t. id ++ t) (append_assoc condition (32 ∷ answer) (10 ∷ [])))))
+change_is : (b : Bool) → (if b then codes "REPLACES" else codes "UPDATES") ≡ change_text b
+change_is true = refl
+change_is false = refl
 
-pub requisite_put : (r : Requisite) (a : Answer) (old : List ℕ) {t1 t2 t3 t4 t5 t6 : List ℕ}
-    → t1 ≡ old ++ 32 ∷ 32 ∷ [] → t2 ≡ t1 ++ need_text r.kind → t3 ≡ t2 ++ 32 ∷ r.id
-    → t4 ≡ t3 ++ flat_map (λ w. 32 ∷ w) (condition_words r.function r.by) → t5 ≡ t4 ++ 32 ∷ answer_word a
-    → t6 ≡ t5 ++ 10 ∷ [] → t6 ++ answer_lines a ≡ old ++ fact_text (RequisiteFact r a)
-requisite_put r a old e1 e2 e3 e4 e5 e6 =
-    let condition : List (List ℕ) = condition_words r.function r.by in
-    ap (λ t. t ++ answer_lines a) (e6 ∙ ap (λ t. t ++ 10 ∷ []) (e5 ∙ ap (λ t. t ++ 32 ∷ answer_word a)
-    (e4 ∙ ap (λ t. t ++ flat_map (λ w. 32 ∷ w) condition) (e3 ∙ ap (λ t. t ++ 32 ∷ r.id)
-    (e2 ∙ ap (λ t. t ++ need_text r.kind) e1)))))
-    ∙ requisite_line old (need_text r.kind) r.id (flat_map (λ w. 32 ∷ w) condition) (answer_word a) (answer_lines a)
-    ∙ ap (λ t. old ++ ((32 ∷ 32 ∷ (t ++ 10 ∷ [])) ++ answer_lines a))
-    (requisite_words (need_text r.kind) r.id condition (answer_word a))
+-- lines behind others
+lines_behind : (old line lines : List ℕ) {t : List ℕ} → t ≡ old ++ line → t ++ lines ≡ old ++ (line ++ lines)
+lines_behind old line lines is = ap (λ t. t ++ lines) is ∙ append_assoc old line lines
 
--- the words of a hold
-pub hold_words_put : (kind reason mark class date old : List ℕ) {t1 t2 t3 t4 t5 t6 t7 : List ℕ}
-    → t1 ≡ old ++ codes "  HOLD " → t2 ≡ t1 ++ kind → t3 ≡ t2 ++ 32 ∷ reason → t4 ≡ t3 ++ 32 ∷ mark
-    → t5 ≡ t4 ++ codes " CLASS" → t6 ≡ t5 ++ 32 ∷ class → t7 ≡ t6 ++ codes " DATE"
-    → t7 ++ 32 ∷ date ≡ old ++ 32 ∷ 32 ∷ join_with_byte 32
-    (codes "HOLD" ∷ kind ∷ reason ∷ mark ∷ codes "CLASS" ∷ class ∷ codes "DATE" ∷ date ∷ [])
-hold_words_put kind reason mark class date old e1 e2 e3 e4 e5 e6 e7 =
-    ap (λ t. t ++ 32 ∷ date) (e7 ∙ ap (λ t. t ++ codes " DATE") (e6 ∙ ap (λ t. t ++ 32 ∷ class)
-    (e5 ∙ ap (λ t. t ++ codes " CLASS") (e4 ∙ ap (λ t. t ++ 32 ∷ mark) (e3 ∙ ap (λ t. t ++ 32 ∷ reason)
-    (e2 ∙ ap (λ t. t ++ kind) e1))))))
-    ∙ pieces old (codes "  HOLD ") kind (32 ∷ reason) (32 ∷ mark) (codes " CLASS") (32 ∷ class) (codes " DATE")
-    (32 ∷ date)
-  where
-    pieces : (a b c d e f g h i : List ℕ)
-        → (((((((a ++ b) ++ c) ++ d) ++ e) ++ f) ++ g) ++ h) ++ i
-        ≡ a ++ (b ++ (c ++ (d ++ (e ++ (f ++ (g ++ (h ++ i)))))))
-    pieces a b c d e f g h i = simp append_assoc
+-- something that is asked for by an ++IF, or otherwise
+pub requisite_by_if : (r : Requisite) (a : Answer) (f old : List ℕ) {kind id fmid by answered t : List ℕ}
+    → r.function ≡ Some f → kind ≡ need_text r.kind → id ≡ r.id → fmid ≡ f → by ≡ r.by → answered ≡ answer_word a
+    → t ≡ old ++ words_line (codes " " ∷ kind ∷ id ∷ codes "FMID" ∷ fmid ∷ codes "BY" ∷ by ∷ answered ∷ [])
+    → t ++ answer_lines a ≡ old ++ fact_text (RequisiteFact r a)
+requisite_by_if r a f old is kind id fmid by answered put =
+    lines_behind old _ (answer_lines a) put ∙ rw (is, kind, id, fmid, by, answered) refl
 
--- a resolution behind them, and the lines behind that
-pub hold_put : (h : Hold) (o : Option Answer) (old : List ℕ) {t1 t2 t3 t4 : List ℕ}
-    → t1 ≡ old ++ 32 ∷ 32 ∷ join_with_byte 32 (hold_words h)
-    → t2 ≡ t1 ++ flat_map (λ w. 32 ∷ w) (resolution_words o) → t3 ≡ t2 ++ 10 ∷ [] → t4 ≡ t3 ++ comment_line h.comment
-    → t4 ++ resolution_lines o ≡ old ++ fact_text (HoldFact h o)
-hold_put h o old e1 e2 e3 e4 =
-    let line : List ℕ = 32 ∷ 32 ∷ join_with_byte 32 (hold_words h) in
-    let more : List ℕ = flat_map (λ w. 32 ∷ w) (resolution_words o) in
-    ap (λ t. t ++ resolution_lines o) (e4 ∙ ap (λ t. t ++ comment_line h.comment) (e3 ∙ ap (λ t. t ++ 10 ∷ [])
-    (e2 ∙ ap (λ t. t ++ more) e1)))
-    ∙ regroup old line more (10 ∷ []) (comment_line h.comment) (resolution_lines o)
-    ∙ ap (λ t. old ++ (((32 ∷ 32 ∷ (t ++ 10 ∷ [])) ++ comment_line h.comment) ++ resolution_lines o))
-    (words_more (codes "HOLD") (left_in 6 (hold_text h.kind) ∷ h.reason ∷ mark_text h.internal ∷ codes "CLASS"
-    ∷ optional_text h.class ∷ codes "DATE" ∷ optional_text h.date ∷ []) (resolution_words o))
-  where
-    regroup : (a b c d e f : List ℕ) → ((((a ++ b) ++ c) ++ d) ++ e) ++ f ≡ a ++ ((((b ++ c) ++ d) ++ e) ++ f)
-    regroup a b c d e f = simp append_assoc
+pub requisite_by_itself : (r : Requisite) (a : Answer) (old : List ℕ) {kind id answered t : List ℕ}
+    → r.function ≡ None → kind ≡ need_text r.kind → id ≡ r.id → answered ≡ answer_word a
+    → t ≡ old ++ words_line (codes " " ∷ kind ∷ id ∷ answered ∷ [])
+    → t ++ answer_lines a ≡ old ++ fact_text (RequisiteFact r a)
+requisite_by_itself r a old is kind id answered put =
+    lines_behind old _ (answer_lines a) put ∙ rw (is, kind, id, answered) refl
 
--- what the zone has of an element
-pub found_put : (f : Found) (old : List ℕ) {t1 t2 t3 t4 : List ℕ} → t1 ≡ old ++ f.fmid
-    → t2 ≡ t1 ++ 32 ∷ owned_text f.owned → t3 ≡ t2 ++ 10 ∷ [] → t4 ≡ t3 ++ maker_line (codes "RMID") f.rmid
-    → t4 ++ flat_map (maker_line (codes "UMID")) f.umids
-    ≡ (old ++ words_line (found_words (Some f))) ++ found_lines (Some f)
-found_put f old e1 e2 e3 e4 =
+-- a hold whose reason has an answer, or none
+pub hold_answered : (h : Hold) (a : Answer) (old : List ℕ) {kind reason class date answered t1 t2 : List ℕ}
+    → kind ≡ hold_text h.kind → reason ≡ h.reason → class ≡ optional_text h.class → date ≡ optional_text h.date
+    → answered ≡ answer_word a
+    → t1 ≡ old ++ words_line (codes "  HOLD" ∷ left_in 6 kind ∷ reason
+    ∷ (if h.internal then codes "INTERNAL" else codes "EXTERNAL") ∷ codes "CLASS" ∷ class ∷ codes "DATE" ∷ date
+    ∷ answered ∷ [])
+    → t2 ≡ t1 ++ comment_line h.comment
+    → t2 ++ answer_lines a ≡ old ++ fact_text (HoldFact h (Some a))
+hold_answered h a old kind reason class date answered put more =
+    lines_behind old _ (answer_lines a) (more ∙ lines_behind old _ (comment_line h.comment) put)
+    ∙ rw (kind, reason, class, date, answered, mark_is h.internal) refl
+
+pub hold_unanswered : (h : Hold) (old : List ℕ) {kind reason class date t : List ℕ}
+    → kind ≡ hold_text h.kind → reason ≡ h.reason → class ≡ optional_text h.class → date ≡ optional_text h.date
+    → t ≡ old ++ words_line (codes "  HOLD" ∷ left_in 6 kind ∷ reason
+    ∷ (if h.internal then codes "INTERNAL" else codes "EXTERNAL") ∷ codes "CLASS" ∷ class ∷ codes "DATE" ∷ date ∷ [])
+    → t ++ comment_line h.comment ≡ old ++ fact_text (HoldFact h None)
+hold_unanswered h old kind reason class date put =
+    lines_behind old _ (comment_line h.comment) put
+    ∙ rw (kind, reason, class, date, mark_is h.internal) (ap (λ t. old ++ t) (sym (append-nil _)))
+
+-- an element that the zone has, or has not
+pub element_there : (type : ElemType) (name : List ℕ) (replaces : Bool) (f : Found) (old : List ℕ)
+    {spelled text fmid t1 t2 : List ℕ} → spelled ≡ type_text type → text ≡ name → fmid ≡ f.fmid
+    → t1 ≡ old ++ words_line (codes "  ELEM" ∷ left_in 5 spelled ∷ left_in 8 text
+    ∷ (if replaces then codes "REPLACES" else codes "UPDATES") ∷ codes "FMID" ∷ fmid
+    ∷ (if f.owned then codes "OWNED" else codes "NOTOWNED") ∷ [])
+    → t2 ≡ t1 ++ maker_line (codes "RMID") f.rmid
+    → t2 ++ flat_map (maker_line (codes "UMID")) f.umids ≡ old ++ fact_text (ElementFact type name replaces (Some f))
+element_there type name replaces f old spelled text fmid put more =
     let rmid : List ℕ = maker_line (codes "RMID") f.rmid in
     let umids : List ℕ = flat_map (maker_line (codes "UMID")) f.umids in
-    ap (λ t. t ++ umids) (e4 ∙ ap (λ t. t ++ rmid) (e3 ∙ ap (λ t. t ++ 10 ∷ [])
-    (e2 ∙ ap (λ t. t ++ 32 ∷ owned_text f.owned) e1)))
-    ∙ regroup old f.fmid (32 ∷ owned_text f.owned) (10 ∷ []) rmid umids
-  where
-    regroup : (a b c d e f : List ℕ) → ((((a ++ b) ++ c) ++ d) ++ e) ++ f ≡ (a ++ ((b ++ c) ++ d)) ++ (e ++ f)
-    regroup a b c d e f = simp append_assoc
+    ap (λ t. t ++ umids) more ∙ append_assoc _ rmid umids ∙ lines_behind old _ (rmid ++ umids) put
+    ∙ rw (spelled, text, fmid, change_is replaces, owned_is f.owned) refl
 
--- the words of an element, and the lines behind them
-pub element_put : (type name change : List ℕ) (f : Option Found) (old : List ℕ) {t1 t2 t3 t4 t5 t6 : List ℕ}
-    → t1 ≡ old ++ codes "  ELEM " → t2 ≡ t1 ++ type → t3 ≡ t2 ++ 32 ∷ [] → t4 ≡ t3 ++ name → t5 ≡ t4 ++ 32 ∷ change
-    → t6 ≡ t5 ++ codes " FMID "
-    → (t6 ++ words_line (found_words f)) ++ found_lines f
-    ≡ old ++ (detail_line (codes "ELEM" ∷ type ∷ name ∷ change ∷ codes "FMID" ∷ found_words f) ++ found_lines f)
-element_put type name change f old e1 e2 e3 e4 e5 e6 =
-    ap (λ t. (t ++ words_line (found_words f)) ++ found_lines f) (e6 ∙ ap (λ t. t ++ codes " FMID ")
-    (e5 ∙ ap (λ t. t ++ 32 ∷ change) (e4 ∙ ap (λ t. t ++ name) (e3 ∙ ap (λ t. t ++ 32 ∷ [])
-    (e2 ∙ ap (λ t. t ++ type) e1)))))
-    ∙ pieces old (codes "  ELEM ") type (32 ∷ []) name (32 ∷ change) (codes " FMID ") (words_line (found_words f))
-    (found_lines f)
-    ∙ ap (λ t. old ++ (t ++ found_lines f)) (by f)
-  where
-    pieces : (a b c d e f g h i : List ℕ)
-        → (((((((a ++ b) ++ c) ++ d) ++ e) ++ f) ++ g) ++ h) ++ i
-        ≡ a ++ ((b ++ (c ++ (d ++ (e ++ (f ++ (g ++ h)))))) ++ i)
-    pieces a b c d e f g h i = simp append_assoc
+pub element_missing : (type : ElemType) (name : List ℕ) (replaces : Bool) (old : List ℕ) {spelled text t : List ℕ}
+    → spelled ≡ type_text type → text ≡ name
+    → t ≡ old ++ words_line (codes "  ELEM" ∷ left_in 5 spelled ∷ left_in 8 text
+    ∷ (if replaces then codes "REPLACES" else codes "UPDATES") ∷ codes "FMID" ∷ codes "-" ∷ [])
+    → t ≡ old ++ fact_text (ElementFact type name replaces None)
+element_missing type name replaces old spelled text put =
+    put ∙ rw (spelled, text, change_is replaces) (ap (λ t. old ++ t) (sym (append-nil _)))
 
-    -- words of a line behind five others
-    five : (xs : List ℕ) → codes "  ELEM " ++ (type ++ ((32 ∷ []) ++ (name ++ ((32 ∷ change)
-        ++ (codes " FMID " ++ (xs ++ 10 ∷ []))))))
-        ≡ 32 ∷ 32 ∷ ((codes "ELEM " ++ (type ++ 32 ∷ (name ++ 32 ∷ (change ++ (codes " FMID " ++ xs))))) ++ 10 ∷ [])
-    five xs =
-        ap (λ t. codes "  ELEM " ++ t) (sym (append_assoc type (32 ∷ (name ++ 32 ∷ (change ++ (codes " FMID " ++ xs))))
-        (10 ∷ [])
-        ∙ ap (λ t. type ++ 32 ∷ t) (append_assoc name (32 ∷ (change ++ (codes " FMID " ++ xs))) (10 ∷ [])
-        ∙ ap (λ t. name ++ 32 ∷ t) (append_assoc change (codes " FMID " ++ xs) (10 ∷ [])))))
+-- an entry that is applied, or is not
+pub entry_applied : (kind : ZoneKind) (e : Entry) (a : Applied) (old : List ℕ) {id word date delby : List ℕ}
+    {supby waived : List (List ℕ)}
+    → e.applied ≡ Some a → id ≡ e.id → word ≡ standing_text (StandsApplied kind) → date ≡ a.date
+    → delby ≡ optional_text e.delby → supby ≡ e.supby → waived ≡ e.waived
+    → old ++ words_line (codes "  ENTRY" ∷ id ∷ word ∷ date ∷ codes "SUPBY" ∷ list_text supby ∷ codes "DELBY" ∷ delby
+    ∷ codes "WAIVED" ∷ list_text waived ∷ []) ≡ old ++ fact_text (EntryFact kind e)
+entry_applied Target e a old is id word date delby supby waived = rw (is, id, word, date, delby, supby, waived) refl
+entry_applied Distribution e a old is id word date delby supby waived = rw (is, id, word, date, delby, supby, waived)
+    refl
 
-    by : (f : Option Found) → codes "  ELEM " ++ (type ++ ((32 ∷ []) ++ (name ++ ((32 ∷ change)
-        ++ (codes " FMID " ++ words_line (found_words f))))))
-        ≡ detail_line (codes "ELEM" ∷ type ∷ name ∷ change ∷ codes "FMID" ∷ found_words f)
-    by None = five (join_with_byte 32 (codes "-" ∷ []))
-    by (Some f) = five (join_with_byte 32 (f.fmid ∷ owned_text f.owned ∷ []))
-
--- the word and the date of what is applied
-pub dated_words : (kind : ZoneKind) (date : List ℕ)
-    → standing_text (StandsApplied kind) ++ 32 ∷ date ≡ join_with_byte 32 (applied_words kind (Some date))
-dated_words Target date = refl
-dated_words Distribution date = refl
-
--- the words of an entry
-pub entry_put : (kind : ZoneKind) (applied : Option (List ℕ)) (id supby delby waived old : List ℕ)
-    {t1 t2 t3 t4 t5 t6 t7 t8 t9 t10 : List ℕ}
-    → t1 ≡ old ++ codes "  ENTRY " → t2 ≡ t1 ++ id → t3 ≡ t2 ++ 32 ∷ []
-    → t4 ≡ t3 ++ join_with_byte 32 (applied_words kind applied) → t5 ≡ t4 ++ codes " SUPBY " → t6 ≡ t5 ++ supby
-    → t7 ≡ t6 ++ codes " DELBY" → t8 ≡ t7 ++ 32 ∷ delby → t9 ≡ t8 ++ codes " WAIVED " → t10 ≡ t9 ++ waived
-    → t10 ++ 10 ∷ [] ≡ old ++ 32 ∷ 32 ∷ words_line (codes "ENTRY" ∷ id ∷ applied_words kind applied
-    ++ codes "SUPBY" ∷ supby ∷ codes "DELBY" ∷ delby ∷ codes "WAIVED" ∷ waived ∷ [])
-entry_put kind applied id supby delby waived old e1 e2 e3 e4 e5 e6 e7 e8 e9 e10 =
-    ap (λ t. t ++ 10 ∷ []) (e10 ∙ ap (λ t. t ++ waived) (e9 ∙ ap (λ t. t ++ codes " WAIVED ")
-    (e8 ∙ ap (λ t. t ++ 32 ∷ delby) (e7 ∙ ap (λ t. t ++ codes " DELBY") (e6 ∙ ap (λ t. t ++ supby)
-    (e5 ∙ ap (λ t. t ++ codes " SUPBY ") (e4 ∙ ap (λ t. t ++ join_with_byte 32 (applied_words kind applied))
-    (e3 ∙ ap (λ t. t ++ 32 ∷ []) (e2 ∙ ap (λ t. t ++ id) e1)))))))))
-    ∙ pieces old (codes "  ENTRY ") id (32 ∷ []) (join_with_byte 32 (applied_words kind applied)) (codes " SUPBY ")
-    supby (codes " DELBY") (32 ∷ delby) (codes " WAIVED ") waived (10 ∷ [])
-    ∙ ap (λ t. old ++ t) (by kind applied)
-  where
-    pieces : (a b c d e f g h i j k l : List ℕ)
-        → ((((((((((a ++ b) ++ c) ++ d) ++ e) ++ f) ++ g) ++ h) ++ i) ++ j) ++ k) ++ l
-        ≡ a ++ (b ++ (c ++ (d ++ (e ++ (f ++ (g ++ (h ++ (i ++ (j ++ (k ++ l))))))))))
-    pieces a b c d e f g h i j k l = simp append_assoc
-
-    rest : List ℕ
-    rest = codes " SUPBY " ++ (supby ++ (codes " DELBY" ++ ((32 ∷ delby) ++ (codes " WAIVED " ++ waived))))
-
-    ended : rest ++ 10 ∷ [] ≡ codes " SUPBY " ++ (supby ++ (codes " DELBY" ++ ((32 ∷ delby)
-        ++ (codes " WAIVED " ++ (waived ++ 10 ∷ [])))))
-    ended = ap (λ t. codes " SUPBY " ++ t) (append_assoc supby (codes " DELBY" ++ ((32 ∷ delby)
-        ++ (codes " WAIVED " ++ waived))) (10 ∷ [])
-        ∙ ap (λ t. supby ++ (codes " DELBY " ++ t)) (append_assoc delby (codes " WAIVED " ++ waived) (10 ∷ [])))
-
-    none : codes "  ENTRY " ++ (id ++ ((32 ∷ []) ++ (codes "-" ++ (codes " SUPBY " ++ (supby ++ (codes " DELBY"
-        ++ ((32 ∷ delby) ++ (codes " WAIVED " ++ (waived ++ 10 ∷ [])))))))))
-        ≡ 32 ∷ 32 ∷ ((codes "ENTRY " ++ (id ++ 32 ∷ (codes "-" ++ rest))) ++ 10 ∷ [])
-    none = ap (λ t. codes "  ENTRY " ++ (id ++ (32 ∷ (codes "-" ++ t)))) (sym ended)
-        ∙ ap (λ t. codes "  ENTRY " ++ t) (sym (append_assoc id (32 ∷ (codes "-" ++ rest)) (10 ∷ [])))
-
-    some : (word date : List ℕ) → codes "  ENTRY " ++ (id ++ ((32 ∷ []) ++ ((word ++ 32 ∷ date) ++ (codes " SUPBY "
-        ++ (supby ++ (codes " DELBY" ++ ((32 ∷ delby) ++ (codes " WAIVED " ++ (waived ++ 10 ∷ [])))))))))
-        ≡ 32 ∷ 32 ∷ ((codes "ENTRY " ++ (id ++ 32 ∷ (word ++ 32 ∷ (date ++ rest)))) ++ 10 ∷ [])
-    some word date =
-        ap (λ t. codes "  ENTRY " ++ (id ++ (32 ∷ ((word ++ 32 ∷ date) ++ t)))) (sym ended)
-        ∙ ap (λ t. codes "  ENTRY " ++ (id ++ (32 ∷ t))) (sym (append_assoc (word ++ 32 ∷ date) rest (10 ∷ [])))
-        ∙ ap (λ t. codes "  ENTRY " ++ (id ++ (32 ∷ (t ++ 10 ∷ [])))) (append_assoc word (32 ∷ date) rest)
-        ∙ ap (λ t. codes "  ENTRY " ++ t) (sym (append_assoc id (32 ∷ (word ++ 32 ∷ (date ++ rest))) (10 ∷ [])))
-
-    by : (kind : ZoneKind) (applied : Option (List ℕ))
-        → codes "  ENTRY " ++ (id ++ ((32 ∷ []) ++ (join_with_byte 32 (applied_words kind applied) ++ (codes " SUPBY "
-        ++ (supby ++ (codes " DELBY" ++ ((32 ∷ delby) ++ (codes " WAIVED " ++ (waived ++ 10 ∷ [])))))))))
-        ≡ 32 ∷ 32 ∷ words_line (codes "ENTRY" ∷ id ∷ applied_words kind applied
-        ++ codes "SUPBY" ∷ supby ∷ codes "DELBY" ∷ delby ∷ codes "WAIVED" ∷ waived ∷ [])
-    by Target None = none
-    by Distribution None = none
-    by Target (Some date) = some (codes "APPLIED") date
-    by Distribution (Some date) = some (codes "ACCEPTED") date
+pub entry_bare : (kind : ZoneKind) (e : Entry) (old : List ℕ) {id delby : List ℕ} {supby waived : List (List ℕ)}
+    → e.applied ≡ None → id ≡ e.id
+    → delby ≡ optional_text e.delby → supby ≡ e.supby → waived ≡ e.waived
+    → old ++ words_line (codes "  ENTRY" ∷ id ∷ codes "-" ∷ codes "SUPBY" ∷ list_text supby ∷ codes "DELBY" ∷ delby
+    ∷ codes "WAIVED" ∷ list_text waived ∷ []) ≡ old ++ fact_text (EntryFact kind e)
+entry_bare Target e old is id delby supby waived = rw (is, id, delby, supby, waived) refl
+entry_bare Distribution e old is id delby supby waived = rw (is, id, delby, supby, waived) refl
 
 max_parts : (a b c : ℕ) → max (max a b) c ≡ max a (max b c)
 max_parts a b c = omega arith

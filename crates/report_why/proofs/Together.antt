@@ -4,18 +4,18 @@ use Rattle.std.proofs.Common.{append_assoc, append-nil}
 use Rattle.std.specs.List.{flat_map}
 use Rattle.std.proofs.lemmas.List.{map-append}
 use Rattle.std.proofs.lemmas.List.Concat.{flat_map-append}
-use Rattle.lemmas.proofs.BesideLists.{beside_more}
+use Rattle.terms.proofs.BesideLists.{beside_more}
+use Rattle.terms.specs.Beside.{Beside}
 use Rattle.terms.specs.Types.{Id, Global, Zone, Bypass}
 use Rattle.terms.specs.Choice.{Choice, counting}
 use Rattle.terms.specs.Lookups.{changes_of}
 use Rattle.terms.specs.CommandForms.{no_bypass}
 use Rattle.terms.specs.Tests.{Setting}
-use Rattle.terms.specs.Facts.{Fact, alone, requisites, holds_on, standing_facts, ver_facts, delete_facts, npre_facts}
+use Rattle.terms.specs.Facts.{Fact, alone, requisites as requisites_in, holds_on, standing_facts, ver_facts}
+use Rattle.terms.specs.Facts.{delete_facts, npre_facts}
 use Rattle.terms.specs.Facts.{IsRequisiteFact, IsHoldFact, IsElementFact, AreFacts, AreFactsOf, NeededFact}
 use Rattle.report_why.specs.declared.fact as code
-use Rattle.report_why.specs.declared.facts.Parts.{Parts}
 use Rattle.report_why.specs.Views.{fact_view}
-use Rattle.report_why.specs.Parts.{AreParts, in_order}
 use Rattle.report_why.specs.Needed.{AreNeeded}
 use Rattle.report_why.proofs.Besides.{beside_nil, beside_map}
 
@@ -35,12 +35,12 @@ alone_is g h c zone x ids b eg ec ei eb =
 -- lists one behind the other, seen through a function
 module _ {X Y : Type 0} (f : X → Y) where
   eight_parts : (s v r h e d p n : List X)
-      → map f (((s ++ v) ++ (r ++ h ++ e ++ d ++ p)) ++ n)
+      → map f (((((((s ++ v) ++ r) ++ h) ++ e) ++ d) ++ p) ++ n)
       ≡ map f s ++ map f v ++ map f r ++ map f h ++ map f e ++ map f d ++ map f p ++ map f n
   eight_parts s v r h e d p n = simp (map-append, append_assoc) refl
 
   pub seen_parts : (all s v r h e d p n : List X) (sees sev sed sep sen : List Y)
-      → all ≡ ((s ++ v) ++ (r ++ h ++ e ++ d ++ p)) ++ n → map f s ≡ sees → map f v ≡ sev → map f d ≡ sed
+      → all ≡ ((((((s ++ v) ++ r) ++ h) ++ e) ++ d) ++ p) ++ n → map f s ≡ sees → map f v ≡ sev → map f d ≡ sed
       → map f p ≡ sep → map f n ≡ sen
       → map f all ≡ sees ++ sev ++ map f r ++ map f h ++ map f e ++ sed ++ sep ++ sen
   seen_parts all s v r h e d p n sees sev sed sep sen is es ev ed ep en =
@@ -52,26 +52,35 @@ module _ {X Y : Type 0} (f : X → Y) where
       ∙ ap (λ l. sees ++ sev ++ map f r ++ map f h ++ map f e ++ sed ++ l ++ map f n) ep
       ∙ ap (λ l. sees ++ sev ++ map f r ++ map f h ++ map f e ++ sed ++ sep ++ l) en
 
--- the facts of an id, by its parts
-pub are_facts : (g : Global) (zone : Zone) (x : Id) (p : Parts) (all s v n : List code.Fact.Fact)
-    → all ≡ ((s ++ v) ++ in_order p) ++ n
+-- what an install of the id alone looks at
+pub record AreAsked (s : Setting) (x : Id) (requisites holds elements deletes forbids : List code.Fact.Fact)
+    : Type 0 where
+  pub of_requisites : Beside (λ n r fact. IsRequisiteFact s x r (fact_view fact)) (requisites_in s x) requisites
+  pub of_holds : Beside (λ n h fact. IsHoldFact s x h (fact_view fact)) (holds_on s.global x) holds
+  pub of_elements : Beside (λ n h fact. IsElementFact s x h (fact_view fact)) (changes_of s.global x) elements
+  pub deletes_are : map fact_view deletes ≡ delete_facts s x
+  pub forbids_are : map fact_view forbids ≡ npre_facts s x
+
+-- the facts of an id, one part behind the other
+pub are_facts : (g : Global) (zone : Zone) (x : Id) (all s v r h e d p n : List code.Fact.Fact)
+    → all ≡ ((((((s ++ v) ++ r) ++ h) ++ e) ++ d) ++ p) ++ n
     → map fact_view s ≡ standing_facts g zone x → map fact_view v ≡ ver_facts g zone x
-    → AreParts (alone g zone x) x p → AreNeeded g zone x (map fact_view n) → AreFacts g zone x (map fact_view all)
-are_facts g zone x p all s v n is es ev parts needed = record {
-  of_requisites = map fact_view p.requisites.items;
-  requisites_are = beside_map (IsRequisiteFact (alone g zone x) x) fact_view (requisites (alone g zone x) x)
-      p.requisites.items parts.requisites;
-  of_holds = map fact_view p.holds.items;
-  holds_are = beside_map (IsHoldFact (alone g zone x) x) fact_view (holds_on g x) p.holds.items parts.holds;
-  of_elements = map fact_view p.elements.items;
-  elements_are = beside_map (IsElementFact (alone g zone x) x) fact_view (changes_of g x) p.elements.items
-      parts.elements;
+    → AreAsked (alone g zone x) x r h e d p → AreNeeded g zone x (map fact_view n)
+    → AreFacts g zone x (map fact_view all)
+are_facts g zone x all s v r h e d p n is es ev asked needed = record {
+  of_requisites = map fact_view r;
+  requisites_are = beside_map (IsRequisiteFact (alone g zone x) x) fact_view (requisites_in (alone g zone x) x) r
+      asked.of_requisites;
+  of_holds = map fact_view h;
+  holds_are = beside_map (IsHoldFact (alone g zone x) x) fact_view (holds_on g x) h asked.of_holds;
+  of_elements = map fact_view e;
+  elements_are = beside_map (IsElementFact (alone g zone x) x) fact_view (changes_of g x) e asked.of_elements;
   needed_by = needed.ids;
   needed_rising = needed.rising;
   needed = needed.needed;
-  facts_are = seen_parts fact_view all s v p.requisites.items p.holds.items p.elements.items p.deletes.items
-      p.forbids.items n (standing_facts g zone x) (ver_facts g zone x) (delete_facts (alone g zone x) x)
-      (npre_facts (alone g zone x) x) (map NeededFact needed.ids) is es ev parts.deletes parts.forbids needed.facts_are;
+  facts_are = seen_parts fact_view all s v r h e d p n (standing_facts g zone x) (ver_facts g zone x)
+      (delete_facts (alone g zone x) x) (npre_facts (alone g zone x) x) (map NeededFact needed.ids) is es ev
+      asked.deletes_are asked.forbids_are needed.facts_are;
 }
 
 -- the facts of no ids, and of one id more

@@ -3,5 +3,4 @@ pub mod Asking
 pub mod Numbered
 pub mod Makers
 pub mod Needed
-pub mod HoldWords
-pub mod Parts
+pub mod LineWords

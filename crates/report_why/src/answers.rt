@@ -1,9 +1,8 @@
 //! What becomes of something that an id asks for.
-ghost use Rattle.std.specs.Prelude.{◌≡◌, ◌↔◌, ◌⊎◌, ◌||◌, ◌++◌, [], ◌∷◌, false, Contains, IsTrue, IfOk, OnOk};
+ghost use Rattle.std.specs.Prelude.{◌≡◌, ◌↔◌, filter, ◌||◌, [], ◌∷◌, false, Contains, IsTrue, IfOk};
 ghost use Rattle.std.specs.Prelude.{if◌then◌else◌};
-ghost use Rattle.std.specs.Option.{option_map_or};
 ghost use Rattle.terms.specs.Types.{Id as AnId};
-ghost use Rattle.terms.specs.Lookups.{IsRising, is_in, is_applied, supby_of, waived_of};
+ghost use Rattle.terms.specs.Lookups.{IsRising, is_in, is_applied, waived_of};
 ghost use Rattle.terms.specs.Needs.{takes_superseder, Serves};
 ghost use Rattle.terms.specs.Candidates.{is_installable};
 ghost use Rattle.sysmods.specs.Choices.{choice};
@@ -21,32 +20,14 @@ use sysmods::VerChoice;
 use terms::NeedKind;
 use zones::Zone;
 
-// Adds the id if it is to come in.
-fn push_if(comes: bool, id: Id, found: &mut Vec<Id>) -> Result<(), AllocError>
-    ensures { OnOk result (found.new.items ≡ found.old.items ++ (if comes then id ∷ [] else [])) }
-{
-    if comes {
-        found.push(id)?;
-    }
-    Ok(())
-}
-
 // The id itself, if it is applied in what is left of the zone.
 fn itself(alloc: Global, asking: &Asking<'_, '_>, id: Id) -> Result<Vec<Id>, AllocError>
     ensures { IfOk result (λ ids. ids.items ≡ (if is_applied (left_in asking.now) id then id ∷ [] else [])) }
 {
     let mut found = Vec::new(alloc);
-    push_if(asking.leaves(id), id, &mut found)?;
-    Ok(found)
-}
-
-// The id itself, if it is applied there, and what supersedes it.
-fn itself_and_above(alloc: Global, asking: &Asking<'_, '_>, id: Id) -> Result<Vec<Id>, AllocError>
-    ensures { IfOk result (λ ids. ids.items
-        ≡ (if is_applied (left_in asking.now) id then id ∷ [] else []) ++ supby_of (left_in asking.now) id) }
-{
-    let mut found = itself(alloc, asking, id)?;
-    asking.push_superseders(id, &mut found)?;
+    if asking.leaves(id) {
+        found.push(id)?;
+    }
     Ok(found)
 }
 
@@ -61,7 +42,12 @@ fn suppliers(
 {
     match kind {
         NeedKind::Fmid => itself(alloc, asking, id),
-        _ => itself_and_above(alloc, asking, id),
+        _ => {
+            let mut found = itself(alloc, asking, id)?;
+            let above = asking.superseders(alloc, id)?;
+            found.extend_from_slice(above.as_slice())?;
+            Ok(found)
+        }
     }
 }
 
@@ -75,35 +61,26 @@ fn waives(zone: &Zone, by: Id, id: Id) -> bool
     }
 }
 
-fn function_waives(zone: &Zone, function: Option<Id>, id: Id) -> bool
-    ensures { result ≡ option_map_or (λ f. is_in (waived_of zone.now f) id) function false }
-{
-    match function {
-        Some(function) => waives(zone, function, id),
-        None => false,
-    }
-}
-
 fn is_waivable(kind: NeedKind) -> bool
     ensures { result ≡ is_waivable kind }
 {
     matches!(kind, NeedKind::Pre | NeedKind::Req | NeedKind::Ifreq)
 }
 
-// Whether who states the requisite waives it, or the function for which it is stated.
-fn states_waived(zone: &Zone, requisite: Requisite) -> bool
-    ensures { result ≡ (is_in (waived_of zone.now requisite.by) requisite.id
-        || option_map_or (λ f. is_in (waived_of zone.now f) requisite.id) requisite.function false) }
-{
-    waives(zone, requisite.by, requisite.id)
-        || function_waives(zone, requisite.function, requisite.id)
-}
-
-// Whether the requisite of the id is waived.
+// Whether the requisite of the id is waived: by who states it, or by the function for which it is stated.
 fn is_waived(zone: &Zone, id: Id, requisite: Requisite) -> bool
     ensures { result ≡ is_waived zone.now id requisite }
 {
-    zone.is_applied(id) && is_waivable(requisite.kind) && states_waived(zone, requisite)
+    if !zone.is_applied(id) || !is_waivable(requisite.kind) {
+        return false;
+    }
+    if waives(zone, requisite.by, requisite.id) {
+        return true;
+    }
+    match requisite.function {
+        Some(function) => waives(zone, function, requisite.id),
+        None => false,
+    }
 }
 
 fn takes_superseder(kind: NeedKind) -> bool
@@ -132,7 +109,6 @@ fn serves(
     Ok(superseded.contains(id))
 }
 
-// Whether it may be installed.
 fn is_installable(asking: &Asking<'_, '_>, id: Id) -> bool
     ensures { result ≡ is_installable (global_of asking.now.scope) asking.now.scope.zone.now id }
 {
@@ -140,58 +116,20 @@ fn is_installable(asking: &Asking<'_, '_>, id: Id) -> bool
     scope.vers.has_ver(id) && !scope.zone.supplies(id) && !is_deleted(scope.zone, id)
 }
 
-// Whether it may be installed, and serves.
-fn may_serve(
-    alloc: Global,
-    asking: &Asking<'_, '_>,
-    kind: NeedKind,
-    id: Id,
-    by: Id,
-) -> Result<bool, AllocError>
-    ensures { IfOk result (λ may. IsTrue may ↔ MayServe (setting_in asking.now) kind id by) }
+// The received SYSMODs that may be installed.
+fn installable(alloc: Global, asking: &Asking<'_, '_>) -> Result<Vec<Id>, AllocError>
+    ensures { IfOk result (λ ids. ids.items
+        ≡ filter (is_installable (global_of asking.now.scope) asking.now.scope.zone.now) asking.now.received.now) }
 {
-    if !is_installable(asking, by) {
-        return Ok(false);
-    }
-    serves(alloc, asking.scope.vers, kind, by, id)
+    asking
+        .received
+        .iter()
+        .filter(|id| is_installable(asking, **id))
+        .copied()
+        .collect(alloc)
 }
 
-// Adds the SYSMOD if it may serve.
-fn push_if_serving(
-    alloc: Global,
-    asking: &Asking<'_, '_>,
-    kind: NeedKind,
-    id: Id,
-    by: Id,
-    found: &mut Vec<Id>,
-) -> Result<(), AllocError>
-    ensures { OnOk result ((y : AnId) → Contains found.new.items y
-        ↔ (Contains found.old.items y ⊎ ((y ≡ by) × MayServe (setting_in asking.now) kind id y))) }
-{
-    let may = may_serve(alloc, asking, kind, id, by)?;
-    push_if(may, by, found)?;
-    Ok(())
-}
-
-// Those of these ids that may serve.
-fn serving(
-    alloc: Global,
-    asking: &Asking<'_, '_>,
-    kind: NeedKind,
-    id: Id,
-    ids: &[Id],
-) -> Result<Vec<Id>, AllocError>
-    ensures { IfOk result (λ found. (y : AnId) → Contains found.items y
-        ↔ (Contains ids.now y × MayServe (setting_in asking.now) kind id y)) }
-{
-    let mut found = Vec::new(alloc);
-    for by in ids {
-        push_if_serving(alloc, asking, kind, id, *by, &mut found)?;
-    }
-    Ok(found)
-}
-
-// The received SYSMODs that may serve.
+// The received SYSMODs that may be installed, and that serve.
 fn candidates(
     alloc: Global,
     asking: &Asking<'_, '_>,
@@ -201,7 +139,13 @@ fn candidates(
     ensures { IfOk result (λ ids. IsRising ids
         × ((y : AnId) → Contains ids y ↔ MayServe (setting_in asking.now) kind id y)) }
 {
-    let found = serving(alloc, asking, kind, id, asking.received)?;
+    let installable = installable(alloc, asking)?;
+    let mut found = Vec::new(alloc);
+    for by in installable.as_slice() {
+        if serves(alloc, asking.scope.vers, kind, *by, id)? {
+            found.push(*by)?;
+        }
+    }
     let ids = IdList::from_vec(found);
     ids.attest();
     Ok(ids)

@@ -1,13 +1,13 @@
 //! The elements that an id changes, as the zone has them.
-ghost use Rattle.std.specs.Prelude.{◌≡◌, ◌∷◌, option_map, IfOk};
-ghost use Rattle.lemmas.specs.Beside.{Beside};
+ghost use Rattle.std.specs.Prelude.{◌≡◌, option_map, IfOk};
+ghost use Rattle.terms.specs.Beside.{Beside};
 ghost use Rattle.terms.specs.Changes.{is_replacement};
 ghost use Rattle.terms.specs.Lookups.{changes_of, element_of};
 ghost use Rattle.sysmods.specs.Choices.{choice};
 ghost use Rattle.zones_views.specs.Scopes.{global_of};
-ghost use Rattle.terms.specs.Facts.{IsRank, IsFound, HasFound, IsElementFact};
+ghost use Rattle.terms.specs.Facts.{IsFound, HasFound, IsElementFact};
 ghost use Rattle.report_why.specs.Asking.{setting_in, view_in};
-ghost use Rattle.report_why.specs.Views.{rank_view, found_view, fact_view};
+ghost use Rattle.report_why.specs.Views.{found_view, fact_view};
 ghost use Rattle.report_why.specs.Makers.{IsMaker};
 
 use crate::asking::Asking;
@@ -18,40 +18,26 @@ use sysmod::{Action, ElemChange};
 use sysmods::{GlobalZone, VerChoice};
 use zones::Element;
 
-fn rank(alloc: Global, vers: &VerChoice<'_>, id: Id, other: Id) -> Result<Rank, AllocError>
-    ensures { IfOk result (λ rank. IsRank (choice vers.now) id other (rank_view rank)) }
-{
-    if id == other {
-        return Ok(Rank::Itself);
-    }
-    if vers.over(alloc, id, other)? {
-        return Ok(Rank::Over);
-    }
-    Ok(Rank::NotOver)
-}
-
+// A SYSMOD that made an element, and how the id stands to it.
 fn maker(alloc: Global, vers: &VerChoice<'_>, id: Id, other: Id) -> Result<Maker, AllocError>
     ensures { IfOk result (λ m. IsMaker (choice vers.now) id other m) }
 {
+    if id == other {
+        return Ok(Maker {
+            id: other,
+            rank: Rank::Itself,
+        });
+    }
+    if vers.over(alloc, id, other)? {
+        return Ok(Maker {
+            id: other,
+            rank: Rank::Over,
+        });
+    }
     Ok(Maker {
         id: other,
-        rank: rank(alloc, vers, id, other)?,
+        rank: Rank::NotOver,
     })
-}
-
-fn makers(
-    alloc: Global,
-    vers: &VerChoice<'_>,
-    id: Id,
-    others: &[Id],
-) -> Result<Vec<Maker>, AllocError>
-    ensures { IfOk result (λ ms. Beside (λ n z m. IsMaker (choice vers.now) id z m) others.now ms.items) }
-{
-    let mut found = Vec::new(alloc);
-    for other in others {
-        found.push(maker(alloc, vers, id, *other)?)?;
-    }
-    Ok(found)
 }
 
 // What the zone has of an element.
@@ -60,11 +46,16 @@ fn found(alloc: Global, asking: &Asking<'_, '_>, element: &Element) -> Result<Fo
 {
     let vers = asking.scope.vers;
     let id = asking.id;
+    let rmid = maker(alloc, vers, id, element.rmid)?;
+    let mut umids = Vec::new(alloc);
+    for umid in element.umids.as_slice() {
+        umids.push(maker(alloc, vers, id, *umid)?)?;
+    }
     Ok(Found {
         fmid: element.fmid,
         owned: element.fmid == vers.owner(id),
-        rmid: maker(alloc, vers, id, element.rmid)?,
-        umids: makers(alloc, vers, id, element.umids.as_slice())?,
+        rmid,
+        umids,
     })
 }
 
@@ -91,21 +82,6 @@ fn is_replacement(change: &ElemChange) -> bool
     }
 }
 
-fn element_fact(
-    alloc: Global,
-    asking: &Asking<'_, '_>,
-    change: &ElemChange,
-) -> Result<Fact<'static>, AllocError>
-    ensures { IfOk result (λ fact. IsElementFact (setting_in asking.now) asking.now.id change.now (fact_view fact)) }
-{
-    Ok(Fact::Element {
-        elem_type: change.elem_type,
-        name: change.name,
-        replaces: is_replacement(change),
-        found: found_at(alloc, asking, change)?,
-    })
-}
-
 // The element statements of a received SYSMOD.
 fn changes_of(global: &GlobalZone, id: Id) -> &[ElemChange]
     ensures { result.now ≡ changes_of global.now id }
@@ -126,7 +102,13 @@ pub(crate) fn element_facts(
 {
     let mut facts = Vec::new(alloc);
     for change in changes_of(asking.scope.global(), asking.id) {
-        facts.push(element_fact(alloc, asking, change)?)?;
+        let found = found_at(alloc, asking, change)?;
+        facts.push(Fact::Element {
+            elem_type: change.elem_type,
+            name: change.name,
+            replaces: is_replacement(change),
+            found,
+        })?;
     }
     Ok(facts)
 }

@@ -1,9 +1,9 @@
 //! What an id forbids by NPRE, and what forbids it.
-ghost use Rattle.std.specs.Prelude.{◌≡◌, ◌++◌, ◌&&◌, [], ◌∷◌, filter, map, IfOk, OnOk};
-ghost use Rattle.terms.specs.Lookups.{is_in, is_applied};
+ghost use Rattle.std.specs.Prelude.{◌≡◌, ◌&&◌, [], filter, map, IfOk};
+ghost use Rattle.terms.specs.Lookups.{is_applied};
 ghost use Rattle.terms.specs.Choice.{npre_of};
 ghost use Rattle.sysmods.specs.Choices.{choice};
-ghost use Rattle.terms.specs.Facts.{NpreFact, ForbiddenFact, forbids, npre_facts};
+ghost use Rattle.terms.specs.Facts.{forbids, npre_facts};
 ghost use Rattle.report_why.specs.Asking.{setting_in, view_in};
 ghost use Rattle.report_why.specs.Views.{fact_view};
 
@@ -23,63 +23,25 @@ fn npre<'a>(vers: &VerChoice<'a>, id: Id) -> &'a [Id]
     }
 }
 
-fn is_in(ids: &[Id], id: Id) -> bool
-    ensures { result ≡ is_in ids.now id }
-{
-    ids.contains(&id)
-}
-
 // Whether it is a function whose NPRE has the id.
 fn forbids(asking: &Asking<'_, '_>, by: Id) -> bool
     ensures { result ≡ forbids (setting_in asking.now) asking.now.id by }
 {
-    asking.scope.global().is_function(by) && is_in(npre(asking.scope.vers, by), asking.id)
+    asking.scope.global().is_function(by) && npre(asking.scope.vers, by).contains(&asking.id)
 }
 
-fn push_npre(
-    asking: &Asking<'_, '_>,
-    ids: &[Id],
-    facts: &mut Vec<Fact<'_>>,
-) -> Result<(), AllocError>
-    ensures { OnOk result (map fact_view facts.new.items ≡ map fact_view facts.old.items
-        ++ map (λ y. NpreFact y (is_applied (view_in asking.now) y)) ids.now) }
+// The SYSMODs that its view has applied and that forbid the id.
+fn forbidding(alloc: Global, asking: &Asking<'_, '_>) -> Result<Vec<Id>, AllocError>
+    ensures { IfOk result (λ ids. ids.items ≡ filter (forbids (setting_in asking.now) asking.now.id)
+        (filter (is_applied (view_in asking.now)) asking.now.applied.now)) }
 {
-    for id in ids {
-        facts.push(Fact::Npre {
-            id: *id,
-            applied: asking.sees(*id),
-        })?;
-    }
-    Ok(())
-}
-
-// Adds the SYSMOD if its view has it applied and it forbids the id.
-fn push_if_forbidding(
-    asking: &Asking<'_, '_>,
-    by: Id,
-    facts: &mut Vec<Fact<'_>>,
-) -> Result<(), AllocError>
-    ensures { OnOk result (map fact_view facts.new.items ≡ map fact_view facts.old.items ++ map ForbiddenFact
-        (filter (forbids (setting_in asking.now) asking.now.id) (filter (is_applied (view_in asking.now)) (by ∷ [])))) }
-{
-    if asking.sees(by) && forbids(asking, by) {
-        facts.push(Fact::Forbidden(by))?;
-    }
-    Ok(())
-}
-
-fn push_forbidding(
-    asking: &Asking<'_, '_>,
-    ids: &[Id],
-    facts: &mut Vec<Fact<'_>>,
-) -> Result<(), AllocError>
-    ensures { OnOk result (map fact_view facts.new.items ≡ map fact_view facts.old.items ++ map ForbiddenFact
-        (filter (forbids (setting_in asking.now) asking.now.id) (filter (is_applied (view_in asking.now)) ids.now))) }
-{
-    for id in ids {
-        push_if_forbidding(asking, *id, facts)?;
-    }
-    Ok(())
+    asking
+        .applied
+        .iter()
+        .filter(|by| asking.sees(**by))
+        .filter(|by| forbids(asking, **by))
+        .copied()
+        .collect(alloc)
 }
 
 /// What its NPRE names, and the applied functions that forbid it. The error comes where memory runs out.
@@ -90,8 +52,17 @@ pub(crate) fn npre_facts(
     ensures { IfOk result (λ facts. map fact_view facts.items ≡ npre_facts (setting_in asking.now) asking.now.id) }
 {
     asking.scope.zone.attest();
+    let named = npre(asking.scope.vers, asking.id);
+    let forbidding = forbidding(alloc, asking)?;
     let mut facts = Vec::new(alloc);
-    push_npre(asking, npre(asking.scope.vers, asking.id), &mut facts)?;
-    push_forbidding(asking, asking.applied, &mut facts)?;
+    for id in named {
+        facts.push(Fact::Npre {
+            id: *id,
+            applied: asking.sees(*id),
+        })?;
+    }
+    for by in forbidding.as_slice() {
+        facts.push(Fact::Forbidden(*by))?;
+    }
     Ok(facts)
 }

@@ -1,10 +1,10 @@
 //! The holds on an id.
 ghost use Rattle.std.specs.Prelude.{◌≡◌, None, option_map, IfOk};
-ghost use Rattle.lemmas.specs.Beside.{Beside};
+ghost use Rattle.terms.specs.Beside.{Beside};
 ghost use Rattle.terms.specs.declared.kinds.HoldKind.TheVariants.{Error};
 ghost use Rattle.terms.specs.Lookups.{holds_of};
 ghost use Rattle.zones_views.specs.Scopes.{global_of};
-ghost use Rattle.terms.specs.Facts.{a_requisite, holds_on, IsAnswer, HasResolution, IsHoldFact};
+ghost use Rattle.terms.specs.Facts.{holds_on, HasResolution, IsHoldFact};
 ghost use Rattle.report_why.specs.Asking.{setting_in};
 ghost use Rattle.report_why.specs.Views.{answer_view, fact_view};
 
@@ -15,19 +15,6 @@ use fields::Id;
 use std::alloc::{AllocError, Global};
 use sysmod::Hold;
 use terms::{HoldKind, NeedKind};
-
-fn reason_answer(alloc: Global, asking: &Asking<'_, '_>, reason: Id) -> Result<Answer, AllocError>
-    ensures { IfOk result (λ a. IsAnswer (setting_in asking.now) asking.now.id
-        (a_requisite NeedKind.HoldError asking.now.id None reason) (answer_view a)) }
-{
-    let requisite = Requisite {
-        kind: NeedKind::HoldError,
-        by: asking.id,
-        function: None,
-        id: reason,
-    };
-    answer(alloc, asking, requisite)
-}
 
 // What becomes of the reason of an ERROR hold, which is an id.
 fn error_resolution(
@@ -40,7 +27,15 @@ fn error_resolution(
         (option_map answer_view a)) }
 {
     match hold.reason.as_id() {
-        Some(reason) => Ok(Some(reason_answer(alloc, asking, reason)?)),
+        Some(reason) => {
+            let requisite = Requisite {
+                kind: NeedKind::HoldError,
+                by: asking.id,
+                function: None,
+                id: reason,
+            };
+            Ok(Some(answer(alloc, asking, requisite)?))
+        }
         None => Ok(None),
     }
 }
@@ -60,17 +55,6 @@ fn resolution(
     }
 }
 
-fn hold_fact<'a>(
-    alloc: Global,
-    asking: &Asking<'_, '_>,
-    hold: &'a Hold,
-) -> Result<Fact<'a>, AllocError>
-    ensures { IfOk result (λ fact. IsHoldFact (setting_in asking.now) asking.now.id hold.now (fact_view fact)) }
-{
-    let resolution = resolution(alloc, asking, hold)?;
-    Ok(Fact::Hold { hold, resolution })
-}
-
 // Those of one kind.
 fn facts_of_kind<'a>(
     alloc: Global,
@@ -82,7 +66,8 @@ fn facts_of_kind<'a>(
 {
     let mut facts = Vec::new(alloc);
     for hold in asking.scope.global().holds_of(kind, asking.id) {
-        facts.push(hold_fact(alloc, asking, hold)?)?;
+        let resolution = resolution(alloc, asking, hold)?;
+        facts.push(Fact::Hold { hold, resolution })?;
     }
     Ok(facts)
 }

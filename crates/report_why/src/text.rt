@@ -1,75 +1,44 @@
 //! The text of facts. An error comes where memory runs out.
-ghost use Rattle.std.specs.Prelude.{◌≡◌, ◌++◌, Some, map, option_map, IfOk, OnOk};
-ghost use Rattle.std.specs.List.{join_with_byte};
-ghost use Rattle.terms.specs.Facts.{StandingFact, EntryFact, VerFact, DeleteFact, NpreFact};
-ghost use Rattle.machine.specs.Report.{applied_words};
+ghost use Rattle.std.specs.Prelude.{◌≡◌, ◌++◌, map, IfOk, OnOk};
+ghost use Rattle.terms.specs.Facts.{EntryFact, VerFact};
 ghost use Rattle.machine.specs.FactText.{fact_text, facts_text as text_of, fact_code, facts_code as code_of};
-ghost use Rattle.report_why.specs.Views.{standing_view, fact_view};
+ghost use Rattle.report_why.specs.Views.{fact_view};
 
 use crate::asked_lines::{put_hold, put_requisite};
 use crate::element_lines::put_element;
 use crate::fact::{Fact, Standing};
-use crate::pieces::{put, put_detail, put_left, put_list, put_number, put_word};
-use crate::words::{applied_word, id_text, standing_text, type_word, word_if};
+use crate::line::{Word, put_words};
+use crate::words::{applied_word, id_text, standing_text, type_word};
 use fields::Id;
 use std::alloc::{AllocError, Global};
-use terms::{Kind, ZoneKind};
-use zones::{Applied, Entry};
-
-fn put_standing(
-    id: Id,
-    kind: Option<Kind>,
-    standing: Standing,
-    text: &mut Vec<u8>,
-) -> Result<(), AllocError>
-    ensures { OnOk result (text.new.items
-        ≡ text.old.items ++ fact_text (StandingFact id kind (standing_view standing))) }
-{
-    put(id.as_bytes(), text)?;
-    put(b" ", text)?;
-    put_left(type_word(kind), 8, text)?;
-    put_word(standing_text(standing), text)?;
-    put(b"\n", text)
-}
-
-// The word of what is applied, and since when.
-fn put_date(kind: ZoneKind, applied: &Applied, text: &mut Vec<u8>) -> Result<(), AllocError>
-    ensures { OnOk result (text.new.items
-        ≡ text.old.items ++ join_with_byte 32 (applied_words kind (Some applied.now.date))) }
-{
-    put(applied_word(kind), text)?;
-    put_word(applied.date.as_bytes(), text)
-}
-
-fn put_applied(
-    kind: ZoneKind,
-    applied: &Option<Applied>,
-    text: &mut Vec<u8>,
-) -> Result<(), AllocError>
-    ensures { OnOk result (text.new.items ≡ text.old.items
-        ++ join_with_byte 32 (applied_words kind (option_map (λ a. a.date) applied.now))) }
-{
-    match applied {
-        Some(applied) => put_date(kind, applied, text),
-        None => put(b"-", text),
-    }
-}
+use terms::ZoneKind;
+use zones::Entry;
 
 // The line of LIST.
 fn put_entry(kind: ZoneKind, entry: &Entry, text: &mut Vec<u8>) -> Result<(), AllocError>
     ensures { OnOk result (text.new.items ≡ text.old.items ++ fact_text (EntryFact kind entry.now)) }
 {
-    put(b"  ENTRY ", text)?;
-    put(entry.id.as_bytes(), text)?;
-    put(b" ", text)?;
-    put_applied(kind, &entry.applied, text)?;
-    put(b" SUPBY ", text)?;
-    put_list(entry.supby.as_slice(), text)?;
-    put(b" DELBY", text)?;
-    put_word(id_text(&entry.delby), text)?;
-    put(b" WAIVED ", text)?;
-    put_list(entry.waived.as_slice(), text)?;
-    put(b"\n", text)
+    let id = Word::Of(entry.id.as_bytes());
+    let (of_supby, supby) = (Word::Of(b"SUPBY"), Word::Ids(entry.supby.as_slice()));
+    let (of_delby, delby) = (Word::Of(b"DELBY"), Word::Of(id_text(&entry.delby)));
+    let (of_waived, waived) = (Word::Of(b"WAIVED"), Word::Ids(entry.waived.as_slice()));
+    match &entry.applied {
+        Some(applied) => {
+            let word = Word::Of(applied_word(kind));
+            let date = Word::Of(applied.date.as_bytes());
+            let words = [
+                id, word, date, of_supby, supby, of_delby, delby, of_waived, waived,
+            ];
+            put_words(b"  ENTRY", &words, text)
+        }
+        None => {
+            let none = Word::Of(b"-");
+            let words = [
+                id, none, of_supby, supby, of_delby, delby, of_waived, waived,
+            ];
+            put_words(b"  ENTRY", &words, text)
+        }
+    }
 }
 
 fn put_ver(
@@ -81,38 +50,25 @@ fn put_ver(
 ) -> Result<(), AllocError>
     ensures { OnOk result (text.new.items ≡ text.old.items ++ fact_text (VerFact number fmid.now fits counts)) }
 {
-    put(b"  VER ", text)?;
-    put_number(number, text)?;
-    put(b" FMID", text)?;
-    put_word(id_text(fmid), text)?;
-    put_word(word_if(fits, b"FITS"), text)?;
-    put_word(word_if(counts, b"COUNTS"), text)?;
-    put(b"\n", text)
-}
-
-fn put_delete(id: Id, own: bool, text: &mut Vec<u8>) -> Result<(), AllocError>
-    ensures { OnOk result (text.new.items ≡ text.old.items ++ fact_text (DeleteFact id own)) }
-{
-    put(b"  DELETE", text)?;
-    put_word(id.as_bytes(), text)?;
-    put_word(word_if(own, b"CHAIN"), text)?;
-    put(b"\n", text)
-}
-
-fn put_npre(id: Id, applied: bool, text: &mut Vec<u8>) -> Result<(), AllocError>
-    ensures { OnOk result (text.new.items ≡ text.old.items ++ fact_text (NpreFact id applied)) }
-{
-    put(b"  NPRE", text)?;
-    put_word(id.as_bytes(), text)?;
-    put_word(word_if(applied, b"APPLIED"), text)?;
-    put(b"\n", text)
+    let words = [
+        Word::Number(number),
+        Word::Of(b"FMID"),
+        Word::Of(id_text(fmid)),
+        Word::If(fits, b"FITS", b"-"),
+        Word::If(counts, b"COUNTS", b"-"),
+    ];
+    put_words(b"  VER", &words, text)
 }
 
 fn put_fact(fact: &Fact<'_>, text: &mut Vec<u8>) -> Result<(), AllocError>
     ensures { OnOk result (text.new.items ≡ text.old.items ++ fact_text (fact_view fact.now)) }
 {
     match fact {
-        Fact::Standing { id, kind, standing } => put_standing(*id, *kind, *standing, text),
+        Fact::Standing { id, kind, standing } => {
+            let kind = Word::Left(8, type_word(*kind));
+            let standing = Word::Of(standing_text(*standing));
+            put_words(id.as_bytes(), &[kind, standing], text)
+        }
         Fact::Entry { kind, entry } => put_entry(*kind, entry, text),
         Fact::Ver {
             number,
@@ -120,19 +76,25 @@ fn put_fact(fact: &Fact<'_>, text: &mut Vec<u8>) -> Result<(), AllocError>
             fits,
             counts,
         } => put_ver(*number, fmid, *fits, *counts, text),
-        Fact::Requisite { requisite, answer } => put_requisite(*requisite, answer, text),
+        Fact::Requisite { requisite, answer } => put_requisite(requisite, answer, text),
         Fact::Hold { hold, resolution } => put_hold(hold, resolution, text),
         Fact::Element {
             elem_type,
             name,
             replaces,
             found,
-        } => put_element(*elem_type, *name, *replaces, found, text),
-        Fact::Delete { id, own } => put_delete(*id, *own, text),
-        Fact::Takes(id) => put_detail(b"TAKES", id.as_bytes(), text),
-        Fact::Npre { id, applied } => put_npre(*id, *applied, text),
-        Fact::Forbidden(id) => put_detail(b"FORBIDDEN", id.as_bytes(), text),
-        Fact::Needed(id) => put_detail(b"NEEDED", id.as_bytes(), text),
+        } => put_element(*elem_type, name, *replaces, found, text),
+        Fact::Delete { id, own } => {
+            let chain = Word::If(*own, b"CHAIN", b"-");
+            put_words(b"  DELETE", &[Word::Of(id.as_bytes()), chain], text)
+        }
+        Fact::Takes(id) => put_words(b"  TAKES", &[Word::Of(id.as_bytes())], text),
+        Fact::Npre { id, applied } => {
+            let applied = Word::If(*applied, b"APPLIED", b"-");
+            put_words(b"  NPRE", &[Word::Of(id.as_bytes()), applied], text)
+        }
+        Fact::Forbidden(id) => put_words(b"  FORBIDDEN", &[Word::Of(id.as_bytes())], text),
+        Fact::Needed(id) => put_words(b"  NEEDED", &[Word::Of(id.as_bytes())], text),
     }
 }
 

@@ -1,22 +1,14 @@
 //! How single values of facts are spelled.
 ghost use Rattle.std.specs.Prelude.{◌≡◌};
-ghost use Rattle.machine.specs.Report.{optional_text, mark_text};
+ghost use Rattle.machine.specs.Report.{optional_text};
 ghost use Rattle.terms.specs.Facts.{StandsApplied};
-ghost use Rattle.machine.specs.FactText.{word_if, type_word, standing_text, answer_word, rank_text, owned_text};
-ghost use Rattle.machine.specs.FactText.{change_text};
+ghost use Rattle.machine.specs.FactText.{type_word, standing_text, answer_word, rank_text};
 ghost use Rattle.report_why.specs.Views.{standing_view, answer_view, rank_view};
 
 use crate::fact::{Answer, Rank, Standing};
 use fields::spelling::kind_text;
 use fields::{Class, HoldDate, Id};
 use terms::{Kind, ZoneKind};
-
-/// The word where it is so, else `-`.
-pub(crate) fn word_if(holds: bool, word: &'static [u8]) -> &'static [u8]
-    ensures { result.now ≡ word_if holds word.now }
-{
-    if holds { word } else { b"-" }
-}
 
 pub(crate) fn id_text(id: &Option<Id>) -> &[u8]
     ensures { result.now ≡ optional_text id.now }
@@ -86,12 +78,6 @@ pub(crate) fn answer_word(answer: &Answer) -> &'static [u8]
     }
 }
 
-pub(crate) fn mark_text(internal: bool) -> &'static [u8]
-    ensures { result.now ≡ mark_text internal }
-{
-    if internal { b"INTERNAL" } else { b"EXTERNAL" }
-}
-
 pub(crate) fn rank_text(rank: Rank) -> &'static [u8]
     ensures { result.now ≡ rank_text (rank_view rank) }
 {
@@ -100,16 +86,4 @@ pub(crate) fn rank_text(rank: Rank) -> &'static [u8]
         Rank::Over => b"OVER",
         Rank::NotOver => b"NOTOVER",
     }
-}
-
-pub(crate) fn owned_text(owned: bool) -> &'static [u8]
-    ensures { result.now ≡ owned_text owned }
-{
-    if owned { b"OWNED" } else { b"NOTOWNED" }
-}
-
-pub(crate) fn change_text(replaces: bool) -> &'static [u8]
-    ensures { result.now ≡ change_text replaces }
-{
-    if replaces { b"REPLACES" } else { b"UPDATES" }
 }

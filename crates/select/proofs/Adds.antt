@@ -6,7 +6,7 @@ use Rattle.std.proofs.lemmas.List.Elements.{Contains-append_left, Contains-appen
 use Rattle.terms.specs.Types.{Id}
 use Rattle.sysmods.specs.Seen.{AddsAll}
 use Rattle.sysmods.proofs.Growth.{adds_keeps}
-use Rattle.lemmas.proofs.Lists.{flat_next}
+use Rattle.terms.proofs.Lists.{flat_next}
 
 -- one list and then another
 pub adds_append : (old mid new xs ys : List Id) → AddsAll old xs mid → AddsAll mid ys new → AddsAll old (xs ++ ys) new

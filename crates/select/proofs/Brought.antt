@@ -13,9 +13,9 @@ use Rattle.terms.specs.Lookups.{at_most_one, holds_of}
 use Rattle.terms.specs.Choice.{Choice, fits, ifs_of, counting}
 use Rattle.terms.specs.Candidates.{fmids_for, required_by}
 use Rattle.terms.specs.Conditions.{reqs_where, if_reqs, stated_for}
-use Rattle.lemmas.proofs.Members.{here, here_or, none_in, filter_in, in_filter, flat_in, in_flat}
-use Rattle.lemmas.proofs.Places.{contains_at}
-use Rattle.lemmas.proofs.Texts.{same_from}
+use Rattle.terms.proofs.ListMembers.{here, here_or, none_in, filter_in, in_filter, flat_in, in_flat}
+use Rattle.terms.proofs.Places.{contains_at}
+use Rattle.terms.proofs.TextOrder.{same_from}
 use Rattle.terms.proofs.Applied.{AppliedAre, applied_dated}
 use Rattle.select.specs.Scopes.{Scope, vers_in}
 use Rattle.select.specs.Growing.{taken_up, has_grown, open_fmids, fitting, required_of, required_for, kept_ver}

@@ -13,7 +13,7 @@ use Rattle.terms.specs.Over.{Leads, Reaches}
 use Rattle.terms.specs.Candidates.{Extends, BringsIn, AreCandidates}
 use Rattle.terms.proofs.Ids.{is_in_from_Contains, Contains_from_is_in}
 use Rattle.terms.proofs.Leads.{reaches_named, reaches_last}
-use Rattle.lemmas.proofs.Members.{none_in, here, filter_in, in_filter, flat_in, in_flat}
+use Rattle.terms.proofs.ListMembers.{none_in, here, filter_in, in_filter, flat_in, in_flat}
 use Rattle.terms.proofs.Applied.{AppliedAre}
 use Rattle.sysmods.specs.Seen.{AddsAll}
 use Rattle.sysmods.proofs.Growth.{adds_keeps, adds_cases, take_adds}

@@ -12,13 +12,13 @@ use Rattle.terms.specs.Lookups.{is_in}
 use Rattle.terms.specs.Choice.{vers_of}
 use Rattle.terms.specs.Candidates.{sups_for}
 use Rattle.terms.specs.Global.{named, named_functions, names_for}
-use Rattle.lemmas.proofs.Members.{here, none_in, in_map, in_filter, filter_in, flat_in, in_flat}
-use Rattle.lemmas.proofs.Searches.{find_gives}
-use Rattle.lemmas.proofs.Texts.{same_from}
+use Rattle.terms.proofs.ListMembers.{here, none_in, in_map, in_filter, filter_in, flat_in, in_flat}
+use Rattle.terms.proofs.Searches.{find_gives}
+use Rattle.terms.proofs.TextOrder.{same_from}
 use Rattle.sysmods.specs.Held.{zone_of}
 use Rattle.sysmods.specs.Namers.{namers_for, names_as_function, function_namers}
 use Rattle.terms.proofs.Ids.{is_in_from_Contains}
-use Rattle.lemmas.proofs.Searches.{passes_some}
+use Rattle.terms.proofs.Searches.{passes_some}
 
 -- What names anything in a ++VER that counts is received.
 abbrev of_srel : Text → Ver → Bool

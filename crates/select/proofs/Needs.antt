@@ -13,8 +13,8 @@ use Rattle.terms.specs.Candidates.{fmids_for, required_by, needed_ids}
 use Rattle.terms.specs.Conditions.{reqs_where, stated_for}
 use Rattle.terms.specs.Global.{named_functions}
 use Rattle.terms.proofs.Ids.{is_in_from_Contains}
-use Rattle.lemmas.proofs.Members.{none_in, here, filter_in, in_filter, flat_in, in_flat}
-use Rattle.lemmas.proofs.Texts.{same_from, same_itself}
+use Rattle.terms.proofs.ListMembers.{none_in, here, filter_in, in_filter, flat_in, in_flat}
+use Rattle.terms.proofs.TextOrder.{same_from, same_itself}
 use Rattle.select.specs.Scopes.{Scope, needed_in, open_reasons_in, vers_in}
 use Rattle.select.specs.Growing.{asked_by, open_fmids, namers_in}
 use Rattle.select.proofs.Listed.{function_listed, fmid_named, if_named}

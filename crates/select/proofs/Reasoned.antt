@@ -8,7 +8,7 @@ use Rattle.terms.specs.Types.{Id}
 use Rattle.terms.specs.Lookups.{is_in, is_before, IsRising}
 use Rattle.terms.specs.Candidates.{not_chosen}
 use Rattle.terms.proofs.Ids.{Contains_from_is_in}
-use Rattle.lemmas.proofs.Members.{here, there, here_or, none_in}
+use Rattle.terms.proofs.ListMembers.{here, there, here_or, none_in}
 use Rattle.std.specs.Option.{option_to_list}
 use Rattle.std.proofs.lemmas.List.{take_more}
 use Rattle.std.proofs.lemmas.List.Elements.{filter_map-append}

@@ -8,7 +8,7 @@ use Rattle.terms.specs.Lookups.{is_in}
 use Rattle.terms.specs.Candidates.{has_mass_choice}
 use Rattle.terms.proofs.Ids.{Contains_from_is_in}
 use Rattle.terms.proofs.GlobalLookups.{ver_received}
-use Rattle.lemmas.proofs.Members.{filter_in, in_filter}
+use Rattle.terms.proofs.ListMembers.{filter_in, in_filter}
 use Rattle.select.specs.Scopes.{Scope, is_open_in, is_mass_chosen_in, is_start_in, named_ids}
 use Rattle.select.proofs.Opened.{open_parts}
 

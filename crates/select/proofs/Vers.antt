@@ -13,7 +13,7 @@ use Rattle.terms.specs.Lookups.{sysmod_of, is_applied}
 use Rattle.terms.specs.Choice.{fits}
 use Rattle.terms.specs.Candidates.{required_by}
 use Rattle.terms.specs.Conditions.{reqs_where}
-use Rattle.lemmas.proofs.Members.{filter_in, in_filter, flat_in, in_flat}
+use Rattle.terms.proofs.ListMembers.{filter_in, in_filter, flat_in, in_flat}
 use Rattle.select.specs.Scopes.{Scope, received_vers, vers_in, is_for_and_fits}
 use Rattle.select.specs.Growing.{fitting, required_of}
 use Rattle.select.proofs.Kept.{flat_mapped}

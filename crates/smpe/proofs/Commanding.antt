@@ -17,19 +17,14 @@ use Rattle.machine.specs.Report.{text}
 use Rattle.machine.specs.Machine.{Files, Perform, Performs, Steps}
 use Rattle.machine.specs.Runs.{Runs}
 use Rattle.machine.proofs.Joined.{runs_append, runs_one}
-use Rattle.store_schema.specs.declared.error.StoreError.{StoreError}
-use Rattle.store_schema.specs.declared.error.StoreError.TheVariants as store
 use Rattle.store.specs.Causes.{IsLater}
-use Rattle.report.specs.Sent.{WrotePart}
 use Rattle.smpe_zones.specs.Kept.{Keeps}
 use Rattle.smpe_session.specs.declared.session.Session.{Session}
-use Rattle.smpe_session.specs.Sessions.{IsSessionOf, HasPerformed}
+use Rattle.smpe_session.specs.Sessions.{IsSessionOf}
 use Rattle.smpe.specs.declared.error.JobError.{JobError}
-use Rattle.smpe.specs.declared.error.JobError.TheVariants.{Write}
 use Rattle.smpe.specs.Ending.{EndsEarly}
-use Rattle.smpe.specs.Commands.{EndsCommands, job_error}
-use Rattle.smpe.proofs.Early.{stopped_first, faulted_first, broke_first, early_after, early_more}
-use Rattle.smpe.proofs.Printing.{runs_printed}
+use Rattle.smpe.specs.Commands.{EndsCommands}
+use Rattle.smpe.proofs.Early.{early_after, early_more}
 
 codes_append : (xs ys : List Outcome) → job_code (xs ++ ys) ≡ max (job_code xs) (job_code ys)
 codes_append [] ys = omega arith
@@ -45,28 +40,7 @@ module _ {S : Type 0} (g : Ghosts S) (date : Text) (files : Files) where
       let p = err_from_is_err_and r failed in
       subst (EndsCommands g began at s session date files cs a b) (sym (p.1 ∙ ap (λ y. Err y) p.2)) early
 
-  -- a command was not performed
-  pub unperformed : (began at : Held S) (s : State) (session : Session) (c : Command) (taken : Option (List ℕ))
-      (e : StoreError)
-      → HasPerformed g began at s session date files c (Err e)
-      → EndsEarly g began at s (Perform date files c ∷ []) taken taken
-      (job_error e)
-  unperformed began at s session c taken store.Fault faulted = faulted_first g began at s (Perform date files c) []
-      taken faulted
-  unperformed began at s session c taken store.Memory stays = stopped_first g began at s (Perform date files c) []
-      taken stays
-  unperformed began at s session c taken store.OtherSchema impossible = absurd impossible
-  unperformed began at s session c taken store.NoState impossible = absurd impossible
-
-  -- it was, and its report broke off
-  pub unreported : (began at : Held S) (s t : State) (c : Command) (outcome : Outcome) (old new : Option (List ℕ))
-      → Performs date files s c t outcome → Keeps g at t → WrotePart old new (text outcome)
-      → EndsEarly g began at s (Perform date files c ∷ []) old new Write
-  unreported began at s t c outcome old new performs keeps part =
-      broke_first g began at s (Perform date files c) t (text outcome) old new
-      (outcome ∷ [], (outcome, performs, refl), sym (append-nil (text outcome))) keeps part
-
-  -- it was, and was reported
+  -- a command was performed, and was reported
   pub reported : (began at : Held S) (s t : State) (session : Session) (c : Command) (outcome : Outcome)
       (old new : Option (List ℕ)) (code : ℕ)
       → Performs date files s c t outcome → IsSessionOf t session → Keeps g at t → Appends old new (text outcome)
@@ -121,9 +95,8 @@ module _ {S : Type 0} (g : Ghosts S) (date : Text) (files : Files) where
         → EndsEarly g began at s (map (Perform date files) (xs ++ ys)) a c e
     commands_stop e later (t, front, runs, is, keeps, appends, told) goes_on =
         subst (λ acts. EndsEarly g began at s acts a c e) (sym (map-append (Perform date files) xs ys))
-        (early_after g began at s before t (map (Perform date files) xs) (map (Perform date files) ys)
-        (flat_map text front) a b c e later
-        (runs_printed s t (map (Perform date files) xs) front runs) keeps appends (goes_on t is keeps))
+        (early_after g began before at later s t (map (Perform date files) xs) (map (Perform date files) ys) a b c e
+        (record { outcomes = front; runs = runs; appends = appends }) (goes_on t is keeps))
 
   -- with commands behind that were never begun
   pub commands_early : (began at : Held S) (s : State) (xs ys : List Command) (a b : Option (List ℕ)) (e : JobError)

@@ -1,12 +1,9 @@
 -- The course of a call, from those of its parts.
 use Rattle.std.proofs.Common.{◌≡◌, ◌≢◌, ℕ, List, [], ◌∷◌, ◌++◌, Option, Result, Ok, Err, map, refl, sym, ◌∙◌, ap, subst}
 use Rattle.std.proofs.Common.{append_assoc, append-nil, inl, inr}
-use Rattle.std.specs.List.{flat_map}
 use Rattle.std.specs.Io.KnownBytes.{Appends}
 use Rattle.std.specs.Result.{IsErrAnd}
-use Rattle.std.proofs.KnownBytes.{Appends-nil, Appends-trans}
 use Rattle.std.proofs.lemmas.List.{map-append}
-use Rattle.std.proofs.lemmas.List.Concat.{flat_map-append}
 use Rattle.std.proofs.lemmas.Result.{err_from_is_err_and}
 use Rattle.sqlite.specs.Store.{Ghosts}
 use Rattle.sqlite.specs.Held.{Held, state}
@@ -18,7 +15,6 @@ use Rattle.machine.specs.Outcome.{Outcome, ControlFault, Control}
 use Rattle.machine.specs.Report.{text}
 use Rattle.machine.specs.Machine.{Files, Act, Begin, Perform, Faulty, Define, Job, RunFiles, NewZone, HasActs}
 use Rattle.machine.specs.Machine.{AreFirstActs}
-use Rattle.machine.proofs.Joined.{runs_append, runs_one}
 use Rattle.store_schema.specs.declared.error.StoreError.{StoreError}
 use Rattle.store_schema.specs.declared.error.StoreError.TheVariants as store
 use Rattle.report.specs.Sent.{WrotePart}
@@ -33,7 +29,9 @@ use Rattle.smpe_session.specs.Writing.{IsRan, AnswersRun}
 use Rattle.smpe.specs.declared.error.JobError.{JobError}
 use Rattle.smpe.specs.declared.error.JobError.TheVariants.{Memory, Store, Write}
 use Rattle.smpe.specs.Commands.{job_error}
-use Rattle.smpe.specs.Course.{HaveActs, Passes, Passed, Breaks, FailsBy, GoesEarly, Goes, JobGoes, JobsGo}
+use Rattle.smpe.specs.Going.{HaveActs, Passes, Passed, FailsBy, LastCall, GoesEarly, Goes, JobGoes, JobsGo}
+use Rattle.smpe.proofs.Courses.{ran_none, ran_quiet, ran_one, ran_more, course_first, course_after, course_more}
+use Rattle.smpe.proofs.Courses.{next_more, unreported}
 use Rattle.smpe.proofs.Early.{none_begun}
 use Rattle.smpe.proofs.Listing.{first_more}
 use Rattle.smpe.proofs.Single.{one_job}
@@ -66,106 +64,42 @@ module _ {S : Type 0} (g : Ghosts S) where
   -- ---- acts
 
   pub passed_none : (at : Held S) (taken : Option (List ℕ)) → Passed g at at [] taken taken
-  passed_none at taken = record { outcomes = []; passes = (refl, refl); appends = Appends-nil taken }
-
-  -- one that reports nothing
-  pub passed_quiet : (old new : Held S) (act : Act) (taken : Option (List ℕ)) → Passes g old act new []
-      → Passed g old new (act ∷ []) taken taken
-  passed_quiet old new act taken passes = record {
-    outcomes = [];
-    passes = runs_one (Passes g) old new act [] passes;
-    appends = Appends-nil taken;
-  }
+  passed_none at taken = ran_none (Passes g) at taken
 
   -- one that reports this
   pub passed_one : (old new : Held S) (act : Act) (outcome : Outcome) (a b : Option (List ℕ))
       → Passes g old act new (outcome ∷ []) → Appends a b (text outcome) → Passed g old new (act ∷ []) a b
-  passed_one old new act outcome a b passes appends = record {
-    outcomes = outcome ∷ [];
-    passes = runs_one (Passes g) old new act (outcome ∷ []) passes;
-    appends = subst (Appends a b) (sym (append-nil (text outcome))) appends;
-  }
-
-  module _ (old mid new : Held S) (xs ys : List Act) (a b c : Option (List ℕ)) (front : Passed g old mid xs a b) where
-    pub passed_more : Passed g mid new ys b c → Passed g old new (xs ++ ys) a c
-    passed_more back = record {
-      outcomes = front.outcomes ++ back.outcomes;
-      passes = runs_append (Passes g) old mid new xs ys front.outcomes back.outcomes front.passes back.passes;
-      appends = subst (Appends a c) (sym (flat_map-append text front.outcomes back.outcomes))
-          (Appends-trans a b c (flat_map text front.outcomes) (flat_map text back.outcomes) front.appends
-          back.appends);
-    }
+  passed_one old new act outcome a b passes appends = ran_one (Passes g) old new act outcome a b passes appends
 
   -- ---- acts that end early
-
-  module _ (Ends : Held S → Option (List ℕ) → Act → Type 0) where
-    breaks_first : (at : Held S) (next : Act) (rest : List Act) (taken : Option (List ℕ)) → Ends at taken next
-        → Breaks g Ends at (next ∷ rest) taken
-    breaks_first at next rest taken ends = record {
-      done = [];
-      next = next;
-      rest = rest;
-      acts_are = refl;
-      before = at;
-      had = taken;
-      passed = passed_none at taken;
-      ends = ends;
-    }
-
-    breaks_after : (old mid : Held S) (xs ys : List Act) (a b : Option (List ℕ)) → Passed g old mid xs a b
-        → Breaks g Ends mid ys b → Breaks g Ends old (xs ++ ys) a
-    breaks_after old mid xs ys a b front back = record {
-      done = xs ++ back.done;
-      next = back.next;
-      rest = back.rest;
-      acts_are = ap (λ zs. xs ++ zs) back.acts_are ∙ sym (append_assoc xs back.done (back.next ∷ back.rest));
-      before = back.before;
-      had = back.had;
-      passed = passed_more old mid back.before xs back.done a b back.had front back.passed;
-      ends = back.ends;
-    }
-
-    breaks_more : (old : Held S) (xs ys : List Act) (a : Option (List ℕ)) → Breaks g Ends old xs a
-        → Breaks g Ends old (xs ++ ys) a
-    breaks_more old xs ys a breaks = record {
-      done = breaks.done;
-      next = breaks.next;
-      rest = breaks.rest ++ ys;
-      acts_are = ap (λ zs. zs ++ ys) breaks.acts_are ∙ append_assoc breaks.done (breaks.next ∷ breaks.rest) ys;
-      before = breaks.before;
-      had = breaks.had;
-      passed = breaks.passed;
-      ends = breaks.ends;
-    }
 
   -- the first act failed so
   pub early_first : (old new : Held S) (act : Act) (more : List Act) (a b : Option (List ℕ)) (e : JobError)
       → FailsBy g new b e old a act → GoesEarly g old new (act ∷ more) a b e
-  early_first old new act more a b e fails = inl (breaks_first (FailsBy g new b e) old act more a fails)
+  early_first old new act more a b e fails =
+      course_first (Passes g) (LastCall g new b e) old (act ∷ more) a (inl fails)
 
   -- memory was short before the first one
   pub early_none : (at : Held S) (acts : List Act) (taken : Option (List ℕ)) → GoesEarly g at at acts taken taken Memory
-  early_none at acts taken = inr (refl, [], acts, refl, passed_none at taken)
+  early_none at acts taken = course_first (Passes g) (LastCall g at taken Memory) at acts taken (inr (refl, refl, refl))
 
   -- acts that ran, and then some that ended early
   pub early_after : (old mid new : Held S) (xs ys : List Act) (a b c : Option (List ℕ)) (e : JobError)
       → Passed g old mid xs a b → GoesEarly g mid new ys b c e → GoesEarly g old new (xs ++ ys) a c e
-  early_after old mid new xs ys a b c e front (inl breaks) =
-      inl (breaks_after (FailsBy g new c e) old mid xs ys a b front breaks)
-  early_after old mid new xs ys a b c e front (inr (short, done, rest, are, passed)) = inr (
-    short,
-    xs ++ done,
-    rest,
-    ap (λ zs. xs ++ zs) are ∙ sym (append_assoc xs done rest),
-    passed_more old mid new xs done a b c front passed,
-  )
+  early_after old mid new xs ys a b c e front back =
+      course_after (Passes g) (LastCall g new c e) old mid xs ys a b front back
+
+  last_more : (new : Held S) (c : Option (List ℕ)) (e : JobError) (more : List Act) (before : Held S)
+      (had : Option (List ℕ)) (rest : List Act) → LastCall g new c e before had rest
+      → LastCall g new c e before had (rest ++ more)
+  last_more new c e more before had rest (inl fails) = inl (next_more (FailsBy g new c e) before had rest more fails)
+  last_more new c e more before had rest (inr short) = inr short
 
   -- with acts behind that were never begun
   early_more : (old new : Held S) (xs ys : List Act) (a c : Option (List ℕ)) (e : JobError)
       → GoesEarly g old new xs a c e → GoesEarly g old new (xs ++ ys) a c e
-  early_more old new xs ys a c e (inl breaks) = inl (breaks_more (FailsBy g new c e) old xs ys a breaks)
-  early_more old new xs ys a c e (inr (short, done, rest, are, passed)) =
-      inr (short, done, rest ++ ys, ap (λ zs. zs ++ ys) are ∙ append_assoc done rest ys, passed)
+  early_more old new xs ys a c e early =
+      course_more (Passes g) (LastCall g new c e) old xs ys a (last_more new c e ys) early
 
   -- ---- how one act fails
 
@@ -187,7 +121,7 @@ module _ {S : Type 0} (g : Ghosts S) where
   pub fails_told : (old new : Held S) (act : Act) (outcome : Outcome) (a b : Option (List ℕ))
       → Passes g old act new (outcome ∷ []) → WrotePart a b (text outcome) → FailsBy g new b Write old a act
   fails_told old new act outcome a b passes part =
-      (outcome ∷ [], passes, subst (WrotePart a b) (sym (append-nil (text outcome))) part)
+      unreported (Passes g) (λ after. after ≡ new) old new act outcome a b passes refl part
 
   -- ---- commands
 
@@ -217,7 +151,7 @@ module _ {S : Type 0} (g : Ghosts S) where
     pub commands_passed : Passed g mid new (map (Perform date files) ys) b c
         → Passed g old new (map (Perform date files) (xs ++ ys)) a c
     commands_passed back = subst (λ acts. Passed g old new acts a c) (sym (map-append (Perform date files) xs ys))
-        (passed_more old mid new (map (Perform date files) xs) (map (Perform date files) ys) a b c front back)
+        (ran_more (Passes g) old mid new (map (Perform date files) xs) (map (Perform date files) ys) a b c front back)
 
     -- commands, and then some that ended early, with others behind that were never begun
     pub early_commands : (more : List Command) (e : JobError)
@@ -253,7 +187,7 @@ module _ {S : Type 0} (g : Ghosts S) where
   module _ (date : Text) (cntl : List ℕ) (files : Files) where
     -- A job that has not asked the store begins.
     begun_unasked : (at : Held S) (taken : Option (List ℕ)) → Passed g at at (Begin ∷ []) taken taken
-    begun_unasked at taken = passed_quiet at at Begin taken (loads_none g at, refl, inl refl)
+    begun_unasked at taken = ran_quiet (Passes g) at at Begin taken (loads_none g at, refl, inl refl)
 
     -- the command file is at fault, and that is reported
     pub faulty_goes : (at : Held S) (fault : CntlFault) (a b : Option (List ℕ)) → IsCommandFileFault cntl fault
@@ -263,7 +197,7 @@ module _ {S : Type 0} (g : Ghosts S) where
         let control : ControlFault = record { number = fault.number; code = fault.code } in (
           Begin ∷ Faulty control ∷ [],
           inr (fault, is, refl),
-          passed_more at at at (Begin ∷ []) (Faulty control ∷ []) a a b (begun_unasked at a)
+          ran_more (Passes g) at at at (Begin ∷ []) (Faulty control ∷ []) a a b (begun_unasked at a)
               (passed_one at at (Faulty control) (Control control) a b (loads_none g at, refl) appends),
         )
 
@@ -299,20 +233,20 @@ module _ {S : Type 0} (g : Ghosts S) where
         let acts = map (Perform date files) cs in (
           Begin ∷ acts,
           inl (cs, is, refl),
-          passed_more old at new (Begin ∷ []) acts a a b (passed_quiet old at Begin a began) went,
+          ran_more (Passes g) old at new (Begin ∷ []) acts a a b (ran_quiet (Passes g) old at Begin a began) went,
         )
     begun_goes old at new cs a b (Err e) is began early =
         let acts = map (Perform date files) cs in (
           Begin ∷ acts,
           one_job (RunFiles date cntl files) (Begin ∷ acts) (inl (cs, is, refl)),
-          early_after old at new (Begin ∷ []) acts a a b e (passed_quiet old at Begin a began) early,
+          early_after old at new (Begin ∷ []) acts a a b e (ran_quiet (Passes g) old at Begin a began) early,
         )
 
   -- the definition of a zone
   pub define_goes : (old new : Held S) (d : ZoneDefinition) (taken : Option (List ℕ))
       → GoesOver g old new (IsOwn (Define d)) {X = List Outcome} {E = JobError} (Ok [])
       → JobWent old new (NewZone d) taken taken
-  define_goes old new d taken goes = (Define d ∷ [], refl, passed_quiet old new (Define d) taken (refl, goes))
+  define_goes old new d taken goes = (Define d ∷ [], refl, ran_quiet (Passes g) old new (Define d) taken (refl, goes))
 
   -- or it failed
   pub define_early : (old new : Held S) (d : ZoneDefinition) (taken : Option (List ℕ)) (e : JobError)
@@ -342,7 +276,7 @@ module _ {S : Type 0} (g : Ghosts S) where
     went_more back = (
       front.0 ++ back.0,
       have_more jobs (job ∷ []) front.0 back.0 front.1 (back.0, [], back.1, refl, sym (append-nil back.0)),
-      passed_more old mid new front.0 back.0 a b c front.2 back.2,
+      ran_more (Passes g) old mid new front.0 back.0 a b c front.2 back.2,
     )
 
     -- or one that ended early, with others behind that were never begun

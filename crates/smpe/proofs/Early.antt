@@ -1,28 +1,28 @@
 -- Calls that could not go on, one after another.
-use Rattle.std.proofs.Common.{◌∙◌, ℕ, List, [], ◌∷◌, ◌++◌, Option, Result, Ok, Err, refl, sym, ap, append_assoc}
-use Rattle.std.proofs.Common.{inl, inr, arith}
-use Rattle.std.specs.Io.KnownBytes.{Appends}
-use Rattle.std.proofs.KnownBytes.{Appends-nil, Appends-trans}
+use Rattle.std.proofs.Common.{ℕ, List, [], ◌∷◌, ◌++◌, Option, Result, Ok, Err, refl, inl}
 use Rattle.sqlite.specs.Store.{Ghosts}
 use Rattle.sqlite.specs.Held.{Held}
 use Rattle.machine.specs.State.{State}
-use Rattle.machine.specs.Machine.{Job, Answer, Act, Prints, AreFirstActs}
-use Rattle.machine.specs.Runs.{Runs, RanAll, IsAfterNext, Stopped, BrokeOff}
-use Rattle.machine.proofs.Joined.{runs_append, stopped_after, stopped_more, broke_after, broke_more}
+use Rattle.machine.specs.Outcome.{Outcome}
+use Rattle.machine.specs.Report.{text}
+use Rattle.machine.specs.Machine.{Job, Answer, Act, Steps, AreFirstActs}
+use Rattle.store_schema.specs.declared.error.StoreError.{StoreError}
 use Rattle.store_schema.specs.declared.error.StoreError.TheVariants as store
-use Rattle.report.specs.Sent.{WrotePart}
 use Rattle.store_schema.specs.Inventory.{Inventory}
+use Rattle.report.specs.Sent.{WrotePart}
 use Rattle.store.specs.Causes.{IsLater}
-use Rattle.smpe_zones.specs.Kept.{kept, Keeps, IsStopped, IsFaulted, LeadsOn}
-use Rattle.smpe_zones.proofs.Keeping.{leaves_more, cause_since}
-use Rattle.store.specs.View.{Tables, TablesIfOpen, Leaves}
+use Rattle.smpe_zones.specs.Ends.{ActFailed}
+use Rattle.smpe_zones.specs.Kept.{Keeps, IsAfter, LeadsOn}
+use Rattle.smpe_zones.proofs.Keeping.{still_kept, still_more, failed_since}
 use Rattle.smpe.specs.declared.error.JobError.{JobError}
 use Rattle.smpe.specs.declared.error.JobError.TheVariants.{Memory, Store, Write}
-use Rattle.smpe.specs.Ending.{Follows, IsCaused, StoppedFaulted, EndsEarly, EndsAmong, EndsJobs}
+use Rattle.smpe.specs.Commands.{job_error}
+use Rattle.smpe.specs.Course.{AllRan, Unreported}
+use Rattle.smpe.specs.Ending.{IsAfterNext, Faulted, LastStep, EndsEarly, EndsAmong, EndsJobs}
+use Rattle.smpe.proofs.Courses.{course_first, course_after, course_more, course_as, next_more, next_as, unreported}
 
 -- with acts behind that were never begun
-after_more : (s : State) (rest more : List Act) (c : Inventory) → IsAfterNext Prints kept s rest c
-    → IsAfterNext Prints kept s (rest ++ more) c
+after_more : (s : State) (rest more : List Act) (c : Inventory) → IsAfterNext s rest c → IsAfterNext s (rest ++ more) c
 after_more s [] more c none = absurd none
 after_more s (next ∷ rest) more c after = after
 
@@ -31,144 +31,56 @@ pub none_begun : (jobs : List Job) → AreFirstActs jobs []
 none_begun [] = refl
 none_begun (job ∷ more) = inl refl
 
-module _ {S : Type 0} (g : Ghosts S) where
-  pub follows_itself : (at : Held S) → Follows g at at
-  follows_itself at = record { clean = λ clean. clean; faults = omega arith; limit = refl }
+module _ {S : Type 0} (g : Ghosts S) (began at : Held S) (new : Option (List ℕ)) where
+  last_more : (e : JobError) (more : List Act) (before : State) (had : Option (List ℕ)) (rest : List Act)
+      → LastStep g began at new e before had rest → LastStep g began at new e before had (rest ++ more)
+  last_more Memory more before had rest (still, same) = (
+    still_more g at before (IsAfterNext before rest) (IsAfterNext before (rest ++ more))
+        (after_more before rest more) still,
+    same,
+  )
+  last_more (Store store.Fault) more before had rest last =
+      next_more (Faulted g began at new) before had rest more last
+  last_more (Store store.OtherSchema) more before had rest none = none
+  last_more (Store store.NoState) more before had rest none = none
+  last_more (Store store.Memory) more before had rest none = none
+  last_more Write more before had rest last =
+      next_more (Unreported Steps (Keeps g at) new) before had rest more last
 
-  pub follows_on : (old mid new : Held S) → Follows g old mid → Follows g mid new → Follows g old new
-  follows_on old mid new first second = record {
-    clean = λ clean. first.clean (second.clean clean);
-    faults = omega (arith, first.faults, second.faults);
-    limit = second.limit ∙ first.limit;
-  }
-
-module _ {S : Type 0} (g : Ghosts S) (began at : Held S) where
-  caused_more : (before : State) (rest more : List Act) → IsCaused g began at before rest
-      → IsCaused g began at before (rest ++ more)
-  caused_more before [] more none = absurd none
-  caused_more before (next ∷ rest) more cause = cause
-
-  caused_since : (mid : Held S) → IsLater g began mid → (before : State) (rest : List Act)
-      → IsCaused g mid at before rest → IsCaused g began at before rest
-  caused_since mid later before [] none = none
-  caused_since mid later before (next ∷ rest) cause =
-      cause_since g began mid at later (kept before) (LeadsOn before next) cause
+  -- of a call that began earlier
+  last_since : (first : Held S) → IsLater g first began → (e : JobError) (before : State) (had : Option (List ℕ))
+      (rest : List Act) → LastStep g began at new e before had rest → LastStep g first at new e before had rest
+  last_since first later Memory before had rest last = last
+  last_since first later (Store store.Fault) before had rest last =
+      next_as (Faulted g began at new) (Faulted g first at new) (λ s had act failed. (
+        failed_since g first began at s later (IsAfter s act) (LeadsOn s act) store.Fault failed.0,
+        failed.1,
+      )) before had rest last
+  last_since first later (Store store.OtherSchema) before had rest none = none
+  last_since first later (Store store.NoState) before had rest none = none
+  last_since first later (Store store.Memory) before had rest none = none
+  last_since first later Write before had rest last = last
 
 module _ {S : Type 0} (g : Ghosts S) (began at : Held S) (s : State) where
-  -- the first of these acts had no effect
-  pub stopped_first : (a : Act) (more : List Act) (taken : Option (List ℕ)) → IsStopped g at s a
-      → Stopped Prints kept s (a ∷ more) (TablesIfOpen g at) (Leaves g at) taken taken
-  stopped_first a more taken stays = record {
-    done = [];
-    rest = a ∷ more;
-    acts_are = refl;
-    end = s;
-    bytes = [];
-    runs = (refl, refl);
-    now = stays.now;
-    crash = stays.crash;
-    appends = Appends-nil taken;
-  }
-
-  -- for a fault
-  pub faulted_first : (a : Act) (more : List Act) (taken : Option (List ℕ)) → IsFaulted g began at s a
-      → StoppedFaulted g began at s (a ∷ more) taken taken
-  unfolding stopped_first
-  faulted_first a more taken faulted = record {
-    stopped = stopped_first a more taken faulted.stopped;
-    cause = faulted.cause;
-  }
+  -- the first of these acts failed
+  pub failed_first : (a : Act) (more : List Act) (taken : Option (List ℕ)) (e : StoreError)
+      → ActFailed g began at s a e → EndsEarly g began at s (a ∷ more) taken taken (job_error e)
+  failed_first a more taken store.Fault failed =
+      course_first Steps (LastStep g began at taken (Store store.Fault)) s (a ∷ more) taken (failed, refl)
+  failed_first a more taken store.OtherSchema none = absurd none
+  failed_first a more taken store.NoState none = absurd none
+  failed_first a more taken store.Memory failed =
+      course_first Steps (LastStep g began at taken Memory) s (a ∷ more) taken (
+        still_more g at s (IsAfter s a) (IsAfterNext s (a ∷ more)) (λ c after. after) failed,
+        refl,
+      )
 
   -- of the report of an act a beginning went out
-  pub broke_first : (a : Act) (t : State) (text : List ℕ) (old new : Option (List ℕ)) → Prints s a t text → Keeps g at t
-      → WrotePart old new text → BrokeOff Prints kept s (a ∷ []) (Tables g at) (Leaves g at) old new
-  broke_first a t text old new prints keeps part = record {
-    done = [];
-    last = a;
-    rest = [];
-    acts_are = refl;
-    before = s;
-    bytes = [];
-    runs = (refl, refl);
-    end = t;
-    text = text;
-    step = prints;
-    stands = keeps;
-    piece = part.piece;
-    lost = part.lost;
-    text_is = part.text_is;
-    appends = part.bytes;
-  }
-
-  -- a run, and then a call that ended early
-  module _ (before : Held S) (t : State) (xs ys : List Act) (bytes : List ℕ) (a b c : Option (List ℕ)) where
-    run : Runs Prints s xs t bytes → Keeps g before t → Appends a b bytes
-        → RanAll Prints kept s xs (Tables g before) (Leaves g before) a b
-    run runs keeps appends = record { end = t; bytes = bytes; runs = runs; stands = keeps; appends = appends }
-
-    faulted_after : IsLater g began before → Runs Prints s xs t bytes → Appends a b bytes
-        → StoppedFaulted g before at t ys b c → StoppedFaulted g began at s (xs ++ ys) a c
-    faulted_after later runs appends back =
-        let stop = back.stopped in
-        record {
-          stopped = record {
-            done = xs ++ stop.done;
-            rest = stop.rest;
-            acts_are = ap (λ zs. xs ++ zs) stop.acts_are ∙ sym (append_assoc xs stop.done stop.rest);
-            end = stop.end;
-            bytes = bytes ++ stop.bytes;
-            runs = runs_append Prints s t stop.end xs stop.done bytes stop.bytes runs stop.runs;
-            now = stop.now;
-            crash = stop.crash;
-            appends = Appends-trans a b c bytes stop.bytes appends stop.appends;
-          };
-          cause = caused_since g began at before later stop.end stop.rest back.cause;
-        }
-
-    pub early_after : (e : JobError) → IsLater g began before → Runs Prints s xs t bytes → Keeps g before t
-        → Appends a b bytes → EndsEarly g before at t ys b c e → EndsEarly g began at s (xs ++ ys) a c e
-    unfolding run
-    early_after Memory later runs keeps appends back = stopped_after Prints kept s xs ys (Tables g before)
-        (TablesIfOpen g at) (Leaves g before) (Leaves g at) a b c (run runs keeps appends) back
-    early_after (Store store.Fault) later runs keeps appends back = faulted_after later runs appends back
-    early_after (Store store.OtherSchema) later runs keeps appends back = back
-    early_after (Store store.NoState) later runs keeps appends back = back
-    early_after (Store store.Memory) later runs keeps appends back = back
-    early_after Write later runs keeps appends back = broke_after Prints kept s xs ys (Tables g before)
-        (Tables g at) (Leaves g before) (Leaves g at) a b c (run runs keeps appends) back
-
-  -- with acts behind that were never begun
-  faulted_more : (xs ys : List Act) (a b : Option (List ℕ)) → StoppedFaulted g began at s xs a b
-      → StoppedFaulted g began at s (xs ++ ys) a b
-  faulted_more xs ys a b back =
-      let stop = back.stopped in
-      record {
-        stopped = record {
-          done = stop.done;
-          rest = stop.rest ++ ys;
-          acts_are = ap (λ zs. zs ++ ys) stop.acts_are ∙ append_assoc stop.done stop.rest ys;
-          end = stop.end;
-          bytes = stop.bytes;
-          runs = stop.runs;
-          now = stop.now;
-          crash = leaves_more g at _ _ (λ c either. elim either [
-            | inl same ↦ inl same
-            | inr after ↦ inr (after_more stop.end stop.rest ys c after)
-          ]) stop.crash;
-          appends = stop.appends;
-        };
-        cause = caused_more g began at stop.end stop.rest ys back.cause;
-      }
-
-  pub early_more : (xs ys : List Act) (a b : Option (List ℕ)) (e : JobError) → EndsEarly g began at s xs a b e
-      → EndsEarly g began at s (xs ++ ys) a b e
-  early_more xs ys a b Memory early = stopped_more Prints kept s xs ys (TablesIfOpen g at) (Leaves g at)
-      (leaves_more g at) a b early
-  early_more xs ys a b (Store store.Fault) early = faulted_more xs ys a b early
-  early_more xs ys a b (Store store.OtherSchema) early = early
-  early_more xs ys a b (Store store.NoState) early = early
-  early_more xs ys a b (Store store.Memory) early = early
-  early_more xs ys a b Write early = broke_more Prints kept s xs ys (Tables g at) (Leaves g at) a b early
+  pub broke_first : (a : Act) (t : State) (outcome : Outcome) (old new : Option (List ℕ)) → Steps s a t (outcome ∷ [])
+      → Keeps g at t → WrotePart old new (text outcome) → EndsEarly g began at s (a ∷ []) old new Write
+  broke_first a t outcome old new step keeps part =
+      course_first Steps (LastStep g began at new Write) s (a ∷ []) old
+      (unreported Steps (Keeps g at) s t a outcome old new step keeps part)
 
   -- want of memory before the first act
   pub ends_unbegun : (jobs : List Job) (taken : Option (List ℕ)) → Keeps g at s
@@ -176,34 +88,31 @@ module _ {S : Type 0} (g : Ghosts S) (began at : Held S) (s : State) where
   ends_unbegun jobs taken keeps = (
     [],
     none_begun jobs,
-    record {
-      done = [];
-      rest = [];
-      acts_are = refl;
-      end = s;
-      bytes = [];
-      runs = (refl, refl);
-      now = λ shown. (keeps.now, keeps.crash);
-      crash = leaves_more g at _ _ (λ c is. inl is) keeps.crash;
-      appends = Appends-nil taken;
-    },
+    course_first Steps (LastStep g began at taken Memory) s [] taken
+        (still_kept g at s (IsAfterNext s []) keeps, refl),
   )
 
--- the same of a call that began earlier
-module _ {S : Type 0} (g : Ghosts S) (began mid at : Held S) (s : State) (later : IsLater g began mid) where
-  early_since : (acts : List Act) (a b : Option (List ℕ)) (e : JobError) → EndsEarly g mid at s acts a b e
-      → EndsEarly g began at s acts a b e
-  early_since acts a b Memory early = early
-  early_since acts a b (Store store.Fault) early = record {
-    stopped = early.stopped;
-    cause = caused_since g began at mid later early.stopped.end early.stopped.rest early.cause;
-  }
-  early_since acts a b (Store store.OtherSchema) early = early
-  early_since acts a b (Store store.NoState) early = early
-  early_since acts a b (Store store.Memory) early = early
-  early_since acts a b Write early = early
+  -- with acts behind that were never begun
+  pub early_more : (xs ys : List Act) (a b : Option (List ℕ)) (e : JobError) → EndsEarly g began at s xs a b e
+      → EndsEarly g began at s (xs ++ ys) a b e
+  early_more xs ys a b e early =
+      course_more Steps (LastStep g began at b e) s xs ys a (last_more g began at b e ys) early
 
-  pub jobs_since : {V : Type 0} (jobs : List Job) (a b : Option (List ℕ)) (answers : V → List Answer)
+-- the same of a call that began earlier
+module _ {S : Type 0} (g : Ghosts S) (began mid at : Held S) (later : IsLater g began mid) where
+  early_since : (s : State) (acts : List Act) (a b : Option (List ℕ)) (e : JobError)
+      → EndsEarly g mid at s acts a b e → EndsEarly g began at s acts a b e
+  early_since s acts a b e early =
+      course_as Steps (LastStep g mid at b e) (LastStep g began at b e) s acts a
+      (last_since g mid at b began later e) early
+
+  -- behind acts that ran
+  pub early_after : (s t : State) (xs ys : List Act) (a b c : Option (List ℕ)) (e : JobError)
+      → AllRan Steps s xs t a b → EndsEarly g mid at t ys b c e → EndsEarly g began at s (xs ++ ys) a c e
+  early_after s t xs ys a b c e ran back =
+      course_after Steps (LastStep g began at c e) s t xs ys a b ran (early_since t ys b c e back)
+
+  pub jobs_since : {V : Type 0} (s : State) (jobs : List Job) (a b : Option (List ℕ)) (answers : V → List Answer)
       (r : Result V JobError) → EndsJobs g mid at s jobs a b answers r → EndsJobs g began at s jobs a b answers r
-  jobs_since jobs a b answers (Ok v) ended = ended
-  jobs_since jobs a b answers (Err e) (acts, first, early) = (acts, first, early_since acts a b e early)
+  jobs_since s jobs a b answers (Ok v) ended = ended
+  jobs_since s jobs a b answers (Err e) (acts, first, early) = (acts, first, early_since s acts a b e early)

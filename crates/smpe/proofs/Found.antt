@@ -1,68 +1,43 @@
 -- What the next open finds, and what a store that is opened again keeps, from what a crash may leave.
-use Rattle.std.proofs.Common.{◌≡◌, ℕ, List, Option, inr, subst}
+use Rattle.std.proofs.Common.{◌≡◌, ℕ, List, [], ◌∷◌, Option, inr, subst}
 use Rattle.std.proofs.Math.Logic.{∥∥₁_map}
 use Rattle.sqlite.specs.Store.{Ghosts}
 use Rattle.sqlite.specs.Held.{Held, state}
 use Rattle.sqlite.specs.State.{HasCleanDisk}
 use Rattle.machine.specs.State.{State}
-use Rattle.machine.specs.Machine.{Act, Prints}
-use Rattle.machine.specs.Runs.{Stands, Stopped, BrokeOff}
+use Rattle.machine.specs.Machine.{Act, Steps}
+use Rattle.machine.specs.Runs.{Stands}
 use Rattle.store_schema.specs.declared.error.StoreError.TheVariants as store
 use Rattle.store_schema.specs.Inventory.{Inventory}
-use Rattle.store.specs.View.{Tables, TablesIfOpen, IsFound, MayLeave, Leaves, ShowsLeft}
+use Rattle.store.specs.View.{Tables, IsFound, MayLeave, Leaves, ShowsLeft}
 use Rattle.store.proofs.Reopening.{found_left}
-use Rattle.smpe_zones.specs.Kept.{kept}
+use Rattle.smpe_zones.specs.Kept.{kept, Keeps}
 use Rattle.smpe.specs.declared.error.JobError.{JobError}
 use Rattle.smpe.specs.declared.error.JobError.TheVariants.{Memory, Store, Write}
-use Rattle.smpe.specs.Ending.{EndsEarly}
-use Rattle.smpe.specs.Reopened.{ShowsOne, KeepsOne, FindsEarly, NextOpenFinds, GoesOn}
+use Rattle.smpe.specs.Course.{Unreported}
+use Rattle.smpe.specs.Ending.{LastStep, EndsEarly}
+use Rattle.smpe.specs.Reopened.{ShowsOne, KeepsOne, LastFound, FindsEarly, NextOpenFinds, GoesOn}
+use Rattle.smpe.proofs.Courses.{course_as, next_as}
 
 -- Of what a crash may leave one is found.
 module _ {S : Type 0} (g : Ghosts S) (began at : Held S) (One : (Inventory → Type 0) → Type 0)
-    (one_of : (Among : Inventory → Type 0) → Leaves g at Among → One Among) (s : State) (acts : List Act)
-    (old new : Option (List ℕ))
-  where
-    stopped : Stopped Prints kept s acts (TablesIfOpen g at) (Leaves g at) old new
-        → Stopped Prints kept s acts (λ c. Unit {0}) One old new
-    stopped stop = record {
-      done = stop.done;
-      rest = stop.rest;
-      acts_are = stop.acts_are;
-      end = stop.end;
-      bytes = stop.bytes;
-      runs = stop.runs;
-      now = tt;
-      crash = one_of _ stop.crash;
-      appends = stop.appends;
-    }
+    (one_of : (Among : Inventory → Type 0) → Leaves g at Among → One Among) where
+  last_found : (new : Option (List ℕ)) (e : JobError) (before : State) (had : Option (List ℕ)) (rest : List Act)
+      → LastStep g began at new e before had rest → LastFound One new e before had rest
+  last_found new Memory before had rest (still, same) = (one_of _ still.crash, same)
+  last_found new (Store store.Fault) before had [] none = absurd none
+  last_found new (Store store.Fault) before had (next ∷ rest) (failed, same) = (one_of _ failed.still.crash, same)
+  last_found new (Store store.OtherSchema) before had rest none = none
+  last_found new (Store store.NoState) before had rest none = none
+  last_found new (Store store.Memory) before had rest none = none
+  last_found new Write before had rest last =
+      next_as (Unreported Steps (Keeps g at) new) (Unreported Steps (λ t. One (λ c. c ≡ kept t)) new)
+      (λ s had act it. (it.0, it.1, it.2, one_of _ it.3.crash, it.4)) before had rest last
 
-    broke : BrokeOff Prints kept s acts (Tables g at) (Leaves g at) old new
-        → BrokeOff Prints kept s acts (λ c. Unit {0}) One old new
-    broke off = record {
-      done = off.done;
-      last = off.last;
-      rest = off.rest;
-      acts_are = off.acts_are;
-      before = off.before;
-      bytes = off.bytes;
-      runs = off.runs;
-      end = off.end;
-      text = off.text;
-      step = off.step;
-      stands = record { now = tt; crash = one_of _ off.stands.crash };
-      piece = off.piece;
-      lost = off.lost;
-      text_is = off.text_is;
-      appends = off.appends;
-    }
-
-    early : (e : JobError) → EndsEarly g began at s acts old new e → FindsEarly One s acts old new e
-    early Memory ends = stopped ends
-    early (Store store.Fault) ends = stopped ends.stopped
-    early (Store store.OtherSchema) ends = ends
-    early (Store store.NoState) ends = ends
-    early (Store store.Memory) ends = ends
-    early Write ends = broke ends
+  early : (s : State) (acts : List Act) (old new : Option (List ℕ)) (e : JobError)
+      → EndsEarly g began at s acts old new e → FindsEarly One s acts old new e
+  early s acts old new e ends =
+      course_as Steps (LastStep g began at new e) (LastFound One new e) s acts old (last_found new e) ends
 
 pub next_open_finds_holds : {S T : Type 0} (g : Ghosts S) (h : Ghosts T) → NextOpenFinds g h
 next_open_finds_holds g h began at again s jobs old new error (acts, first, ends) shows =

@@ -1,8 +1,8 @@
 mod Reports
 pub mod Early
-mod Printing
 mod Taken
 mod Commanding
+mod Courses
 mod Coursing
 mod Single
 mod Listing

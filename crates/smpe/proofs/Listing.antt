@@ -1,21 +1,26 @@
 -- Jobs one after another.
 use Rattle.std.proofs.Common.{◌≡◌, ℕ, List, [], ◌∷◌, ◌++◌, Option, Result, Ok, Err, refl, sym, ◌∙◌, ap, subst}
 use Rattle.std.proofs.Common.{append_assoc, append-nil, inl, inr}
+use Rattle.std.specs.Io.KnownBytes.{Appends}
+use Rattle.std.specs.List.{flat_map}
 use Rattle.std.specs.Result.{IsErrAnd}
 use Rattle.std.proofs.KnownBytes.{Appends-nil, Appends-trans}
+use Rattle.std.proofs.lemmas.List.Concat.{flat_map-append}
 use Rattle.std.proofs.lemmas.Result.{err_from_is_err_and}
 use Rattle.sqlite.specs.Store.{Ghosts}
 use Rattle.sqlite.specs.Held.{Held}
 use Rattle.machine.specs.State.{State}
-use Rattle.machine.specs.Machine.{Act, Prints, Job, Answer, AreFirstActs, RunsJob, RunsJobs}
+use Rattle.machine.specs.Outcome.{Outcome}
+use Rattle.machine.specs.Report.{text}
+use Rattle.machine.specs.Machine.{Act, Steps, Job, Answer, AreFirstActs, RunsJob, RunsJobs}
 use Rattle.machine.specs.Runs.{Runs}
 use Rattle.machine.proofs.Joined.{runs_append}
 use Rattle.store.specs.Causes.{IsLater}
 use Rattle.smpe_zones.specs.Kept.{Keeps}
 use Rattle.smpe.specs.declared.error.JobError.{JobError}
+use Rattle.smpe.specs.Course.{AllRan}
 use Rattle.smpe.specs.Ending.{EndsAmong, EndsJob, EndsJobs}
 use Rattle.smpe.proofs.Early.{early_after}
-use Rattle.smpe.proofs.Printing.{runs_printed}
 
 -- one job more
 pub runs_more : (s t u : State) (jobs : List Job) (job : Job) (front back : List ℕ) (answers : List Answer)
@@ -56,16 +61,17 @@ first_more (job ∷ jobs) more acts (inr (front, back, has, rest, is)) =
 -- jobs that ran, as acts, with first acts of others behind
 pub acts_of_jobs : (s t : State) (jobs more : List Job) (bytes : List ℕ) (answers : List Answer) (back : List Act)
     → RunsJobs s jobs t bytes answers → AreFirstActs more back
-    → (acts : List Act) × Runs Prints s acts t bytes × AreFirstActs (jobs ++ more) (acts ++ back)
-acts_of_jobs s t [] more bytes answers back (at, none, no_answers) first = ([], (at, none), first)
+    → (acts : List Act) × (outcomes : List Outcome) × Runs Steps s acts t outcomes
+    × (bytes ≡ flat_map text outcomes) × AreFirstActs (jobs ++ more) (acts ++ back)
+acts_of_jobs s t [] more bytes answers back (at, none, no_answers) first = ([], [], (at, refl), none, first)
 acts_of_jobs s t (job ∷ jobs) more bytes answers back (m, front, later, answer, others, ran, rest, is, are) first =
     let behind = acts_of_jobs m t jobs more later others back rest first in (
       ran.acts ++ behind.0,
-      subst (Runs Prints s (ran.acts ++ behind.0) t) (sym is)
-          (runs_append Prints s m t ran.acts behind.0 front later
-          (subst (Runs Prints s ran.acts m) (sym ran.bytes_are) (runs_printed s m ran.acts ran.outcomes ran.runs))
-          behind.1),
-      inr (ran.acts, behind.0 ++ back, ran.has_acts, behind.2, append_assoc ran.acts behind.0 back),
+      ran.outcomes ++ behind.1,
+      runs_append Steps s m t ran.acts behind.0 ran.outcomes behind.1 ran.runs behind.2,
+      is ∙ ap (λ b. b ++ later) ran.bytes_are ∙ ap (λ b. flat_map text ran.outcomes ++ b) behind.3
+          ∙ sym (flat_map-append text ran.outcomes behind.1),
+      inr (ran.acts, behind.0 ++ back, ran.has_acts, behind.4, append_assoc ran.acts behind.0 back),
     )
 
 module _ {S : Type 0} (g : Ghosts S) (s : State) (began : Held S) where
@@ -107,8 +113,13 @@ module _ {S : Type 0} (g : Ghosts S) (s : State) (began : Held S) where
       where
         joined : EndsAmong g before at t (job ∷ []) b c e → EndsAmong g began at s ((jobs ++ job ∷ []) ++ more) a c e
         joined (back, first, early) =
-            let all = acts_of_jobs s t jobs (job ∷ []) front answers back ran first in (
+            let all = acts_of_jobs s t jobs (job ∷ []) front answers back ran first in
+            let went : AllRan Steps s all.0 t a b = record {
+              outcomes = all.1;
+              runs = all.2;
+              appends = subst (Appends a b) all.3 appends;
+            } in (
               all.0 ++ back,
-              first_more (jobs ++ job ∷ []) more (all.0 ++ back) all.2,
-              early_after g began at s before t all.0 back front a b c e later all.1 keeps appends early,
+              first_more (jobs ++ job ∷ []) more (all.0 ++ back) all.4,
+              early_after g began before at later s t all.0 back a b c e went early,
             )

@@ -15,7 +15,7 @@ use Rattle.machine.specs.State.{State, ZoneDefinition, define_zone}
 use Rattle.machine.specs.Outcome.{ControlFault, Control}
 use Rattle.machine.specs.Report.{text}
 use Rattle.machine.specs.Machine as machine
-use Rattle.machine.specs.Machine.{Files, Act, Begin, Perform, Faulty, Define, Prints, Job, RunFiles, NewZone, HasActs}
+use Rattle.machine.specs.Machine.{Files, Act, Begin, Perform, Faulty, Define, Steps, Job, RunFiles, NewZone, HasActs}
 use Rattle.machine.specs.Machine.{AreFirstActs, RunsJob, Code, state_after, defined}
 use Rattle.store_schema.specs.declared.error.StoreError.{StoreError}
 use Rattle.store_schema.specs.declared.error.StoreError.TheVariants as store
@@ -30,9 +30,10 @@ use Rattle.smpe_zones.specs.declared.error.ZoneError.TheVariants as zone_error
 use Rattle.smpe_zones.specs.Definitions.{HasDefined, fault_of, is_refused}
 use Rattle.smpe.specs.declared.error.JobError.{JobError}
 use Rattle.smpe.specs.declared.error.JobError.TheVariants.{Memory, Write}
-use Rattle.smpe.specs.Ending.{EndsEarly, EndsAmong, EndsJob}
+use Rattle.smpe.specs.Ending.{LastStep, EndsEarly, EndsAmong, EndsJob}
 use Rattle.smpe.specs.Commands.{EndsCommands, job_error}
-use Rattle.smpe.proofs.Early.{stopped_first, faulted_first, early_after}
+use Rattle.smpe.proofs.Courses.{ran_quiet, course_after}
+use Rattle.smpe.proofs.Early.{failed_first, broke_first, early_after}
 
 -- an error that is a refusal
 pub refused_so : (U : Type 0) {e : ZoneError} {why : ZoneFault} → e ≡ zone_error.Refused why
@@ -97,42 +98,22 @@ module _ {S : Type 0} (g : Ghosts S) (began at : Held S) (s : State) where
     faulty_broke fault old new is keeps part = (
       Begin ∷ Faulty (control fault) ∷ [],
       one_job (RunFiles date cntl files) (Begin ∷ Faulty (control fault) ∷ []) (inr (fault, is, refl)),
-      record {
-        done = Begin ∷ [];
-        last = Faulty (control fault);
-        rest = [];
-        acts_are = refl;
-        before = unset s;
-        bytes = [];
-        runs = (unset s, [], [], ([], (refl, refl), refl), (refl, refl), refl);
-        end = unset s;
-        text = text (Control (control fault));
-        step = (Control (control fault) ∷ [], (refl, refl), sym (append-nil (text (Control (control fault)))));
-        stands = keeps;
-        piece = part.piece;
-        lost = part.lost;
-        text_is = part.text_is;
-        appends = part.bytes;
-      },
+      course_after Steps (LastStep g began at new Write) s (unset s) (Begin ∷ []) (Faulty (control fault) ∷ []) old old
+          (ran_quiet Steps s (unset s) Begin old (refl, refl))
+          (broke_first g began at (unset s) (Faulty (control fault)) (unset s) (Control (control fault)) old new
+          (refl, refl) keeps part),
     )
 
     -- the job could not begin
     pub unbegun : (cs : List Command) (taken : Option (List ℕ)) (e : StoreError) → IsCommandFile cntl cs
         → HasBegun g began at s (Err e)
         → EndsAmong g began at s (RunFiles date cntl files ∷ []) taken taken (job_error e)
-    unbegun cs taken e is begun = (
+    unbegun cs taken e is failed = (
       Begin ∷ map (Perform date files) cs,
       one_job (RunFiles date cntl files) (Begin ∷ map (Perform date files) cs)
           (inl (cs, is, refl)),
-      by_error e begun,
+      failed_first g began at s Begin (map (Perform date files) cs) taken e failed,
     )
-      where
-        by_error : (e : StoreError) → HasBegun g began at s (Err e)
-            → EndsEarly g began at s (Begin ∷ map (Perform date files) cs) taken taken (job_error e)
-        by_error store.Fault faulted = faulted_first g began at s Begin (map (Perform date files) cs) taken faulted
-        by_error store.Memory stays = stopped_first g began at s Begin (map (Perform date files) cs) taken stays
-        by_error store.OtherSchema impossible = absurd impossible
-        by_error store.NoState impossible = absurd impossible
 
     -- it began, and its commands ended so
     pub begun : (before : Held S) (session : Session) (cs : List Command) (old new : Option (List ℕ))
@@ -156,8 +137,8 @@ module _ {S : Type 0} (g : Ghosts S) (began at : Held S) (s : State) where
     begun before session cs old new (Err e) later is keeps early = (
       Begin ∷ map (Perform date files) cs,
       one_job (RunFiles date cntl files) (Begin ∷ map (Perform date files) cs) (inl (cs, is, refl)),
-      early_after g began at s before (unset s) (Begin ∷ []) (map (Perform date files) cs) [] old old new e later
-          (unset s, [], [], ([], (refl, refl), refl), (refl, refl), refl) keeps (Appends-nil old) early,
+      early_after g began before at later s (unset s) (Begin ∷ []) (map (Perform date files) cs) old old new e
+          (ran_quiet Steps s (unset s) Begin old (refl, refl)) early,
     )
 
   module _ (d : ZoneDefinition) (taken : Option (List ℕ)) where
@@ -208,7 +189,7 @@ module _ {S : Type 0} (g : Ghosts S) (began at : Held S) (s : State) where
     pub define_memory : (e : ZoneError) → e ≡ zone_error.Memory → Fails e
         → EndsAmong g began at s (NewZone d ∷ []) taken taken Memory
     define_memory e told fails =
-        unbegun_definition Memory (stopped_first g began at s (Define d) [] taken (subst Fails told fails))
+        unbegun_definition Memory (failed_first g began at s (Define d) [] taken store.Memory (subst Fails told fails))
 
     pub define_fault : (fault : StoreError) (e : ZoneError) (result : JobError) → e ≡ zone_error.Store fault
         → result ≡ job_error fault → Fails e → EndsAmong g began at s (NewZone d ∷ []) taken taken result
@@ -218,8 +199,8 @@ module _ {S : Type 0} (g : Ghosts S) (began at : Held S) (s : State) where
       where
         by_fault : (fault : StoreError) → Fails (zone_error.Store fault)
             → EndsAmong g began at s (NewZone d ∷ []) taken taken (job_error fault)
-        by_fault store.Fault faulted = unbegun_definition (job_error store.Fault)
-            (faulted_first g began at s (Define d) [] taken faulted)
+        by_fault store.Fault failed = unbegun_definition (job_error store.Fault)
+            (failed_first g began at s (Define d) [] taken store.Fault failed)
         by_fault store.Memory impossible = absurd impossible
         by_fault store.OtherSchema impossible = absurd impossible
         by_fault store.NoState impossible = absurd impossible

@@ -1,8 +1,12 @@
 -- The lines of zones, as pieces.
-use Rattle.std.proofs.Common.{◌≡◌, ℕ, List, [], ◌∷◌, ◌++◌, ◌∙◌, ap}
+use Rattle.std.proofs.Common.{◌≡◌, ℕ, List, [], ◌∷◌, ◌++◌, ◌∙◌, ap, append_assoc, sym}
 use Rattle.std.specs.Prelude.{codes}
+use Rattle.std.specs.List.{join_with_byte}
 use Rattle.machine.specs.Report.{words_line}
-use Rattle.report.proofs.Texts.{words_line_more}
+
+-- a word before others in a line
+words_line_more : (x y : List ℕ) (ys : List (List ℕ)) → x ++ 32 ∷ words_line (y ∷ ys) ≡ words_line (x ∷ y ∷ ys)
+words_line_more x y ys = sym (append_assoc x (32 ∷ join_with_byte 32 (y ∷ ys)) (10 ∷ []))
 
 pub defined_parts : (name : List ℕ)
     → codes "ZONE " ++ (name ++ (codes " DEFINED" ++ 10 ∷ [])) ≡ words_line (codes "ZONE" ∷ name ∷ codes "DEFINED" ∷ [])

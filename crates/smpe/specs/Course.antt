@@ -1,101 +1,39 @@
--- The course of a call, whatever its tables are: they need not stand for a state.
-use Rattle.std.specs.Prelude.{◌≡◌, ◌⊎◌, ℕ, List, [], ◌∷◌, ◌++◌, Option, Result, Ok, Err}
+-- The course of acts: those that ran, and the last step of the call.
+use Rattle.std.specs.Prelude.{◌≡◌, ℕ, List, [], ◌∷◌, ◌++◌, Option}
 use Rattle.std.specs.List.{flat_map}
 use Rattle.std.specs.Io.KnownBytes.{Appends}
-use Rattle.sqlite.specs.Store.{Ghosts}
-use Rattle.sqlite.specs.Held.{Held, state}
-use Rattle.sqlite.specs.State.{HasCleanDisk}
-use Rattle.terms.specs.Types as terms
-use Rattle.machine.specs.Outcome.{Outcome, Control}
+use Rattle.machine.specs.Machine.{Act}
+use Rattle.machine.specs.Outcome.{Outcome}
 use Rattle.machine.specs.Report.{text}
-use Rattle.machine.specs.Machine.{Act, Begin, Perform, Faulty, Define, Job, HasActs, AreFirstActs}
 use Rattle.machine.specs.Runs.{Runs}
 use Rattle.report.specs.Sent.{WrotePart}
-use Rattle.store_schema.specs.declared.error.StoreError.TheVariants as store
-use Rattle.store.specs.BadRows.{OnlyLoads, FoundNoState}
-use Rattle.store.specs.Courses.{GoesOver}
-use Rattle.store.specs.Whole.{ShowsGlobal}
-use Rattle.smpe_zones.specs.Own.{IsOwn}
-use Rattle.smpe_session.specs.Writing.{IsRan}
-use Rattle.smpe.specs.declared.error.JobError.{JobError}
-use Rattle.smpe.specs.declared.error.JobError.TheVariants.{Memory, Store, Write}
 
--- the acts are those of the jobs
-abbrev pub HaveActs : List Job → List Act → Type 0
-HaveActs [] acts = acts ≡ []
-HaveActs (job ∷ more) acts =
-    (front back : List Act) × HasActs job front × HaveActs more back × (acts ≡ front ++ back)
-
-module _ {S : Type 0} (g : Ghosts S) where
-  -- The store before an act that ran, the store after it, and what was reported. A job's beginning has found the rows
-  -- of a global zone; or it has not asked the store, as where the command file is at fault. It and that fault have left
-  -- the store as it was, and so has a command that was refused; one that ran, or the definition of a zone, has made no
-  -- more than one change of its own, a command of the zone that its report's header names.
-  abbrev pub Passes : Held S → Act → Held S → List Outcome → Type 0
-  Passes old Begin new outcomes = OnlyLoads g old new × (outcomes ≡ [])
-      × ((new ≡ old) ⊎ (HasCleanDisk (state g new) → (global : terms.Global) × ShowsGlobal g old global))
-  Passes old (Faulty fault) new outcomes = OnlyLoads g old new × (outcomes ≡ Control fault ∷ [])
-  Passes old (Perform date files c) new outcomes = (outcome : Outcome) × (outcomes ≡ outcome ∷ [])
-      × GoesOver g old new (λ change. IsOwn (Perform date files c) change × IsRan change outcome) {E = JobError}
-      (Ok outcome)
-  Passes old (Define d) new outcomes =
-      (outcomes ≡ []) × GoesOver g old new (IsOwn (Define d)) {E = JobError} (Ok outcomes)
-
+-- `Steps` says where an act leads, and with which outcomes: of the machine's states, or of a store.
+module _ {W : Type 0} (Steps : W → Act → W → List Outcome → Type 0) where
   -- The acts ran one after the other, and the sink took the report of each.
-  pub record Passed (old new : Held S) (acts : List Act) (taken taken' : Option (List ℕ)) : Type 0 where
+  pub record AllRan (start : W) (acts : List Act) (end : W) (old new : Option (List ℕ)) : Type 0 where
     pub outcomes : List Outcome
-    pub passes : Runs Passes old acts new outcomes
-    pub appends : Appends taken taken' (flat_map text outcomes)
+    pub runs : Runs Steps start acts end outcomes
+    pub appends : Appends old new (flat_map text outcomes)
 
-  -- Some first acts ran and are reported, and the next one ended so: from the store before it, and what the sink had.
-  pub record Breaks (Ends : Held S → Option (List ℕ) → Act → Type 0) (old : Held S) (acts : List Act)
-      (taken : Option (List ℕ)) : Type 0 where
+  -- Some first acts ran, and are reported. `Last` says how the call ended then, of what they led to, of what the sink
+  -- had taken, and of the acts that were left.
+  pub record Course (Last : W → Option (List ℕ) → List Act → Type 0) (start : W) (acts : List Act)
+      (old : Option (List ℕ)) : Type 0 where
     pub done : List Act
-    pub next : Act
     pub rest : List Act
-    pub acts_are : acts ≡ done ++ next ∷ rest
-    pub before : Held S
+    pub acts_are : acts ≡ done ++ rest
+    pub before : W
     pub had : Option (List ℕ)
-    pub passed : Passed old before done taken had
-    pub ends : Ends before had next
+    pub ran : AllRan start done before old had
+    pub last : Last before had rest
 
-  module _ (new : Held S) (taken' : Option (List ℕ)) where
-    -- The act failed. It has loaded, or failed to commit one of its own changes, and is not reported.
-    abbrev pub Fails : JobError → Held S → Option (List ℕ) → Act → Type 0
-    Fails error before had act =
-        GoesOver g before new (IsOwn act) {X = Unit {0}} (Err error) × (had ≡ taken')
+  -- The sink failed: the act ran, and of its report a beginning went out.
+  abbrev pub Unreported : (W → Type 0) → Option (List ℕ) → W → Option (List ℕ) → Act → Type 0
+  Unreported IsLeft new before had act = (after : W) × (outcomes : List Outcome) × Steps before act after outcomes
+      × IsLeft after × WrotePart had new (flat_map text outcomes)
 
-    -- Its error was this one. No state is there, if that is what it tells; and none tells of another schema. Where the
-    -- report could not be written, the act ran, and a beginning of its report went out.
-    abbrev pub FailsBy : JobError → Held S → Option (List ℕ) → Act → Type 0
-    FailsBy Memory before had act = Fails Memory before had act
-    FailsBy (Store store.Fault) before had act = Fails (Store store.Fault) before had act
-    FailsBy (Store store.NoState) before had act = Fails (Store store.NoState) before had act
-        × (HasCleanDisk (state g new) → FoundNoState g before new)
-    FailsBy (Store _) before had act = ⊥
-    FailsBy Write before had act =
-        (outcomes : List Outcome) × Passes before act new outcomes × WrotePart had taken' (flat_map text outcomes)
-
-  module _ (old new : Held S) (acts : List Act) (taken taken' : Option (List ℕ)) where
-    -- The acts ended early, by this error. Memory may also be short before the next act is begun.
-    abbrev pub GoesEarly : JobError → Type 0
-    GoesEarly error = Breaks (FailsBy new taken' error) old acts taken
-        ⊎ ((error ≡ Memory) × (done rest : List Act) × (acts ≡ done ++ rest) × Passed old new done taken taken')
-
-    -- So acts go, to their end or to an error.
-    abbrev pub Goes : {X : Type 0} → Result X JobError → Type 0
-    Goes (Ok x) = Passed old new acts taken taken'
-    Goes (Err error) = GoesEarly error
-
-  module _ (old new : Held S) where
-    -- so a job
-    abbrev pub JobGoes : Job → Option (List ℕ) → Option (List ℕ) → {X : Type 0} → Result X JobError → Type 0
-    JobGoes job taken taken' (Ok x) = (acts : List Act) × HasActs job acts × Passed old new acts taken taken'
-    JobGoes job taken taken' (Err error) =
-        (acts : List Act) × AreFirstActs (job ∷ []) acts × GoesEarly old new acts taken taken' error
-
-    -- and so jobs
-    abbrev pub JobsGo : List Job → Option (List ℕ) → Option (List ℕ) → {X : Type 0} → Result X JobError → Type 0
-    JobsGo jobs taken taken' (Ok x) = (acts : List Act) × HaveActs jobs acts × Passed old new acts taken taken'
-    JobsGo jobs taken taken' (Err error) =
-        (acts : List Act) × AreFirstActs jobs acts × GoesEarly old new acts taken taken' error
+-- It was the next act by which the call ended so.
+abbrev pub AtNext : {W : Type 0} → (W → Option (List ℕ) → Act → Type 0) → W → Option (List ℕ) → List Act → Type 0
+AtNext Ended before had [] = ⊥
+AtNext Ended before had (next ∷ rest) = Ended before had next

@@ -1,5 +1,5 @@
 -- How jobs end: the headline of the product.
-use Rattle.std.specs.Prelude.{◌≡◌, ◌≤◌, ℕ, Bool, true, false, List, [], ◌∷◌, Option, Result, Ok, Err, IsTrue}
+use Rattle.std.specs.Prelude.{◌≡◌, ℕ, Bool, true, false, List, [], ◌∷◌, Option, Result, Ok, Err, IsTrue}
 use Rattle.std.specs.Io.KnownBytes.{Appends}
 use Rattle.sqlite.specs.Store.{Ghosts}
 use Rattle.sqlite.specs.Held.{Held, state}
@@ -9,15 +9,14 @@ use Rattle.sqlite.specs.Tree.{Trees}
 use Rattle.terms.specs.Closed.{AreClosed}
 use Rattle.machine.specs.State.{State}
 use Rattle.machine.specs.Machine as machine
-use Rattle.machine.specs.Machine.{Act, Prints, RunsJob, RunsJobs, AreFirstActs}
-use Rattle.machine.specs.Runs.{Stopped, BrokeOff}
+use Rattle.machine.specs.Machine.{Act, Steps, RunsJob, RunsJobs, AreFirstActs}
 use Rattle.store_schema.specs.declared.error.StoreError.TheVariants as store
 use Rattle.store_schema.specs.Inventory.{Inventory}
 use Rattle.store_schema.specs.Stands.{StandsFor}
-use Rattle.store.specs.Causes.{HasCause}
-use Rattle.smpe_zones.specs.Kept.{kept, Keeps, LeadsOn}
-use Rattle.store.specs.View.{Tables, TablesIfOpen, Leaves}
 use Rattle.smpe_zones.specs.Definitions.{definition, fault_of}
+use Rattle.smpe_zones.specs.Ends.{StillKeeps, ActFailed}
+use Rattle.smpe_zones.specs.Kept.{Keeps, IsAfter}
+use Rattle.smpe.specs.Course.{Course, Unreported, AtNext}
 use Rattle.smpe.specs.declared.error.JobError.{JobError}
 use Rattle.smpe.specs.declared.error.JobError.TheVariants.{Memory, Store, Write}
 use Rattle.smpe.specs.declared.jobs.Job.{Job}
@@ -43,13 +42,6 @@ is_write _ = false
 abbrev pub TellsOfSink : Bool → Bool → {X : Type 0} → Result X JobError → Type 0
 TellsOfSink before after result = before ≡ false → after ≡ is_write result
 
--- A moment of a store and a later one. Where the disk is clean at the later one, it was clean before; no failure of the
--- disk is forgotten, and the limit on steps is the same.
-pub record Follows {S : Type 0} (g : Ghosts S) (old new : Held S) : Type 0 where
-  pub clean : HasCleanDisk (state g new) → HasCleanDisk (state g old)
-  pub faults : (state g old).faults ≤ (state g new).faults
-  pub limit : new.step_limit ≡ old.step_limit
-
 -- All zones are closed of each inventory that the tables stand for, and of each that they stand for after a crash.
 pub record StaysClosed {S : Type 0} (g : Ghosts S) (at : Held S) : Type 0 where
   pub now : (i : Inventory) → IsTrue (state g at).is_open → StandsFor i (state g at).committed
@@ -62,30 +54,33 @@ abbrev pub KeepsClosed : {S : Type 0} → Ghosts S → Held S → Held S → Typ
 KeepsClosed g old new =
     HasCleanDisk (state g new) → (s : State) → Keeps g old s → AreClosed s.global s.zones → StaysClosed g new
 
--- In a call that began at `began`, the first of these acts met a fault. The cause is since then, while the tables stood for
--- the state before the act.
-abbrev pub IsCaused : {S : Type 0} → Ghosts S → Held S → Held S → State → List Act → Type 0
-IsCaused g began at before [] = ⊥
-IsCaused g began at before (next ∷ rest) = HasCause g began at (kept before) (LeadsOn before next)
+-- what is kept of a state to which the next of these acts leads
+abbrev pub IsAfterNext : State → List Act → Inventory → Type 0
+IsAfterNext s [] c = ⊥
+IsAfterNext s (next ∷ rest) c = IsAfter s next c
 
--- A call began at the store `began`, found the tables standing for s, and left the store as it is now. The sink had
--- taken `old`, and now has `new`.
+-- A call began at the store `began`, and left the store as it is now.
+module _ {S : Type 0} (g : Ghosts S) (began at : Held S) where
+  module _ (new : Option (List ℕ)) where
+    -- The act met a fault: it had no effect, but that a crash may leave one, and no report. The cause is of this call,
+    -- and of this act.
+    abbrev pub Faulted : State → Option (List ℕ) → Act → Type 0
+    Faulted before had act = ActFailed g began at before act store.Fault × (had ≡ new)
+
+    -- The call ended by this error: for want of memory, at the next act, if there was one, or before that was begun; by
+    -- a fault of the store that the next act met; or by a fault of the sink. Where the connection is still open, the
+    -- store keeps what the acts led to that ran, and the caller may go on from there.
+    abbrev pub LastStep : JobError → State → Option (List ℕ) → List Act → Type 0
+    LastStep Memory before had rest = StillKeeps g at before (IsAfterNext before rest) × (had ≡ new)
+    LastStep (Store store.Fault) before had rest = AtNext Faulted before had rest
+    LastStep (Store _) before had rest = ⊥
+    LastStep Write before had rest = AtNext (Unreported Steps (Keeps g at) new) before had rest
+
+-- It found the tables standing for s. The sink had taken `old`, and now has `new`.
 module _ {S : Type 0} (g : Ghosts S) (began at : Held S) (s : State) where
-  -- Some first acts ran, and there is a cause for the fault of the next one.
-  pub record StoppedFaulted (acts : List Act) (old new : Option (List ℕ)) : Type 0 where
-    pub stopped : Stopped Prints kept s acts (TablesIfOpen g at) (Leaves g at) old new
-    pub cause : IsCaused g began at stopped.end stopped.rest
-
   -- The call could not go on to the end of these acts.
-  -- For want of memory, or after a fault of the store: some first acts ran and are reported, and the next one had no
-  -- effect and no report. A crash may leave its effect; where the connection is still open, the store keeps what the
-  -- first acts led to, and the caller may go on from there. A fault has a cause in this call, of that next act.
-  -- After a fault of the sink: some first acts ran, and of the last one's report a beginning went out.
   abbrev pub EndsEarly : List Act → Option (List ℕ) → Option (List ℕ) → JobError → Type 0
-  EndsEarly acts old new Memory = Stopped Prints kept s acts (TablesIfOpen g at) (Leaves g at) old new
-  EndsEarly acts old new (Store store.Fault) = StoppedFaulted acts old new
-  EndsEarly acts old new (Store _) = ⊥
-  EndsEarly acts old new Write = BrokeOff Prints kept s acts (Tables g at) (Leaves g at) old new
+  EndsEarly acts old new error = Course Steps (LastStep g began at new error) s acts old
 
   -- the same of these jobs: the acts are those of the first ones
   abbrev pub EndsAmong : List machine.Job → Option (List ℕ) → Option (List ℕ) → JobError → Type 0

@@ -1,6 +1,7 @@
+pub mod Course
 pub mod Ending
 pub mod Commands
 pub mod Messages
 pub mod ListJob
 pub mod Reopened
-pub mod Course
+pub mod Going

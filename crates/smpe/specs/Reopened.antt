@@ -1,11 +1,11 @@
 -- What the next open of a database finds behind jobs that ended early, and what a caller goes on from.
-use Rattle.std.specs.Prelude.{ℕ, List, Option}
+use Rattle.std.specs.Prelude.{◌≡◌, ◌⊎◌, ℕ, List, Option}
 use Rattle.sqlite.specs.Store.{Ghosts}
 use Rattle.sqlite.specs.Held.{Held, state}
 use Rattle.sqlite.specs.State.{HasCleanDisk}
 use Rattle.machine.specs.State.{State}
-use Rattle.machine.specs.Machine.{Act, Job, Prints, AreFirstActs}
-use Rattle.machine.specs.Runs.{Stands, Stopped, BrokeOff}
+use Rattle.machine.specs.Machine.{Act, Job, Steps, AreFirstActs}
+use Rattle.machine.specs.Runs.{Stands}
 use Rattle.store_schema.specs.declared.error.StoreError.TheVariants as store
 use Rattle.store_schema.specs.Inventory.{Inventory}
 use Rattle.store_schema.specs.Stands.{StandsFor}
@@ -13,7 +13,8 @@ use Rattle.smpe_zones.specs.Kept.{kept, Keeps}
 use Rattle.store.specs.View.{Tables, Leaves, ShowsLeft}
 use Rattle.smpe.specs.declared.error.JobError.{JobError}
 use Rattle.smpe.specs.declared.error.JobError.TheVariants.{Memory, Store, Write}
-use Rattle.smpe.specs.Ending.{EndsAmong}
+use Rattle.smpe.specs.Course.{Course, Unreported, AtNext}
+use Rattle.smpe.specs.Ending.{EndsAmong, IsAfterNext}
 
 module _ {T : Type 0} (h : Ghosts T) (again : Held T) where
   -- what the connection shows stands for one of these
@@ -26,14 +27,17 @@ module _ {T : Type 0} (h : Ghosts T) (again : Held T) where
 
 -- `One` says of some inventories that one of them is found.
 module _ (One : (Inventory → Type 0) → Type 0) where
-  -- After want of memory or a fault of the store: some first acts ran and are reported, and found is what they led to,
-  -- or what one act more leads to. After a fault of the sink: some first acts ran, of the last one's report a beginning
-  -- went out, and found is what they led to.
+  -- The call ended by this error, and found is what the acts led to that ran, or what the next one leads to. After a
+  -- fault of the sink, the next one ran, and found is what it led to.
+  abbrev pub LastFound : Option (List ℕ) → JobError → State → Option (List ℕ) → List Act → Type 0
+  LastFound new Memory before had rest = One (λ c. (c ≡ kept before) ⊎ IsAfterNext before rest c) × (had ≡ new)
+  LastFound new (Store store.Fault) before had rest =
+      One (λ c. (c ≡ kept before) ⊎ IsAfterNext before rest c) × (had ≡ new)
+  LastFound new (Store _) before had rest = ⊥
+  LastFound new Write before had rest = AtNext (Unreported Steps (λ t. One (λ c. c ≡ kept t)) new) before had rest
+
   abbrev pub FindsEarly : State → List Act → Option (List ℕ) → Option (List ℕ) → JobError → Type 0
-  FindsEarly s acts old new Memory = Stopped Prints kept s acts (λ c. Unit {0}) One old new
-  FindsEarly s acts old new (Store store.Fault) = Stopped Prints kept s acts (λ c. Unit {0}) One old new
-  FindsEarly s acts old new (Store _) = ⊥
-  FindsEarly s acts old new Write = BrokeOff Prints kept s acts (λ c. Unit {0}) One old new
+  FindsEarly s acts old new error = Course Steps (LastFound new error) s acts old
 
   -- the same of these jobs: the acts are those of the first ones
   abbrev pub FindsAmong : State → List Job → Option (List ℕ) → Option (List ℕ) → JobError → Type 0
@@ -47,9 +51,10 @@ NextOpenFinds {S} {T} g h =
     → EndsAmong g began at s jobs old new error → ShowsLeft g at h again
     → ∥ FindsAmong (ShowsOne h again) s jobs old new error ∥₁
 
--- The store was opened again behind what jobs had left of the first connection, and a caller may go on with it. It keeps
--- the state that the first one kept; and behind jobs that ended early, whether or not a fault shut the connection, the
--- state of the commands that were reported, or that of one command more. Which of them it is, a load tells.
+-- The store was opened again behind what jobs had left of the first connection, and a caller may go on with it. It
+-- keeps the state that the first one kept; and behind jobs that ended early, whether or not a fault shut the
+-- connection, the state of the commands that were reported, or that of one command more. Which of them it is, a load
+-- tells.
 pub record GoesOn {S T : Type 0} (g : Ghosts S) (at : Held S) (h : Ghosts T) (again : Held T) : Type 0 where
   pub clean : HasCleanDisk (state g at)
   pub same : (s : State) → Keeps g at s → ∥ Keeps h again s ∥₁

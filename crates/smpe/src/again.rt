@@ -29,9 +29,9 @@ fn connected_again<D: Crash + Drop>(
     }
 }
 
-/// Goes on behind jobs, also where a fault shut the connection: takes apart what is left of it, has its disks come back,
-/// and opens the store over their files again. The error hands the files back: `Memory` comes where memory runs out,
-/// `Fault` where the disks fail, and any other one where the tables were not the store's.
+/// Goes on behind jobs, also where a fault shut the connection: takes apart what is left of it, has its disks come
+/// back, and opens the store over their files again. The error hands the files back: `Memory` comes where memory runs
+/// out, `Fault` where the disks fail, and any other one where the tables were not the store's.
 pub fn reopened<D: Crash + Drop>(
     alloc: Global,
     conn: Connection<FileStore<D>>,

@@ -7,9 +7,10 @@ ghost use Rattle.machine.specs.Machine.{RunFiles, Code, Perform};
 ghost use Rattle.cntl.specs.Views.{command_of};
 ghost use Rattle.smpe_session.specs.Sessions.{IsSessionOf};
 ghost use Rattle.smpe_zones.specs.Kept.{Keeps};
-ghost use Rattle.smpe.specs.Ending.{EndsJob, Follows, KeepsClosed, TellsOfSink};
+ghost use Rattle.smpe_zones.specs.Ends.{Follows};
+ghost use Rattle.smpe.specs.Ending.{EndsJob, KeepsClosed, TellsOfSink};
 ghost use Rattle.smpe.specs.Commands.{EndsCommands};
-ghost use Rattle.smpe.specs.Course.{Goes, JobGoes};
+ghost use Rattle.smpe.specs.Going.{Goes, JobGoes};
 
 use crate::error::JobError;
 use cntl::{CntlError, Command, read_cntl};

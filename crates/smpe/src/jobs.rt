@@ -6,8 +6,9 @@ ghost use Rattle.machine.specs.State.{State};
 ghost use Rattle.machine.specs.Machine.{NewZone};
 ghost use Rattle.smpe_zones.specs.Definitions.{definition};
 ghost use Rattle.smpe_zones.specs.Kept.{Keeps};
-ghost use Rattle.smpe.specs.Course.{JobGoes, JobsGo};
-ghost use Rattle.smpe.specs.Ending.{EndsJob, EndsJobs, Follows, KeepsClosed, TellsOfSink, is_write, job_of, answer_of};
+ghost use Rattle.smpe.specs.Going.{JobGoes, JobsGo};
+ghost use Rattle.smpe_zones.specs.Ends.{Follows};
+ghost use Rattle.smpe.specs.Ending.{EndsJob, EndsJobs, KeepsClosed, TellsOfSink, is_write, job_of, answer_of};
 
 use crate::error::JobError;
 use crate::job::run_job;

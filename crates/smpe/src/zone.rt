@@ -4,7 +4,8 @@ ghost use Rattle.sqlite.specs.State.{HasCleanDisk};
 ghost use Rattle.machine.specs.State.{State};
 ghost use Rattle.smpe_zones.specs.Kept.{Keeps};
 ghost use Rattle.smpe_zones.specs.Definitions.{HasCourse, HasDefined, definition};
-ghost use Rattle.smpe.specs.Ending.{Follows, KeepsClosed};
+ghost use Rattle.smpe_zones.specs.Ends.{Follows};
+ghost use Rattle.smpe.specs.Ending.{KeepsClosed};
 
 use fields::{Attest, Srel, ZoneName};
 use smpe_zones::ZoneError;

@@ -13,8 +13,8 @@ use Rattle.smpe.specs.declared.error.JobError.TheVariants.{Memory}
 use Rattle.smpe_invocation.specs.declared.asked.Commands.{Commands}
 use Rattle.sqlite.specs.Steps.{over_memory}
 use Rattle.smpe.specs.Commands.{job_error}
-use Rattle.smpe.specs.Course.{JobsGo}
 use Rattle.smpe.specs.Ending.{EndsJobs, is_write}
+use Rattle.smpe.specs.Going.{JobsGo}
 use Rattle.smpe_command.specs.declared.host.Host.{Ghosts as HostGhosts}
 use Rattle.smpe_command.specs.Database.{JobsOver}
 use Rattle.smpe_command.specs.ServiceSet.{JobsInMemory, empty_system, set_jobs}

@@ -18,17 +18,17 @@ use Rattle.store_schema.specs.Known.{HasOtherNumber, HasNoState, HasOwnTables, t
 use Rattle.store_schema.specs.Stands.{IsSetUp}
 use Rattle.store.specs.BadRows.{TellsNoState}
 use Rattle.store.specs.Courses.{LoadsAlone}
+use Rattle.smpe_zones.specs.Ends.{HasLoaded}
 use Rattle.smpe_zones.specs.Kept.{kept}
 use Rattle.store_migration.specs.Migrated.{Migrated, Unmigrated}
 use Rattle.store.specs.View.{Tables, Leaves, LeavesFound, IsFound}
-use Rattle.smpe_session.specs.Steps.{HasLoaded}
 use Rattle.smpe_why.specs.Telling.{IsFoundIn}
 use Rattle.smpe_why.specs.declared.found.Found.{Found}
 use Rattle.smpe.specs.declared.error.JobError.{JobError}
 use Rattle.smpe.specs.declared.jobs.Answer.{Answer}
 use Rattle.smpe.specs.Commands.{job_error}
-use Rattle.smpe.specs.Course.{JobsGo}
 use Rattle.smpe.specs.Ending.{EndsJobs, StaysClosed, answer_of, is_write}
+use Rattle.smpe.specs.Going.{JobsGo}
 use Rattle.smpe_command.specs.declared.host.Host.{Ghosts as HostGhosts}
 
 module _ {H D : Type 0} (host : HostGhosts H D) (g : Ghosts D) where

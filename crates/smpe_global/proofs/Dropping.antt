@@ -14,8 +14,8 @@ use Rattle.terms.specs.Types.{Id, Hold, Global, hold_number}
 use Rattle.terms.specs.Rising.{Rises}
 use Rattle.terms.specs.Lookups.{is_received, holds_of}
 use Rattle.terms.specs.Global.{IsGlobal, has_key, hold_cmp, without_hold, without_sysmod}
-use Rattle.lemmas.proofs.Searches.{filter_all}
-use Rattle.lemmas.proofs.Texts.{same_itself}
+use Rattle.terms.proofs.Searches.{filter_all}
+use Rattle.terms.proofs.TextOrder.{same_itself}
 use Rattle.terms.proofs.GlobalKept.{hold_cmp_total}
 use Rattle.terms.proofs.HoldOrder.{has_key_ties}
 use Rattle.sysmods.specs.declared.edit.GlobalEdit.TheVariants.{RemoveSysmod}

@@ -8,21 +8,21 @@ use Rattle.std.specs.Str.{bytes_eq}
 use Rattle.std.proofs.lemmas.Cmp.{nat_list_cmp_total}
 use Rattle.std.proofs.lemmas.List.Elements.{All-nil, All-cons, All-weaker, All-contains_itself}
 use Rattle.std.proofs.lemmas.List.Folds.{map_fixed}
-use Rattle.lemmas.proofs.Orderings.{Equal_from_is_eq}
+use Rattle.terms.proofs.Orderings.{Equal_from_is_eq}
 use Rattle.terms.specs.Types.{Text, Id, Sysmod, Global}
 use Rattle.terms.specs.Rising.{Rises}
 use Rattle.terms.specs.Lookups.{sysmod_of}
 use Rattle.terms.specs.Global.{with_source, assign}
-use Rattle.lemmas.proofs.Members.{parts}
+use Rattle.terms.proofs.ListMembers.{parts}
 use Rattle.terms.proofs.GlobalLookups.{assigned, sysmod_of_assign}
-use Rattle.lemmas.proofs.Texts.{same_from}
-use Rattle.lemmas.proofs.Searches.{find_passes}
+use Rattle.terms.proofs.TextOrder.{same_from}
+use Rattle.terms.proofs.Searches.{find_passes}
 use Rattle.terms.proofs.RisingLists.{find_there, Splits_around}
 use Rattle.sysmods.specs.declared.edit.GlobalEdit.TheVariants.{ReplaceSources}
 use Rattle.sysmods.specs.Edits.{Fits, EachFits, after_edits}
 use Rattle.smpe_global.specs.Edits.{IsOfReceive, head_of, source_edits}
 use Rattle.smpe_global.proofs.Fitting.{fits_none, fits_one}
-use Rattle.lemmas.proofs.Lists.{map_alike}
+use Rattle.terms.proofs.Lists.{map_alike}
 
 -- what writes sources
 pub sources_receive : (o : Option Sysmod) → All IsOfReceive (source_edits o)

@@ -9,17 +9,17 @@ use Rattle.std.specs.Cmp.Lexicographic.{slice_cmp, texts_ties}
 use Rattle.std.proofs.lemmas.Cmp.{nat_list_cmp_total, nat_list_eq_equiv, tied_itself}
 use Rattle.std.proofs.lemmas.List.Folds.{list_any_at}
 use Rattle.std.proofs.lemmas.Map.Views.{hash_map_get_iff}
-use Rattle.lemmas.proofs.Searches.{list_any_map}
+use Rattle.terms.proofs.Searches.{list_any_map}
 use Rattle.indexmap.specs.IndexMap.{IndexMap, get, values, IsUnique}
 use Rattle.terms.specs.Types.{Text, Id, Zone, NamedZone}
 use Rattle.terms.specs.Rising.{Rises}
 use Rattle.terms.specs.Lookups.{is_applied}
-use Rattle.lemmas.proofs.Members.{here, there, parts}
-use Rattle.lemmas.proofs.Texts.{same_from}
+use Rattle.terms.proofs.ListMembers.{here, there, parts}
+use Rattle.terms.proofs.TextOrder.{same_from}
 use Rattle.terms.proofs.RisingLists.{Splits_around, find_there}
 use Rattle.machine.specs.State.{zone_named}
 use Rattle.smpe_global.specs.Rejections.{AppliesAlike}
-use Rattle.lemmas.proofs.Booleans.{same_truth}
+use Rattle.terms.proofs.Booleans.{same_truth}
 
 module _ {X : Type 0} (p : X → Bool) where
   passing : (xs : List X) → list_any p xs ≡ true → (x : X) × Contains xs x × (p x ≡ true)

@@ -9,8 +9,8 @@ use Rattle.sysmods.specs.Edits.{EachFits, after_edits}
 use Rattle.smpe_global.specs.declared.taken.Taken.{Taken}
 use Rattle.smpe_global.specs.Edits.{IsOfReceive}
 
--- The global zone g has become new, and of that these lines are printed. The edits are RECEIVE's, fit, and lead there too.
--- Edits and lines stand behind those that were there.
+-- The global zone g has become new, and of that these lines are printed. The edits are RECEIVE's, fit, and lead there
+-- too. Edits and lines stand behind those that were there.
 pub record IsTaken (Prints : Global → List machine.Line → Type 0) (g new : Global) (was is : Taken) : Type 0 where
   pub own : List GlobalEdit
   pub edits_are : is.edits.items ≡ was.edits.items ++ own

@@ -1,10 +1,10 @@
 //! Rows that stand for no state, under jobs and under the definition of a zone: what was reported is there, and every
 //! other row is as it was.
 
-use crate::checked::{CHECKED, installed};
+use crate::checked::CHECKED;
 use fields::Srel;
 use smpe::{JobError, ZoneError, define_zone};
-use smpe_play::{compare, opened, run_step, zone_name};
+use smpe_play::{compare, in_memory, installed, opened, run_step, zone_name};
 use sqlite::{Alter, Connection};
 use std::alloc::Global;
 use std::test::Fail;
@@ -137,56 +137,21 @@ fn rows_written<S: Alter + Drop>(
 fn run_job_over<S: Alter>(alloc: Global, store: &mut Store<S>, wanted: &str) -> Result<(), Fail> {
     let mut report = Vec::new(alloc);
     match run_step(alloc, store, &CHECKED, &mut report)? {
-        Err(JobError::Store(StoreError::NoState)) => compare(report.as_slice(), wanted),
+        Err(JobError::Store(StoreError::NoState)) => compare(
+            "before the bad row",
+            report.as_slice(),
+            wanted,
+        ),
         Err(other) => Err(Fail::from(other)),
         Ok(_) => Err(Fail::from("the job went to its end")),
     }
 }
 
-/// All rows behind that job.
-fn rows_of_job<S: Alter + Drop>(
-    alloc: Global,
-    conn: Connection<S>,
-    bad: &str,
-    wanted: &str,
-) -> Result<String, Fail> {
-    let mut store = opened(alloc, spoilt(alloc, conn, bad)?)?;
-    run_job_over(alloc, &mut store, wanted)?;
-    all_lines(alloc, &mut store.close())
-}
-
-/// Each of these is met behind this report, and leaves the rows as these statements do.
-fn check_jobs(alloc: Global, edits: &[&str], report: &str, written: &[&str]) -> Result<(), Fail> {
-    for bad in edits {
-        let got = rows_of_job(alloc, Connection::open_in_memory(alloc)?, bad, report)?;
-        let wanted = rows_written(alloc, Connection::open_in_memory(alloc)?, bad, written)?;
-        compare(got.as_bytes(), wanted.as_str())?;
-    }
-    Ok(())
-}
-
-#[test]
-fn jobs_meet_bad_rows(rt: HostRuntime) -> Result<(), Fail> {
-    let alloc = rt.alloc();
-    check_jobs(alloc, GLOBAL, "", &[])?;
-    check_jobs(alloc, TARGET, RECEIVED, RECEIVED_ROWS)?;
-    check_jobs(alloc, ZONES, RECEIVED, RECEIVED_ROWS)
-}
-
-fn define<S: Alter>(store: &mut Store<S>) -> Result<Result<(), ZoneError>, Fail> {
-    let srel = Srel::read(b"Z038").ok_or("no SREL")?;
-    Ok(define_zone(
-        store,
-        zone_name(b"NEW1")?,
-        ZoneKind::Distribution,
-        srel,
-        None,
-    ))
-}
-
 /// Defines a zone, which must be so, or must end by `Sf3`.
 fn define_over<S: Alter>(store: &mut Store<S>, is_defined: bool) -> Result<(), Fail> {
-    match define(store)? {
+    let name = zone_name(b"NEW1")?;
+    let srel = Srel::read(b"Z038").ok_or("no SREL")?;
+    match define_zone(store, name, ZoneKind::Distribution, srel, None) {
         Ok(()) if is_defined => Ok(()),
         Err(ZoneError::Store(StoreError::NoState)) if !is_defined => Ok(()),
         Ok(()) => Err(Fail::from("the zone was defined")),
@@ -194,37 +159,54 @@ fn define_over<S: Alter>(store: &mut Store<S>, is_defined: bool) -> Result<(), F
     }
 }
 
-/// All rows behind that definition.
-fn rows_of_definition<S: Alter + Drop>(
+/// What is done over bad rows.
+#[derive(Clone, Copy)]
+enum Act {
+    /// The job, which must report this and then end by `Sf3`.
+    Run(&'static str),
+    /// The definition of a zone, which must be so, or must end by `Sf3`.
+    Define(bool),
+}
+
+fn act_on<S: Alter>(alloc: Global, store: &mut Store<S>, act: Act) -> Result<(), Fail> {
+    match act {
+        Act::Run(report) => run_job_over(alloc, store, report),
+        Act::Define(is_defined) => define_over(store, is_defined),
+    }
+}
+
+/// All rows behind it.
+fn rows_behind<S: Alter + Drop>(
     alloc: Global,
     conn: Connection<S>,
     bad: &str,
-    is_defined: bool,
+    act: Act,
 ) -> Result<String, Fail> {
-    let mut store = opened(alloc, spoilt(alloc, conn, bad)?)?;
-    define_over(&mut store, is_defined)?;
+    let mut store = opened(alloc, spoilt(alloc, conn, bad)?, bad)?;
+    act_on(alloc, &mut store, act)?;
     all_lines(alloc, &mut store.close())
 }
 
-/// Behind each of these a zone is defined or not, and the rows are as these statements leave them.
-fn check_definitions(
-    alloc: Global,
-    edits: &[&str],
-    is_defined: bool,
-    written: &[&str],
-) -> Result<(), Fail> {
+/// Behind each of these edits it leaves the rows as these statements do.
+fn check_each(alloc: Global, edits: &[&str], act: Act, written: &[&str]) -> Result<(), Fail> {
     for bad in edits {
-        let got = rows_of_definition(alloc, Connection::open_in_memory(alloc)?, bad, is_defined)?;
-        let wanted = rows_written(alloc, Connection::open_in_memory(alloc)?, bad, written)?;
-        compare(got.as_bytes(), wanted.as_str())?;
+        let got = rows_behind(alloc, in_memory(alloc)?, bad, act)?;
+        let wanted = rows_written(alloc, in_memory(alloc)?, bad, written)?;
+        compare(bad, got.as_bytes(), wanted.as_str())?;
     }
     Ok(())
 }
 
 #[test]
-fn definitions_meet_bad_rows(rt: HostRuntime) -> Result<(), Fail> {
-    let alloc = rt.alloc();
-    check_definitions(alloc, GLOBAL, true, DEFINED_ROWS)?;
-    check_definitions(alloc, TARGET, true, DEFINED_ROWS)?;
-    check_definitions(alloc, ZONES, false, &[])
+fn a_job_that_meets_bad_rows_changes_no_other(rt: HostRuntime) -> Result<(), Fail> {
+    check_each(rt.alloc(), GLOBAL, Act::Run(""), &[])?;
+    check_each(rt.alloc(), TARGET, Act::Run(RECEIVED), RECEIVED_ROWS)?;
+    check_each(rt.alloc(), ZONES, Act::Run(RECEIVED), RECEIVED_ROWS)
+}
+
+#[test]
+fn a_definition_that_meets_bad_rows_changes_no_other(rt: HostRuntime) -> Result<(), Fail> {
+    check_each(rt.alloc(), GLOBAL, Act::Define(true), DEFINED_ROWS)?;
+    check_each(rt.alloc(), TARGET, Act::Define(true), DEFINED_ROWS)?;
+    check_each(rt.alloc(), ZONES, Act::Define(false), &[])
 }

@@ -1,10 +1,7 @@
 //! A job that commits twice, and after how many of the two the zones are as they are found.
 
 use smpe::JobError;
-use smpe_play::{
-    FIX, FUNCTION_INSTALLED, FUNCTION_RECEIVED, JOB, Step, compare, define_both, opened, play,
-    run_step,
-};
+use smpe_play::{FIX, JOB, Step, compare, opened, run_step};
 use sqlite::{Alter, Connection};
 use std::alloc::Global;
 use std::test::Fail;
@@ -13,16 +10,9 @@ use store_schema::StoreError;
 
 /// A fix is received, looked at with CHECK, applied, and then both once more.
 pub(crate) const CHECKED: Step = Step {
-    cntl: &[
-        "SET BDY(GLOBAL).",
-        "RECEIVE SYSMODS.",
-        "SET BDY(TGT1).",
-        "APPLY SELECT(UA00024) CHECK.",
-        "APPLY SELECT(UA00024).",
-        "APPLY SELECT(UA00024).",
-        "SET BDY(GLOBAL).",
-        "RECEIVE SYSMODS.",
-    ],
+    name: "a fix comes in, is looked at and applied, and both once more",
+    cntl: "SET BDY(GLOBAL).\nRECEIVE SYSMODS.\nSET BDY(TGT1).\nAPPLY SELECT(UA00024) CHECK.\n\
+        APPLY SELECT(UA00024).\nAPPLY SELECT(UA00024).\nSET BDY(GLOBAL).\nRECEIVE SYSMODS.",
     ptfin: &[FIX],
     code: 4,
     ..JOB
@@ -48,7 +38,8 @@ pub(crate) const AGAIN: &str =
     SET GLOBAL\nRC 00\nRECEIVE GLOBAL\nUA00024 PTF      ALREADY\nRC 04\n";
 
 const LISTED: Step = Step {
-    cntl: &["SET BDY(GLOBAL).", "LIST.", "SET BDY(TGT1).", "LIST."],
+    name: "the global and the target zone are listed",
+    cntl: "SET BDY(GLOBAL).\nLIST.\nSET BDY(TGT1).\nLIST.",
     ..JOB
 };
 
@@ -65,18 +56,6 @@ const ZONES: [&str; 3] = [
         ENTRY UA00024 APPLIED 24.138 SUPBY - DELBY - WAIVED -\n\
         ELEM MAC   M1       FMID HAA1100 RMID HAA1100 UMID - DISTLIB AMACLIB SYSLIB MACLIB\nRC 00\n",
 ];
-
-/// A store in which the function is installed.
-pub(crate) fn installed<S: Alter + Drop>(
-    alloc: Global,
-    conn: Connection<S>,
-) -> Result<Store<S>, Fail> {
-    let mut store = opened(alloc, conn)?;
-    define_both(alloc, &mut store)?;
-    play(alloc, &mut store, &FUNCTION_RECEIVED)?;
-    play(alloc, &mut store, &FUNCTION_INSTALLED)?;
-    Ok(store)
-}
 
 /// How many commands have their whole reports in so many bytes.
 pub(crate) fn whole_reports(len: usize) -> usize {
@@ -108,11 +87,11 @@ pub(crate) fn is_beginning(report: &[u8]) -> Result<(), Fail> {
         let len = text.len().min(left.len());
         let front = &left[..len];
         if front != &text.as_bytes()[..len] {
-            return compare(front, text);
+            return compare("a report that was cut", front, text);
         }
         left = &left[len..];
     }
-    compare(left, "")
+    compare("behind the whole report", left, "")
 }
 
 /// After how many of the two commits the zones of the store are as they are found: at least so many.
@@ -128,8 +107,8 @@ pub(crate) fn performed<S: Alter>(
             return Ok(count);
         }
     }
-    compare(listing.as_slice(), ZONES[least.min(2)])?;
-    Err(Fail::from("no zones"))
+    compare("the zones", listing.as_slice(), ZONES[least.min(2)])?;
+    Err(Fail::from("the zones are those of too few commits"))
 }
 
 /// What a run under a fault came to.
@@ -187,7 +166,7 @@ pub(crate) fn check_found<S: Alter + Drop>(
 ) -> Result<(), Fail> {
     is_beginning(report)?;
     let reported = whole_reports(report.len());
-    let mut store = opened(alloc, conn)?;
+    let mut store = opened(alloc, conn, "what the job left")?;
     let _count = performed(alloc, &mut store, commits_of(reported))?;
     if how == Ended::Well && reported < REPORTS.len() {
         return Err(Fail::new(format_args!("it ended well after {reported} reports")));

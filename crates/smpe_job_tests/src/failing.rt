@@ -4,7 +4,7 @@ ghost use Rattle.std.specs.Prelude.{IsTrue};
 
 use crate::checked::{Ended, check_found, run_over};
 use smpe::reopened;
-use smpe_play::{FUNCTION_INSTALLED, FUNCTION_RECEIVED, connected, play_reopened};
+use smpe_play::{connected, installed_files};
 use sqlite::{Connection, FileStore, Files, Options};
 use sqlite_disk::{Crash, Disk, Fuse};
 use std::alloc::Global;
@@ -78,8 +78,7 @@ fn check_over<D: Crash + Drop>(
 /// The same over disks on which the function is installed, with more and more calls until none fails.
 fn check_each(alloc: Global, fused: Fused) -> Result<(), Fail> {
     for calls in 0..10_000u64 {
-        let conn = play_reopened(alloc, &[FUNCTION_RECEIVED, FUNCTION_INSTALLED])?;
-        if check_over(alloc, conn, fused, calls)? == Ended::Well {
+        if check_over(alloc, installed_files(alloc)?, fused, calls)? == Ended::Well {
             return Ok(());
         }
     }
@@ -87,11 +86,11 @@ fn check_each(alloc: Global, fused: Fused) -> Result<(), Fail> {
 }
 
 #[test]
-fn the_log_fails(rt: HostRuntime) -> Result<(), Fail> {
+fn a_failing_log_leaves_no_command_in_part(rt: HostRuntime) -> Result<(), Fail> {
     check_each(rt.alloc(), Fused::Log)
 }
 
 #[test]
-fn the_database_fails(rt: HostRuntime) -> Result<(), Fail> {
+fn a_failing_database_leaves_no_command_in_part(rt: HostRuntime) -> Result<(), Fail> {
     check_each(rt.alloc(), Fused::Database)
 }

@@ -21,8 +21,6 @@ mod messages;
 #[cfg(test)]
 mod receives;
 #[cfg(test)]
-mod tests;
-#[cfg(test)]
 mod words;
 #[cfg(test)]
 mod writers;

@@ -1,7 +1,7 @@
 //! A connection whose queries may take so many steps: what was reported is there, and no command is there in part.
 
-use crate::checked::{Ended, check_found, installed, run_over};
-use smpe_play::new_files;
+use crate::checked::{Ended, check_found, run_over};
+use smpe_play::{in_memory, installed, new_files};
 use sqlite::{Alter, Connection};
 use std::alloc::Global;
 use std::test::Fail;
@@ -21,25 +21,18 @@ fn run_limited<S: Alter + Drop>(
     Ok(how)
 }
 
-#[test]
-fn in_memory(rt: HostRuntime) -> Result<(), Fail> {
-    let alloc = rt.alloc();
-    let mut steps: u64 = 1;
-    for _ in 0..24 {
-        if run_limited(alloc, Connection::open_in_memory(alloc)?, steps)? == Ended::Well {
-            return Ok(());
-        }
-        steps = steps.saturating_mul(2);
-    }
-    Err(Fail::from("the job does not end with sixteen million steps"))
+/// The same in memory and over files: it ends well where both do.
+fn run_both(alloc: Global, steps: u64) -> Result<Ended, Fail> {
+    let how = run_limited(alloc, in_memory(alloc)?, steps)?;
+    let on_disks = run_limited(alloc, new_files(alloc)?, steps)?;
+    Ok(if how == Ended::Well { on_disks } else { how })
 }
 
 #[test]
-fn over_files(rt: HostRuntime) -> Result<(), Fail> {
-    let alloc = rt.alloc();
+fn a_limit_of_steps_leaves_no_command_in_part(rt: HostRuntime) -> Result<(), Fail> {
     let mut steps: u64 = 1;
     for _ in 0..24 {
-        if run_limited(alloc, new_files(alloc)?, steps)? == Ended::Well {
+        if run_both(rt.alloc(), steps)? == Ended::Well {
             return Ok(());
         }
         steps = steps.saturating_mul(2);

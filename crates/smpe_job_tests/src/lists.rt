@@ -1,9 +1,11 @@
 //! Lists of jobs in one call, and how definitions of zones end.
 
-use fields::{Srel, YyDdd, ZoneName};
-use report::Out;
-use smpe::{Answer, Job, ZoneFault, run_jobs};
-use smpe_play::{FIX, FUNCTION, compare, new_files, opened, records, zone_name};
+use fields::{Srel, ZoneName};
+use smpe::{Answer, Job, ZoneFault};
+use smpe_play::{
+    FIX, FUNCTION, RECEIVE, card_file, compare, job_over, new_files, opened, put_cards,
+    run_printing, zone_name,
+};
 use std::alloc::Global;
 use std::test::Fail;
 use terms::ZoneKind;
@@ -21,15 +23,20 @@ fn srel(text: &[u8]) -> Result<Srel, Fail> {
     Ok(Srel::read(text).ok_or("no SREL")?)
 }
 
-/// Runs the jobs in one call over new files, and compares what they print and answer.
-fn run(alloc: Global, jobs: &[Job<'_>], report: &str, answers: &[Answer]) -> Result<(), Fail> {
-    let mut store = opened(alloc, new_files(alloc)?)?;
-    let mut bytes: Vec<u8> = Vec::new(alloc);
-    let got = run_jobs(alloc, &mut store, jobs, &mut Out::new(&mut bytes))?;
-    compare(bytes.as_slice(), report)?;
+/// A failure, unless both lists of answers are one.
+fn compare_answers(alloc: Global, got: &[Answer], wanted: &[Answer]) -> Result<(), Fail> {
     let got = format!(in alloc; "{got:?}")?;
-    let wanted = format!(in alloc; "{answers:?}")?;
-    compare(got.as_bytes(), wanted.as_str())
+    let wanted = format!(in alloc; "{wanted:?}")?;
+    compare("answers", got.as_bytes(), wanted.as_str())
+}
+
+/// Runs the jobs in one call over new files, and compares what they print and answer.
+fn run(alloc: Global, jobs: &[Job<'_>], wanted: &str, answers: &[Answer]) -> Result<(), Fail> {
+    let mut store = opened(alloc, new_files(alloc)?, "jobs in one call")?;
+    let mut report = Vec::new(alloc);
+    let got = run_printing(alloc, &mut store, jobs, &mut report)?;
+    compare("jobs in one call", report.as_slice(), wanted)?;
+    compare_answers(alloc, got.as_slice(), answers)
 }
 
 /// Two jobs behind the definitions of three zones.
@@ -39,43 +46,20 @@ fn define_and_run<'a>(
     ptfin: &'a [u8],
     install: &'a [u8],
 ) -> Result<(), Fail> {
-    let date = YyDdd::new(2024, 138);
     let permanent = zone_name(b"DLB1")?;
-    let running = zone_name(b"TGT1")?;
-    let other = zone_name(b"DLB2")?;
     let system = srel(b"Z038")?;
-    let other_system = srel(b"C150")?;
+    let other = zone_name(b"DLB2")?;
     let jobs = [
-        Job::Zone {
-            name: permanent,
-            kind: ZoneKind::Distribution,
-            srel: system,
-            related: None,
-        },
-        Job::Zone {
-            name: running,
-            kind: ZoneKind::Target,
-            srel: system,
-            related: Some(permanent),
-        },
-        Job::Zone {
-            name: other,
-            kind: ZoneKind::Distribution,
-            srel: other_system,
-            related: None,
-        },
-        Job::Run {
-            date,
-            cntl: receive,
-            ptfin,
-            hold: b"",
-        },
-        Job::Run {
-            date,
-            cntl: install,
-            ptfin: b"",
-            hold: b"",
-        },
+        zone(permanent, ZoneKind::Distribution, system, None),
+        zone(
+            zone_name(b"TGT1")?,
+            ZoneKind::Target,
+            system,
+            Some(permanent),
+        ),
+        zone(other, ZoneKind::Distribution, srel(b"C150")?, None),
+        job_over(receive, ptfin, b""),
+        job_over(install, b"", b""),
     ];
     run(
         alloc,
@@ -97,19 +81,13 @@ fn define_and_run<'a>(
 #[test]
 fn five_jobs_in_one_call(rt: HostRuntime) -> Result<(), Fail> {
     let alloc = rt.alloc();
-    let receive = records(alloc, &["SET BDY(GLOBAL).", "RECEIVE SYSMODS."])?;
-    let mut ptfin = records(alloc, FUNCTION)?;
-    ptfin.extend_from_slice(records(alloc, FIX)?.as_slice())?;
-    let install = records(
+    let receive = card_file(alloc, RECEIVE)?;
+    let mut ptfin = card_file(alloc, FUNCTION)?;
+    put_cards(&mut ptfin, FIX)?;
+    let install = card_file(
         alloc,
-        &[
-            "SET BDY(TGT1).",
-            "APPLY SELECT(HAA1100).",
-            "SET BDY(DLB1).",
-            "ACCEPT SELECT(HAA1100).",
-            "SET BDY(TGT1).",
-            "APPLY SELECT(UA00024).",
-        ],
+        "SET BDY(TGT1).\nAPPLY SELECT(HAA1100).\nSET BDY(DLB1).\nACCEPT SELECT(HAA1100).\n\
+            SET BDY(TGT1).\nAPPLY SELECT(UA00024).",
     )?;
     let (receive, ptfin, install) = (receive.as_slice(), ptfin.as_slice(), install.as_slice());
     define_and_run(alloc, receive, ptfin, install)

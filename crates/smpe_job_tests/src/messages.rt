@@ -8,19 +8,15 @@ use std::alloc::Global;
 use std::test::Fail;
 use store_schema::StoreError;
 
+const TAKEN: Answer = Answer::Refused(ZoneFault::NameTaken);
+
+const TOO_MANY: Answer = Answer::Refused(ZoneFault::TooMany);
+
 /// How a zone's definition ended, with the status and the line.
 const ZONES: &[(Answer, u8, &str)] = &[
     (Answer::Defined, 0, "ZONE DLB1 DEFINED\n"),
-    (
-        Answer::Refused(ZoneFault::NameTaken),
-        12,
-        "ZONE REFUSED Zn1\n",
-    ),
-    (
-        Answer::Refused(ZoneFault::TooMany),
-        12,
-        "ZONE REFUSED Zn4\n",
-    ),
+    (TAKEN, 12, "ZONE REFUSED Zn1\n"),
+    (TOO_MANY, 12, "ZONE REFUSED Zn4\n"),
     (Answer::Code(8), 8, ""),
 ];
 
@@ -35,7 +31,7 @@ fn zone_is_told(alloc: Global, answer: &Answer, status: u8, line: &str) -> Resul
     let name = ZoneName::read(b"DLB1").ok_or("no name of a zone")?;
     let mut bytes: Vec<u8> = Vec::new(alloc);
     told(zone_line(name, answer, &mut Out::new(&mut bytes))?, status)?;
-    compare(bytes.as_slice(), line)
+    compare("the line of a zone", bytes.as_slice(), line)
 }
 
 #[test]
@@ -50,13 +46,13 @@ fn zones_have_their_lines(rt: HostRuntime) -> Result<(), Fail> {
 fn a_migration_has_its_line(rt: HostRuntime) -> Result<(), Fail> {
     let mut bytes: Vec<u8> = Vec::new(rt.alloc());
     told(migrated_line(&mut Out::new(&mut bytes))?, 0)?;
-    compare(bytes.as_slice(), "SCHEMA 3\n")
+    compare("the line of a migration", bytes.as_slice(), "SCHEMA 3\n")
 }
 
 fn fault_is_told(alloc: Global, fault: &Fault<'_>, line: &str) -> Result<(), Fail> {
     let mut bytes: Vec<u8> = Vec::new(alloc);
     told(fault_line(fault, &mut Out::new(&mut bytes))?, 16)?;
-    compare(bytes.as_slice(), line)
+    compare("the line of a fault", bytes.as_slice(), line)
 }
 
 #[test]
@@ -69,15 +65,8 @@ fn faults_have_their_lines(rt: HostRuntime) -> Result<(), Fail> {
     ] {
         fault_is_told(alloc, &Fault::Job(error), line)?;
     }
-    fault_is_told(
-        alloc,
-        &Fault::Arg(ArgFault::BadOperand),
-        "smpe: bad operand\n",
-    )?;
-    fault_is_told(
-        alloc,
-        &Fault::CannotRead("cards"),
-        "smpe: cannot read cards\n",
-    )?;
-    Ok(())
+    let bad = Fault::Arg(ArgFault::BadOperand);
+    fault_is_told(alloc, &bad, "smpe: bad operand\n")?;
+    let unread = Fault::CannotRead("cards");
+    fault_is_told(alloc, &unread, "smpe: cannot read cards\n")
 }

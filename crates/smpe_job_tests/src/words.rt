@@ -6,114 +6,94 @@ use smpe_play::compare;
 use std::alloc::Global;
 use std::test::Fail;
 
-/// Lines of words, with a blank between two, and what is read: the values that are asked for, `clap` where it refuses
-/// them, or a bad operand.
-const LINES: &[(&str, &str)] = &[
+/// Words behind the program's name, with a blank between two, and the values that they ask for.
+const ASKED: &[(&str, &str)] = &[
     (
-        "smpe zone --db F --name DLB1 --kind distribution --srel Z038",
+        "zone --db F --name DLB1 --kind distribution --srel Z038",
         "F DLB1 Distribution Z038 -",
     ),
     (
-        "smpe zone --srel=Z038 --related DLB1 --kind=target --name TGT1 --db F",
+        "zone --srel=Z038 --related DLB1 --kind=target --name TGT1 --db F",
         "F TGT1 Target Z038 DLB1",
     ),
     (
-        "smpe run --db F --date 2024-05-17 --cntl C --ptfin P --hold H",
+        "run --db F --date 2024-05-17 --cntl C --ptfin P --hold H",
         "F 24.138 C P H",
     ),
     (
-        "smpe run --db F --date 2024-12-31 --cntl C --hold H",
+        "run --db F --date 2024-12-31 --cntl C --hold H",
         "F 24.366 C - H",
     ),
     (
-        "smpe run --db F --date 2000-02-29 --cntl C --ptfin P",
+        "run --db F --date 2000-02-29 --cntl C --ptfin P",
         "F 00.060 C P -",
     ),
+    ("run --db F --date 1999-01-01 --cntl C", "F 99.001 C - -"),
+    ("list --db F --zone TGT1", "F TGT1"),
+    ("list --zone=GLOBAL --db F", "F GLOBAL"),
+    ("why --db F --zone TGT1 --id UA00001", "F TGT1 UA00001"),
     (
-        "smpe run --db F --date 1999-01-01 --cntl C",
-        "F 99.001 C - -",
-    ),
-    ("smpe list --db F --zone TGT1", "F TGT1"),
-    ("smpe list --zone=GLOBAL --db F", "F GLOBAL"),
-    ("smpe why --db F --zone TGT1 --id UA00001", "F TGT1 UA00001"),
-    (
-        "smpe why --id UA00002 --zone TGT1 --id=UA00001 --db F",
+        "why --id UA00002 --zone TGT1 --id=UA00001 --db F",
         "F TGT1 UA00002,UA00001",
     ),
-    ("smpe check --srel Z038 --ptfin P", "Z038 P - - -"),
+    ("check --srel Z038 --ptfin P", "Z038 P - - -"),
     (
-        "smpe check --ptfin P --hold H --srel Z038 --cntl C --date 2024-05-17",
+        "check --ptfin P --hold H --srel Z038 --cntl C --date 2024-05-17",
         "Z038 P H C 24.138",
     ),
-    ("smpe check --srel Z038 --ptfin P --cntl C", "bad operand"),
-    ("smpe check --srel Z038", "clap"),
-    ("smpe check --ptfin P", "clap"),
-    ("smpe migrate --db F", "F"),
-    ("smpe", "clap"),
-    ("smpe --help", "clap"),
-    ("smpe --version", "clap"),
-    ("smpe help", "clap"),
-    ("smpe list --help", "clap"),
-    ("smpe list --db F", "clap"),
-    ("smpe migrate", "clap"),
-    ("smpe migrate --db F --zone TGT1", "clap"),
-    ("smpe list --db F --zone TGT1 --date 2024-05-17", "clap"),
-    ("smpe why --db F --zone TGT1", "clap"),
-    ("smpe why --db F --id UA00001", "clap"),
-    (
-        "smpe why --db F --zone TGT1 --zone TGT2 --id UA00001",
-        "clap",
-    ),
-    ("smpe why --db F --zone TGT1 --id UA00001 UA00002", "clap"),
-    ("smpe zone --db F --name DLB1 --kind distribution", "clap"),
-    (
-        "smpe zone --db F --name DLB1 --kind global --srel Z038",
-        "clap",
-    ),
-    (
-        "smpe zone --db F --name DLB1 --kind target --srel Z038 --cntl C",
-        "clap",
-    ),
-    (
-        "smpe zone --db F --name DLB1 --name DLB2 --kind target --srel Z038",
-        "clap",
-    ),
-    (
-        "smpe zone --db F --name DLB1 --kind target --srel Z038 more",
-        "clap",
-    ),
-    ("smpe run --db F --date 2024-02-30 --hold H", "clap"),
-    (
-        "smpe zone --db F --name 1DLB --kind distribution --srel Z038",
-        "bad operand",
-    ),
-    (
-        "smpe zone --db F --name DLB1 --kind distribution --srel Z38",
-        "bad operand",
-    ),
-    (
-        "smpe zone --db F --name TGT1 --kind target --srel Z038 --related dlb1",
-        "bad operand",
-    ),
-    ("smpe list --db F --zone tgt1", "bad operand"),
-    ("smpe why --db F --zone tgt1 --id UA00001", "bad operand"),
-    ("smpe why --db F --zone TGT1 --id UA0001", "bad operand"),
-    (
-        "smpe why --db F --zone TGT1 --id UA00001 --id ua00002",
-        "bad operand",
-    ),
-    ("smpe run --db F --date 2024-02-30 --cntl C", "bad operand"),
-    ("smpe run --db F --date 1900-02-29 --cntl C", "bad operand"),
-    ("smpe run --db F --date 2024-13-01 --cntl C", "bad operand"),
-    ("smpe run --db F --date 2024-05-00 --cntl C", "bad operand"),
-    ("smpe run --db F --date 2024-5-17 --cntl C", "bad operand"),
-    ("smpe run --db F --date 2024/05/17 --cntl C", "bad operand"),
+    ("migrate --db F", "F"),
+];
+
+/// Words that `clap` refuses, or answers itself.
+const CLAP: &[&str] = &[
+    "check --srel Z038",
+    "check --ptfin P",
+    "",
+    "--help",
+    "--version",
+    "help",
+    "list --help",
+    "list --db F",
+    "migrate",
+    "migrate --db F --zone TGT1",
+    "list --db F --zone TGT1 --date 2024-05-17",
+    "why --db F --zone TGT1",
+    "why --db F --id UA00001",
+    "why --db F --zone TGT1 --zone TGT2 --id UA00001",
+    "why --db F --zone TGT1 --id UA00001 UA00002",
+    "zone --db F --name DLB1 --kind distribution",
+    "zone --db F --name DLB1 --kind global --srel Z038",
+    "zone --db F --name DLB1 --kind target --srel Z038 --cntl C",
+    "zone --db F --name DLB1 --name DLB2 --kind target --srel Z038",
+    "zone --db F --name DLB1 --kind target --srel Z038 more",
+    "run --db F --date 2024-02-30 --hold H",
+];
+
+/// Words with a bad operand.
+const BAD: &[&str] = &[
+    "check --srel Z038 --ptfin P --cntl C",
+    "zone --db F --name 1DLB --kind distribution --srel Z038",
+    "zone --db F --name DLB1 --kind distribution --srel Z38",
+    "zone --db F --name TGT1 --kind target --srel Z038 --related dlb1",
+    "list --db F --zone tgt1",
+    "why --db F --zone tgt1 --id UA00001",
+    "why --db F --zone TGT1 --id UA0001",
+    "why --db F --zone TGT1 --id UA00001 --id ua00002",
+    "run --db F --date 2024-02-30 --cntl C",
+    "run --db F --date 1900-02-29 --cntl C",
+    "run --db F --date 2024-13-01 --cntl C",
+    "run --db F --date 2024-05-00 --cntl C",
+    "run --db F --date 2024-5-17 --cntl C",
+    "run --db F --date 2024/05/17 --cntl C",
 ];
 
 fn words<'a>(alloc: Global, line: &'a str) -> Result<Vec<&'a str>, Fail> {
     let mut words = Vec::new(alloc);
+    words.push("smpe")?;
     for word in line.split(' ') {
-        words.push(word)?;
+        if !word.is_empty() {
+            words.push(word)?;
+        }
     }
     Ok(words)
 }
@@ -198,11 +178,26 @@ fn read(alloc: Global, line: &str) -> Result<String, Fail> {
     }
 }
 
+fn check(alloc: Global, line: &str, wanted: &str) -> Result<(), Fail> {
+    let got = read(alloc, line)?;
+    compare(line, got.as_bytes(), wanted)
+}
+
 #[test]
-fn words_are_read(rt: HostRuntime) -> Result<(), Fail> {
-    for (line, wanted) in LINES {
-        let got = read(rt.alloc(), line)?;
-        compare(got.as_bytes(), wanted)?;
+fn words_are_read_as_what_they_ask_for(rt: HostRuntime) -> Result<(), Fail> {
+    for (line, wanted) in ASKED {
+        check(rt.alloc(), line, wanted)?;
+    }
+    Ok(())
+}
+
+#[test]
+fn other_words_are_refused(rt: HostRuntime) -> Result<(), Fail> {
+    for line in CLAP {
+        check(rt.alloc(), line, "clap")?;
+    }
+    for line in BAD {
+        check(rt.alloc(), line, "bad operand")?;
     }
     Ok(())
 }
@@ -217,6 +212,6 @@ fn answer_of_clap(alloc: Global, line: &str) -> Result<String, Fail> {
 
 #[test]
 fn the_version_is_told(rt: HostRuntime) -> Result<(), Fail> {
-    let got = answer_of_clap(rt.alloc(), "smpe --version")?;
-    compare(got.as_bytes(), "smpe 1.0.0\n")
+    let got = answer_of_clap(rt.alloc(), "--version")?;
+    compare("smpe --version", got.as_bytes(), "smpe 1.0.0\n")
 }

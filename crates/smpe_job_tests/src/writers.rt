@@ -1,11 +1,10 @@
 //! A writer that takes so many bytes and no more: what went out is a beginning of the report, and each command before
 //! the one that it was cut in is there, with that one.
 
-use crate::checked::{AGAIN, CHECKED, REPORTS, commits_of, installed, performed, whole_reports};
-use fields::YyDdd;
+use crate::checked::{AGAIN, CHECKED, REPORTS, commits_of, performed, whole_reports};
 use report::Out;
-use smpe::{Answer, Job, JobError, run_jobs};
-use smpe_play::{FIX, compare, records};
+use smpe::{Answer, JobError, run_jobs};
+use smpe_play::{FIX, card_file, compare, in_memory, installed, job_over};
 use sqlite::{Alter, Connection};
 use std::alloc::Global;
 use std::io::{self, ErrorKind, Write};
@@ -42,15 +41,10 @@ fn run_cut<S: Alter>(
     store: &mut Store<S>,
     writer: &mut Cut,
 ) -> Result<Result<Vec<Answer>, JobError>, Fail> {
-    let cntl = records(alloc, CHECKED.cntl)?;
-    let ptfin = records(alloc, FIX)?;
-    let job = [Job::Run {
-        date: YyDdd::new(2024, 138),
-        cntl: cntl.as_slice(),
-        ptfin: ptfin.as_slice(),
-        hold: b"",
-    }];
-    Ok(run_jobs(alloc, store, &job, &mut Out::new(writer)))
+    let cntl = card_file(alloc, CHECKED.cntl)?;
+    let ptfin = card_file(alloc, FIX)?;
+    let jobs = [job_over(cntl.as_slice(), ptfin.as_slice(), b"")];
+    Ok(run_jobs(alloc, store, &jobs, &mut Out::new(writer)))
 }
 
 /// The whole report.
@@ -116,7 +110,7 @@ fn again<S: Alter + Drop>(alloc: Global, mut store: Store<S>) -> Result<(), Fail
         has_error: true,
     };
     let answers = run_cut(alloc, &mut store, &mut writer)??;
-    compare(writer.taken.as_slice(), AGAIN)?;
+    compare("the job once more", writer.taken.as_slice(), AGAIN)?;
     match answers.as_slice() {
         [Answer::Code(4)] => Ok(()),
         _ => Err(Fail::from("the return code is not 4")),
@@ -126,28 +120,28 @@ fn again<S: Alter + Drop>(alloc: Global, mut store: Store<S>) -> Result<(), Fail
 fn cut_at_each(alloc: Global, has_error: bool) -> Result<(), Fail> {
     let wanted = whole(alloc)?;
     for left in 0..=wanted.len() {
-        let conn = Connection::open_in_memory(alloc)?;
+        let conn = in_memory(alloc)?;
         let _store = cut_at(alloc, conn, wanted.as_slice(), left, has_error)?;
     }
     Ok(())
 }
 
 #[test]
-fn takes_no_more(rt: HostRuntime) -> Result<(), Fail> {
+fn a_writer_that_takes_no_more_cuts_the_report(rt: HostRuntime) -> Result<(), Fail> {
     cut_at_each(rt.alloc(), false)
 }
 
 #[test]
-fn answers_an_error(rt: HostRuntime) -> Result<(), Fail> {
+fn a_writer_that_fails_cuts_the_report(rt: HostRuntime) -> Result<(), Fail> {
     cut_at_each(rt.alloc(), true)
 }
 
 #[test]
-fn runs_again_after_a_cut(rt: HostRuntime) -> Result<(), Fail> {
+fn the_job_runs_again_after_a_cut(rt: HostRuntime) -> Result<(), Fail> {
     let alloc = rt.alloc();
     let wanted = whole(alloc)?;
     // The reports of four commands go out, and the fifth command is performed.
-    let conn = Connection::open_in_memory(alloc)?;
+    let conn = in_memory(alloc)?;
     let store = cut_at(alloc, conn, wanted.as_slice(), 127, false)?;
     again(alloc, store)
 }

@@ -1,12 +1,12 @@
-//! Files on disks in memory, which are closed and opened again.
+//! Connections to databases in memory and to files on disks in memory, and stores over them.
 
 ghost use Rattle.std.specs.Prelude.{IsTrue};
 
-use crate::steps::{Step, define_both, opened_at, place_of, play_at};
-use sqlite::{Connection, FileStore, Files, Options};
+use sqlite::{Alter, Connection, FileStore, Files, MemStore, Options};
 use sqlite_disk::{Disk, Memory};
 use std::alloc::Global;
 use std::test::Fail;
+use store::Store;
 
 /// A connection to the database in the files.
 pub fn connected<D: Disk + Drop>(
@@ -29,8 +29,13 @@ pub fn new_files(alloc: Global) -> Result<Connection<FileStore<Memory>>, Fail> {
     connected(alloc, Files { log, db })
 }
 
+/// A connection to a new database in memory.
+pub fn in_memory(alloc: Global) -> Result<Connection<MemStore>, Fail> {
+    Ok(Connection::open_in_memory(alloc)?)
+}
+
 /// Closes the files and opens them again.
-fn reopened(
+pub(crate) fn reopened(
     alloc: Global,
     conn: Connection<FileStore<Memory>>,
 ) -> Result<Connection<FileStore<Memory>>, Fail> {
@@ -40,40 +45,17 @@ fn reopened(
     }
 }
 
-/// Plays a step over files that are closed and opened again before it.
-fn play_alone(
+/// A store over the connection. A failure begins with the name.
+pub fn opened<S: Alter + Drop>(
     alloc: Global,
-    conn: Connection<FileStore<Memory>>,
-    step: &Step,
-    place: &str,
-) -> Result<Connection<FileStore<Memory>>, Fail> {
-    let mut store = opened_at(alloc, reopened(alloc, conn)?, place)?;
-    play_at(alloc, &mut store, step, place)?;
-    Ok(store.close())
-}
-
-/// Plays the steps of a list one after the other, with the files closed and opened again before each.
-pub(crate) fn play_closed(
-    alloc: Global,
-    steps: &[Step],
-    list: &str,
-) -> Result<Connection<FileStore<Memory>>, Fail> {
-    let mut store = opened_at(alloc, new_files(alloc)?, list)?;
-    define_both(alloc, &mut store)?;
-    let mut conn = store.close();
-    for (index, step) in steps.iter().enumerate() {
-        let place = place_of(
-            alloc,
-            list,
-            index,
-            "on disks that are closed and opened before it",
-        )?;
-        conn = play_alone(alloc, conn, step, place.as_str())?;
+    conn: Connection<S>,
+    name: &str,
+) -> Result<Store<S>, Fail> {
+    if !conn.is_autocommit() {
+        return Err(Fail::new(format_args!("{name}: a transaction is under way")));
     }
-    Ok(conn)
-}
-
-/// The same for steps that stand in no list.
-pub fn play_reopened(alloc: Global, steps: &[Step]) -> Result<Connection<FileStore<Memory>>, Fail> {
-    play_closed(alloc, steps, "steps")
+    match Store::open(alloc, conn) {
+        Ok(store) => Ok(store),
+        Err((_conn, error)) => Err(Fail::new(format_args!("{name}: {error:?}"))),
+    }
 }

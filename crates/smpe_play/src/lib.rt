@@ -1,16 +1,17 @@
 //! How jobs are played for tests: as text cards against a store in memory and against files on disks in memory, with
-//! what each job prints and answers compared. It has the jobs that many lists begin with.
+//! what each job prints and answers compared. It has the jobs that many cases begin with.
 #![tactic(auto)]
 
 mod cards;
 mod disks;
+mod jobs;
 mod steps;
 
 pub use cards::{
-    DELETER_INSTALLED, FIX, FUNCTION, FUNCTION_INSTALLED, FUNCTION_LISTED, FUNCTION_RECEIVED,
-    RECEIVE, RIVAL_RECEIVED, UPDATE_INSTALLED,
+    Case, DELETER_INSTALLED, FAILING, FIX, FUNCTION, FUNCTION_INSTALLED, FUNCTION_LISTED,
+    FUNCTION_RECEIVED, JOB, LISTING, LISTING_TEXTS, RECEIVE, RECEIVING, REFUSED, RIVAL_RECEIVED,
+    Step, UPDATE_INSTALLED,
 };
-pub use disks::{connected, new_files, play_reopened};
-pub use steps::{
-    JOB, Step, compare, define_both, opened, play, play_lists, records, run_step, zone_name,
-};
+pub use disks::{connected, in_memory, new_files, opened};
+pub use jobs::{card_file, compare, define_both, job_over, put_cards, run_printing, zone_name};
+pub use steps::{installed, installed_files, play, play_cases, play_installed, run_step};

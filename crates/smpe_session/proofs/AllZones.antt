@@ -8,9 +8,9 @@ use Rattle.std.proofs.lemmas.List.Elements.{All-more, All-weaker, recursion_from
 use Rattle.indexmap.specs.IndexMap.{get, IsUnique}
 use Rattle.terms.specs.Types.{Text, Zone, NamedZone}
 use Rattle.terms.specs.Lookups.{is_before}
-use Rattle.lemmas.proofs.Pairs.{pairs_unmap}
-use Rattle.lemmas.proofs.Texts.{same_from}
-use Rattle.lemmas.proofs.Searches.{find_gives}
+use Rattle.terms.proofs.Pairs.{pairs_unmap}
+use Rattle.terms.proofs.TextOrder.{same_from}
+use Rattle.terms.proofs.Searches.{find_gives}
 use Rattle.store_schema.specs.Inventory.{IsInventory}
 use Rattle.machine.specs.State.{State, global_name, zone_named}
 use Rattle.smpe_global.specs.Rejections.{AppliesAlike}

@@ -19,15 +19,16 @@ use Rattle.machine.specs.State.{State, with_zone}
 use Rattle.machine.specs.Machine.{Files, Perform, Performs}
 use Rattle.report.specs.declared.outcome.Outcome.{Outcome as Told}
 use Rattle.report.specs.Views.{outcome_view}
+use Rattle.smpe_zones.specs.Ends.{HasCommitted}
 use Rattle.smpe_zones.specs.Kept.{kept}
 use Rattle.smpe_session.specs.declared.session.Session.{Session}
 use Rattle.smpe_session.specs.Places.{ChangesZone}
 use Rattle.smpe_session.specs.Sessions.{IsSessionOf, HasPerformed}
-use Rattle.smpe_session.specs.Steps.{EndsCommitted, HasRun}
+use Rattle.smpe_session.specs.Steps.{HasRun}
 use Rattle.smpe_session.specs.Uses.{UsesStore}
 use Rattle.smpe_session.proofs.Installed.{zone_change}
 use Rattle.smpe_session.proofs.StateZones.{each_named}
-use Rattle.smpe_session.proofs.Stepping.{run_committed, performs_ran, performs_staying}
+use Rattle.smpe_session.proofs.Stepping.{run_committed, performs_ran}
 
 -- the zone that is named by the change which a call commits
 abbrev pub zone_of : {S X : Type 0} {g : Ghosts S} {before after : Held S} {name : Text} {old : Bor Zone} {delta : ZoneDelta}
@@ -55,7 +56,7 @@ module _ (date : Text) (files : Files) (c : Command) (s : State) (at : Session) 
     abbrev Commits : {V : Type 0} → V → Result V StoreError → Type 0
     Commits answer r =
         (t : State) → Makes (ZoneChange name old delta) (kept s) (kept t) → IsInventory (kept t)
-        → EndsCommitted g before after s t (ZoneChange name old delta) answer r
+        → HasCommitted g before after s t (ZoneChange name old delta) answer r
 
     runs : {V : Type 0} (LeadsTo : V → State → Type 0) (answer : V) (new : Zone) → IsChanged delta planned.zone new
         → LeadsTo answer (with_zone s name new) → (r : Result V StoreError) → Commits answer r
@@ -78,8 +79,7 @@ module _ (date : Text) (files : Files) (c : Command) (s : State) (at : Session) 
     pub fails : {V : Type 0} (answer : V) (session : Session) → IsDelta delta → (e : StoreError)
         → Commits answer (Err e) → HasPerformed g before after s session date files c (Err e)
     fails answer session is e ended =
-        performs_staying g before after s session date files c e
-        (runs (λ v t. Unit {0}) answer (changed_zone delta planned.zone) (changes is) tt (Err e) ended)
+        runs (λ v t. Unit {0}) answer (changed_zone delta planned.zone) (changes is) tt (Err e) ended
 
     -- it is done, and then the session's zone is changed
     pub carries : (answer : Told) (session : Session) (new : Zone) → IsChanged delta planned.zone new
@@ -88,6 +88,6 @@ module _ (date : Text) (files : Files) (c : Command) (s : State) (at : Session) 
     carries answer session new changed view here r ended =
         let performs = subst (λ u. Performs date files s c u outcome)
         (ap (λ b. if b then s else with_zone s name new) unchecked) (planned.performs new changed) in
-        performs_ran g before after s session date files c r
+        performs_ran g before after s date files c session r
         (runs (λ o u. Performs date files s c u (outcome_view o) × IsSessionOf u session) answer new changed
         (subst (Performs date files s c (with_zone s name new)) (sym view) performs, here) r ended)

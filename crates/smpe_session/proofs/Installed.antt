@@ -15,8 +15,8 @@ use Rattle.terms.specs.Types.{Text, Zone, NamedZone, Bypass, Selection, Install,
 use Rattle.zones.specs.Delta.{ZoneDelta, IsChanged}
 use Rattle.terms.specs.Lookups.{is_before}
 use Rattle.terms.specs.Rising.{Rises, with_item}
-use Rattle.lemmas.proofs.Pairs.{pairs_unmap, AllPairs_parts}
-use Rattle.lemmas.proofs.Texts.{same_from, same_itself}
+use Rattle.terms.proofs.Pairs.{pairs_unmap, AllPairs_parts}
+use Rattle.terms.proofs.TextOrder.{same_from, same_itself}
 use Rattle.terms.proofs.RisingLists.{with_item_there}
 use Rattle.store_zones.specs.Zones.{IsZoneChange}
 use Rattle.store_schema.specs.Inventory.{Inventory, IsInventory}
@@ -27,8 +27,8 @@ use Rattle.machine.specs.Machine.{Files, InstallsThere, RunsThere, Performs}
 use Rattle.store.specs.declared.change.Change.{Change}
 use Rattle.smpe_zones.specs.Kept.{kept}
 use Rattle.smpe_zones.specs.Own.{IsOfZone, IsOwnOf}
-use Rattle.machine_keeps.proofs.ZonesKept.{stands_among}
-use Rattle.machine_keeps.proofs.InstallForms.{apply_kept}
+use Rattle.machine_laws.proofs.ZonesKept.{stands_among}
+use Rattle.machine_laws.proofs.InstallForms.{apply_kept}
 use Rattle.smpe_session.specs.declared.session.Session.{Session}
 use Rattle.smpe_session.specs.Sessions.{IsSessionOf}
 use Rattle.smpe_session.specs.Places.{install_command, related_for, IsPlace, IsPlan, ChangesZone}

@@ -15,11 +15,12 @@ use Rattle.sysmods.specs.declared.edit.GlobalEdit.{GlobalEdit}
 use Rattle.sysmods.specs.Edits.{EachFits, after_edits}
 use Rattle.store.specs.Changes.{Makes}
 use Rattle.store.specs.declared.change.Change.{Change}
+use Rattle.smpe_zones.specs.Ends.{HasCommitted}
 use Rattle.smpe_zones.specs.Kept.{kept}
 use Rattle.smpe_zones.specs.Own.{IsOwnOf}
 use Rattle.smpe_session.specs.declared.session.Session.{Session}
 use Rattle.smpe_session.specs.Sessions.{IsSessionOf}
-use Rattle.smpe_session.specs.Steps.{LeadsToGlobal, EndsCommitted, HasRun}
+use Rattle.smpe_session.specs.Steps.{LeadsToGlobal, HasRun}
 use Rattle.smpe_session.proofs.Stepping.{run_committed}
 
 -- the change that is committed, and where it leads
@@ -47,7 +48,7 @@ pub run_led : {S V : Type 0} (g : Ghosts S) (old at : Held S) (date : Text) (fil
     (new : Global) (edits : List GlobalEdit) (lines : V → List Line) (answer : V)
     → LeadsBy date files c s new edits (lines answer) → (change : Change) → IsOwnOf c change
     → Makes change (kept s) (kept (record s { global = new })) → (r : Result V StoreError)
-    → EndsCommitted g old at s (record s { global = new }) change answer r
+    → HasCommitted g old at s (record s { global = new }) change answer r
     → HasRun g old at s (Perform date files c) (λ v t. LeadsToGlobal date files c s new t (lines v)) r
 run_led g old at date files c s new edits lines answer led change own makes r ended =
     run_committed g old at s date files c (record s { global = new }) (Ran (header_of c s.boundary) (lines answer))

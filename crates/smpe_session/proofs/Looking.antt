@@ -5,7 +5,7 @@ use Rattle.std.specs.Prelude.{if◌then◌else◌, is_some}
 use Rattle.std.specs.Option.{option_map_or, option_and_then}
 use Rattle.std.specs.Str.{bytes_eq}
 use Rattle.indexmap.specs.IndexMap.{get}
-use Rattle.lemmas.proofs.Texts.{same_from, same_itself}
+use Rattle.terms.proofs.TextOrder.{same_from, same_itself}
 use Rattle.terms.specs.Types.{Text, Zone, ListZone, Report}
 use Rattle.machine.specs.Outcome.{Refusal, Line, Ran, Cm1, Cm3, header_of, list_global, list_zone}
 use Rattle.machine.specs.State.{State, global_name, zone_named, misplaced}

@@ -9,8 +9,8 @@ use Rattle.terms.specs.declared.kinds.ZoneKind.{ZoneKind}
 use Rattle.terms.specs.declared.kinds.ZoneKind.TheVariants.{Target, Distribution}
 use Rattle.terms.specs.Types.{Text, zone_number, Zone, NamedZone, Id, ReceiveWhat, Receive, Reject, Install}
 use Rattle.terms.specs.Types.{Restore, RestoreList}
-use Rattle.lemmas.proofs.Texts.{same_from, same_itself}
-use Rattle.lemmas.proofs.Searches.{All_find, find_gives}
+use Rattle.terms.proofs.TextOrder.{same_from, same_itself}
+use Rattle.terms.proofs.Searches.{All_find, find_gives}
 use Rattle.machine.specs.Outcome.{Refusal, Cm1, Cm3}
 use Rattle.store_schema.specs.Inventory.{IsInventory, IsZoneNamed}
 use Rattle.machine.specs.State.{State, global_name, zone_named, at_global, at_kind, unless_at, misplaced}

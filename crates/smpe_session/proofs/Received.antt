@@ -7,7 +7,7 @@ use Rattle.terms.specs.Types.{Text, Global, Item, HoldItem, AHold, ARelease, Rec
 use Rattle.terms.specs.Forms.{IsSource}
 use Rattle.terms.specs.Ptfin.{McsFault, IsPtfin, IsPtfinFault}
 use Rattle.terms.specs.HoldFile.{IsHoldFile, IsHoldFileFault}
-use Rattle.lemmas.proofs.Each.{recursion_weaker}
+use Rattle.terms.proofs.Each.{recursion_weaker}
 use Rattle.store_schema.specs.Inventory.{IsInventory}
 use Rattle.machine.specs.Runs.{Runs}
 use Rattle.machine.specs.Receiving.{TakesItem, TakesHoldItem}
@@ -25,8 +25,8 @@ use Rattle.smpe_zones.specs.Own.{IsReceived}
 use Rattle.smpe_global.specs.Edits.{IsOfReceive}
 use Rattle.smpe_global.specs.External.{IsExternal}
 use Rattle.smpe_global.proofs.Fitting.{fits_append}
-use Rattle.machine_keeps.proofs.HoldFileForms.{IsHoldItem, hold_file_formed}
-use Rattle.machine_keeps.proofs.ReceivingForms.{take_forms}
+use Rattle.machine_laws.proofs.HoldFileForms.{IsHoldItem, hold_file_formed}
+use Rattle.machine_laws.proofs.ReceivingForms.{take_forms}
 use Rattle.smpe_session.specs.Received.{AreTaken}
 use Rattle.smpe_session.specs.Writing.{IsAtBoundary}
 use Rattle.smpe_session.proofs.Leading.{LeadsBy, leads_by, headed}

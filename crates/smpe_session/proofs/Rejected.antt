@@ -14,7 +14,7 @@ use Rattle.store.specs.declared.change.Change.TheVariants as changes
 use Rattle.smpe_zones.specs.Kept.{kept}
 use Rattle.smpe_zones.specs.Own.{IsRejected}
 use Rattle.smpe_session.specs.Writing.{IsAtBoundary}
-use Rattle.machine_keeps.proofs.RejectingForms.{reject_forms}
+use Rattle.machine_laws.proofs.RejectingForms.{reject_forms}
 use Rattle.smpe_session.proofs.Leading.{LeadsBy, leads_by}
 
 -- it changes the global zone alone

@@ -7,10 +7,10 @@ use Rattle.std.specs.Str.{bytes_eq}
 use Rattle.indexmap.specs.IndexMap.{get}
 use Rattle.terms.specs.declared.kinds.ZoneKind.TheVariants.{Target, Distribution}
 use Rattle.terms.specs.Types.{Text, NamedZone}
-use Rattle.lemmas.proofs.Searches.{find_gives}
+use Rattle.terms.proofs.Searches.{find_gives}
 use Rattle.store_schema.specs.Inventory.{IsInventory}
-use Rattle.store_zone_loads.specs.declared.head.ZoneHead.{ZoneHead}
-use Rattle.store_zone_loads.specs.Found.{head_of}
+use Rattle.store_zones.specs.declared.head.ZoneHead.{ZoneHead}
+use Rattle.store_zones.specs.Found.{head_of}
 use Rattle.machine.specs.State.{State, zone_named, target_of}
 use Rattle.smpe_zones.specs.Kept.{kept}
 use Rattle.smpe_session.specs.declared.session.Session.{Session}

@@ -6,7 +6,7 @@ use Rattle.std.specs.Str.{bytes_eq}
 use Rattle.std.proofs.lemmas.Bool.{or_right}
 use Rattle.indexmap.specs.IndexMap.{get, Updates}
 use Rattle.terms.specs.Types.{Text, Zone, Set}
-use Rattle.lemmas.proofs.Texts.{same_from}
+use Rattle.terms.proofs.TextOrder.{same_from}
 use Rattle.machine.specs.Outcome.{Line, Cm2, Refused, Ran, header_of}
 use Rattle.machine.specs.State.{State, global_name, zone_named, misplaced}
 use Rattle.machine.specs.Machine.{Files, Performs}

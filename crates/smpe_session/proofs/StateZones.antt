@@ -11,12 +11,12 @@ use Rattle.indexmap.specs.IndexMap.{get}
 use Rattle.terms.specs.Types.{Text, Zone, NamedZone}
 use Rattle.terms.specs.Lookups.{is_before}
 use Rattle.terms.specs.Rising.{Rises}
-use Rattle.lemmas.proofs.Pairs.{pairs_unmap}
-use Rattle.lemmas.proofs.Searches.{All_find}
+use Rattle.terms.proofs.Pairs.{pairs_unmap}
+use Rattle.terms.proofs.Searches.{All_find}
 use Rattle.store_schema.specs.Inventory.{IsInventory}
 use Rattle.machine.specs.State.{State, global_name, zone_named}
 use Rattle.smpe_zones.specs.Kept.{kept}
-use Rattle.machine_keeps.proofs.Lists.{find_itself}
+use Rattle.machine_laws.proofs.Lists.{find_itself}
 use Rattle.smpe_session.specs.declared.session.Session.{Session}
 use Rattle.smpe_session.specs.Steps.{IsSought}
 use Rattle.smpe_session.proofs.Places.{none_global}

@@ -1,5 +1,5 @@
 -- Calls over the store one after the other, and what becomes of their results.
-use Rattle.std.proofs.Common.{◌≡◌, ◌≢◌, ◌⊎◌, ◌∙◌, Result, Ok, Err, arith, inl, inr, refl, sym, ap, subst}
+use Rattle.std.proofs.Common.{◌≡◌, ◌⊎◌, ◌∙◌, Result, Ok, Err, sym, ap, subst}
 use Rattle.std.specs.Prelude.{IfOk, IfErr, IsErrAnd, IsErrOf, OnOk, OnErr}
 use Rattle.std.proofs.lemmas.Result.{err_from_is_err_and}
 use Rattle.sqlite.specs.Store.{Ghosts}
@@ -17,64 +17,59 @@ use Rattle.store.specs.Commits.{OnlyCommits}
 use Rattle.store.specs.declared.change.Change.{Change}
 use Rattle.store.specs.Loads.{Loads}
 use Rattle.store.specs.View.{Tables, TablesIfOpen, MayLeave, Leaves}
-use Rattle.store.proofs.Going.{loads_alone, alone_none, alone_short, goes_alone, goes_commit, goes_err, goes_ok}
-use Rattle.store.proofs.Going.{goes_own, goes_then}
-use Rattle.store.proofs.NoState.{found_after, tells_committed}
 use Rattle.store_schema.specs.Inventory.{Inventory, IsInventory}
 use Rattle.store_schema.specs.Stands.{StandsFor}
 use Rattle.store_schema.specs.Tables.{store_schema}
 use Rattle.store_schema.specs.declared.error.StoreError.{StoreError}
-use Rattle.store_schema.specs.declared.error.StoreError.TheVariants.{Fault, OtherSchema, Memory}
+use Rattle.store_schema.specs.declared.error.StoreError.TheVariants.{Fault, Memory}
+use Rattle.smpe_zones.specs.Ends.{HasLoaded, HasCommitted}
 use Rattle.smpe_zones.specs.Kept.{kept, Keeps}
+use Rattle.smpe_zones.proofs.Keeping.{inventory_kept, loaded, committed}
+use Rattle.smpe_zones.proofs.Once.{once_load, once_commit, once_own, once_ok, once_err, once_short, once_none}
+use Rattle.smpe_zones.proofs.Once.{once_after}
 use Rattle.smpe_session.specs.declared.session.Session.{Session}
 use Rattle.smpe_session.specs.declared.session.Performed.{Performed}
 use Rattle.smpe_session.specs.Sessions.{IsSessionOf, HasPerformed, HasDone, told}
-use Rattle.smpe_session.specs.Steps.{HasLoaded, EndsCommitted}
 use Rattle.smpe_session.specs.Uses.{UsesStore}
 use Rattle.smpe_session.specs.Writing.{TellsRun, AnswersRun}
-use Rattle.smpe_session.proofs.Stepping.{kept_inventory, loaded, committed}
 
 -- how calls end
 abbrev pub Ending : Type 0 → Type 1
 Ending X = State → Result X StoreError → Type 0
 
 module _ {S : Type 0} {g : Ghosts S} {old new : Held S} where
+  -- where the tables stood for a state, it is an inventory
+  ends_so : {X Y : Type 0} {IsMine : Change → Type 0} {P : Ending X} {r : Result X StoreError} (Q : Ending Y)
+      (q : Result Y StoreError) → UsesStore g old new IsMine P r
+      → ((s : State) → IsInventory (kept s) → P s r → Q s q)
+      → HasCleanDisk (state g new) → (s : State) → Keeps g old s → Q s q
+  ends_so Q q call ends clean s keeps =
+      ends s (inventory_kept g old s keeps (call.once.follows.clean clean)) (call.ended clean s keeps)
+
   -- the same result, of which less is said, with changes that are others too
   pub weaker : {X : Type 0} {IsOwn More : Change → Type 0} {P Q : Ending X} {r : Result X StoreError}
       → UsesStore g old new IsOwn P r → ((change : Change) → IsOwn change → More change)
       → ((s : State) → IsInventory (kept s) → P s r → Q s r) → UsesStore g old new More Q r
-  weaker {IsOwn = IsOwn} {More = More} {r = r} call more ends = record {
-    clean = call.clean;
-    later = call.later;
-    goes = goes_own g old new IsOwn More r more call.goes;
-    none = call.none;
-    which = call.which;
-    ended = λ clean s keeps. ends s (kept_inventory g old s (call.clean clean) keeps) (call.ended clean s keeps);
+  weaker {IsOwn = IsOwn} {More = More} {Q = Q} {r = r} call more ends = record {
+    once = once_own g old new IsOwn More more r call.once;
+    ended = ends_so Q r call ends;
   }
 
   -- something else is answered
   pub answered : {X Y : Type 0} {IsOwn More : Change → Type 0} {P : Ending X} {Q : Ending Y} {x : X} {y : Y}
       → UsesStore g old new IsOwn P (Ok x) → ((change : Change) → IsOwn change → More change)
       → ((s : State) → IsInventory (kept s) → P s (Ok x) → Q s (Ok y)) → UsesStore g old new More Q (Ok y)
-  answered {IsOwn = IsOwn} {More = More} {x = x} {y = y} call more ends = record {
-    clean = call.clean;
-    later = call.later;
-    goes = goes_ok g old new IsOwn More x y more call.goes;
-    none = λ clean bad. absurd (cc bad);
-    which = tt;
-    ended = λ clean s keeps. ends s (kept_inventory g old s (call.clean clean) keeps) (call.ended clean s keeps);
+  answered {IsOwn = IsOwn} {More = More} {Q = Q} {x = x} {y = y} call more ends = record {
+    once = once_ok g old new IsOwn More more x y call.once;
+    ended = ends_so Q (Ok y) call ends;
   }
 
   failed : {X Y : Type 0} {IsOwn More : Change → Type 0} {P : Ending X} {Q : Ending Y} {e : StoreError}
       → UsesStore g old new IsOwn P (Err e) → ((change : Change) → IsOwn change → More change)
       → ((s : State) → IsInventory (kept s) → P s (Err e) → Q s (Err e)) → UsesStore g old new More Q (Err e)
-  failed {IsOwn = IsOwn} {More = More} {e = e} call more ends = record {
-    clean = call.clean;
-    later = call.later;
-    goes = goes_err g old new IsOwn More e e more call.goes;
-    none = λ clean bad. call.none clean (cc bad);
-    which = call.which;
-    ended = λ clean s keeps. ends s (kept_inventory g old s (call.clean clean) keeps) (call.ended clean s keeps);
+  failed {X = X} {Y = Y} {IsOwn = IsOwn} {More = More} {Q = Q} {e = e} call more ends = record {
+    once = once_err g old new IsOwn More more X Y e call.once;
+    ended = ends_so Q (Err e) call ends;
   }
 
   -- an error is handed on
@@ -94,13 +89,9 @@ module _ {S : Type 0} {g : Ghosts S} {old new : Held S} where
   short : {X Y : Type 0} {More : Change → Type 0} {P : Ending X} {Q : Ending Y} {x : X}
       → UsesStore g old new (λ _. ⊥) P (Ok x)
       → ((s : State) → IsInventory (kept s) → P s (Ok x) → Q s (Err Memory)) → UsesStore g old new More Q (Err Memory)
-  short {x = x} call ends = record {
-    clean = call.clean;
-    later = call.later;
-    goes = inl (alone_short g old new x Memory (goes_alone g old new (Ok x) call.goes));
-    none = λ clean bad. absurd (cc bad);
-    which = λ is. absurd (cc is);
-    ended = λ clean s keeps. ends s (kept_inventory g old s (call.clean clean) keeps) (call.ended clean s keeps);
+  short {Y = Y} {More = More} {Q = Q} {x = x} call ends = record {
+    once = once_short g old new Y More x call.once;
+    ended = ends_so Q (Err Memory) call ends;
   }
 
   -- memory runs out behind loads
@@ -114,15 +105,11 @@ module _ {S : Type 0} {g : Ghosts S} {old new : Held S} where
   pub load_uses : {X : Type 0} {Found : Inventory → X → Type 0} {r : Result X StoreError} → Loads g old new Found r
       → UsesStore g old new (λ _. ⊥) (λ s ended. HasLoaded g old new s (Found (kept s)) ended) r
   load_uses {Found = Found} {r = r} loads = record {
-    clean = loads.clean;
-    later = (loads.reads.crash.counts, loads.reads.crash.limit);
-    goes = inl (loads_alone g old new r loads.reads);
-    none = loads.none;
-    which = loads.which;
+    once = once_load g old new Found r loads;
     ended = λ clean s keeps. loaded g old new s Found r clean loads keeps;
   }
 
-  module _ {IsMine IsOwn : Change → Type 0} {P : Ending Outcome} {at session : Session} {date : Text} {files : Files}
+  module _ {IsMine IsOwn : Change → Type 0} {P : Ending Outcome} {at session : Session} (date : Text) (files : Files)
       {c : Command} where
     tells : (r : Result Outcome StoreError) → UsesStore g old new IsMine P r
         → ((change : Change) → IsMine change → IsOwn change × IfOk r (TellsRun change))
@@ -148,25 +135,6 @@ pub no_answer : {X E : Type 0} (r : Result X E) (P : E → Type 0) (Q : X → Ty
 no_answer (Ok x) P Q is = absurd is
 no_answer (Err e) P Q is = tt
 
--- the errors of a commit
-not_other : {X : Type 0} (r : Result X StoreError) → IfErr r (λ e. (e ≡ Fault) ⊎ (e ≡ Memory))
-    → IfErr r (λ e. e ≢ OtherSchema)
-not_other (Ok x) which = tt
-not_other (Err e) which = λ is. elim which [
-  | inl fault ↦ absurd (cc (fault, is))
-  | inr memory ↦ absurd (cc (memory, is))
-]
-
--- an error that is none of another schema
-pub never_other : {X : Type 0} (r : Result X StoreError) → IfErr r (λ e. e ≢ OtherSchema) → ¬ IsErrOf r OtherSchema
-never_other (Ok x) which bad = absurd (cc bad)
-never_other (Err e) which bad = which (cc bad)
-
--- the same of one that is handed on
-pub never_handed : {X : Type 0} (r : Result X StoreError) (e : StoreError) → IsErrAnd r (λ y. y ≡ e) → e ≢ OtherSchema
-    → ¬ IsErrOf r OtherSchema
-never_handed r e is which bad = let p = err_from_is_err_and r is in which (cc (p.1, p.2, bad))
-
 -- a commit
 pub commit_uses : {S : Type 0} (g : Ghosts S) (old new : Held S) (change : Change) (r : Result (Unit {0}) StoreError)
     → (HasCleanDisk (state g new) → HasCleanDisk (state g old)) → OnlyCommits g (calls_of change) old new r
@@ -179,13 +147,9 @@ pub commit_uses : {S : Type 0} (g : Ghosts S) (old new : Held S) (change : Chang
     → (HasCleanDisk (state g new) → IsErrOf r Fault → (i : Inventory) → Tables g old i
     → HasCause g old new i (λ own. own ≡ change))
     → UsesStore g old new (λ own. own ≡ change) (λ s ended. (t : State) → Makes change (kept s) (kept t)
-    → IsInventory (kept t) → EndsCommitted g old new s t change tt ended) r
+    → IsInventory (kept t) → HasCommitted g old new s t change tt ended) r
 commit_uses g old new change r was only ok durable err crash which before = record {
-  clean = was;
-  later = (only.crash.counts, only.crash.limit);
-  goes = goes_commit g old new change r only;
-  none = tells_committed g old new r which;
-  which = not_other r which;
+  once = once_commit g old new change r was only which;
   ended = λ clean s keeps t makes is. committed g old new s change t keeps makes is r ok durable err crash which
       (λ failed. before clean failed (kept s) keeps.now);
 }
@@ -193,26 +157,13 @@ commit_uses g old new change r was only ok durable err crash which before = reco
 module _ {S : Type 0} {g : Ghosts S} where
   -- no call at all
   pub nothing : {at : Held S} → UsesStore {X = Unit {0}} g at at (λ _. ⊥) (λ s ended. Keeps g at s) (Ok tt)
-  nothing {at = at} = record {
-    clean = λ clean. clean;
-    later = (omega arith, refl);
-    goes = inl (alone_none g at tt);
-    none = λ clean bad. absurd (cc bad);
-    which = tt;
-    ended = λ clean s keeps. keeps;
-  }
+  nothing {at = at} = record { once = once_none g at; ended = λ clean s keeps. keeps }
 
   -- a call behind one that has only loaded
   pub after : {X Y : Type 0} {IsOwn : Change → Type 0} {P : Ending X} {Q : Ending Y} {a b c : Held S} {x : X}
       {r : Result Y StoreError} → UsesStore g a b (λ _. ⊥) P (Ok x) → UsesStore g b c IsOwn Q r
       → UsesStore g a c IsOwn (λ s ended. P s (Ok x) × (Keeps g b s → Q s ended)) r
-  after {IsOwn = IsOwn} {a = a} {b = b} {c = c} {x = x} {r = r} one two =
-      let loads = goes_alone g a b (Ok x) one.goes in
-      record {
-        clean = λ clean. one.clean (two.clean clean);
-        later = (omega (arith, one.later.0, two.later.0), two.later.1 ∙ one.later.1);
-        goes = goes_then g a b c IsOwn x r loads two.goes;
-        none = λ clean bad. found_after g a b c loads.same clean (two.none clean bad);
-        which = two.which;
-        ended = λ clean s keeps. (one.ended (two.clean clean) s keeps, two.ended clean s);
-      }
+  after {IsOwn = IsOwn} {a = a} {b = b} {c = c} {x = x} {r = r} one two = record {
+    once = once_after g a b c IsOwn x r one.once two.once;
+    ended = λ clean s keeps. (one.ended (two.once.follows.clean clean) s keeps, two.ended clean s);
+  }

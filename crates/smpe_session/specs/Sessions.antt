@@ -10,8 +10,8 @@ use Rattle.machine.specs.Machine.{Files, Begin, Perform, Performs}
 use Rattle.report.specs.declared.outcome.Outcome.{Outcome}
 use Rattle.report.specs.Views.{outcome_view}
 use Rattle.store_schema.specs.declared.error.StoreError.{StoreError}
-use Rattle.store_schema.specs.declared.error.StoreError.TheVariants.{Fault, Memory}
-use Rattle.smpe_zones.specs.Kept.{Keeps, IsStopped, IsFaulted}
+use Rattle.smpe_zones.specs.Ends.{ActEnded, ActFailed}
+use Rattle.smpe_zones.specs.Kept.{Keeps}
 use Rattle.smpe_session.specs.declared.session.Session.{Session}
 use Rattle.smpe_session.specs.declared.session.Performed.{Performed}
 use Rattle.smpe_session.specs.declared.session.Performed.TheVariants.{Told, Lists}
@@ -26,26 +26,21 @@ pub record IsSessionOf (s : State) (at : Session) : Type 0 where
 
 -- A call began at `old`, and has ended.
 module _ {S : Type 0} (g : Ghosts S) (old at : Held S) (s : State) where
-  -- The job has begun. No other error comes than want of memory and a fault of the store, which has a cause.
+  -- The job has begun, and the tables stand for what they stood for; or its beginning has failed.
   abbrev pub HasBegun : Result Session StoreError → Type 0
-  HasBegun (Ok session) = IsSessionOf (record s { boundary = None }) session × Keeps g at s
-  HasBegun (Err Fault) = IsFaulted g old at s Begin
-  HasBegun (Err Memory) = IsStopped g at s Begin
-  HasBegun (Err _) = ⊥
+  HasBegun result = ActEnded g old at s Begin
+      (λ session. IsSessionOf (record s { boundary = None }) session × Keeps g at s) result
 
-  -- The command is performed, the tables stand for what it led to, and so does the session.
+  -- The command is performed, the tables stand for what it led to, and so does the session; or it has failed.
   abbrev pub HasPerformed : Session → Text → Files → Command → Result Outcome StoreError → Type 0
-  HasPerformed session date files c (Ok outcome) =
-      (t : State) × Performs date files s c t (outcome_view outcome) × IsSessionOf t session × Keeps g at t
-  HasPerformed session date files c (Err Fault) = IsFaulted g old at s (Perform date files c)
-  HasPerformed session date files c (Err Memory) = IsStopped g at s (Perform date files c)
-  HasPerformed session date files c (Err _) = ⊥
+  HasPerformed session date files c result = ActEnded g old at s (Perform date files c) (λ outcome. (t : State)
+      × Performs date files s c t (outcome_view outcome) × IsSessionOf t session × Keeps g at t) result
 
   -- So it is; or it is a LIST, before which and after which the state is the same.
   abbrev pub HasDone : Session → Text → Files → Command → Result Performed StoreError → Type 0
   HasDone session date files c (Ok (Told outcome)) = HasPerformed session date files c (Ok outcome)
   HasDone session date files c (Ok (Lists text)) = (c ≡ ListZone text) × IsSessionOf s session × Keeps g at s
-  HasDone session date files c (Err error) = HasPerformed session date files c (Err error)
+  HasDone session date files c (Err error) = ActFailed g old at s (Perform date files c) error
 
 -- LIST and REPORT look at what the session has.
 abbrev pub LooksOnly : Command → Type 0

@@ -6,11 +6,11 @@ ghost use Rattle.machine.specs.State.{State, zone_named};
 ghost use Rattle.store_rows.specs.Reads.{OnlyReads};
 ghost use Rattle.store_schema.specs.Inventory.{IsInventory};
 ghost use Rattle.store_schema.specs.Tables.{store_schema};
-ghost use Rattle.store_zone_loads.specs.Found.{head_of};
+ghost use Rattle.store_zones.specs.Found.{head_of};
 ghost use Rattle.store.specs.Changes.{Makes};
 ghost use Rattle.store.specs.Whole.{ShowsGlobal};
 ghost use Rattle.smpe_zones.specs.Kept.{kept};
-ghost use Rattle.smpe_session.specs.Steps.{HasLoaded, EndsCommitted};
+ghost use Rattle.smpe_zones.specs.Ends.{HasLoaded, HasCommitted};
 ghost use Rattle.smpe_session.specs.Uses.{UsesStore};
 
 use fields::ZoneName;
@@ -63,7 +63,7 @@ pub(crate) fn commit_change<S: Alter, T: Drop>(
     ensures answer { IfOk result (λ given. given ≡ answer) }
     ensures uses { UsesStore S.Store store.old store.new (λ own. own ≡ change.now)
         (λ s ended. (t : State) → Makes change.now (kept s) (kept t) → IsInventory (kept t)
-        → EndsCommitted S.Store store.old store.new s t change.now answer ended) result }
+        → HasCommitted S.Store store.old store.new s t change.now answer ended) result }
 {
     store.commit(change)?;
     Ok(answer)

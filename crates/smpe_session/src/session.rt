@@ -1,15 +1,11 @@
 //! What a job has in memory, and how a command goes.
-ghost use Rattle.std.specs.Prelude.{◌≡◌, ◌≤◌, IfOk, IsErrOf};
+ghost use Rattle.std.specs.Prelude.{◌≡◌, IfOk, IsErrOf};
 ghost use Rattle.sqlite.specs.Held.{state};
 ghost use Rattle.sqlite.specs.State.{HasCleanDisk};
-ghost use Rattle.machine.specs.State.{State};
 ghost use Rattle.cntl.specs.Views.{command_of};
 ghost use Rattle.store_rows.specs.Reads.{OnlyReads};
 ghost use Rattle.store_schema.specs.Tables.{store_schema};
-ghost use Rattle.store.specs.BadRows.{TellsNoState};
-ghost use Rattle.store.specs.Courses.{GoesOver};
 ghost use Rattle.store.specs.Whole.{ShowsGlobal};
-ghost use Rattle.smpe_zones.specs.Kept.{Keeps};
 ghost use Rattle.smpe_zones.specs.Own.{IsOwnOf};
 ghost use Rattle.smpe_session.specs.Sessions.{IsSessionOf, HasBegun, HasDone, LooksOnly, told};
 ghost use Rattle.smpe_session.specs.Uses.{UsesStore};
@@ -57,15 +53,10 @@ impl Session {
     /// A job begins: the global zone is loaded, and there is no boundary. `Memory` comes where memory runs out, `Fault`
     /// where the database fails, and `NoState` where the rows stand for no state.
     pub fn begin<S: Alter>(alloc: Global, store: &mut Store<S>) -> Result<Session, StoreError>
-        ensures clean { HasCleanDisk (state S.Store store.new) → HasCleanDisk (state S.Store store.old) }
-        ensures faults { (state S.Store store.old).faults ≤ (state S.Store store.new).faults }
-        ensures limit { store.new.step_limit ≡ store.old.step_limit }
-        ensures none { TellsNoState S.Store store.old store.new result }
-        ensures which { ¬ IsErrOf result StoreError.OtherSchema }
+        ensures uses { UsesStore S.Store store.old store.new (λ _. ⊥)
+            (λ s ended. HasBegun S.Store store.old store.new s ended) result }
         ensures rows { HasCleanDisk (state S.Store store.new)
             → IfOk result (λ session. ShowsGlobal S.Store store.old session.global) }
-        ensures ended { HasCleanDisk (state S.Store store.new) → (s : State) → Keeps S.Store store.old s
-            → HasBegun S.Store store.old store.new s result }
         ensures reads { OnlyReads S.Store store_schema StoreError.NoState StoreError.Fault store.old store.new result }
     {
         let global = load_global(store)?;
@@ -80,31 +71,6 @@ impl Session {
     /// the database fails, and `NoState` where a zone is loaded whose rows stand for none. No command of the job may
     /// follow then: the session's global zone may be ahead of the tables.
     pub fn perform<S: Alter>(
-        &mut self,
-        alloc: Global,
-        store: &mut Store<S>,
-        date: YyDdd,
-        files: &Files<'_>,
-        command: &Command,
-    ) -> Result<Performed, StoreError>
-        ensures clean { HasCleanDisk (state S.Store store.new) → HasCleanDisk (state S.Store store.old) }
-        ensures faults { (state S.Store store.old).faults ≤ (state S.Store store.new).faults }
-        ensures limit { store.new.step_limit ≡ store.old.step_limit }
-        ensures goes { GoesOver S.Store store.old store.new
-            (λ own. IsOwnOf (command_of command.now) own × IfOk result (AnswersRun own)) result }
-        ensures none { TellsNoState S.Store store.old store.new result }
-        ensures which { ¬ IsErrOf result StoreError.OtherSchema }
-        ensures ended { HasCleanDisk (state S.Store store.new) → (s : State) → IsSessionOf s self.old
-            → Keeps S.Store store.old s
-            → HasDone S.Store store.old store.new s self.new date files.now (command_of command.now) result }
-        ensures looks { LooksOnly (command_of command.now) → (store.new ≡ store.old)
-            × ¬ IsErrOf result StoreError.Fault }
-    {
-        self.run(alloc, store, date, files, command)
-    }
-
-    /// What `perform` does; its contract says the clauses of the store as one record.
-    fn run<S: Alter>(
         &mut self,
         alloc: Global,
         store: &mut Store<S>,

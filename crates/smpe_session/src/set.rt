@@ -5,7 +5,8 @@ ghost use Rattle.indexmap.specs.IndexMap.{get, Updates};
 ghost use Rattle.terms.specs.Types.{Text, Set};
 ghost use Rattle.machine.specs.Machine.{Files};
 ghost use Rattle.smpe_session.specs.Sessions.{IsSessionOf, HasPerformed};
-ghost use Rattle.smpe_session.specs.Steps.{HasLoaded, IsSought};
+ghost use Rattle.smpe_session.specs.Steps.{IsSought};
+ghost use Rattle.smpe_zones.specs.Ends.{HasLoaded};
 ghost use Rattle.smpe_session.specs.Uses.{UsesStore};
 
 use crate::load::load_zone;

@@ -1,35 +1,51 @@
-//! Hostile files: bytes and statements that no reader may take, and long chains of SYSMODs.
+//! Bytes and statements that no reader may take.
 
-use smpe_play::{JOB, RECEIVE, Step};
+use smpe_play::{Case, RECEIVE, REFUSED, Step, play_cases};
+use std::test::Fail;
 
-/// A byte that no record may have comes before any fault of a statement.
-pub(crate) const UNPRINTABLE: &[Step] = &[Step {
-    cntl: RECEIVE,
-    ptfin: &[&["++BAD.", "    \0"]],
-    report: "SET GLOBAL\nRC 00\nRECEIVE GLOBAL\nREFUSED Cm4 RECORD 2 Mc1\nRC 12\n",
-    code: 12,
-    ..JOB
-}];
+const BAD_FILES: &[Case] = &[
+    Case {
+        shows: "a byte that no record may have comes before any fault of a statement",
+        steps: &[Step {
+            name: "PTFIN with an unprintable byte",
+            cntl: RECEIVE,
+            ptfin: &["++BAD.\n    \0"],
+            report: "SET GLOBAL\nRC 00\nRECEIVE GLOBAL\nREFUSED Cm4 RECORD 2 Mc1\nRC 12\n",
+            ..REFUSED
+        }],
+    },
+    Case {
+        shows: "a statement has a word",
+        steps: &[Step {
+            name: "PTFIN with ++ alone",
+            cntl: RECEIVE,
+            ptfin: &["++"],
+            report: "SET GLOBAL\nRC 00\nRECEIVE GLOBAL\nREFUSED Cm4 RECORD 1 Mc1\nRC 12\n",
+            ..REFUSED
+        }],
+    },
+    Case {
+        shows: "a statement closes its comment",
+        steps: &[Step {
+            name: "PTFIN with an open comment",
+            cntl: RECEIVE,
+            ptfin: &["++PTF(UA00001). /* X"],
+            report: "SET GLOBAL\nRC 00\nRECEIVE GLOBAL\nREFUSED Cm4 RECORD 1 Mc1\nRC 12\n",
+            ..REFUSED
+        }],
+    },
+    Case {
+        shows: "parentheses have two levels",
+        steps: &[Step {
+            name: "a command with three levels",
+            cntl: "APPLY BYPASS(HOLDSYSTEM((A))).",
+            report: "CONTROL RECORD 1 Cn5\n",
+            ..REFUSED
+        }],
+    },
+];
 
-pub(crate) const NO_WORD: &[Step] = &[Step {
-    cntl: RECEIVE,
-    ptfin: &[&["++"]],
-    report: "SET GLOBAL\nRC 00\nRECEIVE GLOBAL\nREFUSED Cm4 RECORD 1 Mc1\nRC 12\n",
-    code: 12,
-    ..JOB
-}];
-
-pub(crate) const OPEN_COMMENT: &[Step] = &[Step {
-    cntl: RECEIVE,
-    ptfin: &[&["++PTF(UA00001). /* X"]],
-    report: "SET GLOBAL\nRC 00\nRECEIVE GLOBAL\nREFUSED Cm4 RECORD 1 Mc1\nRC 12\n",
-    code: 12,
-    ..JOB
-}];
-
-pub(crate) const THIRD_LEVEL: &[Step] = &[Step {
-    cntl: &["APPLY BYPASS(HOLDSYSTEM((A)))."],
-    report: "CONTROL RECORD 1 Cn5\n",
-    code: 12,
-    ..JOB
-}];
+#[test]
+fn bad_files_are_refused(rt: HostRuntime) -> Result<(), Fail> {
+    play_cases(rt.alloc(), BAD_FILES)
+}

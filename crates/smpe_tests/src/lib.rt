@@ -3,22 +3,26 @@
 #![tactic(auto)]
 
 #[cfg(test)]
+mod accepted;
+#[cfg(test)]
 mod chains;
 #[cfg(test)]
 mod elements;
 #[cfg(test)]
 mod functions;
 #[cfg(test)]
-mod hostile;
+mod generated;
 #[cfg(test)]
-mod levels;
+mod holds;
+#[cfg(test)]
+mod hostile;
 #[cfg(test)]
 mod limits;
 #[cfg(test)]
 mod requisites;
 #[cfg(test)]
+mod restored;
+#[cfg(test)]
 mod selection;
 #[cfg(test)]
 mod several;
-#[cfg(test)]
-mod tests;

@@ -9,13 +9,13 @@ use Rattle.std.specs.Str.{bytes_eq}
 use Rattle.std.proofs.lemmas.Bool.{and_parts}
 use Rattle.std.proofs.lemmas.List.Elements.{All-append, All-contains, All-head, All-from_recursion, filter-append}
 use Rattle.std.proofs.lemmas.List.Elements.{Contains-append_left, Contains-append_right, Contains-append_cases}
-use Rattle.lemmas.specs.Beside.{Beside}
-use Rattle.lemmas.proofs.BesideLists.{beside_there}
-use Rattle.lemmas.proofs.Each.{All_from_each, All_front, All_back}
-use Rattle.lemmas.proofs.Members.{here, none_in, in_map, map_in, in_filter, filter_in, flat_in, in_flat}
-use Rattle.lemmas.proofs.Places.{contains_at, found_at}
-use Rattle.lemmas.proofs.Searches.{filter_none, passes_all, some_passes}
-use Rattle.lemmas.proofs.Texts.{same_from}
+use Rattle.terms.specs.Beside.{Beside}
+use Rattle.terms.proofs.BesideLists.{beside_there}
+use Rattle.terms.proofs.Each.{All_from_each, All_front, All_back}
+use Rattle.terms.proofs.ListMembers.{here, none_in, in_map, map_in, in_filter, filter_in, flat_in, in_flat}
+use Rattle.terms.proofs.Places.{contains_at, found_at}
+use Rattle.terms.proofs.Searches.{filter_none, passes_all, some_passes}
+use Rattle.terms.proofs.TextOrder.{same_from}
 use Rattle.terms.specs.declared.kinds.HoldKind.{HoldKind}
 use Rattle.terms.specs.declared.kinds.HoldKind.TheVariants.{Error, System, User}
 use Rattle.terms.specs.declared.kinds.ElemType.{ElemType}

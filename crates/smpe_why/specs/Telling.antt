@@ -6,7 +6,7 @@ use Rattle.machine.specs.FactText.{facts_text, facts_code}
 use Rattle.machine.specs.Outcome.{Cm2}
 use Rattle.machine.specs.Report.{refused_text}
 use Rattle.store_schema.specs.Inventory.{Inventory}
-use Rattle.store_zone_loads.specs.Found.{zone_in}
+use Rattle.store_zones.specs.Found.{zone_in}
 use Rattle.smpe_why.specs.declared.found.Found.{Found}
 use Rattle.smpe_why.specs.declared.told.Told.{Told}
 

@@ -2,12 +2,12 @@
 use Rattle.std.proofs.Common.{◌≡◌, [], Ok, refl, sym, ap}
 use Rattle.terms.specs.Forms.{IsZoneName, IsSrel}
 use Rattle.machine.specs.State.{State, ZoneDefinition, define_zone}
-use Rattle.machine.specs.Machine.{Define, state_after, Prints}
+use Rattle.machine.specs.Machine.{Define, Steps, state_after}
 use Rattle.store_schema.specs.Inventory.{IsInventory}
 use Rattle.store.specs.declared.change.Change.TheVariants.{NewZone}
 use Rattle.store.specs.Changes.{Makes}
 use Rattle.smpe_zones.specs.Kept.{kept, LeadsOn}
-use Rattle.machine_keeps.proofs.Defined.{definition_kept, placed}
+use Rattle.machine_laws.proofs.Defined.{definition_kept, placed}
 
 module _ (s t : State) (d : ZoneDefinition) (is : define_zone s d ≡ Ok t) (inventory : IsInventory (kept s)) where
   pub makes : Makes (NewZone d.name d.kind d.srel d.related) (kept s) (kept t)
@@ -18,10 +18,10 @@ module _ (s t : State) (d : ZoneDefinition) (is : define_zone s d ≡ Ok t) (inv
   pub leads : IsZoneName d.name → IsSrel d.srel → IsInventory (kept t)
   leads name srel = definition_kept s t d name srel is inventory
 
-pub prints_none : (s t : State) (d : ZoneDefinition) → define_zone s d ≡ Ok t → Prints s (Define d) t []
-prints_none s t d is = ([], (sym (ap (state_after s) is), refl), refl)
+pub steps_defined : (s t : State) (d : ZoneDefinition) → define_zone s d ≡ Ok t → Steps s (Define d) t []
+steps_defined s t d is = (sym (ap (state_after s) is), refl)
 
 -- the change that adds the zone
 pub leads_on : (s t : State) (d : ZoneDefinition) → define_zone s d ≡ Ok t → IsInventory (kept s)
     → LeadsOn s (Define d) (NewZone d.name d.kind d.srel d.related)
-leads_on s t d is inventory = (refl, (t, [], prints_none s t d is, makes s t d is inventory))
+leads_on s t d is inventory = (refl, (t, [], steps_defined s t d is, makes s t d is inventory))

@@ -7,7 +7,7 @@ use Rattle.terms.specs.Types.{a_zone}
 use Rattle.machine.specs.State as state
 use Rattle.machine.specs.State.{State, ZoneDefinition, define_zone, with_zone, global_name, zone_named, Zn1, Zn2, Zn3}
 use Rattle.machine.specs.State.{Zn4}
-use Rattle.store_zone_loads.specs.Found.{head_of}
+use Rattle.store_zones.specs.Found.{head_of}
 use Rattle.smpe_zones.specs.declared.error.ZoneFault.{ZoneFault}
 use Rattle.smpe_zones.specs.declared.error.ZoneFault.TheVariants.{NameTaken, WrongRelated, OtherSrel, TooMany}
 use Rattle.smpe_zones.specs.Definitions.{fault_of}

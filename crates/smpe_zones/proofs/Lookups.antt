@@ -10,8 +10,8 @@ use Rattle.terms.specs.declared.kinds.ZoneKind.TheVariants.{Target, Distribution
 use Rattle.terms.specs.Types.{Text, Zone, NamedZone, is_distribution}
 use Rattle.machine.specs.State as state
 use Rattle.machine.specs.State.{zone_named}
-use Rattle.store_zone_loads.specs.declared.head.ZoneHead.{ZoneHead}
-use Rattle.store_zone_loads.specs.Found.{head_of}
+use Rattle.store_zones.specs.declared.head.ZoneHead.{ZoneHead}
+use Rattle.store_zones.specs.Found.{head_of}
 use Rattle.smpe_zones.specs.Heads.{named, names_it, is_free, has_right_related, has_same_srel}
 
 abbrev found : List NamedZone → Text → Option NamedZone

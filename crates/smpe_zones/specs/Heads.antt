@@ -8,7 +8,7 @@ use Rattle.terms.specs.declared.kinds.ZoneKind.{ZoneKind}
 use Rattle.terms.specs.declared.kinds.ZoneKind.TheVariants.{Target, Distribution}
 use Rattle.terms.specs.Types.{Text, is_distribution}
 use Rattle.machine.specs.State.{ZoneDefinition, global_name}
-use Rattle.store_zone_loads.specs.declared.head.ZoneHead.{ZoneHead}
+use Rattle.store_zones.specs.declared.head.ZoneHead.{ZoneHead}
 use Rattle.smpe_zones.specs.declared.error.ZoneFault.{ZoneFault}
 use Rattle.smpe_zones.specs.declared.error.ZoneFault.TheVariants.{NameTaken, WrongRelated, OtherSrel, TooMany}
 

@@ -1,5 +1,4 @@
 //! A zone is defined in the store.
-ghost use Rattle.std.specs.Prelude.{◌≡◌, ◌≤◌};
 ghost use Rattle.sqlite.specs.Held.{state};
 ghost use Rattle.sqlite.specs.State.{HasCleanDisk};
 ghost use Rattle.machine.specs.State.{State};
@@ -24,9 +23,6 @@ pub fn define_zone<S: Alter>(
     srel: Srel,
     related: Option<ZoneName>,
 ) -> Result<(), ZoneError>
-    ensures clean { HasCleanDisk (state S.Store store.new) → HasCleanDisk (state S.Store store.old) }
-    ensures faults { (state S.Store store.old).faults ≤ (state S.Store store.new).faults }
-    ensures limit { store.new.step_limit ≡ store.old.step_limit }
     ensures ended { HasCleanDisk (state S.Store store.new) → (s : State) → Keeps S.Store store.old s
         → HasDefined S.Store store.old store.new s (definition name kind srel related) result }
     ensures course { HasCourse S.Store store.old store.new (definition name kind srel related) result }

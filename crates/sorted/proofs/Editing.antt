@@ -15,9 +15,9 @@ use Rattle.std.proofs.lemmas.List.Kept.{AllPairs-filter}
 use Rattle.std.proofs.lemmas.List.{append-nil, take_all, get_or-drop, get_or_default, length-append}
 use Rattle.std.proofs.lemmas.List.Sums.{fold_more}
 use Rattle.std.proofs.Math.Seq.{drop-cons, get_or-append_seam}
-use Rattle.lemmas.proofs.Orderings.{Equal_from_is_eq, Less_from_is_lt}
-use Rattle.lemmas.proofs.Searches.{find_filter_all, find_filter_none, find_second, find_first, filter_all, filter_none}
-use Rattle.lemmas.proofs.Searches.{find_over}
+use Rattle.terms.proofs.Orderings.{Equal_from_is_eq, Less_from_is_lt}
+use Rattle.terms.proofs.Searches.{find_filter_all, find_filter_none, find_second, find_first, filter_all, filter_none}
+use Rattle.terms.proofs.Searches.{find_over}
 use Rattle.sorted.specs.declared.edits.Edit.{Edit}
 use Rattle.sorted.specs.declared.edits.Edit.TheVariants.{Put, Remove}
 use Rattle.terms.specs.Rising.{Rises, before, behind, with_item, without_key}
@@ -25,7 +25,7 @@ use Rattle.sorted.specs.Edits.{edit_key, edit_put, after_edit, edited, after_edi
 use Rattle.terms.proofs.RisingLists.{find_there, find_apart}
 use Rattle.terms.proofs.Placing.{Splits_cut, Splits_tied, Rises_with_item, Rises_without_key}
 use Rattle.terms.proofs.Placing.{with_item_agree, without_key_agree}
-use Rattle.lemmas.proofs.Pairs.{AllPairs_first, AllPairs_rest}
+use Rattle.terms.proofs.Pairs.{AllPairs_first, AllPairs_rest}
 
 -- Some edits are done: `new` has the items that no later edit is about, and `rest` those that one may be about.
 pub record IsEditing {X K : Type 0} (R : K → K → Ordering) (key : X → K) (items : List X) (edits : List (Edit X K))

@@ -12,9 +12,9 @@ use Rattle.std.proofs.lemmas.Cmp.{tied_itself}
 use Rattle.std.proofs.lemmas.List.Elements.{Contains-append_left, Contains-append_right, Contains-append_cases}
 use Rattle.std.proofs.lemmas.List.Elements.{Contains-push, Contains-push_cases}
 use Rattle.std.proofs.lemmas.Map.Lookups.{CmpEqualImpliesEq}
-use Rattle.lemmas.proofs.Members.{here, none_in, flat_in, in_flat}
-use Rattle.lemmas.proofs.Lists.{front_more}
-use Rattle.lemmas.proofs.Orderings.{Equal_from_is_eq}
+use Rattle.terms.proofs.ListMembers.{here, none_in, flat_in, in_flat}
+use Rattle.terms.proofs.Lists.{front_more}
+use Rattle.terms.proofs.Orderings.{Equal_from_is_eq}
 use Rattle.sorted.specs.Lists.{Lists, listed, Adds, AddsToAll, once_each, Gains, Holds, OneOf}
 
 itself : {K : Type 0} (cmp : K → K → Ordering) → IsTotalOrder cmp → (k : K) → is_eq (cmp k k) ≡ true

@@ -5,12 +5,12 @@ use Rattle.std.specs.Prelude.{Contains, find, fold, Some}
 use Rattle.std.specs.declared.cmp.Ordering.{Ordering}
 use Rattle.std.specs.Ordering.{is_eq}
 use Rattle.std.specs.Cmp.{IsTotalOrder}
-use Rattle.lemmas.proofs.Orderings.{Equal_from_is_eq}
+use Rattle.terms.proofs.Orderings.{Equal_from_is_eq}
 use Rattle.sorted.specs.declared.edits.Edit.TheVariants.{Put}
 use Rattle.terms.specs.Rising.{Rises, with_item}
 use Rattle.terms.proofs.RisingLists.{find_there, Splits_around}
 use Rattle.sorted.proofs.Editing.{find_after_edit}
-use Rattle.lemmas.proofs.Members.{here, there, here_or, none_in, parts}
+use Rattle.terms.proofs.ListMembers.{here, there, here_or, none_in, parts}
 
 module _ {X K : Type 0} {R : K → K → Ordering} (o : IsTotalOrder R) (key : X → K) (E : K → K → Bool)
     (ties : (a b : K) → E a b ≡ is_eq (R a b)) where

@@ -10,8 +10,8 @@ use Rattle.std.specs.Cmp.{IsTotalOrder}
 use Rattle.std.specs.BTreeMap.{get, UpdatesBy}
 use Rattle.std.proofs.lemmas.List.Concat.{flat_map-append}
 use Rattle.std.proofs.lemmas.Option.{same_Some}
-use Rattle.lemmas.proofs.Lists.{front_more}
-use Rattle.lemmas.proofs.Orderings.{Equal_from_is_eq}
+use Rattle.terms.proofs.Lists.{front_more}
+use Rattle.terms.proofs.Orderings.{Equal_from_is_eq}
 use Rattle.sorted.specs.Lists.{Lists, listed, AreSome, Adds, AddsToAll, once_each}
 
 not_nil : {V : Type 0} (l : List V) (x : V) → l ++ x ∷ [] ≢ []

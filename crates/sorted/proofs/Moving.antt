@@ -7,8 +7,8 @@ use Rattle.std.specs.Ordering.{is_lt}
 use Rattle.std.specs.Cmp.{IsTotalOrder}
 use Rattle.std.proofs.lemmas.List.Elements.{All-cons}
 use Rattle.std.proofs.lemmas.Bool.{false≢true}
-use Rattle.lemmas.proofs.Orderings.{Less_from_is_lt}
-use Rattle.lemmas.proofs.Pairs.{AllPairs_first}
+use Rattle.terms.proofs.Orderings.{Less_from_is_lt}
+use Rattle.terms.proofs.Pairs.{AllPairs_first}
 use Rattle.terms.specs.Rising.{Rises, before, behind, Splits}
 use Rattle.terms.proofs.RisingLists.{before_apart, behind_apart, before_around, behind_around, Splits_around}
 

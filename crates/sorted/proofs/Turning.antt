@@ -8,7 +8,7 @@ use Rattle.std.specs.declared.cmp.Ordering.{Ordering}
 use Rattle.std.specs.Ordering.{is_eq}
 use Rattle.std.specs.Cmp.{IsTotalOrder}
 use Rattle.std.proofs.lemmas.List.Elements.{All-nil}
-use Rattle.lemmas.proofs.Booleans.{or_false}
+use Rattle.terms.proofs.Booleans.{or_false}
 use Rattle.sorted.specs.declared.edits.Edit.{Edit}
 use Rattle.sorted.specs.Edits.{edit_key, edit_put, after_edits}
 use Rattle.terms.specs.Rising.{with_item}

@@ -158,8 +158,8 @@ impl<T: Keyed + TryClone> Table<T> {
         })
     }
 
-    /// Makes the edits, in time that goes with the number of items and edits. What stays and what an edit puts is moved,
-    /// and nothing takes memory.
+    /// Makes the edits, in time that goes with the number of items and edits. What stays and what an edit puts is
+    /// moved, and nothing takes memory.
     pub fn edit(&mut self, prepared: Prepared<T>)
         requires { length self.old + length prepared.edits ≤ prepared.room }
         ensures { self.new ≡ edited T.Key.cmp T.key_of self.old prepared.edits }

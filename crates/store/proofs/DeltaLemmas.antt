@@ -8,9 +8,9 @@ use Rattle.std.specs.Str.{bytes_eq}
 use Rattle.std.specs.Cmp.Lexicographic.{slice_cmp, texts_ties}
 use Rattle.std.proofs.lemmas.Cmp.{nat_list_cmp_total}
 use Rattle.std.proofs.lemmas.List.Sums.{fold_more}
-use Rattle.lemmas.proofs.Each.{All_middle}
-use Rattle.lemmas.proofs.Lists.{front_more}
-use Rattle.lemmas.proofs.Pairs.{AllPairs_front}
+use Rattle.terms.proofs.Each.{All_middle}
+use Rattle.terms.proofs.Lists.{front_more}
+use Rattle.terms.proofs.Pairs.{AllPairs_front}
 use Rattle.sqlite.specs.Store.{Ghosts}
 use Rattle.sqlite.specs.Held.{Held}
 use Rattle.terms.specs.declared.kinds.ElemType.{ElemType}

@@ -5,9 +5,9 @@ use Rattle.std.specs.Option.{option_map_or, option_to_list}
 use Rattle.std.specs.declared.cmp.Ordering.{Ordering}
 use Rattle.std.specs.Ordering.{is_lt, is_eq}
 use Rattle.std.specs.Cmp.{IsTotalOrder}
-use Rattle.lemmas.proofs.Orderings.{Less_from_is_lt}
-use Rattle.lemmas.proofs.Pairs.{AllPairs_front, AllPairs_parts, AllPairs_rest}
-use Rattle.lemmas.proofs.Searches.{find_over}
+use Rattle.terms.proofs.Orderings.{Less_from_is_lt}
+use Rattle.terms.proofs.Pairs.{AllPairs_front, AllPairs_parts, AllPairs_rest}
+use Rattle.terms.proofs.Searches.{find_over}
 use Rattle.sorted.specs.declared.edits.Edit.{Edit}
 use Rattle.sorted.specs.Edits.{edit_key, edit_put, edited}
 use Rattle.sorted.proofs.Editing.{find_edited, Rises_edited}

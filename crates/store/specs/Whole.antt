@@ -12,8 +12,8 @@ use Rattle.store_schema.specs.Forms.{HasHoldForms}
 use Rattle.store_schema.specs.Rows.{hold_row}
 use Rattle.store_schema.specs.Tables.{hold, store_schema}
 use Rattle.store_sysmod_loads.specs.Flats.{AreFormed, AreRowsOf}
-use Rattle.store_zone_loads.specs.Found.{head_of}
-use Rattle.store_zone_loads.specs.Held.{HoldsZone, HoldsNumbers, HoldsHeads}
+use Rattle.store_zones.specs.Found.{head_of}
+use Rattle.store_zones.specs.Held.{HoldsZone, HoldsNumbers, HoldsHeads}
 
 -- the rows of the SYSMODs and of the holds, which have their forms
 pub record HoldsLists (schema : Schema) (contents : Contents) (sysmods : List Sysmod) (holds : List Hold) :

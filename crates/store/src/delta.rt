@@ -1,9 +1,9 @@
 //! What a delta puts and removes, written in a transaction that is open.
 
-ghost use Rattle.std.specs.Prelude.{◌≡◌, OnOk};
+ghost use Rattle.std.specs.Prelude.{OnOk};
 ghost use Rattle.std.specs.List.{flat_map};
 ghost use Rattle.store_rows.specs.Calls.{RunsInside};
-ghost use Rattle.store_rows.specs.Inside.{StaysInside};
+ghost use Rattle.store_rows.specs.Inside.{Continues};
 ghost use Rattle.store.specs.Calls.{entry_calls, element_calls, delta_calls};
 ghost use Rattle.store_zones.specs.Zones.{ChangesZone};
 ghost use Rattle.store.specs.Writes.{EditsEntry, EditsEntries, EditsElement, EditsElements, HasEdited};
@@ -23,8 +23,7 @@ fn edit_entry<S: Alter>(
     zone: &Zone,
     edit: &Edit<Entry, Id>,
 ) -> Result<(), Error>
-    ensures same_reference { tx.new.conn.ghost_name ≡ tx.old.conn.ghost_name }
-    ensures inside { StaysInside S.Store tx.old.conn.now tx.new.conn.now }
+    ensures continues { Continues S.Store tx.old tx.new }
     ensures calls { RunsInside S.Store (entry_calls name zone.now edit.now)
         tx.old.conn.now tx.new.conn.now result }
     ensures ok { OnOk result (ChangesZone S.Store tx.old.conn.now tx.new.conn.now name
@@ -43,8 +42,7 @@ fn edit_element<S: Alter>(
     zone: &Zone,
     edit: &Edit<Element, (ElemType, Name)>,
 ) -> Result<(), Error>
-    ensures same_reference { tx.new.conn.ghost_name ≡ tx.old.conn.ghost_name }
-    ensures inside { StaysInside S.Store tx.old.conn.now tx.new.conn.now }
+    ensures continues { Continues S.Store tx.old tx.new }
     ensures calls { RunsInside S.Store (element_calls name zone.now edit.now)
         tx.old.conn.now tx.new.conn.now result }
     ensures ok { OnOk result (ChangesZone S.Store tx.old.conn.now tx.new.conn.now name
@@ -66,8 +64,7 @@ fn edit_entries<S: Alter>(
     zone: &Zone,
     edits: &[Edit<Entry, Id>],
 ) -> Result<(), Error>
-    ensures same_reference { tx.new.conn.ghost_name ≡ tx.old.conn.ghost_name }
-    ensures inside { StaysInside S.Store tx.old.conn.now tx.new.conn.now }
+    ensures continues { Continues S.Store tx.old tx.new }
     ensures calls { RunsInside S.Store (flat_map (entry_calls name zone.now) edits.now)
         tx.old.conn.now tx.new.conn.now result }
     ensures ok { OnOk result (ChangesZone S.Store tx.old.conn.now tx.new.conn.now name
@@ -86,8 +83,7 @@ fn edit_elements<S: Alter>(
     zone: &Zone,
     edits: &[Edit<Element, (ElemType, Name)>],
 ) -> Result<(), Error>
-    ensures same_reference { tx.new.conn.ghost_name ≡ tx.old.conn.ghost_name }
-    ensures inside { StaysInside S.Store tx.old.conn.now tx.new.conn.now }
+    ensures continues { Continues S.Store tx.old tx.new }
     ensures calls { RunsInside S.Store (flat_map (element_calls name zone.now) edits.now)
         tx.old.conn.now tx.new.conn.now result }
     ensures ok { OnOk result (ChangesZone S.Store tx.old.conn.now tx.new.conn.now name
@@ -107,8 +103,7 @@ pub(crate) fn write_delta<S: Alter>(
     zone: &Zone,
     delta: &ZoneDelta,
 ) -> Result<(), Error>
-    ensures same_reference { tx.new.conn.ghost_name ≡ tx.old.conn.ghost_name }
-    ensures inside { StaysInside S.Store tx.old.conn.now tx.new.conn.now }
+    ensures continues { Continues S.Store tx.old tx.new }
     ensures calls { RunsInside S.Store (delta_calls name zone.now delta.now)
         tx.old.conn.now tx.new.conn.now result }
     ensures ok { OnOk result (ChangesZone S.Store tx.old.conn.now tx.new.conn.now name

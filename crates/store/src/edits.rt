@@ -1,9 +1,9 @@
 //! Edits of the global zone, written in a transaction that is open.
 
-ghost use Rattle.std.specs.Prelude.{◌≡◌, OnOk};
+ghost use Rattle.std.specs.Prelude.{OnOk};
 ghost use Rattle.std.specs.List.{flat_map};
 ghost use Rattle.store_rows.specs.Calls.{RunsInside};
-ghost use Rattle.store_rows.specs.Inside.{StaysInside};
+ghost use Rattle.store_rows.specs.Inside.{Continues};
 ghost use Rattle.store.specs.Calls.{edit_calls};
 ghost use Rattle.store_sysmods.specs.Sysmods.{ChangesGlobal};
 ghost use Rattle.sysmods.specs.Edits.{Fits, after_edit, EachFits, after_edits};
@@ -18,8 +18,7 @@ fn write_edit<S: Alter>(
     tx: &mut Transaction<'_, S>,
     edit: &GlobalEdit,
 ) -> Result<(), Error>
-    ensures same_reference { tx.new.conn.ghost_name ≡ tx.old.conn.ghost_name }
-    ensures inside { StaysInside S.Store tx.old.conn.now tx.new.conn.now }
+    ensures continues { Continues S.Store tx.old tx.new }
     ensures calls { RunsInside S.Store (edit_calls edit.now) tx.old.conn.now tx.new.conn.now result }
     ensures ok { OnOk result (ChangesGlobal S.Store tx.old.conn.now tx.new.conn.now (λ g. Fits g edit.now)
         (λ g. after_edit g edit.now)) }
@@ -38,8 +37,7 @@ pub(crate) fn write_edits<S: Alter>(
     tx: &mut Transaction<'_, S>,
     edits: &[GlobalEdit],
 ) -> Result<(), Error>
-    ensures same_reference { tx.new.conn.ghost_name ≡ tx.old.conn.ghost_name }
-    ensures inside { StaysInside S.Store tx.old.conn.now tx.new.conn.now }
+    ensures continues { Continues S.Store tx.old tx.new }
     ensures calls { RunsInside S.Store (flat_map edit_calls edits.now) tx.old.conn.now tx.new.conn.now result }
     ensures ok { OnOk result (ChangesGlobal S.Store tx.old.conn.now tx.new.conn.now (EachFits edits.now)
         (after_edits edits.now)) }

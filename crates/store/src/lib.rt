@@ -22,5 +22,5 @@ pub use law::found_again;
 pub use load::told;
 pub use open::Store;
 pub use store_schema::StoreError;
-pub use store_zone_loads::ZoneHead;
+pub use store_zones::ZoneHead;
 pub use sysmods::GlobalEdit;

@@ -3,7 +3,7 @@
 ghost use Rattle.std.specs.Prelude.{◌≡◌, map, IfOk};
 ghost use Rattle.sqlite.specs.Held.{state};
 ghost use Rattle.sqlite.specs.State.{HasCleanDisk};
-ghost use Rattle.store_zone_loads.specs.Found.{zone_in, head_of};
+ghost use Rattle.store_zones.specs.Found.{zone_in, head_of};
 ghost use Rattle.store.specs.Loads.{Loads, store_error, told};
 ghost use Rattle.store.specs.Whole.{ShowsGlobal};
 
@@ -13,7 +13,7 @@ use fields::ZoneName;
 use sqlite::Alter;
 use store_rows::ReadError;
 use store_schema::{Schema, StoreError};
-use store_zone_loads::ZoneHead;
+use store_zones::ZoneHead;
 use sysmods::GlobalZone;
 use zones::Zone;
 
@@ -39,13 +39,13 @@ pub fn told<T>(read: Result<T, ReadError>) -> Result<T, StoreError>
 }
 
 impl<S: Alter> Store<S> {
-    /// The global zone, also where the rows of zones stand for none. `Memory` comes where memory runs out, `Fault` where
-    /// the database fails, and `NoState` where the rows of the global zone stand for none.
+    /// The global zone, also where the rows of zones stand for none. `Memory` comes where memory runs out, `Fault`
+    /// where the database fails, and `NoState` where the rows of the global zone stand for none.
     pub fn load_global(&mut self) -> Result<GlobalZone, StoreError>
         ensures loads { Loads S.Store self.old self.new (λ i global. global ≡ i.global) result }
         ensures rows { HasCleanDisk (state S.Store self.new) → IfOk result (ShowsGlobal S.Store self.old) }
     {
-        // So what the connection shows is what it last committed.
+        // In no transaction, the connection shows what it last committed.
         prove!(self.conn.is_autocommit());
         told(load_global(self.alloc, &mut self.conn))
     }
@@ -55,9 +55,9 @@ impl<S: Alter> Store<S> {
     pub fn load_zone(&mut self, name: ZoneName) -> Result<Option<Zone>, StoreError>
         ensures { Loads S.Store self.old self.new (λ i zone. zone ≡ zone_in i name) result }
     {
-        // So what the connection shows is what it last committed.
+        // In no transaction, the connection shows what it last committed.
         prove!(self.conn.is_autocommit());
-        told(store_zone_loads::load_zone(self.alloc, &mut self.conn, Schema::Third, name))
+        told(store_zones::load_zone(self.alloc, &mut self.conn, Schema::Third, name))
     }
 
     /// All zones without their entries and elements, rising by name. `Memory` comes where memory runs out, `Fault`
@@ -65,9 +65,9 @@ impl<S: Alter> Store<S> {
     pub fn zone_heads(&mut self) -> Result<Vec<ZoneHead>, StoreError>
         ensures { Loads S.Store self.old self.new (λ i heads. heads.items ≡ map head_of i.zones) result }
     {
-        // So what the connection shows is what it last committed.
+        // In no transaction, the connection shows what it last committed.
         prove!(self.conn.is_autocommit());
-        told(store_zone_loads::zone_heads(self.alloc, &mut self.conn))
+        told(store_zones::zone_heads(self.alloc, &mut self.conn))
     }
 
     /// The names of all zones, rising. `Memory` comes where memory runs out, `Fault` where the database fails, and
@@ -75,8 +75,8 @@ impl<S: Alter> Store<S> {
     pub fn zone_names(&mut self) -> Result<Vec<ZoneName>, StoreError>
         ensures { Loads S.Store self.old self.new (λ i names. names.items ≡ map (λ z. z.name) i.zones) result }
     {
-        // So what the connection shows is what it last committed.
+        // In no transaction, the connection shows what it last committed.
         prove!(self.conn.is_autocommit());
-        told(store_zone_loads::zone_names(self.alloc, &mut self.conn))
+        told(store_zones::zone_names(self.alloc, &mut self.conn))
     }
 }

@@ -78,7 +78,7 @@ impl<S: Alter> Store<S> {
             (IsSetUp (state S.Store conn).now)) }
         ensures mode { IfErr result (λ e. e.0.in_transaction ≡ false) }
     {
-        // So what the connection shows is what it last committed.
+        // In no transaction, the connection shows what it last committed.
         prove!(conn.is_autocommit());
         match set_up(alloc, &mut conn) {
             Ok(()) => Ok(Store { conn, alloc }),
@@ -116,7 +116,7 @@ impl<S: Alter> Store<S> {
             → HasCause S.Store self.old self.new i (λ own. own ≡ change.now) }
         ensures clean { HasCleanDisk (state S.Store self.new) → HasCleanDisk (state S.Store self.old) }
     {
-        // So what the connection shows is what it last committed.
+        // In no transaction, the connection shows what it last committed.
         prove!(self.conn.is_autocommit());
         commit_change(self.alloc, &mut self.conn, change)?;
         Ok(())

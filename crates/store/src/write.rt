@@ -6,7 +6,7 @@ ghost use Rattle.sqlite.specs.declared.error.ErrorCode.TheVariants.{OutOfMemory}
 ghost use Rattle.sqlite.specs.Held.{state};
 ghost use Rattle.sqlite.specs.State.{HasCleanDisk, Survives};
 ghost use Rattle.store_rows.specs.Calls.{RunsInside};
-ghost use Rattle.store_rows.specs.Inside.{StaysInside};
+ghost use Rattle.store_rows.specs.Inside.{Continues};
 ghost use Rattle.store.specs.Calls.{calls_of, FailsToWrite};
 ghost use Rattle.store.specs.Commits.{OnlyCommits};
 ghost use Rattle.store.specs.Writes.{Writes, CommitsChange, IsChangeOutcome};
@@ -24,8 +24,7 @@ fn write<S: Alter>(
     tx: &mut Transaction<'_, S>,
     change: &Change<'_>,
 ) -> Result<(), Error>
-    ensures same_reference { tx.new.conn.ghost_name ≡ tx.old.conn.ghost_name }
-    ensures inside { StaysInside S.Store tx.old.conn.now tx.new.conn.now }
+    ensures continues { Continues S.Store tx.old tx.new }
     ensures calls { RunsInside S.Store (calls_of change.now) tx.old.conn.now tx.new.conn.now result }
     ensures ok { OnOk result (Writes S.Store tx.old.conn.now change.now tx.new.conn.now) }
 {
@@ -57,7 +56,7 @@ pub(crate) fn commit_change<S: Alter>(
         (IsChangeOutcome S.Store conn.old change.now) }
     ensures mode { conn.new.in_transaction ≡ false }
 {
-    // So what the connection shows is what it last committed.
+    // In no transaction, the connection shows what it last committed.
     prove!(conn.is_autocommit());
     let mut tx = conn.transaction();
     write(alloc, &mut tx, change)?;

@@ -1,12 +1,13 @@
 -- Zones that are read one after the other.
-use Rattle.std.proofs.Common.{◌≡◌, ◌<◌, ◌≤◌, ◌+◌, ℕ, inl, inr, Bool, true, false, List, [], ◌∷◌, ◌++◌, map, take, length}
+use Rattle.std.proofs.Common.{◌≡◌, ◌<◌, ◌≤◌, ◌+◌, ℕ, inl, inr, Bool}
+use Rattle.std.proofs.Common.{true, false, List, [], ◌∷◌, ◌++◌, map, take, length}
 use Rattle.std.proofs.Common.{get_or, Option, Some, None, Result, Ok, refl, sym, ap, subst, ◌∙◌, arith}
 use Rattle.std.specs.Prelude.{IsSome, IsTrue, find, option_map}
 use Rattle.std.specs.List.{AllByRecursion}
 use Rattle.std.specs.Str.{bytes_eq}
 use Rattle.std.proofs.lemmas.List.{map-append, take_more, take_all}
-use Rattle.lemmas.proofs.Each.{recursion_append}
-use Rattle.lemmas.proofs.Texts.{same_itself}
+use Rattle.terms.proofs.Each.{recursion_append}
+use Rattle.terms.proofs.TextOrder.{same_itself}
 use Rattle.sqlite.specs.Held.{Held, state}
 use Rattle.sqlite.specs.Schema.{Schema as SqliteSchema}
 use Rattle.sqlite.specs.State.{HasCleanDisk}
@@ -25,11 +26,11 @@ use Rattle.terms.specs.Types.{Zone, NamedZone}
 use Rattle.store_schema.specs.declared.schema.Schema.{Schema}
 use Rattle.store_schema.specs.Inventory.{Inventory}
 use Rattle.store_schema.specs.Tables.{zone}
-use Rattle.store_zone_loads.proofs.Heads.{same_head}
-use Rattle.store_zone_loads.specs.declared.head.ZoneHead.{ZoneHead}
-use Rattle.store_zone_loads.specs.Found.{head_of, zone_in}
-use Rattle.store_zone_loads.specs.Held.{name_key, HoldsZone, HoldsUnder, HoldsNumbers, HoldsHeads}
-use Rattle.store_zone_loads.specs.Read.{head_row}
+use Rattle.store_zones.proofs.Heads.{same_head}
+use Rattle.store_zones.specs.declared.head.ZoneHead.{ZoneHead}
+use Rattle.store_zones.specs.Found.{head_of, zone_in}
+use Rattle.store_zones.specs.Held.{name_key, HoldsZone, HoldsUnder, HoldsNumbers, HoldsHeads}
+use Rattle.store_zones.specs.Heads.{head_row}
 use Rattle.store.specs.Whole.{HoldsZones}
 
 -- nothing failed

@@ -10,9 +10,9 @@ use Rattle.sqlite.specs.Order.{Row}
 use Rattle.terms.specs.Types.{Id, Sysmod}
 use Rattle.terms.specs.Spelling.{kind_text}
 use Rattle.terms.specs.Rising.{Rises}
-use Rattle.lemmas.proofs.Orderings.{Less_from_is_lt}
-use Rattle.lemmas.proofs.Pairs.{AllPairs_first, AllPairs_rest}
-use Rattle.lemmas.proofs.Texts.{same_itself, same_back, other_from_less}
+use Rattle.terms.proofs.Orderings.{Less_from_is_lt}
+use Rattle.terms.proofs.Pairs.{AllPairs_first, AllPairs_rest}
+use Rattle.terms.proofs.TextOrder.{same_itself, same_back, other_from_less}
 use Rattle.store_rows.specs.Rows.{has_key, in_place}
 use Rattle.store_rows.proofs.Keys.{equals, and_true}
 use Rattle.store_schema.specs.Earlier.{first_sysmod_row}

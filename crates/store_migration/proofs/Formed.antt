@@ -6,7 +6,7 @@ use Rattle.std.specs.List.{AllByRecursion}
 use Rattle.std.specs.Ordering.{is_lt, nat_cmp}
 use Rattle.std.specs.Cmp.Lexicographic.{slice_cmp}
 use Rattle.std.proofs.lemmas.List.Elements.{All-from_recursion, recursion_from_All}
-use Rattle.lemmas.proofs.Each.{recursion_weaker, recursion_front, recursion_back, recursion_unmap}
+use Rattle.terms.proofs.Each.{recursion_weaker, recursion_front, recursion_back, recursion_unmap}
 use Rattle.terms.specs.declared.kinds.Kind.{Kind}
 use Rattle.terms.specs.declared.kinds.Kind.TheVariants.{Function, Ptf, Apar, Usermod}
 use Rattle.terms.specs.declared.kinds.ElemType.{ElemType}
@@ -18,7 +18,7 @@ use Rattle.store_schema.specs.Earlier.{HasShortSources}
 use Rattle.store_schema.specs.Rows.{numbered_behind}
 use Rattle.store_schema.specs.declared.schema.Schema.{Schema}
 use Rattle.store_schema.specs.declared.schema.Schema.TheVariants.{First, Second, Third}
-use Rattle.lemmas.proofs.Orderings.{lower_first}
+use Rattle.terms.proofs.Orderings.{lower_first}
 use Rattle.store_schema.proofs.Numbered.{numbered_is}
 use Rattle.store_sysmod_loads.specs.Built.{MayDo, IsBuilt}
 use Rattle.store_sysmods.specs.Heads.{HasHeadForms, HasFormsUnder}

@@ -25,14 +25,14 @@ use Rattle.sqlite_rules.proofs.ListLemmas.{all_has, some_has}
 use Rattle.sqlite_rules.proofs.KeyLemmas.{agree_back}
 use Rattle.store_rows.specs.Rows.{Contents, HasContents, AreRows, has_key, shown}
 use Rattle.store_rows.proofs.RowLemmas.{has_permuted, mapped, unmapped}
-use Rattle.lemmas.proofs.Booleans.{false_from_not}
+use Rattle.terms.proofs.Booleans.{false_from_not}
 use Rattle.terms.specs.Types.{NamedZone}
 use Rattle.store_schema.specs.declared.schema.Schema.{Schema}
 use Rattle.store_schema.specs.declared.schema.Schema.TheVariants.{First, Second, Third}
 use Rattle.store_schema.specs.Earlier.{schema_under, tables_under}
 use Rattle.store_schema.specs.Rows.{zone_row}
 use Rattle.store_schema.specs.Tables.{zone, entry, zelem, chosen, refers_to}
-use Rattle.store_zone_loads.specs.Held.{name_key}
+use Rattle.store_zones.specs.Held.{name_key}
 
 abbrev pub to_zone : Reference
 to_zone = refers_to (codes "zone") (codes "name") NoAction

@@ -4,7 +4,7 @@ use Rattle.std.proofs.Common.{refl, sym, subst}
 use Rattle.std.specs.List.{AllByRecursion, flat_map}
 use Rattle.std.proofs.lemmas.List.Elements.{All-from_recursion}
 use Rattle.std.proofs.lemmas.List.Sorted.{IsPermutation-refl, IsPermutation-sym, IsPermutation-trans}
-use Rattle.lemmas.proofs.Each.{recursion_weaker}
+use Rattle.terms.proofs.Each.{recursion_weaker}
 use Rattle.sqlite.specs.Effect.{Database, IsDatabase}
 use Rattle.sqlite.specs.Schema.{Schema as SqliteSchema}
 use Rattle.sqlite.specs.Table.{Table}
@@ -23,8 +23,8 @@ use Rattle.store_schema.specs.Inventory.{Inventory, IsInventory, IsZoneNamed}
 use Rattle.store_schema.specs.Known.{HasTablesUnder}
 use Rattle.store_schema.specs.Rows.{setting_row, zone_row, entries_of, zelems_of, chosen_of}
 use Rattle.store_schema.specs.Tables.{meta, zone, entry, zelem, chosen}
-use Rattle.store_columns.proofs.Schemas.{rows_under}
-use Rattle.store_zone_loads.specs.Held.{HoldsZone, HoldsNumbers}
+use Rattle.store_schema.proofs.UnderEach.{rows_under}
+use Rattle.store_zones.specs.Held.{HoldsZone, HoldsNumbers}
 use Rattle.store_migration.specs.Migrated.{HasRowids}
 use Rattle.store.specs.Whole.{HoldsGlobal, HoldsZones}
 use Rattle.store_migration.proofs.Formed.{sysmods_forms, short_sources}

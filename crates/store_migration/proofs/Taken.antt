@@ -6,8 +6,8 @@ use Rattle.std.proofs.lemmas.List.{append_assoc}
 use Rattle.std.proofs.lemmas.List.Sorted.{IsPermutation-refl, IsPermutation-sym, IsPermutation-trans}
 use Rattle.std.proofs.lemmas.List.Sorted.{IsPermutation-middle, IsPermutation-append_left, IsPermutation-append_right}
 use Rattle.std.proofs.lemmas.List.Sorted.{IsPermutation-append_comm}
-use Rattle.lemmas.proofs.Each.{recursion_append}
-use Rattle.lemmas.proofs.Texts.{same_itself}
+use Rattle.terms.proofs.Each.{recursion_append}
+use Rattle.terms.proofs.TextOrder.{same_itself}
 use Rattle.sqlite.specs.declared.types.Value.TheVariants.{Int, Text}
 use Rattle.sqlite.specs.Effect.{Database}
 use Rattle.sqlite.specs.Order.{Row}
@@ -25,7 +25,7 @@ use Rattle.store_schema.specs.Rows.{chosen_of}
 use Rattle.store_schema.specs.Stands.{StandsFor, rows_of}
 use Rattle.store_schema.specs.Tables.{store_schema}
 use Rattle.store_schema.proofs.Singles.{no_morevers, no_moreifs, no_chosen}
-use Rattle.store_columns.proofs.Schemas.{rows_under}
+use Rattle.store_schema.proofs.UnderEach.{rows_under}
 use Rattle.store_migration.specs.Moved.{head_of, bare_row, with_source, with_moved, with_number}
 use Rattle.store_migration.specs.TakenOver.{heads_under}
 use Rattle.store_migration.specs.declared.head.Head.{Head}

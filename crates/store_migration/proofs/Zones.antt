@@ -7,11 +7,11 @@ use Rattle.std.specs.Ordering.{is_lt, nat_cmp}
 use Rattle.std.specs.Cmp.Lexicographic.{slice_cmp}
 use Rattle.std.specs.Str.{bytes_eq}
 use Rattle.std.proofs.lemmas.List.Elements.{All-from_recursion}
-use Rattle.lemmas.proofs.Each.{any_none, any_cases, recursion_weaker, recursion_unmap}
-use Rattle.lemmas.proofs.Members.{here, there}
-use Rattle.lemmas.proofs.Orderings.{Less_from_is_lt}
-use Rattle.lemmas.proofs.Pairs.{AllPairs_first, AllPairs_rest, pairs_map, pairs_unmap}
-use Rattle.lemmas.proofs.Texts.{other_from_less}
+use Rattle.terms.proofs.Each.{any_none, any_cases, recursion_weaker, recursion_unmap}
+use Rattle.terms.proofs.ListMembers.{here, there}
+use Rattle.terms.proofs.Orderings.{Less_from_is_lt}
+use Rattle.terms.proofs.Pairs.{AllPairs_first, AllPairs_rest, pairs_map, pairs_unmap}
+use Rattle.terms.proofs.TextOrder.{other_from_less}
 use Rattle.std.proofs.lemmas.List.Elements.{All-head, All-tail, recursion_from_All}
 use Rattle.std.proofs.lemmas.Bool.{and_parts}
 use Rattle.sqlite.specs.declared.types.Value.TheVariants.{Null, Text}
@@ -33,11 +33,11 @@ use Rattle.store_schema.specs.Earlier.{schema_under}
 use Rattle.store_schema.specs.Inventory.{IsRelated, AreApart}
 use Rattle.store_schema.specs.Rows.{zone_row, entries_of, zelems_of}
 use Rattle.store_schema.specs.Tables.{zone, entry, zelem}
-use Rattle.store_zone_loads.specs.declared.head.ZoneHead.{ZoneHead}
-use Rattle.store_zone_loads.specs.Found.{head_of}
-use Rattle.store_zone_loads.specs.Held.{name_key, rows_named, HoldsZone}
-use Rattle.store_zone_loads.specs.Read.{HasHeadForms}
-use Rattle.store_zone_loads.specs.Related.{IsDistributionOf, IsRelatedAmong, HeadsAreApart, AreRelated}
+use Rattle.store_zones.specs.declared.head.ZoneHead.{ZoneHead}
+use Rattle.store_zones.specs.Found.{head_of}
+use Rattle.store_zones.specs.Held.{name_key, rows_named, HoldsZone}
+use Rattle.store_zones.specs.Heads.{HasHeadForms}
+use Rattle.store_zones.specs.Related.{IsDistributionOf, IsRelatedAmong, HeadsAreApart, AreRelated}
 use Rattle.store.specs.Whole.{HoldsZones}
 use Rattle.store_migration.proofs.Parents.{Refers, names_zone, entry_refers, element_refers, zone_listed}
 use Rattle.store_migration.proofs.Parted.{AllApart, parted}
@@ -138,7 +138,7 @@ module _ (r : Schema) (contents : Contents) (db : Database) (zones : List NamedZ
   zone_rows : IsPermutation (map zone_row zones) (contents zone.tree)
   zone_rows = subst (λ rows. IsPermutation rows (contents zone.tree)) (rows_are zones) h.heads.rows
     where
-      rows_are : (zs : List NamedZone) → map Rattle.store_zone_loads.specs.Read.head_row (map head_of zs) ≡ map zone_row zs
+      rows_are : (zs : List NamedZone) → map Rattle.store_zones.specs.Heads.head_row (map head_of zs) ≡ map zone_row zs
       rows_are [] = refl
       rows_are (z ∷ zs) = ap (λ rows. zone_row z ∷ rows) (rows_are zs)
 

@@ -16,9 +16,9 @@ use Rattle.store_schema.specs.Inventory.{Inventory}
 use Rattle.store_schema.specs.Known.{HasTablesUnder}
 use Rattle.store_migration.specs.declared.head.Head.{Head}
 use Rattle.store_migration.specs.TakenOver.{heads_under}
-use Rattle.store_zone_loads.specs.declared.head.ZoneHead.{ZoneHead}
-use Rattle.store_zone_loads.specs.Found.{head_of}
-use Rattle.store_zone_loads.specs.Held.{HoldsHeads}
+use Rattle.store_zones.specs.declared.head.ZoneHead.{ZoneHead}
+use Rattle.store_zones.specs.Found.{head_of}
+use Rattle.store_zones.specs.Held.{HoldsHeads}
 use Rattle.store_migration.specs.Migrated.{HasRowids}
 use Rattle.store.specs.Whole.{HoldsZones}
 

@@ -8,15 +8,14 @@ use Rattle.store_rows.specs.Rows.{Contents, in_table, with_row, in_place}
 use Rattle.store_schema.specs.Rows.{ids, source_row, number_row}
 use Rattle.store_schema.specs.Tables.{meta, sysmod, source}
 use Rattle.store_migration.specs.declared.head.Head.{Head}
-
-abbrev pub insert_source : List ℕ
-insert_source = codes "INSERT INTO source (id, name) VALUES (?1, ?2)"
+use Rattle.store_migration.specs.declared.number.TheConstants as ForNumber
+use Rattle.store_migration.specs.declared.sources.TheConstants as ForSysmod
 
 abbrev pub replace_sysmod : List ℕ
-replace_sysmod = codes "UPDATE sysmod SET id = ?1, kind = ?2, sources = ?3 WHERE id = ?1"
+replace_sysmod = ForSysmod.REPLACE.now
 
 abbrev pub replace_number : List ℕ
-replace_number = codes "UPDATE meta SET k = ?1, v = ?2 WHERE k = ?1"
+replace_number = ForNumber.REPLACE.now
 
 abbrev pub head_of : Sysmod → Head
 head_of s = record { id = s.id; kind = s.kind; sources = s.sources }

@@ -8,8 +8,8 @@ ghost use Rattle.store_rows.specs.Rows.{Contents, HasContents};
 ghost use Rattle.store_schema.specs.Earlier.{schema_under, StandsUnder};
 ghost use Rattle.store_schema.specs.Inventory.{Inventory};
 ghost use Rattle.store_migration.specs.TakenOver.{heads_under};
-ghost use Rattle.store_zone_loads.specs.Found.{zone_in};
-ghost use Rattle.store_zone_loads.specs.Held.{HoldsUnder};
+ghost use Rattle.store_zones.specs.Found.{zone_in};
+ghost use Rattle.store_zones.specs.Held.{HoldsUnder};
 ghost use Rattle.terms.specs.Types as terms;
 ghost use Rattle.store_migration.specs.Checked.{Checks, ChecksZones};
 ghost use Rattle.store.specs.Whole.{HoldsGlobal, HoldsZones};
@@ -21,7 +21,7 @@ use std::alloc::Global;
 use store::{joined, load_lists};
 use store_rows::ReadError;
 use store_schema::Schema;
-use store_zone_loads::{ZoneHead, load_zone, zone_heads};
+use store_zones::{ZoneHead, load_zone, zone_heads};
 
 // The global zone is let go, but for what is moved.
 fn check_global<S: Alter>(

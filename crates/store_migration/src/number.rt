@@ -1,7 +1,7 @@
 //! The number of the schema.
 
-ghost use Rattle.std.specs.Prelude.{◌≡◌, OnOk};
-ghost use Rattle.store_rows.specs.Inside.{StaysInside, Turns};
+ghost use Rattle.std.specs.Prelude.{OnOk};
+ghost use Rattle.store_rows.specs.Inside.{Continues, Turns};
 ghost use Rattle.store_rows.specs.Rows.{HasContents};
 ghost use Rattle.store_schema.specs.Tables.{store_schema};
 ghost use Rattle.store_migration.specs.Moved.{with_number};
@@ -10,15 +10,12 @@ use sqlite::{Alter, Error, Transaction};
 use sqlite_value::value::ValueRef;
 use store_rows::replace;
 
+const REPLACE: &str = "UPDATE meta SET k = ?1, v = ?2 WHERE k = ?1";
+
 /// Writes the store's own in place of the one that is there.
 pub(crate) fn write_number<S: Alter>(tx: &mut Transaction<'_, S>) -> Result<(), Error>
-    ensures same_reference { tx.new.conn.ghost_name ≡ tx.old.conn.ghost_name }
-    ensures inside { StaysInside S.Store tx.old.conn.now tx.new.conn.now }
+    ensures continues { Continues S.Store tx.old tx.new }
     ensures ok { OnOk result (Turns S.Store tx.old.conn.now tx.new.conn.now (HasContents store_schema) with_number) }
 {
-    replace(
-        tx,
-        "UPDATE meta SET k = ?1, v = ?2 WHERE k = ?1",
-        &[ValueRef::Text(b"schema"), ValueRef::Int(3)],
-    )
+    replace(tx, REPLACE, &[ValueRef::Text(b"schema"), ValueRef::Int(3)])
 }

@@ -1,7 +1,7 @@
 //! The sources of SYSMODs, from their own rows to a table.
 
-ghost use Rattle.std.specs.Prelude.{◌≡◌, fold, OnOk};
-ghost use Rattle.store_rows.specs.Inside.{StaysInside, Turns};
+ghost use Rattle.std.specs.Prelude.{fold, OnOk};
+ghost use Rattle.store_rows.specs.Inside.{Continues, Turns};
 ghost use Rattle.store_rows.specs.Rows.{HasContents, in_table, in_place};
 ghost use Rattle.sqlite.specs.declared.types.Value.TheVariants.{Text};
 ghost use Rattle.std.specs.Prelude.{[], ◌∷◌};
@@ -13,35 +13,17 @@ use fields::spelling::kind_text;
 use fields::{Id, Source};
 use sqlite::{Alter, Error, Transaction};
 use sqlite_value::value::ValueRef;
-use store_rows::{insert, replace};
+use store_rows::replace;
+use store_sysmods::insert_source;
 
-fn insert_source<'a, S: Alter>(
-    tx: &mut Transaction<'_, S>,
-    id: &'a Id,
-    source: &'a Source,
-) -> Result<(), Error>
-    ensures same_reference { tx.new.conn.ghost_name ≡ tx.old.conn.ghost_name }
-    ensures inside { StaysInside S.Store tx.old.conn.now tx.new.conn.now }
-    ensures ok { OnOk result (Turns S.Store tx.old.conn.now tx.new.conn.now (HasContents store_schema)
-        (λ contents. with_source id.now contents source.now)) }
-{
-    insert(
-        tx,
-        "INSERT INTO source (id, name) VALUES (?1, ?2)",
-        &[
-            ValueRef::Text(id.as_bytes()),
-            ValueRef::Text(source.as_bytes()),
-        ],
-    )
-}
+const REPLACE: &str = "UPDATE sysmod SET id = ?1, kind = ?2, sources = ?3 WHERE id = ?1";
 
 fn insert_sources<S: Alter>(
     tx: &mut Transaction<'_, S>,
     id: &Id,
     sources: &[Source],
 ) -> Result<(), Error>
-    ensures same_reference { tx.new.conn.ghost_name ≡ tx.old.conn.ghost_name }
-    ensures inside { StaysInside S.Store tx.old.conn.now tx.new.conn.now }
+    ensures continues { Continues S.Store tx.old tx.new }
     ensures ok { OnOk result (Turns S.Store tx.old.conn.now tx.new.conn.now (HasContents store_schema)
         (λ contents. fold (with_source id.now) contents sources.now)) }
 {
@@ -53,23 +35,17 @@ fn insert_sources<S: Alter>(
 
 // The SYSMOD's row keeps all but its sources.
 fn empty_column<S: Alter>(tx: &mut Transaction<'_, S>, head: &Head) -> Result<(), Error>
-    ensures same_reference { tx.new.conn.ghost_name ≡ tx.old.conn.ghost_name }
-    ensures inside { StaysInside S.Store tx.old.conn.now tx.new.conn.now }
+    ensures continues { Continues S.Store tx.old tx.new }
     ensures ok { OnOk result (Turns S.Store tx.old.conn.now tx.new.conn.now (HasContents store_schema)
         (in_table sysmod_table (in_place (Text head.now.id ∷ []) (bare_row head.now)))) }
 {
     let id = ValueRef::Text(head.id.as_bytes());
     let kind = ValueRef::Text(kind_text(head.kind));
-    replace(
-        tx,
-        "UPDATE sysmod SET id = ?1, kind = ?2, sources = ?3 WHERE id = ?1",
-        &[id, kind, ValueRef::Text(b"")],
-    )
+    replace(tx, REPLACE, &[id, kind, ValueRef::Text(b"")])
 }
 
 fn move_head<S: Alter>(tx: &mut Transaction<'_, S>, head: &Head) -> Result<(), Error>
-    ensures same_reference { tx.new.conn.ghost_name ≡ tx.old.conn.ghost_name }
-    ensures inside { StaysInside S.Store tx.old.conn.now tx.new.conn.now }
+    ensures continues { Continues S.Store tx.old tx.new }
     ensures ok { OnOk result (Turns S.Store tx.old.conn.now tx.new.conn.now (HasContents store_schema)
         (λ contents. with_moved contents head.now)) }
 {
@@ -82,8 +58,7 @@ pub(crate) fn move_sources<S: Alter>(
     tx: &mut Transaction<'_, S>,
     heads: &[Head],
 ) -> Result<(), Error>
-    ensures same_reference { tx.new.conn.ghost_name ≡ tx.old.conn.ghost_name }
-    ensures inside { StaysInside S.Store tx.old.conn.now tx.new.conn.now }
+    ensures continues { Continues S.Store tx.old tx.new }
     ensures ok { OnOk result (Turns S.Store tx.old.conn.now tx.new.conn.now (HasContents store_schema)
         (λ contents. fold with_moved contents heads.now)) }
 {

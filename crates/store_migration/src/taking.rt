@@ -3,7 +3,7 @@
 ghost use Rattle.std.specs.Prelude.{◌≡◌, false, IsTrue, OnOk, OnErr};
 ghost use Rattle.sqlite.specs.Held.{state};
 ghost use Rattle.sqlite.specs.State.{HasCleanDisk, Survives};
-ghost use Rattle.store_rows.specs.Inside.{StaysInside};
+ghost use Rattle.store_rows.specs.Inside.{Continues};
 ghost use Rattle.store_migration.specs.TakenOver.{Takes, IsTaken};
 
 use crate::head::Head;
@@ -13,8 +13,7 @@ use sqlite::{Alter, Connection, Error, Transaction};
 use store_schema::{Schema, add_tables};
 
 fn write<S: Alter>(tx: &mut Transaction<'_, S>, schema: Schema, heads: &[Head]) -> Result<(), Error>
-    ensures same_reference { tx.new.conn.ghost_name ≡ tx.old.conn.ghost_name }
-    ensures inside { StaysInside S.Store tx.old.conn.now tx.new.conn.now }
+    ensures continues { Continues S.Store tx.old tx.new }
     ensures ok { HasCleanDisk (state S.Store tx.new.conn.now) → OnOk result
         (Takes schema heads.now (state S.Store tx.old.conn.now).now (state S.Store tx.new.conn.now).now) }
 {

@@ -4,9 +4,10 @@ use Rattle.sqlite.specs.Store.{Ghosts}
 use Rattle.sqlite.specs.Effect.{Database}
 use Rattle.sqlite.specs.Held.{Held, state}
 use Rattle.sqlite.specs.State.{State, Survives}
+use Rattle.sqlite.specs.declared.transaction.Transaction.{Transaction}
 use Rattle.sqlite.proofs.StateLemmas.{survives_then}
 use Rattle.sqlite.proofs.Callers.{survives_begin}
-use Rattle.store_rows.specs.Inside.{StaysInside, Leads, Turns, IsMade}
+use Rattle.store_rows.specs.Inside.{StaysInside, Continues, Leads, Turns, IsMade}
 
 survives_itself : (s : State) → Survives s s (λ _. ⊥)
 survives_itself s = record {
@@ -48,6 +49,15 @@ module _ {S : Type 0} (g : Ghosts S) where
           was_open = λ o. first.was_open (last.was_open o);
           committed = λ o. last.committed o ∙ first.committed (last.was_open o);
         };
+  }
+
+  pub continues : (old : Transaction S) → Continues g old old
+  continues old = record { same_reference = refl; inside = stays old.conn.now }
+
+  pub continues_then : (a b c : Transaction S) → Continues g a b → Continues g b c → Continues g a c
+  continues_then a b c p q = record {
+    same_reference = q.same_reference ∙ p.same_reference;
+    inside = stays_then a.conn.now b.conn.now c.conn.now p.inside q.inside;
   }
 
   pub leads_then : (a b c : Held S) (P Q R : Database → Type 0) → StaysInside g b c → Leads g a b P Q → Leads g b c Q R

@@ -6,7 +6,7 @@ use Rattle.std.proofs.lemmas.List.{append_assoc}
 use Rattle.std.proofs.lemmas.List.Elements.{filter-append}
 use Rattle.std.proofs.lemmas.List.Sorted.{IsPermutation-trans, IsPermutation-append_left}
 use Rattle.std.proofs.lemmas.List.Sorted.{IsPermutation-append_right, IsPermutation-append_comm}
-use Rattle.lemmas.proofs.Each.{recursion_front, recursion_back}
+use Rattle.terms.proofs.Each.{recursion_front, recursion_back}
 
 -- nothing of it changes
 pub map_same : {A B : Type 0} (f : A → B) (before : List A) (a b : A) (after : List A) → f a ≡ f b

@@ -6,7 +6,7 @@ use Rattle.std.proofs.Common.{ap, subst, subst₂, ◌∙◌, append-nil, fold}
 use Rattle.std.proofs.lemmas.Bool.{cases_Bool, and_parts, not-true}
 use Rattle.std.specs.List.{flat_map, list_all}
 use Rattle.std.proofs.lemmas.List.Sorted.{IsPermutation-map}
-use Rattle.lemmas.proofs.Lists.{flat_if_single}
+use Rattle.terms.proofs.Lists.{flat_if_single}
 use Rattle.sqlite.specs.declared.error.Error.{Error}
 use Rattle.sqlite.specs.declared.error.Error.TheVariants.{SqliteFailure}
 use Rattle.sqlite.specs.declared.error.ErrorCode.TheVariants.{TransactionState}

@@ -5,7 +5,7 @@ use Rattle.sqlite.specs.Kind.TheVariants as kind
 use Rattle.sqlite.specs.Cast.{cast}
 use Rattle.sqlite.specs.Ops.{unary}
 use Rattle.sqlite.specs.Values.{or_null, bound_value}
-use Rattle.lemmas.proofs.Booleans.{cond_same}
+use Rattle.terms.proofs.Booleans.{cond_same}
 
 -- a text that may be NULL is bound as it is
 pub bound_optional : (t : Option (List ℕ)) → bound_value (or_null Text t) ≡ or_null Text t

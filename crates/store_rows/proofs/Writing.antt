@@ -44,7 +44,7 @@ use Rattle.std.proofs.lemmas.Bool.{and_parts, ne_eqb, not-true}
 use Rattle.std.proofs.lemmas.List.Sorted.{IsPermutation-refl, IsPermutation-sym, IsPermutation-trans}
 use Rattle.std.proofs.lemmas.List.Sorted.{IsPermutation-cons, IsPermutation-map, IsPermutation-append_left}
 use Rattle.std.proofs.lemmas.List.Sorted.{IsPermutation-middle}
-use Rattle.lemmas.proofs.Booleans.{cond_same}
+use Rattle.terms.proofs.Booleans.{cond_same}
 use Rattle.store_rows.proofs.ContentsLemmas.{columns_from, meets_from, puts, takes, each_table, held_at}
 
 -- ---- values that their columns keep

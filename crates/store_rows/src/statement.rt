@@ -7,7 +7,7 @@ ghost use Rattle.sqlite.specs.Values.{bound};
 ghost use Rattle.sqlite.specs.Schema.{Schema};
 ghost use Rattle.sqlite.specs.Table.{Table};
 ghost use Rattle.store_rows.specs.Calls.{RunsInside};
-ghost use Rattle.store_rows.specs.Inside.{StaysInside, Turns};
+ghost use Rattle.store_rows.specs.Inside.{Continues, Turns};
 ghost use Rattle.store_rows.specs.Rows.{Contents, HasContents, HaveNone, in_table, with_row, with_put, in_place};
 ghost use Rattle.store_rows.specs.Rows.{without};
 ghost use Rattle.store_rows.specs.Texts.{SuitColumns, PutsIn, PutsByKey, PutsInPlace, TakesOut, TakesOutParent};
@@ -21,8 +21,7 @@ fn run<S: Alter>(
     sql: &str,
     params: &[ValueRef<'_>],
 ) -> Result<(), Error>
-    ensures same_reference { tx.new.conn.ghost_name ≡ tx.old.conn.ghost_name }
-    ensures inside { StaysInside S.Store tx.old.conn.now tx.new.conn.now }
+    ensures continues { Continues S.Store tx.old tx.new }
     ensures calls { RunsInside S.Store ((sql.now, bound params.now) ∷ []) tx.old.conn.now tx.new.conn.now result }
     ensures ran { OnOk result (HasCleanDisk (state S.Store tx.new.conn.now)
         → (count : ℕ) × Executes sql.now (bound params.now) (state S.Store tx.old.conn.now)
@@ -39,8 +38,7 @@ pub fn insert<S: Alter>(
     sql: &str,
     row: &[ValueRef<'_>],
 ) -> Result<(), Error>
-    ensures same_reference { tx.new.conn.ghost_name ≡ tx.old.conn.ghost_name }
-    ensures inside { StaysInside S.Store tx.old.conn.now tx.new.conn.now }
+    ensures continues { Continues S.Store tx.old tx.new }
     ensures calls { RunsInside S.Store ((sql.now, bound row.now) ∷ []) tx.old.conn.now tx.new.conn.now result }
     ensures ok { OnOk result ((schema : Schema) (at : ℕ) (table : Table) → PutsIn schema at table sql.now
         → SuitColumns table.columns (bound row.now)
@@ -57,8 +55,7 @@ pub fn remove<S: Alter>(
     sql: &str,
     key: &[ValueRef<'_>],
 ) -> Result<(), Error>
-    ensures same_reference { tx.new.conn.ghost_name ≡ tx.old.conn.ghost_name }
-    ensures inside { StaysInside S.Store tx.old.conn.now tx.new.conn.now }
+    ensures continues { Continues S.Store tx.old tx.new }
     ensures calls { RunsInside S.Store ((sql.now, bound key.now) ∷ []) tx.old.conn.now tx.new.conn.now result }
     ensures ok { OnOk result ((schema : Schema) (at : ℕ) (table : Table)
         → TakesOut schema at table (length key.now) sql.now
@@ -77,8 +74,7 @@ pub fn put<S: Alter>(
     sql: &str,
     row: &[ValueRef<'_>],
 ) -> Result<(), Error>
-    ensures same_reference { tx.new.conn.ghost_name ≡ tx.old.conn.ghost_name }
-    ensures inside { StaysInside S.Store tx.old.conn.now tx.new.conn.now }
+    ensures continues { Continues S.Store tx.old tx.new }
     ensures calls { RunsInside S.Store ((sql.now, bound row.now) ∷ []) tx.old.conn.now tx.new.conn.now result }
     ensures ok { OnOk result ((schema : Schema) (at : ℕ) (table : Table) (width : ℕ)
         → PutsByKey schema at table width sql.now → SuitColumns table.columns (bound row.now)
@@ -96,8 +92,7 @@ pub fn replace<S: Alter>(
     sql: &str,
     columns: &[ValueRef<'_>],
 ) -> Result<(), Error>
-    ensures same_reference { tx.new.conn.ghost_name ≡ tx.old.conn.ghost_name }
-    ensures inside { StaysInside S.Store tx.old.conn.now tx.new.conn.now }
+    ensures continues { Continues S.Store tx.old tx.new }
     ensures calls { RunsInside S.Store ((sql.now, bound columns.now) ∷ []) tx.old.conn.now tx.new.conn.now result }
     ensures ok { OnOk result ((schema : Schema) (at : ℕ) (table : Table) (width : ℕ)
         → PutsInPlace schema at table width sql.now → SuitColumns table.columns (bound columns.now)
@@ -115,8 +110,7 @@ pub fn remove_parent<S: Alter>(
     sql: &str,
     parent: &[ValueRef<'_>],
 ) -> Result<(), Error>
-    ensures same_reference { tx.new.conn.ghost_name ≡ tx.old.conn.ghost_name }
-    ensures inside { StaysInside S.Store tx.old.conn.now tx.new.conn.now }
+    ensures continues { Continues S.Store tx.old tx.new }
     ensures calls { RunsInside S.Store ((sql.now, bound parent.now) ∷ []) tx.old.conn.now tx.new.conn.now result }
     ensures ok { OnOk result ((schema : Schema) (at : ℕ) (table : Table) (children : List Table)
         → TakesOutParent schema at table children sql.now → length parent.now ≡ 1

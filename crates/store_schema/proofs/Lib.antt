@@ -1,5 +1,5 @@
 pub mod Adding
-pub mod Lists
+pub mod WrittenLists
 pub mod Making
 pub mod Meta
 pub mod Number
@@ -8,4 +8,9 @@ pub mod OneState
 pub mod Plain
 pub mod Singles
 pub mod Spelled
-pub mod Texts
+pub mod CreateTexts
+pub mod PartLemmas
+pub mod UnderEach
+pub mod Asks
+pub mod TextForms
+mod Found

@@ -5,7 +5,7 @@ use Rattle.std.specs.List.{AllByRecursion, list_all}
 use Rattle.std.proofs.lemmas.Bool.{and_parts, not-true}
 use Rattle.sqlite.specs.Tree.{Trees}
 use Rattle.std.proofs.lemmas.List.Sorted.{IsPermutation-refl, IsPermutation-sym}
-use Rattle.lemmas.proofs.Booleans.{cond_same}
+use Rattle.terms.proofs.Booleans.{cond_same}
 use Rattle.sqlite.specs.declared.types.Value.TheVariants.{Null, Int, Text}
 use Rattle.sqlite.specs.Ops.{unary}
 use Rattle.sqlite.specs.Cast.{cast}

@@ -8,7 +8,7 @@ use Rattle.std.specs.Cmp.Lexicographic.{slice_cmp, texts_ties}
 use Rattle.std.proofs.lemmas.Bool.{eqb-true, false_from_ne_true}
 use Rattle.std.proofs.lemmas.Cmp.{nat_list_cmp_total}
 use Rattle.std.proofs.lemmas.List.Elements.{filter-append}
-use Rattle.lemmas.proofs.Texts.{same_from, same_itself}
+use Rattle.terms.proofs.TextOrder.{same_from, same_itself}
 use Rattle.sqlite.specs.Tree.{IsAscending}
 use Rattle.sqlite_rules.specs.Lists.{Has}
 use Rattle.sqlite_rules.proofs.ListLemmas.{all_has, all_from, has_either, has_filtered}
@@ -18,7 +18,7 @@ use Rattle.terms.specs.Types.{Text, Ver, Sysmod}
 use Rattle.terms.specs.Lookups.{is_before}
 use Rattle.store_schema.specs.Forms.{AreVersApart, HasSysmodForms}
 use Rattle.store_schema.specs.Rows.{number_behind, numbered_behind, is_first}
-use Rattle.store_schema.proofs.Lists.{ascending, one_place}
+use Rattle.store_schema.proofs.WrittenLists.{ascending, one_place}
 use Rattle.store_schema.proofs.Spelled.{before_once, not_before_same}
 
 -- how many of these ++VERs are for the SREL

@@ -3,7 +3,7 @@ use Rattle.std.proofs.Common.{◌≡◌, inl, inr, ℕ, ◌+◌, not, List, [], 
 use Rattle.std.proofs.Common.{IsTrue, Option, None, Some, refl, sym, ap, ap₂, subst, ◌∙◌}
 use Rattle.std.specs.Prelude.{IfSome}
 use Rattle.std.specs.List.{AllByRecursion, flat_map, enumerate_from}
-use Rattle.lemmas.proofs.Texts.{other_text}
+use Rattle.terms.proofs.TextOrder.{other_text}
 use Rattle.sqlite.specs.Tree.{IsAscending}
 use Rattle.sqlite_rules.specs.Lists.{Has}
 use Rattle.sqlite_rules.proofs.ListLemmas.{all_has, has_either}
@@ -14,7 +14,7 @@ use Rattle.store_schema.specs.Inventory.{Inventory}
 use Rattle.store_schema.specs.Rows.{numbered_behind, is_first, first_vers, further_vers, vers_of, ver_row, morevers_of}
 use Rattle.store_schema.specs.Rows.{ifreq_row, ifreqs_of, moreifs_of, chosen_in, chosen_of}
 use Rattle.store_schema.specs.Earlier.{IsOfEarlier}
-use Rattle.store_schema.proofs.Lists.{ascending, ascending_by, all_by}
+use Rattle.store_schema.proofs.WrittenLists.{ascending, ascending_by, all_by}
 use Rattle.store_schema.proofs.Numbered.{count_of}
 
 pub flat_none : {X Y : Type 0} (f : X → List Y) (xs : List X) → AllByRecursion (λ x. f x ≡ []) xs → flat_map f xs ≡ []

@@ -25,7 +25,7 @@ use Rattle.terms.specs.Forms.{is_id_byte, IsRun, IsId, IsSource}
 use Rattle.terms.specs.Lookups.{is_before}
 use Rattle.store_schema.specs.Forms.{AreSorted, AreRecords}
 use Rattle.store_schema.specs.Rows.{ids, flag, records}
-use Rattle.store_schema.proofs.Lists.{IsWord, all_by, joined_same, records_same}
+use Rattle.store_schema.proofs.WrittenLists.{IsWord, all_by, joined_same, records_same}
 
 -- ---- kinds
 

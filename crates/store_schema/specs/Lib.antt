@@ -8,3 +8,5 @@ pub mod Plain
 pub mod Rows
 pub mod Stands
 pub mod Tables
+pub mod Parts
+pub mod Asked

@@ -74,7 +74,7 @@ pub fn set_up<S: Alter>(alloc: Global, conn: &mut Connection<S>) -> Result<(), S
     ensures crash { Survives (state S.Store conn.old) (state S.Store conn.new) (IsSetUp (state S.Store conn.old).now) }
     ensures mode { conn.new.in_transaction ≡ false }
 {
-    // So what the connection shows is what it last committed.
+    // In no transaction, the connection shows what it last committed.
     prove!(conn.is_autocommit());
     if !is_blank(conn.schema()) {
         return check(alloc, conn);

@@ -8,7 +8,7 @@ pub fn one_state()
     ensures { HasOneState }
 {}
 
-/// The same for a database that may be of an earlier schema.
+/// What is loaded from a database of an earlier schema is what was committed: no two states have the same rows.
 pub fn one_earlier_state()
     ensures { HasOneEarlierState }
 {}

@@ -1,23 +1,39 @@
-//! The tables of the store in a SQL database: what they are, what their rows stand for, and the
-//! calls that make them in an empty database and know them in another.
+//! The tables of the store in a SQL database: what they are, what their rows stand for, the calls that make them in an
+//! empty database and know them in another, and the columns of their rows as values.
 //! On a clean disk, `set_up` makes them in one commit, or keeps them, or tells another number or other tables apart.
 //! `found_schema` also knows the tables of earlier schemas, and `add_tables` makes what they lack. No two states have
 //! the same rows, under one schema or another (`one_state`, `one_earlier_state`).
+//! Of a column that is read as a value, `Some` and `Ok` say that it has the value, `None` and `BadRow` that it has
+//! none.
+//! `load_listed` answers what the rows of a table stand for that a query asks for, and `BadRow` only where they stand
+//! for nothing, under each schema that has the table.
 #![tactic(auto)]
 
 mod creating;
+mod elements;
 mod error;
+mod kinds;
 mod known;
 mod law;
+mod listed;
+mod lists;
 mod numbers;
+mod optional;
 mod same;
 mod schema;
 mod schemas;
 mod tables;
+mod texts;
 
 pub use creating::add_tables;
+pub use elements::{element_text_in, is_updated};
 pub use error::StoreError;
+pub use kinds::{elem_type_in, flag_in, hold_kind_in, kind_in, zone_kind_in};
 pub use known::set_up;
 pub use law::{one_earlier_state, one_state};
+pub use listed::{Query, load_listed};
+pub use lists::{ids_in, joined_ids, records_in, sources_in};
+pub use optional::{TextValue, optional_in, text_or_null};
 pub use schema::Schema;
 pub use schemas::found_schema;
+pub use texts::{id_in, name_in, srel_in, zone_name_in};

@@ -34,7 +34,7 @@ fn schema_by_tables<S: Alter>(alloc: Global, conn: &mut Connection<S>) -> Result
     Ok(schema)
 }
 
-/// The same, once no number of another schema is found.
+/// The schema of the tables, whatever number the database has.
 fn known_schema<S: Alter>(alloc: Global, conn: &mut Connection<S>) -> Result<Schema, StoreError>
     ensures known { HasCleanDisk (state S.Store conn.new) → IfOk result
         (λ schema. HasTablesUnder schema (state S.Store conn.old).now) }

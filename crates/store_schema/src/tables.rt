@@ -7,7 +7,7 @@ ghost use Rattle.store_schema.specs.Create.{IsBlank, HasTables};
 ghost use Rattle.store_schema.specs.Inventory.{empty_inventory};
 ghost use Rattle.store_schema.specs.Known.{HasRun};
 ghost use Rattle.store_schema.specs.Stands.{StandsFor};
-ghost use Rattle.store_rows.specs.Inside.{StaysInside, Leads, IsMade, Holds};
+ghost use Rattle.store_rows.specs.Inside.{Continues, Leads, IsMade, Holds};
 ghost use Rattle.store_schema.specs.Tables.{meta, global_tables, first_tables, schema_of};
 ghost use Rattle.store_schema.specs.Earlier.{tables_under, schema_under};
 ghost use Rattle.store_schema.specs.declared.schema.Schema.{Schema as SchemaOf};
@@ -20,8 +20,7 @@ use sqlite_schema::schema::Schema as SqliteSchema;
 use std::alloc::Global;
 
 fn make_all<S: Alter>(tx: &mut Transaction<'_, S>) -> Result<(), Error>
-    ensures same_reference { tx.new.conn.ghost_name ≡ tx.old.conn.ghost_name }
-    ensures inside { StaysInside S.Store tx.old.conn.now tx.new.conn.now }
+    ensures continues { Continues S.Store tx.old tx.new }
     ensures ok { OnOk result (Leads S.Store tx.old.conn.now tx.new.conn.now IsBlank (StandsFor empty_inventory)) }
 {
     make_first(tx)?;
@@ -31,8 +30,7 @@ fn make_all<S: Alter>(tx: &mut Transaction<'_, S>) -> Result<(), Error>
 
 /// The tables of a schema, without its number.
 fn make_under<S: Alter>(tx: &mut Transaction<'_, S>, schema: Schema) -> Result<(), Error>
-    ensures same_reference { tx.new.conn.ghost_name ≡ tx.old.conn.ghost_name }
-    ensures inside { StaysInside S.Store tx.old.conn.now tx.new.conn.now }
+    ensures continues { Continues S.Store tx.old tx.new }
     ensures ok { OnOk result (Leads S.Store tx.old.conn.now tx.new.conn.now IsBlank
         (HasTables (tables_under schema))) }
 {

@@ -2,7 +2,7 @@
 use Rattle.std.proofs.Common.{◌≡◌, ◌⊎◌, inl, inr, List, [], map, filter, Bool, true, false, IsPermutation}
 use Rattle.std.proofs.Common.{sym, ap, subst, ◌∙◌}
 use Rattle.std.specs.List.{AllByRecursion}
-use Rattle.lemmas.proofs.Each.{recursion_weaker}
+use Rattle.terms.proofs.Each.{recursion_weaker}
 use Rattle.sqlite.specs.Order.{Row}
 use Rattle.terms.specs.Types.{Sysmod}
 use Rattle.store_rows.specs.Rows.{Contents}

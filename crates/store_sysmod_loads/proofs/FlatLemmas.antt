@@ -6,10 +6,10 @@ use Rattle.std.proofs.lemmas.List.{map-append}
 use Rattle.std.proofs.lemmas.List.Elements.{filter-append}
 use Rattle.sqlite.specs.Tree.{IsAscending}
 use Rattle.sqlite_trees.proofs.ListLemmas.{map-map, filter-map}
-use Rattle.lemmas.proofs.Each.{recursion_append, recursion_weaker}
+use Rattle.terms.proofs.Each.{recursion_append, recursion_weaker}
 use Rattle.terms.specs.Types.{Text, Id, IfReq, Ver, Change, Sysmod}
 use Rattle.terms.specs.Lookups.{is_before}
-use Rattle.store_schema.proofs.Lists.{ascending}
+use Rattle.store_schema.proofs.WrittenLists.{ascending}
 use Rattle.store_schema.proofs.Numbered.{numbered, IsVerBefore, numbers_ascend}
 use Rattle.store_schema.proofs.Spelled.{not_before_same}
 use Rattle.store_schema.specs.Forms.{AreVersApart}

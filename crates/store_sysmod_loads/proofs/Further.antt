@@ -9,7 +9,7 @@ use Rattle.sqlite.specs.Tree.{IsAscending}
 use Rattle.sqlite_rules.specs.Lists.{Has}
 use Rattle.sqlite_rules.proofs.ListLemmas.{all_has, all_from, has_filtered, has_kept}
 use Rattle.sqlite_trees.proofs.ListLemmas.{map-map, ascending-map}
-use Rattle.lemmas.proofs.Each.{recursion_append, recursion_weaker}
+use Rattle.terms.proofs.Each.{recursion_append, recursion_weaker}
 use Rattle.terms.specs.Types.{Text, Id, Ver, Sysmod}
 use Rattle.terms.specs.Lookups.{is_before}
 use Rattle.store_rows.specs.Rows.{Contents}
@@ -18,7 +18,7 @@ use Rattle.store_schema.specs.Forms.{VerSuitsKind, AreVersApart}
 use Rattle.store_schema.specs.Tables.{morever, moreif}
 use Rattle.store_schema.specs.declared.schema.Schema.{Schema}
 use Rattle.store_schema.specs.declared.schema.Schema.TheVariants.{First, Second, Third}
-use Rattle.store_schema.proofs.Lists.{ascending, all_by, has_all, flat_has, flat_had}
+use Rattle.store_schema.proofs.WrittenLists.{ascending, all_by, has_all, flat_has, flat_had}
 use Rattle.store_schema.proofs.Numbered.{numbered, numbered_is, numbered_has, number_above, IsVerBefore}
 use Rattle.store_schema.proofs.Numbered.{numbered_service, one_or_other, other_one}
 use Rattle.store_schema.proofs.Singles.{HasSingles, alone, numbered_alone}

@@ -3,7 +3,7 @@ use Rattle.std.proofs.Common.{◌≡◌, ◌≢◌, List, [], ◌∷◌, ◌++�
 use Rattle.std.specs.List.{AllByRecursion}
 use Rattle.std.proofs.lemmas.List.Elements.{All-from_recursion}
 use Rattle.sqlite.specs.Tree.{IsAscending}
-use Rattle.lemmas.proofs.Each.{recursion_front, recursion_back, recursion_weaker}
+use Rattle.terms.proofs.Each.{recursion_front, recursion_back, recursion_weaker}
 use Rattle.terms.specs.Types.{Text, Id}
 use Rattle.terms.specs.Forms.{IsId, IsSource}
 use Rattle.terms.specs.Lookups.{is_before}

@@ -7,7 +7,7 @@ use Rattle.store_schema.specs.declared.schema.Schema.{Schema}
 use Rattle.store_schema.specs.declared.schema.Schema.TheVariants.{First, Second, Third}
 use Rattle.store_schema.specs.Rows.{sysmod_row, sources_of}
 use Rattle.store_schema.specs.Tables.{sysmod, source}
-use Rattle.store_schema.proofs.Lists.{ascending}
+use Rattle.store_schema.proofs.WrittenLists.{ascending}
 use Rattle.store_sysmods.specs.declared.head.HeadRow.{HeadRow}
 use Rattle.store_sysmods.specs.Heads.{row_of_bare, HasHeadForms, HasFormsUnder}
 use Rattle.store_sysmods.specs.Sources.{row_of_source}

@@ -11,8 +11,8 @@ use Rattle.std.proofs.lemmas.Cmp.{nat_list_cmp_total, tied_itself}
 use Rattle.std.proofs.lemmas.List.Kept.{AllPairs-cons}
 use Rattle.std.proofs.lemmas.List.Elements.{All-from_recursion}
 use Rattle.sqlite.specs.Tree.{IsAscending}
-use Rattle.lemmas.proofs.Each.{recursion_append, recursion_map, recursion_weaker}
-use Rattle.lemmas.proofs.Orderings.{Less_from_is_lt}
+use Rattle.terms.proofs.Each.{recursion_append, recursion_map, recursion_weaker}
+use Rattle.terms.proofs.Orderings.{Less_from_is_lt}
 use Rattle.terms.specs.declared.kinds.ElemType.{ElemType}
 use Rattle.terms.specs.Types.{Text, Id, IfReq, Ver, Change, Sysmod}
 use Rattle.terms.specs.Lookups.{is_before, element_cmp}
@@ -20,7 +20,7 @@ use Rattle.terms.specs.Rising.{Rises}
 use Rattle.terms.specs.Global.{change_cmp}
 use Rattle.terms.specs.contracts.kinds.ElemTypeOrd.TheImpl as type_order
 use Rattle.terms.proofs.ElementOrder.{cmp_keys}
-use Rattle.store_schema.proofs.Lists.{ascending}
+use Rattle.store_schema.proofs.WrittenLists.{ascending}
 use Rattle.store_schema.proofs.Numbered.{numbered, IsVerBefore}
 use Rattle.store_sysmods.specs.declared.head.HeadRow.{HeadRow}
 use Rattle.store_sysmods.specs.declared.head.BareHead.{BareHead}
@@ -112,7 +112,7 @@ heads_rise ss h = pairs_from _ (map head_of ss) (asc_map head_of (λ (a b : Head
 
 pub ids_rise : (ss : List Sysmod) → Rises (slice_cmp nat_cmp) (λ (h : HeadRow). h.id) (map head_of ss)
     → Rises (slice_cmp nat_cmp) (λ (s : Sysmod). s.id) ss
-ids_rise ss h = pairs_from _ ss (Rattle.store_schema.proofs.Lists.ascending_by head_of
+ids_rise ss h = pairs_from _ ss (Rattle.store_schema.proofs.WrittenLists.ascending_by head_of
     (λ (a b : HeadRow). IsTrue (is_before a.id b.id)) ss (ascending _ (map head_of ss) h))
 
 pub bare_rise : (ss : List Sysmod) → AreWhole ss

@@ -4,7 +4,7 @@ use Rattle.std.specs.List.{AllByRecursion}
 use Rattle.std.proofs.lemmas.List.Elements.{recursion_from_All}
 use Rattle.std.proofs.lemmas.List.Sorted.{IsPermutation-refl}
 use Rattle.sqlite.specs.Effect.{Database}
-use Rattle.lemmas.proofs.Each.{recursion_append}
+use Rattle.terms.proofs.Each.{recursion_append}
 use Rattle.terms.specs.declared.kinds.Kind.{Kind}
 use Rattle.terms.specs.declared.kinds.Kind.TheVariants.{Function, Ptf, Apar, Usermod}
 use Rattle.terms.specs.Types.{Text, Id, IfReq, Ver, Action, Replaces, Updates, Change, Sysmod}
@@ -17,7 +17,7 @@ use Rattle.store_schema.specs.Inventory.{Inventory, IsInventory}
 use Rattle.store_schema.specs.Earlier.{HasShortSources, StandsUnder}
 use Rattle.store_schema.specs.declared.schema.Schema.{Schema}
 use Rattle.store_schema.specs.declared.schema.Schema.TheVariants.{First, Second, Third}
-use Rattle.store_columns.proofs.Schemas.{rows_under}
+use Rattle.store_schema.proofs.UnderEach.{rows_under}
 use Rattle.store_sysmods.specs.Heads.{HasHeadForms, HasShortForms, HasFormsUnder}
 use Rattle.store_sysmods.specs.Vers.{HasVerRowForms}
 use Rattle.store_sysmods.specs.Ifs.{HasIfRowForms}

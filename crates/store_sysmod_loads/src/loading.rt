@@ -14,9 +14,8 @@ ghost use Rattle.store_sysmod_loads.specs.Both.{AreOfBoth, AreRowsIn, LoadsRows}
 
 use sqlite::{Alter, Connection};
 use std::alloc::{AllocError, Global};
-use store_columns::{Query, load_listed};
 use store_rows::{FromRow, ReadError};
-use store_schema::Schema;
+use store_schema::{Query, Schema, load_listed};
 use store_sysmods::{IfRow, Ifs, Listed, MoreIfs, MoreVers, VerRow, Vers, by_keys, load_sorted};
 
 /// A row of which two tables have some each, of the same keys, where the second came with schema 3.

@@ -5,11 +5,11 @@ use Rattle.std.proofs.Common.{Err, IsErrAnd, refl, sym, ap, ◌∙◌}
 use Rattle.std.specs.List.{flat_map, enumerate_from}
 use Rattle.std.proofs.lemmas.List.{append_assoc, length-append, take_more, take_all, take-append-drop}
 use Rattle.std.proofs.lemmas.List.Concat.{flat_map_single}
-use Rattle.lemmas.proofs.Lists.{flat_if}
+use Rattle.terms.proofs.Lists.{flat_if}
 use Rattle.sqlite.specs.Store.{Ghosts}
 use Rattle.sqlite.specs.Order.{Row}
 use Rattle.sqlite.specs.Table.{Table}
-use Rattle.sqlite.specs.Held.{Held}
+use Rattle.sqlite.specs.declared.transaction.Transaction.{Transaction}
 use Rattle.sqlite.specs.declared.error.Error.{Error}
 use Rattle.terms.specs.Types.{Id, Ver}
 use Rattle.store_schema.specs.Rows.{ver_row, morever_row, ifreq_row, moreif_row, is_first, numbered_behind}
@@ -94,7 +94,7 @@ module _ {X : Type 0} (rows : List X → X → List Row) where
     and_rest = sym (behind_both [] (take (i + 1) items) (drop (i + 1) items))
         ∙ ap (rows_behind rows []) (take-append-drop (i + 1) items)
 
-    module _ {S : Type 0} (g : Ghosts S) (text : List ℕ) (table : Table) {a b c : Held S}
+    module _ {S : Type 0} (g : Ghosts S) (text : List ℕ) (table : Table) {a b c : Transaction S}
         (done : Puts g text table (rows_behind rows [] (take i items)) a b (Ok (tt {0}))) where
       -- an item more
       pub puts_more : {Y : Type 0} {r : Result Y Error} → Puts g text table (rows (take i items) item) b c r
@@ -109,8 +109,8 @@ module _ {X : Type 0} (rows : List X → X → List Row) where
           puts_as g text table and_rest (puts_stops g text table _ _ r failed told (puts_more more))
 
   -- all items
-  pub puts_all : {S : Type 0} (g : Ghosts S) (text : List ℕ) (table : Table) {a b : Held S} (items : List X) (i : ℕ)
-      → length items ≤ i → Puts g text table (rows_behind rows [] (take i items)) a b (Ok (tt {0}))
+  pub puts_all : {S : Type 0} (g : Ghosts S) (text : List ℕ) (table : Table) {a b : Transaction S} (items : List X)
+      (i : ℕ) → length items ≤ i → Puts g text table (rows_behind rows [] (take i items)) a b (Ok (tt {0}))
       → Puts g text table (rows_behind rows [] items) a b (Ok (tt {0}))
   puts_all g text table items i end done =
       puts_as g text table (ap (rows_behind rows []) (take_all i items (omega (arith, end)))) done

@@ -15,7 +15,7 @@ use Rattle.terms.specs.Forms.{IsName}
 use Rattle.terms.specs.Lookups.{is_in}
 use Rattle.terms.specs.Spelling.{type_text}
 use Rattle.terms.specs.Texts.{IsActionOf}
-use Rattle.lemmas.proofs.Members.{none_in_nil}
+use Rattle.terms.proofs.ListMembers.{none_in_nil}
 use Rattle.terms.proofs.Ids.{Contains_from_is_in}
 use Rattle.store_schema.specs.Forms.{AreSorted, AreOthers, AreRecords, HasActionForms}
 use Rattle.store_schema.specs.Rows.{ids, flag, records, ifreq_row, moreif_row, action_cells, elem_row}

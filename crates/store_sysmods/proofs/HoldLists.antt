@@ -11,7 +11,7 @@ use Rattle.store_schema.specs.Inventory.{Inventory, IsInventory}
 use Rattle.store_schema.specs.Rows.{hold_row}
 use Rattle.store_schema.specs.Tables.{hold}
 use Rattle.store_schema.proofs.OneState.{hold_is}
-use Rattle.store_columns.proofs.Schemas.{rows_under}
+use Rattle.store_schema.proofs.UnderEach.{rows_under}
 
 pub holds_formed : (i : Inventory) → IsInventory i → AllByRecursion HasHoldForms i.global.holds
 holds_formed i h = recursion_from_All HasHoldForms i.global.holds h.holds

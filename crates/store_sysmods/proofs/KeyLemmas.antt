@@ -25,7 +25,7 @@ use Rattle.sqlite_trees.proofs.ListLemmas.{filter-map, IsPermutation-filter}
 use Rattle.sqlite_rules.specs.Lists.{Has}
 use Rattle.sqlite_rules.proofs.ListLemmas.{all_has, test_has, some_has, some_from, has_filtered, has_got}
 use Rattle.sqlite_rules.proofs.TableLemmas.{int_is}
-use Rattle.lemmas.proofs.Texts.{same_from, same_itself}
+use Rattle.terms.proofs.TextOrder.{same_from, same_itself}
 use Rattle.terms.specs.Types.{Id}
 use Rattle.store_rows.specs.Rows.{Contents, HasContents, AreRows, has_key, shown}
 use Rattle.store_rows.proofs.ContentsLemmas.{held_at}

@@ -7,7 +7,7 @@ use Rattle.std.proofs.lemmas.List.Elements.{filter-append}
 use Rattle.std.proofs.lemmas.List.Sorted.{IsPermutation-refl, IsPermutation-trans}
 use Rattle.std.proofs.lemmas.List.Sorted.{IsPermutation-append_right}
 use Rattle.std.proofs.lemmas.Grind.{flat_map-append}
-use Rattle.lemmas.proofs.Each.{recursion_append}
+use Rattle.terms.proofs.Each.{recursion_append}
 use Rattle.sqlite_rules.specs.Lists.{Has}
 use Rattle.store_rows.proofs.Parts.{moved_front}
 

@@ -5,13 +5,13 @@ use Rattle.sqlite.specs.Store.{Ghosts}
 use Rattle.sqlite.specs.Order.{Row}
 use Rattle.sqlite.specs.Table.{Table}
 use Rattle.sqlite.specs.declared.error.Error.{Error}
-use Rattle.sqlite.specs.Held.{Held}
+use Rattle.sqlite.specs.declared.transaction.Transaction.{Transaction}
 use Rattle.terms.specs.Types.{Id}
-use Rattle.store_rows.specs.Inside.{StaysInside, Turns}
+use Rattle.store_rows.specs.Inside.{Continues, Turns}
 use Rattle.store_rows.specs.Calls.{Call, RunsInside}
 use Rattle.store_rows.specs.Rows.{Contents, HasContents, in_table, with_row, without}
 use Rattle.store_rows.specs.Texts.{SuitColumns}
-use Rattle.store_rows.proofs.InsideLemmas.{on_ok, stays, stays_then, turns_then}
+use Rattle.store_rows.proofs.InsideLemmas.{on_ok, continues, continues_then, turns_then}
 use Rattle.store_schema.specs.Tables.{store_schema}
 use Rattle.store_sysmods.specs.Calls.{puts}
 use Rattle.store_sysmods.specs.Steps.{Step, Puts}
@@ -21,19 +21,21 @@ use Rattle.store_sysmods.proofs.Calling.{runs_rest, runs_stops, runs_none}
 
 module _ {S : Type 0} (g : Ghosts S) where
   -- statements that ran
-  abbrev pub Ran : List Call → (Contents → Contents) → Held S → Held S → Type 0
+  abbrev pub Ran : List Call → (Contents → Contents) → Transaction S → Transaction S → Type 0
   Ran calls make a b = Step g calls make a b (Ok (tt {0}))
 
-  pub step_ok : {calls : List Call} {make : Contents → Contents} {a b : Held S} {q : Result (Unit {0}) Error}
+  pub step_ok : {calls : List Call} {make : Contents → Contents} {a b : Transaction S} {q : Result (Unit {0}) Error}
       {x : Unit {0}} → q ≡ Ok x → Step g calls make a b q → Ran calls make a b
   step_ok {calls = calls} {make = make} {a = a} {b = b} is step = subst (Step g calls make a b) is step
 
-  pub step_then : {X : Type 0} {xs ys : List Call} {make last : Contents → Contents} {a b c : Held S}
+  pub step_then : {X : Type 0} {xs ys : List Call} {make last : Contents → Contents} {a b c : Transaction S}
       {r : Result X Error} → Ran xs make a b → Step g ys last b c r → Step g (xs ++ ys) (λ h. last (make h)) a c r
   step_then {xs = xs} {ys = ys} {make = make} {last = last} {a = a} {b = b} {c = c} {r = r} one two = record {
-    inside = stays_then g a b c one.inside two.inside;
-    runs = runs_rest g xs ys a b c r one.inside two.inside one.runs two.runs;
-    ok = on_ok r _ _ (turns_then g a b c (HasContents store_schema) make last two.inside one.ok) two.ok;
+    continues = continues_then g a b c one.continues two.continues;
+    runs = runs_rest g xs ys a.conn.now b.conn.now c.conn.now r one.continues.inside two.continues.inside one.runs
+        two.runs;
+    ok = on_ok r _ _ (turns_then g a.conn.now b.conn.now c.conn.now (HasContents store_schema) make last
+        two.continues.inside one.ok) two.ok;
   }
 
   none_turns : {X : Type 0} (r : Result X Error) (e : Error) (P : Type 0) → IsErrAnd r (λ z. z ≡ e) → OnOk r P
@@ -41,36 +43,37 @@ module _ {S : Type 0} (g : Ghosts S) where
   none_turns (Err z) e P told = tt
 
   -- one of these failed, and none behind it was begun
-  pub step_stops : {X Y : Type 0} {xs : List Call} (ys : List Call) {make : Contents → Contents} {a b : Held S}
+  pub step_stops : {X Y : Type 0} {xs : List Call} (ys : List Call) {make : Contents → Contents} {a b : Transaction S}
       {q : Result X Error} {e : Error} (r : Result Y Error) → q ≡ Err e → IsErrAnd r (λ z. z ≡ e)
       → Step g xs make a b q → Step g (xs ++ ys) make a b r
   step_stops {xs = xs} ys {a = a} {b = b} {q = q} {e = e} r failed told first = record {
-    inside = first.inside;
-    runs = runs_stops g xs ys a b q e r failed told first.runs;
+    continues = first.continues;
+    runs = runs_stops g xs ys a.conn.now b.conn.now q e r failed told first.runs;
     ok = none_turns r e _ told;
   }
 
   -- an error says nothing of what the tables hold
-  pub step_errs : {X Y : Type 0} {calls : List Call} {make last : Contents → Contents} {a b : Held S}
+  pub step_errs : {X Y : Type 0} {calls : List Call} {make last : Contents → Contents} {a b : Transaction S}
       {q : Result X Error} {e : Error} {r : Result Y Error} → q ≡ Err e → IsErrAnd r (λ z. z ≡ e)
       → Step g calls make a b r → Step g calls last a b r
   step_errs {e = e} {r = r} failed told step = record {
-    inside = step.inside;
+    continues = step.continues;
     runs = step.runs;
     ok = none_turns r e _ told;
   }
 
   -- a SYSMOD's rows that are taken out of one table
-  pub step_takes : {X : Type 0} (text : List ℕ) (table : Table) (key : Row) (id : Id) (a b : Held S)
-      (r : Result X Error) → key ≡ sysmod_key id → StaysInside g a b → RunsInside g ((text, key) ∷ []) a b r
-      → OnOk r (Turns g a b (HasContents store_schema) (in_table table (without key)))
+  pub step_takes : {X : Type 0} (text : List ℕ) (table : Table) (key : Row) (id : Id) (a b : Transaction S)
+      (r : Result X Error) → key ≡ sysmod_key id → Continues g a b
+      → RunsInside g ((text, key) ∷ []) a.conn.now b.conn.now r
+      → OnOk r (Turns g a.conn.now b.conn.now (HasContents store_schema) (in_table table (without key)))
       → Step g ((text, sysmod_key id) ∷ []) (in_table table (without (sysmod_key id))) a b r
-  step_takes text table key id a b r is inside runs ok =
+  step_takes text table key id a b r is kept runs ok =
       subst (λ k. Step g ((text, k) ∷ []) (in_table table (without k)) a b r) is
-      (record { inside = inside; runs = runs; ok = ok })
+      (record { continues = kept; runs = runs; ok = ok })
 
-  pub step_takes_of : {X : Type 0} (text : List ℕ) (table : Table) {x id : Id} {a b : Held S} {r : Result X Error}
-      → x ≡ id → Step g ((text, sysmod_key x) ∷ []) (in_table table (without (sysmod_key x))) a b r
+  pub step_takes_of : {X : Type 0} (text : List ℕ) (table : Table) {x id : Id} {a b : Transaction S}
+      {r : Result X Error} → x ≡ id → Step g ((text, sysmod_key x) ∷ []) (in_table table (without (sysmod_key x))) a b r
       → Step g ((text, sysmod_key id) ∷ []) (in_table table (without (sysmod_key id))) a b r
   step_takes_of text table {a = a} {b = b} {r = r} is step =
       subst (λ y. Step g ((text, sysmod_key y) ∷ []) (in_table table (without (sysmod_key y))) a b r) is step
@@ -78,36 +81,42 @@ module _ {S : Type 0} (g : Ghosts S) where
   -- ---- rows that are added to one table
 
   module _ (text : List ℕ) (table : Table) where
-    pub puts_none : (a : Held S) → Puts g text table [] a a (Ok (tt {0}))
-    puts_none a = record { inside = stays g a; runs = runs_none g text a; ok = adds_none g table a }
+    pub puts_none : (a : Transaction S) → Puts g text table [] a a (Ok (tt {0}))
+    puts_none a = record {
+      continues = continues g a;
+      runs = runs_none g text a.conn.now;
+      ok = adds_none g table a.conn.now;
+    }
 
-    pub puts_as : {X : Type 0} {xs ys : List Row} {a b : Held S} {r : Result X Error} → xs ≡ ys
+    pub puts_as : {X : Type 0} {xs ys : List Row} {a b : Transaction S} {r : Result X Error} → xs ≡ ys
         → Puts g text table xs a b r → Puts g text table ys a b r
     puts_as {a = a} {b = b} {r = r} is step = subst (λ l. Puts g text table l a b r) is step
 
     -- the bound values are a row of the table
-    pub puts_row : {X : Type 0} {row r : Row} {a b : Held S} {q : Result X Error} → r ≡ row
-        → SuitColumns table.columns row → StaysInside g a b → RunsInside g ((text, r) ∷ []) a b q
-        → OnOk q (SuitColumns table.columns r → Turns g a b (HasContents store_schema) (in_table table (with_row r)))
+    pub puts_row : {X : Type 0} {row r : Row} {a b : Transaction S} {q : Result X Error} → r ≡ row
+        → SuitColumns table.columns row → Continues g a b → RunsInside g ((text, r) ∷ []) a.conn.now b.conn.now q
+        → OnOk q (SuitColumns table.columns r
+        → Turns g a.conn.now b.conn.now (HasContents store_schema) (in_table table (with_row r)))
         → Puts g text table (row ∷ []) a b q
-    puts_row {r = r} {a = a} {b = b} {q = q} is suits inside runs ok =
+    puts_row {r = r} {a = a} {b = b} {q = q} is suits kept runs ok =
         puts_as (ap (λ l. l ∷ []) is) (record {
-          inside = inside;
+          continues = kept;
           runs = runs;
           ok = on_ok q _ _ (λ turned. turned (subst (SuitColumns table.columns) (sym is) suits)) ok;
         })
 
-    pub puts_then : {X : Type 0} (xs ys : List Row) {a b c : Held S} {r : Result X Error}
+    pub puts_then : {X : Type 0} (xs ys : List Row) {a b c : Transaction S} {r : Result X Error}
         → Puts g text table xs a b (Ok (tt {0})) → Puts g text table ys b c r → Puts g text table (xs ++ ys) a c r
     puts_then xs ys {a = a} {b = b} {c = c} {r = r} one two = record {
-      inside = stays_then g a b c one.inside two.inside;
-      runs = subst (λ calls. RunsInside g calls a c r) (sym (map-append (λ row. (text, row)) xs ys))
-          (runs_rest g (puts text xs) (puts text ys) a b c r one.inside two.inside one.runs two.runs);
-      ok = on_ok r _ _ (adds_then g table a b c xs ys two.inside one.ok) two.ok;
+      continues = continues_then g a b c one.continues two.continues;
+      runs = subst (λ calls. RunsInside g calls a.conn.now c.conn.now r) (sym (map-append (λ row. (text, row)) xs ys))
+          (runs_rest g (puts text xs) (puts text ys) a.conn.now b.conn.now c.conn.now r one.continues.inside
+          two.continues.inside one.runs two.runs);
+      ok = on_ok r _ _ (adds_then g table a.conn.now b.conn.now c.conn.now xs ys two.continues.inside one.ok) two.ok;
     }
 
     -- a row failed, and none behind it was begun
-    pub puts_stops : {X Y : Type 0} (xs ys : List Row) {a b : Held S} {q : Result X Error} {e : Error}
+    pub puts_stops : {X Y : Type 0} (xs ys : List Row) {a b : Transaction S} {q : Result X Error} {e : Error}
         (r : Result Y Error) → q ≡ Err e → IsErrAnd r (λ z. z ≡ e) → Puts g text table xs a b q
         → Puts g text table (xs ++ ys) a b r
     puts_stops xs ys {a = a} {b = b} r failed told first =

@@ -20,7 +20,7 @@ use Rattle.sqlite_rules.proofs.ListLemmas.{has_left, has_kept}
 use Rattle.terms.specs.Types.{Text, Id, Ver, Sysmod}
 use Rattle.terms.specs.Global.{with_sysmod}
 use Rattle.terms.specs.Lookups.{is_received}
-use Rattle.lemmas.proofs.Texts.{same_from}
+use Rattle.terms.proofs.TextOrder.{same_from}
 use Rattle.sysmod.specs.Edited.{with_sources, less_sysmod}
 use Rattle.store_rows.specs.Rows.{Contents, has_key, without, HasContents}
 use Rattle.store_rows.proofs.Keys.{equals, and_true}

@@ -3,10 +3,10 @@ use Rattle.std.specs.Prelude.{ℕ, List, Result, OnOk}
 use Rattle.sqlite.specs.Store.{Ghosts}
 use Rattle.sqlite.specs.Order.{Row}
 use Rattle.sqlite.specs.Table.{Table}
-use Rattle.sqlite.specs.Held.{Held}
+use Rattle.sqlite.specs.declared.transaction.Transaction.{Transaction}
 use Rattle.sqlite.specs.declared.error.Error.{Error}
 use Rattle.store_rows.specs.Calls.{Call, RunsInside}
-use Rattle.store_rows.specs.Inside.{StaysInside, Turns}
+use Rattle.store_rows.specs.Inside.{Continues, Turns}
 use Rattle.store_rows.specs.Rows.{Contents, HasContents, in_table}
 use Rattle.store_schema.specs.Tables.{store_schema}
 use Rattle.store_sysmods.specs.Calls.{puts}
@@ -14,12 +14,13 @@ use Rattle.store_sysmods.specs.Sysmods.{with_rows}
 
 -- The statements ran, and made this of what the tables held; or one of them failed, or memory was short. Nothing is
 -- committed.
-pub record Step {S X : Type 0} (g : Ghosts S) (calls : List Call) (make : Contents → Contents) (old new : Held S)
+pub record Step {S X : Type 0} (g : Ghosts S) (calls : List Call) (make : Contents → Contents) (old new : Transaction S)
     (result : Result X Error) : Type 0 where
-  pub inside : StaysInside g old new
-  pub runs : RunsInside g calls old new result
-  pub ok : OnOk result (Turns g old new (HasContents store_schema) make)
+  pub continues : Continues g old new
+  pub runs : RunsInside g calls old.conn.now new.conn.now result
+  pub ok : OnOk result (Turns g old.conn.now new.conn.now (HasContents store_schema) make)
 
 -- the text ran for each of these rows, and the table holds them too
-abbrev pub Puts : {S X : Type 0} → Ghosts S → List ℕ → Table → List Row → Held S → Held S → Result X Error → Type 0
+abbrev pub Puts : {S X : Type 0} → Ghosts S → List ℕ → Table → List Row → Transaction S → Transaction S
+    → Result X Error → Type 0
 Puts g text table rows old new result = Step g (puts text rows) (in_table table (with_rows rows)) old new result

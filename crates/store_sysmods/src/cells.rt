@@ -11,8 +11,8 @@ ghost use Rattle.terms.specs.Forms.{IsId};
 use fields::{Id, IdList};
 use sqlite::Row;
 use std::alloc::Global;
-use store_columns::{ids_in, optional_id_in};
 use store_rows::{ReadError, whole};
+use store_schema::{ids_in, optional_in};
 
 /// Ids, of which the SYSMOD's own is none.
 pub(crate) fn others_in(alloc: Global, row: &Row, at: usize, id: Id) -> Result<IdList, ReadError>
@@ -54,7 +54,7 @@ pub(crate) fn other_in(row: &Row, at: usize, id: Id) -> Option<Option<Id>>
     ensures none { IfNone result ((other : Option (List ℕ)) → IfSome other (λ o. IsId o × (o ≢ id))
         → column row.now at ≢ or_null Text other) }
 {
-    let other = optional_id_in(row, at)?;
+    let other = optional_in(row, at)?;
     if other == Some(id) {
         return None;
     }

@@ -27,11 +27,11 @@ use fields::{Id, Name};
 use sqlite::{Alter, Error, Row, Transaction};
 use sqlite_value::value::ValueRef;
 use std::alloc::Global;
-use store_columns::{
-    Query, elem_type_in, element_text_in, flag_in, id_in, is_updated, name_in, optional_name_in,
+use store_rows::{FromRow, ReadError, insert, remove};
+use store_schema::{
+    Query, elem_type_in, element_text_in, flag_in, id_in, is_updated, name_in, optional_in,
     records_in,
 };
-use store_rows::{FromRow, ReadError, insert, remove};
 use sysmod::{Action, ElemChange};
 use terms::ElemType;
 use text80::{Line, TextError, Update, bytes_of};
@@ -117,10 +117,10 @@ fn action_in(alloc: Global, row: &Row, elem_type: ElemType, name: Name) -> Resul
     let Some(updates) = flag_in(row, 3) else {
         return Err(ReadError::BadRow);
     };
-    let Some(distlib) = optional_name_in(row, 4) else {
+    let Some(distlib) = optional_in(row, 4) else {
         return Err(ReadError::BadRow);
     };
-    let Some(syslib) = optional_name_in(row, 5) else {
+    let Some(syslib) = optional_in(row, 5) else {
         return Err(ReadError::BadRow);
     };
     match (updates, distlib, syslib) {
@@ -256,9 +256,7 @@ fn insert_row<'a, S: Alter>(
     text: &'a [u8],
 ) -> Result<(), Error>
     requires { text.now ≡ concat (lines_in change.now.action) }
-    ensures same_reference { tx.new.conn.ghost_name ≡ tx.old.conn.ghost_name }
-    ensures puts { Puts S.Store into_elem elem_table (elem_row id.now change.now ∷ [])
-        tx.old.conn.now tx.new.conn.now result }
+    ensures { Puts S.Store into_elem elem_table (elem_row id.now change.now ∷ []) tx.old tx.new result }
 {
     let id = ValueRef::Text(id.as_bytes());
     let elem_type = ValueRef::Text(type_text(change.elem_type));
@@ -308,9 +306,8 @@ impl Rows for Changes {
 
 /// Takes out the SYSMOD's rows.
 pub(crate) fn remove_rows<S: Alter>(tx: &mut Transaction<'_, S>, id: Id) -> Result<(), Error>
-    ensures same_reference { tx.new.conn.ghost_name ≡ tx.old.conn.ghost_name }
-    ensures takes { Step S.Store ((delete_elems, sysmod_key id) ∷ [])
-        (in_table elem_table (without (sysmod_key id))) tx.old.conn.now tx.new.conn.now result }
+    ensures { Step S.Store ((delete_elems, sysmod_key id) ∷ [])
+        (in_table elem_table (without (sysmod_key id))) tx.old tx.new result }
 {
     let key = [ValueRef::Text(id.as_bytes())];
     remove(tx, DELETE, &key)

@@ -5,7 +5,7 @@ ghost use Rattle.sqlite.specs.Held.{state};
 ghost use Rattle.sqlite.specs.Order.{column};
 ghost use Rattle.sqlite.specs.State.{HasCleanDisk};
 ghost use Rattle.store_rows.specs.Calls.{RunsInside};
-ghost use Rattle.store_rows.specs.Inside.{StaysInside};
+ghost use Rattle.store_rows.specs.Inside.{Continues};
 ghost use Rattle.store_rows.specs.Rows.{Contents, HasContents, HaveNone, in_table, without};
 ghost use Rattle.store_schema.specs.Forms.{AreSorted};
 ghost use Rattle.store_schema.specs.Rows.{ids, sysmod_row};
@@ -24,8 +24,8 @@ use sorted::Keyed;
 use sqlite::{Alter, Error, Row, Transaction};
 use sqlite_value::value::ValueRef;
 use std::alloc::Global;
-use store_columns::{Query, id_in, kind_in, sources_in};
 use store_rows::{FromRow, ReadError, insert, remove_parent, text};
+use store_schema::{Query, id_in, kind_in, sources_in};
 use sysmod::Sysmod;
 use terms::Kind;
 
@@ -237,9 +237,7 @@ pub(crate) fn insert_row<S: Alter>(
     tx: &mut Transaction<'_, S>,
     sysmod: &Sysmod,
 ) -> Result<(), Error>
-    ensures same_reference { tx.new.conn.ghost_name ≡ tx.old.conn.ghost_name }
-    ensures puts { Puts S.Store into_sysmod sysmod_table (sysmod_row sysmod.now ∷ [])
-        tx.old.conn.now tx.new.conn.now result }
+    ensures { Puts S.Store into_sysmod sysmod_table (sysmod_row sysmod.now ∷ []) tx.old tx.new result }
 {
     let id = ValueRef::Text(sysmod.id.as_bytes());
     let kind = ValueRef::Text(kind_text(sysmod.kind));
@@ -249,8 +247,7 @@ pub(crate) fn insert_row<S: Alter>(
 
 /// Takes out the SYSMOD's own row, where the tables that refer to it hold none of the SYSMOD.
 pub(crate) fn remove_row<S: Alter>(tx: &mut Transaction<'_, S>, id: Id) -> Result<(), Error>
-    ensures same_reference { tx.new.conn.ghost_name ≡ tx.old.conn.ghost_name }
-    ensures inside { StaysInside S.Store tx.old.conn.now tx.new.conn.now }
+    ensures continues { Continues S.Store tx.old tx.new }
     ensures calls { RunsInside S.Store ((delete_sysmod, sysmod_key id) ∷ []) tx.old.conn.now tx.new.conn.now result }
     ensures ok { OnOk result (HasCleanDisk (state S.Store tx.new.conn.now) → (contents : Contents)
         → HaveNone sysmod_children (sysmod_key id) contents

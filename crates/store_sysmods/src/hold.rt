@@ -11,7 +11,7 @@ ghost use Rattle.sqlite.specs.State.{HasCleanDisk};
 ghost use Rattle.sqlite.specs.Values.{or_null};
 ghost use Rattle.sqlite_value.specs.Value.{owned};
 ghost use Rattle.store_rows.specs.Calls.{RunsInside};
-ghost use Rattle.store_rows.specs.Inside.{StaysInside, Turns};
+ghost use Rattle.store_rows.specs.Inside.{Continues, Turns};
 ghost use Rattle.store_rows.specs.Reads.{OnlyReads};
 ghost use Rattle.store_rows.specs.Rows.{Contents, HasContents, in_table, without, with_put};
 ghost use Rattle.store_schema.specs.declared.schema.Schema.{Schema};
@@ -21,19 +21,18 @@ ghost use Rattle.store_schema.specs.Inventory.{Inventory};
 ghost use Rattle.store_schema.specs.Rows.{hold_row, flag as flag_of};
 ghost use Rattle.store_schema.specs.Tables.{hold as hold_table, store_schema};
 ghost use Rattle.terms.specs.Forms.{IsReason};
-ghost use Rattle.terms.specs.Global.{hold_cmp};
-ghost use Rattle.terms.specs.Rising.{Rises};
 ghost use Rattle.terms.specs.Types as terms;
 ghost use Rattle.store_sysmods.specs.Holds.{hold_key, key_row, put_hold_calls, remove_hold_calls};
 
 use crate::hold_comment::is_comment;
+use crate::listed::{Listed, load_sorted};
 use fields::spelling::hold_text;
-use fields::{Class, HoldDate, Id, Reason};
+use fields::{Id, Reason};
 use sqlite::{Alter, Connection, Error, Row, Transaction};
 use sqlite_value::value::ValueRef;
 use std::alloc::Global;
-use store_columns::{Query, class_in, flag_in, hold_date_in, hold_kind_in, id_in, load_listed};
 use store_rows::{FromRow, ReadError, optional_text, put, remove, text};
+use store_schema::{Query, flag_in, hold_kind_in, id_in, optional_in, text_or_null};
 use sysmod::Hold;
 use terms::HoldKind;
 
@@ -124,10 +123,10 @@ impl FromRow for Holds {
         let Some(fmid) = id_in(row, 3) else {
             return Err(ReadError::BadRow);
         };
-        let Some(class) = class_in(row, 4) else {
+        let Some(class) = optional_in(row, 4) else {
             return Err(ReadError::BadRow);
         };
-        let Some(date) = hold_date_in(row, 5) else {
+        let Some(date) = optional_in(row, 5) else {
             return Err(ReadError::BadRow);
         };
         let comment = comment_in(alloc, row, 6)?;
@@ -166,14 +165,18 @@ impl Query for Holds {
     }
 }
 
-/// The holds by their keys.
-fn by_key(mut holds: Vec<Hold>) -> Vec<Hold>
-    ensures same { IsPermutation holds.items result.items }
-    ensures only { (others : List terms.Hold) → IsPermutation holds.items others → Rises hold_cmp (λ h. h) others
-        → result.items ≡ others }
-{
-    holds.sort_unstable_by(|a, b| a.order(b));
-    holds
+impl Listed for Holds {
+    ghost use Rattle.std.specs.Prelude.{refl};
+
+    type Key = (Id, (HoldKind, Reason));
+
+    ghost key_of = { λ hold. (hold.id, (hold.kind, hold.reason)) };
+
+    fn key(hold: &Hold) -> (Id, (HoldKind, Reason)) {
+        (hold.id, (hold.kind, hold.reason))
+    }
+
+    ghost whole = { refl };
 }
 
 /// All holds, by id, kind and reason. `BadRow` comes where a row is no hold, `Memory` where memory is short, and
@@ -194,29 +197,10 @@ pub fn load_holds<S: Alter>(alloc: Global, conn: &mut Connection<S>) -> Result<V
     ensures reads { (r : Schema) → OnlyReads S.Store (schema_under r) ReadError.BadRow ReadError.Fault conn.old
         conn.new result }
 {
-    let holds = load_listed::<S, Holds>(alloc, conn, &[])?;
-    Ok(by_key(holds))
+    load_sorted::<S, Holds>(alloc, conn)
 }
 
 // ---- as it is written
-
-fn class_value(class: &Option<Class>) -> ValueRef<'_>
-    ensures { owned result ≡ or_null Text class.now }
-{
-    match class {
-        Some(class) => ValueRef::Text(class.as_bytes()),
-        None => ValueRef::Null,
-    }
-}
-
-fn date_value(date: &Option<HoldDate>) -> ValueRef<'_>
-    ensures { owned result ≡ or_null Text date.now }
-{
-    match date {
-        Some(date) => ValueRef::Text(date.as_bytes()),
-        None => ValueRef::Null,
-    }
-}
 
 fn comment_value(comment: &Option<String>) -> ValueRef<'_>
     ensures { owned result ≡ or_null Text (option_map string_bytes comment.now) }
@@ -243,8 +227,7 @@ pub fn remove_hold<S: Alter>(
     kind: HoldKind,
     reason: Reason,
 ) -> Result<(), Error>
-    ensures same_reference { tx.new.conn.ghost_name ≡ tx.old.conn.ghost_name }
-    ensures inside { StaysInside S.Store tx.old.conn.now tx.new.conn.now }
+    ensures continues { Continues S.Store tx.old tx.new }
     ensures calls { RunsInside S.Store (remove_hold_calls id kind reason) tx.old.conn.now tx.new.conn.now result }
     ensures ok { OnOk result (Turns S.Store tx.old.conn.now tx.new.conn.now (HasContents store_schema)
         (in_table hold_table (without (key_row id kind reason)))) }
@@ -260,8 +243,7 @@ pub fn remove_hold<S: Alter>(
 /// Puts the hold in place of the one that has its key, if there is one. An error comes where the disk fails or memory
 /// is short.
 pub fn put_hold<S: Alter>(tx: &mut Transaction<'_, S>, hold: &Hold) -> Result<(), Error>
-    ensures same_reference { tx.new.conn.ghost_name ≡ tx.old.conn.ghost_name }
-    ensures inside { StaysInside S.Store tx.old.conn.now tx.new.conn.now }
+    ensures continues { Continues S.Store tx.old tx.new }
     ensures calls { RunsInside S.Store (put_hold_calls hold.now) tx.old.conn.now tx.new.conn.now result }
     ensures ok { OnOk result (Turns S.Store tx.old.conn.now tx.new.conn.now (HasContents store_schema)
         (with_put hold_table (hold_key hold.now) (hold_row hold.now))) }
@@ -270,8 +252,8 @@ pub fn put_hold<S: Alter>(tx: &mut Transaction<'_, S>, hold: &Hold) -> Result<()
     let kind = ValueRef::Text(hold_text(hold.kind));
     let reason = ValueRef::Text(hold.reason.as_bytes());
     let fmid = ValueRef::Text(hold.fmid.as_bytes());
-    let class = class_value(&hold.class);
-    let date = date_value(&hold.date);
+    let class = text_or_null(&hold.class);
+    let date = text_or_null(&hold.date);
     let comment = comment_value(&hold.comment);
     let internal = flag_value(hold.internal);
     put(

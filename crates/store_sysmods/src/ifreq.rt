@@ -18,8 +18,8 @@ use fields::{Id, Srel};
 use sqlite::{Alter, Error, Row, Transaction};
 use sqlite_value::value::ValueRef;
 use std::alloc::Global;
-use store_columns::{Query, id_in, joined_ids, srel_in};
 use store_rows::{FromRow, ReadError, insert, remove};
+use store_schema::{Query, id_in, joined_ids, srel_in};
 use sysmod::{IfReq, Ver};
 
 const SELECT: &str = "SELECT id, srel, n, fmid, req FROM ifreq";
@@ -131,9 +131,8 @@ fn insert_row<'a, S: Alter>(
 ) -> Result<(), Error>
     requires number { number < 2 ^ 63 }
     requires req { req.now ≡ join_with_byte 44 ifreq.now.req }
-    ensures same_reference { tx.new.conn.ghost_name ≡ tx.old.conn.ghost_name }
-    ensures puts { Puts S.Store into_ifreq ifreq_table (ifreq_row id.now srel.now (number, ifreq.now) ∷ [])
-        tx.old.conn.now tx.new.conn.now result }
+    ensures { Puts S.Store into_ifreq ifreq_table (ifreq_row id.now srel.now (number, ifreq.now) ∷ [])
+        tx.old tx.new result }
 {
     let id = ValueRef::Text(id.as_bytes());
     let srel = ValueRef::Text(srel.as_bytes());
@@ -224,9 +223,8 @@ impl Rows for FirstIfs {
 
 /// Takes out the SYSMOD's rows.
 pub(crate) fn remove_rows<S: Alter>(tx: &mut Transaction<'_, S>, id: Id) -> Result<(), Error>
-    ensures same_reference { tx.new.conn.ghost_name ≡ tx.old.conn.ghost_name }
-    ensures takes { Step S.Store ((delete_ifreqs, sysmod_key id) ∷ [])
-        (in_table ifreq_table (without (sysmod_key id))) tx.old.conn.now tx.new.conn.now result }
+    ensures { Step S.Store ((delete_ifreqs, sysmod_key id) ∷ [])
+        (in_table ifreq_table (without (sysmod_key id))) tx.old tx.new result }
 {
     let key = [ValueRef::Text(id.as_bytes())];
     remove(tx, DELETE, &key)

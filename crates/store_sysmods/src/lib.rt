@@ -30,6 +30,6 @@ pub use listed::{Listed, by_keys, load_sorted};
 pub use moreif::MoreIfs;
 pub use morever::MoreVers;
 pub use numbers::number_behind;
-pub use source::{SourceRow, Sources};
+pub use source::{SourceRow, Sources, insert_source};
 pub use sysmod_rows::{insert_sysmod, remove_sysmod, replace_sources};
 pub use ver::{VerRow, Vers};

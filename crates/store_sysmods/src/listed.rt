@@ -12,8 +12,8 @@ ghost use Rattle.terms.specs.Rising.{Rises};
 
 use sqlite::{Alter, Connection};
 use std::alloc::Global;
-use store_columns::{Query, load_listed};
 use store_rows::{FromRow, ReadError};
+use store_schema::{Query, load_listed};
 
 /// A query of a whole table, whose rows keys tell apart.
 pub trait Listed: Query {

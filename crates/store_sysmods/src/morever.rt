@@ -18,8 +18,8 @@ use fields::{Id, IdList};
 use sqlite::{Alter, Error, Row, Transaction};
 use sqlite_value::value::ValueRef;
 use std::alloc::Global;
-use store_columns::{Query, id_in, id_value, srel_in};
 use store_rows::{FromRow, ReadError, insert, remove};
+use store_schema::{Query, id_in, srel_in, text_or_null};
 use sysmod::Ver;
 
 const SELECT: &str = "SELECT id, srel, n, fmid, pre, req, sup FROM morever";
@@ -116,14 +116,13 @@ fn insert_row<'a, S: Alter>(
 ) -> Result<(), Error>
     requires number { number < 2 ^ 63 }
     requires lists { AreLists lists.now ver.now }
-    ensures same_reference { tx.new.conn.ghost_name ≡ tx.old.conn.ghost_name }
-    ensures puts { Puts S.Store into_morever morever_table (morever_row id.now (number, ver.now) ∷ [])
-        tx.old.conn.now tx.new.conn.now result }
+    ensures { Puts S.Store into_morever morever_table (morever_row id.now (number, ver.now) ∷ [])
+        tx.old tx.new result }
 {
     let id = ValueRef::Text(id.as_bytes());
     let srel = ValueRef::Text(ver.srel.as_bytes());
     let number = ValueRef::Int(number as i64);
-    let fmid = id_value(&ver.fmid);
+    let fmid = text_or_null(&ver.fmid);
     let pre = ValueRef::Text(lists.pre.as_slice());
     let req = ValueRef::Text(lists.req.as_slice());
     let sup = ValueRef::Text(lists.sup.as_slice());
@@ -167,9 +166,8 @@ impl Rows for FurtherVers {
 
 /// Takes out the SYSMOD's rows.
 pub(crate) fn remove_rows<S: Alter>(tx: &mut Transaction<'_, S>, id: Id) -> Result<(), Error>
-    ensures same_reference { tx.new.conn.ghost_name ≡ tx.old.conn.ghost_name }
-    ensures takes { Step S.Store ((delete_morevers, sysmod_key id) ∷ [])
-        (in_table morever_table (without (sysmod_key id))) tx.old.conn.now tx.new.conn.now result }
+    ensures { Step S.Store ((delete_morevers, sysmod_key id) ∷ [])
+        (in_table morever_table (without (sysmod_key id))) tx.old tx.new result }
 {
     let key = [ValueRef::Text(id.as_bytes())];
     remove(tx, DELETE, &key)

@@ -30,9 +30,7 @@ pub(crate) trait Rows {
         item: &Self::Item,
     ) -> Result<(), Error>
         requires { length front.now + 1 < 2 ^ 63 }
-        ensures same_reference { tx.new.conn.ghost_name ≡ tx.old.conn.ghost_name }
-        ensures puts { Puts S.Store text table (rows self.now front.now item.now)
-            tx.old.conn.now tx.new.conn.now result };
+        ensures { Puts S.Store text table (rows self.now front.now item.now) tx.old tx.new result };
 }
 
 /// Adds the rows of each item.
@@ -42,9 +40,7 @@ pub(crate) fn insert_all<R: Rows, S: Alter>(
     items: &[R::Item],
 ) -> Result<(), Error>
     requires { length items.now < 2 ^ 63 }
-    ensures same_reference { tx.new.conn.ghost_name ≡ tx.old.conn.ghost_name }
-    ensures puts { Puts S.Store R.text R.table (rows_behind (R.rows kind.now) [] items.now)
-        tx.old.conn.now tx.new.conn.now result }
+    ensures { Puts S.Store R.text R.table (rows_behind (R.rows kind.now) [] items.now) tx.old tx.new result }
 {
     for (index, item) in items.iter().enumerate() {
         kind.insert(tx, &items[..index], item)?;

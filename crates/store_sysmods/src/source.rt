@@ -18,8 +18,8 @@ use fields::{Id, Source};
 use sqlite::{Alter, Error, Row, Transaction};
 use sqlite_value::value::ValueRef;
 use std::alloc::Global;
-use store_columns::{Query, id_in};
 use store_rows::{FromRow, ReadError, insert, remove, text};
+use store_schema::{Query, id_in};
 
 const SELECT: &str = "SELECT id, name FROM source";
 
@@ -111,15 +111,14 @@ impl Listed for Sources {
 
 // ---- as it is written
 
-// Adds the row of a source.
-fn insert_row<'a, S: Alter>(
+/// Adds the row of a source. An error comes where the SYSMOD is not received, where it has the source, where the disk
+/// fails or memory is short.
+pub fn insert_source<'a, S: Alter>(
     tx: &mut Transaction<'_, S>,
     id: &'a Id,
     source: &'a Source,
 ) -> Result<(), Error>
-    ensures same_reference { tx.new.conn.ghost_name ≡ tx.old.conn.ghost_name }
-    ensures puts { Puts S.Store into_source source_table (source_row id.now source.now ∷ [])
-        tx.old.conn.now tx.new.conn.now result }
+    ensures { Puts S.Store into_source source_table (source_row id.now source.now ∷ []) tx.old tx.new result }
 {
     let id = ValueRef::Text(id.as_bytes());
     let name = ValueRef::Text(source.as_bytes());
@@ -152,15 +151,14 @@ impl Rows for SourcesOf {
         _front: &[Source],
         source: &Source,
     ) -> Result<(), Error> {
-        insert_row(tx, &self.id, source)
+        insert_source(tx, &self.id, source)
     }
 }
 
 /// Takes out the SYSMOD's rows.
 pub(crate) fn remove_rows<S: Alter>(tx: &mut Transaction<'_, S>, id: Id) -> Result<(), Error>
-    ensures same_reference { tx.new.conn.ghost_name ≡ tx.old.conn.ghost_name }
-    ensures takes { Step S.Store ((delete_sources, sysmod_key id) ∷ [])
-        (in_table source_table (without (sysmod_key id))) tx.old.conn.now tx.new.conn.now result }
+    ensures { Step S.Store ((delete_sources, sysmod_key id) ∷ [])
+        (in_table source_table (without (sysmod_key id))) tx.old tx.new result }
 {
     let key = [ValueRef::Text(id.as_bytes())];
     remove(tx, DELETE, &key)

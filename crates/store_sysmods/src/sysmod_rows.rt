@@ -2,7 +2,7 @@
 
 ghost use Rattle.std.specs.Prelude.{◌≡◌, OnOk};
 ghost use Rattle.store_rows.specs.Calls.{RunsInside};
-ghost use Rattle.store_rows.specs.Inside.{StaysInside, Turns};
+ghost use Rattle.store_rows.specs.Inside.{Continues, Turns};
 ghost use Rattle.store_rows.specs.Rows.{HasContents};
 ghost use Rattle.store_schema.specs.Tables.{store_schema};
 ghost use Rattle.store_sysmods.specs.Calls.{insert_sysmod_calls, remove_sysmod_calls, replace_sources_calls};
@@ -29,9 +29,7 @@ fn insert_rows<S: Alter>(
     tx: &mut Transaction<'_, S>,
     sysmod: &Sysmod,
 ) -> Result<(), Error>
-    ensures same_reference { tx.new.conn.ghost_name ≡ tx.old.conn.ghost_name }
-    ensures step { Step S.Store (insert_sysmod_calls sysmod.now) (with_sysmod_rows sysmod.now)
-        tx.old.conn.now tx.new.conn.now result }
+    ensures { Step S.Store (insert_sysmod_calls sysmod.now) (with_sysmod_rows sysmod.now) tx.old tx.new result }
 {
     let id = sysmod.id;
     head::insert_row(tx, sysmod)?;
@@ -51,8 +49,7 @@ pub fn insert_sysmod<S: Alter>(
     tx: &mut Transaction<'_, S>,
     sysmod: &Sysmod,
 ) -> Result<(), Error>
-    ensures same_reference { tx.new.conn.ghost_name ≡ tx.old.conn.ghost_name }
-    ensures inside { StaysInside S.Store tx.old.conn.now tx.new.conn.now }
+    ensures continues { Continues S.Store tx.old tx.new }
     ensures calls { RunsInside S.Store (insert_sysmod_calls sysmod.now) tx.old.conn.now tx.new.conn.now result }
     ensures ok { OnOk result (Turns S.Store tx.old.conn.now tx.new.conn.now (HasContents store_schema)
         (with_sysmod_rows sysmod.now)) }
@@ -65,8 +62,7 @@ pub fn insert_sysmod<S: Alter>(
 /// the database refuses the first of them, and of two that are the same the second. Any other error comes of the disk,
 /// or of memory that is short.
 pub fn replace_sources<S: Alter>(tx: &mut Transaction<'_, S>, sysmod: &Sysmod) -> Result<(), Error>
-    ensures same_reference { tx.new.conn.ghost_name ≡ tx.old.conn.ghost_name }
-    ensures inside { StaysInside S.Store tx.old.conn.now tx.new.conn.now }
+    ensures continues { Continues S.Store tx.old tx.new }
     ensures calls { RunsInside S.Store (replace_sources_calls sysmod.now) tx.old.conn.now tx.new.conn.now result }
     ensures ok { OnOk result (Turns S.Store tx.old.conn.now tx.new.conn.now (HasContents store_schema)
         (with_source_rows sysmod.now)) }
@@ -79,8 +75,7 @@ pub fn replace_sources<S: Alter>(tx: &mut Transaction<'_, S>, sysmod: &Sysmod) -
 /// Takes out the SYSMOD of the id, if there is one, with all its rows. The holds on it stay. An error comes where the
 /// disk fails or memory is short.
 pub fn remove_sysmod<S: Alter>(tx: &mut Transaction<'_, S>, id: Id) -> Result<(), Error>
-    ensures same_reference { tx.new.conn.ghost_name ≡ tx.old.conn.ghost_name }
-    ensures inside { StaysInside S.Store tx.old.conn.now tx.new.conn.now }
+    ensures continues { Continues S.Store tx.old tx.new }
     ensures calls { RunsInside S.Store (remove_sysmod_calls id) tx.old.conn.now tx.new.conn.now result }
     ensures ok { OnOk result (Turns S.Store tx.old.conn.now tx.new.conn.now (HasContents store_schema)
         (without_sysmod_rows id)) }

@@ -17,8 +17,8 @@ use fields::{Id, Srel};
 use sqlite::{Alter, Error, Row, Transaction};
 use sqlite_value::value::ValueRef;
 use std::alloc::{AllocError, Global};
-use store_columns::{Query, id_in, id_value, joined_ids, srel_in};
 use store_rows::{FromRow, ReadError, insert, remove};
+use store_schema::{Query, id_in, joined_ids, srel_in, text_or_null};
 use sysmod::Ver;
 
 const SELECT: &str = "SELECT id, srel, fmid, pre, req, sup, npre, del FROM ver";
@@ -153,13 +153,11 @@ fn insert_row<S: Alter>(
     lists: &Lists,
 ) -> Result<(), Error>
     requires { AreLists lists.now ver.now }
-    ensures same_reference { tx.new.conn.ghost_name ≡ tx.old.conn.ghost_name }
-    ensures puts { Puts S.Store into_ver ver_table (ver_row id.now ver.now ∷ [])
-        tx.old.conn.now tx.new.conn.now result }
+    ensures { Puts S.Store into_ver ver_table (ver_row id.now ver.now ∷ []) tx.old tx.new result }
 {
     let id = ValueRef::Text(id.as_bytes());
     let srel = ValueRef::Text(ver.srel.as_bytes());
-    let fmid = id_value(&ver.fmid);
+    let fmid = text_or_null(&ver.fmid);
     let pre = ValueRef::Text(lists.pre.as_slice());
     let req = ValueRef::Text(lists.req.as_slice());
     let sup = ValueRef::Text(lists.sup.as_slice());
@@ -205,9 +203,8 @@ impl Rows for FirstVers {
 
 /// Takes out the SYSMOD's rows.
 pub(crate) fn remove_rows<S: Alter>(tx: &mut Transaction<'_, S>, id: Id) -> Result<(), Error>
-    ensures same_reference { tx.new.conn.ghost_name ≡ tx.old.conn.ghost_name }
-    ensures takes { Step S.Store ((delete_vers, sysmod_key id) ∷ [])
-        (in_table ver_table (without (sysmod_key id))) tx.old.conn.now tx.new.conn.now result }
+    ensures { Step S.Store ((delete_vers, sysmod_key id) ∷ [])
+        (in_table ver_table (without (sysmod_key id))) tx.old tx.new result }
 {
     let key = [ValueRef::Text(id.as_bytes())];
     remove(tx, DELETE, &key)

@@ -1,6 +1,8 @@
 //! Removals, sources in place of others, and what a commit leaves alone.
+
 use crate::known::{
-    commit_delta, committed, doubled, filled, lines, loaded, opened, run, zone_name,
+    commit, commit_delta, compare, doubled, known_with, lines, loaded, opened, run, run_all,
+    zone_name,
 };
 use crate::round_trip::{all_lines, delta_to};
 use fields::{Id, IdList, Name, Reason, Source, VerNumber, YyDdd};
@@ -46,28 +48,32 @@ fn rejections(alloc: Global) -> Result<Change<'static>, Fail> {
 
 fn commit_all<S: Alter>(alloc: Global, store: &mut Store<S>) -> Result<(), Fail> {
     commit_delta(store, zone_name(b"TGT1")?, removals(alloc)?)?;
-    committed(store.commit(&new_sources(alloc)?))?;
-    committed(store.commit(&rejections(alloc)?))
+    commit(store, &new_sources(alloc)?)?;
+    commit(store, &rejections(alloc)?)
 }
 
 const LEFT: &str =
-    "SELECT id || ' ' || kind FROM sysmod UNION ALL SELECT id || ' ' || name FROM source UNION ALL SELECT id || ' ' || reason FROM hold UNION ALL SELECT zone || ' ' || id FROM entry UNION ALL SELECT zone || ' ' || name FROM zelem WHERE type = 'MAC' ORDER BY 1";
+    "SELECT id||' '||kind FROM sysmod UNION ALL SELECT id||' '||name FROM source UNION ALL SELECT id||' '||reason \
+        FROM hold UNION ALL SELECT zone||' '||id FROM entry UNION ALL SELECT zone||' '||name FROM zelem WHERE type \
+        = 'MAC' ORDER BY 1";
 
 /// What is left of the known rows.
-fn left<S: Alter + Drop>(alloc: Global, conn: Connection<S>) -> Result<String, Fail> {
-    let mut store = opened(alloc, filled(alloc, conn)?)?;
+fn left<S: Alter + Drop>(alloc: Global, known: Connection<S>) -> Result<String, Fail> {
+    let mut store = opened(alloc, known)?;
     commit_all(alloc, &mut store)?;
     lines(alloc, &mut store.close(), LEFT)
 }
 
+const LEFT_LINES: &str =
+    "AAA0003 APAR\nAAA0003 PUT2401$RSU2404#PUT2401$RSU2404#PUT2401$RSU2404#PUT2401$RSU2404#\n\
+    AAA0003 PUT2402\nDLB1 HAA1100\nDLB1 MAC1\nHAA1100 FUNCTION\nHAA1200 FUNCTION\nHAA1200 PUT2401\n\
+    HAA1200 SMCREC01\nTGT1 AAA0001\nTGT1 HAA1000\nTGT1 HAA1100\nTGT1 MAC1\nUAA0001 AAA0009\nUAA0001 ACTION\n\
+    UAA0001 DOC\nUAA0001 PTF\nUAA0001 PUT2401\n";
+
 #[test]
 fn rows_go_and_are_replaced(rt: HostRuntime) -> Result<(), Fail> {
-    let conn = Connection::open_in_memory(rt.alloc())?;
-    assert_eq!(rt;
-        left(rt.alloc(), conn)?.as_str(),
-        "AAA0003 APAR\nAAA0003 PUT2401$RSU2404#PUT2401$RSU2404#PUT2401$RSU2404#PUT2401$RSU2404#\nAAA0003 PUT2402\nDLB1 HAA1100\nDLB1 MAC1\nHAA1100 FUNCTION\nHAA1200 FUNCTION\nHAA1200 PUT2401\nHAA1200 SMCREC01\nTGT1 AAA0001\nTGT1 HAA1000\nTGT1 HAA1100\nTGT1 MAC1\nUAA0001 AAA0009\nUAA0001 ACTION\nUAA0001 DOC\nUAA0001 PTF\nUAA0001 PUT2401\n"
-    );
-    Ok(())
+    let got = left(rt.alloc(), known_with(rt.alloc(), &[])?)?;
+    compare("what is left", got.as_str(), LEFT_LINES)
 }
 
 /// What is told of the entries and elements of TGT1 for a zone that is not there.
@@ -81,22 +87,24 @@ fn told_of_no_zone<S: Alter>(
 }
 
 #[test]
-fn a_zone_that_is_not_there(rt: HostRuntime) -> Result<(), Fail> {
-    let alloc = rt.alloc();
-    let conn = filled(alloc, Connection::open_in_memory(alloc)?)?;
-    let told = told_of_no_zone(alloc, &mut opened(alloc, conn)?)?;
+fn a_zone_that_is_not_there_takes_no_entries(rt: HostRuntime) -> Result<(), Fail> {
+    let mut store = opened(rt.alloc(), known_with(rt.alloc(), &[])?)?;
+    let told = told_of_no_zone(rt.alloc(), &mut store)?;
     assert_eq!(rt; told, Err(StoreError::Fault));
     Ok(())
 }
 
 /// The first of many entries of DLB1, and of many elements.
 const FIRST: &str =
-    "INSERT INTO entry (zone, id, date, supby, delby, waived) VALUES ('DLB1', 'U100000', '24.138', '', NULL, ''); INSERT INTO zelem (zone, type, name, fmid, rmid, umid, distlib, syslib, text) VALUES ('DLB1', 'MAC', 'M100000', 'HAA1100', 'HAA1100', '', 'AMACLIB', 'MACLIB', x'')";
+    "INSERT INTO entry VALUES ('DLB1', 'U100000', '24.138', '', NULL, ''); INSERT INTO zelem VALUES ('DLB1', \
+        'MAC', 'M100000', 'HAA1100', 'HAA1100', '', 'AMACLIB', 'MACLIB', x'')";
 
 /// As many again, by numbers that are greater by this one.
 const AGAIN: &[&str] = &[
-    "INSERT INTO entry (zone, id, date, supby, delby, waived) SELECT zone, 'U' || (CAST(substr(id, 2) AS INTEGER) + ?1), date, supby, delby, waived FROM entry WHERE id >= 'U1' AND id < 'U2'",
-    "INSERT INTO zelem (zone, type, name, fmid, rmid, umid, distlib, syslib, text) SELECT zone, type, 'M' || (CAST(substr(name, 2) AS INTEGER) + ?1), fmid, rmid, umid, distlib, syslib, text FROM zelem WHERE name >= 'M1' AND name < 'M2'",
+    "INSERT INTO entry SELECT zone, 'U' || (CAST(substr(id, 2) AS INTEGER) + ?1), date, supby, delby, waived FROM \
+        entry WHERE id >= 'U1' AND id < 'U2'",
+    "INSERT INTO zelem SELECT zone, type, 'M' || (CAST(substr(name, 2) AS INTEGER) + ?1), fmid, rmid, umid, \
+        distlib, syslib, text FROM zelem WHERE name >= 'M1' AND name < 'M2'",
 ];
 
 /// 1,024 entries and as many elements.
@@ -106,10 +114,6 @@ fn add_many<S: Alter>(conn: &mut Connection<S>) -> Result<(), Fail> {
         doubled(conn, sql, 10)?;
     }
     Ok(())
-}
-
-fn applied_on(date: &[u8]) -> Option<Applied> {
-    Some(Applied::on(YyDdd::read(date)?))
 }
 
 /// This entry of DLB1 is installed so.
@@ -130,57 +134,40 @@ fn put_applied(alloc: Global, id: Id, applied: Option<Applied>) -> Result<ZoneDe
 
 /// The rows of all entries but that one, and of all elements, by their places.
 const OTHERS: &str =
-    "SELECT rowid || ' ' || zone || ' ' || id || ' ' || ifnull(date, '-') FROM entry WHERE id <> 'U100500' UNION ALL SELECT rowid || ' ' || zone || ' ' || type || ' ' || name FROM zelem";
+    "SELECT rowid||' '||zone||' '||id||' '||ifnull(date, '-') FROM entry WHERE id <> 'U100500' UNION ALL SELECT \
+        rowid||' '||zone||' '||type||' '||name FROM zelem";
 
-const CHANGED: &str = "SELECT zone || ' ' || id || ' ' || date FROM entry WHERE id = 'U100500'";
-
-fn commit_entry<S: Alter>(alloc: Global, store: &mut Store<S>) -> Result<(), Fail> {
-    // One of the entries has another date.
-    let delta = put_applied(alloc, id(b"U100500")?, applied_on(b"24.139"))?;
-    commit_delta(store, zone_name(b"DLB1")?, delta)
-}
+const CHANGED: &str = "SELECT zone||' '||id||' '||date FROM entry WHERE id = 'U100500'";
 
 /// The database once that entry has another date.
 fn with_entry<S: Alter + Drop>(alloc: Global, conn: Connection<S>) -> Result<Connection<S>, Fail> {
+    let applied = Applied::on(YyDdd::read(b"24.139").ok_or("no date")?);
+    let delta = put_applied(alloc, id(b"U100500")?, Some(applied))?;
     let mut store = opened(alloc, conn)?;
-    commit_entry(alloc, &mut store)?;
+    commit_delta(&mut store, zone_name(b"DLB1")?, delta)?;
     Ok(store.close())
 }
 
 #[test]
 fn other_rows_stay(rt: HostRuntime) -> Result<(), Fail> {
-    let alloc = rt.alloc();
-    let mut conn = filled(alloc, Connection::open_in_memory(alloc)?)?;
+    let mut conn = known_with(rt.alloc(), &[])?;
     add_many(&mut conn)?;
-    let before = lines(alloc, &mut conn, OTHERS)?;
-    let mut conn = with_entry(alloc, conn)?;
-    assert_eq!(rt; lines(alloc, &mut conn, OTHERS)?.as_str(), before.as_str());
-    assert_eq!(rt;
-        lines(alloc, &mut conn, CHANGED)?.as_str(),
-        "DLB1 U100500 24.139\n"
-    );
-    Ok(())
-}
-
-fn ver_number(number: usize) -> Result<VerNumber, Fail> {
-    if number == 0 || number > i64::MAX as usize {
-        return Err(Fail::from("no number"));
-    }
-    Ok(VerNumber::new(number))
+    let before = lines(rt.alloc(), &mut conn, OTHERS)?;
+    let mut conn = with_entry(rt.alloc(), conn)?;
+    let others = lines(rt.alloc(), &mut conn, OTHERS)?;
+    compare("other rows", others.as_str(), before.as_str())?;
+    let changed = lines(rt.alloc(), &mut conn, CHANGED)?;
+    compare("the row", changed.as_str(), "DLB1 U100500 24.139\n")
 }
 
 /// The entry of DLB1, installed by the `++VER` of this number.
 fn numbered(alloc: Global, number: usize) -> Result<ZoneDelta, Fail> {
+    if number == 0 || number > i64::MAX as usize {
+        return Err(Fail::from("no number"));
+    }
     let date = YyDdd::read(b"23.001").ok_or("no date")?;
-    let number = ver_number(number)?;
+    let number = VerNumber::new(number);
     put_applied(alloc, id(b"HAA1100")?, Some(Applied { date, number }))
-}
-
-/// That entry goes.
-fn removed(alloc: Global) -> Result<ZoneDelta, Fail> {
-    let mut delta = ZoneDelta::new(alloc);
-    delta.remove_entry(id(b"HAA1100")?)?;
-    Ok(delta)
 }
 
 /// Puts the entry with this number, or takes it out.
@@ -189,11 +176,13 @@ fn commit_number<S: Alter>(
     store: &mut Store<S>,
     number: Option<usize>,
 ) -> Result<(), Fail> {
-    let delta = match number {
-        Some(number) => numbered(alloc, number)?,
-        None => removed(alloc)?,
+    let zone = zone_name(b"DLB1")?;
+    let Some(number) = number else {
+        let mut delta = ZoneDelta::new(alloc);
+        delta.remove_entry(id(b"HAA1100")?)?;
+        return commit_delta(store, zone, delta);
     };
-    commit_delta(store, zone_name(b"DLB1")?, delta)
+    commit_delta(store, zone, numbered(alloc, number)?)
 }
 
 /// The number of the entry that is loaded, if there is one.
@@ -217,15 +206,14 @@ fn number_after<S: Alter>(
     number_loaded(store)
 }
 
-const NUMBERS: &str = "SELECT zone || ' ' || id || ' ' || n FROM chosen ORDER BY zone, id";
+const NUMBERS: &str = "SELECT zone||' '||id||' '||n FROM chosen ORDER BY zone, id";
 
 /// The rows of numbers after these commits, and the number that is loaded.
 fn numbers_after(
     alloc: Global,
     numbers: &[Option<usize>],
 ) -> Result<(String, Option<usize>), Fail> {
-    let conn = filled(alloc, Connection::open_in_memory(alloc)?)?;
-    let mut store = opened(alloc, conn)?;
+    let mut store = opened(alloc, known_with(alloc, &[])?)?;
     let loaded = number_after(alloc, &mut store, numbers)?;
     Ok((lines(alloc, &mut store.close(), NUMBERS)?, loaded))
 }
@@ -279,18 +267,19 @@ const WRITTEN: &[&str] = &[
     "DELETE FROM entry WHERE zone = 'TGT1' AND id = 'UAA0001'",
     "DELETE FROM zelem WHERE zone = 'TGT1' AND type = 'MAC' AND name = 'MAC2'",
     "INSERT INTO source (id, name) VALUES ('AAA0003', 'PUT2402')",
-    "INSERT INTO source (id, name) VALUES ('AAA0003', 'PUT2401$RSU2404#PUT2401$RSU2404#PUT2401$RSU2404#PUT2401$RSU2404#')",
+    "INSERT INTO source (id, name) VALUES ('AAA0003', \
+        'PUT2401$RSU2404#PUT2401$RSU2404#PUT2401$RSU2404#PUT2401$RSU2404#')",
 ];
 
 fn commit_two<S: Alter>(alloc: Global, store: &mut Store<S>, zone: &Zone) -> Result<(), Fail> {
     let change = Change::Zone(zone_name(b"TGT1")?, zone, removals(alloc)?);
-    committed(store.commit(&change))?;
-    committed(store.commit(&new_sources(alloc)?))
+    commit(store, &change)?;
+    commit(store, &new_sources(alloc)?)
 }
 
 /// All rows once one is bad and both are committed. The zone is as it was before.
 fn rows_committed(alloc: Global, bad: &str) -> Result<String, Fail> {
-    let mut store = opened(alloc, filled(alloc, Connection::open_in_memory(alloc)?)?)?;
+    let mut store = opened(alloc, known_with(alloc, &[])?)?;
     let zone = loaded(&mut store, zone_name(b"TGT1")?)?;
     let mut conn = store.close();
     run(&mut conn, bad, &[])?;
@@ -301,11 +290,8 @@ fn rows_committed(alloc: Global, bad: &str) -> Result<String, Fail> {
 
 /// All rows once one is bad and these statements are run.
 fn rows_written(alloc: Global, bad: &str) -> Result<String, Fail> {
-    let mut conn = filled(alloc, Connection::open_in_memory(alloc)?)?;
-    run(&mut conn, bad, &[])?;
-    for sql in WRITTEN {
-        run(&mut conn, sql, &[])?;
-    }
+    let mut conn = known_with(alloc, &[bad])?;
+    run_all(&mut conn, WRITTEN)?;
     all_lines(alloc, &mut conn)
 }
 
@@ -315,7 +301,7 @@ fn bad_rows_and_all_others_stay(rt: HostRuntime) -> Result<(), Fail> {
     for bad in BAD {
         let got = rows_committed(alloc, bad)?;
         let wanted = rows_written(alloc, bad)?;
-        assert_eq!(rt; (*bad, got.as_str()), (*bad, wanted.as_str()));
+        compare(bad, got.as_str(), wanted.as_str())?;
     }
     Ok(())
 }

@@ -4,21 +4,19 @@ ghost use Rattle.std.specs.Prelude.{IsTrue, IfOk};
 ghost use Rattle.sqlite_disk.specs.Memory.{memory_is_usable};
 
 use fields::ZoneName;
-use sqlite::{Alter, Connection, Error, FileStore, Files, Options};
+use sqlite::{Alter, Connection, Error, FileStore, Files, MemStore, Options};
 use sqlite_disk::Memory;
 use sqlite_value::value::ValueRef;
 use std::alloc::Global;
 use std::test::Fail;
 use store::{Change, Store};
-use store_schema::StoreError;
 use text80::RECORD;
 use zones::{Zone, ZoneDelta};
 
 /// The sources of the SYSMODs, of which each has a row.
 pub(crate) const SOURCES: &[&str] = &[
-    "INSERT INTO source (id, name) VALUES ('HAA1200', 'PUT2401')",
-    "INSERT INTO source (id, name) VALUES ('HAA1200', 'SMCREC01')",
-    "INSERT INTO source (id, name) VALUES ('UAA0001', 'PUT2401')",
+    "INSERT INTO source (id, name) VALUES \
+        ('HAA1200', 'PUT2401'), ('HAA1200', 'SMCREC01'), ('UAA0001', 'PUT2401')",
 ];
 
 /// By which `++VER` an entry was installed, which no earlier schema tells.
@@ -26,103 +24,109 @@ pub(crate) const CHOSEN: &[&str] = &[
     "INSERT INTO chosen (zone, id, n) VALUES ('TGT1', 'UAA0001', 2)",
 ];
 
-/// All other rows.
+/// All other rows, table by table.
 const ROWS: &[&str] = &[
-    "INSERT INTO sysmod (id, kind, sources) VALUES ('HAA1100', 'FUNCTION', '')",
-    "INSERT INTO sysmod (id, kind, sources) VALUES ('HAA1200', 'FUNCTION', '')",
-    "INSERT INTO sysmod (id, kind, sources) VALUES ('UAA0001', 'PTF', '')",
-    "INSERT INTO sysmod (id, kind, sources) VALUES ('AAA0003', 'APAR', '')",
-    "INSERT INTO sysmod (id, kind, sources) VALUES ('LLL0001', 'USERMOD', '')",
-    "INSERT INTO ver (id, srel, fmid, pre, req, sup, npre, del) VALUES ('HAA1100', 'Z038', NULL, '', '', '', '', '')",
-    "INSERT INTO ver (id, srel, fmid, pre, req, sup, npre, del) VALUES ('HAA1200', 'Z038', 'HAA1100', 'UAA0000', '', 'AAA0004', 'HBB0001,HBB0002', 'HAA1000')",
-    "INSERT INTO ver (id, srel, fmid, pre, req, sup, npre, del) VALUES ('UAA0001', 'Z038', 'HAA1100', 'UAA0000', 'UAA0002,UAA0003', 'AAA0001,AAA0002', '', '')",
-    "INSERT INTO ver (id, srel, fmid, pre, req, sup, npre, del) VALUES ('UAA0001', 'Z039', 'HAA1200', '', '', '', '', '')",
-    "INSERT INTO ver (id, srel, fmid, pre, req, sup, npre, del) VALUES ('AAA0003', 'Z038', 'HAA1100', 'UAA0001', '', '', '', '')",
-    "INSERT INTO ver (id, srel, fmid, pre, req, sup, npre, del) VALUES ('LLL0001', 'Z038', 'HAA1100', 'AAA0003', '', '', '', '')",
-    "INSERT INTO ifreq (id, srel, n, fmid, req) VALUES ('UAA0001', 'Z038', 1, 'HCC1100', 'UCC0001')",
-    "INSERT INTO ifreq (id, srel, n, fmid, req) VALUES ('UAA0001', 'Z038', 2, 'HBB1100', 'UBB0001,UBB0002')",
-    "INSERT INTO ifreq (id, srel, n, fmid, req) VALUES ('UAA0001', 'Z039', 1, 'HCC1100', 'UCC0001')",
-    "INSERT INTO elem (id, type, name, upd, distlib, syslib, text) VALUES ('HAA1100', 'MAC', 'MAC1', 0, 'AMACLIB', 'MACLIB', x'')",
-    "INSERT INTO elem (id, type, name, upd, distlib, syslib, text) VALUES ('HAA1100', 'SRC', 'SRC1', 0, 'ASRCLIB', 'SRCLIB', x'')",
-    "INSERT INTO elem (id, type, name, upd, distlib, syslib, text) VALUES ('HAA1100', 'CLIST', 'CLS1', 0, 'ADIST', 'SYST', x'')",
-    "INSERT INTO elem (id, type, name, upd, distlib, syslib, text) VALUES ('HAA1100', 'DATA', 'DATA1', 0, 'ADIST', 'SYST', x'')",
-    "INSERT INTO elem (id, type, name, upd, distlib, syslib, text) VALUES ('HAA1100', 'EXEC', 'EXEC1', 0, 'ADIST', 'SYST', x'')",
-    "INSERT INTO elem (id, type, name, upd, distlib, syslib, text) VALUES ('HAA1100', 'PARM', 'PARM1', 0, 'ADIST', 'SYST', x'')",
-    "INSERT INTO elem (id, type, name, upd, distlib, syslib, text) VALUES ('HAA1100', 'PROC', 'PROC1', 0, 'ADIST', 'SYST', x'')",
-    "INSERT INTO elem (id, type, name, upd, distlib, syslib, text) VALUES ('UAA0001', 'MAC', 'MAC1', 1, NULL, NULL, x'')",
-    "INSERT INTO elem (id, type, name, upd, distlib, syslib, text) VALUES ('UAA0001', 'SRC', 'MAC1', 1, NULL, NULL, x'')",
-    "INSERT INTO elem (id, type, name, upd, distlib, syslib, text) VALUES ('UAA0001', 'SRC', 'SRC1', 0, 'ASRCLIB', 'SRCLIB', x'')",
-    "INSERT INTO hold (id, kind, reason, fmid, class, date, comment, internal) VALUES ('UAA0001', 'ERROR', 'AAA0009', 'HAA1100', 'HIPER', '24138', 'IT FAILS, NOW AND THEN', 0)",
-    "INSERT INTO hold (id, kind, reason, fmid, class, date, comment, internal) VALUES ('UAA0001', 'SYSTEM', 'ACTION', 'HAA1100', NULL, NULL, NULL, 1)",
-    "INSERT INTO hold (id, kind, reason, fmid, class, date, comment, internal) VALUES ('UAA0001', 'SYSTEM', 'DOC', 'HAA1100', 'PE', NULL, 'X', 0)",
-    "INSERT INTO hold (id, kind, reason, fmid, class, date, comment, internal) VALUES ('UZZ9999', 'USER', 'MINE', 'HAA1100', NULL, '24001', NULL, 0)",
-    "INSERT INTO zone (name, kind, srel, related) VALUES ('TGT1', 'target', 'Z038', 'DLB1')",
-    "INSERT INTO zone (name, kind, srel, related) VALUES ('DLB1', 'distribution', 'Z038', NULL)",
-    "INSERT INTO zone (name, kind, srel, related) VALUES ('DLB2', 'distribution', 'Z039', NULL)",
-    "INSERT INTO zone (name, kind, srel, related) VALUES ('DLB3', 'distribution', 'Z038', NULL)",
-    "INSERT INTO zone (name, kind, srel, related) VALUES ('TGT2', 'target', 'Z039', 'DLB2')",
-    "INSERT INTO entry (zone, id, date, supby, delby, waived) VALUES ('TGT1', 'HAA1100', '24.138', '', NULL, '')",
-    "INSERT INTO entry (zone, id, date, supby, delby, waived) VALUES ('TGT1', 'UAA0001', '24.366', 'UAA0005', 'HAA1200', 'UAA0000,UAA0002')",
-    "INSERT INTO entry (zone, id, date, supby, delby, waived) VALUES ('TGT1', 'AAA0001', NULL, 'UAA0001,UAA0004', NULL, '')",
-    "INSERT INTO entry (zone, id, date, supby, delby, waived) VALUES ('TGT1', 'HAA1000', NULL, '', 'HAA1200', '')",
-    "INSERT INTO entry (zone, id, date, supby, delby, waived) VALUES ('DLB1', 'HAA1100', '23.001', '', NULL, '')",
-    "INSERT INTO zelem (zone, type, name, fmid, rmid, umid, distlib, syslib, text) VALUES ('TGT1', 'MAC', 'MAC2', 'HAA1100', 'HAA1100', '', 'AMACLIB', 'MACLIB', x'')",
-    "INSERT INTO zelem (zone, type, name, fmid, rmid, umid, distlib, syslib, text) VALUES ('DLB1', 'MAC', 'MAC1', 'HAA1100', 'UAA0001', 'AAA0003,LLL0001', 'AMACLIB', 'MACLIB', x'')",
+    "INSERT INTO sysmod (id, kind, sources) VALUES \
+        ('HAA1100', 'FUNCTION', ''), ('HAA1200', 'FUNCTION', ''), ('UAA0001', 'PTF', ''), ('AAA0003', 'APAR', ''), \
+        ('LLL0001', 'USERMOD', '')",
+    "INSERT INTO ver (id, srel, fmid, pre, req, sup, npre, del) VALUES \
+        ('HAA1100', 'Z038', NULL, '', '', '', '', ''), \
+        ('HAA1200', 'Z038', 'HAA1100', 'UAA0000', '', 'AAA0004', 'HBB0001,HBB0002', 'HAA1000'), \
+        ('UAA0001', 'Z038', 'HAA1100', 'UAA0000', 'UAA0002,UAA0003', 'AAA0001,AAA0002', '', ''), \
+        ('UAA0001', 'Z039', 'HAA1200', '', '', '', '', ''), \
+        ('AAA0003', 'Z038', 'HAA1100', 'UAA0001', '', '', '', ''), \
+        ('LLL0001', 'Z038', 'HAA1100', 'AAA0003', '', '', '', '')",
+    "INSERT INTO ifreq (id, srel, n, fmid, req) VALUES \
+        ('UAA0001', 'Z038', 1, 'HCC1100', 'UCC0001'), ('UAA0001', 'Z038', 2, 'HBB1100', 'UBB0001,UBB0002'), \
+        ('UAA0001', 'Z039', 1, 'HCC1100', 'UCC0001')",
+    "INSERT INTO elem (id, type, name, upd, distlib, syslib, text) VALUES \
+        ('HAA1100', 'MAC', 'MAC1', 0, 'AMACLIB', 'MACLIB', x''), \
+        ('HAA1100', 'SRC', 'SRC1', 0, 'ASRCLIB', 'SRCLIB', x''), \
+        ('HAA1100', 'CLIST', 'CLS1', 0, 'ADIST', 'SYST', x''), \
+        ('HAA1100', 'DATA', 'DATA1', 0, 'ADIST', 'SYST', x''), \
+        ('HAA1100', 'EXEC', 'EXEC1', 0, 'ADIST', 'SYST', x''), \
+        ('HAA1100', 'PARM', 'PARM1', 0, 'ADIST', 'SYST', x''), \
+        ('HAA1100', 'PROC', 'PROC1', 0, 'ADIST', 'SYST', x''), ('UAA0001', 'MAC', 'MAC1', 1, NULL, NULL, x''), \
+        ('UAA0001', 'SRC', 'MAC1', 1, NULL, NULL, x''), ('UAA0001', 'SRC', 'SRC1', 0, 'ASRCLIB', 'SRCLIB', x'')",
+    "INSERT INTO hold (id, kind, reason, fmid, class, date, comment, internal) VALUES \
+        ('UAA0001', 'ERROR', 'AAA0009', 'HAA1100', 'HIPER', '24138', 'IT FAILS, NOW AND THEN', 0), \
+        ('UAA0001', 'SYSTEM', 'ACTION', 'HAA1100', NULL, NULL, NULL, 1), \
+        ('UAA0001', 'SYSTEM', 'DOC', 'HAA1100', 'PE', NULL, 'X', 0), \
+        ('UZZ9999', 'USER', 'MINE', 'HAA1100', NULL, '24001', NULL, 0)",
+    "INSERT INTO zone (name, kind, srel, related) VALUES \
+        ('TGT1', 'target', 'Z038', 'DLB1'), ('DLB1', 'distribution', 'Z038', NULL), \
+        ('DLB2', 'distribution', 'Z039', NULL), ('DLB3', 'distribution', 'Z038', NULL), \
+        ('TGT2', 'target', 'Z039', 'DLB2')",
+    "INSERT INTO entry (zone, id, date, supby, delby, waived) VALUES \
+        ('TGT1', 'HAA1100', '24.138', '', NULL, ''), \
+        ('TGT1', 'UAA0001', '24.366', 'UAA0005', 'HAA1200', 'UAA0000,UAA0002'), \
+        ('TGT1', 'AAA0001', NULL, 'UAA0001,UAA0004', NULL, ''), ('TGT1', 'HAA1000', NULL, '', 'HAA1200', ''), \
+        ('DLB1', 'HAA1100', '23.001', '', NULL, '')",
+    "INSERT INTO zelem (zone, type, name, fmid, rmid, umid, distlib, syslib, text) VALUES \
+        ('TGT1', 'MAC', 'MAC2', 'HAA1100', 'HAA1100', '', 'AMACLIB', 'MACLIB', x''), \
+        ('DLB1', 'MAC', 'MAC1', 'HAA1100', 'UAA0001', 'AAA0003,LLL0001', 'AMACLIB', 'MACLIB', x'')",
 ];
 
 /// The elements of the zone TGT1 are those of the function, and a macro whose text is empty.
 const ELEMENTS: &str =
-    "INSERT INTO zelem (zone, type, name, fmid, rmid, umid, distlib, syslib, text) SELECT 'TGT1', type, name, id, id, '', distlib, syslib, text FROM elem WHERE id = 'HAA1100'";
+    "INSERT INTO zelem SELECT 'TGT1', type, name, id, id, '', distlib, syslib, text FROM elem WHERE id = 'HAA1100'";
 
 /// Two further `++VER`s of LLL0001 for the SREL of its first one, with their `++IF`s.
 pub(crate) const FURTHER: &[&str] = &[
-    "INSERT INTO morever (id, srel, n, fmid, pre, req, sup) VALUES ('LLL0001', 'Z038', 2, 'HAA1200', 'AAA0003', 'UAA0002,UAA0003', 'LLL0002')",
-    "INSERT INTO morever (id, srel, n, fmid, pre, req, sup) VALUES ('LLL0001', 'Z038', 3, 'HCC1100', '', '', '')",
-    "INSERT INTO moreif (id, srel, v, n, fmid, req) VALUES ('LLL0001', 'Z038', 2, 1, 'HBB1100', 'UBB0001')",
-    "INSERT INTO moreif (id, srel, v, n, fmid, req) VALUES ('LLL0001', 'Z038', 2, 2, 'HCC1100', 'UCC0001,UCC0002')",
-    "INSERT INTO moreif (id, srel, v, n, fmid, req) VALUES ('LLL0001', 'Z038', 3, 1, 'HBB1100', 'UBB0001')",
+    "INSERT INTO morever (id, srel, n, fmid, pre, req, sup) VALUES \
+        ('LLL0001', 'Z038', 2, 'HAA1200', 'AAA0003', 'UAA0002,UAA0003', 'LLL0002'), \
+        ('LLL0001', 'Z038', 3, 'HCC1100', '', '', '')",
+    "INSERT INTO moreif (id, srel, v, n, fmid, req) VALUES \
+        ('LLL0001', 'Z038', 2, 1, 'HBB1100', 'UBB0001'), ('LLL0001', 'Z038', 2, 2, 'HCC1100', 'UCC0001,UCC0002'), \
+        ('LLL0001', 'Z038', 3, 1, 'HBB1100', 'UBB0001')",
 ];
 
-/// The texts of element statements: the statement that sets each, and its records with their numbers.
-const TEXTS: &[(&str, &[(&str, &str)])] = &[
-    ("UPDATE elem SET text = ?1", &[("ANY TEXT", "")]),
+/// The texts of element statements: the statement that sets each, and its records.
+const TEXTS: &[(&str, &str)] = &[
+    ("UPDATE elem SET text = ?1", "ANY TEXT"),
     (
         "UPDATE elem SET text = ?1 WHERE upd = 0 AND (type = 'MAC' OR type = 'SRC')",
-        &[(" MACRO", "00000010"), (" MEND", "00000020")],
+        " MACRO\t00000010\n MEND\t00000020",
     ),
     (
         "UPDATE elem SET text = ?1 WHERE upd = 1",
-        &[
-            ("./ CHANGE NAME=MAC1", ""),
-            ("./ DELETE SEQ1=00000020,SEQ2=00000030", ""),
-            (" NEW", "00000025"),
-        ],
+        "./ CHANGE NAME=MAC1\n./ DELETE SEQ1=00000020,SEQ2=00000030\n NEW\t00000025",
     ),
 ];
 
-/// Puts the text at the begin of the part.
-fn put_text(part: &mut [u8], text: &[u8]) {
-    for (place, byte) in part.iter_mut().zip(text) {
-        *place = *byte;
-    }
-}
-
-/// A record of this text and, in columns 73 to 80, this number.
-fn record(text: &str, number: &str) -> [u8; RECORD] {
+/// A record with this text, in which a tab leads to column 73.
+fn record(text: &str) -> [u8; RECORD] {
     let mut record = [b' '; RECORD];
-    let (words, columns) = record.split_at_mut(72);
-    put_text(words, text.as_bytes());
-    put_text(columns, number.as_bytes());
+    let mut column: usize = 0;
+    for letter in text.as_bytes() {
+        if *letter == b'\t' {
+            column = 72;
+        } else if let Some(place) = record.get_mut(column) {
+            *place = *letter;
+            column = column.saturating_add(1);
+        }
+    }
     record
 }
 
-/// The records of these texts and numbers, one after the other.
-pub(crate) fn joined(alloc: Global, records: &[(&str, &str)]) -> Result<Vec<u8>, Fail> {
+/// A record for each line of the text, and none where there is no text. A tab leads to column 73.
+pub(crate) fn records(alloc: Global, text: &str) -> Result<Vec<u8>, Fail> {
     let mut bytes = Vec::new(alloc);
-    for (text, number) in records {
-        bytes.extend_from_slice(&record(text, number))?;
+    if text.is_empty() {
+        return Ok(bytes);
+    }
+    for line in text.split('\n') {
+        bytes.extend_from_slice(&record(line))?;
     }
     Ok(bytes)
+}
+
+/// A failure with this name and both texts, where the one that was got is not the one that was wanted.
+pub(crate) fn compare(name: &str, got: &str, wanted: &str) -> Result<(), Fail> {
+    if got == wanted {
+        return Ok(());
+    }
+    Err(Fail::new(format_args!("{name}: got {got}, wanted {wanted}")))
 }
 
 /// Runs a statement that must change some row.
@@ -168,26 +172,21 @@ pub(crate) fn fill_first<S: Alter>(alloc: Global, conn: &mut Connection<S>) -> R
 
 /// Gives the element statements their texts.
 fn fill_texts<S: Alter>(alloc: Global, conn: &mut Connection<S>) -> Result<(), Fail> {
-    for (sql, records) in TEXTS {
-        let text = joined(alloc, records)?;
-        run(conn, sql, &[ValueRef::Blob(text.as_slice())])?;
+    for (sql, text) in TEXTS {
+        let records = records(alloc, text)?;
+        run(conn, sql, &[ValueRef::Blob(records.as_slice())])?;
     }
     Ok(())
 }
 
-pub(crate) fn committed(answer: Result<(), StoreError>) -> Result<(), Fail> {
-    match answer {
-        Ok(()) => Ok(()),
-        Err(_) => Err(Fail::from("commit")),
-    }
+/// Commits a change, which must go well.
+pub(crate) fn commit<S: Alter>(store: &mut Store<S>, change: &Change<'_>) -> Result<(), Fail> {
+    Ok(store.commit(change)?)
 }
 
 /// The zone of this name, as it is loaded.
 pub(crate) fn loaded<S: Alter>(store: &mut Store<S>, name: ZoneName) -> Result<Zone, Fail> {
-    match store.load_zone(name) {
-        Ok(Some(zone)) => Ok(zone),
-        _ => Err(Fail::from("zone")),
-    }
+    Ok(store.load_zone(name)?.ok_or("no such zone")?)
 }
 
 /// Commits the delta of the zone of this name, which is loaded first.
@@ -197,22 +196,32 @@ pub(crate) fn commit_delta<S: Alter>(
     delta: ZoneDelta,
 ) -> Result<(), Fail> {
     let zone = loaded(store, name)?;
-    committed(store.commit(&Change::Zone(name, &zone, delta)))
+    commit(store, &Change::Zone(name, &zone, delta))
 }
 
-/// The texts that the query finds, each in a line of its own.
-pub(crate) fn lines<S: Alter>(
-    alloc: Global,
+/// Appends the texts that the query finds, each as a line.
+pub(crate) fn put_lines<S: Alter>(
     conn: &mut Connection<S>,
     sql: &str,
-) -> Result<String, Fail> {
+    lines: &mut String,
+) -> Result<(), Fail> {
     let rows = conn.query_all(sql, &[])?;
-    let mut lines = String::new(alloc);
     for row in &rows {
         let text: String = row.get(0)?;
         lines.push_str(text.as_str())?;
         lines.push_str("\n")?;
     }
+    Ok(())
+}
+
+/// The texts that the query finds, each as a line.
+pub(crate) fn lines<S: Alter>(
+    alloc: Global,
+    conn: &mut Connection<S>,
+    sql: &str,
+) -> Result<String, Fail> {
+    let mut lines = String::new(alloc);
+    put_lines(conn, sql, &mut lines)?;
     Ok(lines)
 }
 
@@ -226,7 +235,7 @@ pub(crate) fn opened<S: Alter + Drop>(
     }
     match Store::open(alloc, conn) {
         Ok(store) => Ok(store),
-        Err(_) => Err(Fail::from("open")),
+        Err((_conn, error)) => Err(Fail::from(error)),
     }
 }
 
@@ -241,22 +250,35 @@ pub(crate) fn filled<S: Alter + Drop>(
     Ok(conn)
 }
 
+/// A connection to a new database in memory.
+pub(crate) fn in_memory(alloc: Global) -> Result<Connection<MemStore>, Fail> {
+    Ok(Connection::open_in_memory(alloc)?)
+}
+
+/// The known rows in memory, and these besides.
+pub(crate) fn known_with(alloc: Global, more: &[&str]) -> Result<Connection<MemStore>, Fail> {
+    let mut conn = filled(alloc, in_memory(alloc)?)?;
+    run_all(&mut conn, more)?;
+    Ok(conn)
+}
+
 pub(crate) fn zone_name(text: &[u8]) -> Result<ZoneName, Fail> {
     Ok(ZoneName::read(text).ok_or("no name of a zone")?)
 }
 
 /// A connection to a database in these files.
-pub(crate) fn files(
-    alloc: Global,
-    log: Memory,
-    db: Memory,
-) -> Result<Connection<FileStore<Memory>>, Error>
+fn files(alloc: Global, log: Memory, db: Memory) -> Result<Connection<FileStore<Memory>>, Error>
     requires { IsTrue (memory_is_usable log) × IsTrue (memory_is_usable db) }
 {
     match Connection::open_files(alloc, Files { log, db }, Options::new(1)) {
         Ok(conn) => Ok(conn),
         Err((error, _)) => Err(error),
     }
+}
+
+/// A connection to a new database in files.
+pub(crate) fn new_files(alloc: Global) -> Result<Connection<FileStore<Memory>>, Error> {
+    files(alloc, Memory::new(alloc), Memory::new(alloc))
 }
 
 pub(crate) fn close(conn: Connection<FileStore<Memory>>) -> Result<Files<Memory>, Error>

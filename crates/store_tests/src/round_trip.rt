@@ -1,6 +1,8 @@
 //! What is committed is loaded again, in memory and over files.
+
 use crate::known::{
-    CHOSEN, FURTHER, again, commit_delta, committed, files, filled, lines, loaded, opened, run_all,
+    CHOSEN, FURTHER, again, commit, commit_delta, compare, in_memory, known_with, lines, loaded,
+    new_files, opened, put_lines,
 };
 use fields::{Id, ZoneName};
 use sorted::TryClone;
@@ -14,38 +16,35 @@ use sysmods::GlobalZone;
 use zones::{Zone, ZoneDelta};
 
 /// All rows of all tables.
-const TABLES: [&str; 11] = [
-    "SELECT k || '/' || v FROM meta ORDER BY k",
-    "SELECT id || '/' || kind || '/' || sources FROM sysmod ORDER BY id",
-    "SELECT id || '/' || name FROM source ORDER BY id, name",
-    "SELECT id || '/' || srel || '/' || ifnull(fmid, '-') || '/' || pre || '/' || req || '/' || sup || '/' || npre || '/' || del FROM ver ORDER BY id, srel",
-    "SELECT id || '/' || srel || '/' || n || '/' || fmid || '/' || req FROM ifreq ORDER BY id, srel, n",
-    "SELECT id || '/' || type || '/' || name || '/' || upd || '/' || ifnull(distlib, '-') || '/' || ifnull(syslib, '-') || '/' || hex(text) FROM elem ORDER BY id, type, name",
-    "SELECT id || '/' || kind || '/' || reason || '/' || fmid || '/' || ifnull(class, '-') || '/' || ifnull(date, '-') || '/' || ifnull(comment, '-') || '/' || internal FROM hold ORDER BY id, kind, reason",
-    "SELECT name || '/' || kind || '/' || srel || '/' || ifnull(related, '-') FROM zone ORDER BY name",
-    "SELECT zone || '/' || id || '/' || ifnull(date, '-') || '/' || supby || '/' || ifnull(delby, '-') || '/' || waived FROM entry ORDER BY zone, id",
-    "SELECT zone || '/' || type || '/' || name || '/' || fmid || '/' || rmid || '/' || umid || '/' || distlib || '/' || syslib || '/' || hex(text) FROM zelem ORDER BY zone, type, name",
-    "SELECT zone || '/' || id || '/' || n FROM chosen ORDER BY zone, id",
+const TABLES: &[&str] = &[
+    "SELECT k||'/'||v FROM meta ORDER BY k",
+    "SELECT id||'/'||kind||'/'||sources FROM sysmod ORDER BY id",
+    "SELECT id||'/'||name FROM source ORDER BY id, name",
+    "SELECT id||'/'||srel||'/'||ifnull(fmid, '-')||'/'||pre||'/'||req||'/'||sup||'/'||npre||'/'||del FROM ver \
+        ORDER BY id, srel",
+    "SELECT id||'/'||srel||'/'||n||'/'||fmid||'/'||req FROM ifreq ORDER BY id, srel, n",
+    "SELECT id||'/'||srel||'/'||n||'/'||ifnull(fmid, '-')||'/'||pre||'/'||req||'/'||sup FROM morever ORDER BY id, \
+        srel, n",
+    "SELECT id||'/'||srel||'/'||v||'/'||n||'/'||fmid||'/'||req FROM moreif ORDER BY id, srel, v, n",
+    "SELECT id||'/'||type||'/'||name||'/'||upd||'/'||ifnull(distlib, '-')||'/'||ifnull(syslib, \
+        '-')||'/'||hex(text) FROM elem ORDER BY id, type, name",
+    "SELECT id||'/'||kind||'/'||reason||'/'||fmid||'/'||ifnull(class, '-')||'/'||ifnull(date, \
+        '-')||'/'||ifnull(comment, '-')||'/'||internal FROM hold ORDER BY id, kind, reason",
+    "SELECT name||'/'||kind||'/'||srel||'/'||ifnull(related, '-') FROM zone ORDER BY name",
+    "SELECT zone||'/'||id||'/'||ifnull(date, '-')||'/'||supby||'/'||ifnull(delby, '-')||'/'||waived FROM entry \
+        ORDER BY zone, id",
+    "SELECT zone||'/'||type||'/'||name||'/'||fmid||'/'||rmid||'/'||umid||'/'||distlib||'/'||syslib||'/'||hex(text) \
+        FROM zelem ORDER BY zone, type, name",
+    "SELECT zone||'/'||id||'/'||n FROM chosen ORDER BY zone, id",
 ];
 
 /// All rows of all tables.
 pub(crate) fn all_lines<S: Alter>(alloc: Global, conn: &mut Connection<S>) -> Result<String, Fail> {
     let mut all = String::new(alloc);
     for sql in TABLES {
-        all.push_str(lines(alloc, conn, sql)?.as_str())?;
+        put_lines(conn, sql, &mut all)?;
     }
     Ok(all)
-}
-
-fn add_sysmods(
-    alloc: Global,
-    edits: &mut Vec<GlobalEdit>,
-    global: &GlobalZone,
-) -> Result<(), Fail> {
-    for sysmod in global.sysmods() {
-        edits.push(GlobalEdit::InsertSysmod(sysmod.try_clone(alloc)?))?;
-    }
-    Ok(())
 }
 
 fn copy_of(hold: &Hold) -> Result<Hold, Fail> {
@@ -61,7 +60,10 @@ fn copy_of(hold: &Hold) -> Result<Hold, Fail> {
     })
 }
 
-fn add_holds(edits: &mut Vec<GlobalEdit>, global: &GlobalZone) -> Result<(), Fail> {
+fn add_all(alloc: Global, edits: &mut Vec<GlobalEdit>, global: &GlobalZone) -> Result<(), Fail> {
+    for sysmod in global.sysmods() {
+        edits.push(GlobalEdit::InsertSysmod(sysmod.try_clone(alloc)?))?;
+    }
     for hold in global.holds() {
         edits.push(GlobalEdit::PutHold(copy_of(hold)?))?;
     }
@@ -71,22 +73,17 @@ fn add_holds(edits: &mut Vec<GlobalEdit>, global: &GlobalZone) -> Result<(), Fai
 /// The edits by which an empty global zone becomes this one.
 fn edits_to(alloc: Global, global: &GlobalZone) -> Result<Change<'static>, Fail> {
     let mut edits = Vec::new(alloc);
-    add_sysmods(alloc, &mut edits, global)?;
-    add_holds(&mut edits, global)?;
+    add_all(alloc, &mut edits, global)?;
     Ok(Change::Global(edits))
 }
 
-fn put_entries(alloc: Global, delta: &mut ZoneDelta, zone: &Zone) -> Result<(), Fail> {
+fn put_all(alloc: Global, delta: &mut ZoneDelta, zone: &Zone) -> Result<(), Fail> {
     for entry in zone.entries() {
         let entry = entry.try_clone(alloc)?;
         if entry.has_content() && entry.waives_applied() {
             delta.put_entry(entry)?;
         }
     }
-    Ok(())
-}
-
-fn put_elements(alloc: Global, delta: &mut ZoneDelta, zone: &Zone) -> Result<(), Fail> {
     for element in zone.elements() {
         delta.put_element(element.try_clone(alloc)?)?;
     }
@@ -96,8 +93,7 @@ fn put_elements(alloc: Global, delta: &mut ZoneDelta, zone: &Zone) -> Result<(),
 /// The delta by which an empty zone becomes this one.
 pub(crate) fn delta_to(alloc: Global, zone: &Zone) -> Result<ZoneDelta, Fail> {
     let mut delta = ZoneDelta::new(alloc);
-    put_entries(alloc, &mut delta, zone)?;
-    put_elements(alloc, &mut delta, zone)?;
+    put_all(alloc, &mut delta, zone)?;
     Ok(delta)
 }
 
@@ -106,10 +102,8 @@ fn copy_global<S: Alter, T: Alter>(
     from: &mut Store<S>,
     to: &mut Store<T>,
 ) -> Result<(), Fail> {
-    let Ok(global) = from.load_global() else {
-        return Err(Fail::from("global zone"));
-    };
-    committed(to.commit(&edits_to(alloc, &global)?))
+    let global = from.load_global()?;
+    commit(to, &edits_to(alloc, &global)?)
 }
 
 fn copy_zone<S: Alter, T: Alter>(
@@ -120,7 +114,7 @@ fn copy_zone<S: Alter, T: Alter>(
 ) -> Result<(), Fail> {
     let zone = loaded(from, name)?;
     let change = Change::NewZone(name, zone.kind(), zone.srel(), zone.related());
-    committed(to.commit(&change))?;
+    commit(to, &change)?;
     commit_delta(to, name, delta_to(alloc, &zone)?)
 }
 
@@ -131,10 +125,7 @@ fn copy_all<S: Alter, T: Alter>(
     to: &mut Store<T>,
 ) -> Result<(), Fail> {
     copy_global(alloc, from, to)?;
-    let Ok(names) = from.zone_names() else {
-        return Err(Fail::from("names"));
-    };
-    for name in names {
+    for name in from.zone_names()? {
         copy_zone(alloc, from, to, name)?;
     }
     Ok(())
@@ -157,53 +148,33 @@ fn in_files<S: Alter + Drop>(
     alloc: Global,
     from: Connection<S>,
 ) -> Result<Connection<FileStore<Memory>>, Fail> {
-    let fresh = files(alloc, Memory::new(alloc), Memory::new(alloc))?;
-    Ok(again(alloc, copied(alloc, from, fresh)?)?)
+    Ok(again(alloc, copied(alloc, from, new_files(alloc)?)?)?)
 }
 
 /// The rows of the copy in memory.
 fn rows_of_copy<S: Alter + Drop>(alloc: Global, from: Connection<S>) -> Result<String, Fail> {
-    let mut conn = copied(alloc, from, Connection::open_in_memory(alloc)?)?;
+    let mut conn = copied(alloc, from, in_memory(alloc)?)?;
     all_lines(alloc, &mut conn)
+}
+
+/// The known rows and these besides are copied into files, and from there into memory.
+fn copy_twice(alloc: Global, name: &str, more: &[&str]) -> Result<(), Fail> {
+    let mut conn = known_with(alloc, more)?;
+    let rows = all_lines(alloc, &mut conn)?;
+    let copy = rows_of_copy(alloc, in_files(alloc, conn)?)?;
+    compare(name, copy.as_str(), rows.as_str())
 }
 
 #[test]
 fn all_is_loaded_again(rt: HostRuntime) -> Result<(), Fail> {
-    let alloc = rt.alloc();
-    let mut known = filled(alloc, Connection::open_in_memory(alloc)?)?;
-    run_all(&mut known, CHOSEN)?;
-    let rows = all_lines(alloc, &mut known)?;
-    let copy = rows_of_copy(alloc, in_files(alloc, known)?)?;
-    assert_eq!(rt; copy.as_str(), rows.as_str());
-    Ok(())
+    copy_twice(rt.alloc(), "with the number of a ++VER", CHOSEN)?;
+    copy_twice(rt.alloc(), "with further ++VERs", FURTHER)
 }
 
 /// The rows of further `++VER`s and of their `++IF`s.
 const FURTHER_LINES: &str =
-    "SELECT id || ' ' || srel || ' ' || n || ' ' || ifnull(fmid, '-') || ' ' || pre || '/' || req || '/' || sup FROM morever UNION ALL SELECT id || ' ' || srel || ' ' || v || '.' || n || ' ' || fmid || ' ' || req FROM moreif ORDER BY 1";
-
-/// All rows of a store with further `++VER`s, or of its copy.
-fn further_lines<S: Alter>(alloc: Global, conn: &mut Connection<S>) -> Result<String, Fail> {
-    let mut all = all_lines(alloc, conn)?;
-    all.push_str(lines(alloc, conn, FURTHER_LINES)?.as_str())?;
-    Ok(all)
-}
-
-fn further_copy<S: Alter + Drop>(alloc: Global, from: Connection<S>) -> Result<String, Fail> {
-    let mut conn = copied(alloc, from, Connection::open_in_memory(alloc)?)?;
-    further_lines(alloc, &mut conn)
-}
-
-#[test]
-fn further_vers_are_loaded_again(rt: HostRuntime) -> Result<(), Fail> {
-    let alloc = rt.alloc();
-    let mut known = filled(alloc, Connection::open_in_memory(alloc)?)?;
-    run_all(&mut known, FURTHER)?;
-    let rows = further_lines(alloc, &mut known)?;
-    let copy = further_copy(alloc, in_files(alloc, known)?)?;
-    assert_eq!(rt; copy.as_str(), rows.as_str());
-    Ok(())
-}
+    "SELECT id||' '||srel||' '||n||' '||ifnull(fmid, '-')||' '||pre||'/'||req||'/'||sup FROM morever UNION ALL \
+        SELECT id||' '||srel||' '||v||'.'||n||' '||fmid||' '||req FROM moreif ORDER BY 1";
 
 fn rejection(alloc: Global) -> Result<Change<'static>, Fail> {
     let id = Id::read(b"LLL0001").ok_or("no id")?;
@@ -212,15 +183,13 @@ fn rejection(alloc: Global) -> Result<Change<'static>, Fail> {
 
 /// The rows of further `++VER`s that are left when their SYSMOD is removed.
 fn left_of_further(alloc: Global) -> Result<String, Fail> {
-    let mut known = filled(alloc, Connection::open_in_memory(alloc)?)?;
-    run_all(&mut known, FURTHER)?;
-    let mut store = opened(alloc, known)?;
-    committed(store.commit(&rejection(alloc)?))?;
+    let mut store = opened(alloc, known_with(alloc, FURTHER)?)?;
+    commit(&mut store, &rejection(alloc)?)?;
     lines(alloc, &mut store.close(), FURTHER_LINES)
 }
 
 #[test]
 fn further_vers_go_with_their_sysmod(rt: HostRuntime) -> Result<(), Fail> {
-    assert_eq!(rt; left_of_further(rt.alloc())?.as_str(), "");
-    Ok(())
+    let left = left_of_further(rt.alloc())?;
+    compare("further ++VERs and their ++IFs", left.as_str(), "")
 }

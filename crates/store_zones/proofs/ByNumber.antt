@@ -14,7 +14,7 @@ use Rattle.store_rows.specs.Rows.{HasContents, in_table, without}
 use Rattle.store_schema.specs.Rows.{chosen_row}
 use Rattle.store_schema.specs.Tables.{store_schema, chosen}
 use Rattle.store_zones.specs.Calls.{number_calls}
-use Rattle.store_zones.specs.Keys.{entry_key}
+use Rattle.store_zones.specs.Entries.{entry_key}
 use Rattle.store_zones.specs.Zones.{numbered, rows_with}
 use Rattle.store_zones.proofs.Numbers.{row_of}
 
@@ -51,7 +51,8 @@ module _ (name : Text) (id : Id) (old new : ℕ) where
       by : (same : Bool) → (new == old) ≡ same → (first : Bool) → (new == 1) ≡ first → (begun : Bool)
           → (old == 1) ≡ begun → IsPermutation news (numbered name id old new olds)
       by true same first is_first begun was_first =
-          let olds_are = subst (λ n. IsPermutation olds (row_of name id n ++ others)) (sym (eqb-true new old same)) was in
+          let olds_are = subst (λ n. IsPermutation olds (row_of name id n ++ others)) (sym (eqb-true new old same)) was
+          in
           rw same (IsPermutation-trans _ _ _ is (IsPermutation-sym _ _ olds_are))
       by false same true is_first begun was_first = rw (same, is_first) (rw is_first at is)
       by false same false is_first true was_first =

@@ -1,6 +1,17 @@
 pub mod Texts
+pub mod Selects
 pub mod Putting
 pub mod RowForms
+pub mod EntryNumbers
 pub mod Numbers
 pub mod ByNumber
 pub mod ZoneLemmas
+pub mod ZoneRows
+pub mod Zones
+pub mod InZone
+pub mod Heads
+pub mod Entries
+pub mod Elements
+pub mod Relations
+pub mod Standing
+pub mod BySchema

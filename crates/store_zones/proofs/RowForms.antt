@@ -13,7 +13,7 @@ use Rattle.store_rows.specs.Texts.{SuitColumns}
 use Rattle.store_rows.proofs.Values.{kept_optional, kept_whole, bound_optional}
 use Rattle.store_schema.specs.Rows.{entry_row, chosen_row, zelem_row, zone_row}
 use Rattle.store_schema.specs.Tables.{entry, chosen, zelem, zone}
-use Rattle.store_zones.specs.Keys.{element_key}
+use Rattle.store_zones.specs.Elements.{element_key}
 
 -- their columns keep them
 pub kept_entry : (name : Text) (e : Entry) → SuitColumns entry.columns (entry_row name e)

@@ -6,8 +6,10 @@ use Rattle.sqlite_schema.specs.Names.{same_name}
 use Rattle.sqlite_value.specs.Keys.{joined}
 use Rattle.store_rows.specs.Texts.{PutsIn, PutsByKey, TakesOut}
 use Rattle.store_schema.specs.Tables.{store_schema, zone, entry, chosen, zelem}
-use Rattle.store_zones.specs.Calls.{put_entry, delete_entry, put_chosen, delete_chosen, put_element, delete_element}
-use Rattle.store_zones.specs.Calls.{insert_zone, insert_entry, insert_chosen, insert_element}
+use Rattle.store_zones.specs.Chosen.{put_chosen, delete_chosen, insert_chosen}
+use Rattle.store_zones.specs.Elements.{put_element, delete_element, insert_element}
+use Rattle.store_zones.specs.Entries.{put_entry, delete_entry, insert_entry}
+use Rattle.store_zones.specs.Heads.{insert_zone}
 use Rattle.store_rows.proofs.Meant.{puts_in, puts_by_key, takes_out}
 
 pub puts_zone : PutsIn store_schema 6 zone insert_zone

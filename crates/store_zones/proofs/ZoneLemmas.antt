@@ -1,5 +1,5 @@
 -- What the tables hold when a zone's entries or elements change.
-use Rattle.std.proofs.Common.{◌≡◌, ◌≢◌, ℕ, List, [], ◌∷◌, ◌++◌, map, filter, Bool, not, ◌&&◌, IsPermutation, refl, sym}
+use Rattle.std.proofs.Common.{◌≡◌, ◌≢◌, List, [], ◌∷◌, ◌++◌, map, filter, Bool, not, ◌&&◌, IsPermutation, refl, sym}
 use Rattle.std.proofs.Common.{ap, ap₂, subst, subst₂, ◌∙◌, Option, None, Some, IfSome, is_some, slice_get}
 use Rattle.std.specs.List.{AllByRecursion, flat_map}
 use Rattle.std.specs.Option.{option_to_list}
@@ -20,8 +20,8 @@ use Rattle.store_rows.specs.Rows.{Contents, has_key, without, with_row, in_table
 use Rattle.store_rows.proofs.RowLemmas.{filter_same, filter_all, same_rows}
 use Rattle.store_rows.proofs.ContentsLemmas.{permuted}
 use Rattle.store_rows.proofs.Keys.{equals, and_true}
-use Rattle.lemmas.proofs.Searches.{find_passes, first_kept}
-use Rattle.lemmas.proofs.Texts.{same_from, same_itself, other_text}
+use Rattle.terms.proofs.Searches.{find_passes, first_kept}
+use Rattle.terms.proofs.TextOrder.{same_from, same_itself, other_text}
 use Rattle.store_rows.proofs.Parts.{map_same, flat_same, changed}
 use Rattle.store_schema.specs.Inventory.{Inventory}
 use Rattle.store_schema.specs.Rows.{zone_row, entry_row, zelem_row, entries_of, zelems_of, chosen_of}
@@ -29,13 +29,16 @@ use Rattle.store_schema.specs.Stands.{rows_of}
 use Rattle.store_schema.specs.Tables.{store_schema, meta, sysmod, ver, ifreq, hold, elem, source, morever, moreif}
 use Rattle.store_schema.specs.Tables.{entry, chosen, zelem, zone as zone_table}
 use Rattle.store_schema.proofs.Spelled.{types_alike}
-use Rattle.store_zones.specs.Keys.{entry_key, element_key}
-use Rattle.store_zones.specs.Numbers.{number_of, number_before}
+use Rattle.store_zones.specs.Elements.{element_key}
+use Rattle.store_zones.specs.Entries.{entry_key}
+use Rattle.store_zones.specs.declared.chosen.EntryNumber.{EntryNumber}
+use Rattle.store_zones.specs.Chosen.{number_of, number_before, number_row}
+use Rattle.store_zones.specs.Numbered.{numbers_of}
 use Rattle.store_zones.specs.Zones.{IsZoneChange, HasEntry, is_element, entries_but, elements_but, HasPutEntry}
 use Rattle.store_zones.specs.Zones.{HasRemovedEntry, HasPutElement, HasRemovedElement, numbered, rows_with}
 use Rattle.store_zones.specs.Zones.{with_entry, without_entry, with_element}
 use Rattle.store_zones.proofs.ByNumber.{renumbered}
-use Rattle.store_zones.proofs.Numbers.{numbers, number_row, row_of, chosen_are, rows_by_number, numbers_with}
+use Rattle.store_zones.proofs.Numbers.{row_of, chosen_are, rows_by_number, numbers_with}
 
 -- ---- keys
 
@@ -43,9 +46,9 @@ entry_meets : (other name : terms.Text) (id : terms.Id) (e : Entry)
     → has_key (entry_key name id) (entry_row other e) ≡ (bytes_eq other name && bytes_eq e.id id)
 entry_meets other name id e = ap₂ ◌&&◌ (equals other name) (and_true _ ∙ equals e.id id)
 
-number_meets : (other name : terms.Text) (id : terms.Id) (x : terms.Id × ℕ)
-    → has_key (entry_key name id) (number_row other x) ≡ (bytes_eq other name && bytes_eq x.0 id)
-number_meets other name id x = ap₂ ◌&&◌ (equals other name) (and_true _ ∙ equals x.0 id)
+number_meets : (other name : terms.Text) (id : terms.Id) (n : EntryNumber)
+    → has_key (entry_key name id) (number_row other n) ≡ (bytes_eq other name && bytes_eq n.id id)
+number_meets other name id n = ap₂ ◌&&◌ (equals other name) (and_true _ ∙ equals n.id id)
 
 element_meets : (other name : terms.Text) (type : ElemType) (x : terms.Text) (e : Element)
     → has_key (element_key name type x) (zelem_row other e) ≡ (bytes_eq other name && is_element type x e)
@@ -276,11 +279,11 @@ module _ (i j : Inventory) (name : terms.Text) (was is : Zone) (c : IsZoneChange
       let front = option_to_list o in
       let rest = without (entry_key name id) (flat_map chosen_of (c.before ++ old_zone ∷ c.after)) in
       subst₂ IsPermutation (sym (chosen_are (c.before ++ record { name = name; zone = zone } ∷ c.after)))
-      (ap (λ rows. map (number_row name) (numbers front) ++ without (entry_key name id) rows)
+      (ap (λ rows. map (number_row name) (numbers_of front) ++ without (entry_key name id) rows)
       (sym (chosen_are (c.before ++ old_zone ∷ c.after)))
       ∙ ap (λ rows. rows ++ rest) (rows_by_number name id o here))
-      (rows_changed number_row name (entry_key name id) (λ x. bytes_eq x.0 id)
-      (λ other x. number_meets other name id x) (λ z. numbers z.entries) c.before c.after was zone (numbers front)
+      (rows_changed number_row name (entry_key name id) (λ n. bytes_eq n.id id)
+      (λ other n. number_meets other name id n) (λ z. numbers_of z.entries) c.before c.after was zone (numbers_of front)
       c.others (numbers_with id front was.entries zone.entries same))
 
   -- the number of the id changes

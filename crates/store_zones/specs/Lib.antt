@@ -1,4 +1,10 @@
+pub mod Heads
+pub mod Entries
+pub mod Chosen
+pub mod Elements
 pub mod Calls
-pub mod Keys
-pub mod Numbers
 pub mod Zones
+pub mod Found
+pub mod Held
+pub mod Numbered
+pub mod Related

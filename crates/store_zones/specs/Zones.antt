@@ -16,8 +16,9 @@ use Rattle.store_schema.specs.Inventory.{Inventory}
 use Rattle.store_schema.specs.Rows.{entry_row, chosen_row, zelem_row}
 use Rattle.store_schema.specs.Stands.{rows_of}
 use Rattle.store_schema.specs.Tables.{entry, chosen, zelem, store_schema}
-use Rattle.store_zones.specs.Keys.{entry_key, element_key}
-use Rattle.store_zones.specs.Numbers.{number_of, number_before}
+use Rattle.store_zones.specs.Chosen.{number_of, number_before}
+use Rattle.store_zones.specs.Elements.{element_key}
+use Rattle.store_zones.specs.Entries.{entry_key}
 
 -- one more row, in place of those of its key where one stood
 abbrev pub rows_with : Bool → Row → Row → List Row → List Row

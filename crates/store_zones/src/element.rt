@@ -1,26 +1,46 @@
 //! The table of element entries.
 
-ghost use Rattle.std.specs.Prelude.{◌≡◌, OnOk, option_copied};
+ghost use Rattle.std.specs.Prelude.{◌≡◌, OnOk, option_copied, ◌≢◌, IfOk, IsErrOf};
 ghost use Rattle.std.specs.List.{join_with_byte};
 ghost use Rattle.terms.specs.Texts.{HasLines};
 ghost use Rattle.store_rows.specs.Calls.{RunsInside};
-ghost use Rattle.store_rows.specs.Inside.{StaysInside, Turns};
+ghost use Rattle.store_rows.specs.Inside.{Continues, Turns};
 ghost use Rattle.store_rows.specs.Rows.{HasContents, in_table, without};
 ghost use Rattle.store_schema.specs.Tables.{zelem, store_schema};
 ghost use Rattle.store_zones.specs.Calls.{put_element_calls, remove_element_calls};
-ghost use Rattle.store_zones.specs.Keys.{element_key};
+ghost use Rattle.store_zones.specs.Elements.{element_key};
 ghost use Rattle.store_zones.specs.Zones.{ChangesZone, HasPutElement, HasRemovedElement, with_element};
+ghost use Rattle.terms.specs.Types.{Element as ElementTerm};
+ghost use Rattle.store_zones.specs.declared.rows.ZoneRow.{ZoneRow as AZoneRow};
 
+use crate::items::ZoneItem;
+use crate::rows::ZoneRow;
 use fields::spelling::type_text;
 use fields::{Name, ZoneName};
-use sqlite::{Alter, Error, Transaction};
+use sqlite::{Alter, Error, Row, Transaction};
 use sqlite_value::value::ValueRef;
 use std::alloc::Global;
-use store_columns::joined_ids;
-use store_rows::{insert, put, remove};
+use store_rows::{FromRow, ReadError, insert, put, remove};
+use store_schema::{
+    Query, elem_type_in, element_text_in, id_in, ids_in, joined_ids, name_in, zone_name_in,
+};
 use terms::ElemType;
 use text80::bytes_of;
 use zones::Element;
+
+const SELECT: &str = "SELECT zone, type, name, fmid, rmid, umid, distlib, syslib, text FROM zelem \
+    WHERE zone = ?1 ORDER BY type, name";
+
+const INSERT: &str =
+    "INSERT INTO zelem (zone, type, name, fmid, rmid, umid, distlib, syslib, text) \
+    VALUES (?1, ?2, ?3, ?4, ?5, ?6, ?7, ?8, ?9)";
+
+const PUT: &str = "INSERT INTO zelem (zone, type, name, fmid, rmid, umid, distlib, syslib, text) \
+    VALUES (?1, ?2, ?3, ?4, ?5, ?6, ?7, ?8, ?9) \
+    ON CONFLICT (zone, type, name) DO UPDATE SET fmid = excluded.fmid, rmid = excluded.rmid, \
+    umid = excluded.umid, distlib = excluded.distlib, syslib = excluded.syslib, text = excluded.text";
+
+const DELETE: &str = "DELETE FROM zelem WHERE zone = ?1 AND type = ?2 AND name = ?3";
 
 /// Puts the element into the zone, which has this one of its type and name, or none. An error comes where it has one
 /// after all, where there is no such zone, where the disk fails or memory is short.
@@ -31,8 +51,7 @@ pub fn put_element<S: Alter>(
     stood: Option<&Element>,
     element: &Element,
 ) -> Result<(), Error>
-    ensures same_reference { tx.new.conn.ghost_name ≡ tx.old.conn.ghost_name }
-    ensures inside { StaysInside S.Store tx.old.conn.now tx.new.conn.now }
+    ensures continues { Continues S.Store tx.old tx.new }
     ensures calls { RunsInside S.Store (put_element_calls zone (option_copied stood.entry) element.now)
         tx.old.conn.now tx.new.conn.now result }
     ensures ok { OnOk result (Turns S.Store tx.old.conn.now tx.new.conn.now (HasContents store_schema)
@@ -56,8 +75,7 @@ fn put_row<S: Alter>(
 ) -> Result<(), Error>
     requires umids { umids.now ≡ join_with_byte 44 element.now.umids }
     requires text { HasLines text.now element.now.text }
-    ensures same_reference { tx.new.conn.ghost_name ≡ tx.old.conn.ghost_name }
-    ensures inside { StaysInside S.Store tx.old.conn.now tx.new.conn.now }
+    ensures continues { Continues S.Store tx.old tx.new }
     ensures calls { RunsInside S.Store (put_element_calls zone.now (option_copied stood.entry) element.now)
         tx.old.conn.now tx.new.conn.now result }
     ensures ok { OnOk result (Turns S.Store tx.old.conn.now tx.new.conn.now (HasContents store_schema)
@@ -75,16 +93,8 @@ fn put_row<S: Alter>(
         ValueRef::Blob(text),
     ];
     match stood {
-        Some(_) => put(
-            tx,
-            "INSERT INTO zelem (zone, type, name, fmid, rmid, umid, distlib, syslib, text) VALUES (?1, ?2, ?3, ?4, ?5, ?6, ?7, ?8, ?9) ON CONFLICT (zone, type, name) DO UPDATE SET fmid = excluded.fmid, rmid = excluded.rmid, umid = excluded.umid, distlib = excluded.distlib, syslib = excluded.syslib, text = excluded.text",
-            &row,
-        ),
-        None => insert(
-            tx,
-            "INSERT INTO zelem (zone, type, name, fmid, rmid, umid, distlib, syslib, text) VALUES (?1, ?2, ?3, ?4, ?5, ?6, ?7, ?8, ?9)",
-            &row,
-        ),
+        Some(_) => put(tx, PUT, &row),
+        None => insert(tx, INSERT, &row),
     }
 }
 
@@ -96,8 +106,7 @@ pub fn remove_element<S: Alter>(
     elem_type: ElemType,
     name: Name,
 ) -> Result<(), Error>
-    ensures same_reference { tx.new.conn.ghost_name ≡ tx.old.conn.ghost_name }
-    ensures inside { StaysInside S.Store tx.old.conn.now tx.new.conn.now }
+    ensures continues { Continues S.Store tx.old tx.new }
     ensures calls { RunsInside S.Store (remove_element_calls zone elem_type name)
         tx.old.conn.now tx.new.conn.now result }
     ensures ok { OnOk result (Turns S.Store tx.old.conn.now tx.new.conn.now (HasContents store_schema)
@@ -110,9 +119,94 @@ pub fn remove_element<S: Alter>(
         ValueRef::Text(type_text(elem_type)),
         ValueRef::Text(name.as_bytes()),
     ];
-    remove(
-        tx,
-        "DELETE FROM zelem WHERE zone = ?1 AND type = ?2 AND name = ?3",
-        &key,
-    )
+    remove(tx, DELETE, &key)
+}
+
+/// Reads the rows of elements.
+pub(crate) struct Elements;
+
+impl FromRow for Elements {
+    ghost use Rattle.store_zones.specs.Elements.{row_of_element, HasElementRowForms};
+
+    type Item = ZoneRow<Element>;
+
+    ghost row_of = { row_of_element };
+
+    ghost has_form = { HasElementRowForms };
+
+    fn read(alloc: Global, row: &Row) -> Result<ZoneRow<Element>, ReadError>
+        ensures read { IfOk result (λ item. (row.now ≡ row_of_element item) × HasElementRowForms item) }
+        ensures none { IsErrOf result ReadError.BadRow → (item : AZoneRow ElementTerm) → HasElementRowForms item
+            → row.now ≢ row_of_element item }
+        ensures fault { IsErrOf result ReadError.Fault → ⊥ }
+    {
+        if row.column_count() != 9 {
+            return Err(ReadError::BadRow);
+        }
+        let Some(zone) = zone_name_in(row, 0) else {
+            return Err(ReadError::BadRow);
+        };
+        let Some(elem_type) = elem_type_in(row, 1) else {
+            return Err(ReadError::BadRow);
+        };
+        let Some(name) = name_in(row, 2) else {
+            return Err(ReadError::BadRow);
+        };
+        let Some(fmid) = id_in(row, 3) else {
+            return Err(ReadError::BadRow);
+        };
+        let Some(rmid) = id_in(row, 4) else {
+            return Err(ReadError::BadRow);
+        };
+        let umids = ids_in(alloc, row, 5)?;
+        let Some(distlib) = name_in(row, 6) else {
+            return Err(ReadError::BadRow);
+        };
+        let Some(syslib) = name_in(row, 7) else {
+            return Err(ReadError::BadRow);
+        };
+        let text = element_text_in(alloc, row, 8, elem_type)?;
+        Ok(ZoneRow {
+            zone,
+            item: Element {
+                elem_type,
+                name,
+                fmid,
+                rmid,
+                umids,
+                distlib,
+                syslib,
+                text,
+            },
+        })
+    }
+}
+
+impl Query for Elements {
+    ghost use Rattle.std.specs.Prelude.{⊤};
+    ghost use Rattle.store_schema.specs.Tables.{zelem};
+
+    type Rows = Elements;
+
+    ghost table = { zelem };
+
+    ghost at = { 8 };
+
+    ghost width = { 1 };
+
+    ghost knows = { λ r. ⊤ };
+
+    fn sql() -> &'static str {
+        SELECT
+    }
+}
+
+impl ZoneItem for Element {
+    ghost use Rattle.std.specs.Prelude.{refl};
+
+    type Rows = Elements;
+
+    ghost by_zone = { refl };
+
+    ghost named = { λ r. refl };
 }

@@ -1,26 +1,48 @@
 //! The table of SYSMOD entries.
 
-ghost use Rattle.std.specs.Prelude.{◌≡◌, [], ◌∷◌, OnOk, is_some, option_copied, if◌then◌else◌};
+ghost use Rattle.std.specs.Prelude.{◌≡◌, [], ◌∷◌, OnOk, is_some, option_copied, if◌then◌else◌, ◌≢◌, Option, IfSome};
+ghost use Rattle.std.specs.Prelude.{IfNone, IfOk, IsErrOf, option_map};
 ghost use Rattle.std.specs.List.{join_with_byte};
 ghost use Rattle.store_rows.specs.Calls.{RunsInside};
-ghost use Rattle.store_rows.specs.Inside.{StaysInside, Turns};
+ghost use Rattle.store_rows.specs.Inside.{Continues, Turns};
 ghost use Rattle.store_rows.specs.Rows.{HasContents, in_table, without};
 ghost use Rattle.store_schema.specs.Rows.{entry_row};
 ghost use Rattle.store_schema.specs.Tables.{entry as entry_table, store_schema};
-ghost use Rattle.store_zones.specs.Calls.{insert_entry, put_entry as into_entry, delete_entry};
 ghost use Rattle.store_zones.specs.Calls.{put_entry_calls, remove_entry_calls};
-ghost use Rattle.store_zones.specs.Keys.{entry_key};
-ghost use Rattle.store_zones.specs.Zones.{ChangesZone, HasPutEntry, HasRemovedEntry, rows_with, with_entry, without_entry};
+ghost use Rattle.store_zones.specs.Entries.{insert_entry, put_entry as into_entry, delete_entry, entry_key};
+ghost use Rattle.store_zones.specs.Zones.{ChangesZone, HasPutEntry, HasRemovedEntry, rows_with, with_entry};
+ghost use Rattle.store_zones.specs.Zones.{without_entry};
+ghost use Rattle.sqlite.specs.declared.types.Value.TheVariants.{Text};
+ghost use Rattle.sqlite.specs.Order.{column};
+ghost use Rattle.sqlite.specs.Values.{or_null};
+ghost use Rattle.sqlite_value.specs.Value.{owned};
+ghost use Rattle.terms.specs.Types.{Applied as AppliedTerm, Entry as EntryTerm};
+ghost use Rattle.store_schema.specs.Forms.{HasAppliedForms};
+ghost use Rattle.store_zones.specs.declared.rows.ZoneRow.{ZoneRow as AZoneRow};
 
 use crate::chosen::{change_number, number_before, number_of};
-use crate::values::date_value;
+use crate::items::ZoneItem;
+use crate::rows::ZoneRow;
 use fields::{Id, ZoneName};
-use sqlite::{Alter, Error, Transaction};
+use sqlite::{Alter, Error, Row, Transaction};
 use sqlite_value::value::ValueRef;
 use std::alloc::Global;
-use store_columns::{id_value, joined_ids};
-use store_rows::{insert, put, remove};
-use zones::Entry;
+use store_rows::{FromRow, ReadError, insert, put, remove};
+use store_schema::{Query, id_in, ids_in, joined_ids, optional_in, text_or_null, zone_name_in};
+use zones::{Applied, Entry};
+
+const SELECT: &str =
+    "SELECT zone, id, date, supby, delby, waived FROM entry WHERE zone = ?1 ORDER BY id";
+
+const INSERT: &str =
+    "INSERT INTO entry (zone, id, date, supby, delby, waived) VALUES (?1, ?2, ?3, ?4, ?5, ?6)";
+
+const PUT: &str = "INSERT INTO entry (zone, id, date, supby, delby, waived) \
+    VALUES (?1, ?2, ?3, ?4, ?5, ?6) \
+    ON CONFLICT (zone, id) DO UPDATE SET date = excluded.date, supby = excluded.supby, \
+    delby = excluded.delby, waived = excluded.waived";
+
+const DELETE: &str = "DELETE FROM entry WHERE zone = ?1 AND id = ?2";
 
 /// Puts the entry into the zone, which has this one of its id, or none. An error comes where it has one after all,
 /// where there is no such zone, where the disk fails or memory is short.
@@ -31,8 +53,7 @@ pub fn put_entry<S: Alter>(
     stood: Option<&Entry>,
     entry: &Entry,
 ) -> Result<(), Error>
-    ensures same_reference { tx.new.conn.ghost_name ≡ tx.old.conn.ghost_name }
-    ensures inside { StaysInside S.Store tx.old.conn.now tx.new.conn.now }
+    ensures continues { Continues S.Store tx.old tx.new }
     ensures calls { RunsInside S.Store (put_entry_calls zone (option_copied stood.entry) entry.now)
         tx.old.conn.now tx.new.conn.now result }
     ensures ok { OnOk result (Turns S.Store tx.old.conn.now tx.new.conn.now (HasContents store_schema)
@@ -46,6 +67,16 @@ pub fn put_entry<S: Alter>(
     change_number(tx, &zone, &entry.id, number_before(stood), number_of(entry))
 }
 
+// The date of APPLY or ACCEPT, or NULL.
+fn date_value(applied: &Option<Applied>) -> ValueRef<'_>
+    ensures { owned result ≡ or_null Text (option_map (λ a. a.date) applied.now) }
+{
+    match applied {
+        Some(applied) => ValueRef::Text(applied.date.as_bytes()),
+        None => ValueRef::Null,
+    }
+}
+
 // Puts the entry's row, of whose lists these are the texts, in place of that of the entry which stood.
 fn put_row<S: Alter>(
     tx: &mut Transaction<'_, S>,
@@ -57,8 +88,7 @@ fn put_row<S: Alter>(
 ) -> Result<(), Error>
     requires supby { supby.now ≡ join_with_byte 44 entry.now.supby }
     requires waived { waived.now ≡ join_with_byte 44 entry.now.waived }
-    ensures same_reference { tx.new.conn.ghost_name ≡ tx.old.conn.ghost_name }
-    ensures inside { StaysInside S.Store tx.old.conn.now tx.new.conn.now }
+    ensures continues { Continues S.Store tx.old tx.new }
     ensures calls { RunsInside S.Store ((
       if is_some (option_copied stood.entry) then into_entry else insert_entry,
       entry_row zone.now entry.now,
@@ -72,27 +102,18 @@ fn put_row<S: Alter>(
         ValueRef::Text(entry.id.as_bytes()),
         date_value(&entry.applied),
         ValueRef::Text(supby),
-        id_value(&entry.delby),
+        text_or_null(&entry.delby),
         ValueRef::Text(waived),
     ];
     match stood {
-        Some(_) => put(
-            tx,
-            "INSERT INTO entry (zone, id, date, supby, delby, waived) VALUES (?1, ?2, ?3, ?4, ?5, ?6) ON CONFLICT (zone, id) DO UPDATE SET date = excluded.date, supby = excluded.supby, delby = excluded.delby, waived = excluded.waived",
-            &row,
-        ),
-        None => insert(
-            tx,
-            "INSERT INTO entry (zone, id, date, supby, delby, waived) VALUES (?1, ?2, ?3, ?4, ?5, ?6)",
-            &row,
-        ),
+        Some(_) => put(tx, PUT, &row),
+        None => insert(tx, INSERT, &row),
     }
 }
 
 // Takes out the entry's row, if there is one.
 fn remove_row<S: Alter>(tx: &mut Transaction<'_, S>, zone: &ZoneName, id: &Id) -> Result<(), Error>
-    ensures same_reference { tx.new.conn.ghost_name ≡ tx.old.conn.ghost_name }
-    ensures inside { StaysInside S.Store tx.old.conn.now tx.new.conn.now }
+    ensures continues { Continues S.Store tx.old tx.new }
     ensures calls { RunsInside S.Store ((delete_entry, entry_key zone.now id.now) ∷ [])
         tx.old.conn.now tx.new.conn.now result }
     ensures ok { OnOk result (Turns S.Store tx.old.conn.now tx.new.conn.now (HasContents store_schema)
@@ -102,7 +123,7 @@ fn remove_row<S: Alter>(tx: &mut Transaction<'_, S>, zone: &ZoneName, id: &Id) -
         ValueRef::Text(zone.as_bytes()),
         ValueRef::Text(id.as_bytes()),
     ];
-    remove(tx, "DELETE FROM entry WHERE zone = ?1 AND id = ?2", &key)
+    remove(tx, DELETE, &key)
 }
 
 /// Takes the entry of the id, which is this one, out of the zone, if there is one. An error comes where the disk fails
@@ -113,8 +134,7 @@ pub fn remove_entry<S: Alter>(
     stood: Option<&Entry>,
     id: Id,
 ) -> Result<(), Error>
-    ensures same_reference { tx.new.conn.ghost_name ≡ tx.old.conn.ghost_name }
-    ensures inside { StaysInside S.Store tx.old.conn.now tx.new.conn.now }
+    ensures continues { Continues S.Store tx.old tx.new }
     ensures calls { RunsInside S.Store (remove_entry_calls zone (option_copied stood.entry) id)
         tx.old.conn.now tx.new.conn.now result }
     ensures ok { OnOk result (Turns S.Store tx.old.conn.now tx.new.conn.now (HasContents store_schema)
@@ -124,4 +144,94 @@ pub fn remove_entry<S: Alter>(
 {
     remove_row(tx, &zone, &id)?;
     change_number(tx, &zone, &id, number_before(stood), 1)
+}
+
+/// Reads the rows of entries.
+pub(crate) struct Entries;
+
+impl FromRow for Entries {
+    ghost use Rattle.store_zones.specs.Entries.{row_of_entry, HasEntryRowForms};
+
+    type Item = ZoneRow<Entry>;
+
+    ghost row_of = { row_of_entry };
+
+    ghost has_form = { HasEntryRowForms };
+
+    fn read(alloc: Global, row: &Row) -> Result<ZoneRow<Entry>, ReadError>
+        ensures read { IfOk result (λ item. (row.now ≡ row_of_entry item) × HasEntryRowForms item) }
+        ensures none { IsErrOf result ReadError.BadRow → (item : AZoneRow EntryTerm) → HasEntryRowForms item
+            → row.now ≢ row_of_entry item }
+        ensures fault { IsErrOf result ReadError.Fault → ⊥ }
+    {
+        if row.column_count() != 6 {
+            return Err(ReadError::BadRow);
+        }
+        let Some(zone) = zone_name_in(row, 0) else {
+            return Err(ReadError::BadRow);
+        };
+        let Some(id) = id_in(row, 1) else {
+            return Err(ReadError::BadRow);
+        };
+        let Some(applied) = applied_in(row, 2) else {
+            return Err(ReadError::BadRow);
+        };
+        let supby = ids_in(alloc, row, 3)?;
+        let Some(delby) = optional_in(row, 4) else {
+            return Err(ReadError::BadRow);
+        };
+        let waived = ids_in(alloc, row, 5)?;
+        Ok(ZoneRow {
+            zone,
+            item: Entry {
+                id,
+                applied,
+                supby,
+                delby,
+                waived,
+            },
+        })
+    }
+}
+
+// When it was applied, or NULL. The row has no number, which is 1 until that of another table is found.
+fn applied_in(row: &Row, at: usize) -> Option<Option<Applied>>
+    ensures some { IfSome result (λ applied. (column row.now at ≡ or_null Text (option_map (λ a. a.date) applied))
+        × IfSome applied HasAppliedForms × IfSome applied (λ a. a.number ≡ 1)) }
+    ensures none { IfNone result ((applied : Option AppliedTerm) → IfSome applied HasAppliedForms
+        → column row.now at ≢ or_null Text (option_map (λ a. a.date) applied)) }
+{
+    match optional_in(row, at)? {
+        Some(date) => Some(Some(Applied::on(date))),
+        None => Some(None),
+    }
+}
+
+impl Query for Entries {
+    ghost use Rattle.std.specs.Prelude.{⊤};
+    ghost use Rattle.store_schema.specs.Tables.{entry};
+
+    type Rows = Entries;
+
+    ghost table = { entry };
+
+    ghost at = { 7 };
+
+    ghost width = { 1 };
+
+    ghost knows = { λ r. ⊤ };
+
+    fn sql() -> &'static str {
+        SELECT
+    }
+}
+
+impl ZoneItem for Entry {
+    ghost use Rattle.std.specs.Prelude.{refl};
+
+    type Rows = Entries;
+
+    ghost by_zone = { refl };
+
+    ghost named = { λ r. refl };
 }

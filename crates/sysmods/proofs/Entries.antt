@@ -19,10 +19,10 @@ use Rattle.terms.specs.Types.{Text, Id, Sysmod}
 use Rattle.terms.specs.Rising.{with_item}
 use Rattle.terms.specs.Global.{with_source}
 use Rattle.terms.proofs.GlobalLookups.{assigned}
-use Rattle.lemmas.proofs.Texts.{same_from, same_back, same_itself}
-use Rattle.lemmas.proofs.Searches.{find_passes, filter_all_recursion, filter_none_recursion}
+use Rattle.terms.proofs.TextOrder.{same_from, same_back, same_itself}
+use Rattle.terms.proofs.Searches.{find_passes, filter_all_recursion, filter_none_recursion}
 use Rattle.terms.proofs.GlobalGroups as groups
-use Rattle.lemmas.proofs.Each.{recursion_weaker}
+use Rattle.terms.proofs.Each.{recursion_weaker}
 use Rattle.sysmods.specs.Held.{IsKeyed, found}
 
 abbrev C : Id → Id → Ordering

@@ -12,7 +12,7 @@ use Rattle.std.proofs.lemmas.Cmp.{nat_list_cmp_total}
 use Rattle.std.proofs.lemmas.Map.Text.{is_eq-slice_cmp}
 use Rattle.std.proofs.lemmas.List.Folds.{find-append}
 use Rattle.std.proofs.lemmas.List.Elements.{All-nil, All-weaker}
-use Rattle.lemmas.proofs.Each.{All_front}
+use Rattle.terms.proofs.Each.{All_front}
 use Rattle.terms.specs.Types.{Text, Id, Hold, Sysmod, Global, a_global, is_function_kind}
 use Rattle.terms.specs.Rising.{Rises, Splits, with_item}
 use Rattle.terms.specs.Lookups.{is_function}
@@ -22,15 +22,15 @@ use Rattle.terms.proofs.Leads.{reaches_more}
 use Rattle.terms.proofs.GlobalKept.{IsOwned}
 use Rattle.terms.proofs.GlobalRoles.{fits_fewer}
 use Rattle.terms.proofs.RisingLists.{with_item_new}
-use Rattle.lemmas.proofs.Pairs.{AllPairs_parts}
-use Rattle.lemmas.proofs.Orderings.{Less_from_is_lt}
-use Rattle.lemmas.proofs.Searches.{find_over}
+use Rattle.terms.proofs.Pairs.{AllPairs_parts}
+use Rattle.terms.proofs.Orderings.{Less_from_is_lt}
+use Rattle.terms.proofs.Searches.{find_over}
 use Rattle.sysmods.specs.Held.{found, zone_of}
 use Rattle.sysmods.specs.declared.faults.ReceiveFault.{ReceiveFault as Code}
 use Rattle.sysmods.specs.declared.faults.ReceiveFault.TheVariants as code
 use Rattle.sysmods.specs.Refused.{IsRefusal}
 use Rattle.sysmods.proofs.Receiving.{kept}
-use Rattle.lemmas.proofs.Pairs.{AllPairs_front}
+use Rattle.terms.proofs.Pairs.{AllPairs_front}
 
 module _ (xs ys : List Sysmod) where
   abbrev Whole : Global

@@ -19,8 +19,8 @@ use Rattle.std.proofs.lemmas.Bool.{not-true}
 use Rattle.terms.specs.Types.{Text, Id, Sysmod}
 use Rattle.terms.specs.Rising.{Rises}
 use Rattle.terms.specs.Global.{IsSysmod, with_source}
-use Rattle.lemmas.proofs.Texts.{same_from, same_back}
-use Rattle.lemmas.proofs.Searches.{find_passes, All_find}
+use Rattle.terms.proofs.TextOrder.{same_from, same_back}
+use Rattle.terms.proofs.Searches.{find_passes, All_find}
 use Rattle.sysmods.specs.Index.{Sets, IsIndexed, Grows, KeepsOthers}
 use Rattle.sysmods.specs.Held.{IsHeld, IsKeyed, found}
 use Rattle.sysmods.proofs.Entries.{find_lookup, keyed_insert, keyed_remove, keyed_assign, values_remove}

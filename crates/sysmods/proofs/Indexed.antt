@@ -15,7 +15,7 @@ use Rattle.std.proofs.lemmas.List.Folds.{list_any_more, list_any-append}
 use Rattle.terms.specs.Types.{Id, Ver}
 use Rattle.terms.specs.Lookups.{is_in, at_most_one}
 use Rattle.terms.specs.Global.{named, named_functions}
-use Rattle.lemmas.proofs.Texts.{same_from}
+use Rattle.terms.proofs.TextOrder.{same_from}
 use Rattle.sysmods.specs.Index.{Sets, has, HasAll, Grows, KeepsOthers, mentions}
 
 -- one of two tests passes

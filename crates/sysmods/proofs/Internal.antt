@@ -17,19 +17,19 @@ use Rattle.std.proofs.lemmas.List.{append-nil}
 use Rattle.std.proofs.lemmas.List.Elements.{All-head, All-tail}
 use Rattle.std.proofs.lemmas.Map.Keys.{sorted_head, sorted_tail}
 use Rattle.std.proofs.lemmas.Bool.{and_parts}
-use Rattle.lemmas.proofs.Texts.{other_from_less, same_from, same_itself, same_back}
+use Rattle.terms.proofs.TextOrder.{other_from_less, same_from, same_itself, same_back}
 use Rattle.terms.specs.declared.kinds.HoldKind.{HoldKind}
 use Rattle.terms.specs.declared.kinds.HoldKind.TheVariants.{Error, System, User}
 use Rattle.terms.specs.Types.{Id, Hold, hold_number}
-use Rattle.lemmas.proofs.Searches.{filter_all_recursion}
-use Rattle.lemmas.proofs.Each.{recursion_weaker}
+use Rattle.terms.proofs.Searches.{filter_all_recursion}
+use Rattle.terms.proofs.Each.{recursion_weaker}
 use Rattle.sysmods.specs.declared.key.HoldKey.{HoldKey}
 use Rattle.sysmods.specs.Keys.{key_of, key_cmp, key_cmp_total, place_cmp, before_kind, behind_kind, IsByKey}
 use Rattle.sysmods.specs.Lists.{is_internal_on}
 use Rattle.sysmods.specs.Internal.{goes_on, IsFirstInternal}
 use Rattle.sysmods.proofs.Keyed.{Entries, found_key}
 use Rattle.std.proofs.lemmas.Bool.{and_parts}
-use Rattle.lemmas.proofs.Orderings.{between_then}
+use Rattle.terms.proofs.Orderings.{between_then}
 
 -- what stays
 abbrev pub stays : Id → Hold → Bool

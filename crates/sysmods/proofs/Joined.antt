@@ -14,15 +14,15 @@ use Rattle.std.proofs.lemmas.Map.Text.{is_eq-slice_cmp}
 use Rattle.std.proofs.lemmas.List.Folds.{list_any-append, list_any_none}
 use Rattle.std.proofs.lemmas.List.Elements.{All-nil, All-cons, All-head, All-tail, All-weaker}
 use Rattle.std.proofs.lemmas.Bool.{not-true}
-use Rattle.lemmas.proofs.Searches.{All_from_no_list_any}
-use Rattle.lemmas.proofs.Each.{All_front, All_back}
+use Rattle.terms.proofs.Searches.{All_from_no_list_any}
+use Rattle.terms.proofs.Each.{All_front, All_back}
 use Rattle.terms.specs.Types.{Id, Ver, Sysmod, Global, is_function_kind}
 use Rattle.terms.specs.Rising.{before, behind}
 use Rattle.terms.specs.Lookups.{sysmod_of, is_function, is_in, at_most_one}
 use Rattle.terms.specs.Global.{is_service, fits_roles, named_functions, RolesFit, with_sysmod}
 use Rattle.terms.proofs.GlobalLookups.{sysmod_of_with_sysmod}
-use Rattle.lemmas.proofs.Texts.{same_back}
-use Rattle.lemmas.proofs.Booleans.{neither, both_none}
+use Rattle.terms.proofs.TextOrder.{same_back}
+use Rattle.terms.proofs.Booleans.{neither, both_none}
 use Rattle.terms.proofs.Placing.{All_with_item}
 use Rattle.sysmods.specs.Held.{found, zone_of}
 

@@ -19,10 +19,10 @@ use Rattle.terms.specs.Types.{Text, Id, Hold, hold_number}
 use Rattle.terms.specs.Global.{has_key, hold_cmp}
 use Rattle.sysmods.specs.KeyedMaps.{KnowKeys}
 use Rattle.terms.specs.Rising.{Rises, with_item}
-use Rattle.lemmas.proofs.Texts.{same_from, same_back}
+use Rattle.terms.proofs.TextOrder.{same_from, same_back}
 use Rattle.terms.proofs.GlobalKept.{kind_from}
 use Rattle.terms.proofs.HoldOrder.{has_key_ties, number_back}
-use Rattle.lemmas.proofs.Orderings.{is_eq_then}
+use Rattle.terms.proofs.Orderings.{is_eq_then}
 use Rattle.sysmods.proofs.KeyedMaps as keyed
 use Rattle.sysmods.specs.declared.key.Place.{Place}
 use Rattle.sysmods.specs.declared.key.Place.TheVariants.{First, At, Last}

@@ -13,12 +13,12 @@ use Rattle.std.proofs.lemmas.Cmp.{tied_itself, tied_back}
 use Rattle.std.proofs.lemmas.List.Elements.{All-cons, All-nil}
 use Rattle.std.proofs.lemmas.List.Kept.{AllPairs-cons}
 use Rattle.std.proofs.lemmas.Map.Keys.{sorted_head, sorted_tail}
-use Rattle.lemmas.proofs.Orderings.{Greater_turned, Less_turned, above_lower, above_same, Equal_from_is_eq}
+use Rattle.terms.proofs.Orderings.{Greater_turned, Less_turned, above_lower, above_same, Equal_from_is_eq}
 use Rattle.sysmods.specs.KeyedMaps.{KnowKeys}
 use Rattle.terms.specs.Rising.{Rises, with_item}
 use Rattle.terms.proofs.GlobalGroups.{put_ahead, put_behind}
-use Rattle.lemmas.proofs.Searches.{filter_all_recursion}
-use Rattle.lemmas.proofs.Each.{recursion_weaker}
+use Rattle.terms.proofs.Searches.{filter_all_recursion}
+use Rattle.terms.proofs.Each.{recursion_weaker}
 
 -- the test by the key's order is the test of the values
 abbrev pub Ties : {X K : Type 0} → (K → Bool) → (X → K) → (X → Bool) → Type 0

@@ -9,7 +9,7 @@ use Rattle.terms.specs.Types.{Id}
 use Rattle.terms.specs.Lookups.{at_most_one}
 use Rattle.terms.specs.Choice.{Choice, fmid_of, pre_of, sup_of}
 use Rattle.terms.specs.Over.{IsOver, names}
-use Rattle.lemmas.proofs.Texts.{same_from}
+use Rattle.terms.proofs.TextOrder.{same_from}
 use Rattle.sysmods.specs.Overs.{AreOver, is_known, is_one_known}
 
 module _ (c : Choice) (pairs : List (Id × Id)) (are : AreOver c pairs) where

@@ -5,16 +5,16 @@ use Rattle.std.specs.Prelude.{All, IsTrue}
 use Rattle.std.specs.declared.cmp.Ordering.TheVariants.{Less}
 use Rattle.std.specs.Ordering.{is_lt, is_eq, ordering_reverse}
 use Rattle.std.proofs.lemmas.List.Elements.{All-weaker}
-use Rattle.lemmas.proofs.Booleans.{or_false}
+use Rattle.terms.proofs.Booleans.{or_false}
 use Rattle.terms.specs.Types.{Hold}
 use Rattle.terms.specs.Global.{has_key, hold_cmp, marked}
 use Rattle.terms.specs.Rising.{Rises, Splits, with_item}
 use Rattle.terms.proofs.GlobalKept.{hold_cmp_total}
 use Rattle.terms.proofs.HoldOrder.{has_key_ties}
 use Rattle.terms.proofs.RisingLists.{with_item_new}
-use Rattle.lemmas.proofs.Pairs.{AllPairs_parts}
-use Rattle.lemmas.proofs.Orderings.{Less_from_is_lt}
-use Rattle.lemmas.proofs.Searches.{find_over}
+use Rattle.terms.proofs.Pairs.{AllPairs_parts}
+use Rattle.terms.proofs.Orderings.{Less_from_is_lt}
+use Rattle.terms.proofs.Searches.{find_over}
 use Rattle.sysmods.specs.Lists.{held, with_hold, with_holds}
 
 unmarked : (h : Hold) → marked None h ≡ h

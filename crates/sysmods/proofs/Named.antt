@@ -9,7 +9,7 @@ use Rattle.terms.specs.Types.{Text, Id, Ver, Sysmod}
 use Rattle.terms.specs.Lookups.{is_in}
 use Rattle.terms.specs.Global.{named, names_for, with_sysmod}
 use Rattle.terms.proofs.Ids.{is_in_from_Contains}
-use Rattle.lemmas.proofs.Texts.{same_from, same_itself}
+use Rattle.terms.proofs.TextOrder.{same_from, same_itself}
 use Rattle.terms.proofs.Loops.{names_own, names_others, all_vers}
 use Rattle.sysmods.specs.Held.{found, zone_of}
 use Rattle.sysmods.proofs.Namers.{any_found}

@@ -14,8 +14,8 @@ use Rattle.std.proofs.lemmas.Map.Text.{is_eq-slice_cmp}
 use Rattle.terms.specs.Types.{Id, Ver, Sysmod}
 use Rattle.terms.specs.Lookups.{is_in, at_most_one}
 use Rattle.terms.specs.Global.{named, named_functions}
-use Rattle.lemmas.proofs.Texts.{same_from}
-use Rattle.lemmas.proofs.Searches.{list_any_fewer}
+use Rattle.terms.proofs.TextOrder.{same_from}
+use Rattle.terms.proofs.Searches.{list_any_fewer}
 use Rattle.sysmods.specs.declared.ways.Way.{Way}
 use Rattle.sysmods.specs.declared.ways.Way.TheVariants.{Named, Superseded, AsFunction}
 use Rattle.sysmods.specs.Index.{Sets, has, mentions, IsIndexed}

@@ -14,10 +14,10 @@ use Rattle.terms.specs.Types.{Text, Id, Ver, Sysmod}
 use Rattle.terms.specs.Lookups.{is_in}
 use Rattle.terms.specs.Rising.{Rises}
 use Rattle.terms.specs.Global.{named, names_for}
-use Rattle.lemmas.proofs.Members.{in_map}
-use Rattle.lemmas.proofs.Pairs.{pairs_map}
-use Rattle.lemmas.proofs.Texts.{same_from, same_back}
-use Rattle.lemmas.proofs.Searches.{find_passes, find_filter_all, find_filter_none, All_find, find_gives}
+use Rattle.terms.proofs.ListMembers.{in_map}
+use Rattle.terms.proofs.Pairs.{pairs_map}
+use Rattle.terms.proofs.TextOrder.{same_from, same_back}
+use Rattle.terms.proofs.Searches.{find_passes, find_filter_all, find_filter_none, All_find, find_gives}
 use Rattle.terms.proofs.Ids.{is_in_from_Contains, Contains_from_is_in}
 use Rattle.terms.proofs.Loops.{named_by_all}
 use Rattle.terms.proofs.SameLists.{rising_same}

@@ -10,14 +10,14 @@ use Rattle.std.specs.Str.{bytes_eq}
 use Rattle.std.proofs.lemmas.Bool.{false_from_ne_true}
 use Rattle.std.proofs.lemmas.List.Elements.{All-contains}
 use Rattle.std.proofs.lemmas.Cmp.{nat_list_cmp_total, tied_itself}
-use Rattle.lemmas.proofs.Pairs.{AllPairs_first, AllPairs_rest}
-use Rattle.lemmas.proofs.Searches.{filter_none, find_gives}
-use Rattle.lemmas.proofs.Texts.{same_from}
+use Rattle.terms.proofs.Pairs.{AllPairs_first, AllPairs_rest}
+use Rattle.terms.proofs.Searches.{filter_none, find_gives}
+use Rattle.terms.proofs.TextOrder.{same_from}
 use Rattle.terms.specs.Types.{Text, Id, Ver, Sysmod, Global, Zone, Applied}
 use Rattle.terms.specs.Rising.{Rises}
 use Rattle.terms.specs.Lookups.{is_in, sysmod_of, applied_of}
 use Rattle.terms.specs.Choice.{vers_of, fits, place}
-use Rattle.lemmas.proofs.Searches.{first_of_one}
+use Rattle.terms.proofs.Searches.{first_of_one}
 
 -- behind a ++VER for the SREL there is no other one
 none_behind : (srel : Text) (v : Ver) (vs : List Ver) → bytes_eq v.srel srel ≡ true

@@ -10,14 +10,14 @@ use Rattle.std.proofs.lemmas.Cmp.{nat_list_cmp_total}
 use Rattle.std.proofs.lemmas.Option.{none-some}
 use Rattle.std.proofs.lemmas.Map.Text.{is_eq-slice_cmp}
 use Rattle.std.proofs.lemmas.List.Elements.{All-cons, All-weaker}
-use Rattle.lemmas.proofs.Texts.{other_from_less, same_itself}
+use Rattle.terms.proofs.TextOrder.{other_from_less, same_itself}
 use Rattle.terms.specs.Types.{Id, Hold, Sysmod, Global, a_global}
 use Rattle.terms.specs.Rising.{Rises, Splits, with_item}
 use Rattle.terms.specs.Global.{hold}
 use Rattle.terms.proofs.RisingLists.{with_item_new}
-use Rattle.lemmas.proofs.Pairs.{AllPairs_first, AllPairs_rest}
-use Rattle.lemmas.proofs.Orderings.{Less_from_is_lt, Greater_turned, Less_turned}
-use Rattle.lemmas.proofs.Searches.{filter_all}
+use Rattle.terms.proofs.Pairs.{AllPairs_first, AllPairs_rest}
+use Rattle.terms.proofs.Orderings.{Less_from_is_lt, Greater_turned, Less_turned}
+use Rattle.terms.proofs.Searches.{filter_all}
 use Rattle.sysmods.specs.Held.{found}
 use Rattle.sysmods.specs.Lists.{with_holds}
 

@@ -9,9 +9,9 @@ use Rattle.std.proofs.lemmas.Bool.{and_from}
 use Rattle.terms.specs.Types.{Text, Id, Sysmod}
 use Rattle.terms.specs.Lookups.{is_in}
 use Rattle.terms.specs.Global.{named, names_for, with_sysmod}
-use Rattle.lemmas.proofs.Members.{here, here_or, none_in}
+use Rattle.terms.proofs.ListMembers.{here, here_or, none_in}
 use Rattle.terms.proofs.Ids.{is_in_from_Contains, Contains_from_is_in}
-use Rattle.lemmas.proofs.Texts.{same_from, same_or_not}
+use Rattle.terms.proofs.TextOrder.{same_from, same_or_not}
 use Rattle.terms.proofs.Loops.{names_own, names_others}
 use Rattle.sysmods.specs.Seen.{IsTurned}
 use Rattle.sysmods.specs.Held.{found, zone_of}

@@ -34,7 +34,7 @@ impl Names for Naming<'_> {
     }
 }
 
-/// The same from the other side: who names an id.
+/// Who names an id, among the received SYSMODs and one more.
 #[derive(Clone, Copy)]
 pub(crate) struct Namers<'a> {
     pub(crate) received: &'a Received,

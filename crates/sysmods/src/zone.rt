@@ -182,9 +182,9 @@ impl GlobalZone {
         self.holds.of(id, kind)
     }
 
-    /// RECEIVE of a SYSMOD: a copy of it comes in, and its holds among the others, unless a fault refuses it. It answers
-    /// the first fault that does, and then nothing changes and nothing is copied. The error comes where memory runs out,
-    /// and changes nothing.
+    /// RECEIVE of a SYSMOD: a copy of it comes in, and its holds among the others, unless a fault refuses it. It
+    /// answers the first fault that does, and then nothing changes and nothing is copied. The error comes where memory
+    /// runs out, and changes nothing.
     pub fn receive(
         &mut self,
         alloc: Global,

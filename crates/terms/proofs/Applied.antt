@@ -8,14 +8,14 @@ use Rattle.std.specs.Str.{bytes_eq}
 use Rattle.terms.specs.Rising.{Rises}
 use Rattle.terms.specs.Types.{Id, Entry, Zone}
 use Rattle.terms.specs.Lookups.{IsZone, entry_of, is_applied, applied_ids}
-use Rattle.lemmas.proofs.Members.{none_in, here_or, in_map, map_in, filter_in, in_filter}
-use Rattle.lemmas.proofs.Searches.{find_gives}
-use Rattle.lemmas.proofs.Texts.{same_from, same_itself, other_from_less}
-use Rattle.lemmas.proofs.Pairs.{AllPairs_first, AllPairs_rest}
-use Rattle.lemmas.proofs.Orderings.{Less_from_is_lt}
+use Rattle.terms.proofs.ListMembers.{none_in, here_or, in_map, map_in, filter_in, in_filter}
+use Rattle.terms.proofs.Searches.{find_gives}
+use Rattle.terms.proofs.TextOrder.{same_from, same_itself, other_from_less}
+use Rattle.terms.proofs.Pairs.{AllPairs_first, AllPairs_rest}
+use Rattle.terms.proofs.Orderings.{Less_from_is_lt}
 use Rattle.std.proofs.Common.{true}
 use Rattle.std.specs.Option.{option_and_then}
-use Rattle.lemmas.proofs.Options.{some_from}
+use Rattle.terms.proofs.Options.{some_from}
 use Rattle.terms.specs.Types.{Applied}
 use Rattle.terms.specs.Lookups.{applied_of}
 

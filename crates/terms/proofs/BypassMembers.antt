@@ -7,7 +7,7 @@ use Rattle.std.specs.Str.{bytes_eq}
 use Rattle.std.proofs.lemmas.Bool.{true≢false, false_from_ne_true, or_parts, or_from, not-true, eqb-true}
 use Rattle.std.proofs.lemmas.List.{append-nil}
 use Rattle.std.proofs.lemmas.List.Elements.{All-head, All-tail}
-use Rattle.lemmas.proofs.Texts.{other_text, same_back}
+use Rattle.terms.proofs.TextOrder.{other_text, same_back}
 use Rattle.terms.specs.Types.{Text}
 use Rattle.terms.specs.Forms.{AreBlanks, is_word_byte}
 use Rattle.terms.specs.Statement.{Piece, BeginsNoWord}

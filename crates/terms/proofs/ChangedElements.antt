@@ -4,9 +4,9 @@ use Rattle.std.proofs.Common.{refl, sym, ap, subst, eq-eqb, Contains, IsTrue, tr
 use Rattle.std.specs.Prelude.{◌==◌, ◌&&◌}
 use Rattle.std.specs.Str.{bytes_eq}
 use Rattle.std.proofs.lemmas.Bool.{and_parts, eqb-true}
-use Rattle.lemmas.proofs.Searches.{find_gives, find_some}
-use Rattle.lemmas.proofs.Members.{in_map}
-use Rattle.lemmas.proofs.Texts.{same_from, same_itself}
+use Rattle.terms.proofs.Searches.{find_gives, find_some}
+use Rattle.terms.proofs.ListMembers.{in_map}
+use Rattle.terms.proofs.TextOrder.{same_from, same_itself}
 use Rattle.terms.specs.declared.kinds.ElemType.{ElemType}
 use Rattle.terms.specs.Types.{Text, Id, Change, Global, type_number}
 use Rattle.terms.specs.Lookups.{changes_of, change_of, has_change}
@@ -16,8 +16,8 @@ use Rattle.std.specs.Option.{option_map_or}
 use Rattle.terms.specs.Lookups.{change_key}
 use Rattle.terms.specs.Changes.{has_replacement, is_replacement}
 use Rattle.std.proofs.Common.{arith, not, []}
-use Rattle.lemmas.proofs.Options.{is_some_if}
-use Rattle.lemmas.proofs.Searches.{All_find}
+use Rattle.terms.proofs.Options.{is_some_if}
+use Rattle.terms.proofs.Searches.{All_find}
 use Rattle.terms.specs.Types.{Sysmod}
 use Rattle.terms.specs.Lookups.{sysmod_of, element_cmp}
 use Rattle.terms.specs.Rising.{Rises}

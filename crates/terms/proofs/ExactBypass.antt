@@ -20,7 +20,7 @@ use Rattle.terms.specs.Operands.{operand, AreOperands, HasSorted}
 use Rattle.terms.specs.CommandForms.{members_of, HasReasons, HasBypassed, IsBypassList, HasBypass}
 use Rattle.terms.specs.Commands.{runs_from, runs_in}
 use Rattle.terms.specs.Operands.{list_behind, is_often}
-use Rattle.lemmas.proofs.Pairs.{pairs_map}
+use Rattle.terms.proofs.Pairs.{pairs_map}
 use Rattle.terms.proofs.Ids.{Contains_from_is_in}
 use Rattle.terms.proofs.ExactWords.{members_only}
 use Rattle.terms.proofs.ExactOperands.{has_sorted_only, texts_only, flag_only}

@@ -23,7 +23,7 @@ use Rattle.terms.specs.CommandForms.{HasRestoreList, HasOperands, IsCommand}
 use Rattle.terms.specs.Commands.{runs_in, has_double, is_unchosen, BeginsWith}
 use Rattle.terms.specs.Operands.{words_in, list_behind, is_often}
 use Rattle.terms.specs.Commands.{IsCommandFault}
-use Rattle.lemmas.proofs.Pairs.{pairs_map}
+use Rattle.terms.proofs.Pairs.{pairs_map}
 use Rattle.terms.proofs.ExactWords.{words_only}
 use Rattle.terms.proofs.ExactOperands.{required_only, optional_only, texts_only, some_only, flag_only}
 use Rattle.terms.proofs.OperandWords.{count, count_once, count_same, count_other, words_of, often, seldom}

@@ -8,7 +8,7 @@ use Rattle.terms.specs.declared.kinds.ElemType.TheVariants.{Mac}
 use Rattle.terms.specs.declared.kinds.ZoneKind.TheVariants.{Target}
 use Rattle.terms.specs.declared.codes.NeedKind.TheVariants.{Fmid, Pre, Req, Ifreq, HoldError, Orphan}
 use Rattle.terms.specs.declared.not_chosen.NotChosen.TheVariants.{Already, Deleted, Missing}
-use Rattle.lemmas.proofs.Members.{here_or, none_in}
+use Rattle.terms.proofs.ListMembers.{here_or, none_in}
 use Rattle.terms.specs.Types.{Text, Id, Ver, Change, Replaces, Sysmod, Global, Entry, Zone, AnyReason}
 use Rattle.terms.specs.Types.{Selection, an_applied}
 use Rattle.terms.specs.Lookups.{is_applied}

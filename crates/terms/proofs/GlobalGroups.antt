@@ -13,9 +13,9 @@ use Rattle.std.specs.Option.{option_map_or}
 use Rattle.std.proofs.lemmas.List.Elements.{filter-append}
 use Rattle.std.proofs.lemmas.Map.Lookups.{CmpEqualImpliesEq}
 use Rattle.std.proofs.lemmas.Map.Keys.{sorted_head, sorted_tail}
-use Rattle.lemmas.proofs.Orderings.{Greater_turned, Less_turned, above_lower, above_same, Equal_from_is_eq}
-use Rattle.lemmas.proofs.Each.{recursion_weaker, recursion_append}
-use Rattle.lemmas.proofs.Searches.{filter_all_recursion, filter_none_recursion, find_append_rest, find_append_first}
+use Rattle.terms.proofs.Orderings.{Greater_turned, Less_turned, above_lower, above_same, Equal_from_is_eq}
+use Rattle.terms.proofs.Each.{recursion_weaker, recursion_append}
+use Rattle.terms.proofs.Searches.{filter_all_recursion, filter_none_recursion, find_append_rest, find_append_first}
 use Rattle.terms.specs.Rising.{with_item}
 
 -- An element takes its place behind those before it, and ahead of those after it.

@@ -15,9 +15,9 @@ use Rattle.std.proofs.lemmas.List.Elements.{All-nil, All-head, All-tail, All-fil
 use Rattle.std.proofs.lemmas.List.Kept.{AllPairs-cons, AllPairs-filter}
 use Rattle.std.proofs.lemmas.Bool.{and_parts}
 use Rattle.terms.proofs.Placing.{All_with_item, Rises_with_item}
-use Rattle.lemmas.proofs.Options.{map_or_map, is_some_map}
-use Rattle.lemmas.proofs.Booleans.{or_false}
-use Rattle.lemmas.proofs.Pairs.{AllPairs_first, AllPairs_rest}
+use Rattle.terms.proofs.Options.{map_or_map, is_some_map}
+use Rattle.terms.proofs.Booleans.{or_false}
+use Rattle.terms.proofs.Pairs.{AllPairs_first, AllPairs_rest}
 use Rattle.terms.specs.declared.kinds.HoldKind.{HoldKind}
 use Rattle.terms.specs.declared.kinds.HoldKind.TheVariants.{Error, System, User}
 use Rattle.terms.specs.Types.{Text, Id, Ver, Hold, Sysmod, Global, hold_number, is_function_kind}
@@ -28,11 +28,11 @@ use Rattle.terms.specs.Global.{named, names_for, HasLoop, is_service, fits_roles
 use Rattle.terms.specs.Global.{IsGlobal, hold_of, marked, hold, without_hold, assign, with_sysmod, without_sysmod}
 use Rattle.terms.specs.Global.{received}
 use Rattle.terms.proofs.Leads.{reaches_more}
-use Rattle.lemmas.proofs.Orderings.{Less_from_is_lt}
+use Rattle.terms.proofs.Orderings.{Less_from_is_lt}
 use Rattle.terms.proofs.GlobalLookups.{sysmod_of_with_sysmod, sysmod_of_without_sysmod, sysmod_of_assign, assigned}
 use Rattle.terms.proofs.GlobalLookups.{assigned_same}
-use Rattle.lemmas.proofs.Texts.{same_from, same_itself, same_back}
-use Rattle.lemmas.proofs.Searches.{find_passes, All_find}
+use Rattle.terms.proofs.TextOrder.{same_from, same_itself, same_back}
+use Rattle.terms.proofs.Searches.{find_passes, All_find}
 use Rattle.terms.proofs.GlobalRoles.{fits_fewer}
 
 module _ {X K : Type 0} {R : K → K → Ordering} (o : IsTotalOrder R) (key : X → K) where

@@ -10,17 +10,17 @@ use Rattle.std.specs.Str.{bytes_eq}
 use Rattle.std.proofs.lemmas.Map.Text.{is_eq-slice_cmp}
 use Rattle.std.proofs.lemmas.Cmp.{nat_list_cmp_total, tied_itself}
 use Rattle.std.proofs.lemmas.List.Folds.{find-append}
-use Rattle.lemmas.proofs.Texts.{same_from, same_back}
-use Rattle.lemmas.proofs.Options.{option_or-none}
-use Rattle.lemmas.proofs.Searches.{find_filter_all, find_filter_none, find_map}
+use Rattle.terms.proofs.TextOrder.{same_from, same_back}
+use Rattle.terms.proofs.Options.{option_or-none}
+use Rattle.terms.proofs.Searches.{find_filter_all, find_filter_none, find_map}
 use Rattle.terms.specs.Types.{Text, Id, Sysmod, Global}
 use Rattle.terms.specs.Lookups.{sysmod_of}
 use Rattle.terms.specs.Global.{with_sysmod, without_sysmod, assign, with_source}
 use Rattle.std.proofs.Common.{Option, IsTrue, Contains, map, subst}
 use Rattle.std.specs.Option.{option_map_or}
 use Rattle.std.proofs.lemmas.Bool.{and_parts}
-use Rattle.lemmas.proofs.Members.{in_map}
-use Rattle.lemmas.proofs.Searches.{find_gives}
+use Rattle.terms.proofs.ListMembers.{in_map}
+use Rattle.terms.proofs.Searches.{find_gives}
 use Rattle.terms.specs.Types.{Zone}
 use Rattle.terms.specs.Lookups.{is_nil}
 use Rattle.terms.specs.Choice.{vers_of}

@@ -1,8 +1,8 @@
 -- Which functions and other SYSMODs are received, and whether roles fit, after a change of the global zone.
 use Rattle.std.proofs.Common.{◌≡◌, false, IsTrue}
 use Rattle.std.specs.List.{list_any}
-use Rattle.lemmas.proofs.Booleans.{neither, both_none}
-use Rattle.lemmas.proofs.Searches.{list_any_fewer}
+use Rattle.terms.proofs.Booleans.{neither, both_none}
+use Rattle.terms.proofs.Searches.{list_any_fewer}
 use Rattle.terms.specs.Types.{Id, Ver, Global}
 use Rattle.terms.specs.Lookups.{is_function}
 use Rattle.terms.specs.Global.{is_service, fits_roles, named_functions}

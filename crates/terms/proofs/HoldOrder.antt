@@ -6,13 +6,13 @@ use Rattle.std.proofs.lemmas.Cmp.{nat_eq_equiv}
 use Rattle.std.specs.Cmp.Lexicographic.{slice_cmp}
 use Rattle.std.specs.Str.{bytes_eq}
 use Rattle.std.proofs.lemmas.Map.Text.{is_eq-slice_cmp}
-use Rattle.lemmas.proofs.Booleans.{and_assoc}
-use Rattle.lemmas.proofs.Orderings.{is_eq_then}
+use Rattle.terms.proofs.Booleans.{and_assoc}
+use Rattle.terms.proofs.Orderings.{is_eq_then}
 use Rattle.terms.specs.declared.kinds.HoldKind.{HoldKind}
 use Rattle.terms.specs.declared.kinds.HoldKind.TheVariants.{Error, System, User}
 use Rattle.terms.specs.Types.{Text, Id, Hold, hold_number, is_error}
 use Rattle.terms.specs.Global.{has_key}
-use Rattle.lemmas.proofs.Texts.{same_back}
+use Rattle.terms.proofs.TextOrder.{same_back}
 
 -- an ERROR hold, by the number of its kind
 pub error_by_number : (k : HoldKind) → is_error k ≡ (hold_number k == hold_number Error)

@@ -1,6 +1,6 @@
 -- Lists of ids that lead from one to another.
 use Rattle.std.proofs.Common.{◌≡◌, ◌≢◌, ◌⊎◌, inl, inr, List, [], ◌∷◌, ◌++◌, Contains, subst}
-use Rattle.lemmas.proofs.Texts.{same_or_not}
+use Rattle.terms.proofs.TextOrder.{same_or_not}
 use Rattle.terms.specs.Types.{Id}
 use Rattle.terms.specs.Over.{Leads, Reaches}
 

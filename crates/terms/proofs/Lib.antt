@@ -48,3 +48,16 @@ pub mod ExactPtfin
 pub mod ExactHoldFile
 pub mod ExactFaults
 pub mod IdPlaces
+pub mod Booleans
+pub mod Options
+pub mod Each
+pub mod Orderings
+pub mod ListMembers
+pub mod Places
+pub mod Searches
+pub mod Pairs
+pub mod Apart
+pub mod Lists
+pub mod Results
+pub mod TextOrder
+pub mod BesideLists

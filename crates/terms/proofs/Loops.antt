@@ -11,7 +11,7 @@ use Rattle.terms.specs.Lookups.{sysmod_of}
 use Rattle.terms.specs.Over.{Reaches}
 use Rattle.terms.specs.Global.{named, names_for, HasLoop, with_sysmod}
 use Rattle.terms.proofs.Leads.{loop_through, last_step}
-use Rattle.lemmas.proofs.Texts.{same_or_not, same_from, same_itself}
+use Rattle.terms.proofs.TextOrder.{same_or_not, same_from, same_itself}
 use Rattle.terms.proofs.GlobalLookups.{sysmod_of_with_sysmod}
 use Rattle.std.proofs.Common.{◌++◌}
 use Rattle.terms.specs.Lookups.{at_most_one}

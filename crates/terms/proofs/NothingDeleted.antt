@@ -8,7 +8,7 @@ use Rattle.terms.specs.Lookups.{has_content, is_in, meets, is_applied}
 use Rattle.terms.specs.Choice.{Choice, del_of}
 use Rattle.terms.specs.Over.{chain}
 use Rattle.terms.specs.Deleted.{deletions, is_deleted, is_taken_out, entry_less, entries_less, zone_less, view}
-use Rattle.lemmas.proofs.Searches.{filter_all}
+use Rattle.terms.proofs.Searches.{filter_all}
 use Rattle.terms.proofs.Ids.{Contains_from_is_in}
 
 -- no list meets the empty one

@@ -12,7 +12,7 @@ use Rattle.std.proofs.lemmas.List.Elements.{All-head, All-tail}
 use Rattle.std.proofs.lemmas.List.Kept.{AllPairs-cons}
 use Rattle.std.proofs.lemmas.Grind.{flat_map-append}
 use Rattle.std.proofs.lemmas.Slice.Eq.{bytes_eq-Decides}
-use Rattle.lemmas.proofs.Texts.{same_itself}
+use Rattle.terms.proofs.TextOrder.{same_itself}
 use Rattle.terms.specs.declared.codes.CommandWord.{CommandWord}
 use Rattle.terms.specs.Types.{Text}
 use Rattle.terms.specs.Lookups.{is_in}
@@ -22,8 +22,8 @@ use Rattle.terms.specs.Operands.{AreOperands}
 use Rattle.terms.specs.CommandForms.{operands_of}
 use Rattle.terms.specs.Commands.{has_double}
 use Rattle.terms.specs.Operands.{words_in, is_often}
-use Rattle.lemmas.proofs.Pairs.{pairs_unmap, AllPairs_first, AllPairs_rest}
-use Rattle.lemmas.proofs.Members.{here, here_or, there}
+use Rattle.terms.proofs.Pairs.{pairs_unmap, AllPairs_first, AllPairs_rest}
+use Rattle.terms.proofs.ListMembers.{here, here_or, there}
 use Rattle.terms.proofs.Ids.{Contains_from_is_in}
 
 -- how often a word stands in a list

@@ -12,9 +12,9 @@ use Rattle.std.proofs.lemmas.Cmp.{tied_itself}
 use Rattle.std.proofs.lemmas.List.Elements.{All-head, All-tail}
 use Rattle.std.proofs.lemmas.List.Recursion.{is_sum_by}
 use Rattle.std.proofs.lemmas.List.Sorted.{sum_by-IsPermutation, sorted_far, ranks_by}
-use Rattle.lemmas.proofs.Orderings.{Equal_from_is_eq, is_lt_from_turned, Less_from_is_lt}
+use Rattle.terms.proofs.Orderings.{Equal_from_is_eq, is_lt_from_turned, Less_from_is_lt}
 use Rattle.terms.specs.Rising.{Rises}
-use Rattle.lemmas.proofs.Pairs.{AllPairs_first, AllPairs_rest}
+use Rattle.terms.proofs.Pairs.{AllPairs_first, AllPairs_rest}
 
 module _ {X K : Type 0} {R : K → K → Ordering} (o : IsTotalOrder R) (key : X → K) where
   abbrev weight : K → X → ℕ

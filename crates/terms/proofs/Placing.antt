@@ -9,8 +9,8 @@ use Rattle.std.proofs.lemmas.Cmp.{alike_right}
 use Rattle.std.proofs.lemmas.List.Elements.{All-head, All-tail, All-cons, All-append, All-filter, filter_passes}
 use Rattle.std.proofs.lemmas.List.Elements.{filter_agree}
 use Rattle.std.proofs.lemmas.List.Kept.{AllPairs-filter, AllPairs-cons}
-use Rattle.lemmas.proofs.Orderings.{Less_from_is_lt}
-use Rattle.lemmas.proofs.Pairs.{AllPairs_first, AllPairs_rest, AllPairs_between}
+use Rattle.terms.proofs.Orderings.{Less_from_is_lt}
+use Rattle.terms.proofs.Pairs.{AllPairs_first, AllPairs_rest, AllPairs_between}
 use Rattle.terms.specs.Rising.{Rises, before, behind, with_item, without_key, Splits}
 
 module _ {X K : Type 0} {R : K → K → Ordering} (o : IsTotalOrder R) (key : X → K) where

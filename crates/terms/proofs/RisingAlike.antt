@@ -7,9 +7,9 @@ use Rattle.std.specs.declared.cmp.Ordering.TheVariants.{Less, Greater}
 use Rattle.std.specs.Ordering.{is_lt, ordering_reverse}
 use Rattle.std.specs.Cmp.{IsTotalOrder}
 use Rattle.std.proofs.lemmas.List.Sorted.{IsPermutation-sym, Contains-permutation}
-use Rattle.lemmas.proofs.Members.{here, here_or, there, none_in}
-use Rattle.lemmas.proofs.Orderings.{Less_from_is_lt}
-use Rattle.lemmas.proofs.Pairs.{AllPairs_first, AllPairs_rest}
+use Rattle.terms.proofs.ListMembers.{here, here_or, there, none_in}
+use Rattle.terms.proofs.Orderings.{Less_from_is_lt}
+use Rattle.terms.proofs.Pairs.{AllPairs_first, AllPairs_rest}
 use Rattle.terms.specs.Rising.{Rises}
 
 module _ {X K : Type 0} {R : K → K → Ordering} (o : IsTotalOrder R) (key : X → K) where

@@ -19,9 +19,9 @@ use Rattle.std.proofs.lemmas.Bool.{cases_lt}
 use Rattle.std.proofs.lemmas.List.Folds.{list_any_at, list_any_none}
 use Rattle.std.proofs.lemmas.List.Elements.{All-append, filter-append}
 use Rattle.std.proofs.lemmas.List.Sorted.{searchable_from_sorted}
-use Rattle.lemmas.proofs.Pairs.{AllPairs_between, AllPairs_without, AllPairs_parts}
-use Rattle.lemmas.proofs.Searches.{filter_all, filter_none, find_over}
-use Rattle.lemmas.proofs.Orderings.{Less_from_is_lt}
+use Rattle.terms.proofs.Pairs.{AllPairs_between, AllPairs_without, AllPairs_parts}
+use Rattle.terms.proofs.Searches.{filter_all, filter_none, find_over}
+use Rattle.terms.proofs.Orderings.{Less_from_is_lt}
 use Rattle.terms.specs.Rising.{Rises, before, behind, with_item, without_key}
 pub use Rattle.terms.specs.Rising.{Splits, StandsAt}
 

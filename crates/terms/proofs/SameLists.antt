@@ -7,10 +7,10 @@ use Rattle.std.specs.declared.cmp.Ordering.TheVariants.{Equal}
 use Rattle.std.specs.Ordering.{is_lt, is_eq, ordering_reverse}
 use Rattle.std.specs.Cmp.{IsTotalOrder}
 use Rattle.std.proofs.lemmas.Cmp.{tied_itself, alike_right}
-use Rattle.lemmas.proofs.Orderings.{Equal_from_is_eq, Less_from_is_lt}
-use Rattle.lemmas.proofs.Searches.{find_gives}
+use Rattle.terms.proofs.Orderings.{Equal_from_is_eq, Less_from_is_lt}
+use Rattle.terms.proofs.Searches.{find_gives}
 use Rattle.terms.specs.Rising.{Rises}
-use Rattle.lemmas.proofs.Pairs.{AllPairs_first, AllPairs_rest}
+use Rattle.terms.proofs.Pairs.{AllPairs_first, AllPairs_rest}
 
 module _ {X K : Type 0} {R : K → K → Ordering} (o : IsTotalOrder R) (key : X → K) (E : K → K → Bool)
     (ties : (a b : K) → E a b ≡ is_eq (R a b)) where

@@ -11,9 +11,9 @@ use Rattle.terms.specs.Lookups.{IsZone, is_nil, has_content, entry_of, element_o
 use Rattle.terms.specs.Lookups.{delby_of, waived_of}
 use Rattle.terms.specs.Lookups.{element_eq}
 use Rattle.terms.proofs.ElementOrder.{element_cmp_total, element_ties}
-use Rattle.lemmas.proofs.Texts.{same_from}
+use Rattle.terms.proofs.TextOrder.{same_from}
 use Rattle.terms.proofs.SameLists.{rising_same}
-use Rattle.lemmas.proofs.Searches.{find_gives}
+use Rattle.terms.proofs.Searches.{find_gives}
 
 all_fields : (a b : Zone) → a.kind ≡ b.kind → a.srel ≡ b.srel → a.related ≡ b.related → a.entries ≡ b.entries
     → a.elements ≡ b.elements → a ≡ b

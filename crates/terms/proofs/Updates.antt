@@ -7,7 +7,7 @@ use Rattle.std.proofs.lemmas.Bool.{true≢false, both_ways, cases_Bool, cases_lt
 use Rattle.std.proofs.lemmas.Bool.{not_from_false, false_from_ne_true}
 use Rattle.std.proofs.lemmas.List.{append_cancel_left}
 use Rattle.std.proofs.lemmas.List.Elements.{All-nil, All-cons, All-head, All-tail, filter-append}
-use Rattle.lemmas.proofs.Each.{any_here, any_later, any_cases, any_none, All_middle}
+use Rattle.terms.proofs.Each.{any_here, any_later, any_cases, any_none, All_middle}
 use Rattle.terms.specs.declared.text_faults.TextCode.{TextCode}
 use Rattle.terms.specs.declared.text_faults.TextCode.TheVariants.{Tx1, Tx2, Tx3, Tx4, Tx5, Tx6}
 use Rattle.terms.specs.declared.text_faults.TextFault.{TextFault}

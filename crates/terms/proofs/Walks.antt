@@ -7,8 +7,8 @@ use Rattle.std.proofs.lemmas.Bool.{or_left, or_right, or_cases}
 use Rattle.std.proofs.lemmas.List.Elements.{Contains-get_or}
 use Rattle.std.proofs.lemmas.List.Folds.{Any-from_list_any, list_any-from_Any}
 use Rattle.std.proofs.lemmas.List.Kept.{AllPairs-cons}
-use Rattle.lemmas.proofs.Apart.{AreApart, apart_le}
-use Rattle.lemmas.proofs.Members.{here_or, none_in}
+use Rattle.terms.proofs.Apart.{AreApart, apart_le}
+use Rattle.terms.proofs.ListMembers.{here_or, none_in}
 use Rattle.terms.specs.Types.{Id}
 use Rattle.terms.specs.Lookups.{is_in}
 use Rattle.terms.specs.Over.{Leads, Reaches}

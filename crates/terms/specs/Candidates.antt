@@ -73,8 +73,8 @@ is_growing_start g zone sel x = is_start g zone sel x && (sel.groupextend || is_
 abbrev pub required_by : Zone → (Id → Bool) → Ver → List Id
 required_by zone cands v = v.pre ++ v.req ++ reqs_where (λ f. is_applied zone f || cands f) v.ifs
 
--- Its needed ids: its FMIDs unless one is applied, and less what the zone supplies the requisites of those of its ++VERs
--- for the zone's SREL that fit and, of a function, those that applied SYSMODs state for it by ++IF.
+-- Its needed ids: its FMIDs unless one is applied, and less what the zone supplies the requisites of those of its
+-- ++VERs for the zone's SREL that fit and, of a function, those that applied SYSMODs state for it by ++IF.
 unfoldable pub needed_ids : Global → Zone → (Id → Bool) → Id → List Id
 needed_ids g zone cands x =
     (if list_any (is_applied zone) (fmids_for g zone.srel x) then [] else fmids_for g zone.srel x)

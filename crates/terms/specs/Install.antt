@@ -13,8 +13,8 @@ use Rattle.terms.specs.Changes.{has_replacement}
 use Rattle.terms.specs.Deleted.{deletions, is_deleted, is_taken_out, zone_less}
 use Rattle.terms.specs.Texts.{IsNumbered, line_at, given, Touches}
 
--- what an APPLY or ACCEPT installs: the number of each id's ++VER that counts, the kept ids, rising, pairs of an id and a
--- bypassed requisite of it, and the date
+-- what an APPLY or ACCEPT installs: the number of each id's ++VER that counts, the kept ids, rising, pairs of an id and
+-- a bypassed requisite of it, and the date
 pub record Installation : Type 0 where
   pub global : Global
   pub choice : Choice

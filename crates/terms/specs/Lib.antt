@@ -32,3 +32,4 @@ pub mod Failures
 pub mod Restore
 pub mod Closed
 pub mod Facts
+pub mod Beside

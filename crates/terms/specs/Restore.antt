@@ -92,8 +92,8 @@ are_alike a b e = not (list_any (λ y. not (is_alike a b y)) (e.rmid ∷ e.umids
 abbrev pub may_return : Restoring → Element → Bool
 may_return r e = are_applied r.zone e && are_alike r.zone r.accepted e
 
--- J12: the distribution zone has an element of it under an FMID, an RMID or a UMID that the target zone has not applied,
--- or under an RMID or a UMID that the zones have applied by two ++VERs
+-- J12: the distribution zone has an element of it under an FMID, an RMID or a UMID that the target zone has not
+-- applied, or under an RMID or a UMID that the zones have applied by two ++VERs
 abbrev pub FailsJ12 : Restoring → Id → Type 0
 FailsJ12 r x =
     Any (λ h. IsFalse (option_map_or (may_return r) (element_of r.accepted h.elem_type h.name) true))

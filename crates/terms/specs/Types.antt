@@ -122,8 +122,8 @@ pub record Global : Type 0 where
 abbrev pub a_global : List Sysmod → List Hold → Global
 a_global sysmods holds = record { sysmods = sysmods; holds = holds }
 
--- that a zone has applied a SYSMOD: the date of APPLY or ACCEPT, and the number of the ++VER that counted, among those of
--- the SYSMOD for the zone's SREL
+-- that a zone has applied a SYSMOD: the date of APPLY or ACCEPT, and the number of the ++VER that counted, among those
+-- of the SYSMOD for the zone's SREL
 pub record Applied : Type 0 where
   pub date : Text
   pub number : ℕ

@@ -1,7 +1,8 @@
 //! The words of the subject: the plain data types that code and contracts share, and in `specs/`
 //! the definitions that contracts cite. It has no functions.
-//! Lemmas on these stand in `proofs/`: a file has one meaning or one first fault (`Exact..`), and a loop that a new SYSMOD
-//! closes passes it (`Leads`).
+//! Lemmas on these stand in `proofs/`: a file has one meaning or one first fault (`Exact..`), and a loop that a new
+//! SYSMOD closes passes it (`Leads`). So do those over std alone, on lists, options, booleans and comparisons, each
+//! stated once for all crates.
 #![tactic(auto)]
 
 mod codes;

@@ -19,7 +19,7 @@ use Rattle.terms.specs.Texts.{IsNumbered, IsNumberedLine, number_of, is_control,
 use Rattle.terms.specs.Texts.{FollowChange, IsUpdate, HasRestFault, IsFirstFault}
 use Rattle.terms.proofs.Controls.{begins_control, same_delete}
 use Rattle.terms.proofs.Updates.{given_control, given_other, deletes_change}
-use Rattle.lemmas.proofs.Each.{any_later, Any_append_left, Any_push_cases}
+use Rattle.terms.proofs.Each.{any_later, Any_append_left, Any_push_cases}
 use Rattle.text80.specs.declared.control.Range.{Range}
 use Rattle.text80.specs.Rising.{IsNumberFault}
 use Rattle.text80.specs.Ranges.{covers, AreRangesOf}

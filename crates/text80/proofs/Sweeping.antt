@@ -10,7 +10,7 @@ use Rattle.std.proofs.lemmas.List.{append-nil, drop_more, drop_all, append_assoc
 use Rattle.std.proofs.lemmas.List.Elements.{All-tail, All-head}
 use Rattle.std.proofs.lemmas.List.Folds.{list_any_none}
 use Rattle.std.proofs.lemmas.List.Sorted.{IsNonDecreasingBy-drop}
-use Rattle.lemmas.proofs.Booleans.{or_assoc, or_false}
+use Rattle.terms.proofs.Booleans.{or_assoc, or_false}
 use Rattle.terms.specs.Types.{Lines}
 use Rattle.terms.specs.Texts.{IsNumberedLine, number_of, IsNumbered}
 use Rattle.terms.proofs.Texts.{Rises, Rises_numbered, Rises_lower}

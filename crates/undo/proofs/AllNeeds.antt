@@ -1,33 +1,33 @@
 -- What candidates need, by the pairs.
 use Rattle.std.proofs.Common.{◌≡◌, ◌≢◌, inl, inr, Bool, true, false, not, List, ◌++◌, map, filter}
 use Rattle.std.proofs.Common.{refl, sym, ap, subst, Contains, IsTrue, get_or, true≢false}
-use Rattle.std.specs.Prelude.{◌↔◌, All, AllPairs, IsFalse}
+use Rattle.std.specs.Prelude.{◌↔◌, All, AllPairs, Any, IsFalse}
 use Rattle.std.specs.List.{flat_map}
 use Rattle.std.specs.Str.{bytes_eq}
 use Rattle.std.proofs.lemmas.Bool.{and_parts, not-true}
 use Rattle.std.proofs.lemmas.List.Elements.{Contains-append_left, Contains-append_right, Contains-append_cases}
 use Rattle.std.proofs.lemmas.List.Elements.{All-map}
-use Rattle.lemmas.proofs.Members.{in_map, map_in, in_filter, filter_in, in_flat, flat_in}
-use Rattle.lemmas.proofs.Pairs.{AllPairs_join, pairs_map}
-use Rattle.lemmas.proofs.Texts.{same_itself, other_text}
+use Rattle.terms.proofs.ListMembers.{in_map, map_in, in_filter, filter_in, in_flat, flat_in}
+use Rattle.terms.proofs.Pairs.{AllPairs_join, pairs_map}
+use Rattle.terms.proofs.TextOrder.{same_itself, other_text}
 use Rattle.terms.specs.declared.codes.NeedKind.{NeedKind}
 use Rattle.terms.specs.declared.codes.NeedKind.TheVariants.{Fmid, Pre, Req, Ifreq, HoldError, Orphan, Elem, Dep}
-use Rattle.terms.specs.Types.{Id, Change}
+use Rattle.terms.specs.Types.{Id}
 use Rattle.terms.specs.Lookups.{IsZone, is_in, is_applied, is_supplied, applied_ids, change_key, changes_of, has_change}
 use Rattle.terms.specs.Restore.{Restoring, NeedsDep, NeedsInRestore, restore_candidates}
 use Rattle.terms.proofs.Ids.{is_in_from_Contains, Contains_from_is_in}
 use Rattle.terms.proofs.Applied.{applied_are}
 use Rattle.decide.specs.declared.stated.Need.{Need}
-use Rattle.undo.specs.Dependences.{dependences_of}
+use Rattle.undo.specs.Dependences.{dependents}
 use Rattle.sorted.specs.ElementKeys.{key_cmp}
 use Rattle.sorted.specs.Lists.{listed}
-use Rattle.undo.specs.Elements.{Changers, AreChangers, beside_at, beside}
+use Rattle.undo.specs.Elements.{Changers, AreChangers, sharers, beside}
 use Rattle.undo.specs.Restoring.{changed_keys}
 use Rattle.undo.specs.Pairs.{is_own, AreOwn}
 use Rattle.undo.specs.Needed.{pair_need, HaveElem, HaveDep, AreNeeds}
 use Rattle.terms.proofs.ChangedElements.{changes_to}
 use Rattle.undo.proofs.Changed.{changes_from}
-use Rattle.undo.proofs.Needing.{dependences_are}
+use Rattle.undo.proofs.Needing.{dependents_are}
 
 abbrev Pair : Type 0
 Pair = Id × Id
@@ -47,64 +47,65 @@ module _ (r : Restoring) (is_zone : IsZone r.zone) (others : List Id)
         (applied_ids r.zone) y ((applied_are r.zone is_zone y).1 both.0) (ap not both.1)),
   )
 
-  beside_at_is : (x y : Id) (h : Change) → Contains {X = Pair} (beside_at all x h) (x, y)
+  sharer_is : (x y : Id) → Contains (sharers r.global all x) y
       ↔ (IsTrue (is_applied r.zone y) × IsFalse (is_supplied r.accepted y)
-      × IsTrue (has_change r.global y h.elem_type h.name))
-  beside_at_is x y h = (
+      × Any (λ h. IsTrue (has_change r.global y h.elem_type h.name)) (changes_of r.global x))
+  sharer_is x y = (
     λ there.
-        let m = map_in (λ (v : Id). (x, v)) (listed key_cmp all (change_key h)) (x, y) there in
-        let c = (are (change_key h) y).0 (subst (Contains (listed key_cmp all (change_key h))) (ap (λ p. p.1) m.2) m.1) in
+        let m = flat_in (λ h. listed key_cmp all (change_key h)) (changes_of r.global x) y there in
+        let c = (are (change_key m.0) y).0 m.2 in
         let o = (other_is y).0 (subst (Contains others) (sym c.2.1) c.1) in (
           o.0,
           o.1,
-          changes_from r.global y (change_key h)
-              (subst (λ v. Contains (changed_keys r.global v) (change_key h)) (sym c.2.1) c.2.0),
+          (
+            m.1.0,
+            m.0,
+            m.1.1,
+            m.1.2,
+            changes_from r.global y (change_key m.0)
+                (subst (λ v. Contains (changed_keys r.global v) (change_key m.0)) (sym c.2.1) c.2.0),
+          ),
         ),
-    λ p. in_map (λ (v : Id). (x, v)) (listed key_cmp all (change_key h)) y ((are (change_key h) y).1 (
-      y,
-      (other_is y).1 (p.0, p.1),
-      (changes_to r.global y h.elem_type h.name p.2, refl),
-    )),
+    λ p.
+        let s = p.2 in
+        let h = s.1 in
+        in_flat (λ v. listed key_cmp all (change_key v)) (changes_of r.global x) h y (s.0, s.2, s.3)
+        ((are (change_key h) y).1 (
+          y,
+          (other_is y).1 (p.0, p.1),
+          (changes_to r.global y h.elem_type h.name s.4, refl),
+        )),
   )
-
-  beside_by : (x : Id) (p : Pair) → Contains (beside r.global all x) p → p.0 ≡ x
-  beside_by x p there =
-      let m = flat_in (beside_at all x) (changes_of r.global x) p there in
-      let v = map_in (λ (v : Id). (x, v)) (listed key_cmp all (change_key m.0)) p m.2 in
-      sym (ap (λ q. q.0) v.2)
 
   pub have_elem_holds : (cands : List Id) (pairs : List Pair) → pairs ≡ flat_map (beside r.global all) cands
       → HaveElem r cands pairs
   have_elem_holds cands pairs made x y other = (
     λ there.
         let m = flat_in (beside r.global all) cands (x, y) (subst (λ l. Contains {X = Pair} l (x, y)) made there) in
-        let same : x ≡ m.0 = beside_by m.0 (x, y) m.2 in
-        let own = subst (λ v. Contains {X = Pair} (beside r.global all v) (x, y)) (sym same) m.2 in
-        let h = flat_in (beside_at all x) (changes_of r.global x) (x, y) own in
-        let is = (beside_at_is x y h.0).0 h.2 in (
-          subst (Contains cands) (sym same) m.1,
-          record {
-            other = other;
-            applied = is.0;
-            not_accepted = is.1;
-            shared = (h.1.0, h.0, h.1.1, h.1.2, is.2);
-          },
+        let v = map_in (λ (w : Id). (m.0, w)) (sharers r.global all m.0) (x, y) m.2 in
+        let first : m.0 ≡ x = ap (λ (p : Pair). p.0) v.2 in
+        let second : v.0 ≡ y = ap (λ (p : Pair). p.1) v.2 in
+        let is = (sharer_is x y).0 (subst (λ w. Contains (sharers r.global all w) y) first
+        (subst (Contains (sharers r.global all m.0)) second v.1)) in (
+          subst (Contains cands) first m.1,
+          record { other = other; applied = is.0; not_accepted = is.1; shared = is.2 },
         ),
     λ both.
         let n = both.1 in
         subst (λ l. Contains {X = Pair} l (x, y)) (sym made) (in_flat (beside r.global all) cands x (x, y) both.0
-        (in_flat (beside_at all x) (changes_of r.global x) n.shared.1 (x, y)
-        (n.shared.0, n.shared.2, n.shared.3)
-        ((beside_at_is x y n.shared.1).1 (n.applied, n.not_accepted, n.shared.4)))),
+        (in_map (λ (w : Id). (x, w)) (sharers r.global all x) y
+        ((sharer_is x y).1 (n.applied, n.not_accepted, n.shared)))),
   )
 
 -- ---- both kinds
 
-pub have_dep_holds : (r : Restoring) → IsZone r.zone → (ids cands : List Id) (pairs : List Pair)
-    → pairs ≡ flat_map (dependences_of r (is_in ids)) (applied_ids r.zone) → HaveDep r ids cands pairs
-have_dep_holds r is_zone ids cands pairs made x y other own =
+pub have_dep_holds : (r : Restoring) → IsZone r.zone → (ids cands : List Id) → cands ≡ restore_candidates r ids
+    → (pairs : List Pair) → pairs ≡ flat_map (dependents r (is_in ids)) (applied_ids r.zone)
+    → HaveDep r ids cands pairs
+have_dep_holds r is_zone ids cands are pairs made x y other own =
+    let kept = filter_in (is_applied r.zone) ids x (subst (λ l. Contains l x) are own) in
     subst (λ l. Contains {X = Pair} l (x, y) ↔ NeedsDep r (is_in ids) x y) (sym made)
-    (dependences_are r is_zone (is_in ids) x y other)
+    (dependents_are r is_zone (is_in ids) x y other kept.1 (is_in_from_Contains ids x kept.0))
 
 own_parts : (cands : List Id) (x y : Id) → IsTrue (is_own cands (x, y)) → Contains cands x × (y ≢ x)
 own_parts cands x y own =

@@ -1,13 +1,17 @@
 -- What is said of the candidates of a RESTORE is so by its tests and needs.
-use Rattle.std.proofs.Common.{◌≡◌, inl, inr, Bool, false, List, [], Contains, refl, sym, ◌∙◌, subst, true≢false}
-use Rattle.std.proofs.Common.{arith, get_or}
+use Rattle.std.proofs.Common.{◌≡◌, inl, inr, Bool, false, List, [], Contains, IsTrue, refl, sym, ◌∙◌, subst, true≢false}
+use Rattle.std.proofs.Common.{arith, filter, get_or}
+use Rattle.std.specs.Prelude.{◌↔◌}
+use Rattle.std.proofs.lemmas.Cmp.{nat_list_cmp_total}
 use Rattle.std.proofs.lemmas.List.Elements.{Contains-get_or}
-use Rattle.lemmas.proofs.Members.{none_in}
+use Rattle.std.proofs.lemmas.List.Kept.{AllPairs-filter}
+use Rattle.terms.proofs.RisingAlike.{rises_only}
+use Rattle.terms.proofs.ListMembers.{none_in}
 use Rattle.terms.specs.declared.codes.NeedKind.{NeedKind}
 use Rattle.terms.specs.declared.codes.NeedKind.TheVariants.{Fmid, Pre, Req, Ifreq, HoldError, Orphan, Elem, Dep}
 use Rattle.terms.specs.declared.codes.Test.{Test}
-use Rattle.terms.specs.Types.{Id}
-use Rattle.terms.specs.Lookups.{is_in}
+use Rattle.terms.specs.Types.{Id, Zone}
+use Rattle.terms.specs.Lookups.{IsRising, is_applied, is_before, is_in}
 use Rattle.terms.specs.Needs.{Serves, takes_superseder}
 use Rattle.terms.specs.Restore.{Restoring, NeedsInRestore, FailsRestore, MayBeRestored, restore_candidates}
 use Rattle.decide.specs.declared.stated.Need.{Need}
@@ -16,6 +20,15 @@ use Rattle.decide.specs.Judged.{AreJudged}
 use Rattle.undo.specs.Tests.{fails_test}
 use Rattle.undo.specs.Needed.{AreNeeds}
 use Rattle.undo.proofs.Testing.{fails_is}
+
+-- the applied ones of a list that rises, in order
+pub applied_are_cands : (zone : Zone) (ids left cands : List Id) → left ≡ filter (is_applied zone) ids → IsRising ids
+    → IsRising cands → ((x : Id) → Contains cands x ↔ Contains left x) → cands ≡ filter (is_applied zone) ids
+applied_are_cands zone ids left cands is rising after same =
+    rises_only nat_list_cmp_total (λ x. x) cands left after
+    (subst IsRising (sym is) (AllPairs-filter (λ x y. IsTrue (is_before x y)) (is_applied zone) ids rising))
+    (λ x. (same x).0) (λ x. (same x).1)
+    ∙ is
 
 -- no superseder serves a need of RESTORE
 alone : (r : Restoring) (listed : Id → Bool) (x : Id) (kind : NeedKind) (z : Id) → NeedsInRestore r listed x kind z

@@ -1,6 +1,6 @@
 -- The elements that a SYSMOD changes, as keys.
 use Rattle.std.proofs.Common.{map, subst, Contains, IsTrue}
-use Rattle.lemmas.proofs.Members.{map_in}
+use Rattle.terms.proofs.ListMembers.{map_in}
 use Rattle.terms.specs.Types.{Id, Global}
 use Rattle.terms.specs.Lookups.{change_key, changes_of, has_change}
 use Rattle.terms.proofs.ChangedElements.{change_has}

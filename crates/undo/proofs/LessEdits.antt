@@ -14,11 +14,11 @@ use Rattle.std.proofs.lemmas.List.{append-nil, take_more}
 use Rattle.std.proofs.lemmas.List.Sums.{fold-append}
 use Rattle.std.proofs.lemmas.List.Elements.{All-weaker, filter_passes}
 use Rattle.std.proofs.lemmas.List.Folds.{list_any_none}
-use Rattle.lemmas.proofs.Members.{here, there as later}
-use Rattle.lemmas.proofs.Options.{None_from_is_some}
-use Rattle.lemmas.proofs.Pairs.{pairs_map}
-use Rattle.lemmas.proofs.Searches.{All_from_no_list_any, All_find, filter_all, find_map, is_some_find, list_any_map}
-use Rattle.lemmas.proofs.Texts.{same_from, same_itself}
+use Rattle.terms.proofs.ListMembers.{here, there as later}
+use Rattle.terms.proofs.Options.{None_from_is_some}
+use Rattle.terms.proofs.Pairs.{pairs_map}
+use Rattle.terms.proofs.Searches.{All_from_no_list_any, All_find, filter_all, find_map, is_some_find, list_any_map}
+use Rattle.terms.proofs.TextOrder.{same_from, same_itself}
 use Rattle.sorted.specs.declared.edits.Edit.{Edit}
 use Rattle.sorted.specs.declared.edits.Edit.TheVariants.{Put, Remove}
 use Rattle.sorted.specs.Edits.{edit_key, edit_put, after_edits}

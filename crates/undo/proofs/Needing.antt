@@ -1,26 +1,67 @@
--- Who depends on whom, and who shares an element, by the lists of pairs.
-use Rattle.std.proofs.Common.{◌≡◌, ◌≢◌, ◌∙◌, ◌⊎◌, inl, inr, Bool, true, false, not, List, [], ◌∷◌, map}
+-- Who depends on whom, by the groups of SYSMODs on which one depends.
+use Rattle.std.proofs.Common.{◌≡◌, ◌≢◌, ◌∙◌, ◌⊎◌, ℕ, ◌<◌, ◌+◌, inl, inr, Bool, true, false, not, List, [], ◌∷◌, ◌++◌}
+use Rattle.std.proofs.Common.{map, filter, take, length, get_or}
 use Rattle.std.proofs.Common.{Option, None, Some, refl, sym, ap, subst, cond, Contains, IsTrue, true≢false}
 use Rattle.std.specs.Prelude.{◌↔◌, ◌&&◌, ◌||◌, Any, IsFalse}
 use Rattle.std.specs.List.{flat_map, list_all}
 use Rattle.std.specs.Str.{bytes_eq}
 use Rattle.std.proofs.lemmas.Bool.{and_parts, not-true}
+use Rattle.std.proofs.lemmas.Grind.{flat_map-append}
+use Rattle.std.proofs.lemmas.List.{append-nil, take_more}
 use Rattle.std.proofs.lemmas.List.Elements.{Contains-append_left, Contains-append_right, Contains-append_cases}
 use Rattle.std.proofs.lemmas.List.Folds.{Any-from_list_any, list_any-from_Any}
-use Rattle.lemmas.proofs.Members.{here, here_or, none_in, in_map, map_in, in_flat, flat_in}
-use Rattle.lemmas.proofs.Searches.{all_pass, passes_all}
+use Rattle.terms.proofs.ListMembers.{here, here_or, none_in, in_map, map_in, in_filter, filter_in, in_flat, flat_in}
+use Rattle.terms.proofs.Searches.{all_pass, passes_all}
 use Rattle.terms.specs.Types.{Id}
 use Rattle.terms.specs.Lookups.{IsZone, at_most_one, is_in, is_applied, applied_ids, supby_of, supplies}
 use Rattle.terms.specs.Choice.{fmid_of}
 use Rattle.terms.specs.Needs.{binding_ids}
 use Rattle.terms.specs.Restore.{Restoring, NeedsDep, is_supplied_outside}
 use Rattle.terms.proofs.Applied.{applied_are}
-use Rattle.undo.specs.Scopes.{suppliers}
 use Rattle.undo.proofs.Supplying.{supplier_is}
-use Rattle.undo.specs.Dependences.{by_requisite, dependences_of}
+use Rattle.undo.specs.Dependences.{suppliers, dependences_of, all_within, dependents}
 
 abbrev Pair : Type 0
 Pair = Id × Id
+
+pub some_in : (o : Option Id) (f : Id) → Contains (at_most_one o) f → o ≡ Some f
+some_in None f h = absurd (none_in f h)
+some_in (Some g) f h = elim (here_or g [] f h) [
+  | inl same ↦ ap Some same
+  | inr later ↦ absurd (none_in f later)
+]
+
+pub in_some : (o : Option Id) (f : Id) → o ≡ Some f → Contains (at_most_one o) f
+in_some o f e = subst (λ v. Contains (at_most_one v) f) (sym e) (here f [])
+
+-- the groups of what stands for them
+pub within_items : {X : Type 0} (listed : Id → Bool) (items : X → List Id) (groups : List X)
+    → flat_map items (filter (λ group. list_all listed (items group)) groups) ≡ all_within listed (map items groups)
+within_items listed items [] = refl
+within_items {X = X} listed items (group ∷ groups) =
+    by (within_items listed items groups) (list_all listed (items group))
+  where
+    by : flat_map items (filter (λ g. list_all listed (items g)) groups) ≡ all_within listed (map items groups)
+        → (b : Bool)
+        → flat_map items (cond b (group ∷ filter (λ g. list_all listed (items g)) groups)
+        (filter (λ g. list_all listed (items g)) groups))
+        ≡ flat_map (λ g. g) (cond b (items group ∷ filter (list_all listed) (map items groups))
+        (filter (list_all listed) (map items groups)))
+    by rest true = ap (λ ids. items group ++ ids) rest
+    by rest false = rest
+
+pub flat_items : {X Y : Type 0} (f : List Id → List Y) (items : X → List Id) (groups : List X)
+    → flat_map (λ group. f (items group)) groups ≡ flat_map f (map items groups)
+flat_items f items [] = refl
+flat_items f items (group ∷ groups) = ap (λ ys. f (items group) ++ ys) (flat_items f items groups)
+
+-- one more
+pub flat_more : {X Y : Type 0} (f : X → List Y) (xs : List X) (i : ℕ) (x : X) → i < length xs → x ≡ get_or xs i x
+    → flat_map f (take i xs) ++ f x ≡ flat_map f (take (i + 1) xs)
+flat_more f xs i x below at =
+    ap (λ ys. flat_map f (take i xs) ++ ys) (sym (append-nil (f x)))
+    ∙ sym (flat_map-append f (take i xs) (x ∷ []))
+    ∙ ap (flat_map f) (sym (take_more xs i x below ∙ ap (λ y. take i xs ++ y ∷ []) (sym at)))
 
 -- ---- who depends on whom
 
@@ -56,92 +97,104 @@ module _ (r : Restoring) (is_zone : IsZone r.zone) (listed : Id → Bool) where
               absurd (true≢false (sym (list_any-from_Any (λ p. not (listed p) && supplies r.zone p z)
               (applied_ids r.zone) (there.0, x, there.1, there.2, rw (e, on) refl)) ∙ off))
 
-  -- a pair by a requisite
-  requisite_pair : (x y z : Id) → Contains {X = Pair} (by_requisite r.zone listed y z) (x, y)
-      ↔ (IsTrue (supplies r.zone x z) × IsFalse (is_supplied_outside r listed z))
-  requisite_pair x y z = by (list_all listed (suppliers r.zone z)) refl
-    where
-      by : (b : Bool) → list_all listed (suppliers r.zone z) ≡ b
-          → Contains {X = Pair} (cond b (map (λ x. (x, y)) (suppliers r.zone z)) []) (x, y)
-          ↔ (IsTrue (supplies r.zone x z) × IsFalse (is_supplied_outside r listed z))
-      by true e = (
-        λ h.
-            let m = map_in (λ (v : Id). (v, y)) (suppliers r.zone z) (x, y) h in (
-              (supplier_is r.zone x z).0 (subst (Contains (suppliers r.zone z)) (ap (λ p. p.0) m.2) m.1),
-              (listed_outside z).0 e,
-            ),
-        λ both. in_map (λ (v : Id). (v, y)) (suppliers r.zone z) x ((supplier_is r.zone x z).1 both.0),
-      )
-      by false e = (
-        λ h. absurd (none_in (x, y) h),
-        λ both. absurd (true≢false (sym ((listed_outside z).1 both.1) ∙ e)),
-      )
+  abbrev groups : Id → List (List Id)
+  groups y = dependences_of r y
 
-  -- the second of each pair is who depends
-  requisite_by : (y z : Id) (p : Pair) → Contains (by_requisite r.zone listed y z) p → p.1 ≡ y
-  requisite_by y z p h = by (list_all listed (suppliers r.zone z)) h
-    where
-      by : (b : Bool) → Contains {X = Pair} (cond b (map (λ x. (x, y)) (suppliers r.zone z)) []) p → p.1 ≡ y
-      by true h = let m = map_in (λ (v : Id). (v, y)) (suppliers r.zone z) p h in sym (ap (λ p. p.1) m.2)
-      by false h = absurd (none_in p h)
+  abbrev ids : Id → List Id
+  ids y = binding_ids r.choice r.zone (is_applied r.zone) y
 
-  fmid_pair : (o : Option Id) (x y : Id) → Contains {X = Pair} (map (λ x. (x, y)) (at_most_one o)) (x, y) ↔ (o ≡ Some x)
-  fmid_pair None x y = (λ h. absurd (none_in (x, y) h), λ e. cc e)
-  fmid_pair (Some f) x y = (
-    λ h. elim (here_or (f, y) [] (x, y) h) [
-      | inl same ↦ ap (λ (p : Pair). Some p.0) same
-      | inr later ↦ absurd (none_in (x, y) later)
-    ],
-    λ e. in_map (λ (v : Id). (v, y)) (f ∷ []) x (subst (Contains (f ∷ [])) (cc e) (here f [])),
-  )
+  abbrev by_requisites : Id → List (List Id)
+  by_requisites y = map (suppliers r.zone) (ids y)
 
-  -- the pairs of one that depends
-  pub dependence_pair : (x y : Id) → Contains {X = Pair} (dependences_of r listed y) (x, y)
-      ↔ ((fmid_of r.choice y ≡ Some x)
-      ⊎ Any (λ z. IsTrue (supplies r.zone x z) × IsFalse (is_supplied_outside r listed z))
-      (binding_ids r.choice r.zone (is_applied r.zone) y))
-  dependence_pair x y =
-      let first : List Pair = map (λ x. (x, y)) (at_most_one (fmid_of r.choice y)) in
-      let ids = binding_ids r.choice r.zone (is_applied r.zone) y in
-      let second = flat_map (by_requisite r.zone listed y) ids in (
-        λ h. elim (Contains-append_cases first second (x, y) h) [
-          | inl by ↦ inl ((fmid_pair (fmid_of r.choice y) x y).0 by)
-          | inr by ↦
-              let m = flat_in (by_requisite r.zone listed y) ids (x, y) by in
-              let both = (requisite_pair x y m.0).0 m.2 in
-              inr (m.1.0, m.0, m.1.1, m.1.2, both)
-        ],
-        λ h. elim h [
-          | inl by ↦ Contains-append_left first second (x, y) ((fmid_pair (fmid_of r.choice y) x y).1 by)
-          | inr by ↦ Contains-append_right first second (x, y)
-              (in_flat (by_requisite r.zone listed y) ids by.1 (x, y) (by.0, by.2, by.3)
-              ((requisite_pair x y by.1).1 by.4))
-        ],
-      )
+  abbrev by_function : Id → List (List Id)
+  by_function y = map (λ f. filter (is_applied r.zone) (f ∷ [])) (at_most_one (fmid_of r.choice y))
 
-  dependence_by : (y : Id) (p : Pair) → Contains (dependences_of r listed y) p → p.1 ≡ y
-  dependence_by y p h =
-      let first : List Pair = map (λ x. (x, y)) (at_most_one (fmid_of r.choice y)) in
-      let ids = binding_ids r.choice r.zone (is_applied r.zone) y in
-      elim (Contains-append_cases first (flat_map (by_requisite r.zone listed y) ids) p h) [
-        | inl by ↦
-            let m = map_in (λ (v : Id). (v, y)) (at_most_one (fmid_of r.choice y)) p by in sym (ap (λ p. p.1) m.2)
-        | inr by ↦ let m = flat_in (by_requisite r.zone listed y) ids p by in requisite_by y m.0 p m.2
+  abbrev Depends : Id → Id → Type 0
+  Depends x y = (fmid_of r.choice y ≡ Some x)
+      ⊎ Any (λ z. IsTrue (supplies r.zone x z) × IsFalse (is_supplied_outside r listed z)) (ids y)
+
+  -- a member of such a group, which is listed as a whole
+  pub depends_from : (x y : Id) → Contains (all_within listed (groups y)) x → Depends x y
+  depends_from x y h =
+      let m = flat_in (λ group. group) (filter (list_all listed) (groups y)) x h in
+      let kept = filter_in (list_all listed) (groups y) m.0 m.1 in
+      elim (Contains-append_cases (by_requisites y) (by_function y) m.0 kept.0) [
+        | inl requisite ↦
+            let p = map_in (suppliers r.zone) (ids y) m.0 requisite in
+            inr (
+              p.1.0,
+              p.0,
+              p.1.1,
+              p.1.2,
+              (
+                (supplier_is r.zone x p.0).0 (subst (λ l. Contains l x) (sym p.2) m.2),
+                (listed_outside p.0).0 (subst (λ l. list_all listed l ≡ true) (sym p.2) kept.1),
+              ),
+            )
+        | inr function ↦
+            let p = map_in (λ f. filter (is_applied r.zone) (f ∷ [])) (at_most_one (fmid_of r.choice y)) m.0 function in
+            let own = filter_in (is_applied r.zone) (p.0 ∷ []) x (subst (λ l. Contains l x) (sym p.2) m.2) in
+            elim (here_or p.0 [] x own.0) [
+              | inl same ↦ inl (some_in (fmid_of r.choice y) p.0 p.1 ∙ ap Some same)
+              | inr later ↦ absurd (none_in x later)
+            ]
       ]
 
+  pub within : (x y : Id) (group : List Id) → Contains (groups y) group → list_all listed group ≡ true
+      → Contains group x → Contains (all_within listed (groups y)) x
+  within x y group there all own =
+      in_flat (λ g. g) (filter (list_all listed) (groups y)) group x
+      (in_filter (list_all listed) (groups y) group there all) own
+
+  pub member_applied : (x y : Id) (group : List Id) → Contains (groups y) group → Contains group x
+      → IsTrue (is_applied r.zone x)
+  member_applied x y group there own = elim (Contains-append_cases (by_requisites y) (by_function y) group there) [
+    | inl requisite ↦
+        let p = map_in (suppliers r.zone) (ids y) group requisite in
+        (filter_in (is_applied r.zone) (p.0 ∷ supby_of r.zone p.0) x (subst (λ l. Contains l x) (sym p.2) own)).1
+    | inr function ↦
+        let p = map_in (λ f. filter (is_applied r.zone) (f ∷ [])) (at_most_one (fmid_of r.choice y)) group function in
+        (filter_in (is_applied r.zone) (p.0 ∷ []) x (subst (λ l. Contains l x) (sym p.2) own)).1
+  ]
+
+  -- an applied SYSMOD of the list
+  pub depends_to : (x y : Id) → IsTrue (is_applied r.zone x) → IsTrue (listed x) → Depends x y
+      → Contains (all_within listed (groups y)) x
+  depends_to x y applied on h = elim h [
+    | inl function ↦
+        let group : List Id = filter (is_applied r.zone) (x ∷ []) in
+        within x y group
+        (Contains-append_right (by_requisites y) (by_function y) group
+        (in_map (λ f. filter (is_applied r.zone) (f ∷ [])) (at_most_one (fmid_of r.choice y)) x
+        (in_some (fmid_of r.choice y) x function)))
+        (all_pass listed group (λ v of. elim (here_or x [] v (filter_in (is_applied r.zone) (x ∷ []) v of).0) [
+          | inl same ↦ subst (λ w. listed w ≡ true) same on
+          | inr later ↦ absurd (none_in v later)
+        ]))
+        (in_filter (is_applied r.zone) (x ∷ []) x (here x []) applied)
+    | inr a ↦
+        let z = a.1 in
+        within x y (suppliers r.zone z)
+        (Contains-append_left (by_requisites y) (by_function y) (suppliers r.zone z)
+        (in_map (suppliers r.zone) (ids y) z (a.0, a.2, a.3)))
+        ((listed_outside z).1 a.4.1) ((supplier_is r.zone x z).1 a.4.0)
+  ]
+
   -- all pairs
-  pub dependences_are : (x y : Id) → y ≢ x
-      → Contains {X = Pair} (flat_map (dependences_of r listed) (applied_ids r.zone)) (x, y) ↔ NeedsDep r listed x y
-  dependences_are x y other = (
+  pub dependents_are : (x y : Id) → y ≢ x → IsTrue (is_applied r.zone x) → IsTrue (listed x)
+      → Contains {X = Pair} (flat_map (dependents r listed) (applied_ids r.zone)) (x, y) ↔ NeedsDep r listed x y
+  dependents_are x y other applied on = (
     λ h.
-        let m = flat_in (dependences_of r listed) (applied_ids r.zone) (x, y) h in
-        let same : y ≡ m.0 = dependence_by m.0 (x, y) m.2 in
+        let m = flat_in (dependents r listed) (applied_ids r.zone) (x, y) h in
+        let v = map_in (λ (w : Id). (w, m.0)) (all_within listed (groups m.0)) (x, y) m.2 in
+        let first : v.0 ≡ x = ap (λ (p : Pair). p.0) v.2 in
+        let second : m.0 ≡ y = ap (λ (p : Pair). p.1) v.2 in
         record {
           other = other;
-          applied = (applied_are r.zone is_zone y).0 (subst (Contains (applied_ids r.zone)) (sym same) m.1);
-          depends = (dependence_pair x y).0 (subst (λ v. Contains {X = Pair} (dependences_of r listed v) (x, y))
-              (sym same) m.2);
+          applied = (applied_are r.zone is_zone y).0 (subst (Contains (applied_ids r.zone)) second m.1);
+          depends = depends_from x y (subst (λ w. Contains (all_within listed (groups w)) x) second
+              (subst (Contains (all_within listed (groups m.0))) first v.1));
         },
-    λ n. in_flat (dependences_of r listed) (applied_ids r.zone) y (x, y)
-        ((applied_are r.zone is_zone y).1 n.applied) ((dependence_pair x y).1 n.depends),
+    λ n. in_flat (dependents r listed) (applied_ids r.zone) y (x, y) ((applied_are r.zone is_zone y).1 n.applied)
+        (in_map (λ (w : Id). (w, y)) (all_within listed (groups y)) x (depends_to x y applied on n.depends)),
   )

@@ -11,16 +11,16 @@ use Rattle.std.proofs.lemmas.Cmp.{tied_itself, nat_cmp_total, nat_list_cmp_total
 use Rattle.std.proofs.lemmas.List.{get_or_past}
 use Rattle.std.proofs.lemmas.List.Elements.{All-contains}
 use Rattle.std.proofs.lemmas.Option.{slice_get_within, get_or_from_slice_get, same_Some}
-use Rattle.lemmas.proofs.Members.{here_or, none_in}
-use Rattle.lemmas.proofs.Orderings.{Equal_from_is_eq}
-use Rattle.lemmas.proofs.Places.{found_at}
+use Rattle.terms.proofs.ListMembers.{here_or, none_in}
+use Rattle.terms.proofs.Orderings.{Equal_from_is_eq}
+use Rattle.terms.proofs.Places.{found_at}
 use Rattle.terms.specs.Types.{Id, type_number}
 use Rattle.terms.specs.Rising.{Rises}
 use Rattle.terms.proofs.ElementOrder.{cmp_types}
-use Rattle.lemmas.proofs.Each.{All_from_each}
+use Rattle.terms.proofs.Each.{All_from_each}
 use Rattle.terms.proofs.Ids.{Contains_from_is_in}
-use Rattle.solve.specs.Problem.{holds}
-use Rattle.solve.specs.Least.{Rule, Growth, IsClosed, IsLeast}
+use Rattle.decide.specs.Problem.{holds}
+use Rattle.decide.specs.Least.{Rule, Growth, IsClosed, IsLeast}
 use Rattle.undo.specs.declared.nodes.Node.{Node}
 use Rattle.undo.specs.declared.nodes.Node.TheVariants.{Sysmod, Element}
 use Rattle.undo.specs.contracts.nodes.NodeOrd.TheImpl as node_order

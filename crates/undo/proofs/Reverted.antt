@@ -5,7 +5,7 @@ use Rattle.std.specs.Prelude.{◌||◌, None, Some, IfSome, IsFalse, if◌then�
 use Rattle.std.specs.List.{list_any}
 use Rattle.std.proofs.lemmas.List.Folds.{list_any_none, list_any-from_Any, list_any-append}
 use Rattle.std.proofs.lemmas.List.Sorted.{list_any-IsPermutation}
-use Rattle.lemmas.proofs.Searches.{find_gives, is_some_find, list_any_map}
+use Rattle.terms.proofs.Searches.{find_gives, is_some_find, list_any_map}
 use Rattle.sorted.specs.ElementKeys.{Key}
 use Rattle.sorted.specs.declared.edits.Edit.{Edit}
 use Rattle.sorted.specs.Edits.{after_edits}

@@ -14,12 +14,12 @@ use Rattle.std.proofs.lemmas.List.Kept.{AllPairs-from_increasing, Contains-dedup
 use Rattle.std.proofs.lemmas.List.Sorted.{Contains-permutation, IsPermutation-sym}
 use Rattle.std.proofs.lemmas.Map.Keys.{IsStrictlyIncreasing-dedup}
 use Rattle.std.proofs.lemmas.Option.{slice_get_within, same_Some}
-use Rattle.lemmas.proofs.Members.{here, here_or, none_in, in_map, map_in, in_flat}
+use Rattle.terms.proofs.ListMembers.{here, here_or, none_in, in_map, map_in, in_flat}
 use Rattle.terms.specs.Types.{Id}
 use Rattle.terms.specs.Lookups.{IsRising}
 use Rattle.terms.specs.Rising.{Rises}
-use Rattle.solve.specs.Problem.{holds}
-use Rattle.solve.specs.Least.{Rule, Growth, IsRule, IsLeast}
+use Rattle.decide.specs.Problem.{holds}
+use Rattle.decide.specs.Least.{Rule, Growth, IsRule, IsLeast}
 use Rattle.undo.specs.declared.nodes.Node.{Node}
 use Rattle.undo.specs.declared.nodes.Node.TheVariants.{Sysmod, Element}
 use Rattle.undo.specs.declared.nodes.Step.{Step as RustStep}
@@ -27,7 +27,7 @@ use Rattle.undo.specs.contracts.nodes.NodeOrd.TheImpl as node_order
 use Rattle.undo.specs.Steps.{Step, as_step, as_steps, is_start}
 use Rattle.undo.specs.ByNumbers.{ArePlaces, IsNumbered, AreNumbered, IsGrowth, AddsRule, Covers, nodes_in}
 use Rattle.undo.specs.ByNumbers.{sysmod_in, AreFlagged, IsFlagged, AreReached}
-use Rattle.lemmas.proofs.Each.{All_from_each}
+use Rattle.terms.proofs.Each.{All_from_each}
 use Rattle.undo.proofs.Reached.{flagged_reached}
 
 -- ---- sorted numbers without doubles
@@ -138,6 +138,22 @@ flagged_more table flags i found new n at are is x = (
       | inl before ↦ Contains-append_left found (cond (holds flags i) (sysmod_in n) []) x ((are x).1 (j, before, f))
       | inr past ↦ Contains-append_right found (cond (holds flags i) (sysmod_in n) []) x
           (at-end (let last : j ≡ i = omega (arith, low, past) in subst (IsFlagged table flags x) last f))
+    ]
+
+-- no SYSMOD with the flag stands there
+pub flagged_skip : (table : List Node) (flags : List Bool) (i : ℕ) (found : List Id)
+    → ((x : Id) → IsFlagged table flags x i → ⊥) → AreFlagged table flags i found
+    → AreFlagged table flags (i + 1) found
+flagged_skip table flags i found none are x = (
+  λ h. let p = (are x).0 h in (p.0, omega (arith, p.1), p.2),
+  λ p. within p.0 p.1 p.2,
+)
+  where
+    within : (j : ℕ) → j < i + 1 → IsFlagged table flags x j → Contains found x
+    within j low f = elim (cases_lt j i) [
+      | inl before ↦ (are x).1 (j, before, f)
+      | inr past ↦ absurd (none x (let last : j ≡ i = omega (arith, low, past) in
+          subst (IsFlagged table flags x) last f))
     ]
 
 -- ---- a table of all

@@ -2,8 +2,8 @@
 use Rattle.std.specs.Prelude.{◌≡◌, ◌↔◌, ◌<◌, ℕ, Bool, List, Some, [], ◌∷◌, ◌++◌, map, slice_get, Contains, IsTrue}
 use Rattle.terms.specs.Types.{Id}
 use Rattle.terms.specs.Lookups.{IsRising}
-use Rattle.solve.specs.Problem.{holds}
-use Rattle.solve.specs.Least.{Rule, Growth}
+use Rattle.decide.specs.Problem.{holds}
+use Rattle.decide.specs.Least.{Rule, Growth}
 use Rattle.undo.specs.declared.nodes.Node.{Node}
 use Rattle.undo.specs.declared.nodes.Node.TheVariants.{Sysmod, Element}
 use Rattle.undo.specs.declared.nodes.Step.{Step as RustStep}

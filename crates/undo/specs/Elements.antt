@@ -3,7 +3,7 @@ use Rattle.std.specs.Prelude.{◌≡◌, List, Contains, map}
 use Rattle.std.specs.List.{flat_map}
 use Rattle.sorted.specs.ElementKeys.{Key, key_cmp}
 use Rattle.sorted.specs.Lists.{Lists, listed, Holds, OneOf}
-use Rattle.terms.specs.Types.{Id, Change, Global}
+use Rattle.terms.specs.Types.{Id, Global}
 use Rattle.terms.specs.Lookups.{change_key, changes_of}
 use Rattle.undo.specs.Restoring.{changed_keys}
 
@@ -19,9 +19,10 @@ ChangedBy g x k y = Contains (changed_keys g x) k × (y ≡ x)
 abbrev pub AreChangers : Global → List Id → Changers → Type 0
 AreChangers g ids all = Holds key_cmp all (OneOf ids (ChangedBy g))
 
--- x with each that changes an element of it
-abbrev pub beside_at : Changers → Id → Change → List (Id × Id)
-beside_at all x h = map (λ y. (x, y)) (listed key_cmp all (change_key h))
+-- those of them that change an element of x
+abbrev pub sharers : Global → Changers → Id → List Id
+sharers g all x = flat_map (λ h. listed key_cmp all (change_key h)) (changes_of g x)
 
+-- x with each of those
 abbrev pub beside : Global → Changers → Id → List (Id × Id)
-beside g all x = flat_map (beside_at all x) (changes_of g x)
+beside g all x = map (λ y. (x, y)) (sharers g all x)

@@ -1,7 +1,7 @@
 -- What RESTORE looks into, by the values of the code.
-use Rattle.std.specs.Prelude.{List, [], ◌∷◌, ◌++◌, filter}
+use Rattle.std.specs.Prelude.{List, not, filter}
 use Rattle.terms.specs.Types.{Id, Zone}
-use Rattle.terms.specs.Lookups.{is_applied, supby_of}
+use Rattle.terms.specs.Lookups.{is_supplied, applied_ids}
 use Rattle.terms.specs.Restore.{Restoring}
 use Rattle.sysmods.specs.declared.choice.VerChoice.{VerChoice}
 use Rattle.sysmods.specs.Choices.{choice}
@@ -15,6 +15,6 @@ restoring vers zone accepted =
 abbrev pub restoring_of : Scope → Restoring
 restoring_of scope = restoring scope.vers.now scope.zone.now scope.accepted.now
 
--- the applied SYSMODs that supply the id
-abbrev pub suppliers : Zone → Id → List Id
-suppliers zone z = filter (is_applied zone) (z ∷ []) ++ filter (is_applied zone) (supby_of zone z)
+-- the applied SYSMODs that the distribution zone does not supply
+abbrev pub unaccepted : Restoring → List Id
+unaccepted r = filter (λ y. not (is_supplied r.accepted y)) (applied_ids r.zone)

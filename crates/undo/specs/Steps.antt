@@ -1,15 +1,14 @@
 -- How GROUP's list grows: by steps between SYSMODs and elements.
-use Rattle.std.specs.Prelude.{Bool, false, List, [], ◌∷◌, ◌++◌, filter, map, Contains, IsTrue, if◌then◌else◌}
+use Rattle.std.specs.Prelude.{Bool, false, List, [], ◌∷◌, ◌++◌, map, Contains, IsTrue, if◌then◌else◌}
 use Rattle.std.specs.List.{flat_map}
-use Rattle.terms.specs.Types.{Id, Zone, Change}
-use Rattle.terms.specs.Lookups.{at_most_one, is_in, is_nil, is_applied, is_supplied, applied_ids, changes_of}
-use Rattle.terms.specs.Choice.{fmid_of}
-use Rattle.terms.specs.Needs.{binding_ids}
+use Rattle.terms.specs.Types.{Id, Change}
+use Rattle.terms.specs.Lookups.{is_in, is_nil, applied_ids, changes_of}
 use Rattle.terms.specs.Restore.{Restoring}
 use Rattle.undo.specs.declared.nodes.Node.{Node}
 use Rattle.undo.specs.declared.nodes.Node.TheVariants.{Sysmod, Element}
 use Rattle.undo.specs.declared.nodes.Step.{Step as RustStep}
-use Rattle.undo.specs.Scopes.{suppliers}
+use Rattle.undo.specs.Dependences.{dependences_of}
+use Rattle.undo.specs.Scopes.{unaccepted}
 
 -- once all of these are there, that is
 pub record Step : Type 0 where
@@ -35,30 +34,25 @@ to_element y h = record { these = Sysmod y ∷ []; that = element_at h }
 abbrev pub from_element : Id → Change → Step
 from_element y h = record { these = element_at h ∷ []; that = Sysmod y }
 
--- from x to what depends on it by FMID
-abbrev pub from_function : Id → Id → Step
-from_function y x = record { these = Sysmod x ∷ []; that = Sysmod y }
+-- from all of these together to y, if there are any
+abbrev pub from_all : Id → List Id → List Step
+from_all y ids = if is_nil ids then [] else record { these = map Sysmod ids; that = Sysmod y } ∷ []
 
-abbrev pub from_functions : Restoring → Id → List Step
-from_functions r y = map (from_function y) (filter (is_applied r.zone) (at_most_one (fmid_of r.choice y)))
+-- from y to the elements that it changes, from these to it, and to it from what it depends on
+abbrev pub to_elements : Restoring → Id → List Step
+to_elements r y = map (to_element y) (changes_of r.global y)
 
--- from all that supply a requisite to y
-abbrev pub from_suppliers : Id → List Id → List Step
-from_suppliers y ids = if is_nil ids then [] else record { these = map Sysmod ids; that = Sysmod y } ∷ []
+abbrev pub from_elements : Restoring → Id → List Step
+from_elements r y = map (from_element y) (changes_of r.global y)
 
-abbrev pub by_requisite : Zone → Id → Id → List Step
-by_requisite zone y z = from_suppliers y (suppliers zone z)
+abbrev pub from_groups : Restoring → Id → List Step
+from_groups r y = flat_map (from_all y) (dependences_of r y)
 
--- the steps to an applied SYSMOD, and from it to its elements
-abbrev pub steps_of : Restoring → Id → List Step
-steps_of r y =
-    map (to_element y) (changes_of r.global y)
-    ++ (if is_supplied r.accepted y then [] else map (from_element y) (changes_of r.global y))
-    ++ from_functions r y
-    ++ flat_map (by_requisite r.zone y) (binding_ids r.choice r.zone (is_applied r.zone) y)
-
+-- the steps from and to the applied SYSMODs; what is accepted follows no element
 abbrev pub all_steps : Restoring → List Step
-all_steps r = flat_map (steps_of r) (applied_ids r.zone)
+all_steps r =
+    flat_map (to_elements r) (applied_ids r.zone) ++ flat_map (from_elements r) (unaccepted r)
+    ++ flat_map (from_groups r) (applied_ids r.zone)
 
 -- GROUP's ids
 abbrev pub is_start : List Id → Node → Bool

@@ -1,98 +1,94 @@
-//! Which applied SYSMODs depend on which: by FMID, and by requisites that only SYSMODs of the list supply.
-ghost use Rattle.std.specs.Prelude.{◌≡◌, ◌++◌, map, IfOk, OnOk};
+//! What an applied SYSMOD depends on: its function, and for each of its requisites those who supply it.
+ghost use Rattle.std.specs.Prelude.{◌≡◌, filter, map, IfOk};
 ghost use Rattle.std.specs.List.{flat_map, list_all};
-ghost use Rattle.terms.specs.Lookups.{at_most_one, is_in, applied_ids};
+ghost use Rattle.terms.specs.Lookups.{is_in, supby_of};
+ghost use Rattle.terms.specs.Restore.{restore_candidates};
 ghost use Rattle.undo.specs.Scopes.{restoring_of};
-ghost use Rattle.undo.specs.Dependences.{by_requisite, dependences_of};
+ghost use Rattle.undo.specs.Dependences.{suppliers, dependences_of};
+ghost use Rattle.undo.specs.Needed.{HaveDep};
 
-use crate::pairs::add_pairs;
-use crate::scope::Scope;
-use crate::supply::suppliers;
-use fields::{Id, IdList};
+use crate::scope::{Scope, applied_among};
+use fields::{Attest, Id, IdList};
 use std::alloc::{AllocError, Global};
 use zones::Zone;
 use zones_views::requisites_held;
 
-// Whether the list has all of these.
+// The SYSMODs that supersede the id in the zone.
+fn superseders(zone: &Zone, id: Id) -> &[Id]
+    ensures { result.now ≡ supby_of zone.now id }
+{
+    match zone.entry(id) {
+        Some(entry) => entry.supby.as_slice(),
+        None => &[],
+    }
+}
+
+// The applied SYSMODs that supply the id.
+fn suppliers(alloc: Global, zone: &Zone, id: Id) -> Result<Vec<Id>, AllocError>
+    ensures { IfOk result (λ found. found.items ≡ suppliers zone.now id) }
+{
+    let mut ids = vec![in alloc; id]?;
+    ids.extend_from_slice(superseders(zone, id))?;
+    applied_among(alloc, zone, ids.as_slice())
+}
+
+/// The groups of applied SYSMODs on which it depends: it is to go as soon as all of one group go, if that has any.
+pub(crate) fn dependences_of(
+    alloc: Global,
+    scope: &Scope<'_, '_>,
+    id: Id,
+) -> Result<Vec<Vec<Id>>, AllocError>
+    ensures { IfOk result (λ groups. map (λ group. group.items) groups.items
+        ≡ dependences_of (restoring_of scope.now) id) }
+{
+    let requisites = requisites_held(alloc, scope.vers, scope.zone, id)?;
+    let mut groups = Vec::new(alloc);
+    for requisite in requisites.as_slice() {
+        groups.push(suppliers(alloc, scope.zone, *requisite)?)?;
+    }
+    if let Some(function) = scope.vers.fmid(id) {
+        groups.push(applied_among(alloc, scope.zone, &[function])?)?;
+    }
+    Ok(groups)
+}
+
 fn are_listed(list: &IdList, ids: &[Id]) -> bool
     ensures { result ≡ list_all (is_in list.now) ids.now }
 {
     ids.iter().all(|id| list.contains(*id))
 }
 
-// Adds those that supply the requisite, if all are in the list.
-fn add_by_requisite(
-    alloc: Global,
-    zone: &Zone,
-    list: &IdList,
-    by: Id,
-    requisite: Id,
-    pairs: &mut Vec<(Id, Id)>,
-) -> Result<(), AllocError>
-    ensures { OnOk result (pairs.new.items ≡ pairs.old.items ++ by_requisite zone.now (is_in list.now) by requisite) }
+// The members of those groups that are in the list as a whole.
+fn all_within(alloc: Global, list: &IdList, groups: &[Vec<Id>]) -> Result<Vec<Id>, AllocError>
+    ensures { IfOk result (λ ids. ids.items
+        ≡ flat_map (λ group. group.items) (filter (λ group. list_all (is_in list.now) group.items) groups.now)) }
 {
-    let found = suppliers(alloc, zone, requisite)?;
-    if are_listed(list, found.as_slice()) {
-        add_pairs(pairs, found.as_slice(), by)?;
-    }
-    Ok(())
+    groups
+        .iter()
+        .filter(|group| are_listed(list, group.as_slice()))
+        .flat_map(|group| group.iter())
+        .copied()
+        .collect(alloc)
 }
 
-fn add_by_requisites(
-    alloc: Global,
-    zone: &Zone,
-    list: &IdList,
-    by: Id,
-    requisites: &[Id],
-    pairs: &mut Vec<(Id, Id)>,
-) -> Result<(), AllocError>
-    ensures { OnOk result (pairs.new.items
-        ≡ pairs.old.items ++ flat_map (by_requisite zone.now (is_in list.now) by) requisites.now) }
-{
-    for requisite in requisites {
-        add_by_requisite(alloc, zone, list, by, *requisite, pairs)?;
-    }
-    Ok(())
-}
-
-fn add_by_function(pairs: &mut Vec<(Id, Id)>, fmid: Option<Id>, by: Id) -> Result<(), AllocError>
-    ensures { OnOk result (pairs.new.items ≡ pairs.old.items ++ map (λ x. (x, by)) (at_most_one fmid)) }
-{
-    if let Some(fmid) = fmid {
-        pairs.push((fmid, by))?;
-    }
-    Ok(())
-}
-
-// Adds those on which one SYSMOD depends.
-fn add_dependences(
+/// The candidates with those that depend on them: on a group which is in the list as a whole.
+pub(crate) fn dep_pairs(
     alloc: Global,
     scope: &Scope<'_, '_>,
     list: &IdList,
-    by: Id,
-    pairs: &mut Vec<(Id, Id)>,
-) -> Result<(), AllocError>
-    ensures { OnOk result (pairs.new.items
-        ≡ pairs.old.items ++ dependences_of (restoring_of scope.now) (is_in list.now) by) }
-{
-    add_by_function(pairs, scope.vers.fmid(by), by)?;
-    let requisites = requisites_held(alloc, scope.vers, scope.zone, by)?;
-    add_by_requisites(alloc, scope.zone, list, by, requisites.as_slice(), pairs)?;
-    Ok(())
-}
-
-/// The pairs of a SYSMOD and an applied one that depends on it.
-pub(crate) fn dependences(
-    alloc: Global,
-    scope: &Scope<'_, '_>,
-    list: &IdList,
+    cands: &IdList,
 ) -> Result<Vec<(Id, Id)>, AllocError>
-    ensures { IfOk result (λ pairs. pairs.items
-        ≡ flat_map (dependences_of (restoring_of scope.now) (is_in list.now)) (applied_ids scope.now.zone.now)) }
+    requires { cands.now ≡ restore_candidates (restoring_of scope.now) list.now }
+    ensures { IfOk result (λ pairs. HaveDep (restoring_of scope.now) list.now cands.now pairs.items) }
 {
+    scope.zone.attest();
     let mut pairs = Vec::new(alloc);
-    for id in scope.applied {
-        add_dependences(alloc, scope, list, *id, &mut pairs)?;
+    for by in scope.applied {
+        let groups = dependences_of(alloc, scope, *by)?;
+        let ids = all_within(alloc, list, groups.as_slice())?;
+        for id in ids.as_slice() {
+            pairs.push((*id, *by))?;
+        }
     }
     Ok(pairs)
 }

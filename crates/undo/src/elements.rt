@@ -1,92 +1,82 @@
 //! Who changes which element.
-ghost use Rattle.std.specs.Prelude.{◌≡◌, ◌++◌, IfOk, OnOk};
-ghost use Rattle.std.specs.List.{flat_map};
+ghost use Rattle.std.specs.Prelude.{◌≡◌, IfOk};
 ghost use Rattle.sorted.specs.ElementKeys.{key_cmp};
-ghost use Rattle.sorted.specs.Lists.{Gains};
-ghost use Rattle.undo.specs.Elements.{AreChangers, ChangedBy, beside, beside_at};
+ghost use Rattle.undo.specs.Elements.{AreChangers, sharers};
+ghost use Rattle.undo.specs.Needed.{HaveElem};
+ghost use Rattle.undo.specs.Restoring.{changed_keys};
+ghost use Rattle.undo.specs.Scopes.{restoring_of};
 
-use crate::pairs::add_needed;
-use crate::reverting::append_changes_of;
-use crate::scope::changes_of;
-use fields::{Id, Name};
+use crate::scope::{Scope, changes_of, unaccepted};
+use fields::{Attest, Id, IdList, Name};
 use sorted::lists::{Lists, add_to_all, listed};
 use std::alloc::{AllocError, Global};
 use std::collections::BTreeMap;
-use sysmod::ElemChange;
-use sysmods::{GlobalZone, VerChoice};
+use sysmods::GlobalZone;
 use terms::ElemType;
 
 /// For each element some SYSMODs that change it.
-pub(crate) type Changers = Lists<(ElemType, Name), Id>;
+type Changers = Lists<(ElemType, Name), Id>;
 
-// Adds the SYSMOD to each element that it changes.
-fn add_changer(
+/// The types and names of the elements that the SYSMOD changes.
+pub(crate) fn changed_keys(
     alloc: Global,
-    changers: &mut Changers,
     global: &GlobalZone,
-    by: Id,
-) -> Result<(), AllocError>
-    ensures { OnOk result (Gains key_cmp changers.old changers.new (ChangedBy global.now by)) }
+    id: Id,
+) -> Result<Vec<(ElemType, Name)>, AllocError>
+    ensures { IfOk result (λ keys. keys.items ≡ changed_keys global.now id) }
 {
-    let mut keys = Vec::new(alloc);
-    append_changes_of(global, by, &mut keys)?;
-    add_to_all(alloc, changers, keys.as_slice(), by)?;
-    Ok(())
+    changes_of(global, id)
+        .iter()
+        .map(|change| (change.elem_type, change.name))
+        .collect(alloc)
 }
 
-/// What these SYSMODs change.
-pub(crate) fn changers(
-    alloc: Global,
-    vers: &VerChoice<'_>,
-    ids: &[Id],
-) -> Result<Changers, AllocError>
-    ensures { IfOk result (AreChangers vers.now.global.now ids.now) }
+// What these SYSMODs change.
+fn changers(alloc: Global, global: &GlobalZone, ids: &[Id]) -> Result<Changers, AllocError>
+    ensures { IfOk result (AreChangers global.now ids.now) }
 {
     let mut changers = BTreeMap::new(alloc);
     for id in ids {
-        add_changer(alloc, &mut changers, vers.global(), *id)?;
+        let keys = changed_keys(alloc, global, *id)?;
+        add_to_all(alloc, &mut changers, keys.as_slice(), *id)?;
     }
     Ok(changers)
 }
 
-fn add_beside_at(
-    changers: &Changers,
-    id: Id,
-    change: &ElemChange,
-    pairs: &mut Vec<(Id, Id)>,
-) -> Result<(), AllocError>
-    ensures { OnOk result (pairs.new.items ≡ pairs.old.items ++ beside_at changers.now id change.now) }
-{
-    let others = listed(changers, (change.elem_type, change.name));
-    add_needed(pairs, id, others)
-}
-
-fn add_beside(
-    changers: &Changers,
-    id: Id,
-    changes: &[ElemChange],
-    pairs: &mut Vec<(Id, Id)>,
-) -> Result<(), AllocError>
-    ensures { OnOk result (pairs.new.items ≡ pairs.old.items ++ flat_map (beside_at changers.now id) changes.now) }
-{
-    for change in changes {
-        add_beside_at(changers, id, change, pairs)?;
-    }
-    Ok(())
-}
-
-/// Each of these SYSMODs with each that changes an element of it.
-pub(crate) fn all_beside(
+// Those that change an element which the SYSMOD changes too.
+fn sharers(
     alloc: Global,
-    vers: &VerChoice<'_>,
+    global: &GlobalZone,
     changers: &Changers,
-    ids: &[Id],
-) -> Result<Vec<(Id, Id)>, AllocError>
-    ensures { IfOk result (λ pairs. pairs.items ≡ flat_map (beside vers.now.global.now changers.now) ids.now) }
+    id: Id,
+) -> Result<Vec<Id>, AllocError>
+    ensures { IfOk result (λ ids. ids.items ≡ sharers global.now changers.now id) }
 {
+    changes_of(global, id)
+        .iter()
+        .flat_map(|change| listed(changers, (change.elem_type, change.name)).iter())
+        .copied()
+        .collect(alloc)
+}
+
+/// The candidates with those that share an element with them.
+pub(crate) fn elem_pairs(
+    alloc: Global,
+    scope: &Scope<'_, '_>,
+    cands: &IdList,
+) -> Result<Vec<(Id, Id)>, AllocError>
+    ensures { IfOk result (λ pairs. HaveElem (restoring_of scope.now) cands.now pairs.items) }
+{
+    scope.zone.attest();
+    let global = scope.vers.global();
+    let others = unaccepted(alloc, scope.accepted, scope.applied)?;
+    let changers = changers(alloc, global, others.as_slice())?;
     let mut pairs = Vec::new(alloc);
-    for id in ids {
-        add_beside(changers, *id, changes_of(vers, *id), &mut pairs)?;
+    for id in cands.as_slice() {
+        let sharers = sharers(alloc, global, &changers, *id)?;
+        for sharer in sharers.as_slice() {
+            pairs.push((*id, *sharer))?;
+        }
     }
     Ok(pairs)
 }

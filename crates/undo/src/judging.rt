@@ -1,6 +1,6 @@
 //! The candidates of a RESTORE, judged: their tests and their needs.
-ghost use Rattle.std.specs.Prelude.{◌≡◌, [], IfOk, filter, map};
-ghost use Rattle.terms.specs.Lookups.{is_in, is_applied};
+ghost use Rattle.std.specs.Prelude.{◌≡◌, [], IfOk, map};
+ghost use Rattle.terms.specs.Lookups.{is_in};
 ghost use Rattle.terms.specs.Needs.{Serves};
 ghost use Rattle.terms.specs.Restore.{FailsRestore, MayBeRestored, NeedsInRestore, restore_candidates};
 ghost use Rattle.sysmods.specs.Choices.{choice};
@@ -8,14 +8,12 @@ ghost use Rattle.undo.specs.Scopes.{restoring_of};
 ghost use Rattle.decide.specs.Judged.{AreJudged};
 
 use crate::needed::needs_of_all;
-use crate::scope::Scope;
-use crate::supply::push_applied;
+use crate::scope::{Scope, applied_among};
 use crate::tests::all_rows;
 use decide::Need;
 use fields::{Attest, IdList};
 use std::alloc::{AllocError, Global};
 use terms::Test;
-use zones::Zone;
 
 /// What is said of the candidates: who they are, the tests that each one fails, and what each one needs.
 #[derive(Drop)]
@@ -23,17 +21,6 @@ pub struct Judged {
     pub cands: IdList,
     pub tests: Vec<Vec<Test>>,
     pub needs: Vec<Need>,
-}
-
-// Those of the list that are applied.
-fn candidates(alloc: Global, zone: &Zone, ids: &IdList) -> Result<IdList, AllocError>
-    ensures { IfOk result (λ cands. cands ≡ filter (is_applied zone.now) ids.now) }
-{
-    let mut found = Vec::new(alloc);
-    push_applied(zone, ids.as_slice(), &mut found)?;
-    let cands = IdList::from_vec(found);
-    cands.attest();
-    Ok(cands)
 }
 
 /// Judges the SYSMODs of RESTORE's list. No superseder serves what they need. An error comes where memory runs out.
@@ -48,7 +35,8 @@ pub fn judge_restore(
         (NeedsInRestore (restoring_of scope.now) (is_in ids.now)) (Serves (choice scope.now.vers.now)) j.cands
         (map (λ row. row.items) j.tests.items) j.needs.items []) }
 {
-    let cands = candidates(alloc, scope.zone, ids)?;
+    let cands = IdList::from_vec(applied_among(alloc, scope.zone, ids.as_slice())?);
+    cands.attest();
     let tests = all_rows(alloc, scope, cands.as_slice())?;
     let needs = needs_of_all(alloc, scope, ids, &cands)?;
     Ok(Judged {

@@ -17,10 +17,8 @@ mod numbered;
 mod numbers;
 mod pairs;
 mod restoring;
-mod reverting;
 mod scope;
 mod steps;
-mod supply;
 mod tests;
 
 pub use judging::{Judged, judge_restore};

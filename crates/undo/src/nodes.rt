@@ -1,10 +1,11 @@
 //! What GROUP's list grows over.
-ghost use Rattle.std.specs.Prelude.{◌≡◌, ◌++◌, ◌∷◌, [], map, OnOk};
-ghost use Rattle.undo.specs.Steps.{as_steps};
+ghost use Rattle.std.specs.Prelude.{◌≡◌, ◌++◌, ◌∷◌, [], map, IfOk, OnOk};
+ghost use Rattle.undo.specs.Steps.{as_steps, element_at};
 ghost use Rattle.undo.specs.declared.nodes.Node.TheVariants.{Sysmod};
 
 use fields::{Field, Id, Name};
 use std::alloc::{AllocError, Global};
+use sysmod::ElemChange;
 use terms::ElemType;
 
 /// A SYSMOD, or an element.
@@ -27,14 +28,18 @@ pub(crate) struct Step {
     pub(crate) that: Node,
 }
 
-/// Adds these SYSMODs.
-pub(crate) fn push_sysmods(ids: &[Id], nodes: &mut Vec<Node>) -> Result<(), AllocError>
-    ensures { OnOk result (nodes.new.items ≡ nodes.old.items ++ map Sysmod ids.now) }
+/// These SYSMODs.
+pub(crate) fn sysmods(alloc: Global, ids: &[Id]) -> Result<Vec<Node>, AllocError>
+    ensures { IfOk result (λ nodes. nodes.items ≡ map Sysmod ids.now) }
 {
-    for id in ids {
-        nodes.push(Node::Sysmod(*id))?;
-    }
-    Ok(())
+    ids.iter().map(|id| Node::Sysmod(*id)).collect(alloc)
+}
+
+/// The element of the statement.
+pub(crate) fn element_at(change: &ElemChange) -> Node
+    ensures { result ≡ element_at change.now }
+{
+    Node::Element(change.elem_type, change.name)
 }
 
 /// Adds a step.

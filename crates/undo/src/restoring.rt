@@ -1,18 +1,20 @@
 //! What RESTORE makes of a target zone.
-ghost use Rattle.std.specs.Prelude.{◌≡◌, All, IsTrue, IfOk, OnOk, fold};
+ghost use Rattle.std.specs.Prelude.{◌≡◌, IsTrue, IfOk, OnOk};
 ghost use Rattle.std.specs.List.{list_any};
 ghost use Rattle.terms.specs.Types.{Zone as AZone};
 ghost use Rattle.terms.specs.Lookups.{is_in, waives_applied};
 ghost use Rattle.terms.specs.Restore.{Restoring, Restores};
 ghost use Rattle.zones.specs.Delta.{IsChanged};
 ghost use Rattle.zones.specs.Differing.{EachChanges};
-ghost use Rattle.undo.specs.Restoring.{IsRestoringOf, loses, take_off};
+ghost use Rattle.undo.specs.Restoring.{IsRestoringOf, PutsBack, loses, take_off};
 
-use crate::reverting::{changed_elements, put_back};
-use fields::{Attest, Id, IdList};
+use crate::elements::changed_keys;
+use fields::{Attest, Id, IdList, Name};
+use sorted::TryClone;
 use std::alloc::{AllocError, Global};
 use sysmods::GlobalZone;
-use zones::{Entry, Zone, ZoneDelta};
+use terms::ElemType;
+use zones::{Entry, Zone, ZoneDelta, are_same};
 use zones_views::entry_less;
 
 /// What changes in a target zone when the kept SYSMODs are taken off it. Elements that they change become those of the
@@ -30,29 +32,36 @@ pub fn restore(
 {
     zone.attest();
     let mut delta = ZoneDelta::new(alloc);
-    take_off(alloc, kept, zone.entries(), &mut delta)?;
-    let changed = changed_elements(alloc, global, kept.as_slice())?;
-    put_back(alloc, zone, accepted, changed.as_slice(), &mut delta)?;
+    for entry in zone.entries() {
+        take_off(alloc, kept, entry, &mut delta)?;
+    }
+    let mut changed = Vec::new(alloc);
+    for id in kept.as_slice() {
+        let keys = changed_keys(alloc, global, *id)?;
+        changed.extend_from_slice(keys.as_slice())?;
+    }
+    changed.sort_unstable();
+    for key in changed.as_slice() {
+        put_back(alloc, zone, accepted, *key, &mut delta)?;
+    }
     Ok(delta)
 }
 
-// Takes the kept SYSMODs out of these entries.
-fn take_off(
-    alloc: Global,
-    kept: &IdList,
-    entries: &[Entry],
-    delta: &mut ZoneDelta,
-) -> Result<(), AllocError>
-    requires { All (λ e. IsTrue (waives_applied e)) entries.now }
-    ensures { OnOk result (delta.new ≡ fold (take_off (is_in kept.now)) delta.old entries.now) }
+// Whether the entry's SYSMOD is kept and applied, or a kept one supersedes it.
+fn loses(kept: &IdList, entry: &Entry) -> bool
+    ensures { result ≡ loses (is_in kept.now) entry.now }
 {
-    for entry in entries {
-        take_off_one(alloc, kept, entry, delta)?;
-    }
-    Ok(())
+    (kept.contains(entry.id) && entry.applied.is_some()) || has_any(kept, entry.supby.as_slice())
 }
 
-fn take_off_one(
+fn has_any(kept: &IdList, ids: &[Id]) -> bool
+    ensures { result ≡ list_any (is_in kept.now) ids.now }
+{
+    ids.iter().any(|id| kept.contains(*id))
+}
+
+// Takes the kept SYSMODs out of the entry.
+fn take_off(
     alloc: Global,
     kept: &IdList,
     entry: &Entry,
@@ -71,15 +80,22 @@ fn take_off_one(
     delta.put_entry(less)
 }
 
-// Whether the entry's SYSMOD is kept and applied, or a kept one supersedes it.
-fn loses(kept: &IdList, entry: &Entry) -> bool
-    ensures { result ≡ loses (is_in kept.now) entry.now }
+// The element becomes the one of the other zone, or goes if that has none. One that is the same in both stays.
+fn put_back(
+    alloc: Global,
+    zone: &Zone,
+    accepted: &Zone,
+    key: (ElemType, Name),
+    delta: &mut ZoneDelta,
+) -> Result<(), AllocError>
+    ensures { OnOk result (PutsBack zone.now accepted.now key delta.old delta.new) }
 {
-    (kept.contains(entry.id) && entry.applied.is_some()) || has_any(kept, entry.supby.as_slice())
-}
-
-fn has_any(kept: &IdList, ids: &[Id]) -> bool
-    ensures { result ≡ list_any (is_in kept.now) ids.now }
-{
-    ids.iter().any(|id| kept.contains(*id))
+    let wanted = accepted.element(key.0, key.1);
+    if are_same(zone.element(key.0, key.1), wanted) {
+        return Ok(());
+    }
+    match wanted {
+        Some(element) => delta.put_element(element.try_clone(alloc)?),
+        None => delta.remove_element(key.0, key.1),
+    }
 }

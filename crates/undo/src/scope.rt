@@ -1,11 +1,11 @@
 //! What RESTORE looks into.
 ghost use Rattle.std.specs.Prelude.{◌≡◌, ◌++◌, [], ◌∷◌, not, filter, map, is_some, IfOk, OnOk};
-ghost use Rattle.terms.specs.Lookups.{is_supplied, applied_ids, changes_of, supby_of};
+ghost use Rattle.terms.specs.Lookups.{is_applied, is_supplied, applied_ids, changes_of};
 
 use fields::Id;
 use std::alloc::{AllocError, Global};
 use sysmod::ElemChange;
-use sysmods::VerChoice;
+use sysmods::{GlobalZone, VerChoice};
 use zones::{Entry, Zone};
 
 /// The `++VER`s that count, the target zone, its distribution zone, and the ids that are applied in the target zone,
@@ -17,26 +17,6 @@ pub struct Scope<'a, 'b> {
     pub accepted: &'a Zone,
     pub applied: &'a [Id],
     pub ghost has_applied: { applied.now ≡ applied_ids zone.now },
-}
-
-/// The element statements of a received SYSMOD.
-pub fn changes_of<'a>(vers: &VerChoice<'a>, id: Id) -> &'a [ElemChange]
-    ensures { result.now ≡ changes_of vers.now.global.now id }
-{
-    match vers.global().get(id) {
-        Some(sysmod) => sysmod.changes.as_slice(),
-        None => &[],
-    }
-}
-
-/// The SYSMODs that supersede the id in the zone.
-pub(crate) fn superseders(zone: &Zone, id: Id) -> &[Id]
-    ensures { result.now ≡ supby_of zone.now id }
-{
-    match zone.entry(id) {
-        Some(entry) => entry.supby.as_slice(),
-        None => &[],
-    }
 }
 
 fn push_if_applied(entry: &Entry, found: &mut Vec<Id>) -> Result<(), AllocError>
@@ -60,23 +40,32 @@ pub fn applied_ids(alloc: Global, zone: &Zone) -> Result<Vec<Id>, AllocError>
     Ok(found)
 }
 
-fn push_if_unaccepted(accepted: &Zone, id: Id, found: &mut Vec<Id>) -> Result<(), AllocError>
-    ensures { OnOk result (found.new.items ≡ found.old.items
-        ++ filter (λ y. not (is_supplied accepted.now y)) (id ∷ [])) }
+/// Those of these ids that are applied in the zone.
+pub(crate) fn applied_among(alloc: Global, zone: &Zone, ids: &[Id]) -> Result<Vec<Id>, AllocError>
+    ensures { IfOk result (λ found. found.items ≡ filter (is_applied zone.now) ids.now) }
 {
-    if !accepted.supplies(id) {
-        found.push(id)?;
-    }
-    Ok(())
+    ids.iter()
+        .filter(|id| zone.is_applied(**id))
+        .copied()
+        .collect(alloc)
 }
 
-/// Those of these ids that the distribution zone does not supply. An error comes where memory runs out.
-pub fn unaccepted(alloc: Global, accepted: &Zone, ids: &[Id]) -> Result<Vec<Id>, AllocError>
+/// Those of these ids that the distribution zone does not supply.
+pub(crate) fn unaccepted(alloc: Global, accepted: &Zone, ids: &[Id]) -> Result<Vec<Id>, AllocError>
     ensures { IfOk result (λ found. found.items ≡ filter (λ y. not (is_supplied accepted.now y)) ids.now) }
 {
-    let mut found = Vec::new(alloc);
-    for id in ids {
-        push_if_unaccepted(accepted, *id, &mut found)?;
+    ids.iter()
+        .filter(|id| !accepted.supplies(**id))
+        .copied()
+        .collect(alloc)
+}
+
+/// The element statements of a received SYSMOD.
+pub(crate) fn changes_of(global: &GlobalZone, id: Id) -> &[ElemChange]
+    ensures { result.now ≡ changes_of global.now id }
+{
+    match global.get(id) {
+        Some(sysmod) => sysmod.changes.as_slice(),
+        None => &[],
     }
-    Ok(found)
 }

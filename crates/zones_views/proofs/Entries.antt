@@ -4,7 +4,7 @@ use Rattle.std.specs.Ordering.{nat_cmp}
 use Rattle.std.specs.Cmp.Lexicographic.{slice_cmp}
 use Rattle.std.proofs.lemmas.List.Elements.{All-filter, All-map, All-weaker, filter_passes}
 use Rattle.std.proofs.lemmas.List.Kept.{AllPairs-filter}
-use Rattle.lemmas.proofs.Pairs.{pairs_map}
+use Rattle.terms.proofs.Pairs.{pairs_map}
 use Rattle.terms.specs.Types.{Id, Entry}
 use Rattle.terms.specs.Rising.{Rises}
 use Rattle.terms.specs.Lookups.{has_content, waives_applied, is_before}

@@ -6,7 +6,7 @@ use Rattle.std.specs.List.{list_any}
 use Rattle.std.specs.declared.cmp.Ordering.{Ordering}
 use Rattle.std.specs.Ordering.{is_lt, is_eq}
 use Rattle.std.specs.Cmp.{IsTotalOrder}
-use Rattle.lemmas.proofs.Pairs.{AllPairs_rest}
+use Rattle.terms.proofs.Pairs.{AllPairs_rest}
 use Rattle.terms.specs.Rising.{Rises}
 use Rattle.terms.specs.Lookups.{is_nil}
 use Rattle.terms.proofs.SameLists.{none_behind}

@@ -7,8 +7,8 @@ use Rattle.std.specs.Cmp.Lexicographic.{texts_ties}
 use Rattle.std.specs.Str.{bytes_eq}
 use Rattle.std.proofs.lemmas.Cmp.{nat_list_cmp_total}
 use Rattle.std.proofs.lemmas.Slice.Eq.{bytes_eq-Decides}
-use Rattle.lemmas.proofs.Pairs.{pairs_map}
-use Rattle.lemmas.proofs.Searches.{find_map, find_passes}
+use Rattle.terms.proofs.Pairs.{pairs_map}
+use Rattle.terms.proofs.Searches.{find_map, find_passes}
 use Rattle.terms.specs.declared.kinds.ElemType.{ElemType}
 use Rattle.terms.specs.Types.{Text, Id, Global, Entry, Element, Zone, Applied}
 use Rattle.terms.specs.Lookups.{is_nil, has_content, is_before, is_applied, is_supplied, entry_of, supby_of, element_of}

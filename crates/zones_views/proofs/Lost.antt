@@ -9,7 +9,7 @@ use Rattle.std.proofs.lemmas.List.Elements.{filter_agree}
 use Rattle.std.proofs.lemmas.List.Folds.{list_any_none}
 use Rattle.std.proofs.lemmas.Cmp.{nat_list_eq_equiv}
 use Rattle.std.proofs.lemmas.Slice.Eq.{bytes_eq-Decides}
-use Rattle.lemmas.proofs.Searches.{filter_none}
+use Rattle.terms.proofs.Searches.{filter_none}
 use Rattle.terms.specs.Types.{Id, Global, Entry, Zone}
 use Rattle.terms.specs.Lookups.{is_in, has_content, is_applied, supby_of, applied_ids, supplies}
 use Rattle.terms.specs.Choice.{Choice, del_of}
@@ -20,9 +20,9 @@ use Rattle.terms.proofs.Ids.{Contains_from_is_in, is_in_from_Contains}
 use Rattle.terms.proofs.NothingDeleted.{is_taken_out_none}
 use Rattle.zones_views.proofs.Flats.{filter_flat_map, filter_weaker}
 use Rattle.std.proofs.lemmas.Bool.{and_parts, and_from, or_left, or_right, or_cases}
-use Rattle.lemmas.proofs.Booleans.{same_truth}
-use Rattle.lemmas.proofs.Options.{is_some_unless}
-use Rattle.lemmas.proofs.Searches.{some_passes, passes_some}
+use Rattle.terms.proofs.Booleans.{same_truth}
+use Rattle.terms.proofs.Options.{is_some_unless}
+use Rattle.terms.proofs.Searches.{some_passes, passes_some}
 use Rattle.terms.proofs.Applied.{in_applied_ids}
 
 bytes_eq_same : (z : Id) → bytes_eq z z ≡ true

@@ -1,6 +1,6 @@
 -- Where no candidate names anything in DELETE, those of a chain name nothing there.
 use Rattle.std.proofs.Common.{◌≡◌, List, [], ◌∷◌, Contains, filter, refl}
-use Rattle.lemmas.proofs.Members.{here, filter_in, flat_in, in_flat, none_in_nil}
+use Rattle.terms.proofs.ListMembers.{here, filter_in, flat_in, in_flat, none_in_nil}
 use Rattle.terms.specs.Types.{Id}
 use Rattle.terms.specs.Lookups.{is_in}
 use Rattle.terms.specs.Choice.{Choice, del_of}

@@ -13,8 +13,8 @@ use Rattle.std.proofs.lemmas.List.Quantifiers.{position-Some}
 use Rattle.std.proofs.lemmas.List.Sums.{length-filter, count_by-le-length}
 use Rattle.std.proofs.lemmas.Option.{none-some}
 use Rattle.std.proofs.lemmas.Slice.Eq.{bytes_eq-Decides}
-use Rattle.lemmas.proofs.Pairs.{pairs_map}
-use Rattle.lemmas.proofs.Searches.{find_passes}
+use Rattle.terms.proofs.Pairs.{pairs_map}
+use Rattle.terms.proofs.Searches.{find_passes}
 use Rattle.terms.specs.Types.{Id, Sysmod, Global, Applied, Entry, Zone}
 use Rattle.terms.specs.Rising.{Rises}
 use Rattle.terms.specs.Global.{IsGlobal}
@@ -24,7 +24,7 @@ use Rattle.sysmods.specs.declared.choice.Pick.{Pick}
 use Rattle.sysmods.specs.Choices.{picked}
 use Rattle.zones_views.specs.Picks.{a_pick, is_further, kept_pick, fitting_pick}
 use Rattle.zones_views.proofs.Filtered.{passing, find_filter}
-use Rattle.lemmas.proofs.Searches.{find_mapped}
+use Rattle.terms.proofs.Searches.{find_mapped}
 
 -- what is found among some items stands at a place that they all have
 pub place_below : {X : Type 0} (p q : X → Bool) (xs : List X) (n : ℕ) → position p (filter q xs) ≡ Some n

@@ -1,7 +1,7 @@
 -- The requisites that hold a SYSMOD, from its ++VER.
 use Rattle.std.proofs.Common.{◌≡◌, List, [], ◌++◌, Option, None, not, filter, refl, sym, ap, ◌∙◌}
 use Rattle.std.specs.Option.{option_map_or}
-use Rattle.lemmas.proofs.Searches.{filter_all}
+use Rattle.terms.proofs.Searches.{filter_all}
 use Rattle.terms.specs.Types.{Id, Ver, Zone}
 use Rattle.terms.specs.Lookups.{is_in, entry_of}
 use Rattle.terms.specs.Choice.{pre_of, req_of, ifs_of}
@@ -9,7 +9,7 @@ use Rattle.terms.specs.Needs.{unwaived}
 use Rattle.sysmods.specs.Choices.{choice}
 use Rattle.zones_views.specs.declared.taking.Taking.{Taking}
 use Rattle.zones_views.specs.Gone.{stays, by_ifs, binding_of}
-use Rattle.lemmas.proofs.Lists.{flat_if}
+use Rattle.terms.proofs.Lists.{flat_if}
 
 -- what the zone does not have waives nothing
 pub unwaived_none : (zone : Zone) (by : Id) (ids : List Id) → None ≡ entry_of zone by → unwaived zone by ids ≡ ids

@@ -12,15 +12,9 @@ use Rattle.terms.specs.Install.{Installation, HasInstalled}
 use Rattle.change.specs.declared.deleting.Deleting.{Deleting}
 use Rattle.zones.specs.Differing.{ChangesEntry, HasEditedElements}
 use Rattle.change.specs.Plans.{installation, installation_of, IsFresh, IsPlan}
-use Rattle.change.specs.Superseded.{HaveSuperseded}
 use Rattle.change.proofs.AfterInstall.{installs}
 use Rattle.change.proofs.EffectiveIds.{members_are, effective_ordered, effective_base}
 use Rattle.change.proofs.installing.install.Goals as goal
-
-pub planned-requires : goal.planned-requires
-planned-requires c =
-    subst (λ v. HaveSuperseded (choice v) c.args.installing.now.kept.now c.args.installing.now.superseded.now)
-    (sym c.vers-vers.ensures) c.requires.superseded
 
 -- the plan is by the ++VERs that count
 planned_by : (c : goal.After-as_slice-6) → IsPlan (installation_of c.args.overs c.args.installing.now)

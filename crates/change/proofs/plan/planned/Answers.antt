@@ -16,14 +16,14 @@ returns c =
     let vers = c.args.vers.now in
     let i : Installation = installation_of vers c.args.installing.now in
     let dels = c.args.dels.now in
-    let effective = c.in_ok-effective.effective in
+    let effective = c.in_ok-effective.field-0.ids in
     let touched = c.in_ok-touched.touched in
-    let pairs = c.in_ok-pairs.pairs.items in
+    let pairs = c.in_ok-effective.field-0.superseded.items in
     let is_global : IsGlobal vers.global.now = rw c.global.ensures at c.attest.ensures in
     let never = never_itself vers.global.now vers.srel (choice vers) (looked_up vers) is_global.no_loop in
     let effect : (x : Id) → Contains effective x ↔ TakesEffect i x = λ x.
-    let un = c.in_ok-effective.ensures x in
-    let takes = takes_effect i c.args.installing.now.superseded.now never c.requires x in
+    let un = c.in_ok-effective.ensures.ids x in
+    let takes = takes_effect i never x in
     (λ h. takes.0 (un.0 h), λ h. un.1 (takes.1 h)) in
     subst (λ xs. IsPlan i dels (record {
       effective = xs;
@@ -32,8 +32,8 @@ returns c =
       touched = touched;
       date = i.date;
     })) (sym c.effective.view_is)
-    (is_plan i dels effective touched c.args.installing.now.superseded.now pairs c.in_ok-grouped_by_second.field-0
-    c.in_ok-grouped.field-0 effect c.requires c.in_ok-pairs.ensures
+    (is_plan i dels effective touched pairs c.in_ok-grouped_by_second.field-0
+    c.in_ok-grouped.field-0 effect c.in_ok-effective.ensures.superseded
     (subst (λ ids. (x : Id) → Contains touched x ↔ Contains ids x)
     (ap₂ (λ xs ys. xs ++ ys)
     (ap₂ (λ xs ys. map (λ p. p.1) xs ++ ys) c.as_slice-2.ensures.value c.as_slice.ensures.items)

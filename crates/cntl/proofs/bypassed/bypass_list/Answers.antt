@@ -1,6 +1,6 @@
 use Rattle.std.proofs.Common.{sym, subst}
 use Rattle.std.proofs.lemmas.Result.{IfOk-weaker}
-use Rattle.operands.specs.Left.{AreNamed}
+use Rattle.rec80.specs.Left.{AreNamed}
 use Rattle.rec80.specs.Cursors.{text_of}
 use Rattle.cntl.proofs.Bypassing.{bypass_list}
 use Rattle.cntl.proofs.bypassed.bypass_list.Goals as goal

@@ -1,5 +1,5 @@
 use Rattle.std.proofs.lemmas.Result.{err_from_is_err_and}
-use Rattle.operands.proofs.Failing.{excludes_more}
+use Rattle.rec80.proofs.Failing.{excludes_more}
 use Rattle.cntl.proofs.bypassed.bypassed.Goals as goal
 
 pub returns-in_err-member_flag-5-clause-bad : goal.returns-in_err-member_flag-5-clause-bad

@@ -5,7 +5,7 @@ use Rattle.std.proofs.lemmas.Result.{err_from_is_err_and}
 use Rattle.terms.specs.Forms.{IsClass, IsReason}
 use Rattle.terms.proofs.ExactOperands.{has_sorted_only}
 use Rattle.rec80.specs.Views.{word_of}
-use Rattle.operands.proofs.Failing.{excludes_more}
+use Rattle.rec80.proofs.Failing.{excludes_more}
 use Rattle.cntl.proofs.Bypassing.{sorted_classes, sorted_reasons}
 use Rattle.cntl.proofs.bypassed.reason_list.Goals as goal
 

@@ -5,8 +5,8 @@ use Rattle.terms.specs.CommandForms.{members_of}
 use Rattle.terms.specs.Commands.{runs_from, runs_in}
 use Rattle.terms.specs.Operands.{is_often}
 use Rattle.terms.proofs.ExactBypass.{none_single, names_some}
-use Rattle.lemmas.proofs.Each.{All_unmap}
-use Rattle.lemmas.proofs.Searches.{list_any_map}
+use Rattle.terms.proofs.Each.{All_unmap}
+use Rattle.terms.proofs.Searches.{list_any_map}
 use Rattle.rec80.specs.Cursors.{text_of}
 use Rattle.cntl.proofs.doubles.has_member_twice.Goals as goal
 

@@ -2,7 +2,7 @@ use Rattle.std.proofs.Common.{◌≡◌, ◌<◌, ◌∙◌, length, map, refl, 
 use Rattle.std.proofs.lemmas.List.{length-map}
 use Rattle.std.specs.Prelude.{All}
 use Rattle.terms.specs.Lookups.{IsRising}
-use Rattle.solve.specs.Rows.{row_at}
+use Rattle.decide.specs.Rows.{row_at}
 use Rattle.decide.specs.Numbered.{need_of}
 use Rattle.decide.specs.Open.{HaveOpen}
 use Rattle.decide.proofs.CandidateIds.{causers_within}

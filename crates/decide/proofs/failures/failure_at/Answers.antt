@@ -1,6 +1,6 @@
 use Rattle.std.proofs.Common.{◌<◌, length, subst, arith}
 use Rattle.std.specs.Prelude.{All}
-use Rattle.solve.proofs.Added.{row_at_read}
+use Rattle.decide.proofs.Added.{row_at_read}
 use Rattle.decide.proofs.failures.failure_at.Goals as goal
 
 pub failure_of-requires : goal.failure_of-requires

@@ -1,8 +1,8 @@
 use Rattle.std.proofs.Common.{◌++◌, ◌∙◌, sym, ap}
 use Rattle.std.proofs.lemmas.List.Folds.{list_any_none}
-use Rattle.solve.specs.Problem.{holds}
-use Rattle.solve.specs.NumberedNeed.{numbered}
-use Rattle.solve.specs.Rows.{row_at}
+use Rattle.decide.specs.Problem.{holds}
+use Rattle.decide.specs.NumberedNeed.{numbered}
+use Rattle.decide.specs.Rows.{row_at}
 use Rattle.decide.proofs.Opened.{row_pushed, open_where}
 use Rattle.decide.proofs.needs.add_open.Goals as goal
 

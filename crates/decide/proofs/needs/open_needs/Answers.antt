@@ -3,7 +3,7 @@ use Rattle.std.specs.Option.{option_map}
 use Rattle.std.proofs.lemmas.Grind.{common_steps}
 use Rattle.std.proofs.lemmas.List.{length-map}
 use Rattle.std.proofs.lemmas.Option.{slice_get_read, slice_get-map}
-use Rattle.solve.specs.NumberedNeed.{numbered}
+use Rattle.decide.specs.NumberedNeed.{numbered}
 use Rattle.decide.specs.Numbered.{need_of}
 use Rattle.decide.specs.Open.{HaveOpen}
 use Rattle.decide.proofs.Opened.{open_next}

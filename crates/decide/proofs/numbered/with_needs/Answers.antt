@@ -1,6 +1,6 @@
 use Rattle.std.proofs.Common.{◌≤◌, length, arith, subst, take_all}
 use Rattle.std.specs.Prelude.{Contains}
-use Rattle.lemmas.proofs.Places.{All-found}
+use Rattle.terms.proofs.Places.{All-found}
 use Rattle.decide.specs.declared.stated.Need.{Need}
 use Rattle.decide.specs.Numbered.{HasNumberedNeeds}
 use Rattle.decide.proofs.NumberedNeeds.{needs_next}

@@ -1,7 +1,7 @@
 use Rattle.std.proofs.Common.{◌≤◌, length, refl, arith, subst, sym, take, take_all, Contains}
 use Rattle.std.proofs.lemmas.Option.{slice_get_read}
-use Rattle.lemmas.proofs.Lists.{front_more}
-use Rattle.lemmas.proofs.Places.{All-found}
+use Rattle.terms.proofs.Lists.{front_more}
+use Rattle.terms.proofs.Places.{All-found}
 use Rattle.terms.specs.Types.{Id}
 use Rattle.decide.specs.Serving.{AddsSuperseded}
 use Rattle.decide.proofs.CandidateIds.{one_number}

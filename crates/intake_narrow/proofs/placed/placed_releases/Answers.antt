@@ -1,6 +1,6 @@
 use Rattle.std.proofs.Common.{◌++◌, ◌∷◌, [], ◌+◌, take, inl, subst, sym, arith}
 use Rattle.std.specs.Prelude.{All}
-use Rattle.lemmas.proofs.BesideLists.{all_through}
+use Rattle.terms.proofs.BesideLists.{all_through}
 use Rattle.mcs.specs.declared.hold_item.HoldItem.TheVariants.{Release}
 use Rattle.intake_narrow.specs.Holds.{IsReleased, IsStatedRelease}
 use Rattle.intake_narrow.specs.Gathered.{placed_items}

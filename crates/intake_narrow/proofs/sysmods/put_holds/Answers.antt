@@ -1,6 +1,6 @@
 use Rattle.std.proofs.Common.{ap, sym, length, inl, arith, ◌∙◌}
 use Rattle.std.proofs.lemmas.Option.{same_Some}
-use Rattle.lemmas.proofs.BesideLists.{all_through}
+use Rattle.terms.proofs.BesideLists.{all_through}
 use Rattle.terms.specs.Types.{Sysmod}
 use Rattle.intake_narrow.specs.Holds.{IsHeldBy}
 use Rattle.intake_narrow.specs.Gathered.{placed_items}

@@ -1,5 +1,5 @@
 use Rattle.std.proofs.Common.{ap, length, subst, take, arith, ◌∙◌}
-use Rattle.lemmas.proofs.BesideLists.{all_next, all_through}
+use Rattle.terms.proofs.BesideLists.{all_next, all_through}
 use Rattle.terms.specs.Types.{Sysmod}
 use Rattle.intake_sysmod.specs.Elements.{Changes, IsChanged}
 use Rattle.intake_sysmod.proofs.Changed.{changed_after}

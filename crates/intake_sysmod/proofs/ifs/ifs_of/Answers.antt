@@ -1,5 +1,5 @@
 use Rattle.std.proofs.Common.{arith}
-use Rattle.lemmas.proofs.BesideLists.{beside_next}
+use Rattle.terms.proofs.BesideLists.{beside_next}
 use Rattle.intake_sysmod.specs.NoLooser.{IsIf}
 use Rattle.intake_sysmod.proofs.ifs.ifs_of.Goals as goal
 

@@ -1,5 +1,5 @@
 use Rattle.std.proofs.Common.{take}
-use Rattle.lemmas.specs.Beside.{Beside}
+use Rattle.terms.specs.Beside.{Beside}
 use Rattle.intake_sysmod.specs.NoLooser.{IsIf}
 use Rattle.intake_sysmod.proofs.ifs.ifs_of.Given as goal
 

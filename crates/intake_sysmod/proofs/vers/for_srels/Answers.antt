@@ -1,5 +1,5 @@
 use Rattle.std.proofs.Common.{ap, length, arith, ◌∙◌}
-use Rattle.lemmas.proofs.BesideLists.{beside_next, beside_through}
+use Rattle.terms.proofs.BesideLists.{beside_next, beside_through}
 use Rattle.intake_sysmod.specs.NoLooser.{IsVer}
 use Rattle.intake_sysmod.proofs.VersMore.{ver_made}
 use Rattle.intake_sysmod.proofs.vers.for_srels.Goals as goal

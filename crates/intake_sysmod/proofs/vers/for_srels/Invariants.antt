@@ -1,5 +1,5 @@
 use Rattle.std.proofs.Common.{take}
-use Rattle.lemmas.specs.Beside.{Beside}
+use Rattle.terms.specs.Beside.{Beside}
 use Rattle.intake_sysmod.specs.NoLooser.{IsVer}
 use Rattle.intake_sysmod.proofs.vers.for_srels.Given as goal
 

@@ -14,5 +14,11 @@ returns-then-branch-2-clause-fits c ordered =
     ((rw c.in_ok-is_at_end.ensures.same at c.in_ok-is_in_front.ensures.fits) c.if-branch-2.true ordered)
 
 pub returns-clause-fits : goal.returns-clause-fits
-returns-clause-fits c =
-    rw (c.in_ok-is_in_front.ensures.same ∙ c.in_ok-is_at_end.ensures.same) at c.place_inside.ensures.fits
+returns-clause-fits c ordered =
+    let same = c.in_ok-is_below.ensures.same ∙ c.in_ok-is_in_front.ensures.same ∙ c.in_ok-is_at_end.ensures.same in
+    record {
+      within = c.in_ok-place.ensures.within;
+      front = (rw same at c.in_ok-place.ensures.front) ordered;
+      back = (rw (c.in_ok-place.ensures.same ∙ same) at c.in_ok-is_in_front-2.ensures.fits) c.if-not-branch-2.false
+          ordered;
+    }

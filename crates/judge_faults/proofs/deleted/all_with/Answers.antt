@@ -2,7 +2,7 @@ use Rattle.std.proofs.Common.{length, refl, arith}
 use Rattle.std.proofs.lemmas.Option.{slice_get_read}
 use Rattle.sysmods.specs.Choices.{choice}
 use Rattle.judge_faults.specs.Deletes.{IsMarked}
-use Rattle.lemmas.proofs.BesideLists.{beside_at, beside_through}
+use Rattle.terms.proofs.BesideLists.{beside_at, beside_through}
 use Rattle.judge_faults.proofs.deleted.all_with.Goals as goal
 
 pub loop-i-preserved : goal.loop-i-preserved

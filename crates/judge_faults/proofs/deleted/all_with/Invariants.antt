@@ -1,6 +1,6 @@
 use Rattle.std.proofs.Common.{take}
 use Rattle.sysmods.specs.Choices.{choice}
-use Rattle.lemmas.specs.Beside.{Beside}
+use Rattle.terms.specs.Beside.{Beside}
 use Rattle.judge_faults.specs.Deletes.{IsMarked}
 use Rattle.judge_faults.proofs.deleted.all_with.Given as goal
 

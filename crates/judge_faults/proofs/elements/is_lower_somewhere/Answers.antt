@@ -2,7 +2,7 @@ use Rattle.std.proofs.Common.{◌≤◌, length, arith, subst, sym, true≢false
 use Rattle.sysmods.specs.Choices.{choice}
 use Rattle.judge_faults.specs.Own.{IsLowerAt}
 use Rattle.judge_faults.specs.Views.{seen}
-use Rattle.lemmas.proofs.BesideLists.{all_next, all_through}
+use Rattle.terms.proofs.BesideLists.{all_next, all_through}
 use Rattle.judge_faults.proofs.elements.is_lower_somewhere.Goals as goal
 
 pub loop-change-preserved : goal.loop-change-preserved

@@ -1,7 +1,7 @@
 use Rattle.std.proofs.Common.{◌≤◌, length, arith, subst, sym, true≢false, refl, ◌∙◌}
 use Rattle.terms.specs.Over.{IsOver}
 use Rattle.sysmods.specs.Choices.{choice}
-use Rattle.lemmas.proofs.BesideLists.{all_next, all_through}
+use Rattle.terms.proofs.BesideLists.{all_next, all_through}
 use Rattle.judge_faults.proofs.elements.is_not_over_one.Goals as goal
 
 pub loop-other-preserved : goal.loop-other-preserved

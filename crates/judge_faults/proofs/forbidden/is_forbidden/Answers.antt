@@ -20,8 +20,9 @@ returns-else-any_applied c =
     let view = c.args.view.now in
     let g = view.vers.now.global.now in (
       λ on. forbidden_listed g (choice view.vers.now) view.dels.now view.zone.now c.args.forbidders.now c.requires
-          c.args.id (sym c.any_forbidder.ensures ∙ on),
-      λ forbidden. c.any_forbidder.ensures
+          c.args.id (ap (list_any (is_applied (seen view))) (sym c.listed.ensures)
+          ∙ sym c.any_applied-else-any_applied.ensures ∙ on),
+      λ forbidden. c.any_applied-else-any_applied.ensures ∙ ap (list_any (is_applied (seen view))) c.listed.ensures
           ∙ forbidden_else g (choice view.vers.now) view.dels.now view.zone.now c.args.forbidders.now c.requires
           c.attest.ensures c.args.id
           (ap (list_any (is_applied (seen view))) (sym c.npre.ensures) ∙ sym c.any_applied.ensures

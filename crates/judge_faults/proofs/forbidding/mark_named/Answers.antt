@@ -1,8 +1,11 @@
 use Rattle.std.proofs.Common.{◌≡◌, ◌∙◌, arith, refl, true, true≢false, subst, sym}
 use Rattle.std.specs.Str.{bytes_eq}
 use Rattle.std.proofs.lemmas.Option.{slice_get_within}
-use Rattle.lemmas.proofs.Texts.{same_itself}
-use Rattle.judge_faults.proofs.Naming.{named_none, named_there}
+use Rattle.terms.proofs.TextOrder.{same_itself}
+use Rattle.std.specs.Prelude.{nat_eq}
+use Rattle.std.proofs.lemmas.Bool.{eqb-true}
+use Rattle.judge_faults.proofs.Marks.{marks_insert}
+use Rattle.judge_faults.proofs.Naming.{either_marked, named_none, named_there}
 use Rattle.judge_faults.proofs.forbidding.mark_named.Goals as goal
 
 pub overflow_cast-other : goal.overflow_cast-other
@@ -13,11 +16,17 @@ overflow_cast-other c =
 
 pub returns : goal.returns
 returns c =
+    let old = c.args.marked.now.keys in
+    let middle = c.insert.new.self.keys in
+    let new = c.insert-2.new.self.keys in
     named_there c.args.ids.now c.args.faults.now c.args.place c.in-Some.other c.args.id c.args.named
-    c.args.marked.now.keys c.mark_both.new.marked.keys
+    old new
     (λ same. true≢false (sym (c.eq.ensures ∙ subst (λ x. bytes_eq c.args.id x ≡ true) same (same_itself c.args.id))
     ∙ c.if-eq.false))
-    (rw c.in-Some.is at c.passing_place.ensures) c.in_ok-mark_both.ensures
+    (rw c.in-Some.is at c.passing_place.ensures)
+    (either_marked c.args.place c.in-Some.other old middle new
+    (marks_insert nat_eq eqb-true old middle c.args.place c.in_ok-insert.ensures.keys)
+    (marks_insert nat_eq eqb-true middle new c.in-Some.other c.in_ok-insert-2.ensures.keys))
 
 pub returns-in_default : goal.returns-in_default
 returns-in_default c =

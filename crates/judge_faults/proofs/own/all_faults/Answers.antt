@@ -3,7 +3,7 @@ use Rattle.std.specs.Prelude.{option_copied}
 use Rattle.terms.specs.Deleted.{deletions}
 use Rattle.zones_views.specs.Scopes.{choice_of, setting_with}
 use Rattle.judge_faults.specs.Own.{HasFaults}
-use Rattle.lemmas.proofs.BesideLists.{beside_next, beside_through}
+use Rattle.terms.proofs.BesideLists.{beside_next, beside_through}
 use Rattle.judge_faults.proofs.own.all_faults.Goals as goal
 
 pub own_faults-requires : goal.own_faults-requires

@@ -1,5 +1,5 @@
 use Rattle.std.proofs.Common.{◌≡◌, take}
-use Rattle.lemmas.specs.Beside.{Beside}
+use Rattle.terms.specs.Beside.{Beside}
 use Rattle.judge_faults.specs.Rows.{row_of}
 use Rattle.judge_faults.proofs.rows.all_rows.Given as goal
 

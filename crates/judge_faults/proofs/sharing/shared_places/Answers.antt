@@ -1,21 +1,35 @@
-use Rattle.std.proofs.Common.{ℕ, Contains}
+use Rattle.std.proofs.Common.{◌≤◌, ◌∙◌, ℕ, Contains, length, take_all, subst, arith}
 use Rattle.std.specs.Prelude.{◌↔◌}
-use Rattle.std.proofs.lemmas.Result.{IfOk-weaker}
 use Rattle.sysmods.specs.Choices.{choice}
-use Rattle.judge_faults.specs.Sharing.{IsClashing}
+use Rattle.judge_faults.specs.Sharing.{IsAmong, ClashesOnOne}
 use Rattle.judge_faults.proofs.Clashing.{clashing_at}
+use Rattle.judge_faults.proofs.Runs.{split_next, run_next}
 use Rattle.judge_faults.proofs.sharing.shared_places.Goals as goal
 
+pub loop-start-preserved : goal.loop-start-preserved
+loop-start-preserved c =
+    let claims = c.as_slice-claims.result.now in
+    let start = c.loop-start.start in
+    let end = c.run_end-end.result in
+    let grouped = rw (← c.as_slice-claims.ensures.value) at c.in_ok-all.ensures.grouped in
+    record {
+      same = c.in_ok-mark_run.ensures.same ∙ c.loop-start.invariant.same;
+      within = c.run_end-end.ensures.within;
+      split = split_next claims start end grouped c.run_end-end.ensures c.loop-start.invariant.split;
+      marks = run_next c.args.overs.now.global.now (choice c.args.overs.now) claims start end c.loop-start.shared.keys
+          c.mark_run.new.shared.keys c.run_end-end.ensures c.loop-start.invariant.split
+          (rw c.loop-start.invariant.same at c.in_ok-mark_run.ensures.marks)
+          c.loop-start.invariant.marks;
+    }
+
 pub returns-clause-shared : goal.returns-clause-shared
-returns-clause-shared c =
+returns-clause-shared c n =
     let g = c.args.overs.now.global.now in
     let choices = choice c.args.overs.now in
-    let ids = c.args.ids.now in
-    let faults = c.args.faults.now in
-    let claims = c.in_ok-claims.claims.items in
-    IfOk-weaker c.shared_among.result _ (λ shared. (n : ℕ) → Contains shared.keys n ↔ IsClashing g choices ids faults n)
-    (λ shared told n.
-    let both = clashing_at g choices ids faults claims (rw (c.global.ensures, c.vers.ensures) at c.in_ok-claims.ensures.are) n in
-    let marks = told n in
-    (λ there. both.0 (marks.0 there), λ clash. marks.1 (both.1 clash)))
-    (rw c.as_slice.ensures.value at c.shared_among.ensures.shared)
+    let claims = c.as_slice-claims.result.now in
+    let whole : length claims ≤ c.loop-start.start = omega arith in
+    let marks = (subst (λ l. (n : ℕ) → Contains c.loop-start.shared.keys n ↔ IsAmong (ClashesOnOne g choices) l n)
+    (take_all c.loop-start.start claims whole) c.loop-start.invariant.marks) n in
+    let both = clashing_at g choices c.args.ids.now c.args.faults.now claims
+    (rw (c.global.ensures, c.vers.ensures, ← c.as_slice-claims.ensures.value) at c.in_ok-all.ensures.are) n in
+    (λ there. both.0 (marks.0 there), λ clash. marks.1 (both.1 clash))

@@ -1,4 +1,4 @@
-use Rattle.std.proofs.Common.{◌∙◌, All, arith, subst, sym}
+use Rattle.std.proofs.Common.{◌∙◌, All, ap, arith, length, subst, sym}
 use Rattle.terms.specs.Candidates.{is_installable}
 use Rattle.std.specs.Prelude.{IsTrue, option_copied}
 use Rattle.terms.specs.Global.{IsGlobal}
@@ -18,6 +18,13 @@ prove-unreachable-requires c =
       few g zone (rw c.global.ensures at c.attest.ensures) c.as_slice-list.result.now c.as_slice-list.ensures.rising
           (subst (All (λ x. IsTrue (is_installable g zone x))) (sym c.as_slice-list.ensures.items) c.requires),
     )
+
+pub clashing_places-requires : goal.clashing_places-requires
+clashing_places-requires c = record {
+  rising = c.as_slice-list.ensures.rising;
+  lengths = ap length c.as_slice-2.ensures.value ∙ c.in_ok-faults.ensures.2.lengths;
+  fits = omega (arith, c.if-prove.false);
+}
 
 pub returns-clause-tests : goal.returns-clause-tests
 returns-clause-tests c =

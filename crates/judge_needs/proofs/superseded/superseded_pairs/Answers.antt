@@ -1,21 +1,14 @@
-use Rattle.std.proofs.Common.{◌≤◌, ◌∙◌, length, take_all, arith, subst}
-use Rattle.terms.specs.Over.{Supersedes}
 use Rattle.sysmods.specs.Choices.{choice}
-use Rattle.judge_needs.specs.Pairs.{AreSuperseded}
-use Rattle.judge_needs.proofs.Paired.{pairs_next}
+use Rattle.judge_needs.proofs.Closing.{pairs_needed, none_needed}
 use Rattle.judge_needs.proofs.superseded.superseded_pairs.Goals as goal
 
-pub loop-id-preserved : goal.loop-id-preserved
-loop-id-preserved c = record {
-  known = c.in_ok-add_superseded.ensures.known;
-  pairs = pairs_next (Supersedes (choice c.args.vers.now)) c.as_slice-id-items.result.now c.loop-id.id-index c.id-item.result
-      c.loop-id.pairs.items c.add_superseded.new.pairs.items (omega arith) c.id-item.is c.in_ok-add_superseded.ensures.adds
-      c.loop-id.invariant.pairs;
-}
+pub returns-then-is_empty : goal.returns-then-is_empty
+returns-then-is_empty c =
+    none_needed c.args.needs.now c.from_vec-needed.result (rw c.in_ok-needed_ids.ensures at c.from_vec-needed.ensures)
+    (choice c.args.vers.now) c.args.ids.now c.new.result.items (c.is_empty.ensures.0 c.if-is_empty.true)
+    c.new.ensures.items
 
 pub returns : goal.returns
 returns c =
-    let whole : length c.as_slice-id-items.result.now ≤ c.loop-id.id-index = omega arith in
-    subst (λ l. AreSuperseded (choice c.args.vers.now) l c.loop-id.pairs.items)
-    (take_all c.loop-id.id-index c.as_slice-id-items.result.now whole ∙ c.as_slice-id-items.ensures.items)
-    c.loop-id.invariant.pairs
+    pairs_needed c.args.needs.now c.from_vec-needed.result (rw c.in_ok-needed_ids.ensures at c.from_vec-needed.ensures)
+    (choice c.args.vers.now) c.args.ids.now c.in_ok-pairs.pairs.items c.in_ok-pairs.ensures

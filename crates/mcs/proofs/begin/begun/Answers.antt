@@ -27,5 +27,5 @@ returns-clause-ok c =
       t.0,
       known_word c.args.group.now.records.now s.0 c.next_word.new.self.inline.now (word_of c.in-Ok-Some.first) t.0
           c.in-Some.word (rw c.next_word.ensures.inline s.1) t.1 c.in-Some.ensures.found,
-      t.2,
+      c.in_ok-operands.ensures t.0 t.2,
     )

@@ -11,15 +11,15 @@ use Rattle.mcs.proofs.change.change_statement.Goals as goal
 pub returns-in_default-clause-fault : goal.returns-in_default-clause-fault
 returns-in_default-clause-fault c = λ rest h.
     change_excludes (sysmod_in (begun_in c.args.current.now)) c.args.known.now.word (own_list c.args.known.now) rest
-    c.args.known.now.rest.inline.now c.args.elem_type (ap changed_type c.requires)
-    (λ ws ch hw r. names_excluded c.args.known.now.word (own_list c.args.known.now) ws c.args.known.now.rest.inline.now
+    c.args.known.now.inline.now c.args.elem_type (ap changed_type c.requires)
+    (λ ws ch hw r. names_excluded c.args.known.now.word (own_list c.args.known.now) ws c.args.known.now.inline.now
     c.args.elem_type ch c.requires
     (λ name distlib syslib n. c.in_default.ensures.none rest h ws name distlib syslib hw n) r)
 
 pub returns-then-not-is_within-clause-fault : goal.returns-then-not-is_within-clause-fault
 returns-then-not-is_within-clause-fault c = λ rest h.
     let n = c.in-Some.ensures.some rest h in
-    let inline = c.args.known.now.rest.inline.now in (
+    let inline = c.args.known.now.inline.now in (
       SaysChange (a_change c.args.elem_type c.in-Some.names.name c.in-Some.names.distlib c.in-Some.names.syslib inline),
       change_value (sysmod_in (begun_in c.args.current.now)) c.args.known.now.word (own_list c.args.known.now) rest
           inline inline c.args.elem_type n.0 c.in-Some.names.name c.in-Some.names.distlib c.in-Some.names.syslib
@@ -30,7 +30,7 @@ returns-then-not-is_within-clause-fault c = λ rest h.
 pub returns-in-Err-clause-fault : goal.returns-in-Err-clause-fault
 returns-in-Err-clause-fault c = λ rest h.
     let n = c.in-Some.ensures.some rest h in
-    let inline = c.args.known.now.rest.inline.now in
+    let inline = c.args.known.now.inline.now in
     let value = change_value (sysmod_in (begun_in c.args.current.now)) c.args.known.now.word (own_list c.args.known.now)
     rest inline inline c.args.elem_type n.0 c.in-Some.names.name c.in-Some.names.distlib c.in-Some.names.syslib
     c.requires n.1 n.2 refl in
@@ -41,7 +41,7 @@ returns-in-Err-clause-fault c = λ rest h.
 pub returns-clause-said : goal.returns-clause-said
 returns-clause-said c = λ rest h.
     let n = c.in-Some.ensures.some rest h in
-    let inline = c.args.known.now.rest.inline.now in record {
+    let inline = c.args.known.now.inline.now in record {
       value = change_value (sysmod_in (begun_in c.args.current.now)) c.args.known.now.word (own_list c.args.known.now)
           rest inline c.in-Ok.lines.items c.args.elem_type n.0 c.in-Some.names.name c.in-Some.names.distlib
           c.in-Some.names.syslib c.requires n.1 n.2 c.in-Ok.ensures.text;

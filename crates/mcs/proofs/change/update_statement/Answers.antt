@@ -7,21 +7,21 @@ use Rattle.mcs.specs.Files.{begun_in}
 use Rattle.mcs.proofs.Changing.{an_update, update_value, no_update, update_fault, update_from}
 use Rattle.mcs.proofs.change.update_statement.Goals as goal
 
-pub returns-then-not-is_ended-clause-fault : goal.returns-then-not-is_ended-clause-fault
-returns-then-not-is_ended-clause-fault c = λ rest h.
+pub returns-then-not-is_empty-clause-fault : goal.returns-then-not-is_empty-clause-fault
+returns-then-not-is_empty-clause-fault c = λ rest h.
     no_update (sysmod_in (begun_in c.args.current.now)) c.args.known.now.word (own_list c.args.known.now) rest
-    c.args.known.now.rest.inline.now c.args.elem_type c.requires
-    (λ name own none. true≢false (sym ((c.is_ended.ensures rest h).1 none) ∙ c.if-not-is_ended.true))
+    c.args.known.now.inline.now c.args.elem_type c.requires
+    (λ name own none. true≢false (sym ((c.is_empty.ensures rest h).1 none) ∙ c.if-not-is_empty.true))
 
 pub returns-in_default-clause-fault : goal.returns-in_default-clause-fault
 returns-in_default-clause-fault c = λ rest h.
     no_update (sysmod_in (begun_in c.args.current.now)) c.args.known.now.word (own_list c.args.known.now) rest
-    c.args.known.now.rest.inline.now c.args.elem_type c.requires (λ name own none. c.in_default.ensures.none name own)
+    c.args.known.now.inline.now c.args.elem_type c.requires (λ name own none. c.in_default.ensures.none name own)
 
 pub returns-then-not-is_within-clause-fault : goal.returns-then-not-is_within-clause-fault
 returns-then-not-is_within-clause-fault c = λ rest h.
-    let inline = c.args.known.now.rest.inline.now in
-    let end = (c.is_ended.ensures rest h).0 c.if-not-is_ended.false in (
+    let inline = c.args.known.now.inline.now in
+    let end = (c.is_empty.ensures rest h).0 c.if-not-is_empty.false in (
       SaysChange (an_update c.args.elem_type c.in-Some.name inline),
       update_value (sysmod_in (begun_in c.args.current.now)) c.args.known.now.word (own_list c.args.known.now) rest
           inline inline c.args.elem_type c.in-Some.name c.requires end c.in-Some.ensures.one refl,
@@ -30,8 +30,8 @@ returns-then-not-is_within-clause-fault c = λ rest h.
 
 pub returns-in-Err-clause-fault : goal.returns-in-Err-clause-fault
 returns-in-Err-clause-fault c = λ rest h.
-    let inline = c.args.known.now.rest.inline.now in
-    let end = (c.is_ended.ensures rest h).0 c.if-not-is_ended.false in
+    let inline = c.args.known.now.inline.now in
+    let end = (c.is_empty.ensures rest h).0 c.if-not-is_empty.false in
     let value = update_value (sysmod_in (begun_in c.args.current.now)) c.args.known.now.word (own_list c.args.known.now)
     rest inline inline c.args.elem_type c.in-Some.name c.requires end c.in-Some.ensures.one refl in
     update_fault (begun_in c.args.current.now) c.args.known.now.word (own_list c.args.known.now) rest inline
@@ -40,8 +40,8 @@ returns-in-Err-clause-fault c = λ rest h.
 
 pub returns-clause-said : goal.returns-clause-said
 returns-clause-said c = λ rest h.
-    let inline = c.args.known.now.rest.inline.now in
-    let end = (c.is_ended.ensures rest h).0 c.if-not-is_ended.false in record {
+    let inline = c.args.known.now.inline.now in
+    let end = (c.is_empty.ensures rest h).0 c.if-not-is_empty.false in record {
       value = update_value (sysmod_in (begun_in c.args.current.now)) c.args.known.now.word (own_list c.args.known.now)
           rest inline c.in-Ok.update c.args.elem_type c.in-Some.name c.requires end c.in-Some.ensures.one
           c.in-Ok.ensures.text;

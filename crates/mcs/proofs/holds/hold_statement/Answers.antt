@@ -8,19 +8,19 @@ use Rattle.mcs.proofs.holds.hold_statement.Goals as goal
 
 pub returns-in_default-clause-fault : goal.returns-in_default-clause-fault
 returns-in_default-clause-fault c = λ rest h printable. hold_outside (begun_in c.args.current.now) c.args.known.now.word
-    (own_list c.args.known.now) rest c.args.known.now.rest.inline.now (ap begun_in c.in_default.is) c.requires
+    (own_list c.args.known.now) rest c.args.known.now.inline.now (ap begun_in c.in_default.is) c.requires
 
 pub returns-in-Err-clause-fault : goal.returns-in-Err-clause-fault
 returns-in-Err-clause-fault c = λ rest h printable.
     rw c.no_value.ensures (hold_error (begun_in c.args.current.now) (begun_of c.in-Some.begun) c.args.known.now.word
-    (own_list c.args.known.now) rest c.args.known.now.rest.inline.now c.in-Err.error (ap begun_in c.in-Some.is)
+    (own_list c.args.known.now) rest c.args.known.now.inline.now c.in-Err.error (ap begun_in c.in-Some.is)
     c.requires (c.in-Err.ensures.bad rest h printable))
 
 pub returns-then-not-has_short_comment-clause-fault : goal.returns-then-not-has_short_comment-clause-fault
 returns-then-not-has_short_comment-clause-fault c = λ rest h printable. (
   SaysHold c.in-Ok.hold,
   hold_value (begun_in c.args.current.now) (begun_of c.in-Some.begun) c.args.known.now.word (own_list c.args.known.now)
-      rest c.args.known.now.rest.inline.now c.in-Ok.hold (ap begun_in c.in-Some.is) c.requires
+      rest c.args.known.now.inline.now c.in-Ok.hold (ap begun_in c.in-Some.is) c.requires
       (c.in-Ok.ensures.ok rest h),
   λ within. true≢false (sym (c.has_short_comment.ensures.1 within) ∙ c.if-not-has_short_comment.true),
 )
@@ -28,5 +28,5 @@ returns-then-not-has_short_comment-clause-fault c = λ rest h printable. (
 pub returns-clause-said : goal.returns-clause-said
 returns-clause-said c = λ rest h.
     hold_said (begun_in c.args.current.now) (begun_of c.in-Some.begun) c.args.known.now.word (own_list c.args.known.now)
-    rest c.args.known.now.rest.inline.now c.in-Ok.hold (ap begun_in c.in-Some.is) c.requires
+    rest c.args.known.now.inline.now c.in-Ok.hold (ap begun_in c.in-Some.is) c.requires
     (c.in-Ok.ensures.ok rest h) (c.has_short_comment.ensures.0 c.if-not-has_short_comment.false)

@@ -4,7 +4,7 @@ use Rattle.terms.specs.Types.{Hold}
 use Rattle.terms.specs.Words.{Word, HasWords}
 use Rattle.terms.specs.HoldStatements.{IsHoldOf}
 use Rattle.mcs.specs.KnownWords.{own_list}
-use Rattle.operands.proofs.Failing.{excludes_more}
+use Rattle.rec80.proofs.Failing.{excludes_more}
 use Rattle.mcs.proofs.Holding.{OwnHoldOf, not_own, own_hold}
 use Rattle.mcs.proofs.holds.read_own_hold.Goals as goal
 

@@ -4,60 +4,60 @@ use Rattle.terms.specs.Types.{Id, IfReq, Sysmod}
 use Rattle.terms.specs.Forms.{IsId}
 use Rattle.terms.specs.Lookups.{is_in}
 use Rattle.terms.specs.Operands.{HasSorted}
+use Rattle.terms.specs.Statements.{IsIfOf}
 use Rattle.terms.proofs.Ids.{is_in_from_Contains, Contains_from_is_in}
 use Rattle.rec80.specs.Cursors.{text_of}
-use Rattle.rec80.specs.Views.{word_of}
+use Rattle.rec80.specs.Views.{word_of, words_of}
 use Rattle.mcs.specs.KnownWords.{own_list}
-use Rattle.operands.proofs.Failing.{excludes_more}
+use Rattle.rec80.proofs.Failing.{excludes_more}
 use Rattle.mcs.proofs.Ending.{no_list}
-use Rattle.lemmas.proofs.Options.{map_not_none}
-use Rattle.mcs.proofs.Conditions.{IfOf, words_are, function_of, ids_of, ids_are, if_is}
+use Rattle.terms.proofs.Options.{map_not_none}
+use Rattle.mcs.proofs.Conditions.{function_of, ids_of, ids_are, if_is}
 use Rattle.mcs.proofs.ifs.read_if.Goals as goal
 
 pub returns-then-is_some-clause-bad : goal.returns-then-is_some-clause-bad
-returns-then-is_some-clause-bad c = λ rest h x.
-    map_not_none c.args.known.now.first.list text_of (sym c.is_some.ensures ∙ c.if-is_some.true) x.1.2.no_list
+returns-then-is_some-clause-bad c = λ x.
+    map_not_none c.args.known.now.first.list text_of (sym c.is_some.ensures ∙ c.if-is_some.true) x.1.no_list
 
 pub returns-in_default-clause-bad : goal.returns-in_default-clause-bad
-returns-in_default-clause-bad c = λ rest h x.
-    let i = x.1.2 in
-    c.in_default.ensures.none rest h i.fmid i.req i.fmid_word i.req_word
-    (words_are c.args.sysmod.now (own_list c.args.known.now) x.1.0 x.0 rest x.1.1 i)
+returns-in_default-clause-bad c = λ x. c.in_default.ensures.none x.1.fmid x.1.req x.1.fmid_word x.1.req_word
+    x.1.are_operands
 
 pub returns-in_default-one-clause-bad : goal.returns-in_default-one-clause-bad
-returns-in_default-one-clause-bad c = λ rest h x.
-    let l = c.in-Some.ensures.some rest h in
-    c.in_default-one.ensures.none x.0.function (function_of c.args.sysmod.now (own_list c.args.known.now) x.1.0 x.0 rest
-    (word_of c.in-Some.lists.fmid) (word_of c.in-Some.lists.req) x.1.1 x.1.2 l.0)
+returns-in_default-one-clause-bad c = λ x.
+    c.in_default-one.ensures.none x.0.function (function_of c.args.sysmod.now (own_list c.args.known.now)
+    (words_of c.args.words.now) x.0 (word_of c.in-Some.lists.fmid) (word_of c.in-Some.lists.req) x.1
+    c.in-Some.ensures.some.0)
 
 pub returns-in-Err-clause-bad : goal.returns-in-Err-clause-bad
-returns-in-Err-clause-bad c = λ rest h.
-    let l = c.in-Some.ensures.some rest h in
-    let All : Type 0 = (i : IfReq) × IfOf c.args.sysmod.now (own_list c.args.known.now) rest i in
+returns-in-Err-clause-bad c =
+    let own = own_list c.args.known.now in
+    let ws = words_of c.args.words.now in
+    let All : Type 0 = (i : IfReq) × IsIfOf c.args.sysmod.now own ws i in
     let One : Type 0 = (ids : List Id) × HasSorted IsId (word_of c.in-Some.lists.req) ids in
     let pick : All → One = λ x. (
       x.0.req,
-      ids_of c.args.sysmod.now (own_list c.args.known.now) x.1.0 x.0 rest
-          (word_of c.in-Some.lists.fmid) (word_of c.in-Some.lists.req) x.1.1 x.1.2 l.0,
+      ids_of c.args.sysmod.now own ws x.0 (word_of c.in-Some.lists.fmid) (word_of c.in-Some.lists.req) x.1
+          c.in-Some.ensures.some.0,
     ) in
     excludes_more c.in-Err.error One All pick c.in-Err.ensures.bad
 
 pub returns-then-contains-clause-bad : goal.returns-then-contains-clause-bad
-returns-then-contains-clause-bad c = λ rest h x.
-    let l = c.in-Some.ensures.some rest h in
-    let same = ids_are c.args.sysmod.now (own_list c.args.known.now) x.1.0 x.0 rest (word_of c.in-Some.lists.fmid)
-    (word_of c.in-Some.lists.req) c.in-Ok.req x.1.1 x.1.2 l.0 c.in-Ok.ensures.sorted in
+returns-then-contains-clause-bad c = λ x.
+    let same = ids_are c.args.sysmod.now (own_list c.args.known.now) (words_of c.args.words.now) x.0
+    (word_of c.in-Some.lists.fmid) (word_of c.in-Some.lists.req) c.in-Ok.req x.1 c.in-Some.ensures.some.0
+    c.in-Ok.ensures.sorted in
     let own : c.sysmod.inside.id ≡ c.args.sysmod.now.id = ap (λ (s : Sysmod). s.id) c.sysmod.view_is in
     let there : is_in c.in-Ok.req c.sysmod.inside.id ≡ true = sym c.contains.ensures ∙ c.if-contains.true in
-    x.1.2.others (Contains_from_is_in x.0.req c.args.sysmod.now.id
+    x.1.others (Contains_from_is_in x.0.req c.args.sysmod.now.id
     (ap (λ ids. is_in ids c.args.sysmod.now.id) same ∙ ap (is_in c.in-Ok.req) (sym own) ∙ there))
 
 pub returns-clause-ok : goal.returns-clause-ok
-returns-clause-ok c = λ rest h.
-    let l = c.in-Some.ensures.some rest h in
+returns-clause-ok c =
+    let l = c.in-Some.ensures.some in
     let own : c.sysmod.inside.id ≡ c.args.sysmod.now.id = ap (λ (s : Sysmod). s.id) c.sysmod.view_is in
     let free : is_in c.in-Ok.req c.sysmod.inside.id ≡ false = sym c.contains.ensures ∙ c.if-contains.false in
-    if_is c.args.sysmod.now (own_list c.args.known.now) rest (word_of c.in-Some.lists.fmid)
+    if_is c.args.sysmod.now (own_list c.args.known.now) (words_of c.args.words.now) (word_of c.in-Some.lists.fmid)
     (word_of c.in-Some.lists.req) (record { function = c.in-Some-one.function; req = c.in-Ok.req })
     (no_list c.args.known.now.first.list text_of (sym c.is_some.ensures ∙ c.if-is_some.false)) l.1 l.2 l.0
     c.in-Some-one.ensures.one c.in-Ok.ensures.sorted

@@ -1,7 +1,7 @@
 use Rattle.std.proofs.Common.{sym, subst, [], ◌∷◌, ◌++◌}
 use Rattle.std.specs.Prelude.{All}
 use Rattle.terms.specs.Records.{IsRecord}
-use Rattle.lemmas.proofs.Each.{All_front, All_back}
+use Rattle.terms.proofs.Each.{All_front, All_back}
 use Rattle.terms.specs.Ptfin.{nothing, BeginsWithStatements}
 use Rattle.rec80.specs.Views.{group_of}
 use Rattle.mcs.specs.Statements.{statement_of}

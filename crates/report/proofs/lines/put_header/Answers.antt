@@ -1,11 +1,13 @@
-use Rattle.report.proofs.Paging.{paged_then, paged_as}
-use Rattle.report.proofs.Texts.{header_parts}
+use Rattle.std.proofs.Common.{refl}
+use Rattle.report.proofs.Paging.{paged_as}
 use Rattle.report.proofs.lines.put_header.Goals as goal
+
+pub returns-then-header : goal.returns-then-header
+returns-then-header g c =
+    rw c.if-header.true
+    (paged_as _ _ _ _ _ _ (rw (c.word_text-word.ensures, c.zone_text.ensures) refl) c.put_words.ensures.paged)
 
 pub returns : goal.returns
 returns g c =
-    paged_as _ _ _ _ _ _
-    (rw (c.word_text.ensures, c.zone_text.ensures, c.check_text.ensures) (header_parts _ _ c.args.header.now.check))
-    (paged_then _ _ _ _ _ _ _ _ c.put.ensures.paged (paged_then _ _ _ _ _ _ _ _ c.put-2.ensures.paged
-    (paged_then _ _ _ _ _ _ _ _ c.put-3.ensures.paged (paged_then _ _ _ _ _ _ _ _ c.put-4.ensures.paged
-    c.put-5.ensures.paged))))
+    rw c.if-header.false
+    (paged_as _ _ _ _ _ _ (rw (c.word_text-word.ensures, c.zone_text.ensures) refl) c.put_words-2.ensures.paged)

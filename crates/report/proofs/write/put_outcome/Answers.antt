@@ -53,3 +53,8 @@ returns-in-Listed-clause-paged g c =
 pub returns-in-Listed-clause-code : goal.returns-in-Listed-clause-code
 returns-in-Listed-clause-code g c =
     rw c.in-Listed.is (sym (list_zone_code c.in-Listed.text c.in-Listed.zone.now))
+
+pub returns-in-Control-clause-paged : goal.returns-in-Control-clause-paged
+unfolding text
+returns-in-Control-clause-paged g c =
+    rw c.in-Control.is (paged_as _ _ _ _ _ _ (rw c.cn_text.ensures refl) c.put_words.ensures.paged)

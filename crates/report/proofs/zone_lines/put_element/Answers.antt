@@ -1,16 +1,19 @@
-use Rattle.std.proofs.Common.{subst}
+use Rattle.std.proofs.Common.{◌∙◌, append-nil, ap, map, refl, subst, sym}
+use Rattle.std.specs.List.{flat_map}
 use Rattle.terms.specs.Types.{Element}
-use Rattle.machine.specs.Outcome.{ElementLine, row_of}
+use Rattle.machine.specs.Outcome.{ElementLine, TextLine, row_of}
+use Rattle.machine.specs.Report.{line_text}
 use Rattle.report.specs.Paged.{Paged}
-use Rattle.machine.specs.Report.{line_text, left_in, list_text}
-use Rattle.terms.specs.Spelling.{type_text}
 use Rattle.report.proofs.Paging.{paged_then, paged_as}
-use Rattle.report.proofs.Listings.{element_parts}
+use Rattle.report.proofs.zone_lines.put_element.Given.{Over}
+use Rattle.report.proofs.zone_lines.put_element.Goals.{After-put_words}
 use Rattle.report.proofs.zone_lines.put_element.Goals as goal
 
-pub returns : goal.returns
-returns g c =
-    subst (λ (x : Element). Paged g.W.Sink c.args.page.now c.put-12.new.self (line_text (ElementLine (row_of x))))
+-- the line of the element
+line : (g : Over) (c : After-put_words g)
+    → Paged g.W.Sink c.args.page.now c.put_words.new.page (line_text (ElementLine (row_of c.args.element.now)))
+line g c =
+    subst (λ (x : Element). Paged g.W.Sink c.args.page.now c.put_words.new.page (line_text (ElementLine (row_of x))))
     c.element.view_is
     (paged_as _ _ _ _ _ _
     (rw (
@@ -21,15 +24,17 @@ returns g c =
       c.as_slice.ensures.items,
       c.as_bytes-4.ensures.same,
       c.as_bytes-5.ensures.same,
-    )
-    (element_parts (left_in 5 (type_text c.element.inside.elem_type)) (left_in 8 c.element.inside.name)
-    c.element.inside.fmid c.element.inside.rmid (list_text c.element.inside.umids) c.element.inside.distlib
-    c.element.inside.syslib))
-    (paged_then _ _ _ _ _ _ _ _ c.put.ensures.paged (paged_then _ _ _ _ _ _ _ _ c.put_left.ensures
-    (paged_then _ _ _ _ _ _ _ _ c.put-2.ensures.paged (paged_then _ _ _ _ _ _ _ _ c.put_left-2.ensures
-    (paged_then _ _ _ _ _ _ _ _ c.put-3.ensures.paged (paged_then _ _ _ _ _ _ _ _ c.put-4.ensures.paged
-    (paged_then _ _ _ _ _ _ _ _ c.put-5.ensures.paged (paged_then _ _ _ _ _ _ _ _ c.put-6.ensures.paged
-    (paged_then _ _ _ _ _ _ _ _ c.put-7.ensures.paged (paged_then _ _ _ _ _ _ _ _ c.put_list.ensures
-    (paged_then _ _ _ _ _ _ _ _ c.put-8.ensures.paged (paged_then _ _ _ _ _ _ _ _ c.put-9.ensures.paged
-    (paged_then _ _ _ _ _ _ _ _ c.put-10.ensures.paged (paged_then _ _ _ _ _ _ _ _ c.put-11.ensures.paged
-    c.put-12.ensures.paged)))))))))))))))
+    ) refl) c.put_words.ensures.paged)
+
+pub returns-then-text : goal.returns-then-text
+returns-then-text g c =
+    rw c.if-text.true
+    (paged_then _ _ _ _ _ _ _ _ (line g (goal.at.returns-then-text g c).After-put_words)
+    (paged_as _ _ _ _ _ _
+    (ap (λ records. flat_map line_text (map (λ r. TextLine r) records))
+    (c.as_slice-then-text.ensures.value ∙ ap (λ (e : Element). e.text) c.element.view_is)) c.put_text.ensures))
+
+pub returns-else-text : goal.returns-else-text
+returns-else-text g c =
+    rw c.if-text.false
+    (paged_as _ _ _ _ _ _ (sym (append-nil _)) (line g (goal.at.returns-else-text g c).After-put_words))

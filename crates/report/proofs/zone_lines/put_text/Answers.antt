@@ -14,8 +14,7 @@ loop-record-preserved g c =
     ++ line_text (TextLine t)) (c.bytes.ensures.bytes ∙ c.record-item.is)
     ∙ flat_map_more (λ r. line_text (TextLine r)) c.args.records.now c.loop-record.record-index c.record-item.result
     c.loop-record-test.true)
-    (paged_then _ _ _ _ _ _ _ _ c.loop-record.invariant (paged_then _ _ _ _ _ _ _ _ c.put.ensures.paged
-    (paged_then _ _ _ _ _ _ _ _ c.put-in-loop-record.ensures.paged c.put-in-loop-record-2.ensures.paged)))
+    (paged_then _ _ _ _ _ _ _ _ c.loop-record.invariant c.put_words.ensures.paged)
 
 pub returns : goal.returns
 returns g c =

@@ -7,7 +7,7 @@ use Rattle.report_why.proofs.asked_lines.put_answer.Goals as goal
 
 pub returns-in-Supplied : goal.returns-in-Supplied
 returns-in-Supplied c =
-    rw c.in-Supplied.is (IfOk-equal c.put_ids.result c.put_ids.new.text.items _ _ c.put_ids.ensures
+    rw c.in-Supplied.is (IfOk-equal c.put_id_lines.result c.put_id_lines.new.text.items _ _ c.put_id_lines.ensures
     (ap (λ ids. c.args.text.now.items ++ id_lines (codes "SUPPLIER") ids) c.as_slice.ensures.value))
 
 pub returns-in-Waived : goal.returns-in-Waived
@@ -15,5 +15,6 @@ returns-in-Waived c = rw c.in-Waived.is (sym (append-nil c.args.text.now.items))
 
 pub returns-in-Open : goal.returns-in-Open
 returns-in-Open c =
-    rw c.in-Open.is (IfOk-equal c.put_ids-in-Open.result c.put_ids-in-Open.new.text.items _ _ c.put_ids-in-Open.ensures
+    rw c.in-Open.is (IfOk-equal c.put_id_lines-in-Open.result c.put_id_lines-in-Open.new.text.items _ _
+    c.put_id_lines-in-Open.ensures
     (ap (λ ids. c.args.text.now.items ++ id_lines (codes "CANDIDATE") ids) c.as_slice-in-Open.ensures.items))

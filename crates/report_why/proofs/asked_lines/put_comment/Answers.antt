@@ -7,7 +7,7 @@ use Rattle.report_why.proofs.asked_lines.put_comment.Goals as goal
 
 pub returns-in-Some : goal.returns-in-Some
 returns-in-Some c =
-    rw c.in-Some.is (IfOk-equal c.put_inner.result c.put_inner.new.text.items _ _ c.put_inner.ensures
+    rw c.in-Some.is (IfOk-equal c.put_words.result c.put_words.new.text.items _ _ c.put_words.ensures
     (ap (λ t. c.args.text.now.items ++ inner_line (codes "COMMENT" ∷ t ∷ [])) c.as_bytes.ensures.value))
 
 pub returns-in-None : goal.returns-in-None

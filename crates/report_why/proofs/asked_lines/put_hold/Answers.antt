@@ -1,15 +1,28 @@
-use Rattle.std.proofs.Common.{◌++◌, ◌∙◌, ap}
-use Rattle.std.specs.Prelude.{option_map}
+use Rattle.std.proofs.Common.{◌≡◌, ◌++◌, None, Some, subst}
+use Rattle.std.specs.Prelude.{OnOk}
 use Rattle.std.proofs.lemmas.Result.{IfOk-equal}
 use Rattle.terms.specs.Types.{Hold}
-use Rattle.machine.specs.FactText.{comment_line}
+use Rattle.terms.specs.Facts.{HoldFact}
+use Rattle.sysmod.specs.contracts.hold.Hold.{the_view}
+use Rattle.machine.specs.FactText.{fact_text}
 use Rattle.report_why.specs.Views.{answer_view}
-use Rattle.report_why.proofs.TextParts.{hold_put}
+use Rattle.report_why.proofs.TextParts.{hold_answered, hold_unanswered}
 use Rattle.report_why.proofs.asked_lines.put_hold.Goals as goal
 
-pub returns : goal.returns
-returns c =
-    IfOk-equal c.put_resolvers.result c.put_resolvers.new.text.items _ _ c.put_resolvers.ensures
-    (hold_put c.args.hold.now (option_map answer_view c.args.resolution.now) c.args.text.now.items
-    c.in_ok-put_hold_words.ensures c.in_ok-put_resolution.ensures c.in_ok-put.ensures
-    (c.in_ok-put_comment.ensures ∙ ap (λ (h : Hold). c.put.new.text.items ++ comment_line h.comment) c.hold.view_is))
+pub returns-in_ok-put_comment-in-Some : goal.returns-in_ok-put_comment-in-Some
+returns-in_ok-put_comment-in-Some c =
+    let a = answer_view c.in-Some.answer in
+    rw c.in-Some.is (subst (λ (h : Hold). OnOk c.put_answer.result
+    (c.put_answer.new.text.items ≡ c.args.text.now.items ++ fact_text (HoldFact h (Some a)))) c.hold.view_is
+    (IfOk-equal c.put_answer.result c.put_answer.new.text.items _ _ c.put_answer.ensures
+    (hold_answered (the_view c.hold.inside) a c.args.text.now.items c.hold_text.ensures c.as_bytes.ensures.same
+    c.class_text.ensures c.date_text.ensures c.answer_word.ensures c.in_ok-put_words-in-Some.ensures
+    c.in_ok-put_comment-in-Some.ensures)))
+
+pub returns-in_ok-put_words-in-None : goal.returns-in_ok-put_words-in-None
+returns-in_ok-put_words-in-None c =
+    rw c.in-None.is (subst (λ (h : Hold). OnOk c.put_comment-in-None.result
+    (c.put_comment-in-None.new.text.items ≡ c.args.text.now.items ++ fact_text (HoldFact h None))) c.hold.view_is
+    (IfOk-equal c.put_comment-in-None.result c.put_comment-in-None.new.text.items _ _ c.put_comment-in-None.ensures
+    (hold_unanswered (the_view c.hold.inside) c.args.text.now.items c.hold_text.ensures c.as_bytes.ensures.same
+    c.class_text.ensures c.date_text.ensures c.in_ok-put_words-in-None.ensures)))

@@ -1,17 +1,35 @@
-use Rattle.std.specs.Prelude.{option_map}
-use Rattle.std.proofs.lemmas.Result.{IfOk-equal}
-use Rattle.terms.specs.Spelling.{type_text}
-use Rattle.machine.specs.Report.{left_in}
-use Rattle.machine.specs.FactText.{change_text}
-use Rattle.report_why.specs.Views.{found_view}
-use Rattle.report_why.proofs.TextParts.{element_put}
+use Rattle.std.proofs.Common.{◌++◌, ◌∙◌, ap, arith, sym, take_all}
+use Rattle.std.specs.Prelude.{codes}
+use Rattle.std.specs.List.{flat_map}
+use Rattle.std.proofs.lemmas.List.Folds.{flat_map-map}
+use Rattle.std.proofs.lemmas.Result.{IfOk-weaker}
+use Rattle.machine.specs.FactText.{maker_line}
+use Rattle.report_why.specs.Views.{maker_view, found_view}
+use Rattle.report_why.proofs.TextParts.{flat_more, element_there, element_missing}
 use Rattle.report_why.proofs.element_lines.put_element.Goals as goal
+
+pub returns-in_default : goal.returns-in_default
+returns-in_default c =
+    rw c.in_default.is (IfOk-weaker c.put_words.result _ _
+    (λ done put. element_missing c.args.elem_type c.args.name.now c.args.replaces c.args.text.now.items
+    c.type_text.ensures
+    c.as_bytes.ensures.same put) c.put_words.ensures)
+
+pub loop-umid-preserved : goal.loop-umid-preserved
+loop-umid-preserved c =
+    flat_more (λ m. maker_line (codes "UMID") (maker_view m)) c.as_slice-umid-items.result.now c.loop-umid.umid-index
+    c.umid-item.result c.put_maker.new.text.items c.loop-umid.text.items c.put_maker-in-loop-umid.new.text.items
+    (omega arith) c.umid-item.is c.loop-umid.invariant c.in_ok-put_maker-2.ensures
 
 pub returns : goal.returns
 returns c =
-    IfOk-equal c.put_found.result c.put_found.new.text.items _ _ c.put_found.ensures
-    (element_put (left_in 5 (type_text c.args.elem_type)) (left_in 8 c.args.name) (change_text c.args.replaces)
-    (option_map found_view c.args.found.now) c.args.text.now.items c.in_ok-put.ensures
-    (rw c.type_text.ensures at c.in_ok-put_left.ensures) c.in_ok-put-2.ensures
-    (rw c.as_bytes.ensures.same at c.in_ok-put_left-2.ensures) (rw c.change_text.ensures at c.in_ok-put_word.ensures)
-    c.in_ok-put-3.ensures)
+    let found = c.in-Some.found in
+    let f = found_view found in
+    rw c.in-Some.is (c.loop-umid.invariant
+    ∙ ap (λ l. c.put_maker.new.text.items ++ flat_map (λ m. maker_line (codes "UMID") (maker_view m)) l)
+    (take_all c.loop-umid.umid-index c.as_slice-umid-items.result.now (omega arith)
+    ∙ c.as_slice-umid-items.ensures.value)
+    ∙ ap (λ l. c.put_maker.new.text.items ++ l)
+    (sym (flat_map-map (maker_line (codes "UMID")) maker_view found.umids.items))
+    ∙ element_there c.args.elem_type c.args.name.now c.args.replaces f c.args.text.now.items c.type_text.ensures
+    c.as_bytes.ensures.same c.as_bytes-2.ensures.same c.in_ok-put_words.ensures c.in_ok-put_maker.ensures)

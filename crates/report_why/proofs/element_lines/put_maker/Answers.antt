@@ -1,16 +1,8 @@
-use Rattle.std.proofs.Common.{append_assoc}
+use Rattle.std.proofs.Common.{refl}
 use Rattle.std.proofs.lemmas.Result.{IfOk-equal}
 use Rattle.report_why.proofs.element_lines.put_maker.Goals as goal
 
 pub returns : goal.returns
 returns c =
-    IfOk-equal c.put-3.result c.put-3.new.text.items _ _ c.put-3.ensures
-    (simp (
-      c.in_ok-put_word-2.ensures,
-      c.in_ok-put_word.ensures,
-      c.in_ok-put-2.ensures,
-      c.in_ok-put.ensures,
-      c.as_bytes.ensures.same,
-      c.rank_text.ensures,
-      append_assoc,
-    ))
+    IfOk-equal c.put_words.result c.put_words.new.text.items _ _ c.put_words.ensures
+    (rw (c.as_bytes.ensures.same, c.rank_text.ensures) refl)

@@ -1,5 +1,5 @@
 use Rattle.std.proofs.Common.{take}
-use Rattle.lemmas.specs.Beside.{Beside}
+use Rattle.terms.specs.Beside.{Beside}
 use Rattle.terms.specs.Lookups.{changes_of}
 use Rattle.zones_views.specs.Scopes.{global_of}
 use Rattle.terms.specs.Facts.{IsElementFact}

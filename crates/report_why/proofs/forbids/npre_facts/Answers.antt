@@ -1,4 +1,4 @@
-use Rattle.std.proofs.Common.{◌++◌, map, filter, ap, sym}
+use Rattle.std.proofs.Common.{◌∙◌, ◌++◌, map, filter, ap, arith, sym, take, take_all}
 use Rattle.terms.specs.Lookups.{is_in, is_applied}
 use Rattle.terms.specs.Choice.{npre_of}
 use Rattle.terms.specs.Over.{chain}
@@ -13,14 +13,13 @@ pub returns : goal.returns
 returns c =
     let s = setting_in c.args.asking.now in
     let x = c.args.asking.now.id in
-    rw (
-      c.in_ok-push_forbidding.ensures,
-      c.in_ok-push_npre.ensures,
-      c.new-facts.ensures.items,
-      c.npre.ensures,
-      c.args.asking.now.applied_is,
-    )
-    (ap (λ ids. map (λ y. NpreFact y (is_applied (view_of s x) y)) (npre_of s.choice x)
-    ++ map ForbiddenFact (filter (forbids s x) ids))
-    (sym (applied_left s.global s.choice (deletions s.choice (filter (is_in s.cands) (chain s.global s.choice x)))
-    s.zone c.attest.ensures)))
+    c.loop-by.invariant
+    ∙ ap (λ l. l ++ map ForbiddenFact (take c.loop-by.by-index c.as_slice-by-items.result.now)) (c.loop-id.invariant
+    ∙ ap (map (λ y. NpreFact y (is_applied (view_of s x) y)))
+    (take_all c.loop-id.id-index c.npre-named.result.now (omega arith) ∙ c.npre-named.ensures))
+    ∙ ap (λ l. map (λ y. NpreFact y (is_applied (view_of s x) y)) (npre_of s.choice x) ++ map ForbiddenFact l)
+    (take_all c.loop-by.by-index c.as_slice-by-items.result.now (omega arith) ∙ c.as_slice-by-items.ensures.value
+    ∙ c.in_ok-forbidding.ensures
+    ∙ ap (λ l. filter (forbids s x) (filter (is_applied (view_of s x)) l)) c.args.asking.now.applied_is
+    ∙ ap (filter (forbids s x)) (sym (applied_left s.global s.choice
+    (deletions s.choice (filter (is_in s.cands) (chain s.global s.choice x))) s.zone c.attest.ensures)))

@@ -1,9 +1,10 @@
-use Rattle.std.proofs.Common.{◌≡◌, ◌∙◌, [], ap, subst, sym}
+use Rattle.std.proofs.Common.{◌≡◌, ◌∙◌, [], ap, refl, subst, sym}
+use Rattle.std.specs.Prelude.{option_map}
 use Rattle.terms.specs.Lookups.{holds_of}
 use Rattle.zones_views.specs.Scopes.{global_of}
 use Rattle.terms.specs.Facts.{IsHoldFact}
 use Rattle.report_why.specs.Asking.{setting_in}
-use Rattle.report_why.specs.Views.{fact_view}
+use Rattle.report_why.specs.Views.{answer_view, fact_view}
 use Rattle.report_why.proofs.Besides.{BesideFront, front_nil, front_next, front_all}
 use Rattle.report_why.proofs.holds.facts_of_kind.Goals as goal
 
@@ -22,8 +23,9 @@ loop-hold-preserved c =
     let asking = c.args.asking.now in
     front_next (λ h fact. IsHoldFact (setting_in asking) asking.id h (fact_view fact))
     (holds_of (global_of asking.scope) c.args.kind asking.id) c.loop-hold.hold-iterator c.next.new.self
-    c.loop-hold.facts.items c.push.new.self.items c.in-Some.hold.now c.in_ok-hold_fact.field-0 c.loop-hold.invariant
-    c.in-Some.ensures.steps c.in_ok-push.ensures.items c.in_ok-hold_fact.ensures
+    c.loop-hold.facts.items c.push.new.self.items c.in-Some.hold.now _ c.loop-hold.invariant
+    c.in-Some.ensures.steps c.in_ok-push.ensures.items
+    (option_map answer_view c.in_ok-resolution.resolution, refl, c.in_ok-resolution.ensures)
 
 pub returns : goal.returns
 returns c =

@@ -1,16 +1,28 @@
-use Rattle.std.proofs.Common.{arith}
+use Rattle.std.proofs.Common.{◌∙◌, ◌++◌, ap, arith, filter, refl, sym}
+use Rattle.std.specs.List.{flat_map}
 use Rattle.std.specs.Str.{bytes_eq}
-use Rattle.judge_needs.proofs.Growing.{grown}
 use Rattle.terms.specs.Lookups.{is_applied}
 use Rattle.zones_views.specs.Scopes.{choice_of}
-use Rattle.terms.specs.Facts.{conditions_of}
+use Rattle.terms.specs.Facts.{stated_by, conditions_of}
 use Rattle.report_why.specs.Asking.{view_in}
-use Rattle.report_why.proofs.Growing.{kept_more}
+use Rattle.report_why.proofs.Growing.{kept_more, grown_then, grown_else}
+use Rattle.report_why.proofs.requisites.push_of_others.Goals.{then-sees+in_ok-push_for, else-sees}
 use Rattle.report_why.proofs.requisites.push_of_others.Goals as goal
 
-pub loop-id-preserved : goal.loop-id-preserved
-loop-id-preserved c =
-    let asking = c.args.asking.now in
-    grown c.args.found.now.items _ _ _ _ _ c.loop-id.invariant c.in_ok-push_if_seen.ensures
-    (kept_more (is_applied (view_in asking)) (conditions_of (choice_of asking.scope) (bytes_eq asking.id))
-    c.args.ids.now c.loop-id.id-index c.id-item.result (omega arith) c.id-item.is)
+pub loop-by-preserved : goal.loop-by-preserved
+loop-by-preserved c =
+    let a = c.args.asking.now in
+    let by = c.by-item.result in
+    let more = kept_more (is_applied (view_in a)) (conditions_of (choice_of a.scope) (bytes_eq a.id)) c.args.ids.now
+    c.loop-by.by-index by (omega arith) c.by-item.is in
+    elim c.if-sees.branch [
+      | then-sees+in_ok-push_for w ↦
+          rw w.found-is (grown_then c.args.found.now.items _ _ _ _ _ _ c.loop-by.invariant more
+          (sym c.sees.ensures ∙ w.if-sees.true)
+          (w.in_ok-push_for.ensures
+          ∙ ap (λ ifs. c.loop-by.found.items ++ flat_map (stated_by by) (filter (λ i. bytes_eq a.id i.function) ifs))
+          w.ifs.ensures))
+      | else-sees w ↦
+          rw w.found-is (grown_else c.args.found.now.items _ _ _ _ _ _ c.loop-by.invariant more
+          (sym c.sees.ensures ∙ w.if-sees.false) refl)
+    ]

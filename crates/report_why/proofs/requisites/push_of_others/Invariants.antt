@@ -7,7 +7,7 @@ use Rattle.terms.specs.Facts.{conditions_of}
 use Rattle.report_why.specs.Asking.{view_in}
 use Rattle.report_why.proofs.requisites.push_of_others.Given as goal
 
-abbrev pub invariant-loop-id : goal.invariant-loop-id
-invariant-loop-id l =
+abbrev pub invariant-loop-by : goal.invariant-loop-by
+invariant-loop-by l =
     l.found.items ≡ l.fn.found.items ++ flat_map (conditions_of (choice_of l.asking.scope) (bytes_eq l.asking.id))
-    (filter (is_applied (view_in l.asking)) (take l.id-index l.ids))
+    (filter (is_applied (view_in l.asking)) (take l.by-index l.ids))

@@ -1,22 +1,27 @@
-use Rattle.std.proofs.Common.{◌≡◌, ◌++◌, subst}
-use Rattle.std.specs.Prelude.{OnOk, option_map}
+use Rattle.std.proofs.Common.{◌≡◌, ◌∙◌, ◌++◌, ap, subst}
+use Rattle.std.specs.Prelude.{OnOk}
 use Rattle.std.proofs.lemmas.Result.{IfOk-equal}
-use Rattle.terms.specs.Types.{Entry, Applied}
+use Rattle.terms.specs.Types.{Applied, Entry}
 use Rattle.terms.specs.Facts.{EntryFact}
-use Rattle.machine.specs.Report.{list_text, optional_text}
+use Rattle.zones.specs.contracts.entries.Entry.{the_view}
 use Rattle.machine.specs.FactText.{fact_text}
-use Rattle.report_why.proofs.TextParts.{entry_put}
+use Rattle.report_why.proofs.TextParts.{entry_applied, entry_bare}
 use Rattle.report_why.proofs.text.put_entry.Goals as goal
 
-pub returns : goal.returns
-returns c =
-    let e = c.entry.inside in
-    subst (λ (e : Entry). OnOk c.put-7.result
-    (c.put-7.new.text.items ≡ c.args.text.now.items ++ fact_text (EntryFact c.args.kind e))) c.entry.view_is
-    (IfOk-equal c.put-7.result c.put-7.new.text.items _ _ c.put-7.ensures
-    (entry_put c.args.kind (option_map (λ (a : Applied). a.date) e.applied) e.id (list_text e.supby)
-    (optional_text e.delby) (list_text e.waived) c.args.text.now.items c.in_ok-put.ensures
-    (rw c.as_bytes.ensures.same at c.in_ok-put-2.ensures) c.in_ok-put-3.ensures c.in_ok-put_applied.ensures
-    c.in_ok-put-4.ensures (rw c.as_slice.ensures.items at c.in_ok-put_list.ensures) c.in_ok-put-5.ensures
-    (rw c.id_text.ensures at c.in_ok-put_word.ensures) c.in_ok-put-6.ensures
-    (rw c.as_slice-2.ensures.items at c.in_ok-put_list-2.ensures)))
+pub returns-in-Some : goal.returns-in-Some
+returns-in-Some c =
+    subst (λ (e : Entry). OnOk c.put_words.result
+    (c.put_words.new.text.items ≡ c.args.text.now.items ++ fact_text (EntryFact c.args.kind e))) c.entry.view_is
+    (IfOk-equal c.put_words.result c.put_words.new.text.items _ _ c.put_words.ensures
+    (entry_applied c.args.kind (the_view c.entry.inside) c.in-Some.applied c.args.text.now.items c.in-Some.is
+    c.as_bytes.ensures.same c.applied_word.ensures (c.as_bytes-in-Some.ensures.same
+    ∙ ap (λ (a : Applied). a.date) c.applied.view_is) c.id_text.ensures
+    c.as_slice.ensures.items c.as_slice-2.ensures.items))
+
+pub returns-in-None : goal.returns-in-None
+returns-in-None c =
+    subst (λ (e : Entry). OnOk c.put_words-in-None.result
+    (c.put_words-in-None.new.text.items ≡ c.args.text.now.items ++ fact_text (EntryFact c.args.kind e))) c.entry.view_is
+    (IfOk-equal c.put_words-in-None.result c.put_words-in-None.new.text.items _ _ c.put_words-in-None.ensures
+    (entry_bare c.args.kind (the_view c.entry.inside) c.args.text.now.items c.in-None.is
+    c.as_bytes.ensures.same c.id_text.ensures c.as_slice.ensures.items c.as_slice-2.ensures.items))

@@ -1,11 +1,13 @@
-use Rattle.std.proofs.Common.{[], ◌∷◌, ◌++◌, ap}
+use Rattle.std.proofs.Common.{refl}
 use Rattle.std.specs.Prelude.{codes}
 use Rattle.std.proofs.lemmas.Result.{IfOk-equal}
-use Rattle.machine.specs.Report.{detail_line}
+use Rattle.report_why.proofs.TextParts.{flag_is}
 use Rattle.report_why.proofs.text.put_fact.Goals as goal
 
 pub returns-in-Standing : goal.returns-in-Standing
-returns-in-Standing c = rw c.in-Standing.is c.put_standing.ensures
+returns-in-Standing c =
+    rw c.in-Standing.is (IfOk-equal c.put_words.result c.put_words.new.text.items _ _ c.put_words.ensures
+    (rw (c.as_bytes.ensures.same, c.type_word.ensures, c.standing_text.ensures) refl))
 
 pub returns-in-Entry : goal.returns-in-Entry
 returns-in-Entry c = rw c.in-Entry.is c.put_entry.ensures
@@ -23,25 +25,28 @@ pub returns-in-Element : goal.returns-in-Element
 returns-in-Element c = rw c.in-Element.is c.put_element.ensures
 
 pub returns-in-Delete : goal.returns-in-Delete
-returns-in-Delete c = rw c.in-Delete.is c.put_delete.ensures
-
-pub returns-in-Npre : goal.returns-in-Npre
-returns-in-Npre c = rw c.in-Npre.is c.put_npre.ensures
+returns-in-Delete c =
+    rw c.in-Delete.is (IfOk-equal c.put_words-in-Delete.result c.put_words-in-Delete.new.text.items _ _
+    c.put_words-in-Delete.ensures
+    (rw (c.as_bytes-in-Delete.ensures.same, flag_is c.in-Delete.own (codes "CHAIN")) refl))
 
 pub returns-in-Takes : goal.returns-in-Takes
 returns-in-Takes c =
-    rw c.in-Takes.is (IfOk-equal c.put_detail.result c.put_detail.new.text.items _ _
-    c.put_detail.ensures
-    (ap (λ t. c.args.text.now.items ++ detail_line (codes "TAKES" ∷ t ∷ [])) c.as_bytes.ensures.same))
+    rw c.in-Takes.is (IfOk-equal c.put_words-in-Takes.result c.put_words-in-Takes.new.text.items _ _
+    c.put_words-in-Takes.ensures (rw c.as_bytes-in-Takes.ensures.same refl))
+
+pub returns-in-Npre : goal.returns-in-Npre
+returns-in-Npre c =
+    rw c.in-Npre.is (IfOk-equal c.put_words-in-Npre.result c.put_words-in-Npre.new.text.items _ _
+    c.put_words-in-Npre.ensures
+    (rw (c.as_bytes-in-Npre.ensures.same, flag_is c.in-Npre.applied (codes "APPLIED")) refl))
 
 pub returns-in-Forbidden : goal.returns-in-Forbidden
 returns-in-Forbidden c =
-    rw c.in-Forbidden.is (IfOk-equal c.put_detail-in-Forbidden.result c.put_detail-in-Forbidden.new.text.items _ _
-    c.put_detail-in-Forbidden.ensures
-    (ap (λ t. c.args.text.now.items ++ detail_line (codes "FORBIDDEN" ∷ t ∷ [])) c.as_bytes-in-Forbidden.ensures.same))
+    rw c.in-Forbidden.is (IfOk-equal c.put_words-in-Forbidden.result c.put_words-in-Forbidden.new.text.items _ _
+    c.put_words-in-Forbidden.ensures (rw c.as_bytes-in-Forbidden.ensures.same refl))
 
 pub returns-in-Needed : goal.returns-in-Needed
 returns-in-Needed c =
-    rw c.in-Needed.is (IfOk-equal c.put_detail-in-Needed.result c.put_detail-in-Needed.new.text.items _ _
-    c.put_detail-in-Needed.ensures
-    (ap (λ t. c.args.text.now.items ++ detail_line (codes "NEEDED" ∷ t ∷ [])) c.as_bytes-in-Needed.ensures.same))
+    rw c.in-Needed.is (IfOk-equal c.put_words-in-Needed.result c.put_words-in-Needed.new.text.items _ _
+    c.put_words-in-Needed.ensures (rw c.as_bytes-in-Needed.ensures.same refl))

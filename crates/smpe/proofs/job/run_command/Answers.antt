@@ -1,11 +1,12 @@
-use Rattle.std.proofs.Common.{[], ◌∷◌, Err, sym, ap, subst}
+use Rattle.std.proofs.Common.{[], ◌∷◌, Err, refl, sym, ap, subst}
 use Rattle.machine.specs.Machine.{Perform, Performs}
 use Rattle.cntl.specs.Views.{command_of}
 use Rattle.report.specs.Views.{outcome_view}
 use Rattle.smpe.specs.declared.error.JobError.TheVariants.{Write}
 use Rattle.smpe.specs.Commands.{job_error}
 use Rattle.smpe.proofs.Reports.{sent_all, sent_part}
-use Rattle.smpe.proofs.Commanding.{commands_err, unperformed, unreported, reported}
+use Rattle.smpe.proofs.Commanding.{commands_err, reported}
+use Rattle.smpe.proofs.Early.{failed_first, broke_first}
 use Rattle.smpe_zones.specs.Own.{IsOwnOf}
 use Rattle.smpe_session.specs.Writing.{AnswersRun}
 use Rattle.smpe.proofs.Coursing.{passed_one, early_first, fails_by, fails_told, performs_passes, goes_early}
@@ -20,9 +21,8 @@ returns-in_err-performed-clause-ended g c clean s is keeps =
     commands_err g.S.Store c.args.date c.args.files.now c.args.store.now at s session (command ∷ []) taken taken
     c.from_residual.result
     (job_error c.in_err-performed.field-0.0) c.from_residual.ensures.1
-    (unperformed g.S.Store c.args.date c.args.files.now c.args.store.now at s session command taken
-    c.in_err-performed.field-0.0
-    (c.in_err-performed.ensures.ended clean s is keeps))
+    (failed_first g.S.Store c.args.store.now at s (Perform c.args.date c.args.files.now command) [] taken
+    c.in_err-performed.field-0.0 (c.in_err-performed.ensures.uses.ended clean s keeps is))
 
 pub returns-in_err-write_report-in-Told-clause-ended : goal.returns-in_err-write_report-in-Told-clause-ended
 returns-in_err-write_report-in-Told-clause-ended g c clean s is keeps =
@@ -31,17 +31,16 @@ returns-in_err-write_report-in-Told-clause-ended g c clean s is keeps =
     let command = command_of c.args.command.now in
     let old = g.W.Sink.taken c.args.w.now in
     let new = g.W.Sink.taken c.write_report.new.w in
-    let p = rw c.in-Told.is at (c.in_ok-performed.ensures.ended clean s is keeps) in
+    let p = rw c.in-Told.is at (c.in_ok-performed.ensures.uses.ended clean s keeps is) in
     commands_err g.S.Store c.args.date c.args.files.now c.args.store.now at s session (command ∷ []) old new
     c.from_residual-in_err-write_report-in-Told.result Write c.from_residual-in_err-write_report-in-Told.ensures.1
-    (unreported g.S.Store c.args.date c.args.files.now c.args.store.now at s p.0 command
-    (outcome_view c.in-Told.outcome) old new
-    p.1 p.3
+    (broke_first g.S.Store c.args.store.now at s (Perform c.args.date c.args.files.now command) p.0
+    (outcome_view c.in-Told.outcome) old new (outcome_view c.in-Told.outcome, p.1, refl) p.3
     (sent_part _ _ _ _ _ c.in_err-write_report-in-Told.ensures.sends c.in_err-write_report-in-Told.ensures.fault))
 
 pub returns-in_ok-write_report-in-Told-clause-ended : goal.returns-in_ok-write_report-in-Told-clause-ended
 returns-in_ok-write_report-in-Told-clause-ended g c clean s is keeps =
-    let p = rw c.in-Told.is at (c.in_ok-performed.ensures.ended clean s is keeps) in
+    let p = rw c.in-Told.is at (c.in_ok-performed.ensures.uses.ended clean s keeps is) in
     reported g.S.Store c.args.date c.args.files.now c.args.store.now c.perform.new.store s p.0 c.perform.new.self
     (command_of c.args.command.now) (outcome_view c.in-Told.outcome)
     (g.W.Sink.taken c.args.w.now) (g.W.Sink.taken c.write_report.new.w) _ p.1 p.2 p.3
@@ -55,19 +54,18 @@ returns-in_err-write_report-in-Lists-clause-ended g c clean s is keeps =
     let command = command_of c.args.command.now in
     let old = g.W.Sink.taken c.args.w.now in
     let new = g.W.Sink.taken c.write_report-in-Lists.new.w in
-    let p = rw c.in-Lists.is at (c.in_ok-performed.ensures.ended clean s is keeps) in
+    let p = rw c.in-Lists.is at (c.in_ok-performed.ensures.uses.ended clean s keeps is) in
     let performs = subst (λ d. Performs c.args.date c.args.files.now s d s (outcome_view c.list.result)) (sym p.0)
     (c.list.ensures s p.1 c.args.date c.args.files.now) in
     commands_err g.S.Store c.args.date c.args.files.now c.args.store.now at s session (command ∷ []) old new
     c.from_residual-in_err-write_report-in-Lists.result Write c.from_residual-in_err-write_report-in-Lists.ensures.1
-    (unreported g.S.Store c.args.date c.args.files.now c.args.store.now at s s command
-    (outcome_view c.list.result) old new
-    performs p.2
+    (broke_first g.S.Store c.args.store.now at s (Perform c.args.date c.args.files.now command) s
+    (outcome_view c.list.result) old new (outcome_view c.list.result, performs, refl) p.2
     (sent_part _ _ _ _ _ c.in_err-write_report-in-Lists.ensures.sends c.in_err-write_report-in-Lists.ensures.fault))
 
 pub returns-in_ok-write_report-in-Lists-clause-ended : goal.returns-in_ok-write_report-in-Lists-clause-ended
 returns-in_ok-write_report-in-Lists-clause-ended g c clean s is keeps =
-    let p = rw c.in-Lists.is at (c.in_ok-performed.ensures.ended clean s is keeps) in
+    let p = rw c.in-Lists.is at (c.in_ok-performed.ensures.uses.ended clean s keeps is) in
     let performs = subst (λ d. Performs c.args.date c.args.files.now s d s (outcome_view c.list.result)) (sym p.0)
     (c.list.ensures s p.1 c.args.date c.args.files.now) in
     reported g.S.Store c.args.date c.args.files.now c.args.store.now c.perform.new.store s s c.perform.new.self
@@ -86,7 +84,7 @@ returns-in_err-performed-clause-course g c =
     let act = Perform c.args.date c.args.files.now command in
     let taken = g.W.Sink.taken c.args.w.now in
     let e = c.in_err-performed.field-0.0 in
-    let at = c.in_err-performed.ensures in
+    let at = c.in_err-performed.ensures.uses.once in
     goes_early g.S.Store old new (act ∷ []) taken taken c.from_residual.result (job_error e) c.from_residual.ensures.1
     (early_first g.S.Store old new act [] taken taken (job_error e)
     (fails_by g.S.Store (λ own. IsOwnOf command own × Unit {0}) old new act taken e e (λ change own. own.0) at.goes
@@ -106,7 +104,7 @@ returns-in_err-write_report-in-Told-clause-course g c =
     (early_first g.S.Store old new act [] a b Write
     (fails_told g.S.Store old new act outcome a b
     (performs_passes g.S.Store old new c.args.date c.args.files.now command c.in_ok-performed.performed outcome
-    (λ change ran. subst (AnswersRun change) c.in-Told.is ran) c.in_ok-performed.ensures.goes)
+    (λ change ran. subst (AnswersRun change) c.in-Told.is ran) c.in_ok-performed.ensures.uses.once.goes)
     (sent_part _ _ _ _ _ c.in_err-write_report-in-Told.ensures.sends c.in_err-write_report-in-Told.ensures.fault)))
 
 pub returns-in_ok-write_report-in-Told-clause-course : goal.returns-in_ok-write_report-in-Told-clause-course
@@ -118,7 +116,7 @@ returns-in_ok-write_report-in-Told-clause-course g c =
     passed_one g.S.Store old new (Perform c.args.date c.args.files.now command) outcome (g.W.Sink.taken c.args.w.now)
     (g.W.Sink.taken c.write_report.new.w)
     (performs_passes g.S.Store old new c.args.date c.args.files.now command c.in_ok-performed.performed outcome
-    (λ change ran. subst (AnswersRun change) c.in-Told.is ran) c.in_ok-performed.ensures.goes)
+    (λ change ran. subst (AnswersRun change) c.in-Told.is ran) c.in_ok-performed.ensures.uses.once.goes)
     (sent_all _ _ _ _ _ c.in_ok-write_report-in-Told.ensures.sends c.in_ok-write_report-in-Told.ensures.fault)
 
 pub returns-in_err-write_report-in-Lists-clause-course : goal.returns-in_err-write_report-in-Lists-clause-course
@@ -135,7 +133,7 @@ returns-in_err-write_report-in-Lists-clause-course g c =
     (early_first g.S.Store old new act [] a b Write
     (fails_told g.S.Store old new act outcome a b
     (performs_passes g.S.Store old new c.args.date c.args.files.now command c.in_ok-performed.performed outcome
-    (λ change ran. absurd (subst (AnswersRun change) c.in-Lists.is ran)) c.in_ok-performed.ensures.goes)
+    (λ change ran. absurd (subst (AnswersRun change) c.in-Lists.is ran)) c.in_ok-performed.ensures.uses.once.goes)
     (sent_part _ _ _ _ _ c.in_err-write_report-in-Lists.ensures.sends c.in_err-write_report-in-Lists.ensures.fault)))
 
 pub returns-in_ok-write_report-in-Lists-clause-course : goal.returns-in_ok-write_report-in-Lists-clause-course
@@ -147,5 +145,22 @@ returns-in_ok-write_report-in-Lists-clause-course g c =
     passed_one g.S.Store old new (Perform c.args.date c.args.files.now command) outcome (g.W.Sink.taken c.args.w.now)
     (g.W.Sink.taken c.write_report-in-Lists.new.w)
     (performs_passes g.S.Store old new c.args.date c.args.files.now command c.in_ok-performed.performed outcome
-    (λ change ran. absurd (subst (AnswersRun change) c.in-Lists.is ran)) c.in_ok-performed.ensures.goes)
+    (λ change ran. absurd (subst (AnswersRun change) c.in-Lists.is ran)) c.in_ok-performed.ensures.uses.once.goes)
     (sent_all _ _ _ _ _ c.in_ok-write_report-in-Lists.ensures.sends c.in_ok-write_report-in-Lists.ensures.fault)
+
+-- ---- the store behind it
+
+pub returns-in_err-performed-clause-follows : goal.returns-in_err-performed-clause-follows
+returns-in_err-performed-clause-follows g c = c.perform.ensures.uses.once.follows
+
+pub returns-in_err-write_report-in-Told-clause-follows : goal.returns-in_err-write_report-in-Told-clause-follows
+returns-in_err-write_report-in-Told-clause-follows g c = c.perform.ensures.uses.once.follows
+
+pub returns-in_ok-write_report-in-Told-clause-follows : goal.returns-in_ok-write_report-in-Told-clause-follows
+returns-in_ok-write_report-in-Told-clause-follows g c = c.perform.ensures.uses.once.follows
+
+pub returns-in_err-write_report-in-Lists-clause-follows : goal.returns-in_err-write_report-in-Lists-clause-follows
+returns-in_err-write_report-in-Lists-clause-follows g c = c.perform.ensures.uses.once.follows
+
+pub returns-in_ok-write_report-in-Lists-clause-follows : goal.returns-in_ok-write_report-in-Lists-clause-follows
+returns-in_ok-write_report-in-Lists-clause-follows g c = c.perform.ensures.uses.once.follows

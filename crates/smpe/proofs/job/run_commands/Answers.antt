@@ -4,8 +4,8 @@ use Rattle.cntl.specs.Views.{command_of}
 use Rattle.smpe.specs.Ending.{EndsEarly}
 use Rattle.machine.specs.Machine.{Perform}
 use Rattle.smpe.specs.Commands.{EndsCommands}
-use Rattle.smpe.specs.Course.{Passed, GoesEarly}
-use Rattle.smpe.proofs.Early.{follows_on}
+use Rattle.smpe.specs.Going.{Passed, GoesEarly}
+use Rattle.smpe_zones.proofs.Once.{follows_on}
 use Rattle.smpe.proofs.Taken.{taken_more, taken_split}
 use Rattle.smpe.proofs.Commanding.{commands_err, commands_more, commands_stop, commands_early}
 use Rattle.smpe.proofs.Coursing.{commands_passed, early_commands, goes_early}

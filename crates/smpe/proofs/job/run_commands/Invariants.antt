@@ -7,8 +7,8 @@ use Rattle.smpe_session.specs.Sessions.{IsSessionOf}
 use Rattle.smpe_zones.specs.Kept.{Keeps}
 use Rattle.machine.specs.Machine.{Perform}
 use Rattle.smpe.specs.Commands.{EndsCommands}
-use Rattle.smpe.specs.Course.{Passed}
-use Rattle.smpe.specs.Ending.{Follows}
+use Rattle.smpe.specs.Going.{Passed}
+use Rattle.smpe_zones.specs.Ends.{Follows}
 use Rattle.smpe.proofs.job.run_commands.Given as goal
 
 abbrev pub invariant-loop-command : goal.invariant-loop-command

@@ -1,13 +1,13 @@
-use Rattle.std.proofs.Common.{◌∷◌, map, [], Err, inl, inr, refl, ap, subst}
+use Rattle.std.proofs.Common.{◌∷◌, map, [], Err, inr, refl, ap, subst}
 use Rattle.std.specs.Io.KnownBytes.{Appends}
 use Rattle.report.specs.Sent.{WrotePart}
 use Rattle.cntl.specs.Views.{command_of}
 use Rattle.cntl.specs.Faults.{FailsFile}
 use Rattle.machine.specs.Machine.{RunFiles, Begin, Code, Files}
-use Rattle.store.proofs.Going.{loads_alone}
 use Rattle.store.proofs.NoState.{loads_read}
 use Rattle.smpe.specs.declared.error.JobError.TheVariants.{Write}
 use Rattle.smpe.specs.Commands.{job_error}
+use Rattle.smpe_zones.proofs.Once.{is_later, follows_on}
 use Rattle.smpe.proofs.Early.{ends_unbegun}
 use Rattle.smpe.proofs.Reports.{sent_all, sent_part}
 use Rattle.smpe.proofs.Single.{control_same, job_err, faulty_ran, faulty_broke, unbegun, begun}
@@ -58,17 +58,19 @@ returns-in_err-session-clause-ended g c clean s keeps =
     (unbegun g.S.Store c.args.store.now c.begin.new.store s c.args.date c.args.cntl.now
     (record { ptfin = c.args.ptfin.now; holds = c.args.hold.now }) (map command_of c.in-Ok.commands.items) taken
     c.in_err-session.field-0.0
-    c.in-Ok.ensures.commands (c.in_err-session.ensures.ended clean s keeps))
+    c.in-Ok.ensures.commands (c.in_err-session.ensures.uses.ended clean s keeps))
 
 pub returns-clause-ended : goal.returns-clause-ended
 returns-clause-ended g c clean s keeps =
-    let loaded = c.in_ok-session.ensures.ended (c.run_commands.ensures.follows.clean clean) s keeps in
+    let loaded = c.in_ok-session.ensures.uses.ended (c.run_commands.ensures.follows.clean clean) s keeps in
     let old = g.W.Sink.taken c.args.w.now in
     let new = g.W.Sink.taken c.run_commands.new.w in
     begun g.S.Store c.args.store.now c.run_commands.new.store s c.args.date c.args.cntl.now
     (record { ptfin = c.args.ptfin.now; holds = c.args.hold.now }) c.begin.new.store c.run_commands.new.session
     (map command_of c.in-Ok.commands.items) old new
-    c.run_commands.result (c.begin.ensures.faults, c.begin.ensures.limit) c.in-Ok.ensures.commands loaded.1
+    c.run_commands.result
+    (is_later g.S.Store c.args.store.now c.begin.new.store c.begin.ensures.uses.once.follows)
+    c.in-Ok.ensures.commands loaded.1
     (rw c.deref.ensures.value at (c.run_commands.ensures.ended clean _ loaded.0 loaded.1))
 
 -- ---- closed zones
@@ -88,7 +90,8 @@ returns-in-Err-Fault-clause-closed g c clean s keeps closed =
 pub returns-in_err-session-clause-closed : goal.returns-in_err-session-clause-closed
 returns-in_err-session-clause-closed g c clean s keeps closed =
     let taken = g.W.Sink.taken c.args.w.now in
-    job_closed g.S.Store c.args.store.now c.begin.new.store s (c.begin.ensures.clean clean) clean keeps closed
+    job_closed g.S.Store c.args.store.now c.begin.new.store s (c.begin.ensures.uses.once.follows.clean clean) clean
+    keeps closed
     (RunFiles c.args.date c.args.cntl.now (record { ptfin = c.args.ptfin.now; holds = c.args.hold.now })) taken taken
     Code c.from_residual-in_err-session.result c.attest.ensures
     (returns-in_err-session-clause-ended g c clean s keeps)
@@ -96,7 +99,7 @@ returns-in_err-session-clause-closed g c clean s keeps closed =
 pub returns-clause-closed : goal.returns-clause-closed
 returns-clause-closed g c clean s keeps closed =
     job_closed g.S.Store c.args.store.now c.run_commands.new.store s
-    (c.begin.ensures.clean (c.run_commands.ensures.follows.clean clean)) clean keeps closed
+    (c.begin.ensures.uses.once.follows.clean (c.run_commands.ensures.follows.clean clean)) clean keeps closed
     (RunFiles c.args.date c.args.cntl.now (record { ptfin = c.args.ptfin.now; holds = c.args.hold.now }))
     (g.W.Sink.taken c.args.w.now) (g.W.Sink.taken c.run_commands.new.w) Code c.run_commands.result c.attest.ensures
     (returns-clause-ended g c clean s keeps)
@@ -146,8 +149,7 @@ returns-in_err-session-clause-course g c =
     (begin_early g.S.Store c.args.date c.args.cntl.now files old new (map command_of c.in-Ok.commands.items) taken
     (job_error e) c.in-Ok.ensures.commands
     (fails_by g.S.Store (λ own. ⊥) old new Begin taken e e (λ change none. none)
-    (inl (loads_alone g.S.Store old new _ at.reads)) (λ clean is. at.none clean (ap Err is))
-    (λ is. at.which (ap Err is))))
+    at.uses.once.goes (λ clean is. at.uses.once.none clean (ap Err is)) (λ is. at.uses.once.which (ap Err is))))
 
 pub returns-clause-course : goal.returns-clause-course
 returns-clause-course g c =
@@ -162,3 +164,13 @@ returns-clause-course g c =
       inr (λ clean. (c.in_ok-session.session.global, began.rows clean)),
     )
     (rw c.deref.ensures.value at c.run_commands.ensures.course)
+
+-- ---- the store behind it
+
+pub returns-in_err-session-clause-follows : goal.returns-in_err-session-clause-follows
+returns-in_err-session-clause-follows g c = c.begin.ensures.uses.once.follows
+
+pub returns-clause-follows : goal.returns-clause-follows
+returns-clause-follows g c =
+    follows_on g.S.Store c.args.store.now c.begin.new.store c.run_commands.new.store
+    c.begin.ensures.uses.once.follows c.run_commands.ensures.follows

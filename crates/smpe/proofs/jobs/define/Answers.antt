@@ -47,7 +47,7 @@ returns-in-Ok-clause-course g c taken =
     let d = definition c.args.name c.args.kind c.args.srel c.args.related in
     define_goes g.S.Store old new d taken
     (goes_ok g.S.Store old new (IsOwn (Define d)) (IsOwn (Define d)) (tt {0}) [] (λ change own. own)
-    c.in-Ok.ensures.course.goes)
+    c.in-Ok.ensures.course.once.goes)
 
 pub returns-in-Err-Refused-clause-course : goal.returns-in-Err-Refused-clause-course
 returns-in-Err-Refused-clause-course g c taken =
@@ -63,7 +63,7 @@ returns-in-Err-Store-clause-course g c taken =
     let new = c.define_zone.new.store in
     let d = definition c.args.name c.args.kind c.args.srel c.args.related in
     let e = c.in-Err-Store.error in
-    let at = c.in-Err-Store.ensures.course in
+    let at = c.in-Err-Store.ensures.course.once in
     subst (JobsStopped g.S.Store old new (NewZone d ∷ []) taken taken) (sym c.from.ensures)
     (define_early g.S.Store old new d taken (job_error e)
     (fails_by g.S.Store (IsOwn (Define d)) old new (Define d) taken e c.in-Err-Store.field-0 (λ change own. own) at.goes
@@ -77,6 +77,6 @@ returns-in-Err-Memory-clause-course g c taken =
     let d = definition c.args.name c.args.kind c.args.srel c.args.related in
     define_early g.S.Store old new d taken Memory (
       goes_err g.S.Store old new (IsOwn (Define d)) (IsOwn (Define d))
-          c.in-Err-Memory.field-0 Memory (λ change own. own) c.in-Err-Memory.ensures.course.goes,
+          c.in-Err-Memory.field-0 Memory (λ change own. own) c.in-Err-Memory.ensures.course.once.goes,
       refl,
     )

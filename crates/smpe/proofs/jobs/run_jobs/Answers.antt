@@ -2,7 +2,8 @@ use Rattle.std.proofs.Common.{◌∷◌, [], ◌++◌, ◌+◌, map, take, drop,
 use Rattle.std.proofs.lemmas.List.{map-append, take_all}
 use Rattle.smpe.specs.declared.error.JobError.TheVariants.{Memory}
 use Rattle.smpe.specs.Ending.{EndsAmong, EndsJobs, job_of, answer_of}
-use Rattle.smpe.proofs.Early.{ends_unbegun, follows_itself, follows_on}
+use Rattle.smpe_zones.proofs.Once.{follows_itself, follows_on}
+use Rattle.smpe.proofs.Early.{ends_unbegun}
 use Rattle.smpe.proofs.Taken.{taken_more, taken_split}
 use Rattle.smpe.proofs.Listing.{jobs_err, jobs_more, jobs_stop}
 use Rattle.smpe.proofs.Closing.{keeps_closed, closed_now}

@@ -4,7 +4,8 @@ use Rattle.sqlite.specs.Held.{state}
 use Rattle.sqlite.specs.State.{HasCleanDisk}
 use Rattle.machine.specs.State.{State}
 use Rattle.smpe_zones.specs.Kept.{Keeps}
-use Rattle.smpe.specs.Ending.{EndsJobs, Follows, KeepsClosed, job_of, answer_of}
+use Rattle.smpe_zones.specs.Ends.{Follows}
+use Rattle.smpe.specs.Ending.{EndsJobs, KeepsClosed, job_of, answer_of}
 use Rattle.smpe.proofs.Coursing.{JobsWent}
 use Rattle.smpe.proofs.jobs.run_jobs.Given as goal
 

@@ -1,5 +1,5 @@
 use Rattle.std.proofs.Common.{◌∷◌, [], sym, subst}
-use Rattle.smpe.specs.Course.{JobGoes}
+use Rattle.smpe.specs.Going.{JobGoes}
 use Rattle.smpe.specs.Ending.{EndsAmong, EndsJob, job_of, answer_of}
 use Rattle.smpe.proofs.Single.{job_err}
 use Rattle.smpe.proofs.Coursing.{JobsStopped, job_early}

@@ -18,8 +18,9 @@ returns-clause-over g c =
         opens = found;
         store = at;
         ends = λ clean s is.
-            jobs_since g.H.Disk.Store found.conn c.in_ok-store.store at s
-            (found.crash.counts, found.crash.limit) jobs old new (λ v. map answer_of v.items) c.run_jobs-answers.result
+            jobs_since g.H.Disk.Store found.conn c.in_ok-store.store at
+            (found.crash.counts, found.crash.limit) s jobs old new (λ v. map answer_of v.items)
+            c.run_jobs-answers.result
             (c.run_jobs-answers.ensures.ended clean s (found.stands (kept s) is));
         closed = λ clean s is closed. c.run_jobs-answers.ensures.closed clean s (found.stands (kept s) is) closed;
         goes = c.run_jobs-answers.ensures.course;

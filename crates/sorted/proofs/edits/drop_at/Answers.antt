@@ -1,7 +1,7 @@
 use Rattle.std.proofs.Common.{◌≡◌, ◌∙◌, drop, sym, ap}
 use Rattle.std.specs.Ordering.{is_eq}
 use Rattle.std.proofs.lemmas.Bool.{true≢false}
-use Rattle.lemmas.proofs.Orderings.{Equal_from_is_eq}
+use Rattle.terms.proofs.Orderings.{Equal_from_is_eq}
 use Rattle.sorted.proofs.Moving.{starts, behind_tied, behind_all}
 use Rattle.sorted.proofs.edits.drop_at.Given.{Over}
 use Rattle.sorted.proofs.edits.drop_at.Goals.{After-eq}

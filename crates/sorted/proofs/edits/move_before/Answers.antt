@@ -1,7 +1,7 @@
 use Rattle.std.proofs.Common.{◌≡◌, ◌∙◌, ◌++◌, ◌∷◌, [], true, sym, ap, subst, append_assoc, arith}
 use Rattle.std.specs.Ordering.{is_lt}
 use Rattle.terms.specs.Rising.{Rises, before, behind}
-use Rattle.lemmas.proofs.Pairs.{AllPairs_rest}
+use Rattle.terms.proofs.Pairs.{AllPairs_rest}
 use Rattle.sorted.proofs.Moving.{moved_before, kept_behind}
 use Rattle.sorted.proofs.edits.move_before.Goals as goal
 

@@ -1,7 +1,7 @@
 use Rattle.std.proofs.Common.{◌≡◌, ◌<◌, ◌-◌, ◌∙◌, sym, ap, length, arith}
 use Rattle.std.specs.Ordering.{is_lt, is_some_and}
 use Rattle.terms.proofs.RisingLists.{All-before_last}
-use Rattle.lemmas.proofs.Orderings.{Less_from_is_lt}
+use Rattle.terms.proofs.Orderings.{Less_from_is_lt}
 use Rattle.sorted.proofs.keyed.stands_last.Goals as goal
 
 pub returns-in-Some : goal.returns-in-Some

@@ -1,8 +1,8 @@
-use Rattle.std.proofs.Common.{rules, ◌∙◌, arith}
+use Rattle.std.proofs.Common.{rules, arith}
 use Rattle.store.specs.Calls.{entry_calls}
 use Rattle.std.proofs.lemmas.List.{take_all}
 use Rattle.store_rows.proofs.CallLemmas.{follows_err}
-use Rattle.store_rows.proofs.InsideLemmas.{stays_then}
+use Rattle.store_rows.proofs.InsideLemmas.{continues_then}
 use Rattle.store.proofs.DeltaLemmas.{entries_go_on}
 use Rattle.store.proofs.EditLoop.{one_more, one_failed, all_written}
 use Rattle.store.proofs.delta.edit_entries.Goals as goal
@@ -13,20 +13,25 @@ loop-edit-preserved g c =
     let mid = c.loop-edit.tx.conn.now in
     let new = c.edit_entry.new.tx.conn.now in
     record {
-      same_reference = c.edit_entry.ensures.same_reference ∙ c.loop-edit.invariant.same_reference;
-      inside = stays_then g.S.Store old mid new c.loop-edit.invariant.inside c.edit_entry.ensures.inside;
-      calls = one_more g.S.Store (entry_calls c.args.name c.args.zone.now) c.args.edits.now c.loop-edit.edit-index old mid new _ (omega
+      continues = continues_then g.S.Store c.args.tx.now c.loop-edit.tx c.edit_entry.new.tx
+          c.loop-edit.invariant.continues
+          c.edit_entry.ensures.continues;
+      calls = one_more g.S.Store (entry_calls c.args.name c.args.zone.now) c.args.edits.now c.loop-edit.edit-index old
+          mid new _ (omega
           arith)
-          c.edit-item.is c.loop-edit.invariant.inside c.edit_entry.ensures.inside c.loop-edit.invariant.calls
+          c.edit-item.is c.loop-edit.invariant.continues.inside c.edit_entry.ensures.continues.inside
+          c.loop-edit.invariant.calls
           c.in_ok-edit_entry.was c.edit_entry.ensures.calls;
-      changes = entries_go_on g.S.Store c.args.name c.args.zone.now old mid new c.args.edits.now c.loop-edit.edit-index _ (omega arith)
+      changes = entries_go_on g.S.Store c.args.name c.args.zone.now old mid new c.args.edits.now c.loop-edit.edit-index
+          _ (omega arith)
           c.edit-item.is
-          c.edit_entry.ensures.inside c.loop-edit.invariant.changes c.in_ok-edit_entry.ensures.ok;
+          c.edit_entry.ensures.continues.inside c.loop-edit.invariant.changes c.in_ok-edit_entry.ensures.ok;
     }
 
 pub returns-clause-calls : goal.returns-clause-calls
 returns-clause-calls g c =
-    all_written g.S.Store (entry_calls c.args.name c.args.zone.now) c.args.edits.now c.loop-edit.edit-index _ _ (omega arith)
+    all_written g.S.Store (entry_calls c.args.name c.args.zone.now) c.args.edits.now c.loop-edit.edit-index _ _
+    (omega arith)
     c.loop-edit.invariant.calls
 
 pub returns-clause-ok : goal.returns-clause-ok
@@ -35,8 +40,10 @@ returns-clause-ok g c =
 
 pub returns-in_err-edit_entry-clause-calls : goal.returns-in_err-edit_entry-clause-calls
 returns-in_err-edit_entry-clause-calls g c =
-    one_failed g.S.Store (entry_calls c.args.name c.args.zone.now) c.args.edits.now c.loop-edit.edit-index c.args.tx.now.conn.now
+    one_failed g.S.Store (entry_calls c.args.name c.args.zone.now) c.args.edits.now c.loop-edit.edit-index
+    c.args.tx.now.conn.now
     c.loop-edit.tx.conn.now
     c.edit_entry.new.tx.conn.now c.edit_entry.result c.from_residual.result _ (omega arith) c.edit-item.is
-    c.loop-edit.invariant.inside c.edit_entry.ensures.inside c.loop-edit.invariant.calls (search rules)
+    c.loop-edit.invariant.continues.inside c.edit_entry.ensures.continues.inside c.loop-edit.invariant.calls
+    (search rules)
     (follows_err c.edit_entry.result _ _ c.in_err-edit_entry.was c.from_residual.ensures.1) c.edit_entry.ensures.calls

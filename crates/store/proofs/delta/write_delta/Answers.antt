@@ -16,7 +16,7 @@ returns-clause-ok g c =
     let mid = c.edit_entries.new.tx.conn.now in
     let new = c.edit_elements.new.tx.conn.now in
     on_ok c.edit_elements.result _ _
-    (λ later. both s c.args.name c.args.zone.now old mid new c.args.delta.now c.edit_elements.ensures.inside
+    (λ later. both s c.args.name c.args.zone.now old mid new c.args.delta.now c.edit_elements.ensures.continues.inside
     (subst (λ edits. ChangesZone s old mid c.args.name (EditsEntries c.args.zone.now edits)) c.entries.ensures
     c.in_ok-edit_entries.ensures.ok)
     (subst (λ edits. ChangesZone s mid new c.args.name (EditsElements c.args.zone.now edits)) c.elements.ensures later))
@@ -32,7 +32,7 @@ returns-clause-calls g c =
     let entries = entry_calls c.args.name c.args.zone.now in
     let elements = element_calls c.args.name c.args.zone.now in
     runs_then s (flat_map entries delta.entries) (flat_map elements delta.elements) old mid new c.edit_entries.result
-    (tt {0}) c.edit_elements.result c.edit_entries.ensures.inside c.edit_elements.ensures.inside
+    (tt {0}) c.edit_elements.result c.edit_entries.ensures.continues.inside c.edit_elements.ensures.continues.inside
     c.in_ok-edit_entries.was
     (subst (λ edits. RunsInside s (flat_map entries edits) old mid c.edit_entries.result) c.entries.ensures
     c.edit_entries.ensures.calls)
@@ -46,7 +46,8 @@ returns-in_err-edit_entries-clause-calls g c =
     let mid = c.edit_entries.new.tx.conn.now in
     let delta = c.args.delta.now in
     let entries = entry_calls c.args.name c.args.zone.now in
-    runs_err s (flat_map entries delta.entries) (flat_map (element_calls c.args.name c.args.zone.now) delta.elements) old mid
+    runs_err s (flat_map entries delta.entries) (flat_map (element_calls c.args.name c.args.zone.now) delta.elements)
+    old mid
     c.edit_entries.result c.from_residual.result (search rules)
     (follows_err c.edit_entries.result _ _ c.in_err-edit_entries.was c.from_residual.ensures.1)
     (subst (λ edits. RunsInside s (flat_map entries edits) old mid c.edit_entries.result) c.entries.ensures

@@ -1,8 +1,8 @@
-use Rattle.std.proofs.Common.{rules, ◌∙◌, arith}
+use Rattle.std.proofs.Common.{rules, arith}
 use Rattle.store.specs.Calls.{edit_calls}
 use Rattle.std.proofs.lemmas.List.{take_all}
 use Rattle.store_rows.proofs.CallLemmas.{follows_err}
-use Rattle.store_rows.proofs.InsideLemmas.{stays_then}
+use Rattle.store_rows.proofs.InsideLemmas.{continues_then}
 use Rattle.store.proofs.GlobalLemmas.{edits_go_on}
 use Rattle.store.proofs.EditLoop.{one_more, one_failed, all_written}
 use Rattle.store.proofs.edits.write_edits.Goals as goal
@@ -13,13 +13,15 @@ loop-edit-preserved g c =
     let mid = c.loop-edit.tx.conn.now in
     let new = c.write_edit.new.tx.conn.now in
     record {
-      same_reference = c.write_edit.ensures.same_reference ∙ c.loop-edit.invariant.same_reference;
-      inside = stays_then g.S.Store old mid new c.loop-edit.invariant.inside c.write_edit.ensures.inside;
+      continues = continues_then g.S.Store c.args.tx.now c.loop-edit.tx c.write_edit.new.tx
+          c.loop-edit.invariant.continues
+          c.write_edit.ensures.continues;
       calls = one_more g.S.Store edit_calls c.args.edits.now c.loop-edit.edit-index old mid new _ (omega arith)
-          c.edit-item.is c.loop-edit.invariant.inside c.write_edit.ensures.inside c.loop-edit.invariant.calls
+          c.edit-item.is c.loop-edit.invariant.continues.inside c.write_edit.ensures.continues.inside
+          c.loop-edit.invariant.calls
           c.in_ok-write_edit.was c.write_edit.ensures.calls;
       changes = edits_go_on g.S.Store old mid new c.args.edits.now c.loop-edit.edit-index _ (omega arith) c.edit-item.is
-          c.write_edit.ensures.inside c.loop-edit.invariant.changes c.in_ok-write_edit.ensures.ok;
+          c.write_edit.ensures.continues.inside c.loop-edit.invariant.changes c.in_ok-write_edit.ensures.ok;
     }
 
 pub returns-clause-calls : goal.returns-clause-calls
@@ -36,5 +38,6 @@ returns-in_err-write_edit-clause-calls g c =
     one_failed g.S.Store edit_calls c.args.edits.now c.loop-edit.edit-index c.args.tx.now.conn.now
     c.loop-edit.tx.conn.now
     c.write_edit.new.tx.conn.now c.write_edit.result c.from_residual.result _ (omega arith) c.edit-item.is
-    c.loop-edit.invariant.inside c.write_edit.ensures.inside c.loop-edit.invariant.calls (search rules)
+    c.loop-edit.invariant.continues.inside c.write_edit.ensures.continues.inside c.loop-edit.invariant.calls
+    (search rules)
     (follows_err c.write_edit.result _ _ c.in_err-write_edit.was c.from_residual.ensures.1) c.write_edit.ensures.calls

@@ -21,7 +21,8 @@ returns-clause-made g c clean =
     same
     (λ late. on_ok c.commit.result _ _
     (λ it. committed s c.args.conn.now c.write.new.tx.conn.now c.commit.new.self.0 c.args.change.now
-    (c.if-prove.ensures.settled refl) (rw begun at c.write.ensures.inside) (rw begun at c.in_ok-write.ensures.ok)
+    (c.if-prove.ensures.settled refl) (rw begun at c.write.ensures.continues.inside)
+    (rw begun at c.in_ok-write.ensures.ok)
     c.commit.ensures.survives.clean late it.1)
     (c.commit.ensures.ok late)) clean
 
@@ -33,7 +34,8 @@ returns-clause-crash g c =
     subst (λ h. Survives (state s c.args.conn.now) (state s h) (IsChangeOutcome s c.args.conn.now c.args.change.now))
     same
     (crashed s c.args.conn.now c.write.new.tx.conn.now c.commit.new.self.0 c.args.change.now (c.if-prove.ensures.settled
-    refl) (rw begun at c.write.ensures.inside) (rw begun at c.in_ok-write.ensures.ok) c.commit.ensures.survives)
+    refl) (rw begun at c.write.ensures.continues.inside) (rw begun at c.in_ok-write.ensures.ok)
+    c.commit.ensures.survives)
 
 pub returns-in_err-write-clause-cause : goal.returns-in_err-write-clause-cause
 returns-in_err-write-clause-cause g c =
@@ -56,7 +58,7 @@ returns-clause-cause g c =
     (λ e. (e ≡ SqliteFailure OutOfMemory) ⊎ FailsToWrite s c.args.change.now c.args.conn.now h)) same
     (λ clean. IfErr-weaker c.commit.result _ _
     (λ e. failed_to_commit s c.args.conn.now c.write.new.tx.conn.now c.commit.new.self.0 c.args.change.now
-    c.write.result (tt {0}) e (rw begun at c.write.ensures.inside) c.commit.ensures.survives
+    c.write.result (tt {0}) e (rw begun at c.write.ensures.continues.inside) c.commit.ensures.survives
     c.in_ok-write.was clean (rw begun at c.write.ensures.calls))
     (c.commit.ensures.err clean))
 
@@ -67,7 +69,7 @@ returns-in_err-write-clause-only g c =
     let same : c.drop-tx.new.self.0 ≡ c.conn-1.given.0 = search rules in
     subst (λ h. OnlyCommits s (calls_of c.args.change.now) c.args.conn.now h c.from_residual.result) same
     (only_undone s (calls_of c.args.change.now) c.args.conn.now c.drop-tx.new.self.0 c.write.new.tx.conn.now (rw begun
-    at c.write.ensures.inside) c.from_residual.result _ c.from_residual.ensures.1
+    at c.write.ensures.continues.inside) c.from_residual.result _ c.from_residual.ensures.1
     (λ clean. c.drop-tx.ensures.undone clean) c.drop-tx.ensures.survives)
 
 pub returns-clause-only : goal.returns-clause-only
@@ -77,7 +79,7 @@ returns-clause-only g c =
     let same : c.commit.new.self.0 ≡ c.conn-2-1.given.0 = search rules in
     subst (λ h. OnlyCommits s (calls_of c.args.change.now) c.args.conn.now h c.commit.result) same
     (only_committed s (calls_of c.args.change.now) c.args.conn.now c.commit.new.self.0 c.write.new.tx.conn.now (rw begun
-    at c.write.ensures.inside) c.write.result (tt {0}) c.commit.result
+    at c.write.ensures.continues.inside) c.write.result (tt {0}) c.commit.result
     c.in_ok-write.was (rw begun at c.write.ensures.calls) c.commit.ensures.survives
     (λ clean. on_ok c.commit.result _ _ (λ it. it.1) (c.commit.ensures.ok clean))
     (λ clean. IfErr-weaker c.commit.result _ _ (λ e fails. fails) (c.commit.ensures.err clean)))

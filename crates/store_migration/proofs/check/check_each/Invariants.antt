@@ -6,7 +6,7 @@ use Rattle.store_rows.specs.Reads.{OnlyReads}
 use Rattle.store_rows.specs.Rows.{Contents, HasContents}
 use Rattle.terms.specs.Types.{NamedZone}
 use Rattle.store_schema.specs.Earlier.{schema_under}
-use Rattle.store_zone_loads.specs.Held.{HoldsHeads}
+use Rattle.store_zones.specs.Held.{HoldsHeads}
 use Rattle.store_migration.proofs.Checking.{done, HoldsFirst}
 use Rattle.store_migration.proofs.check.check_each.Given as goal
 

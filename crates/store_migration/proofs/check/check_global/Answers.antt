@@ -2,7 +2,7 @@ use Rattle.std.proofs.Common.{rules, sym, subst}
 use Rattle.sqlite.specs.Held.{state}
 use Rattle.terms.specs.Types.{a_global}
 use Rattle.terms.specs.Global.{IsGlobal}
-use Rattle.store_columns.proofs.Schemas.{stands_inventory}
+use Rattle.store_schema.proofs.UnderEach.{stands_inventory}
 use Rattle.store_migration.proofs.check.check_global.Goals as goal
 
 pub returns-in_err-joined-clause-none : goal.returns-in_err-joined-clause-none

@@ -12,6 +12,6 @@ returns-clause-ok g c =
     on_ok c.empty_column.result _ _
     (turns_then g.S.Store c.args.tx.now.conn.now c.insert_sources.new.tx.conn.now c.empty_column.new.tx.conn.now
     (HasContents store_schema) (λ contents. fold (with_source h.id) contents h.sources)
-    (in_table sysmod (in_place (Text h.id ∷ []) (bare_row h))) c.empty_column.ensures.inside
+    (in_table sysmod (in_place (Text h.id ∷ []) (bare_row h))) c.empty_column.ensures.continues.inside
     (rw c.as_slice.ensures.items at c.in_ok-insert_sources.ensures.ok))
     c.empty_column.ensures.ok

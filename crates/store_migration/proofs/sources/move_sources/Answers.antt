@@ -1,5 +1,5 @@
-use Rattle.std.proofs.Common.{◌∙◌, arith}
-use Rattle.store_rows.proofs.InsideLemmas.{stays_then}
+use Rattle.std.proofs.Common.{arith}
+use Rattle.store_rows.proofs.InsideLemmas.{continues_then}
 use Rattle.store_migration.specs.Moved.{with_moved}
 use Rattle.store_migration.proofs.Moving.{edited_more, edited_all}
 use Rattle.store_migration.proofs.sources.move_sources.Goals as goal
@@ -10,10 +10,11 @@ loop-head-preserved g c =
     let mid = c.loop-head.tx.conn.now in
     let new = c.move_head.new.tx.conn.now in
     record {
-      same_reference = c.move_head.ensures.same_reference ∙ c.loop-head.invariant.same_reference;
-      inside = stays_then g.S.Store old mid new c.loop-head.invariant.inside c.move_head.ensures.inside;
+      continues = continues_then g.S.Store c.args.tx.now c.loop-head.tx c.move_head.new.tx
+          c.loop-head.invariant.continues
+          c.move_head.ensures.continues;
       edited = edited_more g.S.Store (with_moved) c.args.heads.now c.loop-head.head-index c.head-item.result old mid new
-          (omega arith) c.head-item.is c.move_head.ensures.inside c.loop-head.invariant.edited
+          (omega arith) c.head-item.is c.move_head.ensures.continues.inside c.loop-head.invariant.edited
           c.in_ok-move_head.ensures.ok;
     }
 

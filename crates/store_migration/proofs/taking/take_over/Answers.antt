@@ -31,4 +31,4 @@ returns-clause-crash g c =
     subst (λ h. Survives (state s c.args.conn.now) (state s h) (IsTaken c.args.schema c.args.heads.now (state s
     c.args.conn.now).now)) same
     (crash_leaves s c.args.conn.now last c.commit.new.self.0 c.args.schema c.args.heads.now (rw begun at
-    c.write.ensures.inside) (rw begun at c.in_ok-write.ensures.ok) c.commit.ensures.survives)
+    c.write.ensures.continues.inside) (rw begun at c.in_ok-write.ensures.ok) c.commit.ensures.survives)

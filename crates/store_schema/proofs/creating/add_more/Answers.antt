@@ -3,8 +3,8 @@ use Rattle.sqlite.specs.Held.{state}
 use Rattle.store_rows.specs.Rows.{HasContents}
 use Rattle.store_schema.specs.Create.{with_new}
 use Rattle.store_schema.specs.Tables.{second_tables, morever, moreif, chosen, schema_of}
-use Rattle.store_schema.proofs.Texts.{create_morever, create_moreif, create_chosen, makes_morever, makes_moreif}
-use Rattle.store_schema.proofs.Texts.{makes_chosen}
+use Rattle.store_schema.proofs.CreateTexts.{create_morever, create_moreif, create_chosen, makes_morever, makes_moreif}
+use Rattle.store_schema.proofs.CreateTexts.{makes_chosen}
 use Rattle.store_schema.proofs.Making.{on_ok_under, leads_table, leads_more}
 use Rattle.store_schema.proofs.Adding.{without_more}
 use Rattle.store_schema.proofs.creating.add_more.Goals as goal
@@ -22,6 +22,6 @@ returns-clause-ok g c =
     let made1 = leads_table create_morever second_tables morever makes_morever new refl s t0 t1
     c.in_ok-run.ensures.ran in
     let made2 = leads_more create_moreif (second_tables ++ morever ∷ []) moreif makes_moreif new refl s t0 t1 t2 held
-    c.run-2.ensures.inside made1 c.in_ok-run-2.ensures.ran in
+    c.run-2.ensures.continues.inside made1 c.in_ok-run-2.ensures.ran in
     leads_more create_chosen (second_tables ++ morever ∷ moreif ∷ []) chosen makes_chosen new refl s t0 t2 t3 held
-    c.run-3.ensures.inside made2 ran clean (without_more contents (state s t0).now was)) c.run-3.ensures.ran
+    c.run-3.ensures.continues.inside made2 ran clean (without_more contents (state s t0).now was)) c.run-3.ensures.ran

@@ -2,7 +2,7 @@ use Rattle.std.proofs.Common.{[], ◌∷◌, refl}
 use Rattle.sqlite.specs.Held.{state}
 use Rattle.store_schema.specs.Create.{with_new}
 use Rattle.store_schema.specs.Tables.{first_tables, source}
-use Rattle.store_schema.proofs.Texts.{create_source, makes_source}
+use Rattle.store_schema.proofs.CreateTexts.{create_source, makes_source}
 use Rattle.store_schema.proofs.Making.{on_ok_under, leads_table}
 use Rattle.store_schema.proofs.Adding.{without_source}
 use Rattle.store_schema.proofs.creating.add_source.Goals as goal

@@ -18,7 +18,7 @@ returns-in_ok-add_source-in-First-clause-ok g c =
     let first = with_new (source ∷ []) contents in
     added_both contents (state s t2).now
     (leads_then s t0 t1 t2 (HasContents (schema_of first_tables) contents) (HasContents (schema_of second_tables) first)
-    (HasContents store_schema (with_new (morever ∷ moreif ∷ chosen ∷ []) first)) c.add_more.ensures.inside
+    (HasContents store_schema (with_new (morever ∷ moreif ∷ chosen ∷ []) first)) c.add_more.ensures.continues.inside
     (c.in_ok-add_source-in-First.ensures.ok contents) (more first) clean was)) c.add_more.ensures.ok)
 
 pub returns-in-Second-clause-ok : goal.returns-in-Second-clause-ok

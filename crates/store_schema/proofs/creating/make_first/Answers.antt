@@ -3,7 +3,7 @@ use Rattle.sqlite.specs.Held.{state}
 use Rattle.store_schema.specs.Create.{IsBlank, HasTables}
 use Rattle.store_schema.specs.Tables.{meta, global_tables, first_tables}
 use Rattle.store_rows.proofs.InsideLemmas.{on_ok, leads_then}
-use Rattle.store_schema.proofs.Texts.{create_meta, makes_meta}
+use Rattle.store_schema.proofs.CreateTexts.{create_meta, makes_meta}
 use Rattle.store_schema.proofs.Making.{makes_table}
 use Rattle.store_schema.proofs.creating.make_first.Goals as goal
 
@@ -15,8 +15,8 @@ returns-clause-ok g c =
     let t2 = c.make_global.new.tx.conn.now in
     let t3 = c.make_zones.new.tx.conn.now in
     let front = HasTables (meta ∷ global_tables) in
-    let first = leads_then s t0 t1 t2 IsBlank (HasTables (meta ∷ [])) front c.make_global.ensures.inside
+    let first = leads_then s t0 t1 t2 IsBlank (HasTables (meta ∷ [])) front c.make_global.ensures.continues.inside
     (λ clean blank. makes_table create_meta [] meta makes_meta (λ _. []) refl (state s t0) (state s t1) blank tt
     (c.in_ok-run.ensures.ran clean)) c.in_ok-make_global.ensures.ok in
     on_ok c.make_zones.result _ _ (λ made. leads_then s t0 t2 t3 IsBlank front (HasTables first_tables)
-    c.make_zones.ensures.inside first made) c.make_zones.ensures.ok
+    c.make_zones.ensures.continues.inside first made) c.make_zones.ensures.ok

@@ -1,8 +1,8 @@
 use Rattle.std.proofs.Common.{[], ◌∷◌, refl}
 use Rattle.store_schema.specs.Create.{HasTables}
 use Rattle.store_schema.specs.Tables.{meta, sysmod, ver, ifreq, hold, elem}
-use Rattle.store_schema.proofs.Texts.{create_sysmod, create_ver, create_ifreq, create_hold, create_elem, makes_sysmod}
-use Rattle.store_schema.proofs.Texts.{makes_ver, makes_ifreq, makes_hold, makes_elem}
+use Rattle.store_schema.proofs.CreateTexts.{create_sysmod, create_ver, create_ifreq, create_hold, create_elem, makes_sysmod}
+use Rattle.store_schema.proofs.CreateTexts.{makes_ver, makes_ifreq, makes_hold, makes_elem}
 use Rattle.store_schema.proofs.Making.{on_ok_under, leads_table, leads_more}
 use Rattle.store_schema.proofs.creating.make_global.Goals as goal
 
@@ -19,10 +19,10 @@ returns-clause-ok g c =
     let made1 = leads_table create_sysmod (meta ∷ []) sysmod makes_sysmod (λ _. []) refl s t0 t1
     c.in_ok-run.ensures.ran in
     let made2 = leads_more create_ver (meta ∷ sysmod ∷ []) ver makes_ver (λ _. []) refl s t0 t1 t2 was
-    c.run-2.ensures.inside made1 c.in_ok-run-2.ensures.ran in
+    c.run-2.ensures.continues.inside made1 c.in_ok-run-2.ensures.ran in
     let made3 = leads_more create_ifreq (meta ∷ sysmod ∷ ver ∷ []) ifreq makes_ifreq (λ _. []) refl s t0 t2 t3 was
-    c.run-3.ensures.inside made2 c.in_ok-run-3.ensures.ran in
+    c.run-3.ensures.continues.inside made2 c.in_ok-run-3.ensures.ran in
     let made4 = leads_more create_hold (meta ∷ sysmod ∷ ver ∷ ifreq ∷ []) hold makes_hold (λ _. []) refl s t0 t3 t4
-    was c.run-4.ensures.inside made3 c.in_ok-run-4.ensures.ran in
+    was c.run-4.ensures.continues.inside made3 c.in_ok-run-4.ensures.ran in
     on_ok_under c.run-5.result _ _ _ (λ ran. leads_more create_elem (meta ∷ sysmod ∷ ver ∷ ifreq ∷ hold ∷ []) elem
-    makes_elem (λ _. []) refl s t0 t4 t5 was c.run-5.ensures.inside made4 ran) c.run-5.ensures.ran
+    makes_elem (λ _. []) refl s t0 t4 t5 was c.run-5.ensures.continues.inside made4 ran) c.run-5.ensures.ran

@@ -16,7 +16,7 @@ returns-clause-crash g c =
     let last = c.make_all.new.tx.conn.now in
     let last_now = c.commit.new.self.0 in
     let begun = c.transaction-tx.ensures.begun in
-    let inside = rw begun at c.make_all.ensures.inside in
+    let inside = rw begun at c.make_all.ensures.continues.inside in
     let made = rw begun at c.in_ok-make_all.ensures.ok in
     let same : last_now ≡ c.conn-2-1.given.0 = search rules in
     subst (λ h. Survives (state s old) (state s h) (IsMade s old IsBlank empty)) same

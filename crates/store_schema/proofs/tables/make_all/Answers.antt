@@ -19,8 +19,8 @@ returns-clause-ok g c =
     let t3 = c.run.new.tx.conn.now in
     let empty = StandsFor empty_inventory in
     let made = leads_then s t0 t1 t2 IsBlank (HasTables first_tables) (HasTables all_tables)
-    c.add_tables.ensures.inside c.in_ok-make_first.ensures.ok
+    c.add_tables.ensures.continues.inside c.in_ok-make_first.ensures.ok
     (λ clean was. adds_to_none (state s t2).now (c.in_ok-add_tables.ensures.ok (λ _. []) clean was)) in
     on_ok_under c.run.result _ _ _ (λ ran. leads_then s t0 t2 t3 IsBlank (HasTables all_tables) empty
-    c.run.ensures.inside made (λ clean tables. makes_number (state s t2) (state s t3) tables (ran clean)))
+    c.run.ensures.continues.inside made (λ clean tables. makes_number (state s t2) (state s t3) tables (ran clean)))
     c.run.ensures.ran

@@ -12,7 +12,7 @@ returns-in-Second-clause-ok g c =
     let t2 = c.add_source.new.tx.conn.now in
     rw c.in-Second.is (on_ok c.add_source.result _ _ (λ more.
     leads_then s c.args.tx.now.conn.now c.make_first.new.tx.conn.now t2 IsBlank (HasTables first_tables)
-    (HasTables second_tables) c.add_source.ensures.inside c.in_ok-make_first.ensures.ok
+    (HasTables second_tables) c.add_source.ensures.continues.inside c.in_ok-make_first.ensures.ok
     (λ clean was. source_to_none (state s t2).now (more (λ _. []) clean was))) c.add_source.ensures.ok)
 
 pub returns-in-Third-clause-ok : goal.returns-in-Third-clause-ok
@@ -21,5 +21,5 @@ returns-in-Third-clause-ok g c =
     let t2 = c.add_tables.new.tx.conn.now in
     rw c.in-Third.is (on_ok c.add_tables.result _ _ (λ more.
     leads_then s c.args.tx.now.conn.now c.make_first.new.tx.conn.now t2 IsBlank (HasTables first_tables)
-    (HasTables all_tables) c.add_tables.ensures.inside c.in_ok-make_first.ensures.ok
+    (HasTables all_tables) c.add_tables.ensures.continues.inside c.in_ok-make_first.ensures.ok
     (λ clean was. adds_to_none (state s t2).now (more (λ _. []) clean was))) c.add_tables.ensures.ok)

@@ -3,7 +3,7 @@ use Rattle.std.proofs.Common.{arith, rules}
 use Rattle.std.specs.Prelude.{All, AllPairs}
 use Rattle.std.proofs.lemmas.List.{append-nil, take_more, take_all, get_or-take, get_or_default, length-take-le}
 use Rattle.std.proofs.lemmas.List.Elements.{All-nil}
-use Rattle.lemmas.proofs.Pairs.{AllPairs_between}
+use Rattle.terms.proofs.Pairs.{AllPairs_between}
 use Rattle.store_schema.specs.Forms.{AreVersApart}
 use Rattle.store_sysmod_loads.proofs.building.are_apart.Goals as goal
 

@@ -1,7 +1,7 @@
 use Rattle.std.proofs.Common.{◌≡◌, ◌++◌, ◌∷◌, [], List, All, IsTrue, append-nil, true, false, arith, sym, ap, subst, ◌∙◌}
 use Rattle.terms.specs.Types.{Text}
 use Rattle.terms.specs.Lookups.{is_before, IsRising}
-use Rattle.lemmas.proofs.Pairs.{AllPairs_between, AllPairs_parts}
+use Rattle.terms.proofs.Pairs.{AllPairs_between, AllPairs_parts}
 use Rattle.store_sysmods.specs.declared.source.SourceRow.{SourceRow}
 use Rattle.store_sysmod_loads.proofs.RunLemmas.{AreNamed, sources_told, sources_step, sources_end, next_left}
 use Rattle.store_sysmod_loads.proofs.joining.take_sources.Goals as goal

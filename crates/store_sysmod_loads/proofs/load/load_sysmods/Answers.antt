@@ -1,6 +1,6 @@
 use Rattle.std.proofs.Common.{sym}
 use Rattle.store_rows.proofs.InsideLemmas.{if_ok}
-use Rattle.store_columns.proofs.Schemas.{rows_under, stands_rows}
+use Rattle.store_schema.proofs.UnderEach.{rows_under, stands_rows}
 use Rattle.store_sysmod_loads.proofs.Standing.{stands_formed, inventory_rows}
 use Rattle.store_sysmod_loads.proofs.load.load_sysmods.Goals as goal
 

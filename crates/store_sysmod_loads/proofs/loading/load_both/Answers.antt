@@ -3,7 +3,7 @@ use Rattle.std.proofs.lemmas.List.Sorted.{IsPermutation-append, IsPermutation-tr
 use Rattle.sqlite.specs.Held.{state}
 use Rattle.sqlite.specs.State.{HasCleanDisk}
 use Rattle.sqlite_trees.proofs.ListLemmas.{all-permutation}
-use Rattle.lemmas.proofs.Each.{recursion_append, recursion_weaker}
+use Rattle.terms.proofs.Each.{recursion_append, recursion_weaker}
 use Rattle.store_rows.specs.Rows.{HasContents}
 use Rattle.store_rows.specs.declared.error.ReadError.TheVariants.{BadRow}
 use Rattle.store_rows.proofs.Queries.{reads_err, reads_more, reads_then}

@@ -1,6 +1,6 @@
 use Rattle.std.proofs.Common.{◌⊎◌, inl}
-use Rattle.lemmas.proofs.Each.{recursion_weaker}
-use Rattle.lemmas.proofs.Results.{if_ok_both}
+use Rattle.terms.proofs.Each.{recursion_weaker}
+use Rattle.terms.proofs.Results.{if_ok_both}
 use Rattle.store_rows.proofs.InsideLemmas.{if_ok}
 use Rattle.store_schema.specs.declared.schema.Schema.TheVariants.{Third}
 use Rattle.store_sysmod_loads.proofs.Apart.{early_rows, rows_early}

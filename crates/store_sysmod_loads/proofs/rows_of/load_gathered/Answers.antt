@@ -1,6 +1,6 @@
 use Rattle.std.proofs.Common.{◌≡◌, [], List, IsPermutation, map, filter, rules, ap, subst, ◌∙◌}
 use Rattle.std.specs.List.{AllByRecursion}
-use Rattle.lemmas.proofs.Each.{recursion_weaker}
+use Rattle.terms.proofs.Each.{recursion_weaker}
 use Rattle.store_rows.proofs.InsideLemmas.{if_ok}
 use Rattle.store_schema.specs.Tables.{ver, ifreq, elem}
 use Rattle.store_sysmods.specs.declared.head.HeadRow.{HeadRow}

@@ -12,8 +12,8 @@ use Rattle.store_sysmods.proofs.RowForms.{kept_elem, elem_bound}
 use Rattle.store_sysmods.proofs.Steps.{puts_row}
 use Rattle.store_sysmods.proofs.elem.insert_row.Goals as goal
 
-pub returns-clause-puts : goal.returns-clause-puts
-returns-clause-puts g c =
+pub returns : goal.returns
+returns g c =
     let x = c.args.id.now in
     let change = c.args.change.now in
     let view = c.change.view_is in
@@ -24,5 +24,5 @@ returns-clause-puts g c =
     (c.update_value-update.ensures ∙ ap (λ (a : Change). flag (is_update a.action)) view)
     (c.distlib_value-distlib.ensures ∙ ap (λ (a : Change). or_null Text (distlib_of a.action)) view)
     (c.syslib_value-syslib.ensures ∙ ap (λ (a : Change). or_null Text (syslib_of a.action)) view) c.requires in
-    puts_row g.S.Store insert_elem elem row (kept_elem x change) c.insert.ensures.inside c.insert.ensures.calls
+    puts_row g.S.Store insert_elem elem row (kept_elem x change) c.insert.ensures.continues c.insert.ensures.calls
     (on_ok c.insert.result _ _ (λ ran. ran store_schema 5 elem puts_elem) c.insert.ensures.ok)

@@ -26,9 +26,10 @@ puts : (g : Over) (c : After-put g) → Puts g c c.args.hold.now
 puts g c =
     let h = the_view c.hold.inside in
     let row = hold_bound c.as_bytes.result.now c.hold_text.result.now c.as_bytes-2.result.now c.as_bytes-3.result.now
-    c.class_value-class.result c.date_value-date.result c.comment_value-comment.result c.flag_value-internal.result h
+    c.text_or_null-class.result c.text_or_null-date.result c.comment_value-comment.result c.flag_value-internal.result h
     c.as_bytes.ensures.same c.hold_text.ensures c.as_bytes-2.ensures.same c.as_bytes-3.ensures.same
-    c.class_value-class.ensures c.date_value-date.ensures c.comment_value-comment.ensures c.flag_value-internal.ensures
+    c.text_or_null-class.ensures c.text_or_null-date.ensures c.comment_value-comment.ensures
+    c.flag_value-internal.ensures
     in
     subst (Puts g c) c.hold.view_is (
       subst (λ r. RunsInside g.S.Store ((put_hold, r) ∷ []) c.args.tx.now.conn.now c.put.new.tx.conn.now c.put.result)

@@ -8,8 +8,8 @@ use Rattle.store_sysmods.proofs.RowForms.{kept_ifreq, ifreq_bound}
 use Rattle.store_sysmods.proofs.Steps.{puts_row}
 use Rattle.store_sysmods.proofs.ifreq.insert_row.Goals as goal
 
-pub returns-clause-puts : goal.returns-clause-puts
-returns-clause-puts g c =
+pub returns : goal.returns
+returns g c =
     let i = c.args.ifreq.now in
     let x = c.args.id.now in
     let srel = c.args.srel.now in
@@ -17,5 +17,6 @@ returns-clause-puts g c =
     let row = ifreq_bound c.as_bytes.result.now c.as_bytes-2.result.now c.as_bytes-3.result.now c.args.req.now _ n x
     srel i c.as_bytes.ensures.same c.as_bytes-2.ensures.same (search rules)
     (c.as_bytes-3.ensures.same ∙ ap (λ (j : IfReq). j.function) c.ifreq.view_is) c.requires.req in
-    puts_row g.S.Store insert_ifreq ifreq row (kept_ifreq x srel (n, i)) c.insert.ensures.inside c.insert.ensures.calls
+    puts_row g.S.Store insert_ifreq ifreq row (kept_ifreq x srel (n, i)) c.insert.ensures.continues
+    c.insert.ensures.calls
     (on_ok c.insert.result _ _ (λ ran. ran store_schema 3 ifreq puts_ifreq) c.insert.ensures.ok)

@@ -7,8 +7,8 @@ use Rattle.store_sysmods.proofs.Texts.{takes_ifreqs}
 use Rattle.store_sysmods.proofs.Steps.{step_takes}
 use Rattle.store_sysmods.proofs.ifreq.remove_rows.Goals as goal
 
-pub returns-clause-takes : goal.returns-clause-takes
-returns-clause-takes g c =
+pub returns : goal.returns
+returns g c =
     step_takes g.S.Store delete_ifreqs ifreq _ c.args.id _ _ _ (ap (λ x. Text x ∷ []) c.as_bytes.ensures.same)
-    c.remove.ensures.inside c.remove.ensures.calls
+    c.remove.ensures.continues c.remove.ensures.calls
     (on_ok c.remove.result _ _ (λ ran. ran store_schema 3 ifreq takes_ifreqs) c.remove.ensures.ok)

@@ -2,7 +2,7 @@ use Rattle.std.proofs.Common.{IsPermutation, rules}
 use Rattle.std.specs.List.Sorted.{IsSortedByKey}
 use Rattle.std.proofs.lemmas.List.Sorted.{answers_always, IsPermutation-sym, IsPermutation-trans}
 use Rattle.terms.proofs.Permuted.{rises_sorted}
-use Rattle.store_schema.proofs.Lists.{rising_same}
+use Rattle.store_schema.proofs.WrittenLists.{rising_same}
 use Rattle.store_sysmods.proofs.listed.by_keys.Goals as goal
 
 pub returns-clause-only : goal.returns-clause-only

@@ -8,18 +8,19 @@ use Rattle.store_sysmods.proofs.RowForms.{kept_morever, morever_bound}
 use Rattle.store_sysmods.proofs.Steps.{puts_row}
 use Rattle.store_sysmods.proofs.morever.insert_row.Goals as goal
 
-pub returns-clause-puts : goal.returns-clause-puts
-returns-clause-puts g c =
+pub returns : goal.returns
+returns g c =
     let v = c.args.ver.now in
     let x = c.args.id.now in
     let n = c.args.number in
     let view = c.ver.view_is in
     let row = morever_bound c.as_bytes.result.now c.as_bytes-2.result.now c.as_slice.result.now c.as_slice-2.result.now
-    c.as_slice-3.result.now _ c.id_value-fmid.result x n v
+    c.as_slice-3.result.now _ c.text_or_null-fmid.result x n v
     c.as_bytes.ensures.same (c.as_bytes-2.ensures.same ∙ ap (λ (u : Ver). u.srel) view) (search rules)
-    (c.id_value-fmid.ensures ∙ ap (λ (u : Ver). Rattle.sqlite.specs.Values.or_null
+    (c.text_or_null-fmid.ensures ∙ ap (λ (u : Ver). Rattle.sqlite.specs.Values.or_null
     Rattle.sqlite.specs.declared.types.Value.TheVariants.Text u.fmid) view)
     (c.as_slice.ensures.value ∙ c.requires.lists.pre) (c.as_slice-2.ensures.value ∙ c.requires.lists.req)
     (c.as_slice-3.ensures.value ∙ c.requires.lists.sup) in
-    puts_row g.S.Store insert_morever morever row (kept_morever x (n, v)) c.insert.ensures.inside c.insert.ensures.calls
+    puts_row g.S.Store insert_morever morever row (kept_morever x (n, v)) c.insert.ensures.continues
+    c.insert.ensures.calls
     (on_ok c.insert.result _ _ (λ ran. ran store_schema 10 morever puts_morever) c.insert.ensures.ok)

@@ -14,21 +14,21 @@ use Rattle.store_sysmods.proofs.sysmod_rows.remove_sysmod.Goals as goal
 
 -- the tables that refer to the one of SYSMODs
 children : (g : Over) (c : After-remove_row g) → Ran g.S.Store (take 6 (remove_sysmod_calls c.args.id))
-    (without_rows sysmod_children c.args.id) c.args.tx.now.conn.now c.remove_rows-6.new.tx.conn.now
+    (without_rows sysmod_children c.args.id) c.args.tx.now c.remove_rows-6.new.tx
 children g c =
     let S = g.S.Store in
-    step_then S (step_ok S c.in_ok-remove_rows.was c.remove_rows.ensures.takes)
-    (step_then S (step_ok S c.in_ok-remove_rows-2.was c.remove_rows-2.ensures.takes)
-    (step_then S (step_ok S c.in_ok-remove_rows-3.was c.remove_rows-3.ensures.takes)
-    (step_then S (step_ok S c.in_ok-remove_rows-4.was c.remove_rows-4.ensures.takes)
-    (step_then S (step_ok S c.in_ok-remove_rows-5.was c.remove_rows-5.ensures.takes)
-    (step_ok S c.in_ok-remove_rows-6.was c.remove_rows-6.ensures.takes)))))
+    step_then S (step_ok S c.in_ok-remove_rows.was c.remove_rows.ensures)
+    (step_then S (step_ok S c.in_ok-remove_rows-2.was c.remove_rows-2.ensures)
+    (step_then S (step_ok S c.in_ok-remove_rows-3.was c.remove_rows-3.ensures)
+    (step_then S (step_ok S c.in_ok-remove_rows-4.was c.remove_rows-4.ensures)
+    (step_then S (step_ok S c.in_ok-remove_rows-5.was c.remove_rows-5.ensures)
+    (step_ok S c.in_ok-remove_rows-6.was c.remove_rows-6.ensures)))))
 
 pub returns-clause-ok : goal.returns-clause-ok
 returns-clause-ok g c =
     on_ok c.remove_row.result _ _ (λ removed.
     all_removed g.S.Store c.args.tx.now.conn.now c.remove_rows-6.new.tx.conn.now c.remove_row.new.tx.conn.now c.args.id
-    c.remove_row.ensures.inside (children g c).ok removed) c.remove_row.ensures.ok
+    c.remove_row.ensures.continues.inside (children g c).ok removed) c.remove_row.ensures.ok
 
 pub returns-clause-stands : goal.returns-clause-stands
 returns-clause-stands g c =
@@ -39,61 +39,61 @@ pub returns-clause-calls : goal.returns-clause-calls
 returns-clause-calls g c =
     runs_rest g.S.Store (take 6 (remove_sysmod_calls c.args.id)) ((delete_sysmod, sysmod_key c.args.id) ∷ [])
     c.args.tx.now.conn.now c.remove_rows-6.new.tx.conn.now c.remove_row.new.tx.conn.now c.remove_row.result
-    (children g c).inside c.remove_row.ensures.inside (children g c).runs c.remove_row.ensures.calls
+    (children g c).continues.inside c.remove_row.ensures.continues.inside (children g c).runs c.remove_row.ensures.calls
 
 pub returns-in_err-remove_rows-clause-calls : goal.returns-in_err-remove_rows-clause-calls
 returns-in_err-remove_rows-clause-calls g c =
     let S = g.S.Store in
     let stops = step_stops S (drop 1 (remove_sysmod_calls c.args.id)) c.from_residual.result
-    c.in_err-remove_rows.was c.from_residual.ensures.1 c.remove_rows.ensures.takes in
+    c.in_err-remove_rows.was c.from_residual.ensures.1 c.remove_rows.ensures in
     stops.runs
 
 pub returns-in_err-remove_rows-2-clause-calls : goal.returns-in_err-remove_rows-2-clause-calls
 returns-in_err-remove_rows-2-clause-calls g c =
     let S = g.S.Store in
     let stops = step_stops S (drop 2 (remove_sysmod_calls c.args.id)) c.from_residual-in_err-remove_rows-2.result
-    c.in_err-remove_rows-2.was c.from_residual-in_err-remove_rows-2.ensures.1 c.remove_rows-2.ensures.takes in
-    (step_then S (step_ok S c.in_ok-remove_rows.was c.remove_rows.ensures.takes)
+    c.in_err-remove_rows-2.was c.from_residual-in_err-remove_rows-2.ensures.1 c.remove_rows-2.ensures in
+    (step_then S (step_ok S c.in_ok-remove_rows.was c.remove_rows.ensures)
     stops).runs
 
 pub returns-in_err-remove_rows-3-clause-calls : goal.returns-in_err-remove_rows-3-clause-calls
 returns-in_err-remove_rows-3-clause-calls g c =
     let S = g.S.Store in
     let stops = step_stops S (drop 3 (remove_sysmod_calls c.args.id)) c.from_residual-in_err-remove_rows-3.result
-    c.in_err-remove_rows-3.was c.from_residual-in_err-remove_rows-3.ensures.1 c.remove_rows-3.ensures.takes in
-    (step_then S (step_ok S c.in_ok-remove_rows.was c.remove_rows.ensures.takes)
-    (step_then S (step_ok S c.in_ok-remove_rows-2.was c.remove_rows-2.ensures.takes)
+    c.in_err-remove_rows-3.was c.from_residual-in_err-remove_rows-3.ensures.1 c.remove_rows-3.ensures in
+    (step_then S (step_ok S c.in_ok-remove_rows.was c.remove_rows.ensures)
+    (step_then S (step_ok S c.in_ok-remove_rows-2.was c.remove_rows-2.ensures)
     stops)).runs
 
 pub returns-in_err-remove_rows-4-clause-calls : goal.returns-in_err-remove_rows-4-clause-calls
 returns-in_err-remove_rows-4-clause-calls g c =
     let S = g.S.Store in
     let stops = step_stops S (drop 4 (remove_sysmod_calls c.args.id)) c.from_residual-in_err-remove_rows-4.result
-    c.in_err-remove_rows-4.was c.from_residual-in_err-remove_rows-4.ensures.1 c.remove_rows-4.ensures.takes in
-    (step_then S (step_ok S c.in_ok-remove_rows.was c.remove_rows.ensures.takes)
-    (step_then S (step_ok S c.in_ok-remove_rows-2.was c.remove_rows-2.ensures.takes)
-    (step_then S (step_ok S c.in_ok-remove_rows-3.was c.remove_rows-3.ensures.takes)
+    c.in_err-remove_rows-4.was c.from_residual-in_err-remove_rows-4.ensures.1 c.remove_rows-4.ensures in
+    (step_then S (step_ok S c.in_ok-remove_rows.was c.remove_rows.ensures)
+    (step_then S (step_ok S c.in_ok-remove_rows-2.was c.remove_rows-2.ensures)
+    (step_then S (step_ok S c.in_ok-remove_rows-3.was c.remove_rows-3.ensures)
     stops))).runs
 
 pub returns-in_err-remove_rows-5-clause-calls : goal.returns-in_err-remove_rows-5-clause-calls
 returns-in_err-remove_rows-5-clause-calls g c =
     let S = g.S.Store in
     let stops = step_stops S (drop 5 (remove_sysmod_calls c.args.id)) c.from_residual-in_err-remove_rows-5.result
-    c.in_err-remove_rows-5.was c.from_residual-in_err-remove_rows-5.ensures.1 c.remove_rows-5.ensures.takes in
-    (step_then S (step_ok S c.in_ok-remove_rows.was c.remove_rows.ensures.takes)
-    (step_then S (step_ok S c.in_ok-remove_rows-2.was c.remove_rows-2.ensures.takes)
-    (step_then S (step_ok S c.in_ok-remove_rows-3.was c.remove_rows-3.ensures.takes)
-    (step_then S (step_ok S c.in_ok-remove_rows-4.was c.remove_rows-4.ensures.takes)
+    c.in_err-remove_rows-5.was c.from_residual-in_err-remove_rows-5.ensures.1 c.remove_rows-5.ensures in
+    (step_then S (step_ok S c.in_ok-remove_rows.was c.remove_rows.ensures)
+    (step_then S (step_ok S c.in_ok-remove_rows-2.was c.remove_rows-2.ensures)
+    (step_then S (step_ok S c.in_ok-remove_rows-3.was c.remove_rows-3.ensures)
+    (step_then S (step_ok S c.in_ok-remove_rows-4.was c.remove_rows-4.ensures)
     stops)))).runs
 
 pub returns-in_err-remove_rows-6-clause-calls : goal.returns-in_err-remove_rows-6-clause-calls
 returns-in_err-remove_rows-6-clause-calls g c =
     let S = g.S.Store in
     let stops = step_stops S (drop 6 (remove_sysmod_calls c.args.id)) c.from_residual-in_err-remove_rows-6.result
-    c.in_err-remove_rows-6.was c.from_residual-in_err-remove_rows-6.ensures.1 c.remove_rows-6.ensures.takes in
-    (step_then S (step_ok S c.in_ok-remove_rows.was c.remove_rows.ensures.takes)
-    (step_then S (step_ok S c.in_ok-remove_rows-2.was c.remove_rows-2.ensures.takes)
-    (step_then S (step_ok S c.in_ok-remove_rows-3.was c.remove_rows-3.ensures.takes)
-    (step_then S (step_ok S c.in_ok-remove_rows-4.was c.remove_rows-4.ensures.takes)
-    (step_then S (step_ok S c.in_ok-remove_rows-5.was c.remove_rows-5.ensures.takes)
+    c.in_err-remove_rows-6.was c.from_residual-in_err-remove_rows-6.ensures.1 c.remove_rows-6.ensures in
+    (step_then S (step_ok S c.in_ok-remove_rows.was c.remove_rows.ensures)
+    (step_then S (step_ok S c.in_ok-remove_rows-2.was c.remove_rows-2.ensures)
+    (step_then S (step_ok S c.in_ok-remove_rows-3.was c.remove_rows-3.ensures)
+    (step_then S (step_ok S c.in_ok-remove_rows-4.was c.remove_rows-4.ensures)
+    (step_then S (step_ok S c.in_ok-remove_rows-5.was c.remove_rows-5.ensures)
     stops))))).runs

@@ -17,19 +17,19 @@ use Rattle.store_sysmods.proofs.sysmod_rows.replace_sources.Goals as goal
 
 replaced : (g : Over) (c : After-insert_all g)
     → Step g.S.Store (replace_sources_calls c.args.sysmod.now) (with_source_rows c.args.sysmod.now)
-    c.args.tx.now.conn.now c.insert_all.new.tx.conn.now c.insert_all.result
+    c.args.tx.now c.insert_all.new.tx c.insert_all.result
 replaced g c =
     let view = c.sysmod.view_is in
     let id = ap (λ (t : Sysmod). t.id) view in
     let rows = ap₂ (λ x names. map (source_row x) names) id (c.as_slice.ensures.items
     ∙ ap (λ (t : Sysmod). t.sources) view) in
     step_then g.S.Store (step_ok g.S.Store c.in_ok-remove_rows.was
-    (step_takes_of g.S.Store delete_sources source id c.remove_rows.ensures.takes))
+    (step_takes_of g.S.Store delete_sources source id c.remove_rows.ensures))
     (puts_as g.S.Store insert_source source (each_behind (source_row c.sysmod.inside.id) [] c.as_slice.result.now
-    ∙ rows) c.insert_all.ensures.puts)
+    ∙ rows) c.insert_all.ensures)
 
-pub returns-clause-inside : goal.returns-clause-inside
-returns-clause-inside g c = (replaced g (goal.at.returns-clause-inside g c).After-insert_all).inside
+pub returns-clause-continues : goal.returns-clause-continues
+returns-clause-continues g c = (replaced g (goal.at.returns-clause-continues g c).After-insert_all).continues
 
 pub returns-clause-ok : goal.returns-clause-ok
 returns-clause-ok g c = (replaced g (goal.at.returns-clause-ok g c).After-insert_all).ok
@@ -46,4 +46,4 @@ pub returns-in_err-remove_rows-clause-calls : goal.returns-in_err-remove_rows-cl
 returns-in_err-remove_rows-clause-calls g c =
     (step_stops g.S.Store (puts insert_source (sources_of c.args.sysmod.now)) c.from_residual.result
     c.in_err-remove_rows.was c.from_residual.ensures.1 (step_takes_of g.S.Store delete_sources
-    source (ap (λ (t : Sysmod). t.id) c.sysmod.view_is) c.remove_rows.ensures.takes)).runs
+    source (ap (λ (t : Sysmod). t.id) c.sysmod.view_is) c.remove_rows.ensures)).runs

@@ -8,18 +8,18 @@ use Rattle.store_sysmods.proofs.RowForms.{kept_ver, ver_bound}
 use Rattle.store_sysmods.proofs.Steps.{puts_row}
 use Rattle.store_sysmods.proofs.ver.insert_row.Goals as goal
 
-pub returns-clause-puts : goal.returns-clause-puts
-returns-clause-puts g c =
+pub returns : goal.returns
+returns g c =
     let v = c.args.ver.now in
     let x = c.args.id.now in
     let view = c.ver.view_is in
     let row = ver_bound c.as_bytes.result.now c.as_bytes-2.result.now c.as_slice.result.now c.as_slice-2.result.now
-    c.as_slice-3.result.now c.as_slice-4.result.now c.as_slice-5.result.now c.id_value-fmid.result x v
+    c.as_slice-3.result.now c.as_slice-4.result.now c.as_slice-5.result.now c.text_or_null-fmid.result x v
     c.as_bytes.ensures.same (c.as_bytes-2.ensures.same ∙ ap (λ (u : Ver). u.srel) view)
-    (c.id_value-fmid.ensures ∙ ap (λ (u : Ver). Rattle.sqlite.specs.Values.or_null
+    (c.text_or_null-fmid.ensures ∙ ap (λ (u : Ver). Rattle.sqlite.specs.Values.or_null
     Rattle.sqlite.specs.declared.types.Value.TheVariants.Text u.fmid) view)
     (c.as_slice.ensures.value ∙ c.requires.pre) (c.as_slice-2.ensures.value ∙ c.requires.req)
     (c.as_slice-3.ensures.value ∙ c.requires.sup) (c.as_slice-4.ensures.value ∙ c.requires.npre)
     (c.as_slice-5.ensures.value ∙ c.requires.del) in
-    puts_row g.S.Store insert_ver ver row (kept_ver x v) c.insert.ensures.inside c.insert.ensures.calls
+    puts_row g.S.Store insert_ver ver row (kept_ver x v) c.insert.ensures.continues c.insert.ensures.calls
     (on_ok c.insert.result _ _ (λ ran. ran store_schema 2 ver puts_ver) c.insert.ensures.ok)

@@ -7,8 +7,8 @@ use Rattle.store_sysmods.proofs.Texts.{takes_vers}
 use Rattle.store_sysmods.proofs.Steps.{step_takes}
 use Rattle.store_sysmods.proofs.ver.remove_rows.Goals as goal
 
-pub returns-clause-takes : goal.returns-clause-takes
-returns-clause-takes g c =
+pub returns : goal.returns
+returns g c =
     step_takes g.S.Store delete_vers ver _ c.args.id _ _ _ (ap (λ x. Text x ∷ []) c.as_bytes.ensures.same)
-    c.remove.ensures.inside c.remove.ensures.calls
+    c.remove.ensures.continues c.remove.ensures.calls
     (on_ok c.remove.result _ _ (λ ran. ran store_schema 2 ver takes_vers) c.remove.ensures.ok)

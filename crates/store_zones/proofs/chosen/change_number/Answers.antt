@@ -2,7 +2,7 @@ use Rattle.std.proofs.Common.{true, false, refl, rules}
 use Rattle.std.proofs.lemmas.Bool.{eq-eqb}
 use Rattle.store_rows.proofs.InsideLemmas.{on_ok}
 use Rattle.store_schema.specs.Rows.{chosen_row}
-use Rattle.store_zones.specs.Keys.{entry_key}
+use Rattle.store_zones.specs.Entries.{entry_key}
 use Rattle.store_zones.proofs.ByNumber.{turns_number}
 use Rattle.store_zones.proofs.Putting.{number_rows_with}
 use Rattle.store_zones.proofs.chosen.change_number.Goals as goal

@@ -2,7 +2,7 @@ use Rattle.std.proofs.Common.{rules}
 use Rattle.store_rows.proofs.InsideLemmas.{on_ok}
 use Rattle.store_schema.specs.Rows.{chosen_row}
 use Rattle.store_schema.specs.Tables.{store_schema, chosen}
-use Rattle.store_zones.specs.Calls.{put_chosen}
+use Rattle.store_zones.specs.Chosen.{put_chosen}
 use Rattle.store_zones.proofs.Texts.{puts_chosen}
 use Rattle.store_zones.proofs.RowForms.{kept_chosen, chosen_bound}
 use Rattle.store_zones.proofs.Putting.{PutsRow, puts_row}

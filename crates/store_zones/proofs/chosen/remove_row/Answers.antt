@@ -4,8 +4,8 @@ use Rattle.store_rows.specs.Calls.{RunsInside}
 use Rattle.store_rows.proofs.InsideLemmas.{on_ok}
 use Rattle.store_rows.proofs.Bound.{as_removed}
 use Rattle.store_schema.specs.Tables.{store_schema, chosen}
-use Rattle.store_zones.specs.Calls.{delete_chosen}
-use Rattle.store_zones.specs.Keys.{entry_key}
+use Rattle.store_zones.specs.Chosen.{delete_chosen}
+use Rattle.store_zones.specs.Entries.{entry_key}
 use Rattle.store_zones.proofs.Texts.{takes_chosen}
 use Rattle.store_zones.proofs.chosen.remove_row.Goals as goal
 

@@ -4,8 +4,7 @@ use Rattle.store_rows.proofs.InsideLemmas.{on_ok}
 use Rattle.terms.specs.Types.{Element}
 use Rattle.store_schema.specs.Rows.{zelem_row}
 use Rattle.store_schema.specs.Tables.{store_schema, zelem}
-use Rattle.store_zones.specs.Calls.{insert_element, put_element}
-use Rattle.store_zones.specs.Keys.{element_key}
+use Rattle.store_zones.specs.Elements.{insert_element, put_element, element_key}
 use Rattle.zones.specs.contracts.entries.Element.{the_view}
 use Rattle.store_zones.proofs.Texts.{adds_element, puts_element}
 use Rattle.store_rows.proofs.Pieces.{flat_concat}
@@ -41,7 +40,8 @@ put g c =
     view (
       ran.0,
       on_ok q _ _ (λ put clean contents was.
-          element_rows_with (element_key zone e.elem_type e.name) (zelem_row zone e) contents _ (put clean contents was))
+          element_rows_with (element_key zone e.elem_type e.name) (zelem_row zone e) contents _
+          (put clean contents was))
           ran.1,
     ))
 

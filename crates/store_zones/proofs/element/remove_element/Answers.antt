@@ -3,8 +3,7 @@ use Rattle.store_rows.specs.Calls.{RunsInside}
 use Rattle.store_rows.proofs.InsideLemmas.{on_ok}
 use Rattle.store_schema.specs.Stands.{rows_of}
 use Rattle.store_schema.specs.Tables.{store_schema, zelem}
-use Rattle.store_zones.specs.Calls.{delete_element}
-use Rattle.store_zones.specs.Keys.{element_key}
+use Rattle.store_zones.specs.Elements.{delete_element, element_key}
 use Rattle.store_zones.proofs.Texts.{takes_element}
 use Rattle.store_zones.proofs.RowForms.{element_key_bound}
 use Rattle.store_rows.proofs.Bound.{as_removed}

@@ -6,9 +6,9 @@ use Rattle.store_rows.proofs.InsideLemmas.{on_ok, turns_then}
 use Rattle.store_schema.specs.Rows.{entry_row}
 use Rattle.store_schema.specs.Stands.{rows_of}
 use Rattle.store_schema.specs.Tables.{store_schema, entry, chosen}
-use Rattle.store_zones.specs.Calls.{insert_entry, put_entry, number_calls}
-use Rattle.store_zones.specs.Keys.{entry_key}
-use Rattle.store_zones.specs.Numbers.{number_of, number_before}
+use Rattle.store_zones.specs.Calls.{number_calls}
+use Rattle.store_zones.specs.Entries.{insert_entry, put_entry, entry_key}
+use Rattle.store_zones.specs.Chosen.{number_of, number_before}
 use Rattle.store_zones.specs.Zones.{numbered, rows_with}
 use Rattle.store_zones.proofs.ByNumber.{Renumbers, renumbers_as}
 use Rattle.store_zones.proofs.ZoneLemmas.{entry_put}
@@ -35,7 +35,7 @@ returns-clause-ok g c =
     (HasContents store_schema)
     (in_table entry (rows_with (is_some stood) (entry_key zone e.id) (entry_row zone e)))
     (in_table chosen (numbered zone e.id (number_before stood) (number_of e)))
-    c.change_number.ensures.inside c.in_ok-put_row.ensures.ok)
+    c.change_number.ensures.continues.inside c.in_ok-put_row.ensures.ok)
     (changed g (goal.at.returns-clause-ok g c).After-change_number).1
 
 pub returns-clause-stands : goal.returns-clause-stands
@@ -52,7 +52,8 @@ returns-clause-calls g c =
     runs_then g.S.Store ((if is_some stood then put_entry else insert_entry, entry_row zone e) ∷ [])
     (number_calls zone e.id (number_before stood) (number_of e)) c.args.tx.now.conn.now
     c.put_row.new.tx.conn.now c.change_number.new.tx.conn.now c.put_row.result (tt {0}) c.change_number.result
-    c.put_row.ensures.inside c.change_number.ensures.inside c.in_ok-put_row.was c.put_row.ensures.calls
+    c.put_row.ensures.continues.inside c.change_number.ensures.continues.inside c.in_ok-put_row.was
+    c.put_row.ensures.calls
     (changed g (goal.at.returns-clause-calls g c).After-change_number).0
 
 pub returns-in_err-put_row-clause-calls : goal.returns-in_err-put_row-clause-calls

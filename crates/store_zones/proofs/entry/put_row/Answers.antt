@@ -4,8 +4,7 @@ use Rattle.terms.specs.Types.{Entry}
 use Rattle.store_rows.proofs.InsideLemmas.{on_ok}
 use Rattle.store_schema.specs.Rows.{entry_row}
 use Rattle.store_schema.specs.Tables.{store_schema, entry}
-use Rattle.store_zones.specs.Calls.{insert_entry, put_entry}
-use Rattle.store_zones.specs.Keys.{entry_key}
+use Rattle.store_zones.specs.Entries.{insert_entry, put_entry, entry_key}
 use Rattle.zones.specs.contracts.entries.Entry.{the_view}
 use Rattle.store_zones.proofs.Texts.{adds_entry, puts_entry}
 use Rattle.store_zones.proofs.RowForms.{kept_entry, entry_bound}
@@ -15,7 +14,8 @@ use Rattle.store_zones.proofs.entry.put_row.Goals.{After-put, After-insert}
 use Rattle.store_zones.proofs.entry.put_row.Goals as goal
 
 put : (g : Over) (c : After-put g) → WritesRow g.S.Store put_entry insert_entry entry 2 c.args.tx.now.conn.now
-    c.put.new.tx.conn.now c.put.result (entry_row c.args.zone.now c.args.entry.now) (is_some (option_copied c.args.stood))
+    c.put.new.tx.conn.now c.put.result (entry_row c.args.zone.now c.args.entry.now)
+    (is_some (option_copied c.args.stood))
 put g c =
     let e = the_view c.entry.inside in
     let view : e ≡ c.args.entry.now = c.entry.view_is in
@@ -24,9 +24,9 @@ put g c =
     let new = c.put.new.tx.conn.now in
     let q = c.put.result in
     let row = entry_bound c.as_bytes.result.now c.as_bytes-2.result.now c.args.supby.now c.args.waived.now
-    c.date_value.result c.id_value.result zone e c.as_bytes.ensures.same c.as_bytes-2.ensures.same
+    c.date_value.result c.text_or_null.result zone e c.as_bytes.ensures.same c.as_bytes-2.ensures.same
     c.date_value.ensures (c.requires.supby ∙ sym (ap (λ (x : Entry). join_with_byte 44 x.supby) view))
-    c.id_value.ensures (c.requires.waived ∙ sym (ap (λ (x : Entry). join_with_byte 44 x.waived) view)) in
+    c.text_or_null.ensures (c.requires.waived ∙ sym (ap (λ (x : Entry). join_with_byte 44 x.waived) view)) in
     let ran = puts_row g.S.Store put_entry entry old new q 2 (entry_row zone e) _ row (kept_entry zone e)
     c.put.ensures.calls (on_ok q _ _ (λ ran. ran store_schema 7 entry 2 puts_entry) c.put.ensures.ok) in
     subst (λ (b : Bool). WritesRow g.S.Store put_entry insert_entry entry 2 old new q
@@ -48,9 +48,9 @@ insert g c =
     let new = c.insert.new.tx.conn.now in
     let q = c.insert.result in
     let row = entry_bound c.as_bytes.result.now c.as_bytes-2.result.now c.args.supby.now c.args.waived.now
-    c.date_value.result c.id_value.result zone e c.as_bytes.ensures.same c.as_bytes-2.ensures.same
+    c.date_value.result c.text_or_null.result zone e c.as_bytes.ensures.same c.as_bytes-2.ensures.same
     c.date_value.ensures (c.requires.supby ∙ sym (ap (λ (x : Entry). join_with_byte 44 x.supby) view))
-    c.id_value.ensures (c.requires.waived ∙ sym (ap (λ (x : Entry). join_with_byte 44 x.waived) view)) in
+    c.text_or_null.ensures (c.requires.waived ∙ sym (ap (λ (x : Entry). join_with_byte 44 x.waived) view)) in
     subst (λ (b : Bool). WritesRow g.S.Store put_entry insert_entry entry 2 old new q
     (entry_row zone c.args.entry.now) b) (sym (ap (λ o. is_some (option_copied o)) c.in-None.is))
     (subst (λ (x : Entry). WritesRow g.S.Store put_entry insert_entry entry 2 old new q (entry_row zone x) false) view

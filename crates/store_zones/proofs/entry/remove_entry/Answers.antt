@@ -4,9 +4,9 @@ use Rattle.store_rows.proofs.CallLemmas.{runs_then, runs_err, follows_err}
 use Rattle.store_rows.proofs.InsideLemmas.{on_ok, turns_then}
 use Rattle.store_schema.specs.Stands.{rows_of}
 use Rattle.store_schema.specs.Tables.{store_schema, entry, chosen}
-use Rattle.store_zones.specs.Calls.{delete_entry, number_calls}
-use Rattle.store_zones.specs.Keys.{entry_key}
-use Rattle.store_zones.specs.Numbers.{number_before}
+use Rattle.store_zones.specs.Calls.{number_calls}
+use Rattle.store_zones.specs.Entries.{delete_entry, entry_key}
+use Rattle.store_zones.specs.Chosen.{number_before}
 use Rattle.store_zones.specs.Zones.{numbered}
 use Rattle.store_zones.proofs.ByNumber.{Renumbers, renumbers_as}
 use Rattle.store_zones.proofs.ZoneLemmas.{entry_removed}
@@ -30,7 +30,7 @@ returns-clause-ok g c =
     (turns_then g.S.Store c.args.tx.now.conn.now c.remove_row.new.tx.conn.now c.change_number.new.tx.conn.now
     (HasContents store_schema) (in_table entry (without (entry_key zone id)))
     (in_table chosen (numbered zone id (number_before (option_copied c.args.stood)) 1))
-    c.change_number.ensures.inside c.in_ok-remove_row.ensures.ok)
+    c.change_number.ensures.continues.inside c.in_ok-remove_row.ensures.ok)
     (changed g (goal.at.returns-clause-ok g c).After-change_number).1
 
 pub returns-clause-stands : goal.returns-clause-stands
@@ -46,7 +46,8 @@ returns-clause-calls g c =
     runs_then g.S.Store ((delete_entry, entry_key zone id) ∷ [])
     (number_calls zone id (number_before (option_copied c.args.stood)) 1) c.args.tx.now.conn.now
     c.remove_row.new.tx.conn.now c.change_number.new.tx.conn.now c.remove_row.result (tt {0}) c.change_number.result
-    c.remove_row.ensures.inside c.change_number.ensures.inside c.in_ok-remove_row.was c.remove_row.ensures.calls
+    c.remove_row.ensures.continues.inside c.change_number.ensures.continues.inside c.in_ok-remove_row.was
+    c.remove_row.ensures.calls
     (changed g (goal.at.returns-clause-calls g c).After-change_number).0
 
 pub returns-in_err-remove_row-clause-calls : goal.returns-in_err-remove_row-clause-calls

@@ -4,8 +4,7 @@ use Rattle.store_rows.specs.Calls.{RunsInside}
 use Rattle.store_rows.proofs.InsideLemmas.{on_ok}
 use Rattle.store_rows.proofs.Bound.{as_removed}
 use Rattle.store_schema.specs.Tables.{store_schema, entry}
-use Rattle.store_zones.specs.Calls.{delete_entry}
-use Rattle.store_zones.specs.Keys.{entry_key}
+use Rattle.store_zones.specs.Entries.{delete_entry, entry_key}
 use Rattle.store_zones.proofs.Texts.{takes_entry}
 use Rattle.store_zones.proofs.entry.remove_row.Goals as goal
 

@@ -1,7 +1,7 @@
 use Rattle.std.proofs.Common.{◌≡◌, ◌∙◌, [], ◌∷◌, ◌++◌, sym, ap, append_assoc}
 use Rattle.terms.specs.Types.{Hold}
 use Rattle.sysmods.proofs.Internal.{at_middle, first_at, none_at}
-use Rattle.lemmas.proofs.Each.{recursion_append}
+use Rattle.terms.proofs.Each.{recursion_append}
 use Rattle.std.proofs.Common.{subst, All, false, Some}
 use Rattle.std.specs.BTreeMap.{get}
 use Rattle.sysmods.specs.Keys.{key_cmp}

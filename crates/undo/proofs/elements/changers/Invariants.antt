@@ -3,4 +3,4 @@ use Rattle.undo.specs.Elements.{AreChangers}
 use Rattle.undo.proofs.elements.changers.Given as goal
 
 abbrev pub invariant-loop-id : goal.invariant-loop-id
-invariant-loop-id l = AreChangers l.vers.global.now (take l.id-index l.ids) l.changers
+invariant-loop-id l = AreChangers l.global (take l.id-index l.ids) l.changers

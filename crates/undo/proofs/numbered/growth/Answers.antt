@@ -1,15 +1,29 @@
-use Rattle.std.proofs.Common.{sym, subst}
+use Rattle.std.proofs.Common.{◌∙◌, length, ap, sym, subst}
+use Rattle.std.proofs.lemmas.List.{length-map}
+use Rattle.decide.specs.Least.{IsRule}
+use Rattle.decide.specs.Rules.{as_rule}
 use Rattle.undo.specs.ByNumbers.{Covers}
+use Rattle.undo.specs.Steps.{is_start}
 use Rattle.undo.proofs.RulesOfSteps.{one_more}
 use Rattle.undo.proofs.numbered.growth.Goals as goal
 
-pub add_rule-requires-clause-covers : goal.add_rule-requires-clause-covers
-add_rule-requires-clause-covers c =
+pub rule_of-requires : goal.rule_of-requires
+rule_of-requires c =
     subst (Covers c.args.table.now) (sym c.step-item.is)
-    (c.requires.covers c.loop-step.step-index c.step-item.result c.loop-step-test.true)
+    (c.requires c.loop-step.step-index c.step-item.result c.loop-step-test.true)
+
+pub add_rule-requires : goal.add_rule-requires
+add_rule-requires c =
+    subst (λ n. IsRule n (as_rule c.in_ok-rule_of.field-0))
+    (sym (ap length c.loop-step.invariant.start ∙ length-map c.args.table.now (is_start c.args.ids.now)))
+    c.in_ok-rule_of.ensures.valid
 
 pub loop-step-preserved : goal.loop-step-preserved
 loop-step-preserved c =
     one_more c.args.table.now c.args.ids.now c.args.steps.now c.loop-step.step-index c.step-item.result
-    c.loop-step.rules c.add_rule.new.rules c.loop-step-test.true c.step-item.is c.loop-step.invariant
-    c.in_ok-add_rule.ensures
+    c.loop-step.rules c.add_rule.new.self c.loop-step-test.true c.step-item.is c.loop-step.invariant
+    (record {
+      rule = as_rule c.in_ok-rule_of.field-0;
+      numbered = c.in_ok-rule_of.ensures.numbered;
+      new_is = c.in_ok-add_rule.ensures.ok;
+    })

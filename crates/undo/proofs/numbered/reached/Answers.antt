@@ -1,12 +1,24 @@
-use Rattle.undo.proofs.RulesOfSteps.{starts_in, covers_in}
+use Rattle.std.proofs.Common.{Contains}
+use Rattle.std.proofs.lemmas.List.Elements.{All-contains}
+use Rattle.undo.specs.declared.nodes.Node.TheVariants.{Sysmod}
+use Rattle.undo.specs.Steps.{as_steps}
+use Rattle.undo.proofs.RulesOfSteps.{all_reached, starts_in, covers_in}
 use Rattle.undo.proofs.numbered.reached.Goals as goal
 
-pub reached_over-requires-clause-starts : goal.reached_over-requires-clause-starts
-reached_over-requires-clause-starts c =
-    starts_in c.from_vec-table.result c.in_ok-all_nodes.field-0.items c.args.ids.now c.args.steps.now
-    c.in_ok-all_nodes.ensures c.from_vec-table.ensures
-
-pub reached_over-requires-clause-covers : goal.reached_over-requires-clause-covers
-reached_over-requires-clause-covers c =
+pub growth-requires : goal.growth-requires
+growth-requires c =
     covers_in c.from_vec-table.result c.in_ok-all_nodes.field-0.items c.args.ids.now c.args.steps.now
     c.in_ok-all_nodes.ensures c.from_vec-table.ensures
+
+pub returns : goal.returns
+returns c =
+    let table = c.from_vec-table.result in
+    let ids = c.args.ids.now in
+    let starts = starts_in table c.in_ok-all_nodes.field-0.items ids c.args.steps.now c.in_ok-all_nodes.ensures
+    c.from_vec-table.ensures in
+    let rises = rw c.as_slice.ensures.items at c.as_slice.ensures.rising in
+    let flagged = rw (c.as_slice.ensures.items, c.as_slice-2.ensures.value) at c.in_ok-flagged.ensures in
+    all_reached table rises ids (as_steps c.args.steps.now) c.in_ok-rules.rules c.in_ok-rules.ensures
+    (λ x h. All-contains (λ y. Contains table (Sysmod y)) ids x starts h)
+    c.in_ok-set.set.items c.in_ok-set.ensures c.in_ok-flagged.field-0.items c.from_vec-found.result flagged
+    c.from_vec-found.ensures c.attest.ensures

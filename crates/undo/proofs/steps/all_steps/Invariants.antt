@@ -1,9 +1,34 @@
-use Rattle.std.proofs.Common.{◌≡◌, take}
+use Rattle.std.proofs.Common.{◌≡◌, ◌++◌, map, take}
 use Rattle.std.specs.List.{flat_map}
 use Rattle.undo.specs.Scopes.{restoring_of}
-use Rattle.undo.specs.Steps.{as_steps, steps_of}
+use Rattle.undo.specs.Steps.{as_steps, to_element, from_element, from_all, to_elements, from_elements, from_groups}
 use Rattle.undo.proofs.steps.all_steps.Given as goal
 
 abbrev pub invariant-loop-id : goal.invariant-loop-id
 invariant-loop-id l =
-    as_steps l.steps.items ≡ flat_map (steps_of (restoring_of l.scope)) (take l.id-index l.id-items)
+    as_steps l.steps.items ≡ flat_map (to_elements (restoring_of l.scope)) (take l.id-index l.id-items)
+
+abbrev pub invariant-loop-change : goal.invariant-loop-change
+invariant-loop-change l =
+    as_steps l.steps.items ≡ as_steps l.initial.steps.items ++ map (to_element l.id) (take l.change-index l.changes)
+
+abbrev pub invariant-loop-other : goal.invariant-loop-other
+invariant-loop-other l =
+    as_steps l.steps.items
+    ≡ as_steps l.initial.steps.items
+    ++ flat_map (from_elements (restoring_of l.scope)) (take l.other-index l.other-items)
+
+abbrev pub invariant-loop-change-2 : goal.invariant-loop-change-2
+invariant-loop-change-2 l =
+    as_steps l.steps.items ≡ as_steps l.initial.steps.items ++ map (from_element l.other) (take l.change-index l.shared)
+
+abbrev pub invariant-loop-by : goal.invariant-loop-by
+invariant-loop-by l =
+    as_steps l.steps.items
+    ≡ as_steps l.initial.steps.items ++ flat_map (from_groups (restoring_of l.scope)) (take l.by-index l.by-items)
+
+abbrev pub invariant-loop-group : goal.invariant-loop-group
+invariant-loop-group l =
+    as_steps l.steps.items
+    ≡ as_steps l.initial.steps.items
+    ++ flat_map (λ group. from_all l.by group.items) (take l.group-index l.group-items)

@@ -5,7 +5,7 @@ use Rattle.terms.specs.Choice.{fits}
 use Rattle.zones_views.proofs.Picking.{place_below}
 use Rattle.zones_views.proofs.choosing.fitting_number.Goals as goal
 use Rattle.std.proofs.Common.{filter}
-use Rattle.lemmas.proofs.Searches.{filter_le, first_of_one}
+use Rattle.terms.proofs.Searches.{filter_le, first_of_one}
 
 pub returns-then-vers-lt2 : goal.returns-then-vers-lt2
 returns-then-vers-lt2 c =

@@ -2,7 +2,7 @@ use Rattle.std.proofs.Common.{◌∙◌, sym}
 use Rattle.std.proofs.lemmas.List.Filters.{dedup_is}
 use Rattle.std.proofs.lemmas.List.Kept.{IsStrictlySortedBy-dedup, Contains-dedup, Contains-from_dedup}
 use Rattle.std.proofs.lemmas.List.Sorted.{Contains-permutation, IsPermutation-sym}
-use Rattle.lemmas.proofs.Orderings.{Equal_from_is_eq}
+use Rattle.terms.proofs.Orderings.{Equal_from_is_eq}
 use Rattle.terms.proofs.RisingLists.{Rises_from_sorted}
 use Rattle.fields.proofs.lists.Rising.from_vec.Goals as goal
 

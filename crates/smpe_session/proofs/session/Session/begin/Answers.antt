@@ -1,21 +1,25 @@
-use Rattle.std.proofs.Common.{Err, ap, rules}
+use Rattle.std.proofs.Common.{refl, rules}
 use Rattle.store_rows.proofs.Queries.{reads_err, reads_more}
-use Rattle.store.proofs.NoState.{loads_none, tells_after}
-use Rattle.smpe_session.proofs.Stepping.{begun_unmoved}
-use Rattle.smpe_session.proofs.Using.{never_handed, no_answer}
+use Rattle.machine.specs.Machine.{Begin}
+use Rattle.smpe_zones.proofs.Keeping.{act_unmoved}
+use Rattle.smpe_session.proofs.Using.{answered, handed_on, no_answer}
 use Rattle.smpe_session.proofs.session.Session.begin.Goals as goal
 
-pub returns-in_err-global-clause-ended : goal.returns-in_err-global-clause-ended
-returns-in_err-global-clause-ended g c = λ clean s keeps.
-    begun_unmoved g.S.Store c.args.store.now c.load_global.new.store s c.from_residual.result c.in_err-global.field-0.0
-    c.from_residual.ensures.1 (c.in_err-global.ensures.uses.ended clean s keeps)
+pub returns-in_err-global-clause-uses : goal.returns-in_err-global-clause-uses
+returns-in_err-global-clause-uses g c = handed_on c.from_residual.ensures.1 c.in_err-global.ensures.uses
+    (λ s inventory un. act_unmoved g.S.Store c.args.store.now c.load_global.new.store s Begin c.in_err-global.field-0.0
+    un)
 
-pub returns-in_err-global-clause-none : goal.returns-in_err-global-clause-none
-returns-in_err-global-clause-none g c =
-    tells_after g.S.Store c.args.store.now c.args.store.now c.load_global.new.store c.from_residual.result
-    c.in_err-global.field-0.0
-    (loads_none g.S.Store c.args.store.now) c.from_residual.ensures.1
-    (λ clean is. c.in_err-global.ensures.uses.none clean (ap Err is))
+pub returns-clause-uses : goal.returns-clause-uses
+returns-clause-uses g c = answered c.in_ok-global.ensures.uses (λ own none. absurd none) (λ s inventory found. (
+  record {
+    global = found.0;
+    boundary = refl;
+    zones = λ name zone is. search rules;
+    current = λ name is. absurd (cc is);
+  },
+  found.1,
+))
 
 pub returns-in_err-global-clause-reads : goal.returns-in_err-global-clause-reads
 returns-in_err-global-clause-reads g c =
@@ -27,16 +31,6 @@ pub returns-clause-reads : goal.returns-clause-reads
 returns-clause-reads g c =
     reads_more g.S.Store _ _ _ c.args.store.now c.load_global.new.store c.load_global.result c.in_ok-global.global _
     c.in_ok-global.was (λ failed. search rules) c.load_global.ensures.reads
-
-pub returns-in_err-global-clause-faults : goal.returns-in_err-global-clause-faults
-returns-in_err-global-clause-faults g c = c.load_global.ensures.uses.later.0
-
-pub returns-in_err-global-clause-limit : goal.returns-in_err-global-clause-limit
-returns-in_err-global-clause-limit g c = c.load_global.ensures.uses.later.1
-
-pub returns-in_err-global-clause-which : goal.returns-in_err-global-clause-which
-returns-in_err-global-clause-which g c = never_handed c.from_residual.result c.in_err-global.field-0.0
-    c.from_residual.ensures.1 c.in_err-global.ensures.uses.which
 
 pub returns-in_err-global-clause-rows : goal.returns-in_err-global-clause-rows
 returns-in_err-global-clause-rows g c clean = no_answer c.from_residual.result _ _ c.from_residual.ensures.1

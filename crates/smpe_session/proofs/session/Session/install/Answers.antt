@@ -2,17 +2,18 @@ use Rattle.std.proofs.Common.{◌∙◌, map, sym, ap}
 use Rattle.machine.specs.Machine.{Perform}
 use Rattle.machine.specs.Outcome.{header_of}
 use Rattle.report.specs.Views.{line_view, header_view, refusal_view}
+use Rattle.smpe_zones.proofs.Keeping.{act_unmoved}
 use Rattle.smpe_session.specs.Places.{install_command}
 use Rattle.smpe_session.proofs.Installed.{install_changes, install_refused}
 use Rattle.smpe_session.proofs.Places.{install_at}
-use Rattle.smpe_session.proofs.Stepping.{performs_unmoved, performs_since, stopped}
+use Rattle.smpe_session.proofs.Stepping.{performs_since, stopped}
 use Rattle.smpe_session.proofs.Using.{after, answered, handed_on, ran_short, weaker}
 use Rattle.smpe_session.proofs.session.Session.install.Goals as goal
 
 pub returns-in_err-related : goal.returns-in_err-related
 returns-in_err-related g c = handed_on c.from_residual.ensures.1 c.in_err-related.ensures (λ s inventory un is files.
-    performs_unmoved g.S.Store c.args.store.now c.seek_related.new.store s c.seek_related.new.self c.args.date files
-    (install_command c.args.kind c.args.install.now) c.in_err-related.field-0.0 (un is))
+    act_unmoved g.S.Store c.args.store.now c.seek_related.new.store s
+    (Perform c.args.date files (install_command c.args.kind c.args.install.now)) c.in_err-related.field-0.0 (un is))
 
 pub returns-in_err-planned-in-Ok : goal.returns-in_err-planned-in-Ok
 returns-in_err-planned-in-Ok g c = ran_short c.from_residual-in_err-planned-in-Ok.ensures.1 c.in_ok-related.ensures
@@ -44,7 +45,7 @@ returns-in_ok-planned-in-Ok g c = weaker (after c.in_ok-related.ensures c.carry_
     (c.header-header.ensures.view i (sym (ap (λ w. w.check) c.install.view_is))
     ∙ ap (header_of command) sought.0.session.boundary) in
     performs_since g.S.Store c.args.store.now c.seek_related.new.store c.carry_out.new.store s
-    c.seek_related.ensures.later _ c.args.date files command c.carry_out.result
+    c.seek_related.ensures.once.follows _ c.args.date files command c.carry_out.result
     (both.1 sought.1 sought.0.session c.args.date files command changes))
 
 pub returns-in-Err : goal.returns-in-Err

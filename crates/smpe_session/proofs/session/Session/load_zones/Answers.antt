@@ -11,7 +11,7 @@ pub returns-in_err-seek_each : goal.returns-in_err-seek_each
 returns-in_err-seek_each g c = handed_on c.from_residual-in_err-seek_each.ensures.1
     (after c.in_ok-names.ensures c.in_err-seek_each.ensures)
     (λ s inventory both is. unmoved_since g.S.Store c.args.store.now c.load_names.new.store c.seek_each.new.store s
-    c.load_names.ensures.later c.in_err-seek_each.field-0.0 (both.1 both.0.1 is))
+    c.load_names.ensures.once.follows c.in_err-seek_each.field-0.0 (both.1 both.0.1 is))
 
 pub returns : goal.returns
 returns g c = answered (after c.in_ok-names.ensures c.in_ok-seek_each.ensures) (λ own none. absurd none) (λ s inventory both is.

@@ -1,17 +1,50 @@
-use Rattle.smpe_session.proofs.Using.{never_other}
+use Rattle.std.proofs.Common.{refl}
+use Rattle.cntl.specs.Views.{command_of}
+use Rattle.machine.specs.Machine.{Perform}
+use Rattle.smpe_session.proofs.Stepping.{stopped}
+use Rattle.smpe_session.proofs.Using.{nothing, answered, ran_short, told_uses}
 use Rattle.smpe_session.proofs.session.Session.perform.Goals as goal
 
-pub returns-clause-faults : goal.returns-clause-faults
-returns-clause-faults g c = c.run.ensures.uses.later.0
+pub returns-in-Set-clause-uses : goal.returns-in-Set-clause-uses
+returns-in-Set-clause-uses g c = rw c.in-Set.is
+    (told_uses c.args.date c.args.files.now c.told.ensures c.set.ensures
+    (λ own none. absurd none) (λ s ended is. ended is c.args.date c.args.files.now))
 
-pub returns-clause-limit : goal.returns-clause-limit
-returns-clause-limit g c = c.run.ensures.uses.later.1
+pub returns-in-Receive-clause-uses : goal.returns-in-Receive-clause-uses
+returns-in-Receive-clause-uses g c = rw c.in-Receive.is
+    (told_uses c.args.date c.args.files.now c.told-in-Receive.ensures c.receive.ensures
+    (λ change own. own) (λ s ended is. ended is c.args.date))
 
-pub returns-clause-goes : goal.returns-clause-goes
-returns-clause-goes g c = c.run.ensures.uses.goes
+pub returns-in-Reject-clause-uses : goal.returns-in-Reject-clause-uses
+returns-in-Reject-clause-uses g c = rw c.in-Reject.is
+    (told_uses c.args.date c.args.files.now c.told-in-Reject.ensures c.reject.ensures
+    (λ change own. own) (λ s ended is. ended is c.args.date c.args.files.now))
 
-pub returns-clause-which : goal.returns-clause-which
-returns-clause-which g c = never_other c.run.result c.run.ensures.uses.which
+pub returns-in-Apply-clause-uses : goal.returns-in-Apply-clause-uses
+returns-in-Apply-clause-uses g c = rw c.in-Apply.is
+    (told_uses c.args.date c.args.files.now c.told-in-Apply.ensures c.install.ensures
+    (λ change own. ((own.0, own.1), own.2)) (λ s ended is. ended is c.args.files.now))
 
-pub returns-clause-ended : goal.returns-clause-ended
-returns-clause-ended g c = λ clean s is keeps. c.run.ensures.uses.ended clean s keeps is
+pub returns-in-Accept-clause-uses : goal.returns-in-Accept-clause-uses
+returns-in-Accept-clause-uses g c = rw c.in-Accept.is
+    (told_uses c.args.date c.args.files.now c.told-in-Accept.ensures c.install-in-Accept.ensures
+    (λ change own. ((own.0, own.1), own.2)) (λ s ended is. ended is c.args.files.now))
+
+pub returns-in-Restore-clause-uses : goal.returns-in-Restore-clause-uses
+returns-in-Restore-clause-uses g c = rw c.in-Restore.is
+    (told_uses c.args.date c.args.files.now c.told-in-Restore.ensures c.restore.ensures
+    (λ change own. ((own.0, own.1), own.2)) (λ s ended is. ended is c.args.date c.args.files.now))
+
+pub returns-in-List-clause-uses : goal.returns-in-List-clause-uses
+returns-in-List-clause-uses g c = rw c.in-List.is (answered nothing (λ own none. absurd none)
+    (λ s inventory keeps is. (refl, is, keeps)))
+
+pub returns-in_err-report-in-Report-clause-uses : goal.returns-in_err-report-in-Report-clause-uses
+returns-in_err-report-in-Report-clause-uses g c = ran_short c.from_residual.ensures.1 nothing
+    (λ s inventory keeps is. stopped g.S.Store c.args.store.now s
+    (Perform c.args.date c.args.files.now (command_of c.args.command.now)) keeps)
+
+pub returns-in_ok-report-in-Report-clause-uses : goal.returns-in_ok-report-in-Report-clause-uses
+returns-in_ok-report-in-Report-clause-uses g c = rw c.in-Report.is (answered nothing (λ own none. absurd none)
+    (λ s inventory keeps is.
+    (s, c.in_ok-report-in-Report.ensures s is inventory c.args.date c.args.files.now, is, keeps)))

@@ -5,7 +5,7 @@ use Rattle.mcs.specs.HoldItems.{items as hold_items}
 use Rattle.smpe_session.proofs.Leading.{led, refused, led_session}
 use Rattle.smpe_session.proofs.Places.{receive_at}
 use Rattle.smpe_session.proofs.Received.{each_external, received_here, take_faulty}
-use Rattle.smpe_session.proofs.Stepping.{performs_staying, stopped}
+use Rattle.smpe_session.proofs.Stepping.{stopped}
 use Rattle.smpe_session.proofs.Using.{nothing, answered, handed, no_answer, ran_short}
 use Rattle.smpe_session.specs.Writing.{TellsRun}
 use Rattle.smpe_session.proofs.session.Session.receive.Goals as goal
@@ -36,11 +36,9 @@ returns-in_err-lines-in-Ok g c = handed c.from_residual-in_err-lines-in-Ok.ensur
     ))
     (λ s inventory stays is date.
     let found = rw c.in-Ok.is at c.in_ok-found.ensures in
-    performs_staying g.S.Store c.args.store.now c.take_items.new.store s c.args.self.now date c.args.files.now
-    (Receive c.args.what.now) c.in_err-lines-in-Ok.field-0.0
-    (stays (sym is.global) date c.args.files.now c.args.what.now
+    stays (sym is.global) date c.args.files.now c.args.what.now
     (sym (c.in_default.ensures.refused s (sym is.boundary) ∙ receive_at s c.args.what.now))
-    (sym (ap (λ w. w.source) c.what.view_is)) found.0 found.1))
+    (sym (ap (λ w. w.source) c.what.view_is)) found.0 found.1)
 
 pub returns-in_ok-lines-in-Ok : goal.returns-in_ok-lines-in-Ok
 returns-in_ok-lines-in-Ok g c = answered c.in_ok-lines-in-Ok.ensures

@@ -1,11 +1,12 @@
 use Rattle.std.proofs.Common.{◌∙◌, refl, sym}
 use Rattle.terms.specs.Types.{Reject}
 use Rattle.machine.specs.Machine.{Perform}
+use Rattle.smpe_zones.proofs.Keeping.{act_unmoved}
 use Rattle.smpe_session.proofs.AllZones.{alike}
 use Rattle.smpe_session.proofs.Leading.{led, refused, led_session}
 use Rattle.smpe_session.proofs.Rejected.{rejected_here}
 use Rattle.smpe_session.proofs.Places.{reject_at}
-use Rattle.smpe_session.proofs.Stepping.{performs_unmoved, performs_staying, staying_since}
+use Rattle.smpe_session.proofs.Stepping.{act_since}
 use Rattle.smpe_session.proofs.Using.{nothing, after, answered, handed, handed_on, no_answer}
 use Rattle.smpe_session.specs.Writing.{TellsRun}
 use Rattle.smpe_session.proofs.session.Session.reject.Goals as goal
@@ -21,8 +22,8 @@ returns-in-Some g c = answered nothing (λ own none. absurd none) (λ s inventor
 
 pub returns-in_err-load_zones : goal.returns-in_err-load_zones
 returns-in_err-load_zones g c = handed_on c.from_residual.ensures.1 c.in_err-load_zones.ensures
-    (λ s inventory un is date files. performs_unmoved g.S.Store c.args.store.now c.load_zones.new.store s
-    c.load_zones.new.self date files (Reject c.args.ids.now) c.in_err-load_zones.field-0.0 (un is))
+    (λ s inventory un is date files. act_unmoved g.S.Store c.args.store.now c.load_zones.new.store s
+    (Perform date files (Reject c.args.ids.now)) c.in_err-load_zones.field-0.0 (un is))
 
 pub returns-in_err-lines : goal.returns-in_err-lines
 returns-in_err-lines g c = handed c.from_residual-in_err-lines.ensures.1
@@ -33,14 +34,11 @@ returns-in_err-lines g c = handed c.from_residual-in_err-lines.ensures.1
     ))
     (λ s inventory both is date files.
     let had = both.0 is in
-    performs_staying g.S.Store c.args.store.now c.reject_ids.new.store s c.load_zones.new.self date files
-    (Reject c.args.ids.now)
-    c.in_err-lines.field-0.0
-    (staying_since g.S.Store c.args.store.now c.load_zones.new.store c.reject_ids.new.store s
-    c.load_zones.ensures.later (Perform date files (Reject c.args.ids.now)) c.in_err-lines.field-0.0
+    act_since g.S.Store c.args.store.now c.load_zones.new.store c.reject_ids.new.store s
+    c.load_zones.ensures.once.follows (Perform date files (Reject c.args.ids.now)) c.in_err-lines.field-0.0
     (both.1 had.1 (sym had.0.session.global)
     (alike s c.load_zones.new.self inventory c.reject_ids.ensures.names had.0) date files
-    (sym (c.in_default.ensures.refused s (sym is.boundary) ∙ reject_at s c.args.ids.now)))))
+    (sym (c.in_default.ensures.refused s (sym is.boundary) ∙ reject_at s c.args.ids.now))))
 
 pub returns : goal.returns
 returns g c = answered (after c.in_ok-load_zones.ensures c.in_ok-lines.ensures.uses)

@@ -3,18 +3,19 @@ use Rattle.terms.specs.Types.{Restore}
 use Rattle.fields.specs.Choices.{restore_list_of}
 use Rattle.machine.specs.Machine.{Perform}
 use Rattle.report.specs.Views.{line_view, refusal_view}
+use Rattle.smpe_zones.proofs.Keeping.{act_unmoved}
 use Rattle.smpe_session.proofs.Leading.{refused}
 use Rattle.smpe_session.proofs.Places.{restore_at}
 use Rattle.smpe_session.proofs.Restored.{restore_changes}
-use Rattle.smpe_session.proofs.Stepping.{performs_unmoved, performs_since, stopped}
+use Rattle.smpe_session.proofs.Stepping.{performs_since, stopped}
 use Rattle.smpe_session.proofs.Using.{after, answered, handed_on, ran_short, weaker}
 use Rattle.smpe_session.proofs.session.Session.restore.Goals as goal
 
 pub returns-in_err-accepted : goal.returns-in_err-accepted
 returns-in_err-accepted g c = handed_on c.from_residual.ensures.1 c.in_err-accepted.ensures
     (λ s inventory un is date files.
-    performs_unmoved g.S.Store c.args.store.now c.seek_accepted.new.store s c.seek_accepted.new.self date files
-    (Restore (restore_list_of c.args.list.now) c.args.check) c.in_err-accepted.field-0.0 (un is))
+    act_unmoved g.S.Store c.args.store.now c.seek_accepted.new.store s
+    (Perform date files (Restore (restore_list_of c.args.list.now) c.args.check)) c.in_err-accepted.field-0.0 (un is))
 
 pub returns-in_err-delta-in-Ok : goal.returns-in_err-delta-in-Ok
 returns-in_err-delta-in-Ok g c = ran_short c.from_residual-in_err-delta-in-Ok.ensures.1 c.in_ok-accepted.ensures
@@ -38,7 +39,7 @@ returns-in_ok-delta-in-Ok g c = weaker (after c.in_ok-accepted.ensures c.carry_o
     (map line_view p.lines.items) sought.0.session there c.in_ok-delta-in-Ok.ensures date files c.args.check
     at.boundary sought.0.session.boundary in
     performs_since g.S.Store c.args.store.now c.seek_accepted.new.store c.carry_out.new.store s
-    c.seek_accepted.ensures.later _ date files command c.carry_out.result
+    c.seek_accepted.ensures.once.follows _ date files command c.carry_out.result
     (both.1 sought.1 sought.0.session date files command changes))
 
 pub returns-in-Err : goal.returns-in-Err

@@ -1,6 +1,6 @@
 use Rattle.std.proofs.Common.{◌∙◌, refl, sym, rules}
 use Rattle.smpe_session.proofs.Seeking.{sought_loaded}
-use Rattle.smpe_session.proofs.Stepping.{unmoved_kept}
+use Rattle.smpe_zones.proofs.Keeping.{still_kept}
 use Rattle.smpe_session.proofs.Using.{nothing, answered, handed_on, ran_short}
 use Rattle.smpe_session.proofs.session.Session.seek.Goals as goal
 
@@ -18,7 +18,7 @@ returns-in_default-clause-uses g c = answered c.in_ok-zone.ensures (λ own none.
 
 pub returns-in_err-keep_zone-clause-uses : goal.returns-in_err-keep_zone-clause-uses
 returns-in_err-keep_zone-clause-uses g c = ran_short c.from_residual-in_err-keep_zone.ensures.1 c.in_ok-zone.ensures
-    (λ s inventory found is. unmoved_kept g.S.Store c.load_zone.new.store s found.1)
+    (λ s inventory found is. still_kept g.S.Store c.load_zone.new.store s (λ _. ⊥) found.1)
 
 pub returns-clause-uses : goal.returns-clause-uses
 returns-clause-uses g c = answered c.in_ok-zone.ensures (λ own none. absurd none) (λ s inventory found is. (

@@ -22,5 +22,5 @@ pub returns-in_err-seek : goal.returns-in_err-seek
 returns-in_err-seek g c = handed_on c.from_residual.ensures.1
     (after c.loop-name.invariant c.in_err-seek.ensures.uses) (λ s inventory both is.
     let before = both.0 is in
-    unmoved_since g.S.Store c.args.store.now c.loop-name.store c.seek.new.store s c.loop-name.invariant.later
+    unmoved_since g.S.Store c.args.store.now c.loop-name.store c.seek.new.store s c.loop-name.invariant.once.follows
     c.in_err-seek.field-0.0 (both.1 before.1 before.0.session))

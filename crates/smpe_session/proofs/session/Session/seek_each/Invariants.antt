@@ -1,6 +1,7 @@
 use Rattle.std.proofs.Common.{Ok, take}
+use Rattle.smpe_zones.specs.Ends.{HasLoaded}
 use Rattle.smpe_session.specs.Sessions.{IsSessionOf}
-use Rattle.smpe_session.specs.Steps.{AreSought, HasLoaded}
+use Rattle.smpe_session.specs.Steps.{AreSought}
 use Rattle.smpe_session.specs.Uses.{UsesStore}
 use Rattle.smpe_session.proofs.session.Session.seek_each.Given as goal
 

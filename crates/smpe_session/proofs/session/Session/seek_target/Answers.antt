@@ -27,7 +27,7 @@ pub returns-in_err-seek : goal.returns-in_err-seek
 returns-in_err-seek g c = handed_on c.from_residual-in_err-seek.ensures.1
     (after c.in_ok-heads.ensures c.in_err-seek.ensures.uses)
     (λ s inventory both is. unmoved_since g.S.Store c.args.store.now c.load_heads.new.store c.seek.new.store s
-    c.load_heads.ensures.later c.in_err-seek.field-0.0 (both.1 both.0.1 is))
+    c.load_heads.ensures.once.follows c.in_err-seek.field-0.0 (both.1 both.0.1 is))
 
 pub returns : goal.returns
 returns g c = answered (after c.in_ok-heads.ensures c.in_ok-seek.ensures.uses) (λ own none. absurd none)

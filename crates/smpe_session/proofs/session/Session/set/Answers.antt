@@ -1,14 +1,15 @@
 use Rattle.std.proofs.Common.{refl, Some}
 use Rattle.terms.specs.Types.{Set}
+use Rattle.machine.specs.Machine.{Perform}
+use Rattle.smpe_zones.proofs.Keeping.{act_unmoved}
 use Rattle.smpe_session.proofs.Seeking.{set_refused, set_ran, set_session}
-use Rattle.smpe_session.proofs.Stepping.{performs_unmoved}
 use Rattle.smpe_session.proofs.Using.{answered, handed_on}
 use Rattle.smpe_session.proofs.session.Session.set.Goals as goal
 
 pub returns-in_err-seek : goal.returns-in_err-seek
 returns-in_err-seek g c = handed_on c.from_residual.ensures.1 c.in_err-seek.ensures.uses
-    (λ s inventory un is date files. performs_unmoved g.S.Store c.args.store.now c.seek.new.store s c.seek.new.self
-    date files (Set c.args.name) c.in_err-seek.field-0.0 (un is))
+    (λ s inventory un is date files. act_unmoved g.S.Store c.args.store.now c.seek.new.store s
+    (Perform date files (Set c.args.name)) c.in_err-seek.field-0.0 (un is))
 
 pub returns-then-not-branch : goal.returns-then-not-branch
 returns-then-not-branch g c = answered c.in_ok-seek.ensures.uses (λ own none. absurd none) (λ s inventory found is date files.

@@ -1,5 +1,5 @@
 use Rattle.std.proofs.Common.{◌≡◌, refl}
-use Rattle.store_zone_loads.specs.Found.{zone_in}
+use Rattle.store_zones.specs.Found.{zone_in}
 use Rattle.store.proofs.Loading.{loads_by}
 use Rattle.store.proofs.open.Store.load_zone.Goals as goal
 

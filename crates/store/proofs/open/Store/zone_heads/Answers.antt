@@ -1,5 +1,5 @@
 use Rattle.std.proofs.Common.{◌≡◌, map, refl}
-use Rattle.store_zone_loads.specs.Found.{head_of}
+use Rattle.store_zones.specs.Found.{head_of}
 use Rattle.store_schema.specs.declared.schema.Schema.TheVariants.{Third}
 use Rattle.store.proofs.Loading.{loads_by}
 use Rattle.store.proofs.open.Store.zone_heads.Goals as goal

@@ -9,16 +9,16 @@ use Rattle.store_sysmods.proofs.Behind.{counted_behind}
 use Rattle.store_sysmods.proofs.Steps.{puts_as, puts_none}
 use Rattle.store_sysmods.proofs.ifreq.FirstIfsRows.insert.Goals as goal
 
-pub returns-then-number-ne1-clause-puts : goal.returns-then-number-ne1-clause-puts
-returns-then-number-ne1-clause-puts g c =
+pub returns-then-number-ne1 : goal.returns-then-number-ne1
+returns-then-number-ne1 g c =
     let v = c.args.ver.now in
     puts_as g.S.Store insert_ifreq ifreq (none_first
     (map (ifreq_row c.args.self.now.id v.srel) (enumerate_from 1 v.ifs)) c.number_behind-number.result
     (number_behind c.args.front.now v) c.number_behind-number.ensures.same c.if-number-ne1.true)
-    (puts_none g.S.Store insert_ifreq ifreq c.args.tx.now.conn.now)
+    (puts_none g.S.Store insert_ifreq ifreq c.args.tx.now)
 
-pub returns-clause-puts : goal.returns-clause-puts
-returns-clause-puts g c =
+pub returns : goal.returns
+returns g c =
     let v = c.args.ver.now in
     let x = c.args.self.now.id in
     let rows = ap₂ (λ srel ifs. map (ifreq_row x srel) (enumerate_from 1 ifs))
@@ -26,4 +26,4 @@ returns-clause-puts g c =
     puts_as g.S.Store insert_ifreq ifreq (counted_behind (ifreq_row x c.ver.inside.srel) [] c.as_slice.result.now ∙ rows
     ∙ some_first (map (ifreq_row x v.srel) (enumerate_from 1 v.ifs)) c.number_behind-number.result
     (number_behind c.args.front.now v) c.number_behind-number.ensures.same c.if-number-ne1.false)
-    c.insert_all.ensures.puts
+    c.insert_all.ensures

@@ -1,4 +1,4 @@
 use Rattle.store_sysmods.proofs.moreif.FurtherIfsOfRows.insert.Goals as goal
 
-pub returns-clause-puts : goal.returns-clause-puts
-returns-clause-puts g c = c.insert_row.ensures.puts
+pub returns : goal.returns
+returns g c = c.insert_row.ensures

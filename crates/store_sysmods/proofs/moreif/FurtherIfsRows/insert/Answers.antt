@@ -9,17 +9,17 @@ use Rattle.store_sysmods.proofs.Behind.{counted_behind}
 use Rattle.store_sysmods.proofs.Steps.{puts_as, puts_none}
 use Rattle.store_sysmods.proofs.moreif.FurtherIfsRows.insert.Goals as goal
 
-pub returns-then-place-eq1-clause-puts : goal.returns-then-place-eq1-clause-puts
-returns-then-place-eq1-clause-puts g c =
+pub returns-then-place-eq1 : goal.returns-then-place-eq1
+returns-then-place-eq1 g c =
     let v = c.args.ver.now in
     let k = number_behind c.args.front.now v in
     puts_as g.S.Store insert_moreif moreif (none_further
     (map (moreif_row c.args.self.now.id v.srel k) (enumerate_from 1 v.ifs)) c.number_behind-place.result k
     c.number_behind-place.ensures.same c.if-place-eq1.true)
-    (puts_none g.S.Store insert_moreif moreif c.args.tx.now.conn.now)
+    (puts_none g.S.Store insert_moreif moreif c.args.tx.now)
 
-pub returns-clause-puts : goal.returns-clause-puts
-returns-clause-puts g c =
+pub returns : goal.returns
+returns g c =
     let v = c.args.ver.now in
     let x = c.args.self.now.id in
     let n = c.number_behind-place.result in
@@ -31,4 +31,4 @@ returns-clause-puts g c =
     (counted_behind (moreif_row x c.ver.inside.srel n) [] c.as_slice.result.now ∙ rows
     ∙ ap (λ m. map (moreif_row x v.srel m) (enumerate_from 1 v.ifs)) same
     ∙ some_further (map (moreif_row x v.srel k) (enumerate_from 1 v.ifs)) n k same c.if-place-eq1.false)
-    c.insert_all.ensures.puts
+    c.insert_all.ensures

@@ -5,7 +5,7 @@ use Rattle.std.specs.List.Sorted.{IsStrictlySortedBy}
 use Rattle.std.specs.declared.cmp.Ordering.{Ordering}
 use Rattle.std.specs.Map.{lookup, keys_of, values_of}
 use Rattle.std.specs.BTreeMap.{is_at, insert_entry}
-use Rattle.lemmas.proofs.Options.{None_from_is_some}
+use Rattle.terms.proofs.Options.{None_from_is_some}
 use Rattle.terms.specs.Types.{Id, Sysmod}
 use Rattle.terms.specs.Rising.{Rises, with_item}
 use Rattle.sysmods.specs.Held.{found, IsHeld, IsKeyed}

@@ -1,6 +1,6 @@
 use Rattle.std.proofs.Common.{◌∙◌, ◌&&◌, ap}
 use Rattle.std.specs.Str.{bytes_eq}
-use Rattle.lemmas.proofs.Searches.{find_agree}
+use Rattle.terms.proofs.Searches.{find_agree}
 use Rattle.terms.proofs.ElementOrder.{eq_types}
 use Rattle.zones.proofs.zone.Zone.element.Goals as goal
 

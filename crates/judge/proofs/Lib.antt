@@ -1,4 +1,0 @@
-pub mod Survivors
-pub mod Needed
-pub mod SaidOf
-pub mod Chosen

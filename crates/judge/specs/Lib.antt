@@ -1,2 +1,0 @@
-pub mod Surviving
-pub mod InstallJudged

@@ -1,2 +1,0 @@
-//! Lemmas over std's lists, options, booleans and comparisons, each stated once for all crates. It has no code.
-#![tactic(auto)]

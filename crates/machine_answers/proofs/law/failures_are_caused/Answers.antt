@@ -1,8 +1,0 @@
-use Rattle.machine_answers.proofs.Causers.{install_caused, restore_caused}
-use Rattle.machine_answers.proofs.law.failures_are_caused.Goals as goal
-
-pub returns-clause-install : goal.returns-clause-install
-returns-clause-install c = install_caused
-
-pub returns-clause-restore : goal.returns-clause-restore
-returns-clause-restore c = restore_caused

@@ -1,3 +1,0 @@
-pub mod Storable
-pub mod Choices
-pub mod Singles

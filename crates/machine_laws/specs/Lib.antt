@@ -1,0 +1,6 @@
+pub mod Storable
+pub mod Choices
+pub mod Singles
+pub mod Answers
+pub mod Causers
+pub mod Greatest

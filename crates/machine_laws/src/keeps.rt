@@ -1,0 +1,25 @@
+//! What the definitions say of the states that are made of one, and of the `++VER` that counts in them.
+ghost use Rattle.machine_laws.specs.Storable.{StepStaysStorable, JobStaysStorable, JobsStayStorable};
+ghost use Rattle.machine_laws.specs.Choices.{InstallKeepsChoice, StepKeepsChoice};
+ghost use Rattle.machine_laws.specs.Singles.{OneCounts, NoneFailsJ13, FirstInstalls, J12AsksApplied};
+
+/// Whatever a step, a job or a list of jobs makes of a state that can be stored, can be stored again.
+pub fn stays_storable()
+    ensures step { StepStaysStorable }
+    ensures job { JobStaysStorable }
+    ensures jobs { JobsStayStorable }
+{}
+
+/// What counts for an applied SYSMOD is the `++VER` that counted in its install, whatever is applied later.
+pub fn choice_is_kept()
+    ensures install { InstallKeepsChoice }
+    ensures step { StepKeepsChoice }
+{}
+
+/// Where no SYSMOD has two `++VER`s of one SREL, all is as if none could have two.
+pub fn one_ver_counts()
+    ensures counts { OneCounts }
+    ensures installs { FirstInstalls }
+    ensures several { NoneFailsJ13 }
+    ensures returns { J12AsksApplied }
+{}

@@ -1,0 +1,69 @@
+//! Lists without doubles: in rising order, or as they stand.
+ghost use Rattle.std.specs.Prelude.{ℕ, List, map, IfOk, IfErr};
+ghost use Rattle.terms.specs.Forms.{IsId};
+ghost use Rattle.terms.specs.Operands.{HasListed, HasSorted};
+ghost use Rattle.rec80.specs.Views.{word_of};
+ghost use Rattle.rec80.specs.Failing.{Excludes};
+
+use crate::member::Member;
+use crate::operand_errors::OperandError;
+use crate::operand_members::read_members;
+use crate::words::Word;
+use fields::{Id, IdList, Rising};
+use std::alloc::Global;
+
+/// The members of the word's list in rising order. `Memory` comes where memory runs out, `Bad` where the word has no
+/// list of such members, or one stands there twice.
+pub fn rising<T: Member>(alloc: Global, word: &Word<'_>) -> Result<Rising<T>, OperandError>
+    ensures sorted { IfOk result (λ list. HasSorted T.form (word_of word.now) (map T.text list)) }
+    ensures bad { IfErr result (λ e. Excludes e ((values : List (List ℕ))
+        × HasSorted T.form (word_of word.now) values)) }
+{
+    let Some(list) = word.list else {
+        return Err(OperandError::Bad);
+    };
+    let read: Vec<T> = read_members(alloc, &list)?;
+    let len = read.len();
+    let rising = Rising::from_vec(read);
+    if rising.as_slice().len() != len {
+        return Err(OperandError::Bad);
+    }
+    Ok(rising)
+}
+
+/// The members of the word's list, as they stand. `Memory` comes where memory runs out, `Bad` where the word has no
+/// list of such members, or one stands there twice.
+pub fn listed<T: Member>(alloc: Global, word: &Word<'_>) -> Result<Vec<T>, OperandError>
+    ensures listed { IfOk result (λ list. HasListed T.form (word_of word.now) (map T.text list.items)) }
+    ensures bad { IfErr result (λ e. Excludes e ((values : List (List ℕ))
+        × HasListed T.form (word_of word.now) values)) }
+{
+    let Some(list) = word.list else {
+        return Err(OperandError::Bad);
+    };
+    let read: Vec<T> = read_members(alloc, &list)?;
+    let copy = Vec::from_slice(alloc, read.as_slice())?;
+    let rising = Rising::from_vec(copy);
+    if rising.as_slice().len() != read.len() {
+        return Err(OperandError::Bad);
+    }
+    Ok(read)
+}
+
+/// The ids of the word's list, as they stand. `Memory` comes where memory runs out, `Bad` where the word has no list of
+/// ids, or one stands there twice.
+pub fn listed_ids(alloc: Global, word: &Word<'_>) -> Result<Vec<Id>, OperandError>
+    ensures listed { IfOk result (λ list. HasListed IsId (word_of word.now) list.items) }
+    ensures bad { IfErr result (λ e. Excludes e ((values : List (List ℕ)) × HasListed IsId (word_of word.now) values)) }
+{
+    listed::<Id>(alloc, word)
+}
+
+/// The ids of the word's list in rising order. `Memory` comes where memory runs out, `Bad` where the word has no list
+/// of ids, or one stands there twice.
+pub fn ids(alloc: Global, word: &Word<'_>) -> Result<IdList, OperandError>
+    ensures sorted { IfOk result (λ list. HasSorted IsId (word_of word.now) list) }
+    ensures bad { IfErr result (λ e. Excludes e ((values : List (List ℕ)) × HasSorted IsId (word_of word.now) values)) }
+{
+    rising::<Id>(alloc, word)
+}

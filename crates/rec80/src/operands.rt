@@ -1,0 +1,122 @@
+//! The operands of a statement or a command, read once.
+ghost use Rattle.std.specs.Prelude.{◌≡◌, ◌↔◌, ◌++◌, ◌∷◌, List, [], false, map, option_map, IsTrue, OnOk, IfOk, IfErr};
+ghost use Rattle.std.specs.Prelude.{IfSome, IfNone};
+ghost use Rattle.std.specs.List.{list_any};
+ghost use Rattle.terms.specs.Statement.{Piece, HasSolid};
+ghost use Rattle.terms.specs.Words as grammar;
+ghost use Rattle.terms.specs.Words.{HasWords};
+ghost use Rattle.terms.specs.Operands.{AreOperands, words_in, list_behind, is_often};
+ghost use Rattle.rec80.specs.Cursors.{text_of};
+ghost use Rattle.rec80.specs.Views.{left_of, words_of};
+ghost use Rattle.rec80.specs.Read.{IsRead};
+
+use crate::find::{any_twice, are_operands, operand};
+use crate::text::Text;
+use crate::words::{NoWord, Word, Words};
+use std::alloc::{AllocError, Global};
+
+/// The operands of a statement or a command: the words that are left of it, in the order of the file, each with the
+/// list right behind it.
+#[derive(Drop)]
+pub struct Operands<'a> {
+    pub(crate) words: Vec<Word<'a>>,
+    /// Whether nothing else stands there.
+    pub(crate) alone: bool,
+}
+
+impl<'a> Operands<'a> {
+    /// Takes in what comes next: a word, or what stands in place of one.
+    fn add(&mut self, found: Result<Word<'a>, NoWord>) -> Result<(), AllocError>
+        ensures word { OnOk result (IfOk found.entry (λ w. (self.new.words.items ≡ self.old.words.items ++ w ∷ [])
+            × (self.new.alone ≡ self.old.alone))) }
+        ensures other { OnOk result (IfErr found.entry (λ _. (self.new.words.items ≡ self.old.words.items)
+            × (self.new.alone ≡ false))) }
+    {
+        let Ok(word) = found else {
+            self.alone = false;
+            return Ok(());
+        };
+        self.words.push(word)?;
+        Ok(())
+    }
+
+    /// Whether nothing is there.
+    pub fn is_empty(&self) -> bool
+        ensures { (pieces : List Piece) → IsRead pieces self.now → IsTrue result ↔ (pieces ≡ []) }
+    {
+        self.alone && self.words.is_empty()
+    }
+
+    /// The words, where nothing else stands there.
+    pub fn only(&self) -> Option<&[Word<'a>]>
+        ensures some { IfSome result (λ ws. (pieces : List Piece) → IsRead pieces self.now
+            → HasWords pieces (words_of ws.now)) }
+        ensures none { IfNone result ((pieces : List Piece) → IsRead pieces self.now → (ws : List grammar.Word)
+            → HasWords pieces ws → ⊥) }
+    {
+        if !self.alone {
+            return None;
+        }
+        Some(self.words.as_slice())
+    }
+
+    /// The words, where they are operands of these names alone, each at most once, and nothing else stands there.
+    pub fn named(&self, names: &[&[u8]]) -> Option<&[Word<'a>]>
+        ensures words { IfSome result (λ ws. (pieces : List Piece) → IsRead pieces self.now
+            → HasWords pieces (words_of ws.now)) }
+        ensures operands { IfSome result (λ ws. AreOperands (map (λ name. name.now) names.now) (words_of ws.now)) }
+        ensures none { IfNone result ((pieces : List Piece) → IsRead pieces self.now → (ws : List grammar.Word)
+            → HasWords pieces ws → AreOperands (map (λ name. name.now) names.now) ws → ⊥) }
+    {
+        let Some(words) = self.only() else {
+            return None;
+        };
+        if !are_operands(words, names) {
+            return None;
+        }
+        Some(words)
+    }
+
+    /// Whether a word of that name is there, whatever else is.
+    pub fn is_there(&self, name: &[u8]) -> bool
+        ensures { (pieces : List Piece) → IsRead pieces self.now → result ≡ is_often 1 (words_in pieces) name.now }
+    {
+        operand(self.words.as_slice(), name).is_some()
+    }
+
+    /// Whether one of the names is there twice, whatever else is.
+    pub fn has_twice(&self, names: &[&[u8]]) -> bool
+        ensures { (pieces : List Piece) → IsRead pieces self.now
+            → result ≡ list_any (λ name. is_often 2 (words_in pieces) name.now) names.now }
+    {
+        any_twice(self.words.as_slice(), names)
+    }
+
+    /// The list right behind the first word of that name, whatever else is there.
+    pub fn list_behind(&self, name: &[u8]) -> Option<Text<'a>>
+        ensures { (pieces : List Piece) → IsRead pieces self.now
+            → option_map text_of result ≡ list_behind name.now pieces }
+    {
+        let Some(word) = operand(self.words.as_slice(), name) else {
+            return None;
+        };
+        word.list
+    }
+}
+
+impl<'a> Words<'a> {
+    /// The operands, which are all that is left. The error comes where memory runs out.
+    pub fn operands(&self, alloc: Global) -> Result<Operands<'a>, AllocError>
+        ensures { (pieces : List Piece) → HasSolid (left_of self.now) pieces → IfOk result (IsRead pieces) }
+    {
+        let mut left = *self;
+        let mut read = Operands {
+            words: Vec::new(alloc),
+            alone: true,
+        };
+        while let Some(found) = left.next_operand() {
+            read.add(found)?;
+        }
+        Ok(read)
+    }
+}

@@ -1,0 +1,14 @@
+-- The texts of words.
+use Rattle.std.specs.Prelude.{decimal, if◌then◌else◌}
+use Rattle.terms.specs.Types.{Text}
+use Rattle.machine.specs.Report.{left_in, list_text}
+use Rattle.report.specs.declared.words.Word.{Word}
+use Rattle.report.specs.declared.words.Word.TheVariants as word
+
+abbrev pub word_text : Word → Text
+word_text (word.Of text) = text.now
+word_text (word.If holds first second) = if holds then first.now else second.now
+word_text (word.Left places text) = left_in places text.now
+word_text (word.Number n) = decimal n
+word_text (word.Ids ids) = list_text ids.now
+word_text (word.Sources sources) = list_text sources.now

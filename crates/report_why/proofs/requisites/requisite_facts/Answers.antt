@@ -1,0 +1,25 @@
+use Rattle.std.proofs.Common.{◌∙◌, arith, refl, subst}
+use Rattle.terms.specs.Beside.{Beside}
+use Rattle.terms.proofs.BesideLists.{beside_next, beside_through}
+use Rattle.terms.specs.Facts.{IsRequisiteFact}
+use Rattle.report_why.specs.Asking.{setting_in}
+use Rattle.report_why.specs.Views.{answer_view, fact_view}
+use Rattle.report_why.proofs.requisites.requisite_facts.Goals as goal
+
+pub loop-requisite-preserved : goal.loop-requisite-preserved
+loop-requisite-preserved c =
+    beside_next
+    (λ n r fact. IsRequisiteFact (setting_in c.args.asking.now) c.args.asking.now.id r (fact_view fact))
+    c.as_slice-requisite-items.result.now c.loop-requisite.facts.items c.push.new.self.items
+    c.loop-requisite.requisite-index
+    c.requisite-item.result _ (omega arith) c.requisite-item.is c.in_ok-push.ensures.items
+    (answer_view c.in_ok-answer.answer, refl, c.in_ok-answer.ensures) c.loop-requisite.invariant
+
+pub returns : goal.returns
+returns c =
+    let a = c.args.asking.now in
+    subst (λ rs. Beside (λ n r fact. IsRequisiteFact (setting_in a) a.id r (fact_view fact)) rs
+    c.loop-requisite.facts.items) (c.as_slice-requisite-items.ensures.value ∙ c.in_ok-found.ensures)
+    (beside_through (λ n r fact. IsRequisiteFact (setting_in a) a.id r (fact_view fact))
+    c.as_slice-requisite-items.result.now
+    c.loop-requisite.facts.items c.loop-requisite.requisite-index (omega arith) c.loop-requisite.invariant)

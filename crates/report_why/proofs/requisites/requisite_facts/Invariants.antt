@@ -1,0 +1,11 @@
+use Rattle.std.proofs.Common.{take}
+use Rattle.terms.specs.Beside.{Beside}
+use Rattle.terms.specs.Facts.{IsRequisiteFact}
+use Rattle.report_why.specs.Asking.{setting_in}
+use Rattle.report_why.specs.Views.{fact_view}
+use Rattle.report_why.proofs.requisites.requisite_facts.Given as goal
+
+abbrev pub invariant-loop-requisite : goal.invariant-loop-requisite
+invariant-loop-requisite l =
+    Beside (λ n r fact. IsRequisiteFact (setting_in l.asking) l.asking.id r (fact_view fact))
+    (take l.requisite-index l.requisite-items) l.facts.items

@@ -1,5 +1,0 @@
-pub mod ById
-pub mod Bypassed
-pub mod Deciding
-pub mod Decisions
-pub mod InstallLines

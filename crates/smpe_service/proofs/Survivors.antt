@@ -1,0 +1,173 @@
+-- The survivors are the candidates that fail at most the test which looks at survivors alone.
+use Rattle.std.proofs.Common.{◌≡◌, ◌⊎◌, inl, inr, ℕ, ◌+◌, Bool, true, false, List, [], ◌∷◌, ◌++◌, filter, cond}
+use Rattle.std.proofs.Common.{Some, refl, sym, ap, ◌∙◌, subst, Contains, arith, slice_get, append-nil, true≢false}
+use Rattle.std.proofs.Common.{length}
+use Rattle.std.specs.Prelude.{◌↔◌}
+use Rattle.std.specs.List.{list_all}
+use Rattle.std.proofs.lemmas.Bool.{cases_eq}
+use Rattle.std.proofs.lemmas.Option.{same_Some, slice_get_within}
+use Rattle.std.proofs.lemmas.List.Elements.{Contains-append_left, Contains-append_right, Contains-append_cases}
+use Rattle.terms.proofs.ListMembers.{here, here_or, there, none_in, in_filter, filter_in}
+use Rattle.terms.proofs.Places.{contains_at, found_at}
+use Rattle.terms.proofs.Searches.{all_pass, passes_all}
+use Rattle.terms.specs.declared.codes.Test.{Test}
+use Rattle.terms.specs.declared.codes.Test.TheVariants.{J1, J2, J3, J4, J5, J6, J7, J8, J9, J10, J11, J12, J13}
+use Rattle.terms.specs.Types.{Id}
+use Rattle.terms.specs.Lookups.{IsRising}
+use Rattle.terms.specs.Tests.{Setting, AreSurvivors, Survives, FailsAlone, Fails}
+use Rattle.terms.specs.Failures.{all_tests}
+use Rattle.judge_faults.specs.Failed.{AreFailedTests}
+use Rattle.smpe_service.specs.Surviving.{is_clash, SurvivesIn}
+
+module _ (ids : List Id) (rows : List (List Test)) where
+  abbrev Are : ℕ → List Id → Type 0
+  Are end found = (x : Id) → Contains found x ↔ SurvivesIn ids rows end x
+
+  later : (k : ℕ) (x : Id) → SurvivesIn ids rows k x → SurvivesIn ids rows (k + 1) x
+  later k x h = record {
+    place = h.place;
+    below = omega (arith, h.below);
+    at = h.at;
+    row = h.row;
+    row_at = h.row_at;
+    only_clashes = h.only_clashes;
+  }
+
+  -- it stands in front, or at the place itself
+  earlier : (k : ℕ) (y x : Id) (row : List Test) → slice_get ids k ≡ Some y → slice_get rows k ≡ Some row
+      → SurvivesIn ids rows (k + 1) x → SurvivesIn ids rows k x ⊎ ((y ≡ x) × (list_all is_clash row ≡ true))
+  earlier k y x row at row_at h = elim (cases_eq h.place k) [
+    | inl this ↦
+        let same : y ≡ x = same_Some y x (sym at ∙ subst (λ m. slice_get ids m ≡ Some x) this h.at) in
+        let row_same : h.row ≡ row = same_Some h.row row (sym h.row_at
+        ∙ subst (λ m. slice_get rows m ≡ Some row) (sym this) row_at) in
+        inr (same, subst (λ r. list_all is_clash r ≡ true) row_same h.only_clashes)
+    | inr other ↦ inl (record {
+      place = h.place;
+      below = omega (arith, h.below, other);
+      at = h.at;
+      row = h.row;
+      row_at = h.row_at;
+      only_clashes = h.only_clashes;
+    })
+  ]
+
+  -- the next candidate
+  pub survivors_next : (k : ℕ) (y : Id) (row : List Test) (old new : List Id) → slice_get ids k ≡ Some y
+      → slice_get rows k ≡ Some row → new ≡ old ++ cond (list_all is_clash row) (y ∷ []) []
+      → ((x : Id) → Contains old x ↔ SurvivesIn ids rows k x)
+      → (x : Id) → Contains new x ↔ SurvivesIn ids rows (k + 1) x
+  survivors_next k y row old new at row_at is was x = by (list_all is_clash row) refl
+    where
+      by : (b : Bool) → list_all is_clash row ≡ b → Contains new x ↔ SurvivesIn ids rows (k + 1) x
+      by true on =
+          let grew : new ≡ old ++ y ∷ [] = is ∙ ap (λ b. old ++ cond b (y ∷ []) []) on in (
+            λ h. elim (Contains-append_cases old (y ∷ []) x (subst (λ l. Contains l x) grew h)) [
+              | inl front ↦ later k x ((was x).0 front)
+              | inr last ↦ elim (here_or y [] x last) [
+                | inl same ↦ record {
+                  place = k;
+                  below = omega arith;
+                  at = subst (λ w. slice_get ids k ≡ Some w) same at;
+                  row = row;
+                  row_at = row_at;
+                  only_clashes = on;
+                }
+                | inr none ↦ absurd (none_in x none)
+              ]
+            ],
+            λ h. subst (λ l. Contains l x) (sym grew) (elim (earlier k y x row at row_at h) [
+              | inl front ↦ Contains-append_left old (y ∷ []) x ((was x).1 front)
+              | inr this ↦ Contains-append_right old (y ∷ []) x (subst (Contains (y ∷ [])) this.0 (here y []))
+            ]),
+          )
+      by false off =
+          let same : new ≡ old = is ∙ ap (λ b. old ++ cond b (y ∷ []) []) off ∙ append-nil old in (
+            λ h. later k x ((was x).0 (subst (λ l. Contains l x) same h)),
+            λ h. subst (λ l. Contains l x) (sym same) (elim (earlier k y x row at row_at h) [
+              | inl front ↦ (was x).1 front
+              | inr this ↦ absurd (true≢false (sym this.1 ∙ off))
+            ]),
+          )
+
+  pub survivors_none : (x : Id) → Contains [] x ↔ SurvivesIn ids rows 0 x
+  survivors_none x = (λ h. absurd (none_in x h), λ h. absurd (omega (arith, h.below)))
+
+-- each test is one of all
+among : (t : Test) → Contains all_tests t
+among J1 = (0, omega arith, refl)
+among J2 = (1, omega arith, refl)
+among J3 = (2, omega arith, refl)
+among J4 = (3, omega arith, refl)
+among J5 = (4, omega arith, refl)
+among J6 = (5, omega arith, refl)
+among J7 = (6, omega arith, refl)
+among J8 = (7, omega arith, refl)
+among J9 = (8, omega arith, refl)
+among J10 = (9, omega arith, refl)
+among J11 = (10, omega arith, refl)
+among J12 = (11, omega arith, refl)
+among J13 = (12, omega arith, refl)
+
+module _ (s : Setting) (rows : List (List Test)) (failed : AreFailedTests s rows) where
+  -- what fails only that test survives
+  surviving : (x : Id) → SurvivesIn s.cands rows (length s.cands) x → Survives s x
+  surviving x h = ((contains_at s.cands h.place x h.at, alone), λ j8. off J8 refl j8)
+    where
+      row : h.row ≡ filter (failed.fails x) all_tests
+      row = same_Some h.row (filter (failed.fails x) all_tests) (sym h.row_at ∙ failed.rows_are h.place x h.at)
+
+      off : (t : Test) → is_clash t ≡ false → ¬ Fails s x t
+      off t other fails = true≢false (sym (passes_all is_clash (filter (failed.fails x) all_tests) t
+          (subst (λ r. list_all is_clash r ≡ true) row h.only_clashes)
+          (in_filter (failed.fails x) all_tests t (among t) ((failed.failed h.place x h.at t).1 fails))) ∙ other)
+
+      alone : (t : Test) → ¬ FailsAlone s x t
+      alone J1 = off J1 refl
+      alone J2 = off J2 refl
+      alone J3 = off J3 refl
+      alone J4 = off J4 refl
+      alone J5 = off J5 refl
+      alone J6 = off J6 refl
+      alone J7 = off J7 refl
+      alone J8 = λ e. e
+      alone J9 = λ e. e
+      alone J10 = λ e. e
+      alone J11 = λ e. e
+      alone J12 = λ e. e
+      alone J13 = off J13 refl
+
+  -- a survivor fails only that test
+  survives : (x : Id) → Survives s x → SurvivesIn s.cands rows (length s.cands) x
+  survives x h =
+      let at = found_at s.cands x h.0.0 in record {
+        place = at.0;
+        below = slice_get_within s.cands at.0 x at.1;
+        at = at.1;
+        row = filter (failed.fails x) all_tests;
+        row_at = failed.rows_are at.0 x at.1;
+        only_clashes = all_pass is_clash (filter (failed.fails x) all_tests) (λ t there.
+            only t ((failed.failed at.0 x at.1 t).0 (filter_in (failed.fails x) all_tests t there).1));
+      }
+    where
+      only : (t : Test) → Fails s x t → is_clash t ≡ true
+      only J1 f = absurd (h.0.1 J1 f)
+      only J2 f = absurd (h.0.1 J2 f)
+      only J3 f = absurd (h.0.1 J3 f)
+      only J4 f = absurd (h.0.1 J4 f)
+      only J5 f = absurd (h.0.1 J5 f)
+      only J6 f = absurd (h.0.1 J6 f)
+      only J7 f = absurd (h.0.1 J7 f)
+      only J8 f = absurd (h.1 f)
+      only J9 f = refl
+      only J10 f = absurd f
+      only J11 f = absurd f
+      only J12 f = absurd f
+      only J13 f = absurd (h.0.1 J13 f)
+
+  pub survivors_are : (xs : List Id) → IsRising xs
+      → ((x : Id) → Contains xs x ↔ SurvivesIn s.cands rows (length s.cands) x) → AreSurvivors s xs
+  survivors_are xs rising members = record {
+    rising = rising;
+    members = λ x. (λ h. surviving x ((members x).0 h), λ h. (members x).1 (survives x h));
+  }

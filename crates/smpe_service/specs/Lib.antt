@@ -1,0 +1,5 @@
+pub mod Decided
+pub mod Statuses
+pub mod Surviving
+pub mod InstallJudged
+pub mod Lines

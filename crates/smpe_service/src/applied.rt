@@ -1,0 +1,82 @@
+//! The zone's change and the lines of an APPLY or ACCEPT.
+ghost use Rattle.std.specs.Prelude.{IfOk, map, option_copied};
+ghost use Rattle.terms.specs.Types.{Zone as AZone};
+ghost use Rattle.terms.specs.Forms.{IsDottedDate};
+ghost use Rattle.zones.specs.Delta.{IsChanged};
+ghost use Rattle.machine.specs.Installing.{InstallsSelected};
+ghost use Rattle.report.specs.Views.{line_view};
+
+use crate::decided::{Deciding, decide_by};
+use crate::lines::lines;
+use crate::statuses::statuses;
+use change::{Installed, Installing, install};
+use fields::{Attest, Bypass, Selection, YyDdd};
+use report::Line;
+use select::{candidates, not_chosen};
+use std::alloc::{AllocError, Global};
+use sysmods::GlobalZone;
+use zones::{Zone, ZoneDelta};
+use zones_views::{Scope, choose};
+
+/// What an APPLY or ACCEPT changes, and its lines by id.
+#[derive(Drop)]
+pub struct Applied {
+    pub delta: ZoneDelta,
+    pub lines: Vec<Line>,
+}
+
+/// Installs what is selected into the zone, less what BYPASS leaves out of account: APPLY in a target zone, ACCEPT in a
+/// distribution zone, which looks at the related target zone. Whether the command checks alone is its caller's matter.
+/// The error comes where memory runs out.
+pub fn apply(
+    alloc: Global,
+    global: &GlobalZone,
+    zone: &Zone,
+    related: Option<&Zone>,
+    selection: &Selection,
+    bypass: &Bypass,
+    date: YyDdd,
+) -> Result<Applied, AllocError>
+    ensures installs { IfOk result (λ a. (new : AZone) → IsChanged a.delta zone.now new →
+        InstallsSelected global.now zone.now (option_copied related.entry) selection.now bypass.now date new
+        (map line_view a.lines.items)) }
+    ensures dated { IsDottedDate date }
+{
+    prove!(date.as_bytes().len() == 6);
+    global.attest();
+    zone.attest();
+    let ids = candidates(alloc, global, zone, selection)?;
+    let vers = choose(alloc, global, zone, &ids)?;
+    let scope = Scope {
+        vers: &vers,
+        zone,
+        ids: &ids,
+        bypass,
+    };
+    let Deciding {
+        kept,
+        failed,
+        bypassed,
+        overs,
+    } = decide_by(alloc, &scope, related)?;
+    let installing = Installing {
+        zone,
+        kept: &kept,
+        bypassed: bypassed.as_slice(),
+        date,
+    };
+    let Installed { delta, effective } = install(alloc, &installing, overs)?;
+    let left_out = not_chosen(alloc, global, zone, selection)?;
+    let found = statuses(
+        alloc,
+        zone.kind(),
+        &effective,
+        kept.as_slice(),
+        failed,
+        left_out.as_slice(),
+    )?;
+    Ok(Applied {
+        delta,
+        lines: lines(alloc, global, found)?,
+    })
+}

@@ -1,0 +1,54 @@
+//! The lines of an APPLY or ACCEPT.
+ghost use Rattle.std.specs.Prelude.{◌≡◌, map, IfOk};
+ghost use Rattle.machine.specs.Outcome.{StatusLine};
+ghost use Rattle.machine.specs.Receiving.{place_of};
+ghost use Rattle.report.specs.Views.{line_view, status_view};
+ghost use Rattle.smpe_service.specs.Statuses.{said, status_line, IsById, AreById};
+
+use fields::Id;
+use report::{Line, Status, place_of};
+use std::alloc::{AllocError, Global};
+use sysmods::GlobalZone;
+
+fn sorted(mut statuses: Vec<(Id, Status)>) -> Vec<(Id, Status)>
+    ensures { IsById (map said statuses.items) (map said result.items) }
+{
+    statuses.sort_unstable_by_key(|status| status.0);
+    statuses
+}
+
+fn line(global: &GlobalZone, id: Id, status: Status) -> Line
+    ensures { line_view result ≡ StatusLine id (place_of global.now id) (status_view status) }
+{
+    Line::Status {
+        id,
+        place: place_of(global, id),
+        status,
+    }
+}
+
+fn lines_of(
+    alloc: Global,
+    global: &GlobalZone,
+    statuses: Vec<(Id, Status)>,
+) -> Result<Vec<Line>, AllocError>
+    ensures { IfOk result (λ lines. map line_view lines.items ≡ map (status_line global.now)
+        (map said statuses.items)) }
+{
+    let mut lines = Vec::new(alloc);
+    for (id, status) in statuses {
+        lines.push(line(global, id, status))?;
+    }
+    Ok(lines)
+}
+
+/// The lines of these ids, by id.
+pub(crate) fn lines(
+    alloc: Global,
+    global: &GlobalZone,
+    statuses: Vec<(Id, Status)>,
+) -> Result<Vec<Line>, AllocError>
+    ensures { IfOk result (λ lines. AreById global.now (map said statuses.items) (map line_view lines.items)) }
+{
+    lines_of(alloc, global, sorted(statuses))
+}

@@ -1,0 +1,90 @@
+//! The lines of a RESTORE.
+ghost use Rattle.std.specs.Prelude.{◌≡◌, map, find, IfOk, option_copied};
+ghost use Rattle.std.specs.Ordering.{nat_cmp};
+ghost use Rattle.std.specs.Cmp.Lexicographic.{slice_cmp};
+ghost use Rattle.std.specs.Str.{bytes_eq};
+ghost use Rattle.terms.specs.Rising.{Rises};
+ghost use Rattle.decide.specs.Views.{failure_view};
+ghost use Rattle.report.specs.Views.{line_view, status_view};
+ghost use Rattle.smpe_service.specs.Lines.{status_in, line_in};
+
+use decide::Failure;
+use fields::{Id, IdList};
+use report::{Line, Status, place_of};
+use std::alloc::{AllocError, Global};
+use sysmods::GlobalZone;
+
+/// A line for each id of the list, of which some are kept and some failed.
+pub(crate) fn lines_of(
+    alloc: Global,
+    global: &GlobalZone,
+    ids: &[Id],
+    kept: &IdList,
+    failed: &[(Id, Failure)],
+) -> Result<Vec<Line>, AllocError>
+    requires { Rises (slice_cmp nat_cmp) (λ f. f.0) failed.now }
+    ensures { IfOk result (λ lines. map line_view lines.items
+        ≡ map (line_in global.now kept.now failed.now) ids.now) }
+{
+    let mut lines = Vec::new(alloc);
+    for id in ids {
+        lines.push(line(alloc, global, *id, kept, failed)?)?;
+    }
+    Ok(lines)
+}
+
+fn line(
+    alloc: Global,
+    global: &GlobalZone,
+    id: Id,
+    kept: &IdList,
+    failed: &[(Id, Failure)],
+) -> Result<Line, AllocError>
+    requires { Rises (slice_cmp nat_cmp) (λ f. f.0) failed.now }
+    ensures { IfOk result (λ line. line_view line ≡ line_in global.now kept.now failed.now id) }
+{
+    let status = status_of(alloc, id, kept, failed)?;
+    Ok(Line::Status {
+        id,
+        place: place_of(global, id),
+        status,
+    })
+}
+
+fn status_of(
+    alloc: Global,
+    id: Id,
+    kept: &IdList,
+    failed: &[(Id, Failure)],
+) -> Result<Status, AllocError>
+    requires { Rises (slice_cmp nat_cmp) (λ f. f.0) failed.now }
+    ensures { IfOk result (λ status. status_view status ≡ status_in kept.now failed.now id) }
+{
+    if kept.contains(id) {
+        return Ok(Status::Restored);
+    }
+    match found(failed, id) {
+        Some(failed) => Ok(Status::Failed(copied(alloc, &failed.1)?)),
+        None => Ok(Status::NotApplied),
+    }
+}
+
+fn found(failed: &[(Id, Failure)], id: Id) -> Option<&(Id, Failure)>
+    requires { Rises (slice_cmp nat_cmp) (λ f. f.0) failed.now }
+    ensures { option_copied result ≡ find (λ f. bytes_eq f.0 id) failed.now }
+{
+    match failed.binary_search_by_key(&id, |failed| failed.0) {
+        Ok(place) => Some(&failed[place]),
+        Err(_) => None,
+    }
+}
+
+fn copied(alloc: Global, failure: &Failure) -> Result<Failure, AllocError>
+    ensures { IfOk result (λ copy. failure_view copy ≡ failure_view failure.now) }
+{
+    Ok(Failure {
+        tests: Vec::from_slice(alloc, failure.tests.as_slice())?,
+        needs: Vec::from_slice(alloc, failure.needs.as_slice())?,
+        causers: Vec::from_slice(alloc, failure.causers.as_slice())?,
+    })
+}

@@ -1,0 +1,105 @@
+//! What becomes of each id.
+ghost use Rattle.std.specs.Prelude.{◌≡◌, ◌++◌, map, IfOk, OnOk};
+ghost use Rattle.machine.specs.Installing.{installed_status, not_chosen_status};
+ghost use Rattle.report.specs.Views.{status_view};
+ghost use Rattle.decide.specs.Views.{why_failed};
+ghost use Rattle.smpe_service.specs.Statuses.{said, kept_status, kept_statuses, failed_statuses};
+ghost use Rattle.smpe_service.specs.Statuses.{left_out_statuses, all_statuses};
+
+use decide::Failure;
+use fields::{Id, IdList};
+use report::Status;
+use std::alloc::{AllocError, Global};
+use terms::{NotChosen, ZoneKind};
+
+fn installed_status(kind: ZoneKind) -> Status
+    ensures { status_view result ≡ installed_status kind }
+{
+    match kind {
+        ZoneKind::Target => Status::Applied,
+        ZoneKind::Distribution => Status::Accepted,
+    }
+}
+
+/// The status of a kept id, of which those take effect that stand in the list.
+fn kept_status(kind: ZoneKind, effective: &IdList, id: Id) -> Status
+    ensures { status_view result ≡ kept_status kind effective.now id }
+{
+    if effective.contains(id) {
+        installed_status(kind)
+    } else {
+        Status::Superseded
+    }
+}
+
+fn left_out_status(why: NotChosen) -> Status
+    ensures { status_view result ≡ not_chosen_status why }
+{
+    match why {
+        NotChosen::Already => Status::Already,
+        NotChosen::Deleted => Status::Deleted,
+        NotChosen::Missing => Status::Missing,
+        NotChosen::NoVer => Status::NoVer,
+    }
+}
+
+fn push_kept(
+    statuses: &mut Vec<(Id, Status)>,
+    kind: ZoneKind,
+    effective: &IdList,
+    kept: &[Id],
+) -> Result<(), AllocError>
+    ensures { OnOk result (map said statuses.new.items ≡ map said statuses.old.items
+        ++ kept_statuses kind effective.now kept.now) }
+{
+    for id in kept {
+        statuses.push((*id, kept_status(kind, effective, *id)))?;
+    }
+    Ok(())
+}
+
+fn push_failed(
+    statuses: &mut Vec<(Id, Status)>,
+    failed: Vec<(Id, Failure)>,
+) -> Result<(), AllocError>
+    ensures { OnOk result (map said statuses.new.items ≡ map said statuses.old.items
+        ++ failed_statuses (map why_failed failed.items)) }
+{
+    for (id, failure) in failed {
+        statuses.push((id, Status::Failed(failure)))?;
+    }
+    Ok(())
+}
+
+fn push_left_out(
+    statuses: &mut Vec<(Id, Status)>,
+    left_out: &[(Id, NotChosen)],
+) -> Result<(), AllocError>
+    ensures { OnOk result (map said statuses.new.items ≡ map said statuses.old.items
+        ++ left_out_statuses left_out.now) }
+{
+    for (id, why) in left_out {
+        statuses.push((*id, left_out_status(*why)))?;
+    }
+    Ok(())
+}
+
+/// The statuses of all ids that have one: of those that are kept for this kind of zone, of which some take effect, of
+/// those that failed, and of those that were left out.
+pub(crate) fn statuses(
+    alloc: Global,
+    kind: ZoneKind,
+    effective: &IdList,
+    kept: &[Id],
+    failed: Vec<(Id, Failure)>,
+    left_out: &[(Id, NotChosen)],
+) -> Result<Vec<(Id, Status)>, AllocError>
+    ensures { IfOk result (λ found. map said found.items
+        ≡ all_statuses kind effective.now kept.now (map why_failed failed.items) left_out.now) }
+{
+    let mut found = Vec::new(alloc);
+    push_kept(&mut found, kind, effective, kept)?;
+    push_failed(&mut found, failed)?;
+    push_left_out(&mut found, left_out)?;
+    Ok(found)
+}

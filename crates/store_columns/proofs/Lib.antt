@@ -1,4 +1,0 @@
-pub mod PartLemmas
-pub mod Schemas
-pub mod TextForms
-mod Found

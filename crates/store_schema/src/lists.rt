@@ -1,0 +1,130 @@
+//! Lists of ids and of records, as a column has them and as values.
+
+ghost use Rattle.std.specs.Prelude.{◌≡◌, ◌≢◌, ◌==◌, ℕ, List, map, IfOk, IsErrOf};
+ghost use Rattle.std.specs.List.{concat, join_with_byte};
+ghost use Rattle.store_schema.specs.Parts.{parts_of};
+ghost use Rattle.sqlite.specs.Order.{column};
+ghost use Rattle.store_schema.specs.Forms.{AreSorted, AreRecords};
+ghost use Rattle.store_schema.specs.Rows.{ids, records};
+ghost use Rattle.terms.specs.Forms.{IsId, IsSource};
+
+use fields::{Id, IdList, Source, SourceList};
+use sqlite::Row;
+use std::alloc::{AllocError, Global};
+use store_rows::{ReadError, blob, text};
+use text80::{Line, RECORD, lines_of};
+
+/// The ids, with a comma between each two. The error comes where memory runs out.
+pub fn joined_ids(alloc: Global, ids: &[Id]) -> Result<Vec<u8>, AllocError>
+    ensures { IfOk result (λ text. text.items ≡ join_with_byte 44 ids.now) }
+{
+    let mut text = Vec::new(alloc);
+    let Some((first, rest)) = ids.split_first() else {
+        return Ok(text);
+    };
+    text.extend_from_slice(first.as_bytes())?;
+    for id in rest {
+        text.push(b',')?;
+        text.extend_from_slice(id.as_bytes())?;
+    }
+    Ok(text)
+}
+
+/// The parts of the text between commas; the empty text has none.
+fn parts(alloc: Global, text: &[u8]) -> Result<Vec<&[u8]>, AllocError>
+    ensures { IfOk result (λ parts. map (λ part. part.now) parts.items ≡ parts_of text.now) }
+{
+    if text.is_empty() {
+        return Ok(Vec::new(alloc));
+    }
+    text.split(|b| *b == b',').collect(alloc)
+}
+
+fn id_list(alloc: Global, parts: &[&[u8]]) -> Result<IdList, ReadError>
+    ensures some { IfOk result (λ list. (list ≡ map (λ part. part.now) parts.now) × AreSorted IsId list) }
+    ensures none { IsErrOf result ReadError.BadRow → ¬ AreSorted IsId (map (λ part. part.now) parts.now) }
+    ensures fault { IsErrOf result ReadError.Fault → ⊥ }
+{
+    let mut list = IdList::new(alloc);
+    for part in parts {
+        let Some(id) = Id::read(part) else {
+            return Err(ReadError::BadRow);
+        };
+        if !list.push_last(id)? {
+            return Err(ReadError::BadRow);
+        }
+    }
+    Ok(list)
+}
+
+fn source_list(alloc: Global, parts: &[&[u8]]) -> Result<SourceList, ReadError>
+    ensures some { IfOk result (λ list. (list ≡ map (λ part. part.now) parts.now) × AreSorted IsSource list) }
+    ensures none { IsErrOf result ReadError.BadRow → ¬ AreSorted IsSource (map (λ part. part.now) parts.now) }
+    ensures fault { IsErrOf result ReadError.Fault → ⊥ }
+{
+    let mut list = SourceList::new(alloc);
+    for part in parts {
+        let Some(source) = Source::read(part) else {
+            return Err(ReadError::BadRow);
+        };
+        if !list.push_last(source)? {
+            return Err(ReadError::BadRow);
+        }
+    }
+    Ok(list)
+}
+
+/// The ids of a list that rises. `Memory` comes where memory runs out, `BadRow` where the column has no such list.
+pub fn ids_in(alloc: Global, row: &Row, at: usize) -> Result<IdList, ReadError>
+    ensures some { IfOk result (λ list. (column row.now at ≡ ids list) × AreSorted IsId list) }
+    ensures none { IsErrOf result ReadError.BadRow → (list : List (List ℕ)) → AreSorted IsId list
+        → column row.now at ≢ ids list }
+    ensures fault { IsErrOf result ReadError.Fault → ⊥ }
+{
+    let Some(text) = text(row, at) else {
+        return Err(ReadError::BadRow);
+    };
+    let parts = parts(alloc, text)?;
+    id_list(alloc, &parts)
+}
+
+/// The sources of a list that rises. `Memory` comes where memory runs out, `BadRow` where the column has no such list.
+pub fn sources_in(alloc: Global, row: &Row, at: usize) -> Result<SourceList, ReadError>
+    ensures some { IfOk result (λ list. (column row.now at ≡ ids list) × AreSorted IsSource list) }
+    ensures none { IsErrOf result ReadError.BadRow → (list : List (List ℕ)) → AreSorted IsSource list
+        → column row.now at ≢ ids list }
+    ensures fault { IsErrOf result ReadError.Fault → ⊥ }
+{
+    let Some(text) = text(row, at) else {
+        return Err(ReadError::BadRow);
+    };
+    let parts = parts(alloc, text)?;
+    source_list(alloc, &parts)
+}
+
+/// The records that the bytes are, if they are no part of one.
+fn lines_in(alloc: Global, bytes: &[u8]) -> Result<Vec<Line>, ReadError>
+    ensures some { IfOk result (λ lines. (bytes.now ≡ concat lines.items) × AreRecords lines.items) }
+    ensures none { IsErrOf result ReadError.BadRow → (lines : List (List ℕ)) → AreRecords lines
+        → bytes.now ≢ concat lines }
+    ensures fault { IsErrOf result ReadError.Fault → ⊥ }
+{
+    if bytes.len() % RECORD != 0 {
+        return Err(ReadError::BadRow);
+    }
+    Ok(lines_of(alloc, bytes)?)
+}
+
+/// The records of a text, one after the other in a blob. `Memory` comes where memory runs out, `BadRow` where the
+/// column has no blob, or one of no whole records.
+pub fn records_in(alloc: Global, row: &Row, at: usize) -> Result<Vec<Line>, ReadError>
+    ensures some { IfOk result (λ lines. (column row.now at ≡ records lines.items) × AreRecords lines.items) }
+    ensures none { IsErrOf result ReadError.BadRow → (lines : List (List ℕ)) → AreRecords lines
+        → column row.now at ≢ records lines }
+    ensures fault { IsErrOf result ReadError.Fault → ⊥ }
+{
+    let Some(bytes) = blob(row, at) else {
+        return Err(ReadError::BadRow);
+    };
+    lines_in(alloc, bytes)
+}

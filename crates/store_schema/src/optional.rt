@@ -1,0 +1,149 @@
+//! Columns that have a value as its text, or NULL.
+
+ghost use Rattle.std.specs.Prelude.{◌≡◌, ◌≢◌, ℕ, List, Option, IfSome, IfNone};
+ghost use Rattle.sqlite.specs.declared.types.Value.TheVariants.{Text};
+ghost use Rattle.sqlite.specs.Order.{column};
+ghost use Rattle.sqlite.specs.Values.{or_null};
+ghost use Rattle.sqlite_value.specs.Value.{owned};
+
+use fields::{Class, HoldDate, Id, Name, YyDdd, ZoneName};
+use sqlite::Row;
+use sqlite_value::value::ValueRef;
+use store_rows::optional_text;
+
+/// A value that a column has as its text.
+pub trait TextValue: Sized {
+    ghost use Rattle.std.specs.Prelude.{◌≡◌, ◌↔◌, ℕ, List, IsSome, IfSome};
+
+    ghost form: { List ℕ → Type 0 };
+
+    ghost text: { Self → List ℕ };
+
+    /// The value of this text.
+    fn read(bytes: &[u8]) -> Option<Self>
+        ensures good { IsSome result ↔ form bytes.now }
+        ensures same { IfSome result (λ read. text read ≡ bytes.now) };
+
+    /// Its text.
+    fn as_text(&self) -> &[u8]
+        ensures { result.now ≡ text self.now };
+}
+
+impl TextValue for Id {
+    ghost use Rattle.terms.specs.Forms.{IsId};
+
+    ghost form = { IsId };
+
+    ghost text = { λ value. value };
+
+    fn read(bytes: &[u8]) -> Option<Id> {
+        Id::read(bytes)
+    }
+
+    fn as_text(&self) -> &[u8] {
+        self.as_bytes()
+    }
+}
+
+impl TextValue for Name {
+    ghost use Rattle.terms.specs.Forms.{IsName};
+
+    ghost form = { IsName };
+
+    ghost text = { λ value. value };
+
+    fn read(bytes: &[u8]) -> Option<Name> {
+        Name::read(bytes)
+    }
+
+    fn as_text(&self) -> &[u8] {
+        self.as_bytes()
+    }
+}
+
+impl TextValue for ZoneName {
+    ghost use Rattle.terms.specs.Forms.{IsZoneName};
+
+    ghost form = { IsZoneName };
+
+    ghost text = { λ value. value };
+
+    fn read(bytes: &[u8]) -> Option<ZoneName> {
+        ZoneName::read(bytes)
+    }
+
+    fn as_text(&self) -> &[u8] {
+        self.as_bytes()
+    }
+}
+
+impl TextValue for YyDdd {
+    ghost use Rattle.terms.specs.Forms.{IsDottedDate};
+
+    ghost form = { IsDottedDate };
+
+    ghost text = { λ value. value };
+
+    fn read(bytes: &[u8]) -> Option<YyDdd> {
+        YyDdd::read(bytes)
+    }
+
+    fn as_text(&self) -> &[u8] {
+        self.as_bytes()
+    }
+}
+
+impl TextValue for Class {
+    ghost use Rattle.terms.specs.Forms.{IsClass};
+
+    ghost form = { IsClass };
+
+    ghost text = { λ value. value };
+
+    fn read(bytes: &[u8]) -> Option<Class> {
+        Class::read(bytes)
+    }
+
+    fn as_text(&self) -> &[u8] {
+        self.as_bytes()
+    }
+}
+
+impl TextValue for HoldDate {
+    ghost use Rattle.terms.specs.Forms.{IsDate};
+
+    ghost form = { IsDate };
+
+    ghost text = { λ value. value };
+
+    fn read(bytes: &[u8]) -> Option<HoldDate> {
+        HoldDate::read(bytes)
+    }
+
+    fn as_text(&self) -> &[u8] {
+        self.as_bytes()
+    }
+}
+
+/// The value in a column, or none where that is NULL.
+pub fn optional_in<T: TextValue>(row: &Row, at: usize) -> Option<Option<T>>
+    ensures some { IfSome result (λ value. (column row.now at ≡ or_null (λ v. Text (T.text v)) value)
+        × IfSome value (λ v. T.form (T.text v))) }
+    ensures none { IfNone result ((value : Option (List ℕ)) → IfSome value T.form
+        → column row.now at ≢ or_null Text value) }
+{
+    match optional_text(row, at)? {
+        Some(text) => Some(Some(T::read(text)?)),
+        None => Some(None),
+    }
+}
+
+/// The value's text, or NULL.
+pub fn text_or_null<T: TextValue>(value: &Option<T>) -> ValueRef<'_>
+    ensures { owned result ≡ or_null (λ v. Text (T.text v)) value.now }
+{
+    match value {
+        Some(value) => ValueRef::Text(value.as_text()),
+        None => ValueRef::Null,
+    }
+}

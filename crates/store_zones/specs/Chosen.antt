@@ -1,0 +1,43 @@
+-- The table of the ++VERs by which entries were installed. Where it was the first, there is no row.
+use Rattle.std.specs.Prelude.{◌≤◌, ◌<◌, ◌^◌, ℕ, List, Option}
+use Rattle.std.specs.Option.{option_map_or}
+use Rattle.sqlite.specs.Order.{Row}
+use Rattle.terms.specs.Forms.{IsId, IsZoneName}
+use Rattle.terms.specs.Types.{Text, Entry}
+use Rattle.store_schema.specs.Rows.{chosen_row}
+use Rattle.store_zones.specs.declared.chosen.TheConstants.{SELECT, INSERT, PUT, DELETE}
+use Rattle.store_zones.specs.declared.chosen.EntryNumber.{EntryNumber}
+use Rattle.store_zones.specs.declared.rows.ZoneRow.{ZoneRow}
+
+abbrev pub select_chosen : List ℕ
+select_chosen = SELECT.now
+
+abbrev pub insert_chosen : List ℕ
+insert_chosen = INSERT.now
+
+abbrev pub put_chosen : List ℕ
+put_chosen = PUT.now
+
+abbrev pub delete_chosen : List ℕ
+delete_chosen = DELETE.now
+
+-- the number of the entry's ++VER, and 1 where it is not applied
+abbrev pub number_of : Entry → ℕ
+number_of e = option_map_or (λ a. a.number) e.applied 1
+
+-- the number of what stood under an id, and 1 where nothing did
+abbrev pub number_before : Option Entry → ℕ
+number_before stood = option_map_or number_of stood 1
+
+abbrev pub number_row : Text → EntryNumber → Row
+number_row zone n = chosen_row zone n.id n.number
+
+abbrev pub row_of_number : ZoneRow EntryNumber → Row
+row_of_number r = number_row r.zone r.item
+
+-- a number that is not 1, and that a column can hold
+pub record HasNumberForms (r : ZoneRow EntryNumber) : Type 0 where
+  pub zone : IsZoneName r.zone
+  pub id : IsId r.item.id
+  pub least : 2 ≤ r.item.number
+  pub most : r.item.number < 2 ^ 63

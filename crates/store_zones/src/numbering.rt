@@ -1,0 +1,108 @@
+//! Entries joined with their numbers, which stand in a table of their own where they are not 1.
+
+ghost use Rattle.std.specs.Prelude.{◌≡◌, ◌≢◌, [], ◌∷◌, IfOk, IfSome, IfNone, IsErrOf, option_map};
+ghost use Rattle.terms.specs.Types.{an_applied};
+ghost use Rattle.store_zones.specs.Numbered as spec;
+ghost use Rattle.store_zones.specs.Numbered.{left_over, behind_first, with_first, begins_with};
+
+use crate::chosen::EntryNumber;
+use crate::rows::table_of;
+use fields::VerNumber;
+use sorted::Table;
+use std::alloc::{AllocError, Global};
+use std::collections::VecDeque;
+use store_rows::ReadError;
+use zones::{Applied, Entry};
+
+fn applied_by(applied: Option<Applied>, number: VerNumber) -> Option<Applied>
+    ensures { result ≡ option_map (λ a. an_applied a.date number) applied }
+{
+    let applied = applied?;
+    Some(Applied {
+        date: applied.date,
+        number,
+    })
+}
+
+// The entry with this number, if it is applied.
+fn renumbered(entry: Entry, number: VerNumber) -> Entry
+    ensures { result ≡ spec.renumbered entry number }
+{
+    Entry {
+        id: entry.id,
+        applied: applied_by(entry.applied, number),
+        supby: entry.supby,
+        delby: entry.delby,
+        waived: entry.waived,
+    }
+}
+
+// Whether the first number is that of the entry, which is applied.
+fn begins_with(numbers: &VecDeque<EntryNumber>, entry: &Entry) -> bool
+    ensures { result ≡ begins_with entry.now numbers.now.items }
+{
+    match numbers.front() {
+        Some(number) => entry.applied.is_some() && number.id == entry.id,
+        None => false,
+    }
+}
+
+// The entry with the first of the numbers, if that is its own.
+fn with_first(entry: Entry, numbers: &mut VecDeque<EntryNumber>) -> Entry
+    ensures same { result ≡ with_first entry numbers.old.items }
+    ensures left { numbers.new.items ≡ behind_first entry numbers.old.items }
+{
+    if !begins_with(numbers, &entry) {
+        return entry;
+    }
+    match numbers.pop_front() {
+        Some(first) => renumbered(entry, first.number),
+        None => entry,
+    }
+}
+
+// Takes the first entry.
+fn next_of(entries: &mut VecDeque<Entry>) -> Option<Entry>
+    ensures some { IfSome result (λ entry. entries.old.items ≡ entry ∷ entries.new.items) }
+    ensures none { IfNone result (entries.old.items ≡ []) }
+{
+    entries.pop_front()
+}
+
+// The entries with their numbers, in the order in which both rise.
+fn with_numbers(
+    alloc: Global,
+    mut entries: VecDeque<Entry>,
+    numbers: &mut VecDeque<EntryNumber>,
+) -> Result<Vec<Entry>, AllocError>
+    ensures same { IfOk result (λ all. all.items ≡ spec.numbered entries.items numbers.old.items) }
+    ensures left { IfOk result (λ all. numbers.new.items ≡ left_over entries.items numbers.old.items) }
+{
+    let mut all = Vec::with_capacity(alloc, entries.len())?;
+    while let Some(entry) = next_of(&mut entries) {
+        all.push(with_first(entry, numbers))?;
+    }
+    Ok(all)
+}
+
+/// The entries with their numbers, of which each is that of an applied one.
+pub(crate) fn numbered(
+    alloc: Global,
+    entries: Table<Entry>,
+    numbers: Table<EntryNumber>,
+) -> Result<Table<Entry>, ReadError>
+    ensures same { IfOk result (λ all. all ≡ spec.numbered entries numbers) }
+    ensures whole { IfOk result (λ all. left_over entries numbers ≡ []) }
+    ensures none { IsErrOf result ReadError.BadRow → left_over entries numbers ≢ [] }
+    ensures fault { IsErrOf result ReadError.Fault → ⊥ }
+{
+    let mut numbers = VecDeque::from(numbers.into_vec());
+    if numbers.is_empty() {
+        return Ok(entries);
+    }
+    let all = with_numbers(alloc, VecDeque::from(entries.into_vec()), &mut numbers)?;
+    if !numbers.is_empty() {
+        return Err(ReadError::BadRow);
+    }
+    table_of(all)
+}

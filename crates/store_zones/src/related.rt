@@ -1,0 +1,82 @@
+//! What the heads of zones say of each other.
+
+ghost use Rattle.std.specs.Prelude.{◌≡◌, ◌↔◌, IsTrue, All, AllPairs, IfOk, IsErrOf};
+ghost use Rattle.std.specs.List.{Any};
+ghost use Rattle.store_zones.specs.Related.{IsDistributionOf, IsRelatedAmong, HeadsAreApart, AreRelated};
+
+use crate::head::ZoneHead;
+use fields::{Srel, ZoneName};
+use store_rows::ReadError;
+use terms::ZoneKind;
+
+/// Whether it is the distribution zone of this name and SREL.
+fn is_distribution(head: &ZoneHead, name: ZoneName, srel: Srel) -> bool
+    ensures { IsTrue result ↔ IsDistributionOf name srel head.now }
+{
+    head.name == name && head.kind == ZoneKind::Distribution && head.srel == srel
+}
+
+fn has_distribution(heads: &[ZoneHead], name: ZoneName, srel: Srel) -> bool
+    ensures { IsTrue result ↔ Any (IsDistributionOf name srel) heads.now }
+{
+    heads.iter().any(|head| is_distribution(head, name, srel))
+}
+
+/// Whether the zone that it names is among them.
+fn is_related(heads: &[ZoneHead], head: &ZoneHead) -> bool
+    ensures { IsTrue result ↔ IsRelatedAmong heads.now head.now }
+{
+    match head.related {
+        Some(name) => has_distribution(heads, name, head.srel),
+        None => true,
+    }
+}
+
+fn are_related(heads: &[ZoneHead]) -> bool
+    ensures { IsTrue result ↔ All (IsRelatedAmong heads.now) heads.now }
+{
+    heads.iter().all(|head| is_related(heads, head))
+}
+
+/// Whether the second names no zone that the first names.
+fn is_apart(head: &ZoneHead, other: &ZoneHead) -> bool
+    ensures { IsTrue result ↔ HeadsAreApart head.now other.now }
+{
+    match head.related {
+        Some(name) => other.related != Some(name),
+        None => true,
+    }
+}
+
+fn is_apart_from(heads: &[ZoneHead], other: &ZoneHead) -> bool
+    ensures { IsTrue result ↔ All (λ head. HeadsAreApart head other.now) heads.now }
+{
+    heads.iter().all(|head| is_apart(head, other))
+}
+
+fn are_apart(heads: &[ZoneHead]) -> bool
+    ensures { IsTrue result ↔ AllPairs HeadsAreApart heads.now }
+{
+    for i in 0..heads.len() {
+        if !is_apart_from(&heads[..i], &heads[i]) {
+            return false;
+        }
+    }
+    true
+}
+
+/// The heads, if each related zone is there and no two zones name one.
+pub(crate) fn only_related(heads: Vec<ZoneHead>) -> Result<Vec<ZoneHead>, ReadError>
+    ensures same { IfOk result (λ same. same.items ≡ heads.items) }
+    ensures related { IfOk result (λ same. AreRelated same.items) }
+    ensures none { IsErrOf result ReadError.BadRow → ¬ AreRelated heads.items }
+    ensures fault { IsErrOf result ReadError.Fault → ⊥ }
+{
+    if !are_related(heads.as_slice()) {
+        return Err(ReadError::BadRow);
+    }
+    if !are_apart(heads.as_slice()) {
+        return Err(ReadError::BadRow);
+    }
+    Ok(heads)
+}
