@@ -91,6 +91,21 @@ fn outcome(alloc: Global, text: &[u8], options: Options) -> Result<String, Fail>
     Ok(String::from_utf8(lines)?)
 }
 
+/// The first line of two texts that differs, of each. Behind the end of one stands no line.
+pub(crate) fn first_difference<'a>(
+    got: &'a str,
+    wanted: &'a str,
+) -> (Option<&'a str>, Option<&'a str>) {
+    let mut wanted_lines = wanted.split('\n');
+    for line in got.split('\n') {
+        let other = wanted_lines.next();
+        if other != Some(line) {
+            return (Some(line), other);
+        }
+    }
+    (None, wanted_lines.next())
+}
+
 /// A failure, unless these lines come of the file under the options.
 pub(crate) fn check_with(
     alloc: Global,
@@ -102,7 +117,8 @@ pub(crate) fn check_with(
     if got.as_str() == wanted {
         return Ok(());
     }
-    Err(Fail::new(format_args!("got {got}, wanted {wanted}")))
+    let (got, wanted) = first_difference(got.as_str(), wanted);
+    Err(Fail::new(format_args!("got {got:?}, wanted {wanted:?}")))
 }
 
 /// A failure, unless these lines come of the file under no options.

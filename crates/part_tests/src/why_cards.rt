@@ -131,6 +131,21 @@ pub(crate) struct Wanted {
     pub(crate) code: u8,
 }
 
+/// The first line of two texts that differs, of each. Behind the end of one stands no line.
+pub(crate) fn first_difference<'a>(
+    got: &'a str,
+    wanted: &'a str,
+) -> (Option<&'a str>, Option<&'a str>) {
+    let mut wanted_lines = wanted.split('\n');
+    for line in got.split('\n') {
+        let other = wanted_lines.next();
+        if other != Some(line) {
+            return (Some(line), other);
+        }
+    }
+    (None, wanted_lines.next())
+}
+
 /// A failure, unless this is told of these ids in the zone.
 pub(crate) fn check(alloc: Global, zone: &Zone, ids: &[Id], wanted: &Wanted) -> Result<(), Fail> {
     let global = global(alloc, wanted.cards, wanted.holds)?;
@@ -139,6 +154,7 @@ pub(crate) fn check(alloc: Global, zone: &Zone, ids: &[Id], wanted: &Wanted) -> 
         return Ok(());
     }
     let got = std::str::from_utf8(text.as_slice())?;
-    let (wanted, wanted_code) = (wanted.text, wanted.code);
-    Err(Fail::new(format_args!("got {got} and {code}, wanted {wanted} and {wanted_code}")))
+    let wanted_code = wanted.code;
+    let (got, wanted) = first_difference(got, wanted.text);
+    Err(Fail::new(format_args!("got {got:?} and {code}, wanted {wanted:?} and {wanted_code}")))
 }

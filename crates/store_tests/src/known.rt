@@ -121,12 +121,28 @@ pub(crate) fn records(alloc: Global, text: &str) -> Result<Vec<u8>, Fail> {
     Ok(bytes)
 }
 
-/// A failure with this name and both texts, where the one that was got is not the one that was wanted.
+/// The first line of two texts that differs, of each. Behind the end of one stands no line.
+pub(crate) fn first_difference<'a>(
+    got: &'a str,
+    wanted: &'a str,
+) -> (Option<&'a str>, Option<&'a str>) {
+    let mut wanted_lines = wanted.split('\n');
+    for line in got.split('\n') {
+        let other = wanted_lines.next();
+        if other != Some(line) {
+            return (Some(line), other);
+        }
+    }
+    (None, wanted_lines.next())
+}
+
+/// A failure with this name and the first lines that differ, where the text that was got is not the one that was wanted.
 pub(crate) fn compare(name: &str, got: &str, wanted: &str) -> Result<(), Fail> {
     if got == wanted {
         return Ok(());
     }
-    Err(Fail::new(format_args!("{name}: got {got}, wanted {wanted}")))
+    let (got, wanted) = first_difference(got, wanted);
+    Err(Fail::new(format_args!("{name}: got {got:?}, wanted {wanted:?}")))
 }
 
 /// Runs a statement that must change some row.

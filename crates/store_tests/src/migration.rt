@@ -3,7 +3,8 @@
 ghost use Rattle.std.specs.Prelude.{IsTrue};
 
 use crate::known::{
-    SOURCES, again, close, compare, fill_first, in_memory, known_with, lines, new_files, run_all,
+    SOURCES, again, close, compare, fill_first, first_difference, in_memory, known_with, lines,
+    new_files, run_all,
 };
 use crate::round_trip::all_lines;
 use sqlite::{Alter, Connection, Files, Options};
@@ -224,7 +225,8 @@ fn went_well(count: u64, behind: (String, bool), wanted: &str) -> Result<bool, F
     if rows.as_str() == wanted {
         return Ok(went_well);
     }
-    Err(Fail::new(format_args!("{count} calls or steps: got {rows}, wanted {wanted}")))
+    let (got, wanted) = first_difference(rows.as_str(), wanted);
+    Err(Fail::new(format_args!("{count} calls or steps: got {got:?}, wanted {wanted:?}")))
 }
 
 #[test]
