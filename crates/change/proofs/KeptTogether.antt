@@ -9,7 +9,7 @@ use Rattle.terms.proofs.ListMembers.{here}
 use Rattle.terms.proofs.TextOrder.{same_or_not}
 use Rattle.terms.specs.declared.kinds.ElemType.{ElemType}
 use Rattle.terms.specs.declared.codes.NeedKind.TheVariants.{Fmid}
-use Rattle.terms.specs.declared.codes.Test.TheVariants.{J4, J6}
+use Rattle.terms.specs.declared.codes.Test.TheVariants.{OwnedByAnother, NothingToUpdate}
 use Rattle.terms.specs.Types.{Text, Id, type_number, Change, Sysmod, Global, Element, Zone}
 use Rattle.terms.specs.Lookups.{at_most_one, is_in, IsZone, change_of, has_change, element_of, sysmod_of, is_received}
 use Rattle.terms.specs.Lookups.{is_applied, is_supplied, is_nil, supby_of}
@@ -77,7 +77,7 @@ module _ (s : Setting) (survivors kept : List Id) (members : (x : Id) → Contai
   pub kept_eligible : (x : Id) → Contains kept x → IsEligible s x
   kept_eligible x is = let stays = (members x).0 is in stays.1.eligible x stays.2
 
-  -- J9: what is kept and shares an element has one owner, and over orders it.
+  -- InClash: what is kept and shares an element has one owner, and over orders it.
   pub kept_share : (x y : Id) → Contains kept x → Contains kept y → x ≢ y → ShareElement s.global x y
       → ¬ MayNotShare s x y
   kept_share x y of_x of_y other share apart =
@@ -144,7 +144,7 @@ module _ (s : Setting) (survivors kept : List Id) (members : (x : Id) → Contai
           ]
         ]
 
-    -- J8: no deletion of what is kept meets the owner of what is kept.
+    -- ChainDeleted: no deletion of what is kept meets the owner of what is kept.
     pub kept_undeleted : (x : Id) → Contains kept x
         → is_deleted s.global s.choice (deletions s.choice kept) (owner_of s x) ≡ false
     kept_undeleted x is = by (is_deleted s.global s.choice (deletions s.choice kept) (owner_of s x)) refl
@@ -157,7 +157,8 @@ module _ (s : Setting) (survivors kept : List Id) (members : (x : Id) → Contai
             let survives = (kept_eligible x is).0 in
             absurd (survives.1 (survives.0, (one.0, (kept_eligible one.0 one.1).0.0, deleted)))
 
-    -- J4 and J6: what a kept SYSMOD updates is there after the deletions, or comes with its FMID, which is kept.
+    -- OwnedByAnother and NothingToUpdate: what a kept SYSMOD updates is there after the deletions, or comes with its
+    -- FMID, which is kept.
     pub kept_base : (x : Id) (type : ElemType) (name : Text) → Contains kept x
         → IsTrue (has_update s.global x type name)
         → IsSome (element_of (zone_less s.global s.choice (deletions s.choice kept) s.zone) type name)
@@ -180,14 +181,14 @@ module _ (s : Setting) (survivors kept : List Id) (members : (x : Id) → Contai
         own : (e : Element) → element_of (view_of s x) type name ≡ Some e → e.fmid ≡ owner_of s x
         own e found = elim (same_or_not e.fmid (owner_of s x)) [
           | inl same ↦ same
-          | inr other ↦ absurd (passes.1 J4
+          | inr other ↦ absurd (passes.1 OwnedByAnother
               (e, (type, name, update_changes s.global x type name updates, found), other))
         ]
 
         there : (o : Option Element) → element_of (view_of s x) type name ≡ o
             → has_candidate_base s x type name ≡ false
             → IsSome (element_of (zone_less s.global s.choice (deletions s.choice kept) s.zone) type name)
-        there None found none = absurd (passes.1 J6 (type, name, updates, found, none))
+        there None found none = absurd (passes.1 NothingToUpdate (type, name, updates, found, none))
         there (Some e) found none =
             let was = element_was s.global s.choice _ s.zone type name e found in
             element_stays s.global s.choice (deletions s.choice kept) s.zone type name e was.0 was.1

@@ -1,6 +1,6 @@
 //! Why a command, or a command file, is not read.
 use std::alloc::{AllocError, AllocFailed};
-use terms::CnCode;
+use terms::CommandCode;
 use thiserror::Error;
 
 /// Why one command is not read.
@@ -9,7 +9,7 @@ pub enum CommandError {
     #[error("out of memory")]
     Memory,
     #[error("the command is at fault")]
-    Fault(CnCode),
+    Fault(CommandCode),
 }
 
 /// Why a command file is not read: the first command at fault begins in this record.
@@ -18,7 +18,7 @@ pub enum CntlError {
     #[error("out of memory")]
     Memory,
     #[error("the command in record {number} is at fault")]
-    Fault { number: usize, code: CnCode },
+    Fault { number: usize, code: CommandCode },
 }
 
 impl From<AllocError> for CntlError {

@@ -13,7 +13,7 @@ use crate::errors::{CntlError, CommandError};
 use crate::read::read_command;
 use rec80::{Commands, records};
 use std::alloc::Global;
-use terms::CnCode;
+use terms::CommandCode;
 
 /// Takes the next command. Behind the last one there is none.
 fn read_next(alloc: Global, left: &mut Commands<'_>) -> Result<Option<Command>, CntlError>
@@ -29,7 +29,7 @@ fn read_next(alloc: Global, left: &mut Commands<'_>) -> Result<Option<Command>, 
         Err(fault) => {
             return Err(CntlError::Fault {
                 number: fault.number,
-                code: CnCode::Cn5,
+                code: CommandCode::BadCommandForm,
             });
         }
     };
@@ -55,7 +55,7 @@ fn read_all(alloc: Global, bytes: &[u8]) -> Result<Vec<Command>, CntlError>
         Err(fault) => {
             return Err(CntlError::Fault {
                 number: fault.record(),
-                code: CnCode::Cn5,
+                code: CommandCode::BadCommandForm,
             });
         }
     };
@@ -67,9 +67,9 @@ fn read_all(alloc: Global, bytes: &[u8]) -> Result<Vec<Command>, CntlError>
     Ok(read)
 }
 
-/// The commands of a command file. `Memory` comes where memory runs out. `Fault` is `Cn5` at the first bad record,
-/// wherever it stands; else the fault of the first faulty command, at the record where this begins: `Cn5` also where
-/// its form is at fault, or where a comment between commands is not closed.
+/// The commands of a command file. `Memory` comes where memory runs out. `Fault` is `BadCommandForm` at the first bad
+/// record, wherever it stands; else the fault of the first faulty command, at the record where this begins:
+/// `BadCommandForm` also where its form is at fault, or where a comment between commands is not closed.
 pub fn read_cntl(alloc: Global, bytes: &[u8]) -> Result<Vec<Command>, CntlError>
     ensures commands { IfOk result (λ read. IsCommandFile bytes.now (map command_of read.items)) }
     ensures good { (cs : List terms.Command) → IsCommandFile bytes.now cs → IfErr result (λ e. e ≡ CntlError.Memory) }

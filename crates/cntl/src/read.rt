@@ -17,7 +17,7 @@ use crate::unchosen::is_unchosen;
 use fields::spelling::read_word;
 use rec80::{OperandError, Piece, Words};
 use std::alloc::Global;
-use terms::{CnCode, CommandWord};
+use terms::{CommandCode, CommandWord};
 
 /// Takes the word that a command begins with.
 fn take_command_word(left: &mut Words<'_>) -> Option<CommandWord>
@@ -33,9 +33,10 @@ fn take_command_word(left: &mut Words<'_>) -> Option<CommandWord>
     read_word(text)
 }
 
-/// The command of these words. `Memory` comes where memory runs out, and `Fault` has the first that applies of `Cn1`
-/// where they begin with no command, `Cn3` where an operand or a member of BYPASS comes twice, `Cn4` where RESTORE has
-/// SELECT and GROUP or none of them, and `Cn2` where anything else is wrong with an operand.
+/// The command of these words. `Memory` comes where memory runs out, and `Fault` has the first that applies of
+/// `UnknownCommand` where they begin with no command, `OperandTwice` where an operand or a member of BYPASS comes
+/// twice, `NoSingleList` where RESTORE has SELECT and GROUP or none of them, and `UnfitValue` where anything else is
+/// wrong with an operand.
 pub fn read_command(alloc: Global, words: &Words<'_>) -> Result<Command, CommandError>
     ensures command { (pieces : List AnyPiece) → LeavesPieces words.now pieces
         → IfOk result (λ c. IsCommand pieces (command_of c)) }
@@ -44,23 +45,23 @@ pub fn read_command(alloc: Global, words: &Words<'_>) -> Result<Command, Command
 {
     let mut rest = *words;
     let Some(word) = take_command_word(&mut rest) else {
-        return Err(CommandError::Fault(CnCode::Cn1));
+        return Err(CommandError::Fault(CommandCode::UnknownCommand));
     };
     let Ok(operands) = rest.operands(alloc) else {
         return Err(CommandError::Memory);
     };
     if has_double(word, &operands) {
-        return Err(CommandError::Fault(CnCode::Cn3));
+        return Err(CommandError::Fault(CommandCode::OperandTwice));
     }
     if is_unchosen(word, &operands) {
-        return Err(CommandError::Fault(CnCode::Cn4));
+        return Err(CommandError::Fault(CommandCode::NoSingleList));
     }
     let Some(named) = operands.named(operands_of(word)) else {
-        return Err(CommandError::Fault(CnCode::Cn2));
+        return Err(CommandError::Fault(CommandCode::UnfitValue));
     };
     match read_operands(alloc, word, named) {
         Ok(command) => Ok(command),
         Err(OperandError::Memory) => Err(CommandError::Memory),
-        Err(OperandError::Bad) => Err(CommandError::Fault(CnCode::Cn2)),
+        Err(OperandError::Bad) => Err(CommandError::Fault(CommandCode::UnfitValue)),
     }
 }

@@ -8,7 +8,9 @@ use Rattle.std.proofs.lemmas.Option.{slice_get-map, get_or_from_slice_get}
 use Rattle.terms.proofs.ListMembers.{filter_in, in_filter, none_in}
 use Rattle.terms.proofs.Places.{contains_at}
 use Rattle.terms.specs.declared.codes.Test.{Test}
-use Rattle.terms.specs.declared.codes.Test.TheVariants.{J1, J2, J3, J4, J5, J6, J7, J8, J9, J10, J11, J12, J13}
+use Rattle.terms.specs.declared.codes.Test.TheVariants.{HeldBySystem, HeldByUser, ForbiddenByNpre, OwnedByAnother}
+use Rattle.terms.specs.declared.codes.Test.TheVariants.{UnrelatedLevel, NothingToUpdate, NotInTarget, ChainDeleted}
+use Rattle.terms.specs.declared.codes.Test.TheVariants.{InClash, AlreadyAccepted, HasDelete, UnappliedLevel, SeveralFit}
 use Rattle.terms.specs.Types.{Id}
 use Rattle.terms.specs.Lookups.{is_nil}
 use Rattle.terms.specs.Failures.{all_tests}
@@ -16,19 +18,19 @@ use Rattle.decide.specs.Problem.{holds}
 use Rattle.decide.specs.Said.{Said, IsEligible, AreTests}
 
 pub all_there : (t : Test) → Contains all_tests t
-all_there J1 = (0, omega arith, refl)
-all_there J2 = (1, omega arith, refl)
-all_there J3 = (2, omega arith, refl)
-all_there J4 = (3, omega arith, refl)
-all_there J5 = (4, omega arith, refl)
-all_there J6 = (5, omega arith, refl)
-all_there J7 = (6, omega arith, refl)
-all_there J8 = (7, omega arith, refl)
-all_there J9 = (8, omega arith, refl)
-all_there J10 = (9, omega arith, refl)
-all_there J11 = (10, omega arith, refl)
-all_there J12 = (11, omega arith, refl)
-all_there J13 = (12, omega arith, refl)
+all_there HeldBySystem = (0, omega arith, refl)
+all_there HeldByUser = (1, omega arith, refl)
+all_there ForbiddenByNpre = (2, omega arith, refl)
+all_there OwnedByAnother = (3, omega arith, refl)
+all_there UnrelatedLevel = (4, omega arith, refl)
+all_there NothingToUpdate = (5, omega arith, refl)
+all_there NotInTarget = (6, omega arith, refl)
+all_there ChainDeleted = (7, omega arith, refl)
+all_there InClash = (8, omega arith, refl)
+all_there AlreadyAccepted = (9, omega arith, refl)
+all_there HasDelete = (10, omega arith, refl)
+all_there UnappliedLevel = (11, omega arith, refl)
+all_there SeveralFit = (12, omega arith, refl)
 
 none_fails : (p : Test → Bool) → is_nil (filter p all_tests) ≡ true ↔ ((t : Test) → IsFalse (p t))
 none_fails p = (from (filter p all_tests) refl, to (filter p all_tests) refl)

@@ -10,7 +10,8 @@ ghost use Rattle.terms.specs.Spelling.{kind_text, hold_text, type_text, zone_kin
 ghost use Rattle.terms.specs.Spelling.{test_text, need_text, refusal_text};
 
 use terms::{
-    CnCode, CommandWord, ElemType, HoldKind, IdRefusal, Kind, McCode, NeedKind, Test, ZoneKind,
+    CommandCode, CommandWord, ElemType, HoldKind, IdRefusal, Kind, NeedKind, StatementCode, Test,
+    ZoneKind,
 };
 
 /// A SYSMOD's type, as it is spelled.
@@ -120,29 +121,29 @@ pub fn read_zone_kind(text: &[u8]) -> Option<ZoneKind>
 }
 
 /// The fault of a statement file, as it is spelled.
-pub fn mc_text(mc: McCode) -> &'static [u8]
+pub fn mc_text(mc: StatementCode) -> &'static [u8]
     ensures { result.now ≡ mc_text mc }
 {
     match mc {
-        McCode::Mc1 => b"Mc1",
-        McCode::Mc2 => b"Mc2",
-        McCode::Mc3 => b"Mc3",
-        McCode::Mc4 => b"Mc4",
-        McCode::Mc5 => b"Mc5",
-        McCode::Mc6 => b"Mc6",
+        StatementCode::BadStatementForm => b"Mc1",
+        StatementCode::UnknownStatementWord => b"Mc2",
+        StatementCode::UnfitOperand => b"Mc3",
+        StatementCode::WrongPlace => b"Mc4",
+        StatementCode::UnfitText => b"Mc5",
+        StatementCode::OverLimit => b"Mc6",
     }
 }
 
 /// The fault of a command file, as it is spelled.
-pub fn cn_text(cn: CnCode) -> &'static [u8]
+pub fn cn_text(cn: CommandCode) -> &'static [u8]
     ensures { result.now ≡ cn_text cn }
 {
     match cn {
-        CnCode::Cn1 => b"Cn1",
-        CnCode::Cn2 => b"Cn2",
-        CnCode::Cn3 => b"Cn3",
-        CnCode::Cn4 => b"Cn4",
-        CnCode::Cn5 => b"Cn5",
+        CommandCode::UnknownCommand => b"Cn1",
+        CommandCode::UnfitValue => b"Cn2",
+        CommandCode::OperandTwice => b"Cn3",
+        CommandCode::NoSingleList => b"Cn4",
+        CommandCode::BadCommandForm => b"Cn5",
     }
 }
 
@@ -185,19 +186,19 @@ pub fn test_text(test: Test) -> &'static [u8]
     ensures { result.now ≡ test_text test }
 {
     match test {
-        Test::J1 => b"J1",
-        Test::J2 => b"J2",
-        Test::J3 => b"J3",
-        Test::J4 => b"J4",
-        Test::J5 => b"J5",
-        Test::J6 => b"J6",
-        Test::J7 => b"J7",
-        Test::J8 => b"J8",
-        Test::J9 => b"J9",
-        Test::J10 => b"J10",
-        Test::J11 => b"J11",
-        Test::J12 => b"J12",
-        Test::J13 => b"J13",
+        Test::HeldBySystem => b"J1",
+        Test::HeldByUser => b"J2",
+        Test::ForbiddenByNpre => b"J3",
+        Test::OwnedByAnother => b"J4",
+        Test::UnrelatedLevel => b"J5",
+        Test::NothingToUpdate => b"J6",
+        Test::NotInTarget => b"J7",
+        Test::ChainDeleted => b"J8",
+        Test::InClash => b"J9",
+        Test::AlreadyAccepted => b"J10",
+        Test::HasDelete => b"J11",
+        Test::UnappliedLevel => b"J12",
+        Test::SeveralFit => b"J13",
     }
 }
 
@@ -222,12 +223,12 @@ pub fn refusal_text(refusal: IdRefusal) -> &'static [u8]
     ensures { result.now ≡ refusal_text refusal }
 {
     match refusal {
-        IdRefusal::Rc2 => b"Rc2",
-        IdRefusal::Rc3 => b"Rc3",
-        IdRefusal::Rc4 => b"Rc4",
-        IdRefusal::Rl1 => b"Rl1",
-        IdRefusal::Rl2 => b"Rl2",
-        IdRefusal::Rj1 => b"Rj1",
-        IdRefusal::Rj2 => b"Rj2",
+        IdRefusal::MakesLoop => b"Rc2",
+        IdRefusal::OtherRole => b"Rc3",
+        IdRefusal::NoRoom => b"Rc4",
+        IdRefusal::NoSuchHold => b"Rl1",
+        IdRefusal::CameAlong => b"Rl2",
+        IdRefusal::AppliedSomewhere => b"Rj1",
+        IdRefusal::NotThere => b"Rj2",
     }
 }

@@ -11,7 +11,7 @@ use cntl::{CntlError, read_cntl};
 use intake_cards::{Deed, PrintedCards, Reason, Remark};
 use intake_wide::Card;
 use std::alloc::{AllocError, Global};
-use terms::CnCode;
+use terms::CommandCode;
 
 /// What became of a command file.
 #[derive(Drop)]
@@ -87,11 +87,12 @@ fn append(
 }
 
 // Why a command of known words is not read.
-fn reason_of(code: CnCode) -> Reason {
+fn reason_of(code: CommandCode) -> Reason {
     match code {
-        CnCode::Cn2 => Reason::Missing,
-        CnCode::Cn4 => Reason::Contradiction,
-        CnCode::Cn1 | CnCode::Cn3 | CnCode::Cn5 => Reason::NotRead,
+        CommandCode::UnfitValue => Reason::Missing,
+        CommandCode::NoSingleList => Reason::Contradiction,
+        CommandCode::UnknownCommand | CommandCode::OperandTwice | CommandCode::BadCommandForm =>
+            Reason::NotRead,
     }
 }
 

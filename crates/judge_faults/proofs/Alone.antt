@@ -1,4 +1,4 @@
--- What candidates fail by themselves: those of J1 to J8 and J13 that their faults say.
+-- What candidates fail before clashes: the tests that their faults say.
 use Rattle.std.proofs.Common.{◌≡◌, ◌≢◌, Bool, true, false, not, List, [], ◌∷◌, Option, None, Some, IsTrue}
 use Rattle.std.proofs.Common.{refl, sym, ap, ◌∙◌, subst, true≢false, filter, find, Contains}
 use Rattle.std.specs.Prelude.{◌↔◌, ◌&&◌, is_some}
@@ -13,7 +13,9 @@ use Rattle.terms.specs.declared.kinds.HoldKind.TheVariants.{System, User}
 use Rattle.terms.specs.declared.kinds.ZoneKind.{ZoneKind}
 use Rattle.terms.specs.declared.kinds.ZoneKind.TheVariants.{Target, Distribution}
 use Rattle.terms.specs.declared.codes.Test.{Test}
-use Rattle.terms.specs.declared.codes.Test.TheVariants.{J1, J2, J3, J4, J5, J6, J7, J8, J9, J10, J11, J12, J13}
+use Rattle.terms.specs.declared.codes.Test.TheVariants.{HeldBySystem, HeldByUser, ForbiddenByNpre, OwnedByAnother}
+use Rattle.terms.specs.declared.codes.Test.TheVariants.{UnrelatedLevel, NothingToUpdate, NotInTarget, ChainDeleted}
+use Rattle.terms.specs.declared.codes.Test.TheVariants.{InClash, AlreadyAccepted, HasDelete, UnappliedLevel, SeveralFit}
 use Rattle.terms.specs.Types.{Text, Id, Change, Element, Global, Zone, is_distribution}
 use Rattle.terms.specs.Lookups.{change_key, changes_of, change_of, element_cmp, element_of, holds_of}
 use Rattle.terms.specs.Lookups.{is_applied}
@@ -23,7 +25,8 @@ use Rattle.terms.specs.Changes.{is_replacement, has_update}
 use Rattle.terms.specs.Lookups.{element_eq}
 use Rattle.terms.specs.Global.{IsGlobal}
 use Rattle.terms.specs.Tests.{Setting, view_of, owner_of, is_bypassed_hold, ChangesInView}
-use Rattle.terms.specs.Tests.{FailsJ1, FailsJ2, FailsJ4, FailsJ5, FailsJ6, FailsJ7, FailsJ8, FailsJ9}
+use Rattle.terms.specs.Tests.{IsHeldBySystem, IsHeldByUser, ChangesOwnedByAnother, ChangesUnrelatedLevel}
+use Rattle.terms.specs.Tests.{HasNothingToUpdate, IsNotInTarget, IsChainDeleted, IsInClash}
 use Rattle.terms.specs.Tests.{FailsAlone, PassesAlone, Fails, Survives, has_candidate_base}
 use Rattle.terms.proofs.ElementOrder.{element_cmp_total, element_ties}
 use Rattle.terms.proofs.RisingLists.{find_there, Splits_around}
@@ -117,10 +120,10 @@ module _ (s : Setting) (is_global : IsGlobal s.global) where
     in_view h e of at = (h.elem_type, h.name, change_has g x h of, at)
 
     module _ (a : OwnFaults) (own : HasFaults s x a) where
-      one : IsTrue a.system_held ↔ FailsJ1 s x
+      one : IsTrue a.system_held ↔ IsHeldBySystem s x
       one = rw own.system_held (any_left (λ h. not (is_bypassed_hold s.bypass h)) (holds_of g System x))
 
-      two : IsTrue a.user_held ↔ FailsJ2 s x
+      two : IsTrue a.user_held ↔ IsHeldByUser s x
       two = rw own.user_held (any_left (λ h. not (is_bypassed_hold s.bypass h)) (holds_of g User x))
 
       foreign_at : (h : Change) → is_foreign_at seen (owner_of s x) h ≡ true
@@ -138,7 +141,7 @@ module _ (s : Setting) (is_global : IsGlobal s.global) where
                 (owner_of s x))) o false) e) ∙ foreign),
           )
 
-      four : IsTrue a.foreign ↔ FailsJ4 s x
+      four : IsTrue a.foreign ↔ ChangesOwnedByAnother s x
       four = (
         λ foreign.
             let any = Any-from_list_any (is_foreign_at seen (owner_of s x)) (changes_of g x)
@@ -157,7 +160,7 @@ module _ (s : Setting) (is_global : IsGlobal s.global) where
             ),
       )
 
-      five : IsTrue a.lower ↔ FailsJ5 s x
+      five : IsTrue a.lower ↔ ChangesUnrelatedLevel s x
       five = (
         λ lower.
             let both = own.lower.0 lower in
@@ -173,7 +176,7 @@ module _ (s : Setting) (is_global : IsGlobal s.global) where
             (fails.0, (t.1.0, t.0, t.1.1, t.1.2, (e, t.2, (z.0, fails.1.1, z.1, z.2, fails.1.4)))),
       )
 
-      six : IsTrue a.bare ↔ FailsJ6 s x
+      six : IsTrue a.bare ↔ HasNothingToUpdate s x
       six = (
         λ bare.
             let any = Any-from_list_any (is_bare_at g seen s.cands (fmid_of s.choice x)) (changes_of g x)
@@ -212,7 +215,7 @@ module _ (s : Setting) (is_global : IsGlobal s.global) where
             ),
       )
 
-      seven : IsTrue a.unapplied ↔ FailsJ7 s x
+      seven : IsTrue a.unapplied ↔ IsNotInTarget s x
       seven = (
         λ unapplied.
             let p = and_parts (is_distribution s.zone.kind && not s.bypass.applycheck)
@@ -229,7 +232,7 @@ module _ (s : Setting) (is_global : IsGlobal s.global) where
             ∙ ap not fails.2,
       )
 
-      -- it passes J1 to J7, and J13
+      -- it passes the tests that look at it alone
       pub alone_if : IsTrue (passes_alone a) ↔ PassesAlone s x
       alone_if = (
         λ on.
@@ -250,37 +253,37 @@ module _ (s : Setting) (is_global : IsGlobal s.global) where
                   (not-true a.ambiguous w.1),
             ),
         λ alone.
-            let no_one = off a.system_held (λ on. alone.1 J1 (one.0 on)) in
-            let no_two = off a.user_held (λ on. alone.1 J2 (two.0 on)) in
-            let no_three = off a.forbidden (λ on. alone.1 J3 (own.forbidden.0 on)) in
-            let no_four = off a.foreign (λ on. alone.1 J4 (four.0 on)) in
-            let no_five = off a.lower (λ on. alone.1 J5 (five.0 on)) in
-            let no_six = off a.bare (λ on. alone.1 J6 (six.0 on)) in
-            let no_seven = off a.unapplied (λ on. alone.1 J7 (seven.0 on)) in
-            let no_thirteen = off a.ambiguous (λ on. alone.1 J13 (own.ambiguous.0 on)) in
+            let no_one = off a.system_held (λ on. alone.1 HeldBySystem (one.0 on)) in
+            let no_two = off a.user_held (λ on. alone.1 HeldByUser (two.0 on)) in
+            let no_three = off a.forbidden (λ on. alone.1 ForbiddenByNpre (own.forbidden.0 on)) in
+            let no_four = off a.foreign (λ on. alone.1 OwnedByAnother (four.0 on)) in
+            let no_five = off a.lower (λ on. alone.1 UnrelatedLevel (five.0 on)) in
+            let no_six = off a.bare (λ on. alone.1 NothingToUpdate (six.0 on)) in
+            let no_seven = off a.unapplied (λ on. alone.1 NotInTarget (seven.0 on)) in
+            let no_thirteen = off a.ambiguous (λ on. alone.1 SeveralFit (own.ambiguous.0 on)) in
             rw (no_one, no_two, no_three, no_four, no_five, no_six, no_seven, no_thirteen) refl,
       )
         where
           by : (test : Test) → a.system_held ≡ false → a.user_held ≡ false → a.forbidden ≡ false → a.foreign ≡ false
               → a.lower ≡ false → a.bare ≡ false → a.unapplied ≡ false → a.ambiguous ≡ false → ¬ FailsAlone s x test
-          by J1 e1 e2 e3 e4 e5 e6 e7 e8 fails = true≢false (sym (one.1 fails) ∙ e1)
-          by J2 e1 e2 e3 e4 e5 e6 e7 e8 fails = true≢false (sym (two.1 fails) ∙ e2)
-          by J3 e1 e2 e3 e4 e5 e6 e7 e8 fails = true≢false (sym (own.forbidden.1 fails) ∙ e3)
-          by J4 e1 e2 e3 e4 e5 e6 e7 e8 fails = true≢false (sym (four.1 fails) ∙ e4)
-          by J5 e1 e2 e3 e4 e5 e6 e7 e8 fails = true≢false (sym (five.1 fails) ∙ e5)
-          by J6 e1 e2 e3 e4 e5 e6 e7 e8 fails = true≢false (sym (six.1 fails) ∙ e6)
-          by J7 e1 e2 e3 e4 e5 e6 e7 e8 fails = true≢false (sym (seven.1 fails) ∙ e7)
-          by J8 e1 e2 e3 e4 e5 e6 e7 e8 fails = fails
-          by J9 e1 e2 e3 e4 e5 e6 e7 e8 fails = fails
-          by J10 e1 e2 e3 e4 e5 e6 e7 e8 fails = fails
-          by J11 e1 e2 e3 e4 e5 e6 e7 e8 fails = fails
-          by J12 e1 e2 e3 e4 e5 e6 e7 e8 fails = fails
-          by J13 e1 e2 e3 e4 e5 e6 e7 e8 fails = true≢false (sym (own.ambiguous.1 fails) ∙ e8)
+          by HeldBySystem e1 e2 e3 e4 e5 e6 e7 e8 fails = true≢false (sym (one.1 fails) ∙ e1)
+          by HeldByUser e1 e2 e3 e4 e5 e6 e7 e8 fails = true≢false (sym (two.1 fails) ∙ e2)
+          by ForbiddenByNpre e1 e2 e3 e4 e5 e6 e7 e8 fails = true≢false (sym (own.forbidden.1 fails) ∙ e3)
+          by OwnedByAnother e1 e2 e3 e4 e5 e6 e7 e8 fails = true≢false (sym (four.1 fails) ∙ e4)
+          by UnrelatedLevel e1 e2 e3 e4 e5 e6 e7 e8 fails = true≢false (sym (five.1 fails) ∙ e5)
+          by NothingToUpdate e1 e2 e3 e4 e5 e6 e7 e8 fails = true≢false (sym (six.1 fails) ∙ e6)
+          by NotInTarget e1 e2 e3 e4 e5 e6 e7 e8 fails = true≢false (sym (seven.1 fails) ∙ e7)
+          by ChainDeleted e1 e2 e3 e4 e5 e6 e7 e8 fails = fails
+          by InClash e1 e2 e3 e4 e5 e6 e7 e8 fails = fails
+          by AlreadyAccepted e1 e2 e3 e4 e5 e6 e7 e8 fails = fails
+          by HasDelete e1 e2 e3 e4 e5 e6 e7 e8 fails = fails
+          by UnappliedLevel e1 e2 e3 e4 e5 e6 e7 e8 fails = fails
+          by SeveralFit e1 e2 e3 e4 e5 e6 e7 e8 fails = true≢false (sym (own.ambiguous.1 fails) ∙ e8)
 
       never : (T : Type 0) → ¬ T → IsTrue false ↔ T
       never T lacks = (λ e. absurd (true≢false (sym e)), λ t. absurd (lacks t))
 
-      module _ (eight : IsTrue a.deleted ↔ FailsJ8 s x) where
+      module _ (eight : IsTrue a.deleted ↔ IsChainDeleted s x) where
         -- it has no faults where it survives
         pub survives_if : IsTrue (passes a) ↔ Survives s x
         survives_if = (
@@ -293,19 +296,19 @@ module _ (s : Setting) (is_global : IsGlobal s.global) where
               ap (λ b. b && not a.deleted) alone ∙ no_eight,
         )
 
-        -- the tests that it fails, given whether it fails J9
-        pub test_fails : (clashes : Bool) → IsTrue clashes ↔ FailsJ9 s x → (t : Test)
+        -- the tests that it fails, given whether it clashes
+        pub test_fails : (clashes : Bool) → IsTrue clashes ↔ IsInClash s x → (t : Test)
             → IsTrue (fails_test a clashes t) ↔ Fails s x t
-        test_fails clashes nine J1 = one
-        test_fails clashes nine J2 = two
-        test_fails clashes nine J3 = own.forbidden
-        test_fails clashes nine J4 = four
-        test_fails clashes nine J5 = five
-        test_fails clashes nine J6 = six
-        test_fails clashes nine J7 = seven
-        test_fails clashes nine J8 = eight
-        test_fails clashes nine J9 = nine
-        test_fails clashes nine J10 = never (Fails s x J10) (λ no. no)
-        test_fails clashes nine J11 = never (Fails s x J11) (λ no. no)
-        test_fails clashes nine J12 = never (Fails s x J12) (λ no. no)
-        test_fails clashes nine J13 = own.ambiguous
+        test_fails clashes nine HeldBySystem = one
+        test_fails clashes nine HeldByUser = two
+        test_fails clashes nine ForbiddenByNpre = own.forbidden
+        test_fails clashes nine OwnedByAnother = four
+        test_fails clashes nine UnrelatedLevel = five
+        test_fails clashes nine NothingToUpdate = six
+        test_fails clashes nine NotInTarget = seven
+        test_fails clashes nine ChainDeleted = eight
+        test_fails clashes nine InClash = nine
+        test_fails clashes nine AlreadyAccepted = never (Fails s x AlreadyAccepted) (λ no. no)
+        test_fails clashes nine HasDelete = never (Fails s x HasDelete) (λ no. no)
+        test_fails clashes nine UnappliedLevel = never (Fails s x UnappliedLevel) (λ no. no)
+        test_fails clashes nine SeveralFit = own.ambiguous

@@ -1,4 +1,4 @@
--- Which candidates fail J9: for any setting, where it is known who survives.
+-- Which candidates clash: for any setting, where it is known who survives.
 use Rattle.std.proofs.Common.{◌≡◌, ◌∙◌, inl, inr, ℕ, List, length, Some, IsTrue, refl, sym}
 use Rattle.std.proofs.Common.{subst, map, Contains, slice_get}
 use Rattle.std.specs.Prelude.{◌↔◌, ◌⊎◌}
@@ -9,7 +9,7 @@ use Rattle.terms.specs.declared.kinds.ElemType.{ElemType}
 use Rattle.terms.specs.Types.{Text, Id, Global}
 use Rattle.terms.specs.Lookups.{changes_of, change_key, has_change}
 use Rattle.terms.specs.Choice.{Choice, npre_of}
-use Rattle.terms.specs.Tests.{Setting, Survives, Clash, FailsJ9}
+use Rattle.terms.specs.Tests.{Setting, Survives, Clash, IsInClash}
 use Rattle.terms.proofs.ChangedElements.{change_has, changes_to}
 use Rattle.judge_faults.specs.declared.own.OwnFaults.{OwnFaults}
 use Rattle.judge_faults.specs.declared.claims.Claim.{Claim}
@@ -87,25 +87,25 @@ module _ (s : Setting) (faults : List OwnFaults) (lengths : length faults ≡ le
       let a = own_at_holds n x at in
       record { at = at; own = a.0; own_at = a.1; passing = (survives n x a.0 at a.1).1 h }
 
-  -- a candidate that clashes fails J9, and no other does
+  -- a candidate that clashes fails the test, and no other does
   pub fails_nine : (n : ℕ) (x : Id) → slice_get s.cands n ≡ Some x
-      → (IsClashing s.global s.choice s.cands faults n ⊎ IsForbidding s.choice s.cands faults n) ↔ FailsJ9 s x
+      → (IsClashing s.global s.choice s.cands faults n ⊎ IsForbidding s.choice s.cands faults n) ↔ IsInClash s x
   fails_nine n x at = (from, to)
     where
-      from : IsClashing s.global s.choice s.cands faults n ⊎ IsForbidding s.choice s.cands faults n → FailsJ9 s x
+      from : IsClashing s.global s.choice s.cands faults n ⊎ IsForbidding s.choice s.cands faults n → IsInClash s x
       from (inl h) =
           let same : h.x ≡ x = same_Some h.x x (sym h.passes.at ∙ at) in
-          subst (FailsJ9 s) same (
+          subst (IsInClash s) same (
             passes_from n h.x h.passes,
             (h.y, passes_from h.place h.y h.other, h.apart, inr (inr (h.element, h.may_not))),
           )
       from (inr h) =
           let same : h.x ≡ x = same_Some h.x x (sym h.passes.at ∙ at) in
           let clash : Clash s h.x h.y = elim h.names [ inl named ↦ inl named | inr by ↦ inr (inl by) ] in
-          subst (FailsJ9 s) same
+          subst (IsInClash s) same
           (passes_from n h.x h.passes, (h.y, passes_from h.place h.y h.other, h.apart, clash))
 
-      to : FailsJ9 s x → IsClashing s.global s.choice s.cands faults n ⊎ IsForbidding s.choice s.cands faults n
+      to : IsInClash s x → IsClashing s.global s.choice s.cands faults n ⊎ IsForbidding s.choice s.cands faults n
       to (own, (y, other, apart, clash)) = by clash
         where
           found : (k : ℕ) × (slice_get s.cands k ≡ Some y)

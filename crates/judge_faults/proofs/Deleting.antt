@@ -1,4 +1,4 @@
--- J8: whom the DELETEs take of those that pass J1 to J7, and J13.
+-- Whom the DELETEs take, of those that pass the tests of a candidate alone.
 use Rattle.std.proofs.Common.{◌≡◌, ◌∙◌, inl, inr, ℕ, ◌+◌, Bool, true, false, List, [], ◌∷◌, ◌++◌}
 use Rattle.std.proofs.Common.{Some, length, sym, ap, subst, Contains, IsTrue, true≢false, slice_get, arith}
 use Rattle.std.specs.Prelude.{◌↔◌, ◌&&◌}
@@ -13,7 +13,7 @@ use Rattle.terms.specs.Choice.{Choice, del_of}
 use Rattle.terms.specs.Over.{chain}
 use Rattle.terms.specs.Deleted.{deletions, is_deleted}
 use Rattle.terms.specs.Global.{IsGlobal}
-use Rattle.terms.specs.Tests.{Setting, PassesAlone, FailsJ8}
+use Rattle.terms.specs.Tests.{Setting, PassesAlone, IsChainDeleted}
 use Rattle.terms.proofs.Ids.{is_in_from_Contains, Contains_from_is_in}
 use Rattle.terms.proofs.ListMembers.{here_or, here, there, none_in}
 use Rattle.terms.proofs.Places.{contains_at, found_at}
@@ -118,7 +118,7 @@ module _ (s : Setting) (is_global : IsGlobal s.global) (alone faults : List OwnF
     ambiguous = h.ambiguous;
   }
 
-  -- the faults by J1 to J7 and J13 stay
+  -- the faults by the tests that look at it alone stay
   pub own_still : Beside (λ n x a. HasFaults s x a) s.cands faults
   own_still = record {
     lengths = marked.lengths;
@@ -169,7 +169,7 @@ module _ (s : Setting) (is_global : IsGlobal s.global) (alone faults : List OwnF
       list_any-from_Any (is_in dels) (chain_of x) (a.0, a.1, a.2, a.3, is_in_from_Contains dels a.1 named)
 
   pub eight : (n : ℕ) (x : Id) (a : OwnFaults) → slice_get s.cands n ≡ Some x → slice_get faults n ≡ Some a
-      → IsTrue a.deleted ↔ FailsJ8 s x
+      → IsTrue a.deleted ↔ IsChainDeleted s x
   eight n x a at at_own =
       let m = marked.each n x a at at_own in
       let deleted : Bool = is_deleted s.global s.choice dels x in

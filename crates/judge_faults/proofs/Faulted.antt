@@ -1,4 +1,4 @@
--- What a candidate fails of J1 to J7 and J13, from what each test answered.
+-- What a candidate fails of the tests that look at it alone, from what each test answered.
 use Rattle.std.proofs.Common.{◌≡◌, List, Option, filter, IsTrue, IsFalse, subst}
 use Rattle.std.specs.Prelude.{◌↔◌, Any}
 use Rattle.std.specs.List.{list_any}
@@ -8,7 +8,7 @@ use Rattle.terms.specs.Lookups.{changes_of, is_in}
 use Rattle.terms.specs.Choice.{Choice, fmid_of}
 use Rattle.terms.specs.Over.{chain, owner}
 use Rattle.terms.specs.Deleted.{deletions, zone_less}
-use Rattle.terms.specs.Tests.{Setting, FailsJ13}
+use Rattle.terms.specs.Tests.{Setting, HasSeveralFit}
 use Rattle.judge_faults.specs.declared.own.OwnFaults.{OwnFaults}
 use Rattle.judge_faults.specs.Forbidders.{IsForbidden}
 use Rattle.judge_faults.specs.Own.{has_standing_hold, is_foreign_at, IsLowerAt, is_bare_at, is_unapplied, HasFaults}
@@ -24,7 +24,7 @@ pub record Answered (s : Setting) (x : Id) (a : OwnFaults) (g : Global) (c : Cho
       ↔ (IsFalse s.bypass.same_id × Any (IsLowerAt c (zone_less g c dels s.zone) x) changes)
   pub bare : a.bare ≡ list_any (is_bare_at s.global (zone_less g c dels s.zone) s.cands fmid) changes
   pub unapplied : a.unapplied ≡ is_unapplied s x
-  pub ambiguous : IsTrue a.ambiguous ↔ FailsJ13 s x
+  pub ambiguous : IsTrue a.ambiguous ↔ HasSeveralFit s x
 
 module _ (s : Setting) (x : Id) (a : OwnFaults) where
   abbrev view_dels : Global → Choice → List Id

@@ -15,7 +15,7 @@ use Rattle.indexmap.proofs.CallerLemmas.{Contains-list_any}
 use Rattle.terms.specs.declared.codes.Test.{Test}
 use Rattle.terms.specs.Types.{Id}
 use Rattle.terms.specs.Lookups.{IsRising, is_before}
-use Rattle.terms.specs.Tests.{Setting, FailsJ8, FailsJ9, Survives, Fails}
+use Rattle.terms.specs.Tests.{Setting, IsChainDeleted, IsInClash, Survives, Fails}
 use Rattle.terms.specs.Global.{IsGlobal}
 use Rattle.terms.proofs.Pairs.{AllPairs_rest}
 use Rattle.terms.proofs.Places.{contains_at}
@@ -57,7 +57,7 @@ own_at_holds (y ∷ ys) (b ∷ faults) k rising (suc n) m x a at own place =
 module _ (s : Setting) (is_global : IsGlobal s.global) (rising : IsRising s.cands) (faults : List OwnFaults)
     (own : Beside (λ n x a. HasFaults s x a) s.cands faults)
     (eight : (n : ℕ) (x : Id) (a : OwnFaults) → slice_get s.cands n ≡ Some x → slice_get faults n ≡ Some a
-    → IsTrue a.deleted ↔ FailsJ8 s x) where
+    → IsTrue a.deleted ↔ IsChainDeleted s x) where
   abbrev ids : List Id
   ids = s.cands
 
@@ -70,7 +70,7 @@ module _ (s : Setting) (is_global : IsGlobal s.global) (rising : IsRising s.cand
   beside_own = beside_there ids faults own.lengths
 
   module _ (marked : List ℕ) (are : AreClashing s.global s.choice ids faults marked) where
-    pub nine : (n : ℕ) (x : Id) → slice_get ids n ≡ Some x → IsTrue (is_among marked n) ↔ FailsJ9 s x
+    pub nine : (n : ℕ) (x : Id) → slice_get ids n ≡ Some x → IsTrue (is_among marked n) ↔ IsInClash s x
     nine n x at =
         let both = fails_nine s faults own.lengths survives_if n x at in (
           λ on. both.0 ((are n).0 (Contains-list_any nat_eq eqb-true marked n on)),

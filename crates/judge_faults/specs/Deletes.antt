@@ -1,4 +1,4 @@
--- What the candidates name in DELETE that pass J1 to J7, and J13, and whom that takes.
+-- What the candidates name in DELETE that pass the tests of a candidate alone, and whom that takes.
 use Rattle.std.specs.Prelude.{◌≡◌, ◌↔◌, ◌<◌, ◌&&◌, ℕ, Bool, List, Some, IsTrue, Contains, slice_get}
 use Rattle.terms.specs.Types.{Id, Global}
 use Rattle.terms.specs.Choice.{Choice, del_of}
@@ -6,7 +6,7 @@ use Rattle.terms.specs.Deleted.{is_deleted}
 use Rattle.judge_faults.specs.declared.own.OwnFaults.{OwnFaults}
 use Rattle.judge_faults.specs.Own.{passes_alone}
 
--- the candidate at the place passes J1 to J7, and J13
+-- the candidate at the place passes the tests of a candidate alone
 pub record PassesAloneAt (ids : List Id) (faults : List OwnFaults) (n : ℕ) (x : Id) : Type 0 where
   pub at : slice_get ids n ≡ Some x
   pub own : OwnFaults
@@ -23,11 +23,11 @@ abbrev pub AreDeletions : Choice → List Id → List OwnFaults → List Id → 
 AreDeletions c ids faults dels =
     (z : Id) → Contains dels z ↔ ((n : ℕ) × (y : Id) × PassesAloneAt ids faults n y × Contains (del_of c y) z)
 
--- the faults with J8, given whether the chain meets the deletions
+-- the faults with ChainDeleted, given whether the chain meets the deletions
 abbrev pub with_deleted : Bool → OwnFaults → OwnFaults
 with_deleted is_deleted own = record own { deleted = passes_alone own && is_deleted }
 
--- the faults of x, at a place, with J8
+-- the faults of x, at a place, with ChainDeleted
 pub record IsMarked (g : Global) (c : Choice) (dels : List Id) (faults : List OwnFaults) (n : ℕ) (x : Id)
     (marked : OwnFaults) : Type 0 where
   pub own : OwnFaults

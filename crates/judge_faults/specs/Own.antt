@@ -11,7 +11,7 @@ use Rattle.terms.specs.Lookups.{changes_of, element_of, holds_of, is_applied, is
 use Rattle.terms.specs.Choice.{Choice, fmid_of}
 use Rattle.terms.specs.Over.{IsOver}
 use Rattle.terms.specs.Changes.{is_replacement, has_replacement}
-use Rattle.terms.specs.Tests.{Setting, view_of, owner_of, is_bypassed_hold, FailsJ13}
+use Rattle.terms.specs.Tests.{Setting, view_of, owner_of, is_bypassed_hold, HasSeveralFit}
 use Rattle.judge_faults.specs.declared.own.OwnFaults.{OwnFaults}
 use Rattle.judge_faults.specs.Forbidders.{IsForbidden}
 
@@ -49,7 +49,7 @@ is_unapplied s x =
     is_distribution s.zone.kind && not s.bypass.applycheck
     && not (option_map_or (λ target. is_applied target x) s.related false)
 
--- J1 to J7 and J13, each as the code tests it
+-- the tests that look at it alone, each as the code tests it
 pub record HasFaults (s : Setting) (x : Id) (a : OwnFaults) : Type 0 where
   pub system_held : a.system_held ≡ has_standing_hold s System x
   pub user_held : a.user_held ≡ has_standing_hold s User x
@@ -60,9 +60,9 @@ pub record HasFaults (s : Setting) (x : Id) (a : OwnFaults) : Type 0 where
   pub bare : a.bare
       ≡ list_any (is_bare_at s.global (view_of s x) s.cands (fmid_of s.choice x)) (changes_of s.global x)
   pub unapplied : a.unapplied ≡ is_unapplied s x
-  pub ambiguous : IsTrue a.ambiguous ↔ FailsJ13 s x
+  pub ambiguous : IsTrue a.ambiguous ↔ HasSeveralFit s x
 
--- whether it has none of J1 to J7, and not J13
+-- whether it fails none of the tests of a candidate alone
 abbrev pub passes_alone : OwnFaults → Bool
 passes_alone a =
     not a.system_held && not a.user_held && not a.forbidden && not a.foreign && not a.lower && not a.bare

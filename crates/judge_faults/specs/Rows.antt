@@ -3,22 +3,24 @@ use Rattle.std.specs.Prelude.{ℕ, Bool, false, List, filter}
 use Rattle.std.specs.List.{list_any}
 use Rattle.std.specs.Prelude.{nat_eq}
 use Rattle.terms.specs.declared.codes.Test.{Test}
-use Rattle.terms.specs.declared.codes.Test.TheVariants.{J1, J2, J3, J4, J5, J6, J7, J8, J9, J13}
+use Rattle.terms.specs.declared.codes.Test.TheVariants.{HeldBySystem, HeldByUser, ForbiddenByNpre, OwnedByAnother}
+use Rattle.terms.specs.declared.codes.Test.TheVariants.{UnrelatedLevel, NothingToUpdate, NotInTarget, ChainDeleted}
+use Rattle.terms.specs.declared.codes.Test.TheVariants.{InClash, SeveralFit}
 use Rattle.terms.specs.Failures.{all_tests}
 use Rattle.judge_faults.specs.declared.own.OwnFaults.{OwnFaults}
 
 -- the tests, by what the candidate fails by itself and whether it clashes with another one
 abbrev pub fails_test : OwnFaults → Bool → Test → Bool
-fails_test a clashes J1 = a.system_held
-fails_test a clashes J2 = a.user_held
-fails_test a clashes J3 = a.forbidden
-fails_test a clashes J4 = a.foreign
-fails_test a clashes J5 = a.lower
-fails_test a clashes J6 = a.bare
-fails_test a clashes J7 = a.unapplied
-fails_test a clashes J8 = a.deleted
-fails_test a clashes J9 = clashes
-fails_test a clashes J13 = a.ambiguous
+fails_test a clashes HeldBySystem = a.system_held
+fails_test a clashes HeldByUser = a.user_held
+fails_test a clashes ForbiddenByNpre = a.forbidden
+fails_test a clashes OwnedByAnother = a.foreign
+fails_test a clashes UnrelatedLevel = a.lower
+fails_test a clashes NothingToUpdate = a.bare
+fails_test a clashes NotInTarget = a.unapplied
+fails_test a clashes ChainDeleted = a.deleted
+fails_test a clashes InClash = clashes
+fails_test a clashes SeveralFit = a.ambiguous
 fails_test a clashes _ = false
 
 abbrev pub is_among : List ℕ → ℕ → Bool

@@ -1,4 +1,4 @@
-//! J9: which candidates clash with another one, by an element that they share or by NPRE.
+//! Which candidates clash with another one, by an element that they share or by NPRE.
 ghost use Rattle.std.specs.Prelude.{◌≡◌, ◌↔◌, ◌<◌, ℕ, Some, length, OnOk, IfOk};
 ghost use Rattle.sysmods.specs.Choices.{choice};
 ghost use Rattle.judge_faults.specs.Claims.{PassesAt};

@@ -8,7 +8,7 @@ ghost use Rattle.terms.specs.Types.{is_distribution};
 ghost use Rattle.terms.specs.Lookups.{changes_of, holds_of, is_applied, is_in, sysmod_of};
 ghost use Rattle.terms.specs.Choice.{fits};
 ghost use Rattle.terms.specs.Deleted.{deletions};
-ghost use Rattle.terms.specs.Tests.{FailsJ13, is_bypassed_hold};
+ghost use Rattle.terms.specs.Tests.{HasSeveralFit, is_bypassed_hold};
 ghost use Rattle.sysmods.specs.Choices.{choice};
 ghost use Rattle.judge_faults.specs.Forbidders.{AreForbidders};
 ghost use Rattle.zones_views.specs.Scopes.{global_of, choice_of, setting_of, setting_with};
@@ -27,10 +27,10 @@ use terms::{HoldKind, ZoneKind};
 use zones::Zone;
 use zones_views::{Scope, deletions, fits, is_bypassed_hold, view_deletions};
 
-/// What a candidate fails by itself: a SYSTEM hold (J1) or a USER hold (J2) stands against it, an NPRE forbids it (J3),
-/// it changes an element that another owns (J4) or that a SYSMOD made which it is not over (J5), it updates an element
-/// that is not there (J6), it is accepted where it is not applied (J7), two of its `++VER`s fit (J13), or it has none
-/// of these and is deleted (J8).
+/// What a candidate fails by itself: a SYSTEM hold or a USER hold stands against it, an NPRE forbids it, it changes an
+/// element that another owns (`foreign`) or that a SYSMOD made which it is not over (`lower`), it updates an element
+/// that is not there (`bare`), it is accepted where it is not applied, two of its `++VER`s fit (`ambiguous`), or it has
+/// none of these and is deleted.
 #[derive(Clone, Copy)]
 pub(crate) struct OwnFaults {
     pub(crate) system_held: bool,
@@ -45,7 +45,7 @@ pub(crate) struct OwnFaults {
 }
 
 impl OwnFaults {
-    /// Whether it passes J1 to J7, and J13.
+    /// Whether it passes the tests of a candidate alone.
     pub(crate) fn passes_alone(self) -> bool
         ensures { result ≡ passes_alone self }
     {
@@ -146,12 +146,12 @@ fn vers_of(global: &GlobalZone, id: Id) -> &[Ver]
 
 // Whether two of its `++VER`s fit.
 fn is_ambiguous(scope: &Scope<'_, '_>, id: Id) -> bool
-    ensures { IsTrue result ↔ FailsJ13 (setting_of scope.now) id }
+    ensures { IsTrue result ↔ HasSeveralFit (setting_of scope.now) id }
 {
     fitting_count(scope.zone, scope.ids, vers_of(scope.global(), id)) >= 2
 }
 
-// What the candidate fails of J1 to J7 and J13, in its view. These are the deletions of all candidates.
+// What the candidate fails of the tests that look at it alone, in its view.
 fn own_faults(
     alloc: Global,
     scope: &Scope<'_, '_>,
@@ -191,7 +191,7 @@ fn own_faults(
     })
 }
 
-/// What each candidate fails of J1 to J7, and of J13.
+/// What each candidate fails of the tests that look at it alone.
 pub(crate) fn all_faults(
     alloc: Global,
     scope: &Scope<'_, '_>,

@@ -1,7 +1,9 @@
 //! The failed tests of each candidate.
 ghost use Rattle.std.specs.Prelude.{◌≡◌, ◌<◌, ◌^◌, [], ◌∷◌, length, filter, IfOk};
 ghost use Rattle.terms.specs.Beside.{Beside};
-ghost use Rattle.terms.specs.declared.codes.Test.TheVariants.{J1, J2, J3, J4, J5, J6, J7, J8, J9, J13};
+ghost use Rattle.terms.specs.declared.codes.Test.TheVariants.{HeldBySystem, HeldByUser, ForbiddenByNpre};
+ghost use Rattle.terms.specs.declared.codes.Test.TheVariants.{OwnedByAnother, UnrelatedLevel, NothingToUpdate};
+ghost use Rattle.terms.specs.declared.codes.Test.TheVariants.{NotInTarget, ChainDeleted, InClash, SeveralFit};
 ghost use Rattle.judge_faults.specs.Rows.{fails_test, row_of};
 
 use crate::own::{OwnFaults, own_at};
@@ -14,16 +16,16 @@ fn fails(own: OwnFaults, clashes: bool, test: Test) -> bool
     ensures { result ≡ fails_test own clashes test }
 {
     match test {
-        Test::J1 => own.system_held,
-        Test::J2 => own.user_held,
-        Test::J3 => own.forbidden,
-        Test::J4 => own.foreign,
-        Test::J5 => own.lower,
-        Test::J6 => own.bare,
-        Test::J7 => own.unapplied,
-        Test::J8 => own.deleted,
-        Test::J9 => clashes,
-        Test::J13 => own.ambiguous,
+        Test::HeldBySystem => own.system_held,
+        Test::HeldByUser => own.user_held,
+        Test::ForbiddenByNpre => own.forbidden,
+        Test::OwnedByAnother => own.foreign,
+        Test::UnrelatedLevel => own.lower,
+        Test::NothingToUpdate => own.bare,
+        Test::NotInTarget => own.unapplied,
+        Test::ChainDeleted => own.deleted,
+        Test::InClash => clashes,
+        Test::SeveralFit => own.ambiguous,
         _ => false,
     }
 }
@@ -31,19 +33,20 @@ fn fails(own: OwnFaults, clashes: bool, test: Test) -> bool
 // The tests that a candidate fails.
 fn row_of(alloc: Global, own: OwnFaults, clashes: bool) -> Result<Vec<Test>, AllocError>
     ensures { IfOk result (λ row. row.items ≡ filter (fails_test own clashes)
-        (J1 ∷ J2 ∷ J3 ∷ J4 ∷ J5 ∷ J6 ∷ J7 ∷ J8 ∷ J9 ∷ J13 ∷ [])) }
+        (HeldBySystem ∷ HeldByUser ∷ ForbiddenByNpre ∷ OwnedByAnother ∷ UnrelatedLevel ∷ NothingToUpdate ∷ NotInTarget
+        ∷ ChainDeleted ∷ InClash ∷ SeveralFit ∷ [])) }
 {
     [
-        Test::J1,
-        Test::J2,
-        Test::J3,
-        Test::J4,
-        Test::J5,
-        Test::J6,
-        Test::J7,
-        Test::J8,
-        Test::J9,
-        Test::J13,
+        Test::HeldBySystem,
+        Test::HeldByUser,
+        Test::ForbiddenByNpre,
+        Test::OwnedByAnother,
+        Test::UnrelatedLevel,
+        Test::NothingToUpdate,
+        Test::NotInTarget,
+        Test::ChainDeleted,
+        Test::InClash,
+        Test::SeveralFit,
     ]
     .iter()
     .filter(|test| fails(own, clashes, **test))

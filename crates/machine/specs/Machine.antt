@@ -9,7 +9,8 @@ use Rattle.terms.specs.Types.{Receive, Reject, Apply, Accept, Restore, ListZone,
 use Rattle.terms.specs.Ptfin.{McsFault, IsPtfin, IsPtfinFault}
 use Rattle.terms.specs.HoldFile.{IsHoldFile, IsHoldFileFault}
 use Rattle.terms.specs.Commands.{CntlFault, IsCommandFile, IsCommandFileFault}
-use Rattle.machine.specs.Outcome.{Line, Refusal, Cm4, Cm5, ControlFault, Outcome, Ran, Refused, Control, header_of}
+use Rattle.machine.specs.Outcome.{Line, Refusal, PtfinFaulty, HoldFileFaulty, ControlFault, Outcome, Ran, Refused}
+use Rattle.machine.specs.Outcome.{Control, header_of}
 use Rattle.machine.specs.Outcome.{or_nothing, list_global, list_zone, job_code}
 use Rattle.machine.specs.Report.{text}
 use Rattle.machine.specs.State.{State, zone_named, current_zone, target_of, with_zone, at_global, misplaced}
@@ -31,8 +32,8 @@ abbrev pub HasItems : {X : Type 0} → (List ℕ → List X → Type 0) → Bool
 HasItems Is true bytes items = Is bytes items
 HasItems Is false bytes items = items ≡ []
 
--- RECEIVE takes in the items of PTFIN, and then those of the hold file. Both are read before anything changes: Cm4 is
--- PTFIN's first fault, and Cm5 the hold file's.
+-- RECEIVE takes in the items of PTFIN, and then those of the hold file. Both are read before anything changes, and the
+-- first fault of PTFIN, or else of the hold file, refuses it.
 pub data Takes (files : Files) (s : State) (what : ReceiveWhat) : State → Outcome → Type 0 where
   TakesAll : (items : List Item) (holds : List HoldItem) (middle g : Global) (lines more : List Line)
       → HasItems IsPtfin what.sysmods files.ptfin items → HasItems IsHoldFile what.holddata files.holds holds
@@ -40,10 +41,10 @@ pub data Takes (files : Files) (s : State) (what : ReceiveWhat) : State → Outc
       → Takes files s what (record s { global = g }) (Ran (header_of (Receive what) s.boundary)
       (or_nothing (lines ++ more)))
   TakesNone : (fault : McsFault) → IsTrue what.sysmods → IsPtfinFault files.ptfin fault
-      → Takes files s what s (Refused (header_of (Receive what) s.boundary) (Cm4 fault.number fault.code))
+      → Takes files s what s (Refused (header_of (Receive what) s.boundary) (PtfinFaulty fault.number fault.code))
   TakesNoHold : (items : List Item) (fault : McsFault) → HasItems IsPtfin what.sysmods files.ptfin items
       → IsTrue what.holddata → IsHoldFileFault files.holds fault
-      → Takes files s what s (Refused (header_of (Receive what) s.boundary) (Cm5 fault.number fault.code))
+      → Takes files s what s (Refused (header_of (Receive what) s.boundary) (HoldFileFaulty fault.number fault.code))
 
 -- REJECT takes the ids one after the other.
 pub record Rejects (s : State) (ids : List Id) (t : State) (outcome : Outcome) : Type 0 where

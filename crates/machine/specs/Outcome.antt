@@ -10,9 +10,10 @@ use Rattle.terms.specs.Types.{Restore, ListZone, Report}
 use Rattle.terms.specs.declared.codes.CommandWord.{CommandWord}
 use Rattle.terms.specs.declared.codes.CommandWord.TheVariants as word
 use Rattle.terms.specs.declared.codes.IdRefusal.{IdRefusal}
-use Rattle.terms.specs.declared.codes.IdRefusal.TheVariants.{Rc2, Rc3, Rc4, Rl1, Rl2, Rj1, Rj2}
-use Rattle.terms.specs.declared.codes.McCode.{McCode}
-use Rattle.terms.specs.declared.codes.CnCode.{CnCode}
+use Rattle.terms.specs.declared.codes.IdRefusal.TheVariants.{MakesLoop, OtherRole, NoRoom, NoSuchHold, CameAlong}
+use Rattle.terms.specs.declared.codes.IdRefusal.TheVariants.{AppliedSomewhere, NotThere}
+use Rattle.terms.specs.declared.codes.StatementCode.{StatementCode}
+use Rattle.terms.specs.declared.codes.CommandCode.{CommandCode}
 use Rattle.terms.specs.declared.codes.Test.{Test}
 use Rattle.terms.specs.declared.codes.NeedKind.{NeedKind}
 
@@ -33,14 +34,14 @@ header_of (Restore ids check) b = record { word = word.Restore; boundary = b; ch
 header_of (ListZone text) b = record { word = word.List; boundary = b; check = false }
 header_of Report b = record { word = word.Report; boundary = b; check = false }
 
--- Cm1: no SET came before it. Cm2: SET names a zone that is not there. Cm3: the boundary suits other commands.
--- Cm4: PTFIN is at fault. Cm5: the hold file is.
+-- Why a command is refused: no SET came before it, SET names a zone that is not there, the boundary suits other
+-- commands, or a record of PTFIN or of the hold file is at fault.
 pub data Refusal : Type 0 where
-  Cm1 : Refusal
-  Cm2 : Refusal
-  Cm3 : Refusal
-  Cm4 : ℕ → McCode → Refusal
-  Cm5 : ℕ → McCode → Refusal
+  BoundaryLacking : Refusal
+  ZoneLacking : Refusal
+  BoundaryUnfit : Refusal
+  PtfinFaulty : ℕ → StatementCode → Refusal
+  HoldFileFaulty : ℕ → StatementCode → Refusal
 
 -- what stands in a status line after the id: a SYSMOD's type, a hold's kind, or nothing known
 pub data Place : Type 0 where
@@ -103,7 +104,7 @@ pub data Line : Type 0 where
 -- the fault of a command file, with the number of the record where the command begins
 pub record ControlFault : Type 0 where
   pub number : ℕ
-  pub code : CnCode
+  pub code : CommandCode
 
 -- a command that ran, one that was refused, or the fault of a command file
 pub data Outcome : Type 0 where
@@ -142,13 +143,13 @@ abbrev pub list_zone : Bool → Zone → List Line
 list_zone text z = map (λ e. EntryLine z.kind e) z.entries ++ flat_map (λ e. element_lines text e) z.elements
 
 abbrev pub refusal_code : IdRefusal → ℕ
-refusal_code Rc2 = 8
-refusal_code Rc3 = 8
-refusal_code Rc4 = 8
-refusal_code Rl1 = 4
-refusal_code Rl2 = 4
-refusal_code Rj1 = 8
-refusal_code Rj2 = 8
+refusal_code MakesLoop = 8
+refusal_code OtherRole = 8
+refusal_code NoRoom = 8
+refusal_code NoSuchHold = 4
+refusal_code CameAlong = 4
+refusal_code AppliedSomewhere = 8
+refusal_code NotThere = 8
 
 abbrev pub status_code : Status → ℕ
 status_code Received = 0

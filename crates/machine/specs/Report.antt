@@ -8,7 +8,8 @@ use Rattle.terms.specs.Types.{Text, Id, Entry}
 use Rattle.terms.specs.Lookups.{date_of}
 use Rattle.terms.specs.Spelling.{word_text, kind_text, hold_text, type_text, mc_text, cn_text, test_text, need_text}
 use Rattle.terms.specs.Spelling.{refusal_text}
-use Rattle.machine.specs.Outcome.{Header, Refusal, Cm1, Cm2, Cm3, Cm4, Cm5, Place, OfKind, OfHold, NotReceived, Failure}
+use Rattle.machine.specs.Outcome.{Header, Refusal, BoundaryLacking, ZoneLacking, BoundaryUnfit, PtfinFaulty}
+use Rattle.machine.specs.Outcome.{HoldFileFaulty, Place, OfKind, OfHold, NotReceived, Failure}
 use Rattle.machine.specs.Outcome.{Status, Received, Already, RefusedId, Assigned, Unknown, Held, Replaced, Released}
 use Rattle.machine.specs.Outcome.{Rejected, Applied, Accepted, Superseded, Failed, Deleted, Missing, NoVer, Restored}
 use Rattle.machine.specs.Outcome.{NotApplied, ElementRow, Line, StatusLine, NothingLine, SysmodLine, HoldLine}
@@ -42,12 +43,12 @@ header_text h =
 
 -- the one line of a refused command
 abbrev pub refused_text : Refusal → Text
-refused_text Cm1 = words_line (codes "REFUSED" ∷ codes "Cm1" ∷ [])
-refused_text Cm2 = words_line (codes "REFUSED" ∷ codes "Cm2" ∷ [])
-refused_text Cm3 = words_line (codes "REFUSED" ∷ codes "Cm3" ∷ [])
-refused_text (Cm4 n code) =
+refused_text BoundaryLacking = words_line (codes "REFUSED" ∷ codes "Cm1" ∷ [])
+refused_text ZoneLacking = words_line (codes "REFUSED" ∷ codes "Cm2" ∷ [])
+refused_text BoundaryUnfit = words_line (codes "REFUSED" ∷ codes "Cm3" ∷ [])
+refused_text (PtfinFaulty n code) =
     words_line (codes "REFUSED" ∷ codes "Cm4" ∷ codes "RECORD" ∷ decimal n ∷ mc_text code ∷ [])
-refused_text (Cm5 n code) =
+refused_text (HoldFileFaulty n code) =
     words_line (codes "REFUSED" ∷ codes "Cm5" ∷ codes "RECORD" ∷ decimal n ∷ mc_text code ∷ [])
 
 abbrev pub place_text : Place → Text

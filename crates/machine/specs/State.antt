@@ -12,7 +12,7 @@ use Rattle.terms.specs.declared.kinds.ZoneKind.TheVariants.{Target, Distribution
 use Rattle.terms.specs.Types.{Text, zone_number, Global, Zone, a_zone, NamedZone, Command, Set, Receive, Reject, Apply}
 use Rattle.terms.specs.Types.{Accept, Restore, ListZone, Report, is_distribution}
 use Rattle.terms.specs.Rising.{with_item}
-use Rattle.machine.specs.Outcome.{Refusal, Cm1, Cm2, Cm3}
+use Rattle.machine.specs.Outcome.{Refusal, BoundaryLacking, ZoneLacking, BoundaryUnfit}
 
 -- the global zone, the target and distribution zones rising by name, and the boundary that the last SET gave
 pub record State : Type 0 where
@@ -52,13 +52,14 @@ at_kind kind s = option_map_or (λ z. zone_number z.kind == zone_number kind) (c
 abbrev pub at_zone : State → Bool
 at_zone s = is_some (current_zone s)
 
--- Cm1: there is no boundary. Cm3: it is not where the command can run.
+-- why a command of these kinds can't run at this boundary: there is none, or it is not where the command can run
 abbrev pub unless_at : Bool → State → Option Refusal
-unless_at fits s = if not (is_some s.boundary) then Some Cm1 else if fits then None else Some Cm3
+unless_at fits s = if not (is_some s.boundary) then Some BoundaryLacking else if fits then None else Some BoundaryUnfit
 
--- why the command can't run at this boundary. Cm2: SET names no zone.
+-- why the command can't run at this boundary, or SET names no zone
 unfoldable pub misplaced : State → Command → Option Refusal
-misplaced s (Set name) = if bytes_eq name global_name || is_some (zone_named s.zones name) then None else Some Cm2
+misplaced s (Set name) = if bytes_eq name global_name || is_some (zone_named s.zones name) then None
+    else Some ZoneLacking
 misplaced s (Receive what) = unless_at (at_global s) s
 misplaced s (Reject ids) = unless_at (at_global s) s
 misplaced s (Apply i) = unless_at (at_kind Target s) s

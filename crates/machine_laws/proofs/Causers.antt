@@ -44,22 +44,22 @@ line_in place status ids x p s is =
 
 -- a candidate that fails no test is eligible
 passes_all : (s : Setting) (x : Id) → Contains s.cands x → ((t : Test) → ¬ Fails s x t) → IsEligible s x
-passes_all s x is passes = (((is, alone), passes test.J8), passes test.J9)
+passes_all s x is passes = (((is, alone), passes test.ChainDeleted), passes test.InClash)
   where
     alone : (t : Test) → ¬ FailsAlone s x t
-    alone test.J1 fails = passes test.J1 fails
-    alone test.J2 fails = passes test.J2 fails
-    alone test.J3 fails = passes test.J3 fails
-    alone test.J4 fails = passes test.J4 fails
-    alone test.J5 fails = passes test.J5 fails
-    alone test.J6 fails = passes test.J6 fails
-    alone test.J7 fails = passes test.J7 fails
-    alone test.J8 fails = fails
-    alone test.J9 fails = fails
-    alone test.J10 fails = fails
-    alone test.J11 fails = fails
-    alone test.J12 fails = fails
-    alone test.J13 fails = passes test.J13 fails
+    alone test.HeldBySystem fails = passes test.HeldBySystem fails
+    alone test.HeldByUser fails = passes test.HeldByUser fails
+    alone test.ForbiddenByNpre fails = passes test.ForbiddenByNpre fails
+    alone test.OwnedByAnother fails = passes test.OwnedByAnother fails
+    alone test.UnrelatedLevel fails = passes test.UnrelatedLevel fails
+    alone test.NothingToUpdate fails = passes test.NothingToUpdate fails
+    alone test.NotInTarget fails = passes test.NotInTarget fails
+    alone test.ChainDeleted fails = fails
+    alone test.InClash fails = fails
+    alone test.AlreadyAccepted fails = fails
+    alone test.HasDelete fails = fails
+    alone test.UnappliedLevel fails = fails
+    alone test.SeveralFit fails = passes test.SeveralFit fails
 
 module _ (d : Decision) (sel : Selection) where
   -- x failed, by this failure

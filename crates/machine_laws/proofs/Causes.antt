@@ -24,19 +24,19 @@ use Rattle.machine_laws.proofs.Finitely.{all_stably, either_stably, is_so, so_ex
 use Rattle.machine_laws.proofs.SomeCauser.{each_kind, some_causer}
 
 each_test : (t : Test) → Contains all_tests t
-each_test test.J1 = (0, omega arith, refl)
-each_test test.J2 = (1, omega arith, refl)
-each_test test.J3 = (2, omega arith, refl)
-each_test test.J4 = (3, omega arith, refl)
-each_test test.J5 = (4, omega arith, refl)
-each_test test.J6 = (5, omega arith, refl)
-each_test test.J7 = (6, omega arith, refl)
-each_test test.J8 = (7, omega arith, refl)
-each_test test.J9 = (8, omega arith, refl)
-each_test test.J10 = (9, omega arith, refl)
-each_test test.J11 = (10, omega arith, refl)
-each_test test.J12 = (11, omega arith, refl)
-each_test test.J13 = (12, omega arith, refl)
+each_test test.HeldBySystem = (0, omega arith, refl)
+each_test test.HeldByUser = (1, omega arith, refl)
+each_test test.ForbiddenByNpre = (2, omega arith, refl)
+each_test test.OwnedByAnother = (3, omega arith, refl)
+each_test test.UnrelatedLevel = (4, omega arith, refl)
+each_test test.NothingToUpdate = (5, omega arith, refl)
+each_test test.NotInTarget = (6, omega arith, refl)
+each_test test.ChainDeleted = (7, omega arith, refl)
+each_test test.InClash = (8, omega arith, refl)
+each_test test.AlreadyAccepted = (9, omega arith, refl)
+each_test test.HasDelete = (10, omega arith, refl)
+each_test test.UnappliedLevel = (11, omega arith, refl)
+each_test test.SeveralFit = (12, omega arith, refl)
 
 -- the ids of a list that have a property, rising
 pub record AreThose (P : Id → Type 0) (xs ids : List Id) : Type 0 where

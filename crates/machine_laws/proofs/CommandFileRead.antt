@@ -2,12 +2,14 @@
 use Rattle.std.proofs.Common.{◌≡◌, ◌≢◌, ◌⊎◌, ◌≤◌, ◌<◌, ◌+◌, ◌-◌, inl, inr, ℕ, zero, suc, Bool, true, false, List, []}
 use Rattle.std.proofs.Common.{◌∷◌, ◌++◌, length, refl, sym, ◌∙◌, ap, subst, arith, length-append, true≢false}
 use Rattle.terms.specs.declared.codes.CommandWord.{CommandWord}
-use Rattle.terms.specs.declared.codes.CnCode.{CnCode}
-use Rattle.terms.specs.declared.codes.CnCode.TheVariants.{Cn1, Cn2, Cn3, Cn4, Cn5}
+use Rattle.terms.specs.declared.codes.CommandCode.{CommandCode}
+use Rattle.terms.specs.declared.codes.CommandCode.TheVariants.{UnknownCommand, UnfitValue, OperandTwice, NoSingleList}
+use Rattle.terms.specs.declared.codes.CommandCode.TheVariants.{BadCommandForm}
 use Rattle.terms.specs.Types.{Text, Command}
 use Rattle.terms.specs.Records.{rec_fault_record}
 use Rattle.terms.specs.Statement.{Piece, Blank, TakesPiece, HasPieces, is_solid, solid}
-use Rattle.terms.specs.Statement.{followed, joined, IsPlace, Ends, IsIdle, StFault, St1, St2, St3, St4, BreaksOff}
+use Rattle.terms.specs.Statement.{followed, joined, IsPlace, Ends, IsIdle, StFault, Unended, CommentOpen}
+use Rattle.terms.specs.Statement.{ParensUnpaired, MoreBehind, BreaksOff}
 use Rattle.terms.specs.CommandCuts.{BeginsNoGap, BeginsBehind, TakesCommand}
 use Rattle.terms.specs.CommandForms.{IsCommand}
 use Rattle.terms.specs.Commands.{CntlFault, BeginsWithCommands, IsCommandFile, has_double, is_unchosen, BeginsWith}
@@ -77,15 +79,15 @@ NextRead n records = IsIdle (joined records) ⊎ (((fault : CntlFault) × IsNext
     ⊎ GoodCommand n records)
 
 command_judged : (pieces : List Piece) → ((c : Command) → ¬ IsCommand pieces c)
-    → ((code : CnCode) → ¬ IsCommandFault pieces code) → ⊥
-command_judged pieces no_command no_fault = no_fault Cn1 (λ w rest begins.
+    → ((code : CommandCode) → ¬ IsCommandFault pieces code) → ⊥
+command_judged pieces no_command no_fault = no_fault UnknownCommand (λ w rest begins.
     by w rest begins (has_double w rest) (is_unchosen w rest) refl refl)
   where
     by : (w : CommandWord) (rest : List Piece) → BeginsWith pieces w rest → (d u : Bool) → has_double w rest ≡ d
         → is_unchosen w rest ≡ u → ⊥
-    by w rest begins true u double unchosen = no_fault Cn3 (w, rest, begins, double)
-    by w rest begins false true double unchosen = no_fault Cn4 (w, rest, begins, double, unchosen)
-    by w rest begins false false double unchosen = no_fault Cn2 (w, rest, begins, double, unchosen, no_command)
+    by w rest begins true u double unchosen = no_fault OperandTwice (w, rest, begins, double)
+    by w rest begins false true double unchosen = no_fault NoSingleList (w, rest, begins, double, unchosen)
+    by w rest begins false false double unchosen = no_fault UnfitValue (w, rest, begins, double, unchosen, no_command)
 
 module _ (n : ℕ) (records : List (List ℕ)) (none : ¬ NextRead n records) (gap : List Piece) (number : ℕ)
     (begins : BeginsBehind n records gap number) where
@@ -94,7 +96,7 @@ module _ (n : ℕ) (records : List (List ℕ)) (none : ¬ NextRead n records) (g
 
   cut_fault : (why : StFault) (own : List Piece) → at_fault why own → ⊥
   cut_fault why own breaks = none (inr (inl (
-    record { number = number; code = Cn5 },
+    record { number = number; code = BadCommandForm },
     inl (refl, why, record { gap = gap; own = own; begins = begins; breaks_off = breaks }),
   )))
 
@@ -108,7 +110,7 @@ module _ (n : ℕ) (records : List (List ℕ)) (none : ¬ NextRead n records) (g
       )
 
   ended : (own : List Piece) (tail : Text) (inline : List (List ℕ)) → Ends records (gap ++ own) tail inline → ⊥
-  ended own tail inline ends = cut_fault St4 own (tail, inline, ends, idle)
+  ended own tail inline ends = cut_fault MoreBehind own (tail, inline, ends, idle)
     where
       idle : ¬ IsIdle tail
       idle is =
@@ -139,9 +141,9 @@ module _ (n : ℕ) (records : List (List ℕ)) (none : ¬ NextRead n records) (g
           ))))
 
   judged : (own : List Piece) (stop : Text) → HasPieces (joined records) (gap ++ own) stop → Stuck stop → ⊥
-  judged own stop has (AtEnd is) = cut_fault St1 own (subst (HasPieces (joined records) (gap ++ own)) is has)
-  judged own stop has (AtComment opens) = cut_fault St2 own (stop, has, opens)
-  judged own stop has (AtPairs breaks) = cut_fault St3 own (stop, has, breaks)
+  judged own stop has (AtEnd is) = cut_fault Unended own (subst (HasPieces (joined records) (gap ++ own)) is has)
+  judged own stop has (AtComment opens) = cut_fault CommentOpen own (stop, has, opens)
+  judged own stop has (AtPairs breaks) = cut_fault ParensUnpaired own (stop, has, breaks)
   judged own stop has (AtPeriod after is) =
       let e = ends_at records (gap ++ own) after (subst (HasPieces (joined records) (gap ++ own)) is has) in
       ended own e.0 e.1 e.2
@@ -227,7 +229,7 @@ begins_or_fault (suc k) n records short none = next_read n records (λ read. eli
 pub command_file_read : (bytes : List ℕ) → ¬ ¬ IsRead (IsCommandFile bytes) (IsCommandFileFault bytes)
 command_file_read bytes none = elim (records_read bytes) [
   | inr bad ↦ none (inr (
-    record { number = rec_fault_record bad.0; code = Cn5 },
+    record { number = rec_fault_record bad.0; code = BadCommandForm },
     inl (refl, bad.0, bad.1, refl),
   ))
   | inl good ↦ begins_or_fault (length good.0 + 1) 1 good.0 (omega arith) (λ begins. elim begins [

@@ -14,7 +14,8 @@ use Rattle.terms.specs.Records.{IsPrintable, HasRecords, front, RecFault, Rec1, 
 use Rattle.terms.specs.Groups.{starts_outside, Group, TakesGroup}
 use Rattle.terms.specs.Statement.{Piece, TheWord, TheList, Blank, Comment, Stray, is_blank, is_stray, behind_close}
 use Rattle.terms.specs.Statement.{behind_list, BeginsNoWord, TakesPiece, HasPieces, followed, joined, solid}
-use Rattle.terms.specs.Statement.{IsPlace, Ends, IsStatement, StFault, St1, St2, St3, St4, OpensComment}
+use Rattle.terms.specs.Statement.{IsPlace, Ends, IsStatement, StFault, Unended, CommentOpen, ParensUnpaired, MoreBehind}
+use Rattle.terms.specs.Statement.{OpensComment}
 use Rattle.terms.specs.Statement.{BreaksPairs, IsStFault}
 use Rattle.terms.proofs.Closings.{list_before}
 use Rattle.terms.proofs.Lengths.{piece_shorter}
@@ -314,12 +315,12 @@ statement_read records none =
     by cut.0 cut.1 cut.2 cut.3
   where
     by : (ps : List Piece) (rest : Text) → HasPieces (joined records) ps rest → Stuck rest → ⊥
-    by ps rest has (AtEnd is) = none (inr (St1, (ps, subst (HasPieces (joined records) ps) is has)))
-    by ps rest has (AtComment opens) = none (inr (St2, (ps, (rest, has, opens))))
-    by ps rest has (AtPairs breaks) = none (inr (St3, (ps, (rest, has, breaks))))
+    by ps rest has (AtEnd is) = none (inr (Unended, (ps, subst (HasPieces (joined records) ps) is has)))
+    by ps rest has (AtComment opens) = none (inr (CommentOpen, (ps, (rest, has, opens))))
+    by ps rest has (AtPairs breaks) = none (inr (ParensUnpaired, (ps, (rest, has, breaks))))
     by ps rest has (AtPeriod after is) =
         let e = ends_at records ps after (subst (HasPieces (joined records) ps) is has) in
-        none (inr (St4, (ps, (e.0, e.1, e.2, λ idle. none (inl (solid ps, e.1, (ps, e.0, e.2, idle, refl)))))))
+        none (inr (MoreBehind, (ps, (e.0, e.1, e.2, λ idle. none (inl (solid ps, e.1, (ps, e.0, e.2, idle, refl)))))))
 
 -- ---- groups
 

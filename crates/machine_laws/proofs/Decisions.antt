@@ -49,7 +49,7 @@ installable_form g sysmods zone x ok = by (sysmod_of g x) refl
 kept_eligible : (s : Setting) (kept : List Id) → IsKeptSet s kept → (x : Id) → Contains kept x → IsEligible s x
 kept_eligible s kept is x there = let stays = (is.members x).0 there in stays.1.eligible x stays.2
 
--- J9: no two eligible ids clash
+-- InClash: no two eligible ids clash
 eligible_ordered : (s : Setting) (x y : Id) → IsEligible s x → IsEligible s y → x ≢ y → ShareElement s.global x y
     → ¬ ((¬ IsOver s.choice x y) × (¬ IsOver s.choice y x))
 eligible_ordered s x y of_x of_y other share apart = of_x.1 (of_x.0, (y, of_y.0, other, inr (inr (share, inr apart))))

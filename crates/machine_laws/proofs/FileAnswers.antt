@@ -1,8 +1,9 @@
 -- A file has one list of items at most, or one fault, and never both.
 use Rattle.std.proofs.Common.{◌≡◌, ℕ, true, false, List, [], ◌∷◌, Option, refl, sym, ◌∙◌, ap, subst, inl, inr}
 use Rattle.std.proofs.lemmas.Bool.{true≢false}
-use Rattle.terms.specs.declared.codes.McCode.{McCode}
-use Rattle.terms.specs.declared.codes.McCode.TheVariants.{Mc1, Mc2, Mc3, Mc4, Mc5, Mc6}
+use Rattle.terms.specs.declared.codes.StatementCode.{StatementCode}
+use Rattle.terms.specs.declared.codes.StatementCode.TheVariants.{BadStatementForm, UnknownStatementWord, UnfitOperand}
+use Rattle.terms.specs.declared.codes.StatementCode.TheVariants.{WrongPlace, UnfitText, OverLimit}
 use Rattle.terms.specs.declared.statement_words.StatementWord.{StatementWord}
 use Rattle.terms.specs.Types.{Text, Lines, HoldItem}
 use Rattle.terms.specs.Records.{HasRecords, rec_fault_record}
@@ -25,37 +26,38 @@ use Rattle.machine_laws.specs.Answers.{IsReadOnce}
 use Rattle.terms.proofs.ExactFaults.{faults_same}
 
 -- what is at fault behind a known word
-abbrev IsBehind : StatementWord → Option Text → List Piece → Lines → McCode → Type 0
-IsBehind w own rest inline Mc4 = ¬ StandsInHoldFile w inline
-IsBehind w own rest inline Mc3 = StandsInHoldFile w inline × ((item : HoldItem) → ¬ HasItem w own rest item)
-IsBehind w own rest inline Mc6 = (item : HoldItem) × StandsInHoldFile w inline × HasItem w own rest item × (¬ IsWithin item)
+abbrev IsBehind : StatementWord → Option Text → List Piece → Lines → StatementCode → Type 0
+IsBehind w own rest inline WrongPlace = ¬ StandsInHoldFile w inline
+IsBehind w own rest inline UnfitOperand = StandsInHoldFile w inline × ((item : HoldItem) → ¬ HasItem w own rest item)
+IsBehind w own rest inline OverLimit = (item : HoldItem) × StandsInHoldFile w inline × HasItem w own rest item
+    × (¬ IsWithin item)
 IsBehind w own rest inline _ = ⊥
 
-behind_codes : (w : StatementWord) (own : Option Text) (rest : List Piece) (inline : Lines) (a b : McCode)
+behind_codes : (w : StatementWord) (own : Option Text) (rest : List Piece) (inline : Lines) (a b : StatementCode)
     → IsBehind w own rest inline a → IsBehind w own rest inline b → a ≡ b
-behind_codes w own rest inline Mc1 b f g = absurd f
-behind_codes w own rest inline Mc2 b f g = absurd f
-behind_codes w own rest inline Mc5 b f g = absurd f
-behind_codes w own rest inline Mc3 Mc1 f g = absurd g
-behind_codes w own rest inline Mc3 Mc2 f g = absurd g
-behind_codes w own rest inline Mc3 Mc3 f g = refl
-behind_codes w own rest inline Mc3 Mc4 f g = absurd (g f.0)
-behind_codes w own rest inline Mc3 Mc5 f g = absurd g
-behind_codes w own rest inline Mc3 Mc6 f g = absurd (f.1 g.0 g.2)
-behind_codes w own rest inline Mc4 Mc1 f g = absurd g
-behind_codes w own rest inline Mc4 Mc2 f g = absurd g
-behind_codes w own rest inline Mc4 Mc3 f g = absurd (f g.0)
-behind_codes w own rest inline Mc4 Mc4 f g = refl
-behind_codes w own rest inline Mc4 Mc5 f g = absurd g
-behind_codes w own rest inline Mc4 Mc6 f g = absurd (f g.1)
-behind_codes w own rest inline Mc6 Mc1 f g = absurd g
-behind_codes w own rest inline Mc6 Mc2 f g = absurd g
-behind_codes w own rest inline Mc6 Mc3 f g = absurd (g.1 f.0 f.2)
-behind_codes w own rest inline Mc6 Mc4 f g = absurd (g f.1)
-behind_codes w own rest inline Mc6 Mc5 f g = absurd g
-behind_codes w own rest inline Mc6 Mc6 f g = refl
+behind_codes w own rest inline BadStatementForm b f g = absurd f
+behind_codes w own rest inline UnknownStatementWord b f g = absurd f
+behind_codes w own rest inline UnfitText b f g = absurd f
+behind_codes w own rest inline UnfitOperand BadStatementForm f g = absurd g
+behind_codes w own rest inline UnfitOperand UnknownStatementWord f g = absurd g
+behind_codes w own rest inline UnfitOperand UnfitOperand f g = refl
+behind_codes w own rest inline UnfitOperand WrongPlace f g = absurd (g f.0)
+behind_codes w own rest inline UnfitOperand UnfitText f g = absurd g
+behind_codes w own rest inline UnfitOperand OverLimit f g = absurd (f.1 g.0 g.2)
+behind_codes w own rest inline WrongPlace BadStatementForm f g = absurd g
+behind_codes w own rest inline WrongPlace UnknownStatementWord f g = absurd g
+behind_codes w own rest inline WrongPlace UnfitOperand f g = absurd (f g.0)
+behind_codes w own rest inline WrongPlace WrongPlace f g = refl
+behind_codes w own rest inline WrongPlace UnfitText f g = absurd g
+behind_codes w own rest inline WrongPlace OverLimit f g = absurd (f g.1)
+behind_codes w own rest inline OverLimit BadStatementForm f g = absurd g
+behind_codes w own rest inline OverLimit UnknownStatementWord f g = absurd g
+behind_codes w own rest inline OverLimit UnfitOperand f g = absurd (g.1 f.0 f.2)
+behind_codes w own rest inline OverLimit WrongPlace f g = absurd (g f.1)
+behind_codes w own rest inline OverLimit UnfitText f g = absurd g
+behind_codes w own rest inline OverLimit OverLimit f g = refl
 
-record KnownFault (records : Lines) (code : McCode) : Type 0 where
+record KnownFault (records : Lines) (code : StatementCode) : Type 0 where
   w : StatementWord
   own : Option Text
   rest : List Piece
@@ -64,7 +66,7 @@ record KnownFault (records : Lines) (code : McCode) : Type 0 where
   fault : IsBehind w own rest inline code
 
 same_behind : (w v : StatementWord) (own other : Option Text) (rest more : List Piece) (inline text : Lines)
-    (code : McCode) → SameParts w v own other rest more inline text → IsBehind w own rest inline code
+    (code : StatementCode) → SameParts w v own other rest more inline text → IsBehind w own rest inline code
     → IsBehind v other more text code
 same_behind w v own other rest more inline text code p f =
     subst (λ i. IsBehind v other more i code) p.inlines
@@ -72,28 +74,28 @@ same_behind w v own other rest more inline text code p f =
     (subst (λ o. IsBehind v o rest inline code) p.owns
     (subst (λ x. IsBehind x own rest inline code) p.words f)))
 
-known_codes : (records : Lines) (a b : McCode) → KnownFault records a → KnownFault records b → a ≡ b
+known_codes : (records : Lines) (a b : StatementCode) → KnownFault records a → KnownFault records b → a ≡ b
 known_codes records a b f g =
     let parts = known_only records f.w g.w f.own g.own f.rest g.rest f.inline g.inline f.known g.known in
     behind_codes g.w g.own g.rest g.inline a b (same_behind f.w g.w f.own g.own f.rest g.rest f.inline g.inline a parts
     f.fault) g.fault
 
-unknown_known : (records : Lines) (code : McCode) → IsUnknown records → KnownFault records code → ⊥
+unknown_known : (records : Lines) (code : StatementCode) → IsUnknown records → KnownFault records code → ⊥
 unknown_known records code u f =
     let same = statement_only records f.known.pieces u.pieces f.inline u.inline f.known.statement u.statement in
     u.unknown f.w f.own f.rest (subst (λ p. TakesWord p (record { word = statement_text f.w; list = f.own }) f.rest)
     same.0 f.known.begins)
 
 -- whether a fault is of the form, of the word, or behind a known word
-data Judged (records : Lines) : McCode → Type 0 where
-  OfForm : IsItemFault records Mc1 → Judged records Mc1
-  OfWord : IsUnknown records → Judged records Mc2
-  Behind : (code : McCode) → KnownFault records code → Judged records code
+data Judged (records : Lines) : StatementCode → Type 0 where
+  OfForm : IsItemFault records BadStatementForm → Judged records BadStatementForm
+  OfWord : IsUnknown records → Judged records UnknownStatementWord
+  Behind : (code : StatementCode) → KnownFault records code → Judged records code
 
-judged : (records : Lines) (code : McCode) → IsItemFault records code → Judged records code
-judged records Mc1 f = OfForm f
-judged records Mc2 f = OfWord f
-judged records Mc3 (w, own, rest, inline, known, stands, none) = Behind Mc3 (record {
+judged : (records : Lines) (code : StatementCode) → IsItemFault records code → Judged records code
+judged records BadStatementForm f = OfForm f
+judged records UnknownStatementWord f = OfWord f
+judged records UnfitOperand (w, own, rest, inline, known, stands, none) = Behind UnfitOperand (record {
   w = w;
   own = own;
   rest = rest;
@@ -101,7 +103,7 @@ judged records Mc3 (w, own, rest, inline, known, stands, none) = Behind Mc3 (rec
   known = known;
   fault = (stands, none);
 })
-judged records Mc4 (w, own, rest, inline, known, fault) = Behind Mc4 (record {
+judged records WrongPlace (w, own, rest, inline, known, fault) = Behind WrongPlace (record {
   w = w;
   own = own;
   rest = rest;
@@ -109,8 +111,8 @@ judged records Mc4 (w, own, rest, inline, known, fault) = Behind Mc4 (record {
   known = known;
   fault = fault;
 })
-judged records Mc5 f = absurd f
-judged records Mc6 (w, own, rest, inline, item, known, stands, has, over) = Behind Mc6 (record {
+judged records UnfitText f = absurd f
+judged records OverLimit (w, own, rest, inline, item, known, stands, has, over) = Behind OverLimit (record {
   w = w;
   own = own;
   rest = rest;
@@ -119,7 +121,7 @@ judged records Mc6 (w, own, rest, inline, item, known, stands, has, over) = Behi
   fault = (item, stands, has, over);
 })
 
-judged_codes : (records : Lines) (a b : McCode) → Judged records a → Judged records b → a ≡ b
+judged_codes : (records : Lines) (a b : StatementCode) → Judged records a → Judged records b → a ≡ b
 judged_codes records a b (OfForm f) (OfForm g) = refl
 judged_codes records a b (OfForm f) (OfWord g) =
     absurd (fault_no_statement records f.0 g.pieces g.inline f.1 g.statement)
@@ -135,7 +137,7 @@ judged_codes records a b (Behind code f) (OfWord g) = absurd (unknown_known reco
 judged_codes records a b (Behind code f) (Behind code' g) = known_codes records code code' f g
 
 -- The code of a statement's fault is determined.
-item_fault_only : (records : Lines) (a b : McCode) → IsItemFault records a → IsItemFault records b → a ≡ b
+item_fault_only : (records : Lines) (a b : StatementCode) → IsItemFault records a → IsItemFault records b → a ≡ b
 item_fault_only records a b f g = judged_codes records a b (judged records a f) (judged records b g)
 
 -- what follows at a place is what follows at the same place

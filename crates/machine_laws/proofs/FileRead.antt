@@ -1,8 +1,9 @@
 -- It can't be refuted that each file is of items or has a fault.
 use Rattle.std.proofs.Common.{◌≡◌, ◌⊎◌, ◌≤◌, inl, inr, ℕ, zero, suc, Bool, true, false, List, [], ◌∷◌, length, Option}
 use Rattle.std.proofs.Common.{refl, arith}
-use Rattle.terms.specs.declared.codes.McCode.{McCode}
-use Rattle.terms.specs.declared.codes.McCode.TheVariants.{Mc1, Mc2, Mc3, Mc4, Mc5, Mc6}
+use Rattle.terms.specs.declared.codes.StatementCode.{StatementCode}
+use Rattle.terms.specs.declared.codes.StatementCode.TheVariants.{BadStatementForm, UnknownStatementWord, UnfitOperand}
+use Rattle.terms.specs.declared.codes.StatementCode.TheVariants.{WrongPlace, UnfitText, OverLimit}
 use Rattle.terms.specs.declared.statement_words.StatementWord.{StatementWord}
 use Rattle.terms.specs.Types.{Text, Lines, HoldItem}
 use Rattle.terms.specs.Records.{HasRecords, rec_fault_record}
@@ -38,20 +39,30 @@ no_statement records fault unknown known = statement_read records (λ read. elim
 module _ (current : Option Begun) (later records : Lines) where
   abbrev GoodOrFault : Type 0
   GoodOrFault = ((s : Statement) × IsGoodStatement current later records s)
-      ⊎ ((code : McCode) × IsStatementFault current later records code)
+      ⊎ ((code : StatementCode) × IsStatementFault current later records code)
 
   known_judged : (w : StatementWord) (own : Option Text) (rest : List Piece) (inline : Lines)
       → IsKnown records w own rest inline → ¬ ¬ GoodOrFault
-  known_judged w own rest inline known none = none (inr (Mc3, (w, own, rest, inline, known, (placed, no_value))))
+  known_judged w own rest inline known none = none (inr (
+    UnfitOperand,
+    (
+      w,
+      own,
+      rest,
+      inline,
+      known,
+      (placed, no_value),
+    ),
+  ))
     where
       placed : IsPlaced (sysmod_in current) later w own rest inline
-      placed why misplaced = none (inr (Mc4, (w, own, rest, inline, known, (why, misplaced))))
+      placed why misplaced = none (inr (WrongPlace, (w, own, rest, inline, known, (why, misplaced))))
 
       no_value : (s : Statement) → ¬ HasValue (sysmod_in current) w own rest inline s
-      no_value s value = none (inr (Mc6, (w, own, rest, inline, known, (s, placed, value, over))))
+      no_value s value = none (inr (OverLimit, (w, own, rest, inline, known, (s, placed, value, over))))
         where
           over : ¬ IsWithin current s inline
-          over within = none (inr (Mc5, (w, own, rest, inline, known, (s, placed, value, within, bad))))
+          over within = none (inr (UnfitText, (w, own, rest, inline, known, (s, placed, value, within, bad))))
             where
               bad : ¬ HasGoodText s
               bad text = none (inl (
@@ -68,7 +79,8 @@ module _ (current : Option Begun) (later records : Lines) where
 
   good_or_fault : ¬ ¬ GoodOrFault
   good_or_fault none =
-      no_statement records (λ fault. none (inr (Mc1, fault))) (λ unknown. none (inr (Mc2, unknown)))
+      no_statement records (λ fault. none (inr (BadStatementForm, fault)))
+      (λ unknown. none (inr (UnknownStatementWord, unknown)))
       (λ w own rest inline known. known_judged w own rest inline known none)
 
 -- ---- PTFIN
@@ -122,16 +134,16 @@ file_read : {I : Type 0} (bytes : List ℕ) (Good : List I → Type 0) (Fault : 
     → ¬ ¬ IsRead Good Fault
 file_read bytes Good Fault at_fault read none = elim (records_read bytes) [
   | inr bad ↦ none (inr (
-    record { number = rec_fault_record bad.0; code = Mc1 },
-    at_fault (record { number = rec_fault_record bad.0; code = Mc1 }) (inl (refl, bad.0, bad.1, refl)),
+    record { number = rec_fault_record bad.0; code = BadStatementForm },
+    at_fault (record { number = rec_fault_record bad.0; code = BadStatementForm }) (inl (refl, bad.0, bad.1, refl)),
   ))
   | inl good ↦ by good.0 good.1 (starts_outside good.0) refl
 ]
   where
     by : (records : Lines) → HasRecords bytes records → (b : Bool) → starts_outside records ≡ b → ⊥
     by records has true at = none (inr (
-      record { number = 1; code = Mc4 },
-      at_fault (record { number = 1; code = Mc4 }) (inr (refl, refl, records, has, at)),
+      record { number = 1; code = WrongPlace },
+      at_fault (record { number = 1; code = WrongPlace }) (inr (refl, refl, records, has, at)),
     ))
     by records has false at = read records has at none
 
@@ -150,13 +162,13 @@ ptfin_read bytes = file_read bytes (IsPtfin bytes) (IsPtfinFault bytes) (λ faul
 
 module _ (records : Lines) where
   abbrev GoodItemOrFault : Type 0
-  GoodItemOrFault = ((item : HoldItem) × IsGoodItem records item) ⊎ ((code : McCode) × IsItemFault records code)
+  GoodItemOrFault = ((item : HoldItem) × IsGoodItem records item) ⊎ ((code : StatementCode) × IsItemFault records code)
 
   known_item : (w : StatementWord) (own : Option Text) (rest : List Piece) (inline : Lines)
       → IsKnown records w own rest inline → ¬ ¬ GoodItemOrFault
   known_item w own rest inline known none =
       none (inr (
-        Mc4,
+        WrongPlace,
         (
           w,
           own,
@@ -165,7 +177,7 @@ module _ (records : Lines) where
           known,
           λ stands.
               none (inr (
-                Mc3,
+                UnfitOperand,
                 (
                   w,
                   own,
@@ -175,7 +187,7 @@ module _ (records : Lines) where
                   stands,
                   λ item has.
                       none (inr (
-                        Mc6,
+                        OverLimit,
                         (
                           w,
                           own,
@@ -196,7 +208,8 @@ module _ (records : Lines) where
 
   good_item_or_fault : ¬ ¬ GoodItemOrFault
   good_item_or_fault none =
-      no_statement records (λ fault. none (inr (Mc1, fault))) (λ unknown. none (inr (Mc2, unknown)))
+      no_statement records (λ fault. none (inr (BadStatementForm, fault)))
+      (λ unknown. none (inr (UnknownStatementWord, unknown)))
       (λ w own rest inline known. known_item w own rest inline known none)
 
 abbrev BeginsItems : ℕ → Lines → Type 0

@@ -11,7 +11,7 @@ use Rattle.terms.proofs.ListMembers.{here, there, here_or, none_in, flat_in}
 use Rattle.terms.proofs.Searches.{All_find}
 use Rattle.terms.proofs.TextOrder.{same_or_not, same_from}
 use Rattle.terms.specs.declared.kinds.ElemType.{ElemType}
-use Rattle.terms.specs.declared.codes.Test.TheVariants.{J4}
+use Rattle.terms.specs.declared.codes.Test.TheVariants.{OwnedByAnother}
 use Rattle.terms.specs.Types.{Text, Id, Lines, Global, Element, Zone, Selection, Bypass}
 use Rattle.terms.specs.Types.{type_number}
 use Rattle.terms.specs.Lookups.{is_in, is_received, is_function, is_applied, has_change, element_of}
@@ -185,18 +185,18 @@ module _ (s : Setting) (survivors kept : List Id) (k : Keeps s survivors kept) (
     abbrev Updater : Option Id → Id → Type 0
     Updater replacer y = (update : Lines) × IsUpdater i type name replacer y update
 
-    -- J9: what takes effect and changes it has one owner
+    -- InClash: what takes effect and changes it has one owner
     one_owner : (x y : Id) → TakesEffect i x → TakesEffect i y → has_change s.global x type name ≡ true
         → has_change s.global y type name ≡ true → owner_is x ≡ owner_is y
     one_owner x y of_x of_y changes too = kept_owner s survivors kept k.members x y of_x.kept of_y.kept
         (type, name, changes, too)
 
-    -- J4: so has what changes an element that stays, and this element
+    -- OwnedByAnother: so has what changes an element that stays, and this element
     base_owner : (y : Id) (base : Element) → TakesEffect i y → has_change s.global y type name ≡ true
         → element_of (cleared i) type name ≡ Some base → owner_is y ≡ base.fmid
     base_owner y base effect changes found = elim (same_or_not base.fmid (owner_is y)) [
       | inl same ↦ sym same
-      | inr other ↦ absurd ((eligible s survivors kept k y effect.kept).0.0.1 J4 (
+      | inr other ↦ absurd ((eligible s survivors kept k y effect.kept).0.0.1 OwnedByAnother (
         base,
         (type, name, changes, view_element s survivors kept k y type name base effect.kept found),
         other,

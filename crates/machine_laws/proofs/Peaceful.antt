@@ -12,7 +12,7 @@ use Rattle.std.proofs.lemmas.List.Elements.{All-contains, All-contains_itself}
 use Rattle.terms.proofs.ListMembers.{none_in}
 use Rattle.terms.proofs.Searches.{filter_none}
 use Rattle.terms.proofs.TextOrder.{same_or_not}
-use Rattle.terms.specs.declared.codes.Test.TheVariants.{J3}
+use Rattle.terms.specs.declared.codes.Test.TheVariants.{ForbiddenByNpre}
 use Rattle.terms.specs.Types.{Text, Id, Ver, Entry, Global, Zone, Selection, Bypass}
 use Rattle.terms.specs.Lookups.{is_in, is_function, is_applied, entry_of, supby_of, delby_of, applied_ids}
 use Rattle.terms.specs.Choice.{Choice, counting, npre_of, del_of}
@@ -61,18 +61,18 @@ module _ (s : Setting) (survivors kept : List Id) (k : Keeps s survivors kept) (
   abbrev left_was : (x : Id) → is_applied (cleared i) x ≡ true → is_applied s.zone x ≡ true
   left_was x left = (left_applied s.global s.choice s.zone k.is_zone (deletions s.choice kept) x left).0
 
-  -- J3 and J9
+  -- ForbiddenByNpre and InClash
   npre_unapplied : HasVers s.choice → (x y : Id) → is_function s.global x ≡ true → is_applied new x ≡ true
       → Contains (npre_of s.choice x) y → is_applied new y ≡ true → ⊥
   npre_unapplied vers x y function of_x names of_y =
       elim (applied_either s survivors kept k bypassed date new installed x of_x) [
         | inl effect ↦ elim (applied_either s survivors kept k bypassed date new installed y of_y) [
           | inl other ↦ both effect.kept other.kept
-          | inr left ↦ (eligible s survivors kept k x effect.kept).0.0.1 J3
+          | inr left ↦ (eligible s survivors kept k x effect.kept).0.0.1 ForbiddenByNpre
               (y, view_applied s survivors kept k x y effect.kept left, inl names)
         ]
         | inr left ↦ elim (applied_either s survivors kept k bypassed date new installed y of_y) [
-          | inl other ↦ (eligible s survivors kept k y other.kept).0.0.1 J3
+          | inl other ↦ (eligible s survivors kept k y other.kept).0.0.1 ForbiddenByNpre
               (x, view_applied s survivors kept k y x other.kept left, inr (function, names))
           | inr too ↦ true≢false (sym (left_was y too) ∙ was_npre x y function (left_was x left) names)
         ]

@@ -13,7 +13,8 @@ use Rattle.terms.specs.Types.{Text, Id, Sysmod, Global, Item, ASysmod, AnAssign,
 use Rattle.terms.specs.Lookups.{sysmod_of, is_received}
 use Rattle.terms.specs.Over.{Leads, Reaches}
 use Rattle.terms.specs.Global.{named, names_for, HasLoop, fits_roles, RolesFit, hold, release, assign}
-use Rattle.terms.specs.Global.{with_sysmod, ReceiveFault, Rc1, Rc2, Rc3, Rc4, HasFault, received, Receives}
+use Rattle.terms.specs.Global.{with_sysmod, ReceiveFault, AlreadyReceived, MakesLoop, OtherRole, NoRoom, HasFault}
+use Rattle.terms.specs.Global.{received, Receives}
 use Rattle.terms.proofs.Leads.{reaches_named, reaches_first, reaches_more}
 use Rattle.terms.proofs.Loops.{names_others, LeadsBack, no_loop_from_search}
 use Rattle.terms.proofs.Walks.{reaches_or_not}
@@ -120,38 +121,39 @@ roles_or_not g =
 abbrev Answer : Global → Sysmod → Type 0
 Answer g s = (answer : Result Global ReceiveFault) × Receives g s answer
 
-accepted : (g : Global) (s : Sysmod) → ¬ HasFault g s Rc1 → ¬ HasFault g s Rc2 → RolesFit (with_sysmod g s)
-    → ¬ HasFault g s Rc4 → Answer g s
+accepted : (g : Global) (s : Sysmod) → ¬ HasFault g s AlreadyReceived → ¬ HasFault g s MakesLoop
+    → RolesFit (with_sysmod g s)
+    → ¬ HasFault g s NoRoom → Answer g s
 accepted g s new no_loop fit small = (Ok (received g s), (none, refl))
   where
     none : (f : ReceiveFault) → ¬ HasFault g s f
-    none Rc1 = new
-    none Rc2 = no_loop
-    none Rc3 = λ not. not fit
-    none Rc4 = small
+    none AlreadyReceived = new
+    none MakesLoop = no_loop
+    none OtherRole = λ not. not fit
+    none NoRoom = small
 
 -- RECEIVE of one SYSMOD accepts it or refuses it.
 pub receives_some : (g : Global) (s : Sysmod) → ¬ HasLoop g → Answer g s
 receives_some g s no_loop = by (is_received g s.id) refl
   where
-    sized : (¬ HasFault g s Rc1) → (¬ HasFault g s Rc2) → RolesFit (with_sysmod g s) → Answer g s
+    sized : (¬ HasFault g s AlreadyReceived) → (¬ HasFault g s MakesLoop) → RolesFit (with_sysmod g s) → Answer g s
     sized new none fit = elim (decided_le (2 ^ 16) (length g.sysmods + 1)) [
-      | inl full ↦ (Err Rc4, (new, none, (λ not. not fit), full))
+      | inl full ↦ (Err NoRoom, (new, none, (λ not. not fit), full))
       | inr small ↦ accepted g s new none fit small
     ]
 
-    fitting : (¬ HasFault g s Rc1) → (¬ HasFault g s Rc2) → Answer g s
+    fitting : (¬ HasFault g s AlreadyReceived) → (¬ HasFault g s MakesLoop) → Answer g s
     fitting new none = elim (roles_or_not (with_sysmod g s)) [
       | inl fit ↦ sized new none fit
-      | inr not ↦ (Err Rc3, (new, none, not))
+      | inr not ↦ (Err OtherRole, (new, none, not))
     ]
 
     by : (b : Bool) → is_received g s.id ≡ b → Answer g s
-    by true is = (Err Rc1, is)
+    by true is = (Err AlreadyReceived, is)
     by false is =
-        let new : ¬ HasFault g s Rc1 = λ there. true≢false (sym there ∙ is) in
+        let new : ¬ HasFault g s AlreadyReceived = λ there. true≢false (sym there ∙ is) in
         elim (loop_or_not g s no_loop is) [
-          | inl loop ↦ (Err Rc2, (new, loop))
+          | inl loop ↦ (Err MakesLoop, (new, loop))
           | inr none ↦ fitting new none
         ]
 

@@ -4,10 +4,11 @@ use Rattle.std.proofs.Common.{ap, ap₂}
 use Rattle.std.proofs.Common.{subst}
 use Rattle.terms.specs.Types.{Text, Id, Sysmod, Global, Item, ASysmod, AnAssign, HoldItem, AHold, ARelease}
 use Rattle.terms.specs.Types.{ReceiveWhat, Receive}
-use Rattle.terms.specs.Global.{ReceiveFault, Rc1, Rc2, Rc3, Rc4, HasFault, RefusedBy, Receives}
+use Rattle.terms.specs.Global.{ReceiveFault, AlreadyReceived, MakesLoop, OtherRole, NoRoom, HasFault, RefusedBy}
+use Rattle.terms.specs.Global.{Receives}
 use Rattle.terms.specs.Ptfin.{McsFault, IsPtfin, IsPtfinFault}
 use Rattle.terms.specs.HoldFile.{IsHoldFile, IsHoldFileFault}
-use Rattle.machine.specs.Outcome.{OfKind, StatusLine, Outcome, Ran, Refused, Cm4, Cm5, header_of}
+use Rattle.machine.specs.Outcome.{OfKind, StatusLine, Outcome, Ran, Refused, PtfinFaulty, HoldFileFaulty, header_of}
 use Rattle.machine.specs.Outcome.{or_nothing}
 use Rattle.machine.specs.State.{State}
 use Rattle.machine.specs.Receiving.{global_after, receive_status, sourced, AssignsId, TakesItem, TakesHoldItem}
@@ -20,29 +21,29 @@ use Rattle.machine_laws.proofs.FileAnswers.{ptfin_once, hold_file_once}
 -- ---- a SYSMOD
 
 refused_applies : (g : Global) (s : Sysmod) (f : ReceiveFault) → RefusedBy g s f → HasFault g s f
-refused_applies g s Rc1 r = r
-refused_applies g s Rc2 r = r.1
-refused_applies g s Rc3 r = r.2
-refused_applies g s Rc4 r = r.3
+refused_applies g s AlreadyReceived r = r
+refused_applies g s MakesLoop r = r.1
+refused_applies g s OtherRole r = r.2
+refused_applies g s NoRoom r = r.3
 
 -- The first fault that applies is one.
 pub fault_only : (g : Global) (s : Sysmod) (e f : ReceiveFault) → RefusedBy g s e → RefusedBy g s f → e ≡ f
-fault_only g s Rc1 Rc1 p q = refl
-fault_only g s Rc1 Rc2 p q = absurd (q.0 p)
-fault_only g s Rc1 Rc3 p q = absurd (q.0 p)
-fault_only g s Rc1 Rc4 p q = absurd (q.0 p)
-fault_only g s Rc2 Rc1 p q = absurd (p.0 q)
-fault_only g s Rc2 Rc2 p q = refl
-fault_only g s Rc2 Rc3 p q = absurd (q.1 p.1)
-fault_only g s Rc2 Rc4 p q = absurd (q.1 p.1)
-fault_only g s Rc3 Rc1 p q = absurd (p.0 q)
-fault_only g s Rc3 Rc2 p q = absurd (p.1 q.1)
-fault_only g s Rc3 Rc3 p q = refl
-fault_only g s Rc3 Rc4 p q = absurd (q.2 p.2)
-fault_only g s Rc4 Rc1 p q = absurd (p.0 q)
-fault_only g s Rc4 Rc2 p q = absurd (p.1 q.1)
-fault_only g s Rc4 Rc3 p q = absurd (p.2 q.2)
-fault_only g s Rc4 Rc4 p q = refl
+fault_only g s AlreadyReceived AlreadyReceived p q = refl
+fault_only g s AlreadyReceived MakesLoop p q = absurd (q.0 p)
+fault_only g s AlreadyReceived OtherRole p q = absurd (q.0 p)
+fault_only g s AlreadyReceived NoRoom p q = absurd (q.0 p)
+fault_only g s MakesLoop AlreadyReceived p q = absurd (p.0 q)
+fault_only g s MakesLoop MakesLoop p q = refl
+fault_only g s MakesLoop OtherRole p q = absurd (q.1 p.1)
+fault_only g s MakesLoop NoRoom p q = absurd (q.1 p.1)
+fault_only g s OtherRole AlreadyReceived p q = absurd (p.0 q)
+fault_only g s OtherRole MakesLoop p q = absurd (p.1 q.1)
+fault_only g s OtherRole OtherRole p q = refl
+fault_only g s OtherRole NoRoom p q = absurd (q.2 p.2)
+fault_only g s NoRoom AlreadyReceived p q = absurd (p.0 q)
+fault_only g s NoRoom MakesLoop p q = absurd (p.1 q.1)
+fault_only g s NoRoom OtherRole p q = absurd (p.2 q.2)
+fault_only g s NoRoom NoRoom p q = refl
 
 pub receives_only : (g : Global) (s : Sysmod) (a b : Result Global ReceiveFault) → Receives g s a → Receives g s b
     → a ≡ b
@@ -123,7 +124,7 @@ module _ (files : Files) (s : State) (what : ReceiveWhat) where
       (TakesAll items holds middle g lines more has has_holds runs runs_holds) = no_ptfin items fault reads has at
   takes_once t u p q (TakesNone fault reads at) (TakesNone fault' reads' at') = (
     refl,
-    ap (λ (f : McsFault). Refused (header_of (Receive what) s.boundary) (Cm4 f.number f.code))
+    ap (λ (f : McsFault). Refused (header_of (Receive what) s.boundary) (PtfinFaulty f.number f.code))
         ((ptfin_once files.ptfin).faults fault fault' at at'),
   )
   takes_once t u p q (TakesNone fault reads at) (TakesNoHold items fault' has reads' at') =
@@ -134,6 +135,6 @@ module _ (files : Files) (s : State) (what : ReceiveWhat) where
       no_ptfin items fault reads has at
   takes_once t u p q (TakesNoHold items fault has reads at) (TakesNoHold items' fault' has' reads' at') = (
     refl,
-    ap (λ (f : McsFault). Refused (header_of (Receive what) s.boundary) (Cm5 f.number f.code))
+    ap (λ (f : McsFault). Refused (header_of (Receive what) s.boundary) (HoldFileFaulty f.number f.code))
         ((hold_file_once files.holds).faults fault fault' at at'),
   )

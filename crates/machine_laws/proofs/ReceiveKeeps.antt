@@ -8,8 +8,9 @@ use Rattle.terms.proofs.TextOrder.{same_from}
 use Rattle.terms.specs.Types.{Text, Id, Hold, Sysmod, Global, Item, ASysmod, AnAssign, HoldItem, AHold, ARelease}
 use Rattle.terms.specs.Types.{NamedZone, Release}
 use Rattle.terms.specs.Lookups.{sysmod_of, is_received}
-use Rattle.terms.specs.Global.{hold, hold_of, release, release_found, without_hold, Rl2, assign, with_sysmod, received}
-use Rattle.terms.specs.Global.{ReceiveFault, Rc1, Receives}
+use Rattle.terms.specs.Global.{hold, hold_of, release, release_found, without_hold, CameAlong, assign, with_sysmod}
+use Rattle.terms.specs.Global.{received}
+use Rattle.terms.specs.Global.{ReceiveFault, AlreadyReceived, Receives}
 use Rattle.terms.specs.Closed.{AreClosed}
 use Rattle.terms.proofs.GlobalLookups.{sysmod_of_with_sysmod, sysmod_of_assign, assigned, assigned_same}
 use Rattle.machine.specs.Outcome.{Line}
@@ -52,7 +53,7 @@ holds_keep (h ∷ hs) g = holds_keep hs (hold g h)
 taken_keeps : (g : Global) (s : Sysmod) (answer : Result Global ReceiveFault) → Receives g s answer
     → KeepsReceived g (global_after g answer)
 taken_keeps g s (Ok new) (good, new_is) = subst (KeepsReceived g) (sym new_is)
-    (keeps_then g (with_sysmod g s) (received g s) (with_sysmod_keeps g s (good Rc1))
+    (keeps_then g (with_sysmod g s) (received g s) (with_sysmod_keeps g s (good AlreadyReceived))
     (holds_keep s.holds (with_sysmod g s)))
 taken_keeps g s (Err why) refused = keeps_itself g
 
@@ -60,7 +61,7 @@ release_keeps : (g : Global) (r : Release) → KeepsReceived g (global_after g (
 release_keeps g r = found (hold_of g r.id r.kind r.reason)
   where
     released : (internal : Bool) → KeepsReceived g (global_after g
-        (if internal then Err Rl2 else Ok (without_hold r.id r.kind r.reason g)))
+        (if internal then Err CameAlong else Ok (without_hold r.id r.kind r.reason g)))
     released true = keeps_itself g
     released false = λ x there. refl
 

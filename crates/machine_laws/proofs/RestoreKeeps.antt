@@ -13,7 +13,7 @@ use Rattle.std.proofs.lemmas.List.Folds.{Any-from_list_any}
 use Rattle.terms.proofs.ListMembers.{here, there, here_or, none_in, in_filter, filter_in, map_in, in_flat}
 use Rattle.terms.proofs.Searches.{All_from_no_list_any, find_gives}
 use Rattle.terms.proofs.TextOrder.{same_from, same_itself}
-use Rattle.terms.specs.declared.codes.Test.TheVariants.{J10, J12}
+use Rattle.terms.specs.declared.codes.Test.TheVariants.{AlreadyAccepted, UnappliedLevel}
 use Rattle.terms.specs.declared.codes.NeedKind.TheVariants.{Dep}
 use Rattle.terms.specs.Types.{Id, IfReq, Ver, Applied, Change, Global, Entry, Element, Zone, RestoreList}
 use Rattle.terms.specs.Types.{type_number}
@@ -414,7 +414,7 @@ module _ (r : Restoring) (ids kept : List Id) (new : Zone) (is : IsRestore r ids
         Members_rmid : Contains (e.fmid ∷ e.rmid ∷ e.umids) e.rmid
         Members_rmid = there e.fmid (e.rmid ∷ e.umids) e.rmid (here e.rmid e.umids)
 
-    -- an element of the accepted zone that a candidate changes passes J12
+    -- an element of the accepted zone that a candidate changes passes UnappliedLevel
     tested : (x : Id) → Contains kept x → IsTrue (has_change r.global x e.elem_type e.name)
         → element_of r.accepted e.elem_type e.name ≡ Some e → IsTrue (may_return r e)
     tested x among changes at = by (change_of r.global x e.elem_type e.name) refl changes
@@ -437,7 +437,7 @@ module _ (r : Restoring) (ids kept : List Id) (new : Zone) (is : IsRestore r ids
             let returns : Option Element → Bool = λ o. option_map_or (may_return r) o true in
             elim (cases_Bool (may_return r e)) [
               | inl good ↦ good
-              | inr bad ↦ absurd ((may_be x among).passes J12
+              | inr bad ↦ absurd ((may_be x among).passes UnappliedLevel
                   (gives.1.0, h, gives.1.1, gives.1.2, ap returns found_there ∙ bad))
             ]
 
@@ -457,7 +457,7 @@ module _ (r : Restoring) (ids kept : List Id) (new : Zone) (is : IsRestore r ids
         let each : (x : Id) → Contains ids x → IsTrue (is_applied new x) =
         λ x there. still_applied x (
           true_from_not (is_applied r.zone x) (All-contains (λ y. IsFalse (not (is_applied r.zone y))) ids x all there),
-          λ is_kept. (may_be x is_kept).passes J10 (or_left (is_applied r.accepted x)
+          λ is_kept. (may_be x is_kept).passes AlreadyAccepted (or_left (is_applied r.accepted x)
               (not (is_nil (supby_of r.accepted x)))
               (All-contains (λ y. IsTrue (is_applied r.accepted y)) ids x was.applied there)),
         ) in

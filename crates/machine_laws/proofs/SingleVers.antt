@@ -18,7 +18,7 @@ use Rattle.terms.specs.Lookups.{at_most_one, is_in, is_before, is_applied, appli
 use Rattle.terms.specs.Lookups.{element_of, element_eq, element_key}
 use Rattle.terms.specs.Choice.{Choice, vers_of, fits, place, counting}
 use Rattle.terms.specs.Tests.{Setting}
-use Rattle.terms.specs.Restore.{Restoring, are_applied, is_alike, are_alike, may_return, FailsJ12}
+use Rattle.terms.specs.Restore.{Restoring, are_applied, is_alike, are_alike, may_return, ChangesUnappliedLevel}
 use Rattle.terms.specs.Closed.{IsClosedZone, IsOwned}
 use Rattle.store_schema.specs.Inventory.{Inventory}
 use Rattle.store_schema.specs.Earlier.{IsOfEarlier}
@@ -26,7 +26,7 @@ use Rattle.sysmods.proofs.OneVer.{HasSingleVers, one_ver, first_place}
 use Rattle.change.proofs.Installable.{is_fresh}
 use Rattle.change.proofs.KeptTogether.{unsupplied}
 use Rattle.machine_laws.proofs.Decisions.{candidate_open}
-use Rattle.machine_laws.specs.Singles.{OneCounts, NoneFailsJ13, FirstInstalls, J12AsksApplied}
+use Rattle.machine_laws.specs.Singles.{OneCounts, NoneHasSeveralFit, FirstInstalls, UnappliedLevelAsksApplied}
 use Rattle.machine_laws.proofs.KeptChoice.{undated}
 use Rattle.terms.proofs.Applied.{applied_dated}
 
@@ -73,8 +73,8 @@ one_counts i is z there cands x =
     (first_is i.global (single_vers i is) z.zone (zone_firsts i is z there) cands x)
     ∙ only_one (vers_of i.global z.zone.srel x) (one_ver i.global z.zone.srel x (single_vers i is))
 
-pub none_fails_J13 : NoneFailsJ13
-none_fails_J13 i is s same x several =
+pub none_has_several : NoneHasSeveralFit
+none_has_several i is s same x several =
     let one = one_ver s.global s.zone.srel x (subst HasSingleVers (sym same) (single_vers i is)) in
     let fit = count_by-le-length (fits s.zone (is_in s.cands)) (vers_of s.global s.zone.srel x) in
     let counted = length-filter (fits s.zone (is_in s.cands)) (vers_of s.global s.zone.srel x) in
@@ -96,7 +96,7 @@ first_installs i is zone related sel bypass date d decides x kept =
     off = unsupplied zone x (is_fresh i.global zone x (and_parts _ _ (candidate_open i.global zone sel x
         ((decides.candidates.members x).0 cand))).0).not_supplied
 
--- ---- J12
+-- ---- UnappliedLevel
 
 module _ (zone accepted : Zone) (of_zone : HasFirsts zone) (of_accepted : HasFirsts accepted) where
   both_first : (x : Id) → IsTrue (is_applied zone x) → IsTrue (is_applied accepted x) → is_alike zone accepted x ≡ true
@@ -156,15 +156,15 @@ module _ (zone accepted : Zone) (of_zone : HasFirsts zone) (of_accepted : HasFir
         by (Some e) at = returns e (find_gives (λ (v : Element). element_eq (element_key v) (h.elem_type, h.name))
             accepted.elements e at).1
 
-    asks_applied : (x : Id) → FailsJ12 r x
+    asks_applied : (x : Id) → ChangesUnappliedLevel r x
         ↔ Any (λ h. IsFalse (option_map_or (are_applied zone) (element h) true)) (changes_of g x)
     asks_applied x = (
       λ (k, h, below, at, fails). (k, h, below, at, sym (asks h) ∙ fails),
       λ (k, h, below, at, fails). (k, h, below, at, asks h ∙ fails),
     )
 
-pub J12_asks_applied : J12AsksApplied
-J12_asks_applied i is closed target distribution of_target of_distribution c x =
+pub unapplied_level_asks_applied : UnappliedLevelAsksApplied
+unapplied_level_asks_applied i is closed target distribution of_target of_distribution c x =
     asks_applied target.zone distribution.zone (zone_firsts i is target of_target)
     (zone_firsts i is distribution of_distribution) i.global c
     (All-contains (λ z. IsClosedZone i.global (counting i.global z.zone []) z.zone) i.zones distribution closed

@@ -28,7 +28,7 @@ module _ (s : Setting) (survivors kept : List Id) (k : Keeps s survivors kept) w
       (names_no_loop s.global s.zone.srel s.choice k.vers k.global.no_loop) x))
       (here x (chain_from (length s.global.sysmods + 1) s.choice (fmid_of s.choice x)))
 
-  -- J8: no deletion of what is kept meets the chain of what is kept
+  -- ChainDeleted: no deletion of what is kept meets the chain of what is kept
   pub kept_undeleted : (x : Id) → Contains kept x → is_deleted s.global s.choice (deletions s.choice kept) x ≡ false
   kept_undeleted x is = false_from_ne_true (is_deleted s.global s.choice (deletions s.choice kept) x) (λ deleted.
       let one = deleted_by_one s.global s.choice kept x deleted in

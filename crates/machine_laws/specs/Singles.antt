@@ -1,12 +1,12 @@
--- Where no SYSMOD has two ++VERs of one SREL, and each was installed by the first, the one of the SREL counts, J13 does
--- not fail, and J12 asks only for what is applied.
+-- Where no SYSMOD has two ++VERs of one SREL, and each was installed by the first, the one of the SREL counts, several
+-- never fit, and of a level RESTORE asks only whether it is applied.
 use Rattle.std.specs.Prelude.{◌≡◌, ◌↔◌, List, Option, true, Contains, Any, IsFalse}
 use Rattle.std.specs.Option.{option_map_or}
 use Rattle.terms.specs.Types.{Text, Id, NamedZone, Selection, Bypass, Zone}
 use Rattle.terms.specs.Lookups.{at_most_one, changes_of, element_of}
 use Rattle.terms.specs.Choice.{Choice, vers_of, counting}
-use Rattle.terms.specs.Tests.{Setting, FailsJ13}
-use Rattle.terms.specs.Restore.{are_applied, FailsJ12}
+use Rattle.terms.specs.Tests.{Setting, HasSeveralFit}
+use Rattle.terms.specs.Restore.{are_applied, ChangesUnappliedLevel}
 use Rattle.terms.specs.Closed.{AreClosed}
 use Rattle.store_schema.specs.Inventory.{Inventory}
 use Rattle.store_schema.specs.Earlier.{IsOfEarlier}
@@ -18,8 +18,9 @@ OneCounts =
     (i : Inventory) → IsOfEarlier i → (z : NamedZone) → Contains i.zones z → (cands : List Id) (x : Id)
     → at_most_one (counting i.global z.zone cands x) ≡ vers_of i.global z.zone.srel x
 
-abbrev pub NoneFailsJ13 : Type 0
-NoneFailsJ13 = (i : Inventory) → IsOfEarlier i → (s : Setting) → s.global ≡ i.global → (x : Id) → ¬ FailsJ13 s x
+abbrev pub NoneHasSeveralFit : Type 0
+NoneHasSeveralFit = (i : Inventory) → IsOfEarlier i → (s : Setting) → s.global ≡ i.global → (x : Id)
+    → ¬ HasSeveralFit s x
 
 -- What is installed is so by number 1.
 abbrev pub FirstInstalls : Type 0
@@ -28,11 +29,11 @@ FirstInstalls =
     (date : Text) (d : Decision) → IsDecision i.global zone related sel bypass date d
     → (x : Id) → Contains d.kept x → d.installing.number x ≡ 1
 
-abbrev pub J12AsksApplied : Type 0
-J12AsksApplied =
+abbrev pub UnappliedLevelAsksApplied : Type 0
+UnappliedLevelAsksApplied =
     (i : Inventory) → IsOfEarlier i → AreClosed i.global i.zones → (target distribution : NamedZone)
     → Contains i.zones target → Contains i.zones distribution → (c : Choice) (x : Id)
-    → FailsJ12 (record {
+    → ChangesUnappliedLevel (record {
       global = i.global;
       choice = c;
       zone = target.zone;

@@ -3,7 +3,7 @@ use Rattle.std.proofs.Common.{◌≡◌, ℕ, List, [], ◌∷◌, ◌++◌, Opt
 use Rattle.std.proofs.Common.{inl}
 use Rattle.std.specs.Prelude.{IsSomeAnd}
 use Rattle.std.specs.Option.{option_map_or}
-use Rattle.terms.specs.declared.codes.McCode.{McCode}
+use Rattle.terms.specs.declared.codes.StatementCode.{StatementCode}
 use Rattle.terms.specs.Types.{Text, Lines, IfReq, Hold, Item}
 use Rattle.terms.specs.Records.{HasRecords}
 use Rattle.terms.specs.Groups.{Group, TakesGroup}
@@ -39,7 +39,7 @@ begins_more c n records (s' ∷ ss) d m rest g next later s b t good =
     (b.0, b.1, b.2, b.3, b.4, begins_more (after c s') b.1 b.2 ss d m rest g next later s b.5 t good)
 
 rest_fault : (c : SoFar) (n : ℕ) (records : Lines) (ss : List Statement) (d : SoFar) (m : ℕ) (rest : Lines) (g : Group)
-    (next : ℕ) (later : Lines) (code : McCode) → BeginsWithStatements c n records ss d m rest
+    (next : ℕ) (later : Lines) (code : StatementCode) → BeginsWithStatements c n records ss d m rest
     → TakesGroup m rest g next later → IsStatementFault d.current later g.records code
     → IsRestError c n records (Fault g.number code)
 rest_fault c n records ss d m rest g next later code b t f = (ss, d, m, rest, b, (g, next, later, t, refl, f))

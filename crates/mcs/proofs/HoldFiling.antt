@@ -2,7 +2,7 @@
 use Rattle.std.proofs.Common.{◌≡◌, ℕ, List, [], ◌∷◌, ◌++◌, refl, sym, ap, subst, inr, Result, Ok, Err}
 use Rattle.std.proofs.Common.{inl}
 use Rattle.std.specs.Prelude.{All, IfOk, IfErr}
-use Rattle.terms.specs.declared.codes.McCode.{McCode}
+use Rattle.terms.specs.declared.codes.StatementCode.{StatementCode}
 use Rattle.terms.specs.Types as terms
 use Rattle.terms.specs.Types.{Lines}
 use Rattle.terms.specs.Records.{HasRecords, IsRecord}
@@ -53,7 +53,7 @@ group_records n records found m rest g next later b t h =
     All_front IsRecord g.records later (subst (All IsRecord) t.records_are (rest_records n records found m rest b h))
 
 rest_fault : (n : ℕ) (records : Lines) (found : List terms.HoldItem) (m : ℕ) (rest : Lines) (g : Group) (next : ℕ)
-    (later : Lines) (code : McCode) → BeginsWithItems n records found m rest → TakesGroup m rest g next later
+    (later : Lines) (code : StatementCode) → BeginsWithItems n records found m rest → TakesGroup m rest g next later
     → IsItemFault g.records code → IsRestError n records (Fault g.number code)
 rest_fault n records found m rest g next later code b t f = (found, m, rest, b, (g, next, later, t, refl, f))
 

@@ -1,7 +1,8 @@
 -- What a statement of a hold file says, and what is at fault with it.
 use Rattle.std.proofs.Common.{◌≡◌, ◌≢◌, false, List, [], Option, Result, Ok, Err, sym, subst}
 use Rattle.std.specs.Prelude.{IfOk, IfErr}
-use Rattle.terms.specs.declared.codes.McCode.TheVariants.{Mc1, Mc2, Mc3, Mc4, Mc5, Mc6}
+use Rattle.terms.specs.declared.codes.StatementCode.TheVariants.{BadStatementForm, UnknownStatementWord, UnfitOperand}
+use Rattle.terms.specs.declared.codes.StatementCode.TheVariants.{WrongPlace, UnfitText, OverLimit}
 use Rattle.terms.specs.declared.statement_words.StatementWord.{StatementWord}
 use Rattle.terms.specs.declared.statement_words.StatementWord.TheVariants as word
 use Rattle.terms.specs.Types as terms
@@ -57,12 +58,12 @@ hold_error w own rest operand.Bad is x = no_hold w own rest is (λ ws h words i.
 -- a fault of the statement's form, or of its word
 pub form_error : (records : Lines) (e : StatementError) → IsFormError records e → IsItemError records e
 form_error records Memory f = tt
-form_error records (Fault Mc1) f = f
-form_error records (Fault Mc2) f = f
-form_error records (Fault Mc3) f = absurd f
-form_error records (Fault Mc4) f = absurd f
-form_error records (Fault Mc5) f = absurd f
-form_error records (Fault Mc6) f = absurd f
+form_error records (Fault BadStatementForm) f = f
+form_error records (Fault UnknownStatementWord) f = f
+form_error records (Fault UnfitOperand) f = absurd f
+form_error records (Fault WrongPlace) f = absurd f
+form_error records (Fault UnfitText) f = absurd f
+form_error records (Fault OverLimit) f = absurd f
 
 pub text_behind : (w : StatementWord) (inline : Lines) → inline ≢ [] → StandsInHoldFile w inline → ⊥
 text_behind (word.Header kind) inline some m = m
@@ -85,12 +86,12 @@ error_of : (records : Lines) (w : StatementWord) (own : Option Text) (rest : Lis
     (e : StatementError) → IsKnown records w own rest inline → StandsInHoldFile w inline → IsSaidError w own rest e
     → IsItemError records e
 error_of records w own rest inline Memory known may f = tt
-error_of records w own rest inline (Fault Mc1) known may f = absurd f
-error_of records w own rest inline (Fault Mc2) known may f = absurd f
-error_of records w own rest inline (Fault Mc3) known may f = (w, own, rest, inline, known, may, f)
-error_of records w own rest inline (Fault Mc4) known may f = absurd f
-error_of records w own rest inline (Fault Mc5) known may f = absurd f
-error_of records w own rest inline (Fault Mc6) known may f = (w, own, rest, inline, f.0, known, may, f.1, f.2)
+error_of records w own rest inline (Fault BadStatementForm) known may f = absurd f
+error_of records w own rest inline (Fault UnknownStatementWord) known may f = absurd f
+error_of records w own rest inline (Fault UnfitOperand) known may f = (w, own, rest, inline, known, may, f)
+error_of records w own rest inline (Fault WrongPlace) known may f = absurd f
+error_of records w own rest inline (Fault UnfitText) known may f = absurd f
+error_of records w own rest inline (Fault OverLimit) known may f = (w, own, rest, inline, f.0, known, may, f.1, f.2)
 
 pub bad_item : (records : Lines) (w : StatementWord) (own : Option Text) (rest : List Piece) (inline : Lines)
     (r : Result HoldItem StatementError) → IsKnown records w own rest inline → StandsInHoldFile w inline
@@ -106,5 +107,5 @@ may_release w inline is none = subst (λ x. StandsInHoldFile x inline) (sym is) 
 
 -- a statement that may not stand there
 pub misplaced : (records : Lines) (w : StatementWord) (own : Option Text) (rest : List Piece) (inline : Lines)
-    → IsKnown records w own rest inline → (StandsInHoldFile w inline → ⊥) → IsItemError records (Fault Mc4)
+    → IsKnown records w own rest inline → (StandsInHoldFile w inline → ⊥) → IsItemError records (Fault WrongPlace)
 misplaced records w own rest inline known not_there = (w, own, rest, inline, known, not_there)

@@ -2,7 +2,8 @@
 use Rattle.std.proofs.Common.{◌≡◌, Bool, false, List, Option, Some, None, Result, Ok, Err, sym, ◌∙◌, subst}
 use Rattle.std.specs.Prelude.{IfOk, IfErr, IsTrue, ◌↔◌}
 use Rattle.std.proofs.lemmas.Bool.{true≢false}
-use Rattle.terms.specs.declared.codes.McCode.TheVariants.{Mc1, Mc2, Mc3, Mc4, Mc5, Mc6}
+use Rattle.terms.specs.declared.codes.StatementCode.TheVariants.{BadStatementForm, UnknownStatementWord, UnfitOperand}
+use Rattle.terms.specs.declared.codes.StatementCode.TheVariants.{WrongPlace, UnfitText, OverLimit}
 use Rattle.terms.specs.declared.statement_words.StatementWord.{StatementWord}
 use Rattle.terms.specs.declared.statement_words.StatementWord.TheVariants as word
 use Rattle.terms.specs.Types.{Text, Lines, Sysmod}
@@ -52,13 +53,20 @@ error_of : (current : Option Begun) (later records : Lines) (w : StatementWord) 
     (inline : Lines) (e : StatementError) → Stands current later records w own rest inline
     → IsSaidError current w own rest inline e → IsStatementError current later records e
 error_of current later records w own rest inline Memory at f = tt
-error_of current later records w own rest inline (Fault Mc1) at f = absurd f
-error_of current later records w own rest inline (Fault Mc2) at f = absurd f
-error_of current later records w own rest inline (Fault Mc3) at f = (w, own, rest, inline, at.known, (at.placed, f))
-error_of current later records w own rest inline (Fault Mc4) at f = absurd f
-error_of current later records w own rest inline (Fault Mc5) at f =
+error_of current later records w own rest inline (Fault BadStatementForm) at f = absurd f
+error_of current later records w own rest inline (Fault UnknownStatementWord) at f = absurd f
+error_of current later records w own rest inline (Fault UnfitOperand) at f = (
+  w,
+  own,
+  rest,
+  inline,
+  at.known,
+  (at.placed, f),
+)
+error_of current later records w own rest inline (Fault WrongPlace) at f = absurd f
+error_of current later records w own rest inline (Fault UnfitText) at f =
     (w, own, rest, inline, at.known, (f.0, at.placed, f.1, f.2, f.3))
-error_of current later records w own rest inline (Fault Mc6) at f =
+error_of current later records w own rest inline (Fault OverLimit) at f =
     (w, own, rest, inline, at.known, (f.0, at.placed, f.1, f.2))
 
 pub bad_statement : (current : Option Begun) (later records : Lines) (w : StatementWord) (own : Option Text)
@@ -73,12 +81,12 @@ bad_statement current later records w own rest inline (Err e) at f =
 pub form_error : (current : Option Begun) (later records : Lines) (e : StatementError) → IsFormError records e
     → IsStatementError current later records e
 form_error current later records Memory f = tt
-form_error current later records (Fault Mc1) f = f
-form_error current later records (Fault Mc2) f = f
-form_error current later records (Fault Mc3) f = absurd f
-form_error current later records (Fault Mc4) f = absurd f
-form_error current later records (Fault Mc5) f = absurd f
-form_error current later records (Fault Mc6) f = absurd f
+form_error current later records (Fault BadStatementForm) f = f
+form_error current later records (Fault UnknownStatementWord) f = f
+form_error current later records (Fault UnfitOperand) f = absurd f
+form_error current later records (Fault WrongPlace) f = absurd f
+form_error current later records (Fault UnfitText) f = absurd f
+form_error current later records (Fault OverLimit) f = absurd f
 
 may_not_release : (s : Option Sysmod) → MayStand s word.Release → ⊥
 may_not_release None h = h

@@ -1,7 +1,7 @@
 -- The items of this crate as the definitions see them, and what is at fault with one or with the file.
 use Rattle.std.specs.Prelude.{ℕ, List, Option, map}
-use Rattle.terms.specs.declared.codes.McCode.{McCode}
-use Rattle.terms.specs.declared.codes.McCode.TheVariants.{Mc3, Mc6}
+use Rattle.terms.specs.declared.codes.StatementCode.{StatementCode}
+use Rattle.terms.specs.declared.codes.StatementCode.TheVariants.{UnfitOperand, OverLimit}
 use Rattle.terms.specs.declared.statement_words.StatementWord.{StatementWord}
 use Rattle.terms.specs.Types as terms
 use Rattle.terms.specs.Types.{Text, Lines}
@@ -27,9 +27,9 @@ pub record IsSaid (w : StatementWord) (own : Option Text) (rest : List Piece) (i
   pub within : IsWithin item
 
 -- It says none, or too much.
-abbrev pub IsSaidFault : StatementWord → Option Text → List Piece → McCode → Type 0
-IsSaidFault w own rest Mc3 = (item : terms.HoldItem) → ¬ HasItem w own rest item
-IsSaidFault w own rest Mc6 = (item : terms.HoldItem) × HasItem w own rest item × (¬ IsWithin item)
+abbrev pub IsSaidFault : StatementWord → Option Text → List Piece → StatementCode → Type 0
+IsSaidFault w own rest UnfitOperand = (item : terms.HoldItem) → ¬ HasItem w own rest item
+IsSaidFault w own rest OverLimit = (item : terms.HoldItem) × HasItem w own rest item × (¬ IsWithin item)
 IsSaidFault w own rest _ = ⊥
 
 abbrev pub IsSaidError : StatementWord → Option Text → List Piece → StatementError → Type 0

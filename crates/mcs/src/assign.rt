@@ -20,7 +20,7 @@ use crate::said::Statement;
 use fields::{Id, Source};
 use rec80::{OperandError, Word, listed_ids, operand, required};
 use std::alloc::Global;
-use terms::McCode;
+use terms::StatementCode;
 
 /// The operands of `++ASSIGN`.
 const OPERANDS: &[&[u8]] = &[b"SOURCEID", b"TO"];
@@ -70,8 +70,8 @@ fn is_within(assign: &Assign) -> bool
     assign.to.len() <= 1000
 }
 
-/// What an `++ASSIGN` says. `Memory` comes where memory runs out. `Fault` is `Mc3` where it has anything but SOURCEID
-/// and TO, each in its form, and `Mc6` where TO has more than 1,000 ids.
+/// What an `++ASSIGN` says. `Memory` comes where memory runs out. `Fault` is `UnfitOperand` where it has anything but
+/// SOURCEID and TO, each in its form, and `OverLimit` where TO has more than 1,000 ids.
 pub fn assign_statement(
     alloc: Global,
     current: &Option<Begun>,
@@ -87,7 +87,7 @@ pub fn assign_statement(
         Err(error) => return Err(no_value(error)),
     };
     if !is_within(&assign) {
-        return Err(StatementError::Fault(McCode::Mc6));
+        return Err(StatementError::Fault(StatementCode::OverLimit));
     }
     Ok(Statement::Assign(assign))
 }

@@ -10,7 +10,7 @@ use crate::fault::StatementError;
 use crate::words::statement_word;
 use rec80::{Group, Operands, Record, Word, statement};
 use std::alloc::Global;
-use terms::{McCode, StatementWord};
+use terms::{StatementCode, StatementWord};
 
 /// A statement of a known word. Behind its first word stand its operands, and its inline records.
 #[derive(Drop)]
@@ -21,23 +21,23 @@ pub struct Known<'a> {
     pub inline: &'a [Record],
 }
 
-/// The statement's word and its operands. `Memory` comes where memory runs out. `Fault` is `Mc1` where the statement's
-/// form is at fault, and `Mc2` where it begins with no known word.
+/// The statement's word and its operands. `Memory` comes where memory runs out. `Fault` is `BadStatementForm` where the
+/// statement's form is at fault, and `UnknownStatementWord` where it begins with no known word.
 pub fn begun<'a>(alloc: Global, group: &Group<'a>) -> Result<Known<'a>, StatementError>
     ensures ok { IfOk result (λ b. (rest : List Piece)
         × IsKnown group.now.records.now b.word (own_list b) rest b.inline.now × IsRead rest b.operands) }
     ensures fault { IfErr result (IsFormError group.now.records.now) }
 {
     let Ok(mut words) = statement(group) else {
-        return Err(StatementError::Fault(McCode::Mc1));
+        return Err(StatementError::Fault(StatementCode::BadStatementForm));
     };
     let first = match words.next_word() {
         Ok(Some(first)) => first,
-        Ok(None) => return Err(StatementError::Fault(McCode::Mc2)),
-        Err(_) => return Err(StatementError::Fault(McCode::Mc2)),
+        Ok(None) => return Err(StatementError::Fault(StatementCode::UnknownStatementWord)),
+        Err(_) => return Err(StatementError::Fault(StatementCode::UnknownStatementWord)),
     };
     let Some(word) = statement_word(first.word) else {
-        return Err(StatementError::Fault(McCode::Mc2));
+        return Err(StatementError::Fault(StatementCode::UnknownStatementWord));
     };
     Ok(Known {
         word,

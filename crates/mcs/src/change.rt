@@ -20,7 +20,7 @@ use fields::Name;
 use rec80::{Record, one, required};
 use std::alloc::{AllocError, Global};
 use sysmod::{Action, ElemChange};
-use terms::{ElemType, McCode};
+use terms::{ElemType, StatementCode};
 use text80::{Line, Numbered, TextError, Update};
 
 /// The operands of a replacement.
@@ -82,13 +82,13 @@ fn text_of(
     ensures bad { IfErr result (IsTextError elem_type inline.now) }
 {
     if inline.is_empty() {
-        return Err(StatementError::Fault(McCode::Mc5));
+        return Err(StatementError::Fault(StatementCode::UnfitText));
     }
     let lines = lines(alloc, inline)?;
     match elem_type {
         ElemType::Mac | ElemType::Src => match Numbered::read(lines) {
             Ok(text) => Ok(text.into_lines()),
-            Err(_) => Err(StatementError::Fault(McCode::Mc5)),
+            Err(_) => Err(StatementError::Fault(StatementCode::UnfitText)),
         },
         ElemType::Clist | ElemType::Data | ElemType::Exec | ElemType::Parm | ElemType::Proc => {
             Ok(lines)
@@ -96,9 +96,9 @@ fn text_of(
     }
 }
 
-/// What a replacement says. `Memory` comes where memory runs out. `Fault` is `Mc3` where it has anything but a name,
-/// DISTLIB and SYSLIB, each in its form; `Mc6` where the SYSMOD has 999 elements already, or the text has more than
-/// 99,999 records; and `Mc5` where there is no text, or one of a macro or source that is not numbered.
+/// What a replacement says. `Memory` comes where memory runs out. `Fault` is `UnfitOperand` where it has anything but a
+/// name, DISTLIB and SYSLIB, each in its form; `OverLimit` where the SYSMOD has 999 elements already, or the text has
+/// more than 99,999 records; and `UnfitText` where there is no text, or one of a macro or source that is not numbered.
 pub fn change_statement(
     alloc: Global,
     current: &Option<Begun>,
@@ -110,11 +110,11 @@ pub fn change_statement(
     ensures fault { Fails current.now known.now result }
 {
     let Some(names) = read_names(known) else {
-        return Err(StatementError::Fault(McCode::Mc3));
+        return Err(StatementError::Fault(StatementCode::UnfitOperand));
     };
     let inline = known.inline;
     if !is_within(current, inline) {
-        return Err(StatementError::Fault(McCode::Mc6));
+        return Err(StatementError::Fault(StatementCode::OverLimit));
     }
     let lines = match text_of(alloc, elem_type, inline) {
         Ok(lines) => lines,
@@ -147,13 +147,13 @@ fn update_of(alloc: Global, name: Name, inline: &[Record]) -> Result<Update, Sta
     match Update::read(alloc, read, name.as_bytes()) {
         Ok(update) => Ok(update),
         Err(TextError::Memory) => Err(StatementError::Memory),
-        Err(TextError::Fault(_)) => Err(StatementError::Fault(McCode::Mc5)),
+        Err(TextError::Fault(_)) => Err(StatementError::Fault(StatementCode::UnfitText)),
     }
 }
 
-/// What an update says. `Memory` comes where memory runs out. `Fault` is `Mc3` where it has anything but one name;
-/// `Mc6` where the SYSMOD has 999 elements already, or the text has more than 99,999 records; and `Mc5` where the text
-/// is no update of the element.
+/// What an update says. `Memory` comes where memory runs out. `Fault` is `UnfitOperand` where it has anything but one
+/// name; `OverLimit` where the SYSMOD has 999 elements already, or the text has more than 99,999 records; and
+/// `UnfitText` where the text is no update of the element.
 pub fn update_statement(
     alloc: Global,
     current: &Option<Begun>,
@@ -165,14 +165,14 @@ pub fn update_statement(
     ensures fault { Fails current.now known.now result }
 {
     if !known.operands.is_empty() {
-        return Err(StatementError::Fault(McCode::Mc3));
+        return Err(StatementError::Fault(StatementCode::UnfitOperand));
     }
     let Some(name) = one::<Name>(&known.first) else {
-        return Err(StatementError::Fault(McCode::Mc3));
+        return Err(StatementError::Fault(StatementCode::UnfitOperand));
     };
     let inline = known.inline;
     if !is_within(current, inline) {
-        return Err(StatementError::Fault(McCode::Mc6));
+        return Err(StatementError::Fault(StatementCode::OverLimit));
     }
     let update = match update_of(alloc, name, inline) {
         Ok(update) => update,

@@ -1,6 +1,6 @@
 //! Why a file of statements is not read.
 use std::alloc::{AllocError, AllocFailed};
-use terms::McCode;
+use terms::StatementCode;
 use thiserror::Error;
 
 /// Why a file is not read: want of memory, or its first fault with the number of the record where
@@ -10,7 +10,7 @@ pub enum McsError {
     #[error("out of memory")]
     Memory,
     #[error("record {number} is at fault")]
-    Fault { number: usize, code: McCode },
+    Fault { number: usize, code: StatementCode },
 }
 
 impl From<AllocError> for McsError {

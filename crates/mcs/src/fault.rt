@@ -4,13 +4,13 @@ ghost use Rattle.mcs.specs.Faults.{value_error};
 
 use rec80::OperandError;
 use std::alloc::{AllocError, AllocFailed};
-use terms::McCode;
+use terms::StatementCode;
 
 /// Why a statement says nothing.
 #[derive(Clone, Copy, Debug)]
 pub enum StatementError {
     Memory,
-    Fault(McCode),
+    Fault(StatementCode),
 }
 
 impl From<AllocError> for StatementError {
@@ -41,6 +41,6 @@ pub fn no_value(error: OperandError) -> StatementError
 {
     match error {
         OperandError::Memory => StatementError::Memory,
-        OperandError::Bad => StatementError::Fault(McCode::Mc3),
+        OperandError::Bad => StatementError::Fault(StatementCode::UnfitOperand),
     }
 }

@@ -6,7 +6,7 @@ ghost use Rattle.mcs.specs.FileFaults.{error_at, IsFileError};
 use crate::error::McsError;
 use crate::fault::StatementError;
 use rec80::{Groups, records};
-use terms::McCode;
+use terms::StatementCode;
 
 /// The error of a file whose statement at the record of this number has this one.
 pub fn error_at(number: usize, error: StatementError) -> McsError
@@ -18,8 +18,8 @@ pub fn error_at(number: usize, error: StatementError) -> McsError
     }
 }
 
-/// The statements of a file. `Fault` comes before all faults of theirs: `Mc1` at the first bad record, else `Mc4` at
-/// record 1, if no statement begins there. `Memory` never comes.
+/// The statements of a file. `Fault` comes before all faults of theirs: `BadStatementForm` at the first bad record,
+/// else `WrongPlace` at record 1, if no statement begins there. `Memory` never comes.
 pub fn statements(bytes: &[u8]) -> Result<Groups<'_>, McsError>
     ensures ok { IfOk result (λ groups. (groups.number ≡ 1) × HasRecords bytes.now groups.rest.now) }
     ensures fault { IfErr result (IsFileError bytes.now) }
@@ -29,14 +29,14 @@ pub fn statements(bytes: &[u8]) -> Result<Groups<'_>, McsError>
         Err(error) => {
             return Err(McsError::Fault {
                 number: error.record(),
-                code: McCode::Mc1,
+                code: StatementCode::BadStatementForm,
             });
         }
     };
     let Ok(groups) = file.groups() else {
         return Err(McsError::Fault {
             number: 1,
-            code: McCode::Mc4,
+            code: StatementCode::WrongPlace,
         });
     };
     Ok(groups)

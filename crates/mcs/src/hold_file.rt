@@ -31,9 +31,9 @@ fn read_items(alloc: Global, groups: Groups<'_>) -> Result<Vec<HoldItem>, McsErr
 }
 
 /// The holds and releases of a hold file, in its order; the holds are external. `Memory` comes where memory runs out.
-/// `Fault` is `Mc1` at the first bad record, wherever it stands; else `Mc4` at record 1, if no statement begins there;
-/// else the fault of the first faulty statement, at the record where this begins: `Mc4` also for any other known
-/// statement, and for text behind these.
+/// `Fault` is `BadStatementForm` at the first bad record, wherever it stands; else `WrongPlace` at record 1, if no
+/// statement begins there; else the fault of the first faulty statement, at the record where this begins: `WrongPlace`
+/// also for any other known statement, and for text behind these.
 pub fn read_hold(alloc: Global, bytes: &[u8]) -> Result<Vec<HoldItem>, McsError>
     ensures items { IfOk result (λ found. IsHoldFile bytes.now (items found.items)) }
     ensures good { (found : List AnyItem) → IsHoldFile bytes.now found → IfErr result (λ e. e ≡ Memory) }

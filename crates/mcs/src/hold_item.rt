@@ -15,7 +15,7 @@ use crate::hold_operands::{Release, has_short_comment, hold_of_operands, release
 use rec80::Group;
 use std::alloc::Global;
 use sysmod::Hold;
-use terms::{McCode, StatementWord};
+use terms::{StatementCode, StatementWord};
 
 /// An item of a hold file.
 #[derive(Drop)]
@@ -37,7 +37,7 @@ fn hold_item(alloc: Global, known: &Known<'_>) -> Result<HoldItem, StatementErro
         Err(error) => return Err(no_value(error)),
     };
     if !has_short_comment(&hold) {
-        return Err(StatementError::Fault(McCode::Mc6));
+        return Err(StatementError::Fault(StatementCode::OverLimit));
     }
     Ok(HoldItem::Hold(hold))
 }
@@ -52,13 +52,14 @@ fn release_item(known: &Known<'_>) -> Result<HoldItem, StatementError>
 {
     match release_of_operands(known) {
         Ok(release) => Ok(HoldItem::Release(release)),
-        Err(_) => Err(StatementError::Fault(McCode::Mc3)),
+        Err(_) => Err(StatementError::Fault(StatementCode::UnfitOperand)),
     }
 }
 
 /// What a statement of a hold file says. `Memory` comes where memory runs out, and `Fault` has the first that applies
-/// of `Mc1` for its form, `Mc2` for its word, `Mc4` for text behind it and for any word but `++HOLD` and `++RELEASE`,
-/// `Mc3` for an operand, and `Mc6` for a comment of more than 200 characters.
+/// of `BadStatementForm` for its form, `UnknownStatementWord` for its word, `WrongPlace` for text behind it and for any
+/// word but `++HOLD` and `++RELEASE`, `UnfitOperand` for an operand, and `OverLimit` for a comment of more than 200
+/// characters.
 pub(crate) fn read_item(alloc: Global, group: &Group<'_>) -> Result<HoldItem, StatementError>
     ensures good { IfOk result (λ item. IsGoodItem group.now.records.now (item_of item)) }
     ensures fault { All IsRecord group.now.records.now → IfErr result (IsItemError group.now.records.now) }
@@ -68,11 +69,11 @@ pub(crate) fn read_item(alloc: Global, group: &Group<'_>) -> Result<HoldItem, St
         Err(error) => return Err(error),
     };
     if !known.inline.is_empty() {
-        return Err(StatementError::Fault(McCode::Mc4));
+        return Err(StatementError::Fault(StatementCode::WrongPlace));
     }
     match known.word {
         StatementWord::Hold => hold_item(alloc, &known),
         StatementWord::Release => release_item(&known),
-        _ => Err(StatementError::Fault(McCode::Mc4)),
+        _ => Err(StatementError::Fault(StatementCode::WrongPlace)),
     }
 }

@@ -20,7 +20,7 @@ use crate::said::Statement;
 use rec80::OperandError;
 use std::alloc::Global;
 use sysmod::{Hold, Sysmod};
-use terms::{HoldKind, McCode};
+use terms::{HoldKind, StatementCode};
 
 /// Whether it is a SYSTEM hold of the SYSMOD.
 fn is_own(sysmod: &Sysmod, hold: &Hold) -> bool
@@ -48,9 +48,9 @@ fn read_own_hold(alloc: Global, sysmod: &Sysmod, known: &Known<'_>) -> Result<Ho
     Ok(hold)
 }
 
-/// What a `++HOLD` in a SYSMOD says. `Memory` comes where memory runs out. `Fault` is `Mc3` where no SYSMOD is begun,
-/// where an operand is unknown, comes twice, has not its form or is missing, and where it is no SYSTEM hold of this
-/// SYSMOD; and `Mc6` where its comment has more than 200 characters.
+/// What a `++HOLD` in a SYSMOD says. `Memory` comes where memory runs out. `Fault` is `UnfitOperand` where no SYSMOD is
+/// begun, where an operand is unknown, comes twice, has not its form or is missing, and where it is no SYSTEM hold of
+/// this SYSMOD; and `OverLimit` where its comment has more than 200 characters.
 pub fn hold_statement(
     alloc: Global,
     current: &Option<Begun>,
@@ -61,14 +61,14 @@ pub fn hold_statement(
     ensures fault { FailsPrintable current.now known.now result }
 {
     let Some(begun) = current else {
-        return Err(StatementError::Fault(McCode::Mc3));
+        return Err(StatementError::Fault(StatementCode::UnfitOperand));
     };
     let hold = match read_own_hold(alloc, &begun.sysmod, known) {
         Ok(hold) => hold,
         Err(error) => return Err(no_value(error)),
     };
     if !has_short_comment(&hold) {
-        return Err(StatementError::Fault(McCode::Mc6));
+        return Err(StatementError::Fault(StatementCode::OverLimit));
     }
     Ok(Statement::Hold(hold))
 }

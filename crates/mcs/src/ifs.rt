@@ -20,7 +20,7 @@ use fields::Id;
 use rec80::{OperandError, Word, ids, one};
 use std::alloc::Global;
 use sysmod::{IfReq, Sysmod, Ver};
-use terms::McCode;
+use terms::StatementCode;
 
 /// Whether the word is this one.
 fn is_named(word: &Word<'_>, name: &[u8]) -> bool
@@ -130,9 +130,9 @@ fn is_within(begun: &Begun, condition: &IfReq) -> bool
     has_place(begun) && condition.req.len() <= 1000
 }
 
-/// What an `++IF` says. `Memory` comes where memory runs out. `Fault` is `Mc3` where no SYSMOD is begun, where it has
-/// not FMID, THEN and REQ in this order, each in its form, and where REQ names the SYSMOD itself; and `Mc6` where the
-/// last `++VER` has 100 `++IF`s already, or REQ has more than 1,000 ids.
+/// What an `++IF` says. `Memory` comes where memory runs out. `Fault` is `UnfitOperand` where no SYSMOD is begun, where
+/// it has not FMID, THEN and REQ in this order, each in its form, and where REQ names the SYSMOD itself; and
+/// `OverLimit` where the last `++VER` has 100 `++IF`s already, or REQ has more than 1,000 ids.
 pub fn if_statement(
     alloc: Global,
     current: &Option<Begun>,
@@ -143,17 +143,17 @@ pub fn if_statement(
     ensures fault { Fails current.now known.now result }
 {
     let Some(begun) = current else {
-        return Err(StatementError::Fault(McCode::Mc3));
+        return Err(StatementError::Fault(StatementCode::UnfitOperand));
     };
     let Some(words) = known.operands.only() else {
-        return Err(StatementError::Fault(McCode::Mc3));
+        return Err(StatementError::Fault(StatementCode::UnfitOperand));
     };
     let condition = match read_if(alloc, &begun.sysmod, known, words) {
         Ok(condition) => condition,
         Err(error) => return Err(no_value(error)),
     };
     if !is_within(begun, &condition) {
-        return Err(StatementError::Fault(McCode::Mc6));
+        return Err(StatementError::Fault(StatementCode::OverLimit));
     }
     Ok(Statement::If(condition))
 }

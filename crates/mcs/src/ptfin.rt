@@ -32,9 +32,9 @@ fn read_statements(alloc: Global, groups: Groups<'_>) -> Result<SoFar, McsError>
     Ok(made)
 }
 
-/// The items of a PTFIN, in the order of the file. `Memory` comes where memory runs out. `Fault` is `Mc1` at the first
-/// bad record, wherever it stands; else `Mc4` at record 1, if no statement begins there; else the fault of the first
-/// faulty statement, at the record where this begins.
+/// The items of a PTFIN, in the order of the file. `Memory` comes where memory runs out. `Fault` is `BadStatementForm`
+/// at the first bad record, wherever it stands; else `WrongPlace` at record 1, if no statement begins there; else the
+/// fault of the first faulty statement, at the record where this begins.
 pub fn read_ptfin(alloc: Global, bytes: &[u8]) -> Result<Vec<Item>, McsError>
     ensures items { IfOk result (λ found. IsPtfin bytes.now (items found.items)) }
     ensures good { (found : List AnyItem) → IsPtfin bytes.now found → IfErr result (λ e. e ≡ Memory) }

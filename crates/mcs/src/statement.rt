@@ -20,7 +20,7 @@ use crate::said::Statement;
 use crate::ver::ver_statement;
 use rec80::{Group, Record};
 use std::alloc::Global;
-use terms::{ElemType, McCode, StatementWord};
+use terms::{ElemType, StatementCode, StatementWord};
 
 /// What a statement of this word says.
 fn said_by(
@@ -37,7 +37,7 @@ fn said_by(
         StatementWord::Ver => ver_statement(alloc, current, known),
         StatementWord::If => if_statement(alloc, current, known),
         StatementWord::Hold => hold_statement(alloc, current, known),
-        StatementWord::Release => Err(StatementError::Fault(McCode::Mc4)),
+        StatementWord::Release => Err(StatementError::Fault(StatementCode::WrongPlace)),
         StatementWord::Assign => assign_statement(alloc, current, known),
         StatementWord::Replace(elem_type) => change_statement(alloc, current, elem_type, known),
         StatementWord::UpdateMac => update_statement(alloc, current, ElemType::Mac, known),
@@ -46,8 +46,8 @@ fn said_by(
 }
 
 /// What a statement says behind those so far. `Memory` comes where memory runs out, and `Fault` has the first that
-/// applies of `Mc1` for its form, `Mc2` for its word, `Mc4` for its place, and of `Mc3` for an operand, `Mc6` for a
-/// limit and `Mc5` for its text.
+/// applies of `BadStatementForm` for its form, `UnknownStatementWord` for its word, `WrongPlace` for its place, and of
+/// `UnfitOperand` for an operand, `OverLimit` for a limit and `UnfitText` for its text.
 pub fn read_statement(
     alloc: Global,
     current: &Option<Begun>,
@@ -64,7 +64,7 @@ pub fn read_statement(
         Err(error) => return Err(error),
     };
     if is_misplaced(current, later, &known) {
-        return Err(StatementError::Fault(McCode::Mc4));
+        return Err(StatementError::Fault(StatementCode::WrongPlace));
     }
     said_by(alloc, current, &known)
 }

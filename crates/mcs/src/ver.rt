@@ -22,7 +22,7 @@ use fields::{Id, IdList, Srel};
 use rec80::{OperandError, Word, one, operand, optional};
 use std::alloc::Global;
 use sysmod::{Sysmod, Ver};
-use terms::{Kind, McCode};
+use terms::{Kind, StatementCode};
 
 /// The operands of `++VER`.
 const OPERANDS: &[&[u8]] = &[b"FMID", b"PRE", b"REQ", b"SUP", b"NPRE", b"DELETE"];
@@ -184,10 +184,10 @@ fn is_within(sysmod: &Sysmod, ver: &Ver) -> bool
     sysmod.vers.len() < 8 && are_short(ver)
 }
 
-/// What a `++VER` says. `Memory` comes where memory runs out. `Fault` is `Mc3` where no SYSMOD is begun, where an
-/// operand is unknown, comes twice or has not its form, where service has no FMID or has NPRE or DELETE, and where an
-/// operand names the SYSMOD itself; and `Mc6` where the SYSMOD has 8 `++VER`s already, or a list has more than 1,000
-/// ids.
+/// What a `++VER` says. `Memory` comes where memory runs out. `Fault` is `UnfitOperand` where no SYSMOD is begun, where
+/// an operand is unknown, comes twice or has not its form, where service has no FMID or has NPRE or DELETE, and where
+/// an operand names the SYSMOD itself; and `OverLimit` where the SYSMOD has 8 `++VER`s already, or a list has more than
+/// 1,000 ids.
 pub fn ver_statement(
     alloc: Global,
     current: &Option<Begun>,
@@ -198,17 +198,17 @@ pub fn ver_statement(
     ensures fault { Fails current.now known.now result }
 {
     let Some(begun) = current else {
-        return Err(StatementError::Fault(McCode::Mc3));
+        return Err(StatementError::Fault(StatementCode::UnfitOperand));
     };
     let Some(words) = known.operands.named(OPERANDS) else {
-        return Err(StatementError::Fault(McCode::Mc3));
+        return Err(StatementError::Fault(StatementCode::UnfitOperand));
     };
     let ver = match read_ver(alloc, &begun.sysmod, known, words) {
         Ok(ver) => ver,
         Err(error) => return Err(no_value(error)),
     };
     if !is_within(&begun.sysmod, &ver) {
-        return Err(StatementError::Fault(McCode::Mc6));
+        return Err(StatementError::Fault(StatementCode::OverLimit));
     }
     Ok(Statement::Ver(ver))
 }

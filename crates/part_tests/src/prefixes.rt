@@ -5,7 +5,7 @@ use cntl::{CntlError, read_cntl};
 use mcs::{McsError, read_ptfin};
 use std::alloc::Global;
 use std::test::Fail;
-use terms::{CnCode, McCode};
+use terms::{CommandCode, StatementCode};
 
 /// A PTF, in two records.
 const PTFIN: &str = "++PTF(UA00024).|++VER(Z038) FMID(HAA1100).";
@@ -16,16 +16,16 @@ const CNTL: &str = "SET BDY(GLOBAL).|RECEIVE SYSMODS.|SET BDY(TGT1).|APPLY SELEC
 
 /// Of a PTFIN that is cut behind so many whole records and so many bytes of the next: how many items it has, or its
 /// fault. A cut record is no record; a header needs a statement behind it.
-fn ptfin_wanted(whole: usize, more: usize) -> Result<usize, (usize, McCode)> {
+fn ptfin_wanted(whole: usize, more: usize) -> Result<usize, (usize, StatementCode)> {
     match (whole, more) {
         (0, 0) => Ok(0),
-        (1, 0) => Err((1, McCode::Mc4)),
+        (1, 0) => Err((1, StatementCode::WrongPlace)),
         (_, 0) => Ok(1),
-        _ => Err((whole.saturating_add(1), McCode::Mc1)),
+        _ => Err((whole.saturating_add(1), StatementCode::BadStatementForm)),
     }
 }
 
-fn ptfin_got(alloc: Global, bytes: &[u8]) -> Result<usize, (usize, McCode)> {
+fn ptfin_got(alloc: Global, bytes: &[u8]) -> Result<usize, (usize, StatementCode)> {
     match read_ptfin(alloc, bytes) {
         Ok(items) => Ok(items.len()),
         Err(McsError::Fault { number, code }) => Err((number, code)),
@@ -34,14 +34,14 @@ fn ptfin_got(alloc: Global, bytes: &[u8]) -> Result<usize, (usize, McCode)> {
 }
 
 /// The same of the command file, in which each whole record is a command.
-fn cntl_wanted(whole: usize, more: usize) -> Result<usize, (usize, CnCode)> {
+fn cntl_wanted(whole: usize, more: usize) -> Result<usize, (usize, CommandCode)> {
     if more == 0 {
         return Ok(whole);
     }
-    Err((whole.saturating_add(1), CnCode::Cn5))
+    Err((whole.saturating_add(1), CommandCode::BadCommandForm))
 }
 
-fn cntl_got(alloc: Global, bytes: &[u8]) -> Result<usize, (usize, CnCode)> {
+fn cntl_got(alloc: Global, bytes: &[u8]) -> Result<usize, (usize, CommandCode)> {
     match read_cntl(alloc, bytes) {
         Ok(commands) => Ok(commands.len()),
         Err(CntlError::Fault { number, code }) => Err((number, code)),

@@ -62,18 +62,18 @@ fn updates_are_merged_into_texts(rt: HostRuntime) -> Result<(), Fail> {
 type Faulty = (&'static [&'static str], usize, TextCode);
 
 const TEXTS: &[Faulty] = &[
-    (&[TEN, "U"], 2, TextCode::Tx1),
-    (&[TEN, TWENTY, TWENTY], 3, TextCode::Tx2),
+    (&[TEN, "U"], 2, TextCode::NoNumber),
+    (&[TEN, TWENTY, TWENTY], 3, TextCode::FallingNumber),
 ];
 
 const UPDATES: &[Faulty] = &[
-    (&[CHANGE, TEN, "U"], 3, TextCode::Tx1),
-    (&[], 1, TextCode::Tx3),
-    (&[TEN, CHANGE], 1, TextCode::Tx3),
-    (&["./ CHANGE NAME=M2"], 1, TextCode::Tx4),
-    (&[CHANGE, TEN, DELETE_BACK], 3, TextCode::Tx5),
-    (&[CHANGE, CHANGE], 2, TextCode::Tx5),
-    (&[CHANGE, TWENTY, TEN], 3, TextCode::Tx6),
+    (&[CHANGE, TEN, "U"], 3, TextCode::NoNumber),
+    (&[], 1, TextCode::NoChange),
+    (&[TEN, CHANGE], 1, TextCode::NoChange),
+    (&["./ CHANGE NAME=M2"], 1, TextCode::OtherElement),
+    (&[CHANGE, TEN, DELETE_BACK], 3, TextCode::BadDelete),
+    (&[CHANGE, CHANGE], 2, TextCode::BadDelete),
+    (&[CHANGE, TWENTY, TEN], 3, TextCode::FallingUpdate),
 ];
 
 fn text_fault(alloc: Global, cards: &[&str]) -> Result<Option<TextFault>, AllocError> {

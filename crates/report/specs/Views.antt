@@ -20,11 +20,11 @@ abbrev pub header_view : Header → machine.Header
 header_view h = record { word = h.word; boundary = h.boundary; check = h.check }
 
 abbrev pub refusal_view : Refusal → machine.Refusal
-refusal_view refusal.NoBoundary = machine.Cm1
-refusal_view refusal.NoZone = machine.Cm2
-refusal_view refusal.WrongKind = machine.Cm3
-refusal_view (refusal.Ptfin number code) = machine.Cm4 number code
-refusal_view (refusal.HoldFile number code) = machine.Cm5 number code
+refusal_view refusal.NoBoundary = machine.BoundaryLacking
+refusal_view refusal.NoZone = machine.ZoneLacking
+refusal_view refusal.WrongKind = machine.BoundaryUnfit
+refusal_view (refusal.Ptfin number code) = machine.PtfinFaulty number code
+refusal_view (refusal.HoldFile number code) = machine.HoldFileFaulty number code
 
 abbrev pub place_view : Place → machine.Place
 place_view (place.Kind kind) = machine.OfKind kind

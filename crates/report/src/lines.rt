@@ -19,7 +19,7 @@ use fields::spelling::{
     hold_text, kind_text, mc_text, need_text, refusal_text, test_text, word_text,
 };
 use fields::{Id, ZoneName};
-use terms::McCode;
+use terms::StatementCode;
 
 fn zone_text(zone: &Option<ZoneName>) -> &[u8]
     ensures { result.now ≡ optional_text zone.now }
@@ -44,7 +44,7 @@ pub(crate) fn put_header<W: Sink>(header: &Header, page: &mut Page<'_, W>)
 }
 
 /// The place of a fault, and its code.
-fn put_fault<W: Sink>(word: &[u8], number: usize, code: McCode, page: &mut Page<'_, W>)
+fn put_fault<W: Sink>(word: &[u8], number: usize, code: StatementCode, page: &mut Page<'_, W>)
     ensures { Paged W.Sink page.old page.new
         (words_line (codes "REFUSED" ∷ word.now ∷ codes "RECORD" ∷ decimal number ∷ mc_text code ∷ [])) }
 {

@@ -3,7 +3,7 @@
 use decide::Failure;
 use fields::{Id, Reason, Source, ZoneName};
 use sysmods::GlobalZone;
-use terms::{CnCode, CommandWord, HoldKind, IdRefusal, Kind, McCode};
+use terms::{CommandCode, CommandWord, HoldKind, IdRefusal, Kind, StatementCode};
 use zones::Zone;
 
 /// The first line of a report. Of SET the boundary is the zone that it names.
@@ -24,9 +24,9 @@ pub enum Refusal {
     /// `Cm3`: the boundary suits other commands.
     WrongKind,
     /// `Cm4`: a fault of PTFIN, at the record where the statement begins.
-    Ptfin { number: usize, code: McCode },
+    Ptfin { number: usize, code: StatementCode },
     /// `Cm5`: the same of the hold file.
-    HoldFile { number: usize, code: McCode },
+    HoldFile { number: usize, code: StatementCode },
 }
 
 /// What stands behind the id of a status line.
@@ -100,6 +100,6 @@ pub enum Outcome<'a> {
     },
     Control {
         number: usize,
-        code: CnCode,
+        code: CommandCode,
     },
 }

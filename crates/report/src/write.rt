@@ -25,7 +25,7 @@ fn line_code(line: &Line) -> u8
         Line::Nothing | Line::Errsysmod { .. } => 4,
         Line::Status { status, .. } => match status {
             Status::Already | Status::Unknown => 4,
-            Status::Refused(IdRefusal::Rl1 | IdRefusal::Rl2) => 4,
+            Status::Refused(IdRefusal::NoSuchHold | IdRefusal::CameAlong) => 4,
             Status::Refused(_) => 8,
             Status::Failed(_) | Status::Deleted | Status::Missing => 8,
             Status::NoVer | Status::NotApplied => 8,

@@ -8,7 +8,7 @@ use Rattle.std.proofs.KnownBytes.{Appends-nil}
 use Rattle.std.proofs.lemmas.Result.{err_from_is_err_and}
 use Rattle.sqlite.specs.Store.{Ghosts}
 use Rattle.sqlite.specs.Held.{Held}
-use Rattle.terms.specs.declared.codes.CnCode.{CnCode}
+use Rattle.terms.specs.declared.codes.CommandCode.{CommandCode}
 use Rattle.terms.specs.Types.{Text, Command}
 use Rattle.terms.specs.Commands.{CntlFault, IsCommandFile, IsCommandFileFault}
 use Rattle.machine.specs.State.{State, ZoneDefinition, define_zone}
@@ -50,7 +50,8 @@ unset s = record s { boundary = None }
 abbrev control : CntlFault → ControlFault
 control fault = record { number = fault.number; code = fault.code }
 
-pub control_same : {n m : ℕ} {a b : CnCode} → n ≡ m → a ≡ b → text (Control (record { number = n; code = a })) ≡ text
+pub control_same : {n m : ℕ} {a b : CommandCode} → n ≡ m → a ≡ b → text (Control (record { number = n; code = a }))
+    ≡ text
     (Control (record { number = m; code = b }))
 control_same {n} {m} {a} {b} numbers codes = ap (λ k. text (Control (record { number = k; code = a }))) numbers
     ∙ ap (λ k. text (Control (record { number = m; code = k }))) codes

@@ -2,7 +2,7 @@
 use Rattle.std.proofs.Common.{◌≡◌, ◌∙◌, [], ◌∷◌, ◌++◌, refl, sym, ap, subst, Option, None, Some, Ok, Err, All, map}
 use Rattle.std.proofs.lemmas.List.Elements.{All-nil, All-cons, All-map}
 use Rattle.terms.specs.Types.{Text, Global, Sysmod, ASysmod}
-use Rattle.terms.specs.Global.{IsSysmod, Rc1}
+use Rattle.terms.specs.Global.{IsSysmod, AlreadyReceived}
 use Rattle.machine.specs.Outcome.{OfKind, StatusLine}
 use Rattle.machine.specs.Receiving.{TakesItem, sourced, receive_status}
 use Rattle.sysmods.specs.declared.faults.ReceiveFault.{ReceiveFault}
@@ -35,7 +35,7 @@ module _ (source : Option Text) (g new : Global) (s : Sysmod) (line : Line) (was
     lines_are = told;
     prints = (Ok new, (free, came), refl, ap (λ l. l ∷ []) printed);
     receives = writes_receive (sourced source s);
-    fits = sysmod_fits g (sourced source s) (free Rc1);
+    fits = sysmod_fits g (sourced source s) (free AlreadyReceived);
     after = sysmod_makes g (sourced source s) known ∙ sym came;
   }
   sysmod_taken (Some fault) written known (first, same) printed = record {

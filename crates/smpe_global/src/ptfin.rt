@@ -35,10 +35,10 @@ fn status_of(refused: Option<ReceiveFault>) -> Status
 {
     match refused {
         None => Status::Received,
-        Some(ReceiveFault::Rc1) => Status::Already,
-        Some(ReceiveFault::Rc2) => Status::Refused(IdRefusal::Rc2),
-        Some(ReceiveFault::Rc3) => Status::Refused(IdRefusal::Rc3),
-        Some(ReceiveFault::Rc4) => Status::Refused(IdRefusal::Rc4),
+        Some(ReceiveFault::AlreadyReceived) => Status::Already,
+        Some(ReceiveFault::MakesLoop) => Status::Refused(IdRefusal::MakesLoop),
+        Some(ReceiveFault::OtherRole) => Status::Refused(IdRefusal::OtherRole),
+        Some(ReceiveFault::NoRoom) => Status::Refused(IdRefusal::NoRoom),
     }
 }
 

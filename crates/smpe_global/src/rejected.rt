@@ -46,10 +46,10 @@ fn take_out(
 {
     global.attest();
     if !global.is_received(id) {
-        return Ok(Status::Refused(IdRefusal::Rj2));
+        return Ok(Status::Refused(IdRefusal::NotThere));
     }
     if is_applied(zones, id) {
-        return Ok(Status::Refused(IdRefusal::Rj1));
+        return Ok(Status::Refused(IdRefusal::AppliedSomewhere));
     }
     write_rejected(edits, global, id)?;
     let _ = global.reject(id);

@@ -8,7 +8,9 @@ use Rattle.std.proofs.lemmas.List.Elements.{Contains-get_or}
 use Rattle.std.proofs.lemmas.Option.{slice_get-map, get_or_from_slice_get}
 use Rattle.terms.proofs.Places.{at_place, found_at}
 use Rattle.terms.specs.declared.codes.Test.{Test}
-use Rattle.terms.specs.declared.codes.Test.TheVariants.{J1, J2, J3, J4, J5, J6, J7, J8, J9, J10, J11, J12, J13}
+use Rattle.terms.specs.declared.codes.Test.TheVariants.{HeldBySystem, HeldByUser, ForbiddenByNpre, OwnedByAnother}
+use Rattle.terms.specs.declared.codes.Test.TheVariants.{UnrelatedLevel, NothingToUpdate, NotInTarget, ChainDeleted}
+use Rattle.terms.specs.declared.codes.Test.TheVariants.{InClash, AlreadyAccepted, HasDelete, UnappliedLevel, SeveralFit}
 use Rattle.terms.specs.Types.{Id, Zone}
 use Rattle.terms.specs.Tests.{Setting, Fails, FailsAlone, IsEligible, AreSurvivors}
 use Rattle.terms.specs.Failures.{all_tests}
@@ -41,38 +43,38 @@ tests_are s rows failed = same_lists rows (map row s.cands) (failed.lengths ∙ 
 eligible_is : (s : Setting) (x : Id) → IsEligible s x ↔ (Contains s.cands x × ((t : Test) → ¬ Fails s x t))
 eligible_is s x = (
   λ e. (e.0.0.0, passes e),
-  λ both. (((both.0, alone both.1), both.1 J8), both.1 J9),
+  λ both. (((both.0, alone both.1), both.1 ChainDeleted), both.1 InClash),
 )
   where
     passes : IsEligible s x → (t : Test) → ¬ Fails s x t
-    passes e J1 = e.0.0.1 J1
-    passes e J2 = e.0.0.1 J2
-    passes e J3 = e.0.0.1 J3
-    passes e J4 = e.0.0.1 J4
-    passes e J5 = e.0.0.1 J5
-    passes e J6 = e.0.0.1 J6
-    passes e J7 = e.0.0.1 J7
-    passes e J8 = e.0.1
-    passes e J9 = e.1
-    passes e J10 = λ f. f
-    passes e J11 = λ f. f
-    passes e J12 = λ f. f
-    passes e J13 = e.0.0.1 J13
+    passes e HeldBySystem = e.0.0.1 HeldBySystem
+    passes e HeldByUser = e.0.0.1 HeldByUser
+    passes e ForbiddenByNpre = e.0.0.1 ForbiddenByNpre
+    passes e OwnedByAnother = e.0.0.1 OwnedByAnother
+    passes e UnrelatedLevel = e.0.0.1 UnrelatedLevel
+    passes e NothingToUpdate = e.0.0.1 NothingToUpdate
+    passes e NotInTarget = e.0.0.1 NotInTarget
+    passes e ChainDeleted = e.0.1
+    passes e InClash = e.1
+    passes e AlreadyAccepted = λ f. f
+    passes e HasDelete = λ f. f
+    passes e UnappliedLevel = λ f. f
+    passes e SeveralFit = e.0.0.1 SeveralFit
 
     alone : ((t : Test) → ¬ Fails s x t) → (t : Test) → ¬ FailsAlone s x t
-    alone none J1 = none J1
-    alone none J2 = none J2
-    alone none J3 = none J3
-    alone none J4 = none J4
-    alone none J5 = none J5
-    alone none J6 = none J6
-    alone none J7 = none J7
-    alone none J8 = λ f. f
-    alone none J9 = λ f. f
-    alone none J10 = λ f. f
-    alone none J11 = λ f. f
-    alone none J12 = λ f. f
-    alone none J13 = none J13
+    alone none HeldBySystem = none HeldBySystem
+    alone none HeldByUser = none HeldByUser
+    alone none ForbiddenByNpre = none ForbiddenByNpre
+    alone none OwnedByAnother = none OwnedByAnother
+    alone none UnrelatedLevel = none UnrelatedLevel
+    alone none NothingToUpdate = none NothingToUpdate
+    alone none NotInTarget = none NotInTarget
+    alone none ChainDeleted = λ f. f
+    alone none InClash = λ f. f
+    alone none AlreadyAccepted = λ f. f
+    alone none HasDelete = λ f. f
+    alone none UnappliedLevel = λ f. f
+    alone none SeveralFit = none SeveralFit
 
 module _ (scope : Scope) (related : Option Zone) where
   abbrev s : Setting
@@ -105,7 +107,10 @@ module _ (scope : Scope) (related : Option Zone) where
               λ need. member.1 (own, open_is.0 need),
             );
         serves = λ x y z kind own need there.
-            let asked = (are_needs.members x kind z).1 (own, (needs_open scope related survivors x kind z own).0 need) in (
+            let asked = (are_needs.members x kind z).1 (
+              own,
+              (needs_open scope related survivors x kind z own).0 need,
+            ) in (
               λ by. elim by [ inl same ↦ inl same | inr pair ↦ inr (pair.0, ((over y z).0 pair.1).1.1) ],
               λ by. elim by [
                 | inl same ↦ inl same

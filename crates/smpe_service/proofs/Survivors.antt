@@ -11,7 +11,9 @@ use Rattle.terms.proofs.ListMembers.{here, here_or, there, none_in, in_filter, f
 use Rattle.terms.proofs.Places.{contains_at, found_at}
 use Rattle.terms.proofs.Searches.{all_pass, passes_all}
 use Rattle.terms.specs.declared.codes.Test.{Test}
-use Rattle.terms.specs.declared.codes.Test.TheVariants.{J1, J2, J3, J4, J5, J6, J7, J8, J9, J10, J11, J12, J13}
+use Rattle.terms.specs.declared.codes.Test.TheVariants.{HeldBySystem, HeldByUser, ForbiddenByNpre, OwnedByAnother}
+use Rattle.terms.specs.declared.codes.Test.TheVariants.{UnrelatedLevel, NothingToUpdate, NotInTarget, ChainDeleted}
+use Rattle.terms.specs.declared.codes.Test.TheVariants.{InClash, AlreadyAccepted, HasDelete, UnappliedLevel, SeveralFit}
 use Rattle.terms.specs.Types.{Id}
 use Rattle.terms.specs.Lookups.{IsRising}
 use Rattle.terms.specs.Tests.{Setting, AreSurvivors, Survives, FailsAlone, Fails}
@@ -95,24 +97,24 @@ module _ (ids : List Id) (rows : List (List Test)) where
 
 -- each test is one of all
 among : (t : Test) → Contains all_tests t
-among J1 = (0, omega arith, refl)
-among J2 = (1, omega arith, refl)
-among J3 = (2, omega arith, refl)
-among J4 = (3, omega arith, refl)
-among J5 = (4, omega arith, refl)
-among J6 = (5, omega arith, refl)
-among J7 = (6, omega arith, refl)
-among J8 = (7, omega arith, refl)
-among J9 = (8, omega arith, refl)
-among J10 = (9, omega arith, refl)
-among J11 = (10, omega arith, refl)
-among J12 = (11, omega arith, refl)
-among J13 = (12, omega arith, refl)
+among HeldBySystem = (0, omega arith, refl)
+among HeldByUser = (1, omega arith, refl)
+among ForbiddenByNpre = (2, omega arith, refl)
+among OwnedByAnother = (3, omega arith, refl)
+among UnrelatedLevel = (4, omega arith, refl)
+among NothingToUpdate = (5, omega arith, refl)
+among NotInTarget = (6, omega arith, refl)
+among ChainDeleted = (7, omega arith, refl)
+among InClash = (8, omega arith, refl)
+among AlreadyAccepted = (9, omega arith, refl)
+among HasDelete = (10, omega arith, refl)
+among UnappliedLevel = (11, omega arith, refl)
+among SeveralFit = (12, omega arith, refl)
 
 module _ (s : Setting) (rows : List (List Test)) (failed : AreFailedTests s rows) where
   -- what fails only that test survives
   surviving : (x : Id) → SurvivesIn s.cands rows (length s.cands) x → Survives s x
-  surviving x h = ((contains_at s.cands h.place x h.at, alone), λ j8. off J8 refl j8)
+  surviving x h = ((contains_at s.cands h.place x h.at, alone), λ j8. off ChainDeleted refl j8)
     where
       row : h.row ≡ filter (failed.fails x) all_tests
       row = same_Some h.row (filter (failed.fails x) all_tests) (sym h.row_at ∙ failed.rows_are h.place x h.at)
@@ -123,19 +125,19 @@ module _ (s : Setting) (rows : List (List Test)) (failed : AreFailedTests s rows
           (in_filter (failed.fails x) all_tests t (among t) ((failed.failed h.place x h.at t).1 fails))) ∙ other)
 
       alone : (t : Test) → ¬ FailsAlone s x t
-      alone J1 = off J1 refl
-      alone J2 = off J2 refl
-      alone J3 = off J3 refl
-      alone J4 = off J4 refl
-      alone J5 = off J5 refl
-      alone J6 = off J6 refl
-      alone J7 = off J7 refl
-      alone J8 = λ e. e
-      alone J9 = λ e. e
-      alone J10 = λ e. e
-      alone J11 = λ e. e
-      alone J12 = λ e. e
-      alone J13 = off J13 refl
+      alone HeldBySystem = off HeldBySystem refl
+      alone HeldByUser = off HeldByUser refl
+      alone ForbiddenByNpre = off ForbiddenByNpre refl
+      alone OwnedByAnother = off OwnedByAnother refl
+      alone UnrelatedLevel = off UnrelatedLevel refl
+      alone NothingToUpdate = off NothingToUpdate refl
+      alone NotInTarget = off NotInTarget refl
+      alone ChainDeleted = λ e. e
+      alone InClash = λ e. e
+      alone AlreadyAccepted = λ e. e
+      alone HasDelete = λ e. e
+      alone UnappliedLevel = λ e. e
+      alone SeveralFit = off SeveralFit refl
 
   -- a survivor fails only that test
   survives : (x : Id) → Survives s x → SurvivesIn s.cands rows (length s.cands) x
@@ -151,19 +153,19 @@ module _ (s : Setting) (rows : List (List Test)) (failed : AreFailedTests s rows
       }
     where
       only : (t : Test) → Fails s x t → is_clash t ≡ true
-      only J1 f = absurd (h.0.1 J1 f)
-      only J2 f = absurd (h.0.1 J2 f)
-      only J3 f = absurd (h.0.1 J3 f)
-      only J4 f = absurd (h.0.1 J4 f)
-      only J5 f = absurd (h.0.1 J5 f)
-      only J6 f = absurd (h.0.1 J6 f)
-      only J7 f = absurd (h.0.1 J7 f)
-      only J8 f = absurd (h.1 f)
-      only J9 f = refl
-      only J10 f = absurd f
-      only J11 f = absurd f
-      only J12 f = absurd f
-      only J13 f = absurd (h.0.1 J13 f)
+      only HeldBySystem f = absurd (h.0.1 HeldBySystem f)
+      only HeldByUser f = absurd (h.0.1 HeldByUser f)
+      only ForbiddenByNpre f = absurd (h.0.1 ForbiddenByNpre f)
+      only OwnedByAnother f = absurd (h.0.1 OwnedByAnother f)
+      only UnrelatedLevel f = absurd (h.0.1 UnrelatedLevel f)
+      only NothingToUpdate f = absurd (h.0.1 NothingToUpdate f)
+      only NotInTarget f = absurd (h.0.1 NotInTarget f)
+      only ChainDeleted f = absurd (h.1 f)
+      only InClash f = refl
+      only AlreadyAccepted f = absurd f
+      only HasDelete f = absurd f
+      only UnappliedLevel f = absurd f
+      only SeveralFit f = absurd (h.0.1 SeveralFit f)
 
   pub survivors_are : (xs : List Id) → IsRising xs
       → ((x : Id) → Contains xs x ↔ SurvivesIn s.cands rows (length s.cands) x) → AreSurvivors s xs

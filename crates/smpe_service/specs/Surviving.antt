@@ -2,12 +2,12 @@
 use Rattle.std.specs.Prelude.{◌≡◌, ◌<◌, ℕ, Bool, true, false, List, Some, slice_get, IsTrue}
 use Rattle.std.specs.List.{list_all}
 use Rattle.terms.specs.declared.codes.Test.{Test}
-use Rattle.terms.specs.declared.codes.Test.TheVariants.{J9}
+use Rattle.terms.specs.declared.codes.Test.TheVariants.{InClash}
 use Rattle.terms.specs.Types.{Id}
 
 -- whether it is the test that survivors alone fail
 abbrev pub is_clash : Test → Bool
-is_clash J9 = true
+is_clash InClash = true
 is_clash _ = false
 
 -- the candidate stands in front of a place, and fails at most that test

@@ -13,7 +13,7 @@ use terms::Test;
 fn is_clash(test: Test) -> bool
     ensures { result ≡ is_clash test }
 {
-    matches!(test, Test::J9)
+    matches!(test, Test::InClash)
 }
 
 fn only_clashes(failed: &[Test]) -> bool

@@ -1,6 +1,6 @@
 -- What RECEIVE finds in its files, and what it makes of the global zone.
 use Rattle.std.specs.Prelude.{◌≡◌, ℕ, Bool, All, IsTrue, List, ◌++◌, Option, Result, Ok, Err}
-use Rattle.terms.specs.declared.codes.McCode.{McCode}
+use Rattle.terms.specs.declared.codes.StatementCode.{StatementCode}
 use Rattle.terms.specs.Types.{Text, Global, Item, HoldItem, ReceiveWhat, Receive}
 use Rattle.terms.specs.Ptfin.{McsFault, IsPtfin}
 use Rattle.terms.specs.HoldFile.{IsHoldFile}
@@ -18,7 +18,7 @@ use Rattle.smpe_global.specs.Edits.{IsOfReceive}
 
 -- A file has these items where it is read, or else it has the first fault that is refused.
 abbrev pub HasRead : {X : Type 0} → (List ℕ → List X → Type 0) → (List ℕ → McsFault → Type 0)
-    → (ℕ → McCode → machine.Refusal) → Bool → List ℕ
+    → (ℕ → StatementCode → machine.Refusal) → Bool → List ℕ
     → {V : Type 0} → (V → List X) → Result V Refusal → Type 0
 HasRead Is IsFault refused reads bytes items (Ok v) = HasItems Is reads bytes (items v)
 HasRead Is IsFault refused reads bytes items (Err why) =

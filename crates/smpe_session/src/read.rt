@@ -2,7 +2,7 @@
 ghost use Rattle.std.specs.Prelude.{IfOk};
 ghost use Rattle.terms.specs.Ptfin.{IsPtfin, IsPtfinFault};
 ghost use Rattle.terms.specs.HoldFile.{IsHoldFile, IsHoldFileFault};
-ghost use Rattle.machine.specs.Outcome.{Cm4, Cm5};
+ghost use Rattle.machine.specs.Outcome.{PtfinFaulty, HoldFileFaulty};
 ghost use Rattle.mcs.specs.Files.{items};
 ghost use Rattle.mcs.specs.HoldItems.{items as hold_items};
 ghost use Rattle.smpe_session.specs.Received.{HasRead, HasFound};
@@ -26,7 +26,7 @@ fn read_items(
     reads: bool,
     ptfin: &[u8],
 ) -> Result<Result<Vec<Item>, Refusal>, AllocError>
-    ensures { IfOk result (HasRead IsPtfin IsPtfinFault Cm4 reads ptfin.now (λ v. items v.items)) }
+    ensures { IfOk result (HasRead IsPtfin IsPtfinFault PtfinFaulty reads ptfin.now (λ v. items v.items)) }
 {
     if !reads {
         return Ok(Ok(Vec::new(alloc)));
@@ -44,7 +44,8 @@ fn read_holds(
     reads: bool,
     holds: &[u8],
 ) -> Result<Result<Vec<HoldItem>, Refusal>, AllocError>
-    ensures { IfOk result (HasRead IsHoldFile IsHoldFileFault Cm5 reads holds.now (λ v. hold_items v.items)) }
+    ensures { IfOk result (HasRead IsHoldFile IsHoldFileFault HoldFileFaulty reads holds.now
+        (λ v. hold_items v.items)) }
 {
     if !reads {
         return Ok(Ok(Vec::new(alloc)));

@@ -10,7 +10,9 @@ use Rattle.terms.proofs.ListMembers.{here, here_or, none_in}
 use Rattle.terms.proofs.TextOrder.{same_itself}
 use Rattle.terms.specs.declared.kinds.ZoneKind.TheVariants.{Target}
 use Rattle.terms.specs.declared.codes.Test.{Test}
-use Rattle.terms.specs.declared.codes.Test.TheVariants.{J1, J2, J3, J4, J5, J6, J7, J8, J9, J10, J11, J12, J13}
+use Rattle.terms.specs.declared.codes.Test.TheVariants.{HeldBySystem, HeldByUser, ForbiddenByNpre, OwnedByAnother}
+use Rattle.terms.specs.declared.codes.Test.TheVariants.{UnrelatedLevel, NothingToUpdate, NotInTarget, ChainDeleted}
+use Rattle.terms.specs.declared.codes.Test.TheVariants.{InClash, AlreadyAccepted, HasDelete, UnappliedLevel, SeveralFit}
 use Rattle.terms.specs.declared.not_chosen.NotChosen.{NotChosen}
 use Rattle.terms.specs.Types.{Text, Id, Hold, Global, Zone}
 use Rattle.terms.specs.Lookups.{IsRising, is_nil, is_in}
@@ -114,25 +116,27 @@ module _ (g : Global) (zone : Zone) (x : Id) (facts : List Fact) (target : zone.
   -- ---- the tests
 
   no_failure : (test : Test) → FailsAlone s x test → ⊥
-  no_failure J1 fails = fails (ap (filter (λ (h : Hold). not (is_bypassed_hold no_bypass h)))
+  no_failure HeldBySystem fails = fails (ap (filter (λ (h : Hold). not (is_bypassed_hold no_bypass h)))
       (no_system g zone x facts are clear))
-  no_failure J2 fails = fails (ap (filter (λ (h : Hold). not (is_bypassed_hold no_bypass h)))
+  no_failure HeldByUser fails = fails (ap (filter (λ (h : Hold). not (is_bypassed_hold no_bypass h)))
       (no_user g zone x facts are clear))
-  no_failure J3 (y, applied, either) = elim either [
+  no_failure ForbiddenByNpre (y, applied, either) = elim either [
     | inl names ↦ names_none g zone x facts are clear y applied names
     | inr forbids ↦ none_forbids g zone x facts are clear y applied forbids.0 forbids.1
   ]
-  no_failure J4 (e, (type, name, has, there), apart) = apart (changed g zone x facts are clear type name e has there).0
-  no_failure J5 (strict, (e, z, (type, name, has, there), within, below)) =
+  no_failure OwnedByAnother (e, (type, name, has, there), apart) = apart
+      (changed g zone x facts are clear type name e has there).0
+  no_failure UnrelatedLevel (strict, (e, z, (type, name, has, there), within, below)) =
       below ((changed g zone x facts are clear type name e has there).1 z within)
-  no_failure J6 (type, name, has, absent, base) = updates_there g zone x facts are clear type name has absent
-  no_failure J7 (kind, strict, off) = absurd (cc (target, kind))
-  no_failure J8 fails = fails
-  no_failure J9 fails = fails
-  no_failure J10 fails = fails
-  no_failure J11 fails = fails
-  no_failure J12 fails = fails
-  no_failure J13 fails = let one = one_fits g zone x facts are clear in absurd (omega (arith, one, fails))
+  no_failure NothingToUpdate
+      (type, name, has, absent, base) = updates_there g zone x facts are clear type name has absent
+  no_failure NotInTarget (kind, strict, off) = absurd (cc (target, kind))
+  no_failure ChainDeleted fails = fails
+  no_failure InClash fails = fails
+  no_failure AlreadyAccepted fails = fails
+  no_failure HasDelete fails = fails
+  no_failure UnappliedLevel fails = fails
+  no_failure SeveralFit fails = let one = one_fits g zone x facts are clear in absurd (omega (arith, one, fails))
 
   passes : PassesAlone s x
   passes = (here x [], no_failure)

@@ -17,7 +17,8 @@ use Rattle.terms.specs.Types.{Text, Id, Hold, Sysmod, Global, a_global, is_funct
 use Rattle.terms.specs.Rising.{Rises, Splits, with_item}
 use Rattle.terms.specs.Lookups.{is_function}
 use Rattle.terms.specs.Global.{named, names_for, HasLoop, is_service, fits_roles, RolesFit, hold_cmp, hold, IsSysmod}
-use Rattle.terms.specs.Global.{IsGlobal, HasFault, ReceiveFault, Rc1, Rc2, Rc3, Rc4, with_sysmod}
+use Rattle.terms.specs.Global.{IsGlobal, HasFault, ReceiveFault, AlreadyReceived, MakesLoop, OtherRole, NoRoom}
+use Rattle.terms.specs.Global.{with_sysmod}
 use Rattle.terms.proofs.Leads.{reaches_more}
 use Rattle.terms.proofs.GlobalKept.{IsOwned}
 use Rattle.terms.proofs.GlobalRoles.{fits_fewer}
@@ -146,10 +147,10 @@ module _ (xs : List Sysmod) (s : Sysmod) where
 
     -- Where it is refused, it makes no global zone.
     pub none_refused : IsGlobal (zone_of (xs ++ s ∷ [])) → (f : ReceiveFault) → ¬ HasFault (zone_of xs) s f
-    none_refused g Rc1 fault = true≢false (sym fault ∙ ap is_some (new_last low))
-    none_refused g Rc2 fault = g.no_loop (subst HasLoop zone_last fault)
-    none_refused g Rc3 fault = fault (subst RolesFit (sym zone_last) g.roles)
-    none_refused g Rc4 fault = omega (arith, fault, g.size, length-append xs (s ∷ []))
+    none_refused g AlreadyReceived fault = true≢false (sym fault ∙ ap is_some (new_last low))
+    none_refused g MakesLoop fault = g.no_loop (subst HasLoop zone_last fault)
+    none_refused g OtherRole fault = fault (subst RolesFit (sym zone_last) g.roles)
+    none_refused g NoRoom fault = omega (arith, fault, g.size, length-append xs (s ∷ []))
 
     -- Where it is not, it makes one.
     pub global_last : IsGlobal (zone_of xs) → IsSysmod s → ((f : ReceiveFault) → ¬ HasFault (zone_of xs) s f)
@@ -177,10 +178,10 @@ module _ (xs : List Sysmod) (hs : List Hold) where
 module _ (g : Global) (s : Sysmod) where
   pub some_fault : (o : Option Code) → IsRefusal g s o → is_some o ≡ true → (f : ReceiveFault) × HasFault g s f
   some_fault None none some = absurd (true≢false (sym some))
-  some_fault (Some code.Rc1) fault some = (Rc1, fault)
-  some_fault (Some code.Rc2) (first, fault) some = (Rc2, fault)
-  some_fault (Some code.Rc3) (first, second, fault) some = (Rc3, fault)
-  some_fault (Some code.Rc4) (first, second, third, fault) some = (Rc4, fault)
+  some_fault (Some code.AlreadyReceived) fault some = (AlreadyReceived, fault)
+  some_fault (Some code.MakesLoop) (first, fault) some = (MakesLoop, fault)
+  some_fault (Some code.OtherRole) (first, second, fault) some = (OtherRole, fault)
+  some_fault (Some code.NoRoom) (first, second, third, fault) some = (NoRoom, fault)
 
   pub no_fault_holds : (o : Option Code) → IsRefusal g s o → is_some o ≡ false → (f : ReceiveFault) → ¬ HasFault g s f
   no_fault_holds None none some = none

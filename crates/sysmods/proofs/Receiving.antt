@@ -7,7 +7,8 @@ use Rattle.std.specs.Cmp.Lexicographic.{slice_cmp}
 use Rattle.terms.specs.Types.{Hold, Sysmod, Global, a_global}
 use Rattle.terms.specs.Rising.{with_item}
 use Rattle.terms.specs.Lookups.{is_received}
-use Rattle.terms.specs.Global.{IsGlobal, IsSysmod, HasFault, RefusedBy, ReceiveFault, Rc1, Rc2, Rc3, Rc4, with_sysmod}
+use Rattle.terms.specs.Global.{IsGlobal, IsSysmod, HasFault, RefusedBy, ReceiveFault, AlreadyReceived, MakesLoop}
+use Rattle.terms.specs.Global.{OtherRole, NoRoom, with_sysmod}
 use Rattle.terms.specs.Global.{received, fits_roles, RolesFit}
 use Rattle.terms.proofs.GlobalKept.{received_kept}
 use Rattle.sysmods.specs.Lists.{with_holds}
@@ -30,16 +31,16 @@ module _ (xs : List Sysmod) (hs : List Hold) (s : Sysmod) where
   -- faults do not look at holds
   no_fault : ((f : ReceiveFault) → ¬ HasFault (zone_of xs) s f) → (f : ReceiveFault)
       → ¬ HasFault (a_global xs hs) s f
-  no_fault none Rc1 = none Rc1
-  no_fault none Rc2 = none Rc2
-  no_fault none Rc3 = none Rc3
-  no_fault none Rc4 = none Rc4
+  no_fault none AlreadyReceived = none AlreadyReceived
+  no_fault none MakesLoop = none MakesLoop
+  no_fault none OtherRole = none OtherRole
+  no_fault none NoRoom = none NoRoom
 
   same_fault : (f : Code) → RefusedBy (zone_of xs) s (fault_of f) → RefusedBy (a_global xs hs) s (fault_of f)
-  same_fault code.Rc1 by = by
-  same_fault code.Rc2 by = by
-  same_fault code.Rc3 by = by
-  same_fault code.Rc4 by = by
+  same_fault code.AlreadyReceived by = by
+  same_fault code.MakesLoop by = by
+  same_fault code.OtherRole by = by
+  same_fault code.NoRoom by = by
 
   pub same_refusal : (fault : Option Code) → IsRefusal (zone_of xs) s fault → IsRefusal (a_global xs hs) s fault
   same_refusal None none = no_fault none
@@ -51,7 +52,7 @@ module _ (xs : List Sysmod) (hs : List Hold) (s : Sysmod) where
     where
       by : (o : Option Sysmod) → found xs s.id ≡ o → found xs s.id ≡ None
       by None e = e
-      by (Some r) e = absurd (none Rc1 (ap is_some e))
+      by (Some r) e = absurd (none AlreadyReceived (ap is_some e))
 
 -- the zone with it
 pub taken : (g : Global) (s : Sysmod) (xs : List Sysmod) (hs : List Hold)
@@ -61,12 +62,12 @@ taken g s xs hs xs_is hs_is = ap₂ a_global xs_is hs_is ∙ sym (folded s.holds
 
 pub kept : (g : Global) (s : Sysmod) → IsGlobal g → IsSysmod s → ((f : ReceiveFault) → ¬ HasFault g s f)
     → IsGlobal (received g s)
-kept g s k formed none = received_kept g s (new (is_received g s.id) refl) k formed (none Rc2)
-    (roles_stable (with_sysmod g s) (none Rc3)) room
+kept g s k formed none = received_kept g s (new (is_received g s.id) refl) k formed (none MakesLoop)
+    (roles_stable (with_sysmod g s) (none OtherRole)) room
   where
     new : (b : Bool) → is_received g s.id ≡ b → is_received g s.id ≡ false
-    new true e = absurd (none Rc1 e)
+    new true e = absurd (none AlreadyReceived e)
     new false e = e
 
     room : length g.sysmods + 1 < 2 ^ 16
-    room = elim (cases_lt (length g.sysmods + 1) (2 ^ 16)) [ inl less ↦ less | inr more ↦ absurd (none Rc4 more) ]
+    room = elim (cases_lt (length g.sysmods + 1) (2 ^ 16)) [ inl less ↦ less | inr more ↦ absurd (none NoRoom more) ]

@@ -2,7 +2,7 @@
 use Rattle.std.specs.Prelude.{◌≡◌, Option, None, Some, Ok, Err}
 use Rattle.terms.specs.declared.kinds.HoldKind.{HoldKind}
 use Rattle.terms.specs.Types.{Text, Id, Release, Sysmod, Global}
-use Rattle.terms.specs.Global.{Receives, ReleaseFault, Rl1, Rl2}
+use Rattle.terms.specs.Global.{Receives, ReleaseFault, NoSuchHold, CameAlong}
 use Rattle.sysmods.specs.declared.faults.ReceiveFault.{ReceiveFault}
 use Rattle.sysmods.specs.Refused.{fault_of}
 use Rattle.sysmods.specs.declared.holds.ReleaseError.{ReleaseError}
@@ -17,5 +17,5 @@ abbrev pub a_release : Id → HoldKind → Text → Id → Release
 a_release x kind reason fmid = record { id = x; kind = kind; reason = reason; fmid = fmid }
 
 abbrev pub release_fault : ReleaseError → ReleaseFault
-release_fault NoHold = Rl1
-release_fault Internal = Rl2
+release_fault NoHold = NoSuchHold
+release_fault Internal = CameAlong

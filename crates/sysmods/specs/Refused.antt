@@ -4,13 +4,13 @@ use Rattle.terms.specs.Types.{Sysmod, Global}
 use Rattle.terms.specs.Global as global
 use Rattle.terms.specs.Global.{HasFault, RefusedBy}
 use Rattle.sysmods.specs.declared.faults.ReceiveFault.{ReceiveFault}
-use Rattle.sysmods.specs.declared.faults.ReceiveFault.TheVariants.{Rc1, Rc2, Rc3, Rc4}
+use Rattle.sysmods.specs.declared.faults.ReceiveFault.TheVariants.{AlreadyReceived, MakesLoop, OtherRole, NoRoom}
 
 abbrev pub fault_of : ReceiveFault → global.ReceiveFault
-fault_of Rc1 = global.Rc1
-fault_of Rc2 = global.Rc2
-fault_of Rc3 = global.Rc3
-fault_of Rc4 = global.Rc4
+fault_of AlreadyReceived = global.AlreadyReceived
+fault_of MakesLoop = global.MakesLoop
+fault_of OtherRole = global.OtherRole
+fault_of NoRoom = global.NoRoom
 
 abbrev pub IsRefusal : Global → Sysmod → Option ReceiveFault → Type 0
 IsRefusal g s None = (f : global.ReceiveFault) → ¬ HasFault g s f

@@ -27,16 +27,16 @@ pub fn refusal(
     ensures { IfOk result (λ fault. IsRefusal (zone_of received.now) sysmod.now fault) }
 {
     if received.contains(sysmod.id) {
-        return Ok(Some(ReceiveFault::Rc1));
+        return Ok(Some(ReceiveFault::AlreadyReceived));
     }
     if makes_loop(alloc, received, sysmod)? {
-        return Ok(Some(ReceiveFault::Rc2));
+        return Ok(Some(ReceiveFault::MakesLoop));
     }
     if !roles_fit(received, sysmod) {
-        return Ok(Some(ReceiveFault::Rc3));
+        return Ok(Some(ReceiveFault::OtherRole));
     }
     if received.len() >= MOST {
-        return Ok(Some(ReceiveFault::Rc4));
+        return Ok(Some(ReceiveFault::NoRoom));
     }
     Ok(None)
 }

@@ -1,8 +1,9 @@
 -- The first fault of a PTFIN is determined.
 use Rattle.std.proofs.Common.{◌≡◌, ℕ, true, false, List, [], ◌∷◌, Option, refl, sym, ◌∙◌, ap, ap₂, subst, inl, inr}
 use Rattle.std.proofs.lemmas.Bool.{true≢false}
-use Rattle.terms.specs.declared.codes.McCode.{McCode}
-use Rattle.terms.specs.declared.codes.McCode.TheVariants.{Mc1, Mc2, Mc3, Mc4, Mc5, Mc6}
+use Rattle.terms.specs.declared.codes.StatementCode.{StatementCode}
+use Rattle.terms.specs.declared.codes.StatementCode.TheVariants.{BadStatementForm, UnknownStatementWord, UnfitOperand}
+use Rattle.terms.specs.declared.codes.StatementCode.TheVariants.{WrongPlace, UnfitText, OverLimit}
 use Rattle.terms.specs.declared.statement_words.StatementWord.{StatementWord}
 use Rattle.terms.specs.Types.{Text, Lines}
 use Rattle.terms.specs.Records.{HasRecords, rec_fault_record}
@@ -19,41 +20,41 @@ use Rattle.terms.proofs.ExactStatements.{value_only}
 use Rattle.terms.proofs.ExactPtfin.{SameParts, known_only, good_only, same_step, statement_fault_no_good}
 
 fault_codes : (current : Option Begun) (later : Lines) (w : StatementWord) (own : Option Text) (rest : List Piece)
-    (inline : Lines) (a b : McCode) → IsFault current later w own rest inline a
+    (inline : Lines) (a b : StatementCode) → IsFault current later w own rest inline a
     → IsFault current later w own rest inline b → a ≡ b
-fault_codes current later w own rest inline Mc1 b f g = absurd f
-fault_codes current later w own rest inline Mc2 b f g = absurd f
-fault_codes current later w own rest inline Mc3 Mc1 f g = absurd g
-fault_codes current later w own rest inline Mc3 Mc2 f g = absurd g
-fault_codes current later w own rest inline Mc3 Mc3 f g = refl
-fault_codes current later w own rest inline Mc3 Mc4 f g = absurd (f.0 g.0 g.1)
-fault_codes current later w own rest inline Mc3 Mc5 f g = absurd (f.1 g.0 g.2)
-fault_codes current later w own rest inline Mc3 Mc6 f g = absurd (f.1 g.0 g.2)
-fault_codes current later w own rest inline Mc4 Mc1 f g = absurd g
-fault_codes current later w own rest inline Mc4 Mc2 f g = absurd g
-fault_codes current later w own rest inline Mc4 Mc3 f g = absurd (g.0 f.0 f.1)
-fault_codes current later w own rest inline Mc4 Mc4 f g = refl
-fault_codes current later w own rest inline Mc4 Mc5 f g = absurd (g.1 f.0 f.1)
-fault_codes current later w own rest inline Mc4 Mc6 f g = absurd (g.1 f.0 f.1)
-fault_codes current later w own rest inline Mc5 Mc1 f g = absurd g
-fault_codes current later w own rest inline Mc5 Mc2 f g = absurd g
-fault_codes current later w own rest inline Mc5 Mc3 f g = absurd (g.1 f.0 f.2)
-fault_codes current later w own rest inline Mc5 Mc4 f g = absurd (f.1 g.0 g.1)
-fault_codes current later w own rest inline Mc5 Mc5 f g = refl
-fault_codes current later w own rest inline Mc5 Mc6 f g =
+fault_codes current later w own rest inline BadStatementForm b f g = absurd f
+fault_codes current later w own rest inline UnknownStatementWord b f g = absurd f
+fault_codes current later w own rest inline UnfitOperand BadStatementForm f g = absurd g
+fault_codes current later w own rest inline UnfitOperand UnknownStatementWord f g = absurd g
+fault_codes current later w own rest inline UnfitOperand UnfitOperand f g = refl
+fault_codes current later w own rest inline UnfitOperand WrongPlace f g = absurd (f.0 g.0 g.1)
+fault_codes current later w own rest inline UnfitOperand UnfitText f g = absurd (f.1 g.0 g.2)
+fault_codes current later w own rest inline UnfitOperand OverLimit f g = absurd (f.1 g.0 g.2)
+fault_codes current later w own rest inline WrongPlace BadStatementForm f g = absurd g
+fault_codes current later w own rest inline WrongPlace UnknownStatementWord f g = absurd g
+fault_codes current later w own rest inline WrongPlace UnfitOperand f g = absurd (g.0 f.0 f.1)
+fault_codes current later w own rest inline WrongPlace WrongPlace f g = refl
+fault_codes current later w own rest inline WrongPlace UnfitText f g = absurd (g.1 f.0 f.1)
+fault_codes current later w own rest inline WrongPlace OverLimit f g = absurd (g.1 f.0 f.1)
+fault_codes current later w own rest inline UnfitText BadStatementForm f g = absurd g
+fault_codes current later w own rest inline UnfitText UnknownStatementWord f g = absurd g
+fault_codes current later w own rest inline UnfitText UnfitOperand f g = absurd (g.1 f.0 f.2)
+fault_codes current later w own rest inline UnfitText WrongPlace f g = absurd (f.1 g.0 g.1)
+fault_codes current later w own rest inline UnfitText UnfitText f g = refl
+fault_codes current later w own rest inline UnfitText OverLimit f g =
     let same = value_only (sysmod_in current) w own rest inline f.0 g.0 f.2 g.2 in
     absurd (g.3 (subst (λ t. IsWithin current t inline) same f.3))
-fault_codes current later w own rest inline Mc6 Mc1 f g = absurd g
-fault_codes current later w own rest inline Mc6 Mc2 f g = absurd g
-fault_codes current later w own rest inline Mc6 Mc3 f g = absurd (g.1 f.0 f.2)
-fault_codes current later w own rest inline Mc6 Mc4 f g = absurd (f.1 g.0 g.1)
-fault_codes current later w own rest inline Mc6 Mc5 f g =
+fault_codes current later w own rest inline OverLimit BadStatementForm f g = absurd g
+fault_codes current later w own rest inline OverLimit UnknownStatementWord f g = absurd g
+fault_codes current later w own rest inline OverLimit UnfitOperand f g = absurd (g.1 f.0 f.2)
+fault_codes current later w own rest inline OverLimit WrongPlace f g = absurd (f.1 g.0 g.1)
+fault_codes current later w own rest inline OverLimit UnfitText f g =
     let same = value_only (sysmod_in current) w own rest inline g.0 f.0 g.2 f.2 in
     absurd (f.3 (subst (λ t. IsWithin current t inline) same g.3))
-fault_codes current later w own rest inline Mc6 Mc6 f g = refl
+fault_codes current later w own rest inline OverLimit OverLimit f g = refl
 
 -- a fault behind a known word
-record KnownFault (current : Option Begun) (later records : Lines) (code : McCode) : Type 0 where
+record KnownFault (current : Option Begun) (later records : Lines) (code : StatementCode) : Type 0 where
   w : StatementWord
   own : Option Text
   rest : List Piece
@@ -62,7 +63,8 @@ record KnownFault (current : Option Begun) (later records : Lines) (code : McCod
   fault : IsFault current later w own rest inline code
 
 same_fault : (current : Option Begun) (later : Lines) (w v : StatementWord) (own other : Option Text)
-    (rest more : List Piece) (inline text : Lines) (code : McCode) → SameParts w v own other rest more inline text
+    (rest more : List Piece) (inline text : Lines) (code : StatementCode)
+    → SameParts w v own other rest more inline text
     → IsFault current later w own rest inline code → IsFault current later v other more text code
 same_fault current later w v own other rest more inline text code p f =
     subst (λ i. IsFault current later v other more i code) p.inlines
@@ -70,14 +72,15 @@ same_fault current later w v own other rest more inline text code p f =
     (subst (λ o. IsFault current later v o rest inline code) p.owns
     (subst (λ x. IsFault current later x own rest inline code) p.words f)))
 
-known_codes : (current : Option Begun) (later records : Lines) (a b : McCode) → KnownFault current later records a
+known_codes : (current : Option Begun) (later records : Lines) (a b : StatementCode)
+    → KnownFault current later records a
     → KnownFault current later records b → a ≡ b
 known_codes current later records a b f g =
     let parts = known_only records f.w g.w f.own g.own f.rest g.rest f.inline g.inline f.known g.known in
     fault_codes current later g.w g.own g.rest g.inline a b (same_fault current later f.w g.w f.own g.own f.rest g.rest
     f.inline g.inline a parts f.fault) g.fault
 
-unknown_known : (current : Option Begun) (later records : Lines) (code : McCode) → IsUnknown records
+unknown_known : (current : Option Begun) (later records : Lines) (code : StatementCode) → IsUnknown records
     → KnownFault current later records code → ⊥
 unknown_known current later records code u f =
     let same = statement_only records f.known.pieces u.pieces f.inline u.inline f.known.statement u.statement in
@@ -85,14 +88,15 @@ unknown_known current later records code u f =
     same.0 f.known.begins)
 
 -- whether a fault is of the form, of the word, or behind a known word
-data Judged (current : Option Begun) (later records : Lines) : McCode → Type 0 where
-  OfForm : IsStatementFault current later records Mc1 → Judged current later records Mc1
-  OfWord : IsUnknown records → Judged current later records Mc2
-  Behind : (code : McCode) → KnownFault current later records code → Judged current later records code
+data Judged (current : Option Begun) (later records : Lines) : StatementCode → Type 0 where
+  OfForm : IsStatementFault current later records BadStatementForm → Judged current later records BadStatementForm
+  OfWord : IsUnknown records → Judged current later records UnknownStatementWord
+  Behind : (code : StatementCode) → KnownFault current later records code → Judged current later records code
 
-behind : (current : Option Begun) (later records : Lines) (code : McCode)
+behind : (current : Option Begun) (later records : Lines) (code : StatementCode)
     → (w : StatementWord) × (own : Option Text) × (rest : List Piece) × (inline : Lines)
-    × IsKnown records w own rest inline × IsFault current later w own rest inline code → Judged current later records code
+    × IsKnown records w own rest inline × IsFault current later w own rest inline code
+    → Judged current later records code
 behind current later records code f = Behind code (record {
   w = f.0;
   own = f.1;
@@ -102,16 +106,17 @@ behind current later records code f = Behind code (record {
   fault = f.5;
 })
 
-judged : (current : Option Begun) (later records : Lines) (code : McCode) → IsStatementFault current later records code
+judged : (current : Option Begun) (later records : Lines) (code : StatementCode)
+    → IsStatementFault current later records code
     → Judged current later records code
-judged current later records Mc1 f = OfForm f
-judged current later records Mc2 f = OfWord f
-judged current later records Mc3 f = behind current later records Mc3 f
-judged current later records Mc4 f = behind current later records Mc4 f
-judged current later records Mc5 f = behind current later records Mc5 f
-judged current later records Mc6 f = behind current later records Mc6 f
+judged current later records BadStatementForm f = OfForm f
+judged current later records UnknownStatementWord f = OfWord f
+judged current later records UnfitOperand f = behind current later records UnfitOperand f
+judged current later records WrongPlace f = behind current later records WrongPlace f
+judged current later records UnfitText f = behind current later records UnfitText f
+judged current later records OverLimit f = behind current later records OverLimit f
 
-judged_codes : (current : Option Begun) (later records : Lines) (a b : McCode) → Judged current later records a
+judged_codes : (current : Option Begun) (later records : Lines) (a b : StatementCode) → Judged current later records a
     → Judged current later records b → a ≡ b
 judged_codes current later records a b (OfForm f) (OfForm g) = refl
 judged_codes current later records a b (OfForm f) (OfWord g) =
@@ -131,7 +136,7 @@ judged_codes current later records a b (Behind code f) (Behind code' g) =
     known_codes current later records code code' f g
 
 -- The code of a statement's fault is determined.
-pub statement_fault_only : (current : Option Begun) (later records : Lines) (a b : McCode)
+pub statement_fault_only : (current : Option Begun) (later records : Lines) (a b : StatementCode)
     → IsStatementFault current later records a → IsStatementFault current later records b → a ≡ b
 statement_fault_only current later records a b f g = judged_codes current later records a b
     (judged current later records a f) (judged current later records b g)

@@ -1,8 +1,9 @@
 -- No file is both a hold file and at fault, and its items are determined.
 use Rattle.std.proofs.Common.{◌≡◌, ℕ, false, List, [], ◌∷◌, Option, refl, sym, ◌∙◌, ap, subst, inl, inr}
 use Rattle.std.proofs.lemmas.Bool.{true≢false}
-use Rattle.terms.specs.declared.codes.McCode.{McCode}
-use Rattle.terms.specs.declared.codes.McCode.TheVariants.{Mc1, Mc2, Mc3, Mc4, Mc5, Mc6}
+use Rattle.terms.specs.declared.codes.StatementCode.{StatementCode}
+use Rattle.terms.specs.declared.codes.StatementCode.TheVariants.{BadStatementForm, UnknownStatementWord, UnfitOperand}
+use Rattle.terms.specs.declared.codes.StatementCode.TheVariants.{WrongPlace, UnfitText, OverLimit}
 use Rattle.terms.specs.declared.statement_words.StatementWord.{StatementWord}
 use Rattle.terms.specs.Types.{Text, Lines, HoldItem, AHold, ARelease}
 use Rattle.terms.specs.Groups.{TakesGroup, starts_outside}
@@ -11,7 +12,8 @@ use Rattle.terms.specs.Words.{TakesWord}
 use Rattle.terms.specs.Statements.{statement_text}
 use Rattle.terms.specs.HoldStatements.{IsHoldOf, IsReleaseOf}
 use Rattle.terms.specs.Ptfin.{McsFault}
-use Rattle.terms.specs.HoldFile.{StandsInHoldFile, HasItem, IsWithin, IsGoodItem, IsItemFault, BeginsWithItems, IsHoldFile}
+use Rattle.terms.specs.HoldFile.{StandsInHoldFile, HasItem, IsWithin, IsGoodItem, IsItemFault, BeginsWithItems}
+use Rattle.terms.specs.HoldFile.{IsHoldFile}
 use Rattle.terms.specs.HoldFile.{IsNextItemFault, IsHoldFileFault}
 use Rattle.terms.proofs.Exact.{statement_only, fault_no_statement}
 use Rattle.terms.proofs.ExactFiles.{records_only, rec_fault_no_records, group_only, no_group, begins_inside}
@@ -49,21 +51,21 @@ good_item_only records a b h k =
     item_only k.0 k.1 k.2 a b (same_item h.0 k.0 h.1 k.1 h.2 k.2 h.3 k.3 a parts h.6) k.6
 
 -- No statement is both good and at fault.
-pub item_fault_no_good : (records : Lines) (code : McCode) (item : HoldItem) → IsItemFault records code
+pub item_fault_no_good : (records : Lines) (code : StatementCode) (item : HoldItem) → IsItemFault records code
     → IsGoodItem records item → ⊥
-item_fault_no_good records Mc1 item f g = fault_no_statement records f.0 g.4.pieces g.3 f.1 g.4.statement
-item_fault_no_good records Mc2 item f g =
+item_fault_no_good records BadStatementForm item f g = fault_no_statement records f.0 g.4.pieces g.3 f.1 g.4.statement
+item_fault_no_good records UnknownStatementWord item f g =
     let same = statement_only records g.4.pieces f.pieces g.3 f.inline g.4.statement f.statement in
     f.unknown g.0 g.1 g.2 (subst (λ p. TakesWord p (record { word = statement_text g.0; list = g.1 }) g.2) same.0
     g.4.begins)
-item_fault_no_good records Mc3 item f g =
+item_fault_no_good records UnfitOperand item f g =
     let parts = known_only records g.0 f.0 g.1 f.1 g.2 f.2 g.3 f.3 g.4 f.4 in
     f.6 item (same_item g.0 f.0 g.1 f.1 g.2 f.2 g.3 f.3 item parts g.6)
-item_fault_no_good records Mc4 item f g =
+item_fault_no_good records WrongPlace item f g =
     let parts = known_only records g.0 f.0 g.1 f.1 g.2 f.2 g.3 f.3 g.4 f.4 in
     f.5 (same_place g.0 f.0 g.1 f.1 g.2 f.2 g.3 f.3 parts g.5)
-item_fault_no_good records Mc5 item f g = f
-item_fault_no_good records Mc6 item f g =
+item_fault_no_good records UnfitText item f g = f
+item_fault_no_good records OverLimit item f g =
     let parts = known_only records g.0 f.0 g.1 f.1 g.2 f.2 g.3 f.3 g.4 f.5 in
     let same = item_only f.0 f.1 f.2 item f.4 (same_item g.0 f.0 g.1 f.1 g.2 f.2 g.3 f.3 item parts g.6) f.7 in
     f.8 (subst IsWithin same g.7)

@@ -1,8 +1,9 @@
 -- No file is both a PTFIN and at fault, and its items are determined.
 use Rattle.std.proofs.Common.{◌≡◌, ℕ, false, List, [], ◌∷◌, Option, sym, ◌∙◌, ap, subst, inl, inr}
 use Rattle.std.proofs.lemmas.Bool.{true≢false}
-use Rattle.terms.specs.declared.codes.McCode.{McCode}
-use Rattle.terms.specs.declared.codes.McCode.TheVariants.{Mc1, Mc2, Mc3, Mc4, Mc5, Mc6}
+use Rattle.terms.specs.declared.codes.StatementCode.{StatementCode}
+use Rattle.terms.specs.declared.codes.StatementCode.TheVariants.{BadStatementForm, UnknownStatementWord, UnfitOperand}
+use Rattle.terms.specs.declared.codes.StatementCode.TheVariants.{WrongPlace, UnfitText, OverLimit}
 use Rattle.terms.specs.declared.statement_words.StatementWord.{StatementWord}
 use Rattle.terms.specs.Types.{Text, Lines, Item}
 use Rattle.terms.specs.Groups.{Group, TakesGroup, starts_outside}
@@ -50,20 +51,20 @@ good_only current later records s t h k =
     value_only (sysmod_in current) k.0 k.1 k.2 k.3 s t good.value k.5.value
 
 fault_excludes : (current : Option Begun) (later : Lines) (w : StatementWord) (own : Option Text) (rest : List Piece)
-    (inline : Lines) (code : McCode) (s : Statement) → IsFault current later w own rest inline code
+    (inline : Lines) (code : StatementCode) (s : Statement) → IsFault current later w own rest inline code
     → IsGood current later w own rest inline s → ⊥
-fault_excludes current later w own rest inline Mc1 s f g = f
-fault_excludes current later w own rest inline Mc2 s f g = f
-fault_excludes current later w own rest inline Mc3 s f g = f.1 s g.value
-fault_excludes current later w own rest inline Mc4 s f g = g.placed f.0 f.1
-fault_excludes current later w own rest inline Mc5 s f g =
+fault_excludes current later w own rest inline BadStatementForm s f g = f
+fault_excludes current later w own rest inline UnknownStatementWord s f g = f
+fault_excludes current later w own rest inline UnfitOperand s f g = f.1 s g.value
+fault_excludes current later w own rest inline WrongPlace s f g = g.placed f.0 f.1
+fault_excludes current later w own rest inline UnfitText s f g =
     let same = value_only (sysmod_in current) w own rest inline s f.0 g.value f.2 in
     f.4 (subst HasGoodText same g.text)
-fault_excludes current later w own rest inline Mc6 s f g =
+fault_excludes current later w own rest inline OverLimit s f g =
     let same = value_only (sysmod_in current) w own rest inline s f.0 g.value f.2 in
     f.3 (subst (λ t. IsWithin current t inline) same g.within)
 
-known_excludes : (current : Option Begun) (later records : Lines) (code : McCode) (s : Statement)
+known_excludes : (current : Option Begun) (later records : Lines) (code : StatementCode) (s : Statement)
     → ((w : StatementWord) × (own : Option Text) × (rest : List Piece) × (inline : Lines)
     × IsKnown records w own rest inline × IsFault current later w own rest inline code)
     → IsGoodStatement current later records s → ⊥
@@ -73,18 +74,19 @@ known_excludes current later records code s f g =
     parts g.5)
 
 -- No statement is both good and at fault.
-pub statement_fault_no_good : (current : Option Begun) (later records : Lines) (code : McCode) (s : Statement)
+pub statement_fault_no_good : (current : Option Begun) (later records : Lines) (code : StatementCode) (s : Statement)
     → IsStatementFault current later records code → IsGoodStatement current later records s → ⊥
-statement_fault_no_good current later records Mc1 s f g = fault_no_statement records f.0 g.4.pieces g.3 f.1
+statement_fault_no_good current later records BadStatementForm s f g = fault_no_statement records f.0 g.4.pieces g.3 f.1
     g.4.statement
-statement_fault_no_good current later records Mc2 s f g =
+statement_fault_no_good current later records UnknownStatementWord s f g =
     let same = statement_only records g.4.pieces f.pieces g.3 f.inline g.4.statement f.statement in
     f.unknown g.0 g.1 g.2 (subst (λ p. TakesWord p (record { word = statement_text g.0; list = g.1 }) g.2) same.0
     g.4.begins)
-statement_fault_no_good current later records Mc3 s f g = known_excludes current later records Mc3 s f g
-statement_fault_no_good current later records Mc4 s f g = known_excludes current later records Mc4 s f g
-statement_fault_no_good current later records Mc5 s f g = known_excludes current later records Mc5 s f g
-statement_fault_no_good current later records Mc6 s f g = known_excludes current later records Mc6 s f g
+statement_fault_no_good current later records UnfitOperand s f g =
+    known_excludes current later records UnfitOperand s f g
+statement_fault_no_good current later records WrongPlace s f g = known_excludes current later records WrongPlace s f g
+statement_fault_no_good current later records UnfitText s f g = known_excludes current later records UnfitText s f g
+statement_fault_no_good current later records OverLimit s f g = known_excludes current later records OverLimit s f g
 
 -- the first statement of two ways is the same, and so is what follows it
 pub same_step : (c : SoFar) (n next next' : ℕ) (records later later' : Lines) (g g' : Group) (s : Statement)

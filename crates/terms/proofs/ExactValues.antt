@@ -9,8 +9,9 @@ use Rattle.std.proofs.lemmas.List.Folds.{list_any_none}
 use Rattle.std.proofs.lemmas.Cmp.{nat_list_eq_equiv}
 use Rattle.terms.specs.declared.codes.CommandWord.{CommandWord}
 use Rattle.terms.specs.declared.codes.CommandWord.TheVariants as word
-use Rattle.terms.specs.declared.codes.CnCode.{CnCode}
-use Rattle.terms.specs.declared.codes.CnCode.TheVariants.{Cn1, Cn2, Cn3, Cn4, Cn5}
+use Rattle.terms.specs.declared.codes.CommandCode.{CommandCode}
+use Rattle.terms.specs.declared.codes.CommandCode.TheVariants.{UnknownCommand, UnfitValue, OperandTwice, NoSingleList}
+use Rattle.terms.specs.declared.codes.CommandCode.TheVariants.{BadCommandForm}
 use Rattle.terms.specs.Types.{Text, Selection, Install, RestoreList, RestoreSelect, RestoreGroup, ReceiveWhat, Command}
 use Rattle.terms.specs.Types.{Set, Receive, Reject, Apply, Accept, Restore, ListZone, Report}
 use Rattle.terms.specs.Forms.{IsId, IsSource, IsZoneName}
@@ -225,18 +226,18 @@ chosen rest ws (ListZone x) h v = refl
 chosen rest ws Report h v = refl
 
 -- No pieces are both a command and at fault.
-pub fault_no_value : (pieces : List Piece) (c : Command) (code : CnCode) → IsCommand pieces c
+pub fault_no_value : (pieces : List Piece) (c : Command) (code : CommandCode) → IsCommand pieces c
     → IsCommandFault pieces code → ⊥
-fault_no_value pieces c Cn1 k f = f (command_word c) k.rest k.begins
-fault_no_value pieces c Cn2 k f = f.5 c k
-fault_no_value pieces c Cn3 k f =
+fault_no_value pieces c UnknownCommand k f = f (command_word c) k.rest k.begins
+fault_no_value pieces c UnfitValue k f = f.5 c k
+fault_no_value pieces c OperandTwice k f =
     let s = begins_only pieces f.0 (command_word c) f.1 k.rest f.2 k.begins in
     true≢false (sym f.3 ∙ ap (λ w. has_double w f.1) s.0 ∙ ap (has_double (command_word c)) s.1 ∙ single pieces c k)
-fault_no_value pieces c Cn4 k f =
+fault_no_value pieces c NoSingleList k f =
     let s = begins_only pieces f.0 (command_word c) f.1 k.rest f.2 k.begins in
     true≢false (sym f.4 ∙ ap (λ w. is_unchosen w f.1) s.0 ∙ ap (is_unchosen (command_word c)) s.1
     ∙ chosen k.rest k.words c k.has_words k.has_operands)
-fault_no_value pieces c Cn5 k f = f
+fault_no_value pieces c BadCommandForm k f = f
 
 double_same : (pieces : List Piece) (v w : CommandWord) (rest rest' : List Piece) → BeginsWith pieces v rest
     → BeginsWith pieces w rest' → has_double v rest ≡ true → has_double w rest' ≡ false → ⊥
@@ -251,25 +252,25 @@ unchosen_same pieces v w rest rest' b b' yes' no' =
     true≢false (sym yes' ∙ ap (λ w. is_unchosen w rest) s.0 ∙ ap (is_unchosen w) s.1 ∙ no')
 
 -- The first fault of a command is determined.
-pub fault_only : (pieces : List Piece) (a b : CnCode) → IsCommandFault pieces a → IsCommandFault pieces b → a ≡ b
-fault_only pieces Cn1 Cn1 f g = refl
-fault_only pieces Cn1 Cn2 f g = absurd (f g.0 g.1 g.2)
-fault_only pieces Cn1 Cn3 f g = absurd (f g.0 g.1 g.2)
-fault_only pieces Cn1 Cn4 f g = absurd (f g.0 g.1 g.2)
-fault_only pieces Cn2 Cn1 f g = absurd (g f.0 f.1 f.2)
-fault_only pieces Cn3 Cn1 f g = absurd (g f.0 f.1 f.2)
-fault_only pieces Cn4 Cn1 f g = absurd (g f.0 f.1 f.2)
-fault_only pieces Cn2 Cn2 f g = refl
-fault_only pieces Cn3 Cn3 f g = refl
-fault_only pieces Cn4 Cn4 f g = refl
-fault_only pieces Cn2 Cn3 f g = absurd (double_same pieces g.0 f.0 g.1 f.1 g.2 f.2 g.3 f.3)
-fault_only pieces Cn3 Cn2 f g = absurd (double_same pieces f.0 g.0 f.1 g.1 f.2 g.2 f.3 g.3)
-fault_only pieces Cn4 Cn3 f g = absurd (double_same pieces g.0 f.0 g.1 f.1 g.2 f.2 g.3 f.3)
-fault_only pieces Cn3 Cn4 f g = absurd (double_same pieces f.0 g.0 f.1 g.1 f.2 g.2 f.3 g.3)
-fault_only pieces Cn2 Cn4 f g = absurd (unchosen_same pieces g.0 f.0 g.1 f.1 g.2 f.2 g.4 f.4)
-fault_only pieces Cn4 Cn2 f g = absurd (unchosen_same pieces f.0 g.0 f.1 g.1 f.2 g.2 f.4 g.4)
-fault_only pieces Cn5 b f g = absurd f
-fault_only pieces Cn1 Cn5 f g = absurd g
-fault_only pieces Cn2 Cn5 f g = absurd g
-fault_only pieces Cn3 Cn5 f g = absurd g
-fault_only pieces Cn4 Cn5 f g = absurd g
+pub fault_only : (pieces : List Piece) (a b : CommandCode) → IsCommandFault pieces a → IsCommandFault pieces b → a ≡ b
+fault_only pieces UnknownCommand UnknownCommand f g = refl
+fault_only pieces UnknownCommand UnfitValue f g = absurd (f g.0 g.1 g.2)
+fault_only pieces UnknownCommand OperandTwice f g = absurd (f g.0 g.1 g.2)
+fault_only pieces UnknownCommand NoSingleList f g = absurd (f g.0 g.1 g.2)
+fault_only pieces UnfitValue UnknownCommand f g = absurd (g f.0 f.1 f.2)
+fault_only pieces OperandTwice UnknownCommand f g = absurd (g f.0 f.1 f.2)
+fault_only pieces NoSingleList UnknownCommand f g = absurd (g f.0 f.1 f.2)
+fault_only pieces UnfitValue UnfitValue f g = refl
+fault_only pieces OperandTwice OperandTwice f g = refl
+fault_only pieces NoSingleList NoSingleList f g = refl
+fault_only pieces UnfitValue OperandTwice f g = absurd (double_same pieces g.0 f.0 g.1 f.1 g.2 f.2 g.3 f.3)
+fault_only pieces OperandTwice UnfitValue f g = absurd (double_same pieces f.0 g.0 f.1 g.1 f.2 g.2 f.3 g.3)
+fault_only pieces NoSingleList OperandTwice f g = absurd (double_same pieces g.0 f.0 g.1 f.1 g.2 f.2 g.3 f.3)
+fault_only pieces OperandTwice NoSingleList f g = absurd (double_same pieces f.0 g.0 f.1 g.1 f.2 g.2 f.3 g.3)
+fault_only pieces UnfitValue NoSingleList f g = absurd (unchosen_same pieces g.0 f.0 g.1 f.1 g.2 f.2 g.4 f.4)
+fault_only pieces NoSingleList UnfitValue f g = absurd (unchosen_same pieces f.0 g.0 f.1 g.1 f.2 g.2 f.4 g.4)
+fault_only pieces BadCommandForm b f g = absurd f
+fault_only pieces UnknownCommand BadCommandForm f g = absurd g
+fault_only pieces UnfitValue BadCommandForm f g = absurd g
+fault_only pieces OperandTwice BadCommandForm f g = absurd g
+fault_only pieces NoSingleList BadCommandForm f g = absurd g

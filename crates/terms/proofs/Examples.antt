@@ -16,7 +16,7 @@ use Rattle.terms.specs.Choice.{place, counting, del_of}
 use Rattle.terms.specs.Over.{Leads, Reaches, Supersedes, names, chain}
 use Rattle.terms.specs.Deleted.{is_deleted, zone_less}
 use Rattle.terms.specs.Candidates.{IsCandidate, is_start, needed_ids, not_chosen}
-use Rattle.terms.specs.Tests.{Setting, Clash, FailsJ2, FailsJ13, standing_holds}
+use Rattle.terms.specs.Tests.{Setting, Clash, IsHeldByUser, HasSeveralFit, standing_holds}
 use Rattle.terms.specs.Needs.{asked, orphans, binding_ids, Needs, Serves}
 use Rattle.terms.specs.Judged.{setting}
 use Rattle.terms.specs.Install.{Installation, TakesEffect, delby_after}
@@ -237,7 +237,7 @@ needs_missing = record {
 }
 
 -- the USER hold stands, and BYPASS(HOLDUSER) covers it
-held : FailsJ2 (setting extending base None (ua7 ∷ []) no_bypass) ua7
+held : IsHeldByUser (setting extending base None (ua7 ∷ []) no_bypass) ua7
 held = λ e. absurd (cc e)
 
 standing_holds_bypassed : standing_holds (setting extending base None (ua7 ∷ [])
@@ -409,8 +409,8 @@ unfolding needed_ids
 needed_ids_fitting = refl
 
 -- where both fit it fails
-fails_both : FailsJ13 (setting serving base None (hdd ∷ ua40 ∷ []) no_bypass) ua40
+fails_both : HasSeveralFit (setting serving base None (hdd ∷ ua40 ∷ []) no_bypass) ua40
 fails_both = omega arith
 
-passes_one : ¬ FailsJ13 (setting serving base None (ua40 ∷ []) no_bypass) ua40
+passes_one : ¬ HasSeveralFit (setting serving base None (ua40 ∷ []) no_bypass) ua40
 passes_one = omega arith

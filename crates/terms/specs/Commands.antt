@@ -4,8 +4,9 @@ use Rattle.std.specs.Prelude.{◌⊎◌, if◌then◌else◌, codes}
 use Rattle.std.specs.List.{list_any}
 use Rattle.terms.specs.declared.codes.CommandWord.{CommandWord}
 use Rattle.terms.specs.declared.codes.CommandWord.TheVariants as word
-use Rattle.terms.specs.declared.codes.CnCode.{CnCode}
-use Rattle.terms.specs.declared.codes.CnCode.TheVariants.{Cn1, Cn2, Cn3, Cn4, Cn5}
+use Rattle.terms.specs.declared.codes.CommandCode.{CommandCode}
+use Rattle.terms.specs.declared.codes.CommandCode.TheVariants.{UnknownCommand, UnfitValue, OperandTwice, NoSingleList}
+use Rattle.terms.specs.declared.codes.CommandCode.TheVariants.{BadCommandForm}
 use Rattle.terms.specs.Types.{Text, Command}
 use Rattle.terms.specs.Spelling.{word_text}
 use Rattle.terms.specs.Forms.{is_word_byte}
@@ -18,7 +19,7 @@ use Rattle.terms.specs.CommandForms.{operands_of, members_of, IsCommand}
 -- a fault of the command file, with the number of the record where the command begins
 pub record CntlFault : Type 0 where
   pub number : ℕ
-  pub code : CnCode
+  pub code : CommandCode
 
 -- The records, which count from n, begin with these commands, and the rest follows, which counts from m.
 abbrev pub BeginsWithCommands : ℕ → List (List ℕ) → List Command → ℕ → List (List ℕ) → Type 0
@@ -60,29 +61,30 @@ is_unchosen _ pieces = false
 abbrev pub BeginsWith : List Piece → CommandWord → List Piece → Type 0
 BeginsWith pieces w rest = pieces ≡ TheWord (word_text w) ∷ rest
 
--- What is wrong with a command that ends well. The first that applies of Cn1, Cn3, Cn4 and Cn2 is answered.
-abbrev pub IsCommandFault : List Piece → CnCode → Type 0
-IsCommandFault pieces Cn1 = (w : CommandWord) (rest : List Piece) → BeginsWith pieces w rest → ⊥
-IsCommandFault pieces Cn3 = (w : CommandWord) × (rest : List Piece) × BeginsWith pieces w rest
+-- What is wrong with a command that ends well. The first that applies of UnknownCommand, OperandTwice, NoSingleList and
+-- UnfitValue is answered.
+abbrev pub IsCommandFault : List Piece → CommandCode → Type 0
+IsCommandFault pieces UnknownCommand = (w : CommandWord) (rest : List Piece) → BeginsWith pieces w rest → ⊥
+IsCommandFault pieces OperandTwice = (w : CommandWord) × (rest : List Piece) × BeginsWith pieces w rest
     × (has_double w rest ≡ true)
-IsCommandFault pieces Cn4 = (w : CommandWord) × (rest : List Piece) × BeginsWith pieces w rest
+IsCommandFault pieces NoSingleList = (w : CommandWord) × (rest : List Piece) × BeginsWith pieces w rest
     × (has_double w rest ≡ false)
     × (is_unchosen w rest ≡ true)
-IsCommandFault pieces Cn2 = (w : CommandWord) × (rest : List Piece) × BeginsWith pieces w rest
+IsCommandFault pieces UnfitValue = (w : CommandWord) × (rest : List Piece) × BeginsWith pieces w rest
     × (has_double w rest ≡ false)
     × (is_unchosen w rest ≡ false) × ((c : Command) → IsCommand pieces c → ⊥)
-IsCommandFault pieces Cn5 = ⊥
+IsCommandFault pieces BadCommandForm = ⊥
 
 -- The first command of the records, which count from n, is at fault.
 abbrev pub IsNextFault : ℕ → List (List ℕ) → CntlFault → Type 0
 IsNextFault n records fault =
-    ((fault.code ≡ Cn5) × (why : StFault) × IsCutFault n records fault.number why)
+    ((fault.code ≡ BadCommandForm) × (why : StFault) × IsCutFault n records fault.number why)
     ⊎ ((pieces : List Piece) × (m : ℕ) × (rest : List (List ℕ)) × TakesCommand n records pieces fault.number m rest
     × IsCommandFault pieces fault.code)
 
 -- The first fault of a command file: of its records, or of the command behind good ones.
 abbrev pub IsCommandFileFault : List ℕ → CntlFault → Type 0
 IsCommandFileFault bytes fault =
-    ((fault.code ≡ Cn5) × (r : RecFault) × IsRecFault bytes r × (fault.number ≡ rec_fault_record r))
+    ((fault.code ≡ BadCommandForm) × (r : RecFault) × IsRecFault bytes r × (fault.number ≡ rec_fault_record r))
     ⊎ ((records rest : List (List ℕ)) × (cs : List Command) × (m : ℕ)
     × HasRecords bytes records × BeginsWithCommands 1 records cs m rest × IsNextFault m rest fault)

@@ -11,8 +11,10 @@ use Rattle.terms.specs.Types.{Id}
 -- the tests by their numbers, and the kinds of needs, in the order of reports
 abbrev pub all_tests : List Test
 all_tests =
-    test.J1 ∷ test.J2 ∷ test.J3 ∷ test.J4 ∷ test.J5 ∷ test.J6 ∷ test.J7 ∷ test.J8 ∷ test.J9 ∷ test.J10 ∷ test.J11 ∷
-    test.J12 ∷ test.J13 ∷ []
+    test.HeldBySystem ∷ test.HeldByUser ∷ test.ForbiddenByNpre ∷ test.OwnedByAnother ∷ test.UnrelatedLevel
+    ∷ test.NothingToUpdate ∷ test.NotInTarget ∷ test.ChainDeleted ∷ test.InClash ∷ test.AlreadyAccepted
+    ∷ test.HasDelete ∷
+    test.UnappliedLevel ∷ test.SeveralFit ∷ []
 
 abbrev pub all_needs : List NeedKind
 all_needs = need.Fmid ∷ need.Pre ∷ need.Req ∷ need.Ifreq ∷ need.HoldError ∷ need.Orphan ∷ need.Elem ∷ need.Dep ∷ []

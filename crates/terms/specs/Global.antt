@@ -93,18 +93,18 @@ marked was h = record h { internal = h.internal || option_map_or (λ old. old.in
 abbrev pub hold : Global → Hold → Global
 hold g h = record g { holds = with_item hold_cmp (λ o. o) g.holds (marked (hold_of g h.id h.kind h.reason) h) }
 
--- Rl1: there is no such hold. Rl2: it is internal.
+-- NoSuchHold: there is no such hold. CameAlong: it is internal.
 pub data ReleaseFault : Type 0 where
-  Rl1 : ReleaseFault
-  Rl2 : ReleaseFault
+  NoSuchHold : ReleaseFault
+  CameAlong : ReleaseFault
 
 -- the global zone less the hold of this key
 abbrev pub without_hold : Id → HoldKind → Text → Global → Global
 without_hold x kind reason g = record g { holds = filter (λ h. not (has_key x kind reason h)) g.holds }
 
 abbrev pub release_found : Global → Release → Option Hold → Result Global ReleaseFault
-release_found g r None = Err Rl1
-release_found g r (Some h) = if h.internal then Err Rl2 else Ok (without_hold r.id r.kind r.reason g)
+release_found g r None = Err NoSuchHold
+release_found g r (Some h) = if h.internal then Err CameAlong else Ok (without_hold r.id r.kind r.reason g)
 
 -- ++RELEASE takes a hold away that is not internal.
 abbrev pub release : Global → Release → Result Global ReleaseFault
@@ -123,27 +123,28 @@ assign g source x =
 abbrev pub with_sysmod : Global → Sysmod → Global
 with_sysmod g s = record g { sysmods = with_item (slice_cmp nat_cmp) (λ r. r.id) g.sysmods (record s { holds = [] }) }
 
--- Rc1: the id is received. Rc2: it would close a loop. Rc3: a function would be named where only service may be, or
--- service where only functions may. Rc4: it would be the 65,536th.
+-- AlreadyReceived: the id is received. MakesLoop: it would close a loop. OtherRole: a function would be named where
+-- only service may be, or service where only functions may. NoRoom: it would be the 65,536th.
 pub data ReceiveFault : Type 0 where
-  Rc1 : ReceiveFault
-  Rc2 : ReceiveFault
-  Rc3 : ReceiveFault
-  Rc4 : ReceiveFault
+  AlreadyReceived : ReceiveFault
+  MakesLoop : ReceiveFault
+  OtherRole : ReceiveFault
+  NoRoom : ReceiveFault
 
 -- the fault applies, whatever others do
 abbrev pub HasFault : Global → Sysmod → ReceiveFault → Type 0
-HasFault g s Rc1 = IsTrue (is_received g s.id)
-HasFault g s Rc2 = HasLoop (with_sysmod g s)
-HasFault g s Rc3 = ¬ RolesFit (with_sysmod g s)
-HasFault g s Rc4 = 2 ^ 16 ≤ length g.sysmods + 1
+HasFault g s AlreadyReceived = IsTrue (is_received g s.id)
+HasFault g s MakesLoop = HasLoop (with_sysmod g s)
+HasFault g s OtherRole = ¬ RolesFit (with_sysmod g s)
+HasFault g s NoRoom = 2 ^ 16 ≤ length g.sysmods + 1
 
 -- It is the first fault that applies. RECEIVE refuses the SYSMOD with it.
 abbrev pub RefusedBy : Global → Sysmod → ReceiveFault → Type 0
-RefusedBy g s Rc1 = HasFault g s Rc1
-RefusedBy g s Rc2 = (¬ HasFault g s Rc1) × HasFault g s Rc2
-RefusedBy g s Rc3 = (¬ HasFault g s Rc1) × (¬ HasFault g s Rc2) × HasFault g s Rc3
-RefusedBy g s Rc4 = (¬ HasFault g s Rc1) × (¬ HasFault g s Rc2) × (¬ HasFault g s Rc3) × HasFault g s Rc4
+RefusedBy g s AlreadyReceived = HasFault g s AlreadyReceived
+RefusedBy g s MakesLoop = (¬ HasFault g s AlreadyReceived) × HasFault g s MakesLoop
+RefusedBy g s OtherRole = (¬ HasFault g s AlreadyReceived) × (¬ HasFault g s MakesLoop) × HasFault g s OtherRole
+RefusedBy g s NoRoom = (¬ HasFault g s AlreadyReceived) × (¬ HasFault g s MakesLoop) × (¬ HasFault g s OtherRole)
+    × HasFault g s NoRoom
 
 -- the global zone with the SYSMOD and its internal holds
 abbrev pub received : Global → Sysmod → Global
@@ -154,10 +155,10 @@ abbrev pub Receives : Global → Sysmod → Result Global ReceiveFault → Type 
 Receives g s (Ok new) = ((f : ReceiveFault) → ¬ HasFault g s f) × (new ≡ received g s)
 Receives g s (Err f) = RefusedBy g s f
 
--- Rj1: it is applied in a zone. Rj2: no SYSMOD has the id.
+-- AppliedSomewhere: it is applied in a zone. NotThere: no SYSMOD has the id.
 pub data RejectFault : Type 0 where
-  Rj1 : RejectFault
-  Rj2 : RejectFault
+  AppliedSomewhere : RejectFault
+  NotThere : RejectFault
 
 -- the global zone less the SYSMOD and the internal holds on it
 abbrev pub without_sysmod : Global → Id → Global
@@ -169,6 +170,6 @@ without_sysmod g x = record g {
 -- REJECT: a received SYSMOD goes where it is applied nowhere, whatever SREL a zone has.
 abbrev pub reject : Global → List NamedZone → Id → Result Global RejectFault
 reject g zones x =
-    if not (is_received g x) then Err Rj2
-    else if list_any (λ z. is_applied z.zone x) zones then Err Rj1
+    if not (is_received g x) then Err NotThere
+    else if list_any (λ z. is_applied z.zone x) zones then Err AppliedSomewhere
     else Ok (without_sysmod g x)

@@ -1,8 +1,9 @@
 -- The hold file of RECEIVE HOLDDATA: its holds and releases, and its first fault. (IBM z/OS SMP/E Reference, MCS:
 -- ++HOLD and ++RELEASE; Commands, RECEIVE: the SMPHOLD data set.)
 use Rattle.std.specs.Prelude.{◌≡◌, ◌⊎◌, ℕ, false, List, [], ◌∷◌, Option}
-use Rattle.terms.specs.declared.codes.McCode.{McCode}
-use Rattle.terms.specs.declared.codes.McCode.TheVariants.{Mc1, Mc2, Mc3, Mc4, Mc6}
+use Rattle.terms.specs.declared.codes.StatementCode.{StatementCode}
+use Rattle.terms.specs.declared.codes.StatementCode.TheVariants.{BadStatementForm, UnknownStatementWord, UnfitOperand}
+use Rattle.terms.specs.declared.codes.StatementCode.TheVariants.{WrongPlace, OverLimit}
 use Rattle.terms.specs.declared.statement_words.StatementWord.{StatementWord}
 use Rattle.terms.specs.declared.statement_words.StatementWord.TheVariants as word
 use Rattle.terms.specs.Types.{Text, Lines, HoldItem, AHold, ARelease}
@@ -37,15 +38,16 @@ abbrev pub IsGoodItem : Lines → HoldItem → Type 0
 IsGoodItem records item = (w : StatementWord) × (own : Option Text) × (rest : List Piece) × (inline : Lines)
     × IsKnown records w own rest inline × StandsInHoldFile w inline × HasItem w own rest item × IsWithin item
 
--- What is at fault with a statement. The first of Mc1, Mc2, Mc4, Mc3 and Mc6 is answered.
-abbrev pub IsItemFault : Lines → McCode → Type 0
-IsItemFault records Mc1 = (why : StFault) × IsStFault records why
-IsItemFault records Mc2 = IsUnknown records
-IsItemFault records Mc4 = (w : StatementWord) × (own : Option Text) × (rest : List Piece) × (inline : Lines)
+-- What is at fault with a statement. The first of BadStatementForm, UnknownStatementWord, WrongPlace, UnfitOperand and
+-- OverLimit is answered.
+abbrev pub IsItemFault : Lines → StatementCode → Type 0
+IsItemFault records BadStatementForm = (why : StFault) × IsStFault records why
+IsItemFault records UnknownStatementWord = IsUnknown records
+IsItemFault records WrongPlace = (w : StatementWord) × (own : Option Text) × (rest : List Piece) × (inline : Lines)
     × IsKnown records w own rest inline × (¬ StandsInHoldFile w inline)
-IsItemFault records Mc3 = (w : StatementWord) × (own : Option Text) × (rest : List Piece) × (inline : Lines)
+IsItemFault records UnfitOperand = (w : StatementWord) × (own : Option Text) × (rest : List Piece) × (inline : Lines)
     × IsKnown records w own rest inline × StandsInHoldFile w inline × ((item : HoldItem) → ¬ HasItem w own rest item)
-IsItemFault records Mc6 = (w : StatementWord) × (own : Option Text) × (rest : List Piece) × (inline : Lines)
+IsItemFault records OverLimit = (w : StatementWord) × (own : Option Text) × (rest : List Piece) × (inline : Lines)
     × (item : HoldItem)
     × IsKnown records w own rest inline × StandsInHoldFile w inline × HasItem w own rest item × (¬ IsWithin item)
 IsItemFault records _ = ⊥

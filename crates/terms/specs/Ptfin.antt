@@ -6,8 +6,9 @@ use Rattle.std.specs.Prelude.{Some, None, IsSomeAnd, IfSome, option_map, ◌⊎�
 use Rattle.std.specs.Prelude.{codes}
 use Rattle.std.specs.List.{position_or_len}
 use Rattle.std.specs.Option.{option_map_or, option_and_then}
-use Rattle.terms.specs.declared.codes.McCode.{McCode}
-use Rattle.terms.specs.declared.codes.McCode.TheVariants.{Mc1, Mc2, Mc3, Mc4, Mc5, Mc6}
+use Rattle.terms.specs.declared.codes.StatementCode.{StatementCode}
+use Rattle.terms.specs.declared.codes.StatementCode.TheVariants.{BadStatementForm, UnknownStatementWord, UnfitOperand}
+use Rattle.terms.specs.declared.codes.StatementCode.TheVariants.{WrongPlace, UnfitText, OverLimit}
 use Rattle.terms.specs.declared.kinds.Kind.{Kind}
 use Rattle.terms.specs.declared.kinds.Kind.TheVariants.{Function}
 use Rattle.terms.specs.declared.statement_words.StatementWord.{StatementWord}
@@ -152,7 +153,8 @@ IsMisplaced current later w own rest inline CannotStand = ¬ MayStand current w
 IsMisplaced current later w own rest inline LastHeader = IsHeader w × (later ≡ [])
 IsMisplaced current later w own rest inline TextBehind = (changed_type w ≡ None) × (inline ≢ [])
 IsMisplaced current later w own rest inline Second = IsSomeAnd current (λ s. IsSecond s w own rest)
-IsMisplaced current later w own rest inline UpdateInFunction = IsUpdateWord w × IsSomeAnd current (λ s. s.kind ≡ Function)
+IsMisplaced current later w own rest inline UpdateInFunction = IsUpdateWord w
+    × IsSomeAnd current (λ s. s.kind ≡ Function)
 
 abbrev pub IsPlaced : Option Sysmod → Lines → StatementWord → Option Text → List Piece → Lines → Type 0
 IsPlaced current later w own rest inline = (why : Disorder) → ¬ IsMisplaced current later w own rest inline why
@@ -184,16 +186,18 @@ pub record IsGood (current : Option Begun) (later : Lines) (w : StatementWord) (
   pub within : IsWithin current s inline
   pub text : HasGoodText s
 
--- What is at fault with a statement of a known word. The first of Mc4, Mc3, Mc6 and Mc5 is answered.
-abbrev pub IsFault : Option Begun → Lines → StatementWord → Option Text → List Piece → Lines → McCode → Type 0
-IsFault current later w own rest inline Mc4 = (why : Disorder) × IsMisplaced (sysmod_in current) later w own rest inline why
-IsFault current later w own rest inline Mc3 =
+-- What is at fault with a statement of a known word. The first of WrongPlace, UnfitOperand, OverLimit and UnfitText is
+-- answered.
+abbrev pub IsFault : Option Begun → Lines → StatementWord → Option Text → List Piece → Lines → StatementCode → Type 0
+IsFault current later w own rest inline WrongPlace = (why : Disorder) × IsMisplaced
+    (sysmod_in current) later w own rest inline why
+IsFault current later w own rest inline UnfitOperand =
     IsPlaced (sysmod_in current) later w own rest inline × ((s : Statement)
     → ¬ HasValue (sysmod_in current) w own rest inline s)
-IsFault current later w own rest inline Mc6 = (s : Statement)
+IsFault current later w own rest inline OverLimit = (s : Statement)
     × IsPlaced (sysmod_in current) later w own rest inline × HasValue (sysmod_in current) w own rest inline s
     × (¬ IsWithin current s inline)
-IsFault current later w own rest inline Mc5 = (s : Statement)
+IsFault current later w own rest inline UnfitText = (s : Statement)
     × IsPlaced (sysmod_in current) later w own rest inline × HasValue (sysmod_in current) w own rest inline s
     × IsWithin current s inline × (¬ HasGoodText s)
 IsFault current later w own rest inline _ = ⊥
@@ -219,10 +223,10 @@ IsGoodStatement current later records s = (w : StatementWord) × (own : Option T
     × (inline : Lines)
     × IsKnown records w own rest inline × IsGood current later w own rest inline s
 
--- What is at fault with a statement. Its form (Mc1) and its word (Mc2) come first.
-abbrev pub IsStatementFault : Option Begun → Lines → Lines → McCode → Type 0
-IsStatementFault current later records Mc1 = (why : StFault) × IsStFault records why
-IsStatementFault current later records Mc2 = IsUnknown records
+-- What is at fault with a statement. Its form (BadStatementForm) and its word (UnknownStatementWord) come first.
+abbrev pub IsStatementFault : Option Begun → Lines → Lines → StatementCode → Type 0
+IsStatementFault current later records BadStatementForm = (why : StFault) × IsStFault records why
+IsStatementFault current later records UnknownStatementWord = IsUnknown records
 IsStatementFault current later records code = (w : StatementWord) × (own : Option Text) × (rest : List Piece)
     × (inline : Lines)
     × IsKnown records w own rest inline × IsFault current later w own rest inline code
@@ -243,13 +247,13 @@ IsPtfin bytes items = (records : Lines) × (ss : List Statement) × (d : SoFar) 
 -- a fault of PTFIN, with the number of the statement's first record
 pub record McsFault : Type 0 where
   pub number : ℕ
-  pub code : McCode
+  pub code : StatementCode
 
--- The fault of the records (Mc1), or a first record that begins no statement (Mc4).
+-- The fault of the records (BadStatementForm), or a first record that begins no statement (WrongPlace).
 abbrev pub IsFileFault : List ℕ → McsFault → Type 0
 IsFileFault bytes fault =
-    ((fault.code ≡ Mc1) × (r : RecFault) × IsRecFault bytes r × (fault.number ≡ rec_fault_record r))
-    ⊎ ((fault.code ≡ Mc4) × (fault.number ≡ 1) × (records : Lines) × HasRecords bytes records
+    ((fault.code ≡ BadStatementForm) × (r : RecFault) × IsRecFault bytes r × (fault.number ≡ rec_fault_record r))
+    ⊎ ((fault.code ≡ WrongPlace) × (fault.number ≡ 1) × (records : Lines) × HasRecords bytes records
     × IsTrue (starts_outside records))
 
 -- The next statement, behind those that make c, is at fault.

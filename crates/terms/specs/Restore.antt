@@ -1,12 +1,13 @@
 -- RESTORE: its list, its tests, its needs, and the target zone afterwards.
 -- (IBM z/OS SMP/E Commands, the RESTORE command. Its candidates, tests, needs and effect are this project's profile.)
-use Rattle.std.specs.Prelude.{◌≡◌, ◌≢◌, ◌⊎◌, ◌↔◌, ◌&&◌, ◌==◌, Bool, true, false, not, List, [], ◌∷◌, Some, filter, IsTrue, IsFalse}
+use Rattle.std.specs.Prelude.{◌≡◌, ◌≢◌, ◌⊎◌, ◌↔◌, ◌&&◌, ◌==◌, Bool, true, false, not, List, [], ◌∷◌, Some, filter}
+use Rattle.std.specs.Prelude.{IsTrue, IsFalse}
 use Rattle.std.specs.Prelude.{Contains, Any, All}
 use Rattle.std.specs.List.{list_any}
 use Rattle.std.specs.Option.{option_map_or}
 use Rattle.terms.specs.declared.kinds.ElemType.{ElemType}
 use Rattle.terms.specs.declared.codes.Test.{Test}
-use Rattle.terms.specs.declared.codes.Test.TheVariants.{J10, J11, J12}
+use Rattle.terms.specs.declared.codes.Test.TheVariants.{AlreadyAccepted, HasDelete, UnappliedLevel}
 use Rattle.terms.specs.declared.codes.NeedKind.{NeedKind}
 use Rattle.terms.specs.declared.codes.NeedKind.TheVariants.{Elem, Dep}
 use Rattle.terms.specs.Types.{Text, Id, Global, Element, Zone, RestoreList, RestoreSelect, RestoreGroup}
@@ -68,13 +69,13 @@ pub record AreListed (r : Restoring) (what : RestoreList) (ids : List Id) : Type
 abbrev pub restore_candidates : Restoring → List Id → List Id
 restore_candidates r ids = filter (is_applied r.zone) ids
 
--- J10: the distribution zone supplies it, so it is accepted
-abbrev pub FailsJ10 : Restoring → Id → Type 0
-FailsJ10 r x = IsTrue (is_supplied r.accepted x)
+-- AlreadyAccepted: the distribution zone supplies it, so it is accepted
+abbrev pub IsAlreadyAccepted : Restoring → Id → Type 0
+IsAlreadyAccepted r x = IsTrue (is_supplied r.accepted x)
 
--- J11: it has DELETE
-abbrev pub FailsJ11 : Restoring → Id → Type 0
-FailsJ11 r x = del_of r.choice x ≢ []
+-- HasDelete: it has DELETE
+abbrev pub ComesWithDelete : Restoring → Id → Type 0
+ComesWithDelete r x = del_of r.choice x ≢ []
 
 -- whether FMID, RMID and each UMID of an element are applied
 abbrev pub are_applied : Zone → Element → Bool
@@ -82,7 +83,8 @@ are_applied zone e = not (list_any (λ y. not (is_applied zone y)) (e.fmid ∷ e
 
 -- whether both zones have applied it, by the ++VER of one number
 abbrev pub is_alike : Zone → Zone → Id → Bool
-is_alike a b x = option_map_or (λ n. option_map_or (λ m. n.number == m.number) (applied_of b x) false) (applied_of a x) false
+is_alike a b x = option_map_or (λ n. option_map_or (λ m. n.number == m.number) (applied_of b x) false)
+    (applied_of a x) false
 
 -- whether RMID and each UMID of an element are alike in two zones
 abbrev pub are_alike : Zone → Zone → Element → Bool
@@ -92,18 +94,18 @@ are_alike a b e = not (list_any (λ y. not (is_alike a b y)) (e.rmid ∷ e.umids
 abbrev pub may_return : Restoring → Element → Bool
 may_return r e = are_applied r.zone e && are_alike r.zone r.accepted e
 
--- J12: the distribution zone has an element of it under an FMID, an RMID or a UMID that the target zone has not
--- applied, or under an RMID or a UMID that the zones have applied by two ++VERs
-abbrev pub FailsJ12 : Restoring → Id → Type 0
-FailsJ12 r x =
+-- UnappliedLevel: the distribution zone has an element of it under an FMID, an RMID or a UMID that the target zone has
+-- not applied, or under an RMID or a UMID that the zones have applied by two ++VERs
+abbrev pub ChangesUnappliedLevel : Restoring → Id → Type 0
+ChangesUnappliedLevel r x =
     Any (λ h. IsFalse (option_map_or (may_return r) (element_of r.accepted h.elem_type h.name) true))
     (changes_of r.global x)
 
 -- a candidate of RESTORE fails the test
 abbrev pub FailsRestore : Restoring → Id → Test → Type 0
-FailsRestore r x J10 = FailsJ10 r x
-FailsRestore r x J11 = FailsJ11 r x
-FailsRestore r x J12 = FailsJ12 r x
+FailsRestore r x AlreadyAccepted = IsAlreadyAccepted r x
+FailsRestore r x HasDelete = ComesWithDelete r x
+FailsRestore r x UnappliedLevel = ChangesUnappliedLevel r x
 FailsRestore r x _ = ⊥
 
 -- a candidate that passes them

@@ -108,13 +108,13 @@ abbrev pub IsStatement : List (List ℕ) → List Piece → List (List ℕ) → 
 IsStatement records pieces inline =
     (ps : List Piece) × (tail : Text) × Ends records ps tail inline × IsIdle tail × (pieces ≡ solid ps)
 
--- St1: nothing ends it. St2: a comment stays open. St3: a parenthesis without its partner, or a third level of them.
--- St4: more than gaps stand behind its period.
+-- Unended: nothing ends it. CommentOpen: a comment stays open. ParensUnpaired: a parenthesis without its partner, or a
+-- third level of them. MoreBehind: more than gaps stand behind its period.
 pub data StFault : Type 0 where
-  St1 : StFault
-  St2 : StFault
-  St3 : StFault
-  St4 : StFault
+  Unended : StFault
+  CommentOpen : StFault
+  ParensUnpaired : StFault
+  MoreBehind : StFault
 
 -- A comment begins and is not closed.
 abbrev pub OpensComment : Text → Type 0
@@ -127,10 +127,11 @@ BreaksPairs text = (after : Text) × ((text ≡ 41 ∷ after) ⊎ ((text ≡ 40 
 -- After these pieces the records have no period, an open comment, or bad parentheses. Or their period has text after
 -- it.
 abbrev pub BreaksOff : List (List ℕ) → List Piece → StFault → Type 0
-BreaksOff records ps St1 = HasPieces (joined records) ps []
-BreaksOff records ps St2 = (rest : Text) × HasPieces (joined records) ps rest × OpensComment rest
-BreaksOff records ps St3 = (rest : Text) × HasPieces (joined records) ps rest × BreaksPairs rest
-BreaksOff records ps St4 = (tail : Text) × (inline : List (List ℕ)) × Ends records ps tail inline × (IsIdle tail → ⊥)
+BreaksOff records ps Unended = HasPieces (joined records) ps []
+BreaksOff records ps CommentOpen = (rest : Text) × HasPieces (joined records) ps rest × OpensComment rest
+BreaksOff records ps ParensUnpaired = (rest : Text) × HasPieces (joined records) ps rest × BreaksPairs rest
+BreaksOff records ps MoreBehind = (tail : Text) × (inline : List (List ℕ)) × Ends records ps tail inline
+    × (IsIdle tail → ⊥)
 
 -- the fault of the records, behind good pieces
 abbrev pub IsStFault : List (List ℕ) → StFault → Type 0

@@ -9,7 +9,9 @@ use Rattle.terms.specs.declared.kinds.HoldKind.TheVariants.{Error, System, User}
 use Rattle.terms.specs.declared.kinds.ElemType.{ElemType}
 use Rattle.terms.specs.declared.kinds.ZoneKind.TheVariants.{Distribution}
 use Rattle.terms.specs.declared.codes.Test.{Test}
-use Rattle.terms.specs.declared.codes.Test.TheVariants.{J1, J2, J3, J4, J5, J6, J7, J8, J9, J13}
+use Rattle.terms.specs.declared.codes.Test.TheVariants.{HeldBySystem, HeldByUser, ForbiddenByNpre, OwnedByAnother}
+use Rattle.terms.specs.declared.codes.Test.TheVariants.{UnrelatedLevel, NothingToUpdate, NotInTarget, ChainDeleted}
+use Rattle.terms.specs.declared.codes.Test.TheVariants.{InClash, SeveralFit}
 use Rattle.terms.specs.Types.{Text, Id, Hold, Global, Element, Zone, Reasons, NoReason, AnyReason, TheseReasons, Bypass}
 use Rattle.terms.specs.Lookups.{IsRising, is_in, has_change, holds_of, element_of, is_applied, is_function}
 use Rattle.terms.specs.Choice.{Choice, vers_of, fits, fmid_of, npre_of, del_of}
@@ -52,17 +54,17 @@ is_bypassed_hold b h = covers (reasons_of b h.kind) h.reason || option_map_or (i
 abbrev pub standing_holds : Setting → HoldKind → Id → List Hold
 standing_holds s kind x = filter (λ h. not (is_bypassed_hold s.bypass h)) (holds_of s.global kind x)
 
--- J1: a SYSTEM hold stands against it
-abbrev pub FailsJ1 : Setting → Id → Type 0
-FailsJ1 s x = standing_holds s System x ≢ []
+-- HeldBySystem: a SYSTEM hold stands against it
+abbrev pub IsHeldBySystem : Setting → Id → Type 0
+IsHeldBySystem s x = standing_holds s System x ≢ []
 
--- J2: a USER hold stands against it
-abbrev pub FailsJ2 : Setting → Id → Type 0
-FailsJ2 s x = standing_holds s User x ≢ []
+-- HeldByUser: a USER hold stands against it
+abbrev pub IsHeldByUser : Setting → Id → Type 0
+IsHeldByUser s x = standing_holds s User x ≢ []
 
--- J3: its NPRE names what is applied in its view, or the NPRE of a function that is applied there names it
-abbrev pub FailsJ3 : Setting → Id → Type 0
-FailsJ3 s x = (y : Id) × IsTrue (is_applied (view_of s x) y)
+-- ForbiddenByNpre: its NPRE names what is applied in its view, or the NPRE of a function that is applied there names it
+abbrev pub IsForbiddenByNpre : Setting → Id → Type 0
+IsForbiddenByNpre s x = (y : Id) × IsTrue (is_applied (view_of s x) y)
     × (Contains (npre_of s.choice x) y ⊎ (IsTrue (is_function s.global y) × Contains (npre_of s.choice y) x))
 
 -- x replaces or updates this element of its view
@@ -70,13 +72,14 @@ abbrev pub ChangesInView : Setting → Id → Element → Type 0
 ChangesInView s x e = (type : ElemType) × (name : Text)
     × IsTrue (has_change s.global x type name) × (element_of (view_of s x) type name ≡ Some e)
 
--- J4: an element that it changes has another owner in its view
-abbrev pub FailsJ4 : Setting → Id → Type 0
-FailsJ4 s x = (e : Element) × ChangesInView s x e × (e.fmid ≢ owner_of s x)
+-- OwnedByAnother: an element that it changes has another owner in its view
+abbrev pub ChangesOwnedByAnother : Setting → Id → Type 0
+ChangesOwnedByAnother s x = (e : Element) × ChangesInView s x e × (e.fmid ≢ owner_of s x)
 
--- J5: an element that it changes has an RMID or UMID in its view that it is not over; BYPASS(ID) leaves this test out
-abbrev pub FailsJ5 : Setting → Id → Type 0
-FailsJ5 s x = IsFalse s.bypass.same_id
+-- UnrelatedLevel: an element that it changes has an RMID or UMID in its view that it is not over; BYPASS(ID) leaves
+-- this test out
+abbrev pub ChangesUnrelatedLevel : Setting → Id → Type 0
+ChangesUnrelatedLevel s x = IsFalse s.bypass.same_id
     × ((e : Element) × (z : Id) × ChangesInView s x e × Contains (e.rmid ∷ e.umids) z × ¬ IsOver s.choice x z)
 
 -- whether its FMID is a candidate that replaces the element
@@ -84,46 +87,47 @@ abbrev pub has_candidate_base : Setting → Id → ElemType → Text → Bool
 has_candidate_base s x type name =
     option_map_or (λ f. is_in s.cands f && has_replacement s.global f type name) (fmid_of s.choice x) false
 
--- J6: it has an update for what its view lacks, and no replacement of that comes with its FMID as a candidate
-abbrev pub FailsJ6 : Setting → Id → Type 0
-FailsJ6 s x = (type : ElemType) × (name : Text) × IsTrue (has_update s.global x type name)
+-- NothingToUpdate: it has an update for what its view lacks, and no replacement of that comes with its FMID as a
+-- candidate
+abbrev pub HasNothingToUpdate : Setting → Id → Type 0
+HasNothingToUpdate s x = (type : ElemType) × (name : Text) × IsTrue (has_update s.global x type name)
     × (element_of (view_of s x) type name ≡ None) × IsFalse (has_candidate_base s x type name)
 
--- J7, for ACCEPT: no related target zone has applied it; BYPASS(APPLYCHECK) leaves this test out
-abbrev pub FailsJ7 : Setting → Id → Type 0
-FailsJ7 s x =
+-- NotInTarget, for ACCEPT: no related target zone has applied it; BYPASS(APPLYCHECK) leaves this test out
+abbrev pub IsNotInTarget : Setting → Id → Type 0
+IsNotInTarget s x =
     (s.zone.kind ≡ Distribution)
     × IsFalse s.bypass.applycheck
     × IsFalse (option_map_or (λ target. is_applied target x) s.related false)
 
--- J13: two or more of its ++VERs for the zone's SREL fit
-abbrev pub FailsJ13 : Setting → Id → Type 0
-FailsJ13 s x = 2 ≤ length (filter (fits s.zone (is_in s.cands)) (vers_of s.global s.zone.srel x))
+-- SeveralFit: two or more of its ++VERs for the zone's SREL fit
+abbrev pub HasSeveralFit : Setting → Id → Type 0
+HasSeveralFit s x = 2 ≤ length (filter (fits s.zone (is_in s.cands)) (vers_of s.global s.zone.srel x))
 
--- It fails a test that looks at it alone: one of J1 to J7, or J13.
+-- It fails a test that looks at it alone.
 abbrev pub FailsAlone : Setting → Id → Test → Type 0
-FailsAlone s x J1 = FailsJ1 s x
-FailsAlone s x J2 = FailsJ2 s x
-FailsAlone s x J3 = FailsJ3 s x
-FailsAlone s x J4 = FailsJ4 s x
-FailsAlone s x J5 = FailsJ5 s x
-FailsAlone s x J6 = FailsJ6 s x
-FailsAlone s x J7 = FailsJ7 s x
-FailsAlone s x J13 = FailsJ13 s x
+FailsAlone s x HeldBySystem = IsHeldBySystem s x
+FailsAlone s x HeldByUser = IsHeldByUser s x
+FailsAlone s x ForbiddenByNpre = IsForbiddenByNpre s x
+FailsAlone s x OwnedByAnother = ChangesOwnedByAnother s x
+FailsAlone s x UnrelatedLevel = ChangesUnrelatedLevel s x
+FailsAlone s x NothingToUpdate = HasNothingToUpdate s x
+FailsAlone s x NotInTarget = IsNotInTarget s x
+FailsAlone s x SeveralFit = HasSeveralFit s x
 FailsAlone s x _ = ⊥
 
 -- a candidate that passes these
 abbrev pub PassesAlone : Setting → Id → Type 0
 PassesAlone s x = Contains s.cands x × ((test : Test) → ¬ FailsAlone s x test)
 
--- J8: among those that pass these, a DELETE names it or an id of its chain; that DELETE may be its own
-abbrev pub FailsJ8 : Setting → Id → Type 0
-FailsJ8 s x = PassesAlone s x
+-- ChainDeleted: among those that pass these, a DELETE names it or an id of its chain; that DELETE may be its own
+abbrev pub IsChainDeleted : Setting → Id → Type 0
+IsChainDeleted s x = PassesAlone s x
     × ((y : Id) × PassesAlone s y × IsTrue (is_deleted s.global s.choice (del_of s.choice y) x))
 
--- a survivor: it passes these and J8
+-- a survivor: it passes these, and no DELETE takes it
 abbrev pub Survives : Setting → Id → Type 0
-Survives s x = PassesAlone s x × ¬ FailsJ8 s x
+Survives s x = PassesAlone s x × ¬ IsChainDeleted s x
 
 -- all survivors
 pub record AreSurvivors (s : Setting) (ids : List Id) : Type 0 where
@@ -144,16 +148,16 @@ abbrev pub Clash : Setting → Id → Id → Type 0
 Clash s x y =
     Contains (npre_of s.choice x) y ⊎ Contains (npre_of s.choice y) x ⊎ (ShareElement s.global x y × MayNotShare s x y)
 
--- J9: it is a survivor and clashes with another one
-abbrev pub FailsJ9 : Setting → Id → Type 0
-FailsJ9 s x = Survives s x × ((y : Id) × Survives s y × (x ≢ y) × Clash s x y)
+-- InClash: it is a survivor and clashes with another one
+abbrev pub IsInClash : Setting → Id → Type 0
+IsInClash s x = Survives s x × ((y : Id) × Survives s y × (x ≢ y) × Clash s x y)
 
--- a survivor that passes J9
+-- a survivor that clashes with none
 abbrev pub IsEligible : Setting → Id → Type 0
-IsEligible s x = Survives s x × ¬ FailsJ9 s x
+IsEligible s x = Survives s x × ¬ IsInClash s x
 
--- a candidate of APPLY or ACCEPT fails the test; J10 to J12 are RESTORE's
+-- a candidate of APPLY or ACCEPT fails the test; three tests are RESTORE's alone
 abbrev pub Fails : Setting → Id → Test → Type 0
-Fails s x J8 = FailsJ8 s x
-Fails s x J9 = FailsJ9 s x
+Fails s x ChainDeleted = IsChainDeleted s x
+Fails s x InClash = IsInClash s x
 Fails s x test = FailsAlone s x test

@@ -13,45 +13,55 @@ pub enum CommandWord {
     Report,
 }
 
-/// What is wrong in a PTFIN or hold file: `Mc1` a record, or how a statement is built; `Mc2` the word that it begins
-/// with; `Mc3` an operand; `Mc4` its place among the others; `Mc5` the text behind it; `Mc6` one of the limits.
+/// What is wrong in a PTFIN or hold file, in the order of the codes `Mc1` to `Mc6`.
 #[derive(Clone, Copy, Debug, PartialEq, Eq, PartialOrd, Ord, Hash)]
-pub enum McCode {
-    Mc1,
-    Mc2,
-    Mc3,
-    Mc4,
-    Mc5,
-    Mc6,
+pub enum StatementCode {
+    /// A record, or how a statement is built.
+    BadStatementForm,
+    /// The word that it begins with.
+    UnknownStatementWord,
+    /// An operand.
+    UnfitOperand,
+    /// Its place among the others.
+    WrongPlace,
+    /// The text behind it.
+    UnfitText,
+    /// One of the limits.
+    OverLimit,
 }
 
-/// What is wrong in a command file: `Cn1` the word of a command; `Cn2` an operand; `Cn3` an operand that comes again;
-/// `Cn4` RESTORE with both SELECT and GROUP or without them; `Cn5` a record, or how a command is built.
+/// What is wrong in a command file, in the order of the codes `Cn1` to `Cn5`.
 #[derive(Clone, Copy, Debug, PartialEq, Eq, PartialOrd, Ord, Hash)]
-pub enum CnCode {
-    Cn1,
-    Cn2,
-    Cn3,
-    Cn4,
-    Cn5,
+pub enum CommandCode {
+    /// The word of a command.
+    UnknownCommand,
+    /// An operand, or a member of BYPASS.
+    UnfitValue,
+    /// An operand, or a member of BYPASS, that comes again.
+    OperandTwice,
+    /// RESTORE with both SELECT and GROUP, or without them.
+    NoSingleList,
+    /// A record, or how a command is built.
+    BadCommandForm,
 }
 
-/// The tests that a candidate passes or fails: `J1` to `J9` and `J13` of APPLY and ACCEPT, the others of RESTORE.
+/// The tests that a candidate passes or fails, each named for what fails it, in the order of the codes `J1` to `J13`:
+/// `AlreadyAccepted`, `HasDelete` and `UnappliedLevel` are RESTORE's, the others APPLY's and ACCEPT's.
 #[derive(Clone, Copy, Debug, PartialEq, Eq, PartialOrd, Ord, Hash)]
 pub enum Test {
-    J1,
-    J2,
-    J3,
-    J4,
-    J5,
-    J6,
-    J7,
-    J8,
-    J9,
-    J10,
-    J11,
-    J12,
-    J13,
+    HeldBySystem,
+    HeldByUser,
+    ForbiddenByNpre,
+    OwnedByAnother,
+    UnrelatedLevel,
+    NothingToUpdate,
+    NotInTarget,
+    ChainDeleted,
+    InClash,
+    AlreadyAccepted,
+    HasDelete,
+    UnappliedLevel,
+    SeveralFit,
 }
 
 /// What a candidate needs an id for, in the order of reports. ELEM and DEP are RESTORE's.
@@ -67,15 +77,21 @@ pub enum NeedKind {
     Dep,
 }
 
-/// Why one id was refused: by RECEIVE (`Rc2` a loop, `Rc3` a role, `Rc4` the limit), by `++RELEASE`
-/// (`Rl1` nothing has the key, `Rl2` it came with its SYSMOD) or by REJECT (`Rj1` applied somewhere, `Rj2` not there).
+/// Why one id was refused: by RECEIVE (`Rc2` to `Rc4`), by `++RELEASE` (`Rl1`, `Rl2`) or by REJECT (`Rj1`, `Rj2`).
 #[derive(Clone, Copy, Debug, PartialEq, Eq, PartialOrd, Ord, Hash)]
 pub enum IdRefusal {
-    Rc2,
-    Rc3,
-    Rc4,
-    Rl1,
-    Rl2,
-    Rj1,
-    Rj2,
+    /// It would close a loop of PRE, SUP and FMID.
+    MakesLoop,
+    /// A function would be named where only service may be, or service where only functions may.
+    OtherRole,
+    /// As many are received as can be.
+    NoRoom,
+    /// No hold has the key.
+    NoSuchHold,
+    /// The hold came with its SYSMOD.
+    CameAlong,
+    /// It is applied in a zone.
+    AppliedSomewhere,
+    /// No SYSMOD has the id.
+    NotThere,
 }

@@ -11,7 +11,7 @@ mod not_chosen;
 mod statement_words;
 mod text_faults;
 
-pub use codes::{CnCode, CommandWord, IdRefusal, McCode, NeedKind, Test};
+pub use codes::{CommandCode, CommandWord, IdRefusal, NeedKind, StatementCode, Test};
 pub use kinds::{ElemType, HoldKind, Kind, ZoneKind};
 pub use not_chosen::NotChosen;
 pub use statement_words::StatementWord;

@@ -1,20 +1,20 @@
 //! The faults of texts of elements.
 
-/// What is wrong with a record of a text.
+/// What is wrong with a record of a text, in the order of the codes `Tx1` to `Tx6`.
 #[derive(Clone, Copy, Debug, PartialEq, Eq)]
 pub enum TextCode {
     /// The record has no number: no eight digits in columns 73 to 80.
-    Tx1,
+    NoNumber,
     /// The number of a text does not rise.
-    Tx2,
+    FallingNumber,
     /// An update does not begin with a CHANGE record.
-    Tx3,
+    NoChange,
     /// The CHANGE record names another element.
-    Tx4,
+    OtherElement,
     /// Another `./` record is no good DELETE record.
-    Tx5,
+    BadDelete,
     /// The number of an update does not rise.
-    Tx6,
+    FallingUpdate,
 }
 
 /// The first record of a text that is at fault, counted from 1.

@@ -1,9 +1,9 @@
 use Rattle.std.specs.Prelude.{◌≡◌, ◌<◌, ◌⊎◌, ℕ, List}
 use Rattle.terms.specs.declared.text_faults.TextCode.{TextCode}
-use Rattle.terms.specs.declared.text_faults.TextCode.TheVariants.{Tx1}
+use Rattle.terms.specs.declared.text_faults.TextCode.TheVariants.{NoNumber}
 use Rattle.terms.specs.Texts.{IsNumberedLine, number_of}
 
--- Tx1 where the record has no number, the given code where its number is below the least one that may come
+-- NoNumber where the record has no number, the given code where its number is below the least one that may come
 abbrev pub IsNumberFault : List ℕ → ℕ → TextCode → TextCode → Type 0
 IsNumberFault line least disorder code =
-    ((code ≡ Tx1) × ¬ IsNumberedLine line) ⊎ ((code ≡ disorder) × IsNumberedLine line × (number_of line < least))
+    ((code ≡ NoNumber) × ¬ IsNumberedLine line) ⊎ ((code ≡ disorder) × IsNumberedLine line × (number_of line < least))

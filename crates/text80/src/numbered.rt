@@ -35,15 +35,15 @@ impl Numbered {
         }
     }
 
-    /// The records as a numbered text. The error tells the first bad record, counted from 1: `Tx1` where it has no
-    /// number, `Tx2` where its number does not rise.
+    /// The records as a numbered text. The error tells the first bad record, counted from 1: `NoNumber` where it has no
+    /// number, `FallingNumber` where its number does not rise.
     pub fn read(lines: Vec<Line>) -> Result<Numbered, TextFault>
         ensures text { IfOk result (λ text. text ≡ lines.items) }
         ensures fault { IfErr result (IsNumberedFault lines.items) }
     {
         let mut least = 0;
         for (i, line) in lines.iter().enumerate() {
-            match rising_number(line, least, TextCode::Tx2) {
+            match rising_number(line, least, TextCode::FallingNumber) {
                 Ok(number) => least = number + 1,
                 Err(code) => return Err(TextFault {
                     number: i + 1,
@@ -88,8 +88,8 @@ impl Clone for Numbered {
     }
 }
 
-/// The number of a record, which is not to be below the least one that may come. The error is `Tx1` where it has none,
-/// and `disorder` where it is below.
+/// The number of a record, which is not to be below the least one that may come. The error is `NoNumber` where it has
+/// none, and `disorder` where it is below.
 pub(crate) fn rising_number(line: &Line, least: u32, disorder: TextCode) -> Result<u32, TextCode>
     ensures numbered { IfOk result (λ n. IsNumberedLine line.now × (n ≡ number_of line.now)) }
     ensures from { IfOk result (λ n. least ≤ n) }
@@ -97,7 +97,7 @@ pub(crate) fn rising_number(line: &Line, least: u32, disorder: TextCode) -> Resu
     ensures fault { IfErr result (IsNumberFault line.now least disorder) }
 {
     match line.number() {
-        None => Err(TextCode::Tx1),
+        None => Err(TextCode::NoNumber),
         Some(number) if number < least => Err(disorder),
         Some(number) => Ok(number),
     }

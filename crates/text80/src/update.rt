@@ -33,9 +33,10 @@ impl Model for Update {
 
 impl Update {
     /// The records, CHANGE and all, as an update of the element of this name. `Memory` comes where memory runs out.
-    /// `Fault` tells the first bad record, counted from 1. Of the first one it is `Tx3` where it is no CHANGE, or there
-    /// are no records, and `Tx4` where it names another element; behind that it is `Tx1` where a record has no number,
-    /// `Tx5` where a `./` record is no DELETE, and `Tx6` where a number does not rise.
+    /// `Fault` tells the first bad record, counted from 1. Of the first one it is `NoChange` where it is no CHANGE, or
+    /// there are no records, and `OtherElement` where it names another element; behind that it is `NoNumber` where a
+    /// record has no number, `BadDelete` where a `./` record is no DELETE, and `FallingUpdate` where a number does not
+    /// rise.
     pub fn read(alloc: Global, records: Vec<Line>, name: &[u8]) -> Result<Update, TextError>
         ensures update { IfOk result (λ update. (update ≡ records.items) × IsUpdate name.now records.items) }
         ensures fault { IfErr result (IsUpdateError name.now records.items) }
@@ -93,17 +94,17 @@ fn behind_change<'a>(records: &'a [Line], name: &[u8]) -> Result<&'a [Line], Tex
     let Some((first, rest)) = records.split_first() else {
         return Err(TextFault {
             number: 1,
-            code: TextCode::Tx3,
+            code: TextCode::NoChange,
         });
     };
     match changed(first) {
         None => Err(TextFault {
             number: 1,
-            code: TextCode::Tx3,
+            code: TextCode::NoChange,
         }),
         Some(found) if found != name => Err(TextFault {
             number: 1,
-            code: TextCode::Tx4,
+            code: TextCode::OtherElement,
         }),
         Some(_) => Ok(rest),
     }
@@ -122,12 +123,12 @@ fn ranges_of(alloc: Global, lines: &[Line]) -> Result<Vec<Range>, TextError>
             match deleted(line) {
                 Some(range) => ranges.push(range)?,
                 None => {
-                    let code = TextCode::Tx5;
+                    let code = TextCode::BadDelete;
                     return Err(TextError::Fault(TextFault { number, code }));
                 }
             }
         } else {
-            match rising_number(line, least, TextCode::Tx6) {
+            match rising_number(line, least, TextCode::FallingUpdate) {
                 Ok(found) => least = found + 1,
                 Err(code) => return Err(TextError::Fault(TextFault { number, code })),
             }

@@ -7,7 +7,9 @@ use Rattle.std.specs.Option.{option_and_then, option_map_or}
 use Rattle.std.proofs.lemmas.Bool.{not-true}
 use Rattle.std.proofs.lemmas.List.Folds.{Any-from_list_any, list_any-from_Any}
 use Rattle.terms.specs.declared.codes.Test.{Test}
-use Rattle.terms.specs.declared.codes.Test.TheVariants.{J1, J2, J3, J4, J5, J6, J7, J8, J9, J10, J11, J12, J13}
+use Rattle.terms.specs.declared.codes.Test.TheVariants.{HeldBySystem, HeldByUser, ForbiddenByNpre, OwnedByAnother}
+use Rattle.terms.specs.declared.codes.Test.TheVariants.{UnrelatedLevel, NothingToUpdate, NotInTarget, ChainDeleted}
+use Rattle.terms.specs.declared.codes.Test.TheVariants.{InClash, AlreadyAccepted, HasDelete, UnappliedLevel, SeveralFit}
 use Rattle.terms.specs.Types.{Id, Applied, Entry, Element, Change, Zone}
 use Rattle.terms.specs.Lookups.{is_nil, applied_of, element_of, entry_of, is_applied, changes_of}
 use Rattle.terms.specs.Choice.{del_of}
@@ -80,21 +82,21 @@ nil_is [] = (λ e. absurd (cc e), λ apart. absurd (apart refl))
 nil_is (x ∷ xs) = (λ e same. cc same, λ apart. refl)
 
 pub fails_is : (r : Restoring) (x : Id) (t : Test) → IsTrue (fails_test r x t) ↔ FailsRestore r x t
-fails_is r x J10 = (λ h. h, λ h. h)
-fails_is r x J11 = nil_is (del_of r.choice x)
-fails_is r x J12 = (
+fails_is r x AlreadyAccepted = (λ h. h, λ h. h)
+fails_is r x HasDelete = nil_is (del_of r.choice x)
+fails_is r x UnappliedLevel = (
   λ on.
       let a = Any-from_list_any (is_behind r) (changes_of r.global x) on in
       (a.0, a.1, a.2, a.3, (behind_is r a.1).0 a.4),
   λ a. list_any-from_Any (is_behind r) (changes_of r.global x) (a.0, a.1, a.2, a.3, (behind_is r a.1).1 a.4),
 )
-fails_is r x J1 = (λ e. absurd (cc e), λ e. absurd e)
-fails_is r x J2 = (λ e. absurd (cc e), λ e. absurd e)
-fails_is r x J3 = (λ e. absurd (cc e), λ e. absurd e)
-fails_is r x J4 = (λ e. absurd (cc e), λ e. absurd e)
-fails_is r x J5 = (λ e. absurd (cc e), λ e. absurd e)
-fails_is r x J6 = (λ e. absurd (cc e), λ e. absurd e)
-fails_is r x J7 = (λ e. absurd (cc e), λ e. absurd e)
-fails_is r x J8 = (λ e. absurd (cc e), λ e. absurd e)
-fails_is r x J9 = (λ e. absurd (cc e), λ e. absurd e)
-fails_is r x J13 = (λ e. absurd (cc e), λ e. absurd e)
+fails_is r x HeldBySystem = (λ e. absurd (cc e), λ e. absurd e)
+fails_is r x HeldByUser = (λ e. absurd (cc e), λ e. absurd e)
+fails_is r x ForbiddenByNpre = (λ e. absurd (cc e), λ e. absurd e)
+fails_is r x OwnedByAnother = (λ e. absurd (cc e), λ e. absurd e)
+fails_is r x UnrelatedLevel = (λ e. absurd (cc e), λ e. absurd e)
+fails_is r x NothingToUpdate = (λ e. absurd (cc e), λ e. absurd e)
+fails_is r x NotInTarget = (λ e. absurd (cc e), λ e. absurd e)
+fails_is r x ChainDeleted = (λ e. absurd (cc e), λ e. absurd e)
+fails_is r x InClash = (λ e. absurd (cc e), λ e. absurd e)
+fails_is r x SeveralFit = (λ e. absurd (cc e), λ e. absurd e)

@@ -1,7 +1,7 @@
 //! The tests of RESTORE.
 ghost use Rattle.std.specs.Prelude.{◌≡◌, [], ◌∷◌, not, filter, map, IfOk};
 ghost use Rattle.std.specs.List.{list_any};
-ghost use Rattle.terms.specs.declared.codes.Test.TheVariants.{J10, J11, J12};
+ghost use Rattle.terms.specs.declared.codes.Test.TheVariants.{AlreadyAccepted, HasDelete, UnappliedLevel};
 ghost use Rattle.terms.specs.Restore.{are_alike, is_alike, may_return};
 ghost use Rattle.undo.specs.Scopes.{restoring_of};
 ghost use Rattle.decide.specs.Said.{AreTests};
@@ -64,12 +64,12 @@ fn fails(scope: &Scope<'_, '_>, id: Id, test: Test) -> bool
     ensures { result ≡ fails_test (restoring_of scope.now) id test }
 {
     match test {
-        Test::J10 => scope.accepted.supplies(id),
-        Test::J11 => match scope.vers.ver(id) {
+        Test::AlreadyAccepted => scope.accepted.supplies(id),
+        Test::HasDelete => match scope.vers.ver(id) {
             Some(ver) => !ver.del.is_empty(),
             None => false,
         },
-        Test::J12 => changes_of(scope.vers.global(), id)
+        Test::UnappliedLevel => changes_of(scope.vers.global(), id)
             .iter()
             .any(|change| is_behind(scope, change)),
         _ => false,
@@ -78,9 +78,10 @@ fn fails(scope: &Scope<'_, '_>, id: Id, test: Test) -> bool
 
 // The tests that a candidate fails.
 fn row_of(alloc: Global, scope: &Scope<'_, '_>, id: Id) -> Result<Vec<Test>, AllocError>
-    ensures { IfOk result (λ row. row.items ≡ filter (fails_test (restoring_of scope.now) id) (J10 ∷ J11 ∷ J12 ∷ [])) }
+    ensures { IfOk result (λ row. row.items ≡ filter (fails_test (restoring_of scope.now) id) (AlreadyAccepted
+        ∷ HasDelete ∷ UnappliedLevel ∷ [])) }
 {
-    [Test::J10, Test::J11, Test::J12]
+    [Test::AlreadyAccepted, Test::HasDelete, Test::UnappliedLevel]
         .iter()
         .filter(|test| fails(scope, id, **test))
         .copied()

@@ -2,7 +2,7 @@ use Rattle.std.proofs.Common.{◌∷◌, [], ◌++◌, ◌∙◌, ap, refl, take
 use Rattle.std.specs.Prelude.{codes}
 use Rattle.std.specs.List.{flat_map}
 use Rattle.std.proofs.lemmas.List.Folds.{flat_map-map}
-use Rattle.terms.specs.declared.codes.Test.TheVariants.{J1}
+use Rattle.terms.specs.declared.codes.Test.TheVariants.{HeldBySystem}
 use Rattle.terms.specs.Spelling.{test_text, need_text}
 use Rattle.machine.specs.Report.{detail_line}
 use Rattle.report.proofs.Paging.{paged_then, paged_as}
@@ -16,7 +16,7 @@ loop-test-preserved g c =
     (ap (λ t. flat_map (λ t. detail_line (codes "TEST" ∷ test_text t ∷ [])) (take c.loop-test.test-index tests)
     ++ detail_line (codes "TEST" ∷ t ∷ [])) c.test_text.ensures
     ∙ flat_map_more (λ t. detail_line (codes "TEST" ∷ test_text t ∷ [])) tests c.loop-test.test-index
-    J1 c.loop-test-test.true)
+    HeldBySystem c.loop-test-test.true)
     (paged_then _ _ _ _ _ _ _ _ c.loop-test.invariant c.put_words.ensures.paged)
 
 pub loop-need-preserved : goal.loop-need-preserved

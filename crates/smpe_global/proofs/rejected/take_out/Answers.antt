@@ -3,7 +3,7 @@ use Rattle.std.specs.List.{list_any}
 use Rattle.indexmap.specs.IndexMap.{values}
 use Rattle.terms.specs.declared.codes.IdRefusal.TheVariants as refusal
 use Rattle.terms.specs.Lookups.{is_received, is_applied}
-use Rattle.terms.specs.Global.{Rj1, Rj2}
+use Rattle.terms.specs.Global.{AppliedSomewhere, NotThere}
 use Rattle.report.specs.declared.outcome.Status.TheVariants.{Refused}
 use Rattle.smpe_global.proofs.Ids.{taken_out, left_in, on_ok}
 use Rattle.smpe_global.proofs.rejected.take_out.Goals as goal
@@ -12,12 +12,13 @@ pub returns-then-not-is_received : goal.returns-then-not-is_received
 returns-then-not-is_received c =
     let zones = c.args.zones.now in
     left_in zones c.args.global.now c.args.id c.args.edits.now.items false
-    (list_any (λ zone. is_applied zone c.args.id) (values zones)) Rj2 (Refused refusal.Rj2)
+    (list_any (λ zone. is_applied zone c.args.id) (values zones)) NotThere (Refused refusal.NotThere)
     (sym c.is_received.ensures ∙ c.if-not-is_received.true) refl refl refl
 
 pub returns-then-is_applied : goal.returns-then-is_applied
 returns-then-is_applied c =
-    left_in c.args.zones.now c.args.global.now c.args.id c.args.edits.now.items true true Rj1 (Refused refusal.Rj1)
+    left_in c.args.zones.now c.args.global.now c.args.id c.args.edits.now.items true true AppliedSomewhere
+    (Refused refusal.AppliedSomewhere)
     (sym c.is_received.ensures ∙ c.if-not-is_received.false)
     (sym c.is_applied.ensures ∙ c.if-is_applied.true) refl refl
 
