@@ -3,6 +3,8 @@ ghost use Rattle.std.specs.Prelude.{◌≡◌};
 ghost use Rattle.terms.specs.Global.{hold_cmp};
 
 use fields::{Class, HoldDate, Id, Reason};
+use sorted::TryClone;
+use std::alloc::{AllocError, Global};
 use std::cmp::Ordering;
 use std::marker::Model;
 use terms::HoldKind;
@@ -52,5 +54,20 @@ impl Hold {
             .cmp(&other.id)
             .then(self.kind.cmp(&other.kind))
             .then(self.reason.cmp(&other.reason))
+    }
+}
+
+impl TryClone for Hold {
+    fn try_clone(&self, _alloc: Global) -> Result<Self, AllocError> {
+        Ok(Hold {
+            id: self.id,
+            kind: self.kind,
+            reason: self.reason,
+            fmid: self.fmid,
+            class: self.class,
+            date: self.date,
+            comment: self.comment.clone()?,
+            internal: self.internal,
+        })
     }
 }

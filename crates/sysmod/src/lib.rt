@@ -5,7 +5,6 @@
 
 mod adding;
 mod change;
-mod cloning;
 mod hold;
 mod keyed;
 mod sysmod;

@@ -182,23 +182,21 @@ impl GlobalZone {
         self.holds.of(id, kind)
     }
 
-    /// RECEIVE of a SYSMOD: a copy of it comes in, and its holds among the others, unless a fault refuses it. It
-    /// answers the first fault that does, and then nothing changes and nothing is copied. The error comes where memory
-    /// runs out, and changes nothing.
+    /// RECEIVE of a SYSMOD: it comes in, and its holds among the others, unless a fault refuses it. It answers the
+    /// first fault that does, and then nothing changes. The error comes where memory runs out, and changes nothing.
     pub fn receive(
         &mut self,
         alloc: Global,
-        sysmod: &Sysmod,
+        sysmod: Sysmod,
     ) -> Result<Option<ReceiveFault>, AllocError>
-        ensures ok { IfOk result (λ refused. IsReceived self.old sysmod.now self.new refused) }
+        ensures ok { IfOk result (λ refused. IsReceived self.old sysmod self.new refused) }
         ensures err { OnErr result (self.new ≡ self.old) }
     {
-        match refusal(alloc, &self.sysmods, sysmod)? {
+        match refusal(alloc, &self.sysmods, &sysmod)? {
             Some(fault) => Ok(Some(fault)),
             None => {
                 sysmod.attest();
-                let copy = sysmod.try_clone(alloc)?;
-                take_in(&mut self.sysmods, &mut self.holds, alloc, copy)?;
+                take_in(&mut self.sysmods, &mut self.holds, alloc, sysmod)?;
                 Ok(None)
             }
         }
