@@ -7,13 +7,26 @@ use crate::ver_operands::{Operands, operands_of};
 use fields::Srel;
 use intake_cards::{Reason, Remarks, Subject};
 use intake_wide::{WideSysmod, WideVer};
-use sorted::copied;
 use std::alloc::{AllocError, Global};
-use sysmod::Ver;
+use sysmod::{IfReq, Ver};
 use terms::Kind;
 
 /// The most `++VER`s that a SYSMOD may have.
 const MOST_VERS: usize = 8;
+
+/// Copies of the conditions, for one more `++VER`.
+fn copies_of(alloc: Global, ifs: &[IfReq]) -> Result<Vec<IfReq>, AllocError>
+    ensures { IfOk result (λ copies. copies.items ≡ ifs.now) }
+{
+    let mut copies = Vec::new(alloc);
+    for condition in ifs {
+        copies.push(IfReq {
+            function: condition.function,
+            req: condition.req.try_clone(alloc)?,
+        })?;
+    }
+    Ok(copies)
+}
 
 /// The `++VER` of these operands for one SREL.
 fn ver_of(alloc: Global, srel: Srel, operands: &Operands) -> Result<Ver, AllocError>
@@ -31,7 +44,7 @@ fn ver_of(alloc: Global, srel: Srel, operands: &Operands) -> Result<Ver, AllocEr
         sup: lists.sup.try_clone(alloc)?,
         npre: lists.npre.try_clone(alloc)?,
         del: lists.delete.try_clone(alloc)?,
-        ifs: copied(alloc, operands.ifs.as_slice())?,
+        ifs: copies_of(alloc, operands.ifs.as_slice())?,
     })
 }
 
