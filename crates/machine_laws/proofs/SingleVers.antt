@@ -26,7 +26,7 @@ use Rattle.sysmods.proofs.OneVer.{HasSingleVers, one_ver, first_place}
 use Rattle.change.proofs.Installable.{is_fresh}
 use Rattle.change.proofs.KeptTogether.{unsupplied}
 use Rattle.machine_laws.proofs.Decisions.{candidate_open}
-use Rattle.machine_laws.specs.Singles.{OneCounts, NoneHasSeveralFit, FirstInstalls, UnappliedLevelAsksApplied}
+use Rattle.machine_laws.specs.Singles.{OneCounts, NeverSeveralFit, FirstInstalls, LevelAsksApplied}
 use Rattle.machine_laws.proofs.KeptChoice.{undated}
 use Rattle.terms.proofs.Applied.{applied_dated}
 
@@ -73,8 +73,8 @@ one_counts i is z there cands x =
     (first_is i.global (single_vers i is) z.zone (zone_firsts i is z there) cands x)
     ∙ only_one (vers_of i.global z.zone.srel x) (one_ver i.global z.zone.srel x (single_vers i is))
 
-pub none_has_several : NoneHasSeveralFit
-none_has_several i is s same x several =
+pub never_several_fit : NeverSeveralFit
+never_several_fit i is s same x several =
     let one = one_ver s.global s.zone.srel x (subst HasSingleVers (sym same) (single_vers i is)) in
     let fit = count_by-le-length (fits s.zone (is_in s.cands)) (vers_of s.global s.zone.srel x) in
     let counted = length-filter (fits s.zone (is_in s.cands)) (vers_of s.global s.zone.srel x) in
@@ -163,8 +163,8 @@ module _ (zone accepted : Zone) (of_zone : HasFirsts zone) (of_accepted : HasFir
       λ (k, h, below, at, fails). (k, h, below, at, asks h ∙ fails),
     )
 
-pub unapplied_level_asks_applied : UnappliedLevelAsksApplied
-unapplied_level_asks_applied i is closed target distribution of_target of_distribution c x =
+pub level_asks_applied : LevelAsksApplied
+level_asks_applied i is closed target distribution of_target of_distribution c x =
     asks_applied target.zone distribution.zone (zone_firsts i is target of_target)
     (zone_firsts i is distribution of_distribution) i.global c
     (All-contains (λ z. IsClosedZone i.global (counting i.global z.zone []) z.zone) i.zones distribution closed

@@ -18,8 +18,8 @@ OneCounts =
     (i : Inventory) → IsOfEarlier i → (z : NamedZone) → Contains i.zones z → (cands : List Id) (x : Id)
     → at_most_one (counting i.global z.zone cands x) ≡ vers_of i.global z.zone.srel x
 
-abbrev pub NoneHasSeveralFit : Type 0
-NoneHasSeveralFit = (i : Inventory) → IsOfEarlier i → (s : Setting) → s.global ≡ i.global → (x : Id)
+abbrev pub NeverSeveralFit : Type 0
+NeverSeveralFit = (i : Inventory) → IsOfEarlier i → (s : Setting) → s.global ≡ i.global → (x : Id)
     → ¬ HasSeveralFit s x
 
 -- What is installed is so by number 1.
@@ -29,8 +29,8 @@ FirstInstalls =
     (date : Text) (d : Decision) → IsDecision i.global zone related sel bypass date d
     → (x : Id) → Contains d.kept x → d.installing.number x ≡ 1
 
-abbrev pub UnappliedLevelAsksApplied : Type 0
-UnappliedLevelAsksApplied =
+abbrev pub LevelAsksApplied : Type 0
+LevelAsksApplied =
     (i : Inventory) → IsOfEarlier i → AreClosed i.global i.zones → (target distribution : NamedZone)
     → Contains i.zones target → Contains i.zones distribution → (c : Choice) (x : Id)
     → ChangesUnappliedLevel (record {

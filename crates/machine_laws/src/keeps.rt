@@ -1,7 +1,7 @@
 //! What the definitions say of the states that are made of one, and of the `++VER` that counts in them.
 ghost use Rattle.machine_laws.specs.Storable.{StepStaysStorable, JobStaysStorable, JobsStayStorable};
 ghost use Rattle.machine_laws.specs.Choices.{InstallKeepsChoice, StepKeepsChoice};
-ghost use Rattle.machine_laws.specs.Singles.{OneCounts, NoneHasSeveralFit, FirstInstalls, UnappliedLevelAsksApplied};
+ghost use Rattle.machine_laws.specs.Singles.{OneCounts, NeverSeveralFit, FirstInstalls, LevelAsksApplied};
 
 /// Whatever a step, a job or a list of jobs makes of a state that can be stored, can be stored again.
 pub fn stays_storable()
@@ -20,6 +20,6 @@ pub fn choice_is_kept()
 pub fn one_ver_counts()
     ensures counts { OneCounts }
     ensures installs { FirstInstalls }
-    ensures several { NoneHasSeveralFit }
-    ensures returns { UnappliedLevelAsksApplied }
+    ensures several { NeverSeveralFit }
+    ensures returns { LevelAsksApplied }
 {}
