@@ -15,27 +15,18 @@ use crate::page::Page;
 use crate::sink::Sink;
 use crate::words::{Word, put_words};
 use decide::Failure;
+use fields::Id;
 use fields::spelling::{
     hold_text, kind_text, mc_text, need_text, refusal_text, test_text, word_text,
 };
-use fields::{Id, ZoneName};
 use terms::StatementCode;
-
-fn zone_text(zone: &Option<ZoneName>) -> &[u8]
-    ensures { result.now ≡ optional_text zone.now }
-{
-    match zone {
-        Some(name) => name.as_bytes(),
-        None => b"-",
-    }
-}
 
 /// A command's word, its boundary or `-`, and CHECK.
 pub(crate) fn put_header<W: Sink>(header: &Header, page: &mut Page<'_, W>)
     ensures { Paged W.Sink page.old page.new (header_text (header_view header.now)) }
 {
     let word = word_text(header.word);
-    let zone = Word::Of(zone_text(&header.boundary));
+    let zone = Word::Optional(header.boundary.as_ref().map(|name| name.as_bytes()));
     if header.check {
         put_words(word, &[zone, Word::Of(b"CHECK")], page);
         return;
@@ -135,12 +126,7 @@ fn put_failure<W: Sink>(failure: &Failure, page: &mut Page<'_, W>)
 }
 
 /// A status line alone.
-fn put_status_words<'a, W: Sink>(
-    id: Id,
-    place: &'a Place,
-    status: &'a Status,
-    page: &mut Page<'_, W>,
-)
+fn put_status<'a, W: Sink>(id: Id, place: &'a Place, status: &'a Status, page: &mut Page<'_, W>)
     ensures { Paged W.Sink page.old page.new (words_line (id ∷ left_in 8 (place_text (place_view place.now))
         ∷ status_word (status_view status.now) ∷ status_detail (status_view status.now))) }
 {
@@ -152,30 +138,17 @@ fn put_status_words<'a, W: Sink>(
     }
 }
 
-/// A status line, and the lines behind FAILED.
-fn put_status<W: Sink>(id: Id, place: &Place, status: &Status, page: &mut Page<'_, W>)
-    ensures { Paged W.Sink page.old page.new
-        (line_text (StatusLine id (place_view place.now) (status_view status.now))) }
-{
-    put_status_words(id, place, status, page);
-    put_details(status, page);
-}
-
-/// The lines behind FAILED; behind another status there are none.
-fn put_details<W: Sink>(status: &Status, page: &mut Page<'_, W>)
-    ensures { Paged W.Sink page.old page.new (details (status_view status.now)) }
-{
-    if let Status::Failed(failure) = status {
-        put_failure(failure, page);
-    }
-}
-
 /// A line, with the lines that belong to it.
 pub(crate) fn put_line<W: Sink>(line: &Line, page: &mut Page<'_, W>)
     ensures { Paged W.Sink page.old page.new (line_text (line_view line.now)) }
 {
     match line {
-        Line::Status { id, place, status } => put_status(*id, place, status, page),
+        Line::Status { id, place, status } => {
+            put_status(*id, place, status, page);
+            if let Status::Failed(failure) = status {
+                put_failure(failure, page);
+            }
+        }
         Line::Nothing => page.put(b"NOTHING\n"),
         Line::Errsysmod {
             id,
