@@ -3,6 +3,7 @@
 use Rattle.std.proofs.Common.{◌≡◌, ◌∙◌, ◌⊎◌, inl, inr, Bool, true, false, not, List, [], ◌∷◌, ◌++◌, map, filter}
 use Rattle.std.proofs.Common.{Contains, IsTrue, refl, sym, ap, subst, true≢false}
 use Rattle.std.proofs.lemmas.List.{map-append}
+use Rattle.std.proofs.lemmas.Simd.{map-map}
 use Rattle.std.specs.Prelude.{◌↔◌}
 use Rattle.std.specs.List.{flat_map}
 use Rattle.std.proofs.lemmas.List.Elements.{Contains-append_left, Contains-append_right}
@@ -26,10 +27,6 @@ use Rattle.report.specs.declared.error_holds.OpenError.{OpenError}
 use Rattle.report.specs.ErrorHolds.{an_open, open_on}
 use Rattle.report.specs.ErrsysmodLines.{AreLinesOf}
 use Rattle.report.proofs.Superseding.{received, sup_by}
-
-map-map : {X Y Z : Type 0} (f : Y → Z) (h : X → Y) (xs : List X) → map f (map h xs) ≡ map (λ x. f (h x)) xs
-map-map f h [] = refl
-map-map f h (x ∷ xs) = ap (λ l. f (h x) ∷ l) (map-map f h xs)
 
 module _ (g : Global) (zone : Zone) (is_global : IsGlobal g) where
   abbrev c : Choice

@@ -1,24 +1,23 @@
 //! The text of lines.
 ghost use Rattle.std.specs.Prelude.{◌≡◌, ◌∷◌, [], codes, decimal, option_map};
 ghost use Rattle.terms.specs.Spelling.{mc_text, test_text, need_text};
-ghost use Rattle.machine.specs.Outcome.{StatusLine};
-ghost use Rattle.machine.specs.Report.{words_line, optional_text, header_text, refused_text, place_text, status_word};
-ghost use Rattle.machine.specs.Report.{status_detail, failure_text, details, line_text, left_in};
+ghost use Rattle.machine.specs.Outcome.{ErrsysmodLine};
+ghost use Rattle.machine.specs.Report.{words_line, header_text, refused_text, place_text, status_word};
+ghost use Rattle.machine.specs.Report.{status_detail, failure_text, line_text, left_in};
 ghost use Rattle.terms.specs.Lookups.{at_most_one};
 ghost use Rattle.report.specs.Paged.{Paged};
 ghost use Rattle.decide.specs.Views.{failure_view};
 ghost use Rattle.report.specs.Views.{header_view, refusal_view, place_view, status_view, line_view};
 
-use crate::errsysmod::put_errsysmod;
 use crate::outcome::{Header, Line, Place, Refusal, Status};
 use crate::page::Page;
 use crate::sink::Sink;
 use crate::words::{Word, put_words};
 use decide::Failure;
-use fields::Id;
 use fields::spelling::{
     hold_text, kind_text, mc_text, need_text, refusal_text, test_text, word_text,
 };
+use fields::{Id, Reason};
 use terms::StatementCode;
 
 /// A command's word, its boundary or `-`, and CHECK.
@@ -135,6 +134,26 @@ fn put_status<'a, W: Sink>(id: Id, place: &'a Place, status: &'a Status, page: &
     match status_detail(status) {
         Some(detail) => put_words(id.as_bytes(), &[place, word, Word::Of(detail)], page),
         None => put_words(id.as_bytes(), &[place, word], page),
+    }
+}
+
+/// A held SYSMOD with its reason, and what resolves that: `RESOLVER` lines, or one that says that there is nothing.
+fn put_errsysmod<'a, W: Sink>(
+    id: &'a Id,
+    reason: &'a Reason,
+    resolvers: &[Id],
+    page: &mut Page<'_, W>,
+)
+    ensures { Paged W.Sink page.old page.new (line_text (ErrsysmodLine id.now reason.now resolvers.now)) }
+{
+    let words = [Word::Of(id.as_bytes()), Word::Of(reason.as_bytes())];
+    put_words(b"ERRSYSMOD", &words, page);
+    if resolvers.is_empty() {
+        put_words(b"  RESOLVER", &[Word::Of(b"-")], page);
+        return;
+    }
+    for resolver in resolvers {
+        put_words(b"  RESOLVER", &[Word::Of(resolver.as_bytes())], page);
     }
 }
 

@@ -26,8 +26,8 @@ impl<'a, W: Sink> Page<'a, W> {
         }
     }
 
-    /// Puts a piece of a text on the page. Where it has no room left, what waits goes out first, and then the piece, where
-    /// it is longer than a page.
+    /// Puts a piece of a text on the page. Where it has no room left, what waits goes out first; a piece that is longer
+    /// than a page goes out behind it.
     pub(crate) fn put(&mut self, piece: &[u8])
         ensures paged { Paged W.Sink self.old self.new piece.now }
         ensures some { 0 < length piece.now → length piece.now ≤ 8192 → 0 < length self.new.waiting.items }

@@ -1,6 +1,6 @@
 //! Words, and lines that are made of them.
 ghost use Rattle.std.specs.Prelude.{◌<◌, ◌∷◌, length, map};
-ghost use Rattle.machine.specs.Report.{words_line, left_in, list_text};
+ghost use Rattle.machine.specs.Report.{words_line, list_text};
 ghost use Rattle.report.specs.Paged.{Paged};
 ghost use Rattle.report.specs.WordTexts.{word_text};
 
@@ -60,11 +60,9 @@ fn put_word<W: Sink>(word: Word<'_>, page: &mut Page<'_, W>)
     ensures { Paged W.Sink page.old page.new (word_text word.entry) }
 {
     match word {
-        Word::Of(text) => page.put(text),
-        Word::Optional(Some(text)) => page.put(text),
+        Word::Of(text) | Word::Optional(Some(text)) => page.put(text),
         Word::Optional(None) => page.put(b"-"),
-        Word::If(true, text, _) => page.put(text),
-        Word::If(false, _, text) => page.put(text),
+        Word::If(true, text, _) | Word::If(false, _, text) => page.put(text),
         Word::Left(places, text) => {
             page.put(text);
             for _place in 0..places.saturating_sub(text.len()) {

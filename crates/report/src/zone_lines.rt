@@ -2,7 +2,7 @@
 ghost use Rattle.std.specs.Prelude.{◌≡◌};
 ghost use Rattle.std.specs.List.{flat_map};
 ghost use Rattle.machine.specs.Outcome.{EntryLine, element_lines, list_zone};
-ghost use Rattle.machine.specs.Report.{optional_text, line_text};
+ghost use Rattle.machine.specs.Report.{line_text};
 ghost use Rattle.report.specs.Paged.{Paged};
 ghost use Rattle.report.specs.Views.{applied_word};
 
