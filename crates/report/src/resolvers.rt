@@ -16,7 +16,7 @@ use sysmods::VerChoice;
 /// For each id the SYSMODs that name it in SUP.
 pub(crate) type Superseders = Lists<Id, Id>;
 
-// What it names in SUP.
+// What the `++VER` of a SYSMOD that counts names in SUP.
 fn sup<'a>(vers: &VerChoice<'a>, id: Id) -> &'a [Id]
     ensures { result.now ≡ sup_of (choice vers.now) id }
 {
