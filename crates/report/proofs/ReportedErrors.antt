@@ -1,23 +1,20 @@
 -- The lines of REPORT ERRSYSMODS are those of the definition: what resolves a reason can be told, since walks are
 -- short.
 use Rattle.std.proofs.Common.{◌≡◌, ◌∙◌, ◌⊎◌, inl, inr, Bool, true, false, not, List, [], ◌∷◌, ◌++◌, map, filter}
-use Rattle.std.proofs.Common.{Option, None, Some, Contains, IsTrue, refl, sym, ap, subst, true≢false}
+use Rattle.std.proofs.Common.{Contains, IsTrue, refl, sym, ap, subst, true≢false}
 use Rattle.std.proofs.lemmas.List.{map-append}
+use Rattle.std.proofs.lemmas.Simd.{map-map}
 use Rattle.std.specs.Prelude.{◌↔◌}
 use Rattle.std.specs.List.{flat_map}
-use Rattle.std.specs.Option.{option_map_or}
-use Rattle.std.specs.Str.{bytes_eq}
 use Rattle.std.proofs.lemmas.List.Elements.{Contains-append_left, Contains-append_right}
 use Rattle.std.proofs.lemmas.List.Kept.{AllPairs-filter}
-use Rattle.terms.proofs.ListMembers.{here, none_in, in_map, in_filter, filter_in, in_flat}
+use Rattle.terms.proofs.ListMembers.{here, in_filter, filter_in, in_flat}
 use Rattle.terms.proofs.Pairs.{pairs_map}
-use Rattle.terms.proofs.Searches.{find_gives}
-use Rattle.terms.proofs.TextOrder.{same_from, same_or_not}
+use Rattle.terms.proofs.TextOrder.{same_or_not}
 use Rattle.terms.specs.Types.{Id, Ver, Sysmod, Entry, Global, Zone}
-use Rattle.terms.specs.Lookups.{IsRising, at_most_one, is_nil, sysmod_of, is_before}
+use Rattle.terms.specs.Lookups.{IsRising, at_most_one, is_nil, is_before}
 use Rattle.terms.specs.Choice.{Choice, vers_of, place, counting, sup_of}
 use Rattle.sysmods.specs.Choices.{has_ver}
-use Rattle.terms.proofs.Places.{contains_at}
 use Rattle.terms.specs.Over.{Reaches}
 use Rattle.terms.specs.Global.{IsGlobal, named, names_for}
 use Rattle.terms.proofs.Leads.{reaches_more}
@@ -28,12 +25,8 @@ use Rattle.report.specs.Views.{line_view}
 use Rattle.report.specs.declared.outcome.Line.{Line}
 use Rattle.report.specs.declared.error_holds.OpenError.{OpenError}
 use Rattle.report.specs.ErrorHolds.{an_open, open_on}
-use Rattle.report.specs.Resolvers.{Resolvers, AreResolvers, ResolvesBy}
 use Rattle.report.specs.ErrsysmodLines.{AreLinesOf}
-
-map-map : {X Y Z : Type 0} (f : Y → Z) (h : X → Y) (xs : List X) → map f (map h xs) ≡ map (λ x. f (h x)) xs
-map-map f h [] = refl
-map-map f h (x ∷ xs) = ap (λ l. f (h x) ∷ l) (map-map f h xs)
+use Rattle.report.proofs.Superseding.{received, sup_by}
 
 module _ (g : Global) (zone : Zone) (is_global : IsGlobal g) where
   abbrev c : Choice
@@ -42,30 +35,13 @@ module _ (g : Global) (zone : Zone) (is_global : IsGlobal g) where
   abbrev ids : List Id
   ids = map (λ s. s.id) g.sysmods
 
-  received : (x : Id) (v : Ver) → Contains (vers_of g zone.srel x) v → Contains ids x
-  received x v = by (sysmod_of g x) refl
-    where
-      by : (o : Option Sysmod) → sysmod_of g x ≡ o
-          → Contains (option_map_or (λ s. filter (λ v. bytes_eq v.srel zone.srel) s.vers) o []) v → Contains ids x
-      by None at is = absurd (none_in v is)
-      by (Some s) at is =
-          let gives = find_gives (λ s. bytes_eq s.id x) g.sysmods s at in
-          subst (Contains ids) (same_from s.id x gives.0) (in_map (λ s. s.id) g.sysmods s gives.1)
-
-  sup_by : (x z : Id) → Contains (sup_of c x) z → (v : Ver) × Contains (vers_of g zone.srel x) v × Contains v.sup z
-  sup_by x z = by (c x) refl
-    where
-      by : (o : Option Ver) → c x ≡ o → Contains (option_map_or (λ v. v.sup) o []) z
-          → (v : Ver) × Contains (vers_of g zone.srel x) v × Contains v.sup z
-      by None at is = absurd (none_in z is)
-      by (Some v) at is = (v, contains_at (vers_of g zone.srel x) (place g zone [] x) v at, is)
-
   sup_received : (x z : Id) → Contains (sup_of c x) z → Contains ids x
-  sup_received x z is = let from = sup_by x z is in received x from.0 from.1
+  sup_received x z is =
+      let from = sup_by g zone.srel (place g zone []) x z is in received g zone.srel x from.0 from.1
 
   sup_among : (x z : Id) → Contains (sup_of c x) z → Contains (names_for g zone.srel x) z
   sup_among x z is =
-      let from = sup_by x z is in
+      let from = sup_by g zone.srel (place g zone []) x z is in
       in_flat named (vers_of g zone.srel x) from.0 z from.1
       (Contains-append_left (from.0.pre ++ from.0.sup) (at_most_one from.0.fmid) z
       (Contains-append_right from.0.pre from.0.sup z from.2))
@@ -74,20 +50,18 @@ module _ (g : Global) (zone : Zone) (is_global : IsGlobal g) where
   no_loop x loop =
       is_global.no_loop (zone.srel, x, reaches_more (sup_of c) (names_for g zone.srel) sup_among x x loop)
 
-  abbrev these : Id → Bool
-  these = has_ver g zone.srel
-
   -- whether it resolves the reason
-  resolves_or_not : (reason y : Id) → ResolvesBy these c y reason ⊎ (¬ ResolvesBy these c y reason)
-  resolves_or_not reason y = by (these y) refl
+  resolves_or_not : (reason y : Id) → Resolves g zone reason y ⊎ (¬ Resolves g zone reason y)
+  resolves_or_not reason y = by (has_ver g zone.srel y) refl
     where
-      by : (b : Bool) → these y ≡ b → ResolvesBy these c y reason ⊎ (¬ ResolvesBy these c y reason)
-      by false at = inr (λ r. true≢false (sym r.0 ∙ at))
+      by : (b : Bool) → has_ver g zone.srel y ≡ b → Resolves g zone reason y ⊎ (¬ Resolves g zone reason y)
+      by false at = inr (λ r. true≢false (sym r.fits ∙ at))
       by true at = elim (same_or_not y reason) [
-        | inl same ↦ inl (at, inl same)
+        | inl same ↦ inl (record { fits = at; reaches = inl same })
         | inr other ↦ elim (reaches_or_not (sup_of c) ids sup_received no_loop y reason) [
-          | inl above ↦ inl (at, inr above)
-          | inr not_above ↦ inr (λ r. elim r.1 [ inl same ↦ other same | inr above ↦ not_above above ])
+          | inl above ↦ inl (record { fits = at; reaches = inr above })
+          | inr not_above ↦
+              inr (λ r. elim r.reaches [ inl same ↦ other same | inr above ↦ not_above above ])
         ]
       ]
 
@@ -112,26 +86,19 @@ module _ (g : Global) (zone : Zone) (is_global : IsGlobal g) where
       (pairs_map (λ (a b : Sysmod). IsTrue (is_before a.id b.id)) (λ x y. IsTrue (is_before x y)) (λ s. s.id)
       (λ a b before. before) g.sysmods is_global.sysmods)
 
-  in_resolvers : (reason y : Id) → Contains (resolvers reason) y ↔ (Contains ids y × ResolvesBy these c y reason)
-  in_resolvers reason y = (
-    λ h. let both = filter_in (λ y. told (resolves_or_not reason y)) ids y h in
-        (both.0, told_so (resolves_or_not reason y) both.1),
-    λ h. in_filter (λ y. told (resolves_or_not reason y)) ids y h.0 (so_told (resolves_or_not reason y) h.1),
-  )
-
   resolves_is : (reason y : Id) → Contains (resolvers reason) y ↔ Resolves g zone reason y
   resolves_is reason y = (
-    λ h. let both = (in_resolvers reason y).0 h in
-        record { fits = both.1.0; reaches = both.1.1 },
-    λ r. (in_resolvers reason y).1 (is_there r.fits, (r.fits, r.reaches)),
+    λ h. told_so (resolves_or_not reason y) (filter_in (λ y. told (resolves_or_not reason y)) ids y h).1,
+    λ r. in_filter (λ y. told (resolves_or_not reason y)) ids y (is_there r.fits)
+        (so_told (resolves_or_not reason y) r),
   )
     where
-      is_there : IsTrue (not (is_nil (vers_of g zone.srel y))) → Contains ids y
+      is_there : IsTrue (has_ver g zone.srel y) → Contains ids y
       is_there some = by (vers_of g zone.srel y) refl
         where
           by : (vs : List Ver) → vers_of g zone.srel y ≡ vs → Contains ids y
           by [] at = absurd (true≢false (sym some ∙ ap (λ l. not (is_nil l)) at))
-          by (v ∷ vs) at = received y v (subst (λ l. Contains l v) (sym at) (here v vs))
+          by (v ∷ vs) at = received g zone.srel y v (subst (λ l. Contains l v) (sym at) (here v vs))
 
   abbrev printed : OpenError → machine.Line
   printed o = machine.ErrsysmodLine o.id o.reason (resolvers o.reason)
@@ -147,20 +114,13 @@ module _ (g : Global) (zone : Zone) (is_global : IsGlobal g) where
       (open_errors g zone e)) es)
       (map-map printed (λ h. an_open e.id h.reason) (open_errors g zone e))
 
-  pub are_errsysmods : (errors : List OpenError) (all : Resolvers) (lines : List Line)
+  pub are_errsysmods : (errors : List OpenError) (lines : List Line)
       → errors ≡ flat_map (λ e. open_on g zone e.id) (filter is_current zone.entries)
-      → AreResolvers g these (counting g zone []) errors all → AreLinesOf all errors lines
-      → AreErrsysmods g zone (map line_view lines)
-  are_errsysmods errors all lines errors_are known lines_are = record {
+      → AreLinesOf g zone errors lines → AreErrsysmods g zone (map line_view lines)
+  are_errsysmods errors lines errors_are lines_are = record {
     resolvers = resolvers;
     lines_are =
-        lines_are resolvers (λ o is. (
-          resolvers_rise o.reason,
-          λ y. (
-            λ h. (known o is y).1 ((in_resolvers o.reason y).0 h),
-            λ h. (in_resolvers o.reason y).1 ((known o is y).0 h),
-          ),
-        ))
+        lines_are resolvers (λ reason. (resolvers_rise reason, resolves_is reason))
         ∙ ap (map printed) errors_are ∙ printed_on (filter is_current zone.entries);
     rising = resolvers_rise;
     all = resolves_is;

@@ -4,21 +4,20 @@ use Rattle.terms.specs.declared.codes.CommandWord.TheVariants.{Report}
 use Rattle.terms.specs.Types.{Text, Id, Global, Zone}
 use Rattle.terms.specs.Lookups.{IsRising}
 use Rattle.machine.specs.Outcome as machine
-use Rattle.machine.specs.Errsysmods.{AreErrsysmods}
+use Rattle.machine.specs.Errsysmods.{AreErrsysmods, Resolves}
 use Rattle.report.specs.declared.outcome.Outcome.{Outcome}
 use Rattle.report.specs.declared.outcome.Line.{Line}
 use Rattle.report.specs.Views.{line_view, outcome_view}
 use Rattle.report.specs.declared.error_holds.OpenError.{OpenError}
-use Rattle.report.specs.Resolvers.{Resolvers, resolvers_of}
 
--- the ids rise, and are those that resolve the hold's reason
-abbrev pub Resolve : Resolvers → OpenError → List Id → Type 0
-Resolve all o ids = IsRising ids × ((y : Id) → Contains ids y ↔ Contains (resolvers_of all o.reason) y)
+-- the ids rise, and are those that resolve the reason
+abbrev pub AreResolvers : Global → Zone → Id → List Id → Type 0
+AreResolvers g zone reason ids = IsRising ids × ((y : Id) → Contains ids y ↔ Resolves g zone reason y)
 
 -- a line for each hold
-abbrev pub AreLinesOf : Resolvers → List OpenError → List Line → Type 0
-AreLinesOf all errors lines =
-    (resolvers : Id → List Id) → ((o : OpenError) → Contains errors o → Resolve all o (resolvers o.reason))
+abbrev pub AreLinesOf : Global → Zone → List OpenError → List Line → Type 0
+AreLinesOf g zone errors lines =
+    (resolvers : Id → List Id) → ((reason : Id) → AreResolvers g zone reason (resolvers reason))
     → map line_view lines ≡ map (λ o. machine.ErrsysmodLine o.id o.reason (resolvers o.reason)) errors
 
 -- REPORT ERRSYSMODS of the zone of this name

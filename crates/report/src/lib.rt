@@ -7,7 +7,6 @@
 #![tactic(auto)]
 
 mod error_holds;
-mod errsysmod;
 mod global_lines;
 mod held_for_error;
 mod lines;

@@ -1,15 +1,14 @@
 //! The text of lines.
 ghost use Rattle.std.specs.Prelude.{◌≡◌, ◌∷◌, [], codes, decimal, option_map};
 ghost use Rattle.terms.specs.Spelling.{mc_text, test_text, need_text};
-ghost use Rattle.machine.specs.Outcome.{StatusLine};
-ghost use Rattle.machine.specs.Report.{words_line, optional_text, header_text, refused_text, place_text, status_word};
-ghost use Rattle.machine.specs.Report.{status_detail, failure_text, details, line_text, left_in};
+ghost use Rattle.machine.specs.Outcome.{ErrsysmodLine};
+ghost use Rattle.machine.specs.Report.{words_line, header_text, refused_text, place_text, status_word};
+ghost use Rattle.machine.specs.Report.{status_detail, failure_text, line_text, left_in};
 ghost use Rattle.terms.specs.Lookups.{at_most_one};
 ghost use Rattle.report.specs.Paged.{Paged};
 ghost use Rattle.decide.specs.Views.{failure_view};
 ghost use Rattle.report.specs.Views.{header_view, refusal_view, place_view, status_view, line_view};
 
-use crate::errsysmod::put_errsysmod;
 use crate::outcome::{Header, Line, Place, Refusal, Status};
 use crate::page::Page;
 use crate::sink::Sink;
@@ -18,24 +17,15 @@ use decide::Failure;
 use fields::spelling::{
     hold_text, kind_text, mc_text, need_text, refusal_text, test_text, word_text,
 };
-use fields::{Id, ZoneName};
+use fields::{Id, Reason};
 use terms::StatementCode;
-
-fn zone_text(zone: &Option<ZoneName>) -> &[u8]
-    ensures { result.now ≡ optional_text zone.now }
-{
-    match zone {
-        Some(name) => name.as_bytes(),
-        None => b"-",
-    }
-}
 
 /// A command's word, its boundary or `-`, and CHECK.
 pub(crate) fn put_header<W: Sink>(header: &Header, page: &mut Page<'_, W>)
     ensures { Paged W.Sink page.old page.new (header_text (header_view header.now)) }
 {
     let word = word_text(header.word);
-    let zone = Word::Of(zone_text(&header.boundary));
+    let zone = Word::Optional(header.boundary.as_ref().map(|name| name.as_bytes()));
     if header.check {
         put_words(word, &[zone, Word::Of(b"CHECK")], page);
         return;
@@ -135,12 +125,7 @@ fn put_failure<W: Sink>(failure: &Failure, page: &mut Page<'_, W>)
 }
 
 /// A status line alone.
-fn put_status_words<'a, W: Sink>(
-    id: Id,
-    place: &'a Place,
-    status: &'a Status,
-    page: &mut Page<'_, W>,
-)
+fn put_status<'a, W: Sink>(id: Id, place: &'a Place, status: &'a Status, page: &mut Page<'_, W>)
     ensures { Paged W.Sink page.old page.new (words_line (id ∷ left_in 8 (place_text (place_view place.now))
         ∷ status_word (status_view status.now) ∷ status_detail (status_view status.now))) }
 {
@@ -152,21 +137,23 @@ fn put_status_words<'a, W: Sink>(
     }
 }
 
-/// A status line, and the lines behind FAILED.
-fn put_status<W: Sink>(id: Id, place: &Place, status: &Status, page: &mut Page<'_, W>)
-    ensures { Paged W.Sink page.old page.new
-        (line_text (StatusLine id (place_view place.now) (status_view status.now))) }
+/// A held SYSMOD with its reason, and what resolves that: `RESOLVER` lines, or one that says that there is nothing.
+fn put_errsysmod<'a, W: Sink>(
+    id: &'a Id,
+    reason: &'a Reason,
+    resolvers: &[Id],
+    page: &mut Page<'_, W>,
+)
+    ensures { Paged W.Sink page.old page.new (line_text (ErrsysmodLine id.now reason.now resolvers.now)) }
 {
-    put_status_words(id, place, status, page);
-    put_details(status, page);
-}
-
-/// The lines behind FAILED; behind another status there are none.
-fn put_details<W: Sink>(status: &Status, page: &mut Page<'_, W>)
-    ensures { Paged W.Sink page.old page.new (details (status_view status.now)) }
-{
-    if let Status::Failed(failure) = status {
-        put_failure(failure, page);
+    let words = [Word::Of(id.as_bytes()), Word::Of(reason.as_bytes())];
+    put_words(b"ERRSYSMOD", &words, page);
+    if resolvers.is_empty() {
+        put_words(b"  RESOLVER", &[Word::Of(b"-")], page);
+        return;
+    }
+    for resolver in resolvers {
+        put_words(b"  RESOLVER", &[Word::Of(resolver.as_bytes())], page);
     }
 }
 
@@ -175,7 +162,12 @@ pub(crate) fn put_line<W: Sink>(line: &Line, page: &mut Page<'_, W>)
     ensures { Paged W.Sink page.old page.new (line_text (line_view line.now)) }
 {
     match line {
-        Line::Status { id, place, status } => put_status(*id, place, status, page),
+        Line::Status { id, place, status } => {
+            put_status(*id, place, status, page);
+            if let Status::Failed(failure) = status {
+                put_failure(failure, page);
+            }
+        }
         Line::Nothing => page.put(b"NOTHING\n"),
         Line::Errsysmod {
             id,

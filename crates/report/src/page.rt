@@ -26,17 +26,19 @@ impl<'a, W: Sink> Page<'a, W> {
         }
     }
 
-    /// Puts a piece of a text on the page. Where it has no room left, what waits goes out first.
+    /// Puts a piece of a text on the page. Where it has no room left, what waits goes out first; a piece that is longer
+    /// than a page goes out behind it.
     pub(crate) fn put(&mut self, piece: &[u8])
         ensures paged { Paged W.Sink self.old self.new piece.now }
         ensures some { 0 < length piece.now → length piece.now ≤ 8192 → 0 < length self.new.waiting.items }
     {
-        if self.waiting.remaining_capacity() < piece.len() {
-            let _ = self.empty();
-            self.put_first(piece);
+        if self.waiting.try_extend_from_slice(piece).is_ok() {
             return;
         }
-        self.waiting.try_extend_from_slice(piece).unwrap();
+        let _ = self.empty();
+        if self.waiting.try_extend_from_slice(piece).is_err() {
+            let _ = write_all(piece, self.sink);
+        }
     }
 
     /// Sends what waits to the sink.
@@ -48,16 +50,5 @@ impl<'a, W: Sink> Page<'a, W> {
         let sent = write_all(self.waiting.as_slice(), self.sink);
         self.waiting.clear();
         sent
-    }
-
-    // Puts a piece on an empty page, or sends it, where it is longer than a page.
-    fn put_first(&mut self, piece: &[u8])
-        requires { self.old.waiting.items ≡ [] }
-        ensures paged { Paged W.Sink self.old self.new piece.now }
-        ensures some { 0 < length piece.now → length piece.now ≤ 8192 → 0 < length self.new.waiting.items }
-    {
-        if self.waiting.try_extend_from_slice(piece).is_err() {
-            let _ = write_all(piece, self.sink);
-        }
     }
 }

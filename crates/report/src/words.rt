@@ -1,6 +1,6 @@
 //! Words, and lines that are made of them.
 ghost use Rattle.std.specs.Prelude.{◌<◌, ◌∷◌, length, map};
-ghost use Rattle.machine.specs.Report.{words_line, left_in, list_text};
+ghost use Rattle.machine.specs.Report.{words_line, list_text};
 ghost use Rattle.report.specs.Paged.{Paged};
 ghost use Rattle.report.specs.WordTexts.{word_text};
 
@@ -13,6 +13,8 @@ use itoa::Buffer;
 #[derive(Clone, Copy)]
 pub(crate) enum Word<'a> {
     Of(&'a [u8]),
+    /// The word, or `-`.
+    Optional(Option<&'a [u8]>),
     /// The first word where it is so, else the second.
     If(bool, &'static [u8], &'static [u8]),
     /// In so many places, with blanks behind it.
@@ -22,16 +24,6 @@ pub(crate) enum Word<'a> {
     Ids(&'a [Id]),
     /// With commas between them, or `-`.
     Sources(&'a [Source]),
-}
-
-// The word, and blanks up to so many places.
-fn put_left<W: Sink>(places: usize, word: &[u8], page: &mut Page<'_, W>)
-    ensures { Paged W.Sink page.old page.new (left_in places word.now) }
-{
-    page.put(word);
-    for _place in 0..places.saturating_sub(word.len()) {
-        page.put(b" ");
-    }
 }
 
 // Ids with commas between them, or `-`.
@@ -68,10 +60,15 @@ fn put_word<W: Sink>(word: Word<'_>, page: &mut Page<'_, W>)
     ensures { Paged W.Sink page.old page.new (word_text word.entry) }
 {
     match word {
-        Word::Of(text) => page.put(text),
-        Word::If(true, text, _) => page.put(text),
-        Word::If(false, _, text) => page.put(text),
-        Word::Left(places, text) => put_left(places, text, page),
+        Word::Of(text) | Word::Optional(Some(text)) => page.put(text),
+        Word::Optional(None) => page.put(b"-"),
+        Word::If(true, text, _) | Word::If(false, _, text) => page.put(text),
+        Word::Left(places, text) => {
+            page.put(text);
+            for _place in 0..places.saturating_sub(text.len()) {
+                page.put(b" ");
+            }
+        }
         Word::Number(number) => {
             let mut buffer = Buffer::new();
             page.put(buffer.format(number).as_bytes());

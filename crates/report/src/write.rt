@@ -1,5 +1,5 @@
 //! The text of an outcome.
-ghost use Rattle.std.specs.Prelude.{◌≡◌, ◌<◌, ◌≤◌, [], map, length, is_err, IfOk};
+ghost use Rattle.std.specs.Prelude.{◌≡◌, ◌<◌, ◌≤◌, map, length, is_err, IfOk};
 ghost use Rattle.std.specs.List.{flat_map};
 ghost use Rattle.machine.specs.Outcome.{line_code, lines_code, outcome_code, Control};
 ghost use Rattle.machine.specs.Report.{line_text, code_text, text};
@@ -100,19 +100,6 @@ fn put_outcome<W: Sink>(outcome: &Outcome<'_>, page: &mut Page<'_, W>) -> u8
     }
 }
 
-/// Puts the text of an outcome on an empty page, and sends all of it to the sink.
-fn write_page<W: Sink>(outcome: &Outcome<'_>, page: &mut Page<'_, W>) -> Result<u8, WriteFault>
-    requires { page.old.waiting.items ≡ [] }
-    ensures same_reference { page.new.sink.ghost_name ≡ page.old.sink.ghost_name }
-    ensures sends { Sent W.Sink page.old.sink.now page.new.sink.now (text (outcome_view outcome.now)) }
-    ensures fault { W.has_failed page.new.sink.now ≡ is_err result }
-    ensures code { IfOk result (λ code. code ≡ outcome_code (outcome_view outcome.now)) }
-{
-    let code = put_outcome(outcome, page);
-    page.empty()?;
-    Ok(code)
-}
-
 /// Writes the text of an outcome and answers its return code. The error comes where a write fails; a beginning of the
 /// text went out then.
 pub fn write_report<W: Sink>(outcome: &Outcome<'_>, w: &mut W) -> Result<u8, WriteFault>
@@ -121,5 +108,6 @@ pub fn write_report<W: Sink>(outcome: &Outcome<'_>, w: &mut W) -> Result<u8, Wri
     ensures code { IfOk result (λ code. code ≡ outcome_code (outcome_view outcome.now)) }
 {
     let mut page = Page::new(w);
-    write_page(outcome, &mut page)
+    let code = put_outcome(outcome, &mut page);
+    page.empty().map(|()| code)
 }

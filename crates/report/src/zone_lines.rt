@@ -1,18 +1,16 @@
 //! The lines of LIST of a target or distribution zone.
-ghost use Rattle.std.specs.Prelude.{◌≡◌, map};
+ghost use Rattle.std.specs.Prelude.{◌≡◌};
 ghost use Rattle.std.specs.List.{flat_map};
-ghost use Rattle.machine.specs.Outcome.{EntryLine, TextLine, element_lines, list_zone};
-ghost use Rattle.machine.specs.Report.{optional_text, line_text};
+ghost use Rattle.machine.specs.Outcome.{EntryLine, element_lines, list_zone};
+ghost use Rattle.machine.specs.Report.{line_text};
 ghost use Rattle.report.specs.Paged.{Paged};
 ghost use Rattle.report.specs.Views.{applied_word};
 
 use crate::page::Page;
 use crate::sink::Sink;
 use crate::words::{Word, put_words};
-use fields::Id;
 use fields::spelling::type_text;
 use terms::ZoneKind;
-use text80::Line;
 use zones::{Element, Entry, Zone};
 
 fn applied_word(kind: ZoneKind) -> &'static [u8]
@@ -24,21 +22,15 @@ fn applied_word(kind: ZoneKind) -> &'static [u8]
     }
 }
 
-fn id_text(id: &Option<Id>) -> &[u8]
-    ensures { result.now ≡ optional_text id.now }
-{
-    match id {
-        Some(id) => id.as_bytes(),
-        None => b"-",
-    }
-}
-
 fn put_entry<W: Sink>(kind: ZoneKind, entry: &Entry, page: &mut Page<'_, W>)
     ensures { Paged W.Sink page.old page.new (line_text (EntryLine kind entry.now)) }
 {
     let id = Word::Of(entry.id.as_bytes());
     let (of_supby, supby) = (Word::Of(b"SUPBY"), Word::Ids(entry.supby.as_slice()));
-    let (of_delby, delby) = (Word::Of(b"DELBY"), Word::Of(id_text(&entry.delby)));
+    let (of_delby, delby) = (
+        Word::Of(b"DELBY"),
+        Word::Optional(entry.delby.as_ref().map(|id| id.as_bytes())),
+    );
     let (of_waived, waived) = (Word::Of(b"WAIVED"), Word::Ids(entry.waived.as_slice()));
     match &entry.applied {
         Some(applied) => {
@@ -79,15 +71,9 @@ fn put_element<W: Sink>(element: &Element, text: bool, page: &mut Page<'_, W>)
     ];
     put_words(b"ELEM", &words, page);
     if text {
-        put_text(element.text.as_slice(), page);
-    }
-}
-
-fn put_text<W: Sink>(records: &[Line], page: &mut Page<'_, W>)
-    ensures { Paged W.Sink page.old page.new (flat_map line_text (map (λ r. TextLine r) records.now)) }
-{
-    for record in records {
-        put_words(b" ", &[Word::Of(record.bytes())], page);
+        for record in element.text.as_slice() {
+            put_words(b" ", &[Word::Of(record.bytes())], page);
+        }
     }
 }
 

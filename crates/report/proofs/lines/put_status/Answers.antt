@@ -1,5 +1,15 @@
-use Rattle.report.proofs.Paging.{paged_then}
+use Rattle.std.proofs.Common.{refl}
+use Rattle.report.proofs.Paging.{paged_as}
 use Rattle.report.proofs.lines.put_status.Goals as goal
 
-pub returns : goal.returns
-returns g c = paged_then _ _ _ _ _ _ _ _ c.put_status_words.ensures c.put_details.ensures
+pub returns-in-Some : goal.returns-in-Some
+returns-in-Some g c =
+    paged_as _ _ _ _ _ _
+    (rw (c.as_bytes.ensures.same, c.place_text.ensures, c.status_word.ensures, ← c.status_detail.ensures)
+    (rw c.in-Some.is refl)) c.put_words.ensures.paged
+
+pub returns-in-None : goal.returns-in-None
+returns-in-None g c =
+    paged_as _ _ _ _ _ _
+    (rw (c.as_bytes-in-None.ensures.same, c.place_text.ensures, c.status_word.ensures, ← c.status_detail.ensures)
+    (rw c.in-None.is refl)) c.put_words-in-None.ensures.paged

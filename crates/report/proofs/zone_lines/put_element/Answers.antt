@@ -1,10 +1,12 @@
-use Rattle.std.proofs.Common.{◌∙◌, append-nil, ap, map, refl, subst, sym}
+use Rattle.std.proofs.Common.{◌++◌, ◌∙◌, append-nil, ap, refl, subst, sym, take, take_all}
 use Rattle.std.specs.List.{flat_map}
+use Rattle.std.proofs.lemmas.List.Folds.{flat_map-map}
 use Rattle.terms.specs.Types.{Element}
 use Rattle.machine.specs.Outcome.{ElementLine, TextLine, row_of}
 use Rattle.machine.specs.Report.{line_text}
 use Rattle.report.specs.Paged.{Paged}
 use Rattle.report.proofs.Paging.{paged_then, paged_as}
+use Rattle.report.proofs.Texts.{flat_map_more}
 use Rattle.report.proofs.zone_lines.put_element.Given.{Over}
 use Rattle.report.proofs.zone_lines.put_element.Goals.{After-put_words}
 use Rattle.report.proofs.zone_lines.put_element.Goals as goal
@@ -26,13 +28,25 @@ line g c =
       c.as_bytes-5.ensures.same,
     ) refl) c.put_words.ensures.paged)
 
-pub returns-then-text : goal.returns-then-text
-returns-then-text g c =
+pub loop-record-preserved : goal.loop-record-preserved
+loop-record-preserved g c =
+    let records = c.as_slice-record-items.result.now in
+    paged_as _ _ _ _ _ _
+    (ap (λ t. flat_map (λ r. line_text (TextLine r)) (take c.loop-record.record-index records)
+    ++ line_text (TextLine t)) (c.bytes.ensures.bytes ∙ c.record-item.is)
+    ∙ flat_map_more (λ r. line_text (TextLine r)) records c.loop-record.record-index c.record-item.result
+    c.loop-record-test.true)
+    (paged_then _ _ _ _ _ _ _ _ c.loop-record.invariant c.put_words-in-loop-record.ensures.paged)
+
+pub returns-after-loop-record : goal.returns-after-loop-record
+returns-after-loop-record g c =
     rw c.if-text.true
-    (paged_then _ _ _ _ _ _ _ _ (line g (goal.at.returns-then-text g c).After-put_words)
+    (paged_then _ _ _ _ _ _ _ _ (line g (goal.at.returns-after-loop-record g c).After-put_words)
     (paged_as _ _ _ _ _ _
-    (ap (λ records. flat_map line_text (map (λ r. TextLine r) records))
-    (c.as_slice-then-text.ensures.value ∙ ap (λ (e : Element). e.text) c.element.view_is)) c.put_text.ensures))
+    (ap (flat_map (λ r. line_text (TextLine r)))
+    (take_all _ c.as_slice-record-items.result.now c.loop-record-test.false ∙ c.as_slice-record-items.ensures.value
+    ∙ ap (λ (e : Element). e.text) c.element.view_is)
+    ∙ sym (flat_map-map line_text (λ r. TextLine r) c.args.element.now.text)) c.loop-record.invariant))
 
 pub returns-else-text : goal.returns-else-text
 returns-else-text g c =

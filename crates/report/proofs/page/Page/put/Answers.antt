@@ -1,6 +1,15 @@
-use Rattle.report.proofs.Paging.{paged_then}
+use Rattle.std.proofs.Common.{◌≡◌, [], ◌++◌, ap, refl, rules, subst, sym}
+use Rattle.report.specs.Sent.{Sends}
+use Rattle.report.proofs.Paging.{paged_then, paged_out}
 use Rattle.report.proofs.page.Page.put.Goals as goal
 
-pub returns-then-remaining_capacity-piece-clause-paged : goal.returns-then-remaining_capacity-piece-clause-paged
-returns-then-remaining_capacity-piece-clause-paged g c =
-    paged_then _ _ _ _ _ _ _ _ c.empty.ensures.paged c.put_first.ensures.paged
+pub returns-then-is_err-clause-paged : goal.returns-then-is_err-clause-paged
+returns-then-is_err-clause-paged g c =
+    let none = c.empty.ensures.waiting in
+    let kept : c.try_extend_from_slice-2.new.self.items ≡ [] = search rules in
+    let same : c.try_extend_from_slice.new.self.items ≡ c.args.self.now.waiting.items = search rules in
+    let put =
+    paged_then _ _ _ _ _ _ _ _ c.empty.ensures.paged
+    (paged_out _ _ _ _ _ refl
+    (subst (Sends _ _ _ _) (ap (λ w. w ++ c.args.piece.now) (sym none)) c.write_all.ensures.sends) kept) in
+    rw same at put

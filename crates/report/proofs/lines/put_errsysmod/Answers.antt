@@ -5,7 +5,7 @@ use Rattle.machine.specs.Report.{detail_line, words_line}
 use Rattle.report.proofs.Paging.{paged_then, paged_as}
 use Rattle.report.proofs.Texts.{flat_map_more}
 use Rattle.report.proofs.Listings.{resolvers_none, resolvers_some}
-use Rattle.report.proofs.errsysmod.put_errsysmod.Goals as goal
+use Rattle.report.proofs.lines.put_errsysmod.Goals as goal
 
 pub returns-then-is_empty : goal.returns-then-is_empty
 returns-then-is_empty g c =

@@ -3,7 +3,7 @@ use Rattle.std.specs.Prelude.{codes}
 use Rattle.std.specs.List.{flat_map}
 use Rattle.machine.specs.Report.{detail_line}
 use Rattle.report.specs.Paged.{Paged}
-use Rattle.report.proofs.errsysmod.put_errsysmod.Given as goal
+use Rattle.report.proofs.lines.put_errsysmod.Given as goal
 
 abbrev pub invariant-loop-resolver : goal.invariant-loop-resolver
 invariant-loop-resolver g l =
