@@ -92,10 +92,7 @@ fn outcome(alloc: Global, text: &[u8], options: Options) -> Result<String, Fail>
 }
 
 /// The first line of two texts that differs, of each. Behind the end of one stands no line.
-pub(crate) fn first_difference<'a>(
-    got: &'a str,
-    wanted: &'a str,
-) -> (Option<&'a str>, Option<&'a str>) {
+fn first_difference<'a>(got: &'a str, wanted: &'a str) -> (Option<&'a str>, Option<&'a str>) {
     let mut wanted_lines = wanted.split('\n');
     for line in got.split('\n') {
         let other = wanted_lines.next();
@@ -106,6 +103,15 @@ pub(crate) fn first_difference<'a>(
     (None, wanted_lines.next())
 }
 
+/// A failure with this name and the first lines that differ, where the text that was got is not what was wanted.
+pub(crate) fn compare(name: &str, got: &str, wanted: &str) -> Result<(), Fail> {
+    if got == wanted {
+        return Ok(());
+    }
+    let (got, wanted) = first_difference(got, wanted);
+    Err(Fail::new(format_args!("{name}: got {got:?}, wanted {wanted:?}")))
+}
+
 /// A failure, unless these lines come of the file under the options.
 pub(crate) fn check_with(
     alloc: Global,
@@ -114,11 +120,7 @@ pub(crate) fn check_with(
     wanted: &str,
 ) -> Result<(), Fail> {
     let got = outcome(alloc, text, options)?;
-    if got.as_str() == wanted {
-        return Ok(());
-    }
-    let (got, wanted) = first_difference(got.as_str(), wanted);
-    Err(Fail::new(format_args!("got {got:?}, wanted {wanted:?}")))
+    compare("what comes of the file", got.as_str(), wanted)
 }
 
 /// A failure, unless these lines come of the file under no options.

@@ -27,46 +27,25 @@ const FILES: &[(&str, &[u8])] = &[
     ("rc", b" APPLY PTFS RC(APPLY=8).\n"),
 ];
 
-/// The words behind the program's name, with blanks between; the status; what is left in the folder, each name with a
-/// blank behind it; what is told.
-const CASES: &[(&str, u8, &str, &str)] = &[
-    ("--out d ptf", 0, "ptfin hold remarks ", ""),
-    ("--out d ptf hold", 0, "ptfin hold remarks ", ""),
-    ("--out d mod", 4, "ptfin hold remarks ", ""),
-    ("--out d --decide mod", 0, "ptfin hold remarks ", ""),
-    ("--out d --cntl cntl", 0, "cntl remarks ", ""),
-    ("--out d --cntl rc", 12, "remarks ", ""),
-    ("--out d empty", 16, "", "smpe-intake: no statement found\n"),
-    (
-        "--out d ptf none",
-        16,
-        "",
-        "smpe-intake: cannot read none\n",
-    ),
-    (
-        "--out full ptf",
-        16,
-        "",
-        "smpe-intake: cannot write into full\n",
-    ),
-    (
-        "--out d --syslib A=2 ptf",
-        16,
-        "",
-        "smpe-intake: bad operand: --syslib takes DISTLIB=SYSLIB\n",
-    ),
-    (
-        "--out d bad",
-        16,
-        "",
-        "smpe-intake: bad line 1: ++HOLD(UA1): refused: a bad id\n",
-    ),
-    ("--help", 0, "", ""),
-    ("--version", 0, "", ""),
-    ("ptf", 16, "", "shown"),
-    ("--out d --text --records ptf", 16, "", "shown"),
-    ("--out d --cntl cntl ptf", 16, "", "shown"),
-];
+/// The words behind the program's name, with blanks between; the status, what is left in the folder, and what is told.
+const CASES: &str = "\
+--out d ptf => 0 ptfin hold remarks
+--out d ptf hold => 0 ptfin hold remarks
+--out d mod => 4 ptfin hold remarks
+--out d --decide mod => 0 ptfin hold remarks
+--out d --cntl cntl => 0 cntl remarks
+--out d --cntl rc => 12 remarks
+--out d empty => 16 smpe-intake: no statement found
+--out d ptf none => 16 smpe-intake: cannot read none
+--out full ptf => 16 smpe-intake: cannot write into full
+--out d --syslib A=2 ptf => 16 smpe-intake: bad operand: --syslib takes DISTLIB=SYSLIB
+--out d bad => 16 smpe-intake: bad line 1: ++HOLD(UA1): refused: a bad id
+--help => 0
+--version => 0
+ptf => 16 shown
+--out d --text --records ptf => 16 shown
+--out d --cntl cntl ptf => 16 shown
+";
 
 /// Surroundings in memory.
 #[derive(Drop)]
@@ -142,23 +121,21 @@ fn words(alloc: Global, line: &str) -> Result<Vec<Vec<u8>>, Fail> {
     Ok(words)
 }
 
+/// The status, the names that are left in the folder, and what is told.
+fn outcome(alloc: Global, line: &str) -> Result<String, Fail> {
+    let mut memory = Memory::new(alloc);
+    let status = command(alloc, &mut memory, &Ok(words(alloc, line)?));
+    let left = str::from_utf8(&memory.left)?;
+    let told = str::from_utf8(&memory.told)?;
+    Ok(format!(in alloc; "{status} {left}{told}")?)
+}
+
 #[test]
 fn answers_its_status(rt: HostRuntime) -> Result<(), Fail> {
-    let alloc = rt.alloc();
-    for (line, wanted, left, told) in CASES {
-        let mut memory = Memory::new(alloc);
-        let status = command(alloc, &mut memory, &Ok(words(alloc, line)?));
-        assert_eq!(rt; status, *wanted, "at {line}");
-        assert_eq!(rt;
-            str::from_utf8(&memory.left).unwrap_or("?"),
-            *left,
-            "at {line}"
-        );
-        assert_eq!(rt;
-            str::from_utf8(&memory.told).unwrap_or("?"),
-            *told,
-            "at {line}"
-        );
+    for line in CASES.lines() {
+        let (words, wanted) = line.split_once(" => ").ok_or("no arrow in a case")?;
+        let got = outcome(rt.alloc(), words)?;
+        assert_eq!(rt; got.as_str().trim_end(), wanted, "at {words}");
     }
     Ok(())
 }

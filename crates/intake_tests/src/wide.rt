@@ -117,7 +117,7 @@ SET BDY(GLOBAL).|++PTF(A). => ; refused: no statement 1
 ";
 
 /// The lines of a file, with a bar between two.
-fn file_of(alloc: Global, lines: &str) -> Result<Vec<u8>, AllocError> {
+pub(crate) fn file_of(alloc: Global, lines: &str) -> Result<Vec<u8>, AllocError> {
     let mut bytes = Vec::new(alloc);
     for byte in lines.as_bytes() {
         bytes.push(if *byte == b'|' { b'\n' } else { *byte })?;

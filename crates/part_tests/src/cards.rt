@@ -19,30 +19,17 @@ pub(crate) fn record(text: &str) -> Record {
     record
 }
 
-fn put_records(bytes: &mut Vec<u8>, text: &str) -> Result<(), AllocError> {
-    for line in text.split('\n') {
-        bytes.extend_from_slice(&record(line))?;
-    }
-    Ok(())
-}
-
-/// The records of a file, one for each line of these texts. A tab leads to column 73.
-pub(crate) fn file(alloc: Global, texts: &[&str]) -> Result<Vec<u8>, AllocError> {
-    let mut bytes = Vec::new(alloc);
-    for text in texts {
-        put_records(&mut bytes, text)?;
-    }
-    Ok(bytes)
-}
-
-/// The cards of a case, with a bar between two, and what is wanted of them, which stands behind an arrow.
+/// What a case reads, and what is wanted of that, which stands behind an arrow.
 pub(crate) fn case(line: &str) -> Result<(&str, &str), &'static str> {
     line.split_once(" => ").ok_or("no arrow in a case")
 }
 
-/// The records of a file of these cards, with a bar between two.
+/// The records of a file of these cards, with a bar between two, and none where there is no text.
 pub(crate) fn file_of(alloc: Global, cards: &str) -> Result<Vec<u8>, AllocError> {
     let mut bytes = Vec::new(alloc);
+    if cards.is_empty() {
+        return Ok(bytes);
+    }
     for card in cards.split('|') {
         bytes.extend_from_slice(&record(card))?;
     }

@@ -6,6 +6,7 @@ use fields::spelling::cn_text;
 use fields::{Bypass, Reasons, ReceiveWhat, RestoreList, Source, ZoneName};
 use rec80::{Record, Records, Word, flag, ids, one, operand, rising};
 use std::alloc::{AllocError, Global};
+use std::process::Abort;
 use std::test::Fail;
 
 /// The operand of this name in the first command.
@@ -16,74 +17,65 @@ fn operand_in<'a>(alloc: Global, cards: &'a [Record], name: &[u8]) -> Option<Wor
     operand(operands.only()?, name)
 }
 
-/// The ids of the operand.
-fn ids_in(alloc: Global, cards: &[Record], name: &[u8]) -> Spelled {
-    let mut spelled = Spelled::new();
-    let Some(word) = operand_in(alloc, cards, name) else {
-        return spelled;
-    };
-    match ids(alloc, &word) {
-        Ok(list) => spelled.put_ids(name, &list),
-        Err(_) => spelled.put(b"bad"),
-    }
-    spelled
-}
-
-fn put_sources(spelled: &mut Spelled, sources: &[Source]) {
-    for source in sources {
-        spelled.put(source.as_bytes());
-    }
-}
-
-fn sources_in(alloc: Global, cards: &[Record], name: &[u8]) -> Spelled {
-    let mut spelled = Spelled::new();
-    let Some(word) = operand_in(alloc, cards, name) else {
-        return spelled;
-    };
-    match rising::<Source>(alloc, &word) {
-        Ok(list) => put_sources(&mut spelled, list.as_slice()),
-        Err(_) => spelled.put(b"bad"),
-    }
-    spelled
-}
-
-/// What the operand is without a list, and the name of a zone that is all its list has.
-fn flag_in(alloc: Global, cards: &[Record], name: &[u8]) -> Spelled {
+/// Whether the operand is there, and what its list is as ids, as sources and as the name of a zone, where it is that.
+fn taken(alloc: Global, cards: &[Record], name: &[u8]) -> Spelled {
     let mut spelled = Spelled::new();
     let found = operand_in(alloc, cards, name);
     spelled.put(match flag(&found) {
         Ok(true) => b"there",
-        Ok(false) => b"none",
+        Ok(false) => b"none ",
         Err(_) => b"list ",
     });
-    if let Some(word) = found
-        && let Some(name) = one::<ZoneName>(&word)
-    {
-        spelled.put(name.as_bytes());
+    if let Some(word) = found {
+        put_ids(alloc, &mut spelled, &word);
+        put_sources(alloc, &mut spelled, &word);
+        if let Some(zone) = one::<ZoneName>(&word) {
+            spelled.put_words(&[b"zone", zone.as_bytes()]);
+        }
     }
     spelled
 }
 
+fn put_ids(alloc: Global, spelled: &mut Spelled, word: &Word<'_>) {
+    if let Ok(list) = ids(alloc, word) {
+        spelled.put_ids(b"ids", &list);
+    }
+}
+
+fn put_sources(alloc: Global, spelled: &mut Spelled, word: &Word<'_>) {
+    if let Ok(list) = rising::<Source>(alloc, word) {
+        for source in list.iter() {
+            spelled.put_words(&[source.as_bytes()]);
+        }
+    }
+}
+
+/// The operands of a command, and how each is taken.
+const OPERANDS: &str = "\
+SELECT => list ids(UA00001 UA00002 ) UA00001 UA00002
+SOURCEID => list  A B
+CHECK => there
+TEXT => none
+GROUP => list
+BDY => list  T zone T
+";
+
 #[test]
-fn operands_are_found_by_name(rt: HostRuntime) {
+fn operands_are_found_by_name(rt: HostRuntime) -> Result<(), Fail> {
     let cards = [
         record("APPLY SELECT(UA00002, UA00001) SOURCEID( B A ) CHECK"),
         record(" GROUP(UA00001,UA00002,UA00001) BDY(T)."),
     ];
-    let alloc = rt.alloc();
-    assert_eq!(rt;
-        ids_in(alloc, &cards, b"SELECT").text(),
-        "SELECT(UA00001 UA00002 )"
-    );
-    assert_eq!(rt; ids_in(alloc, &cards, b"GROUP").text(), "bad");
-    assert_eq!(rt; sources_in(alloc, &cards, b"SOURCEID").text(), "AB");
-    assert_eq!(rt; flag_in(alloc, &cards, b"CHECK").text(), "there");
-    assert_eq!(rt; flag_in(alloc, &cards, b"TEXT").text(), "none");
-    assert_eq!(rt; flag_in(alloc, &cards, b"GROUP").text(), "list ");
-    assert_eq!(rt; flag_in(alloc, &cards, b"BDY").text(), "list T");
+    for line in OPERANDS.lines() {
+        let (name, wanted) = case(line)?;
+        let spelled = taken(rt.alloc(), &cards, name.as_bytes());
+        assert_eq!(rt; spelled.text().trim_end(), wanted, "{name}");
+    }
+    Ok(())
 }
 
-/// Cards, with a bar between two, and their commands, or the record and the code of the first fault.
+/// Files, with a semicolon between two, by their cards, with a bar between two; and the commands of each, or the record
+/// and the code of its first fault.
 const FILES: &str = "\
 SET BDY(GLOBAL). => SET GLOBAL all;
 SET BDY(TGT1).|APPLY CHECK. => SET TGT1;APPLY CHECK;
@@ -95,85 +87,39 @@ RECEIVE SOURCEID(A). => RECEIVE SYSMODS HOLDDATA A;
 RECEIVE SOURCEID(PUT2401$). => RECEIVE SYSMODS HOLDDATA PUT2401$;
 RECEIVE SOURCEID(|PUT2401$RSU2404#PUT2401$RSU2404#PUT2401$RSU2404#PUT2401$RSU2404#). => \
 RECEIVE SYSMODS HOLDDATA PUT2401$RSU2404#PUT2401$RSU2404#PUT2401$RSU2404#PUT2401$RSU2404#;
-RECEIVE SOURCEID(|PUT2401$RSU2404#PUT2401$RSU2404#PUT2401$RSU2404#PUT2401$RSU2404#A). => 1 Cn2
 RECEIVE HOLDDATA SYSMODS. => RECEIVE SYSMODS HOLDDATA;
 RECEIVE SYSMODS. => RECEIVE SYSMODS;
 RECEIVE HOLDDATA. => RECEIVE HOLDDATA;
- , RECEIVE /* , */ ,(A). => 1 Cn2
-RECEIVE SYSMODS SYSMODS. => 1 Cn3
-RECEIVE SYSMODS(A). => 1 Cn2
-RECEIVE SOURCEID(A B). => 1 Cn2
-RECEIVE SELECT(UA00001). => 1 Cn2
-REJECT SELECT(UA00001).|REJECT. => 2 Cn2
-REJECT SELECT. => 1 Cn2
-REJECT GROUP(UA00001). => 1 Cn2
-REJECT SELECT(UA00001) CHECK. => 1 Cn2
-REJECT SELECT(UA00001) SELECT(UA00002). => 1 Cn3
-SET BDY(TGT1).|APPLY!. => 2 Cn2
-SET BDY(1). => 1 Cn2
-SET BDY(A) BDY. => 1 Cn3
-APPLY CHECK - CHECK. => 1 Cn3
-APPLY NEW NEW. => 1 Cn2
-APPLY SELECT(UA00001 UA00001). => 1 Cn2
-APPLY SELECT(UA0001). => 1 Cn2
-APPLY SELECT. => 1 Cn2
-APPLY CHECK(A). => 1 Cn2
-APPLY(A) CHECK. => 1 Cn2
-/* between|*/ APPLY NO. => 2 Cn2
-UNDO NO.|LIST => 1 Cn1
-. => 1 Cn1
-(APPLY). => 1 Cn1
-APPLY. APPLY. => 1 Cn5
-APPLY.|/* open => 2 Cn5
-APPLY.|APPLY NO => 2 Cn5
 APPLY BYPASS(PRE,REQ IFREQ , ID|HOLDUSER,HOLDSYSTEM) CHECK. => APPLY CHECK PRE REQ IFREQ ID HOLDSYSTEM HOLDUSER;
 APPLY BYPASS(HOLDERROR (AA00002,AA00001)| HOLDSYSTEM(DOC A),HOLDUSER(PRE REQ),PRE HOLDCLASS(C B)). => \
 APPLY PRE HOLDERROR(AA00001 AA00002 ) HOLDSYSTEM(A DOC ) HOLDUSER(PRE REQ ) HOLDCLASS(B C );
-APPLY BYPASS(PRE PRE). => 1 Cn3
-APPLY BYPASS(PRE!PRE) NO. => 1 Cn3
-APPLY BYPASS(PRE,,PRE). => 1 Cn3
-APPLY BYPASS(PRE) BYPASS(REQ). => 1 Cn3
-APPLY BYPASS(PRE,,REQ). => 1 Cn2
-APPLY BYPASS(,PRE). => 1 Cn2
-APPLY BYPASS(PRE,). => 1 Cn2
-APPLY BYPASS(HOLDUSER(A)PRE). => 1 Cn2
-APPLY BYPASS(HOLDERROR(A)). => 1 Cn2
-APPLY BYPASS(HOLDCLASS). => 1 Cn2
-APPLY BYPASS(PRE(A)). => 1 Cn2
-APPLY BYPASS(APPLYCHECK). => 1 Cn2
-APPLY BYPASS(APPLYCHECK APPLYCHECK). => 1 Cn2
-APPLY BYPASS.|BYPASS => 1 Cn2
-APPLY BYPASS( ). => 1 Cn2
-REJECT SELECT(UA00001) BYPASS(PRE PRE). => 1 Cn2
 SET BDY(DLB1).|ACCEPT SELECT(UA00024). => SET DLB1;ACCEPT SELECT(UA00024 );
 ACCEPT SELECT(UA00024)|BYPASS(APPLYCHECK). => ACCEPT SELECT(UA00024 ) APPLYCHECK;
 ACCEPT BYPASS(HOLDCLASS(B) PRE|APPLYCHECK) CHECK. => ACCEPT CHECK PRE APPLYCHECK HOLDCLASS(B );
-ACCEPT CHECK CHECK. => 1 Cn3
-ACCEPT BYPASS(APPLYCHECK,,APPLYCHECK). => 1 Cn3
-ACCEPT BYPASS(APPLYCHECK(A)). => 1 Cn2
-ACCEPT TEXT. => 1 Cn2
 LIST.|LIST TEXT. => LIST;LIST TEXT;
-LIST!. => 1 Cn2
-!LIST. => 1 Cn1
-(LIST). => 1 Cn1
-LIST TEXT TEXT(A). => 1 Cn3
-LIST TEXT(A). => 1 Cn2
-LIST CHECK. => 1 Cn2
 SET BDY(TGT1).|REPORT ERRSYSMODS. => SET TGT1;REPORT ERRSYSMODS;
-REPORT. => 1 Cn2
-REPORT ERRSYSMODS(A). => 1 Cn2
-REPORT ERRSYSMODS|ERRSYSMODS. => 1 Cn3
 SET BDY(TGT1).|RESTORE SELECT(HAA1100,UA00017). => SET TGT1;RESTORE SELECT(HAA1100 UA00017 );
 RESTORE CHECK GROUP(UA00021). => RESTORE CHECK GROUP(UA00021 );
-APPLY.|RESTORE SELECT(UA00001) GROUP(UA00002). => 2 Cn4
-RESTORE. => 1 Cn4
-RESTORE CHECK NO. => 1 Cn4
-RESTORE SELECT GROUP(UA00001). => 1 Cn4
-RESTORE SELECT(UA0001). => 1 Cn2
-RESTORE GROUP. => 1 Cn2
-RESTORE SELECT(UA00001) SELECT(UA00002). => 1 Cn3
+UNDO NO.|LIST;.;(APPLY).;!LIST.;(LIST).;UNDO SELECT(UA00001). => 1 Cn1
+RECEIVE SOURCEID(|PUT2401$RSU2404#PUT2401$RSU2404#PUT2401$RSU2404#PUT2401$RSU2404#A). => 1 Cn2
+ , RECEIVE /* , */ ,(A).;RECEIVE SYSMODS(A).;RECEIVE SOURCEID(A B).;RECEIVE SELECT(UA00001). => 1 Cn2
+REJECT SELECT.;REJECT GROUP(UA00001).;REJECT SELECT(UA00001) CHECK.;SET BDY(1).;APPLY NEW NEW. => 1 Cn2
+APPLY SELECT(UA00001 UA00001).;APPLY SELECT(UA0001).;APPLY SELECT.;APPLY CHECK(A).;APPLY(A) CHECK. => 1 Cn2
+APPLY BYPASS(PRE,,REQ).;APPLY BYPASS(,PRE).;APPLY BYPASS(PRE,).;APPLY BYPASS(HOLDUSER(A)PRE). => 1 Cn2
+APPLY BYPASS(HOLDERROR(A)).;APPLY BYPASS(HOLDCLASS).;APPLY BYPASS(PRE(A)).;APPLY BYPASS(APPLYCHECK). => 1 Cn2
+APPLY BYPASS(APPLYCHECK APPLYCHECK).;APPLY BYPASS.|BYPASS;APPLY BYPASS( ). => 1 Cn2
+REJECT SELECT(UA00001) BYPASS(PRE PRE).;ACCEPT BYPASS(APPLYCHECK(A)).;ACCEPT TEXT.;LIST!. => 1 Cn2
+LIST TEXT(A).;LIST CHECK.;REPORT.;REPORT ERRSYSMODS(A).;RESTORE SELECT(UA0001).;RESTORE GROUP. => 1 Cn2
 RESTORE SELECT(UA00001) BYPASS(PRE). => 1 Cn2
-UNDO SELECT(UA00001). => 1 Cn1
+REJECT SELECT(UA00001).|REJECT.;SET BDY(TGT1).|APPLY!.;/* between|*/ APPLY NO. => 2 Cn2
+RECEIVE SYSMODS SYSMODS.;REJECT SELECT(UA00001) SELECT(UA00002).;SET BDY(A) BDY.;APPLY CHECK - CHECK. => 1 Cn3
+APPLY BYPASS(PRE PRE).;APPLY BYPASS(PRE!PRE) NO.;APPLY BYPASS(PRE,,PRE). => 1 Cn3
+APPLY BYPASS(PRE) BYPASS(REQ).;ACCEPT CHECK CHECK.;ACCEPT BYPASS(APPLYCHECK,,APPLYCHECK). => 1 Cn3
+LIST TEXT TEXT(A).;REPORT ERRSYSMODS|ERRSYSMODS.;RESTORE SELECT(UA00001) SELECT(UA00002). => 1 Cn3
+RESTORE.;RESTORE CHECK NO.;RESTORE SELECT GROUP(UA00001). => 1 Cn4
+APPLY.|RESTORE SELECT(UA00001) GROUP(UA00002). => 2 Cn4
+APPLY. APPLY. => 1 Cn5
+APPLY.|/* open;APPLY.|APPLY NO => 2 Cn5
 ";
 
 fn put_flag(spelled: &mut Spelled, is_there: bool, word: &[u8]) {
@@ -278,20 +224,26 @@ fn commanded(alloc: Global, bytes: &[u8]) -> Spelled {
     spelled
 }
 
-fn commanded_by(alloc: Global, cards: &str) -> Result<Spelled, AllocError> {
-    let bytes = file_of(alloc, cards)?;
-    Ok(commanded(alloc, bytes.as_slice()))
+fn check(rt: &impl Abort, alloc: Global, files: &str, wanted: &str) -> Result<(), AllocError> {
+    for cards in files.split(';') {
+        let bytes = file_of(alloc, cards)?;
+        assert_eq!(rt;
+            commanded(alloc, bytes.as_slice()).text(),
+            wanted,
+            "{cards}"
+        );
+    }
+    Ok(())
 }
 
 #[test]
 fn command_files_are_read_or_told(rt: HostRuntime) -> Result<(), Fail> {
     for line in FILES.lines() {
-        let (cards, wanted) = case(line)?;
-        let spelled = commanded_by(rt.alloc(), cards)?;
-        assert_eq!(rt; spelled.text(), wanted, "{cards}");
+        let (files, wanted) = case(line)?;
+        check(&rt, rt.alloc(), files, wanted)?;
     }
-    assert_eq!(rt; commanded_by(rt.alloc(), " | ")?.text(), "");
-    assert_eq!(rt; commanded(rt.alloc(), &[]).text(), "");
+    check(&rt, rt.alloc(), " | ", "")?;
+    check(&rt, rt.alloc(), "", "")?;
     assert_eq!(rt; commanded(rt.alloc(), b"SET").text(), "1 Cn5");
     Ok(())
 }

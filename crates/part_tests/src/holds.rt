@@ -1,6 +1,6 @@
 //! Hold files.
 
-use crate::cards::{Spelled, case, file, file_of};
+use crate::cards::{Spelled, case, file_of};
 use fields::spelling::{hold_text, mc_text};
 use fields::{Id, Reason};
 use mcs::{HoldItem, McsError, read_hold};
@@ -94,11 +94,8 @@ fn hold_files_are_read_or_told(rt: HostRuntime) -> Result<(), Fail> {
     for line in FILES.lines() {
         let (cards, wanted) = case(line)?;
         let bytes = file_of(rt.alloc(), cards)?;
-        assert_eq!(rt;
-            held(rt.alloc(), bytes.as_slice()).text(),
-            wanted,
-            "{cards}"
-        );
+        let spelled = held(rt.alloc(), bytes.as_slice());
+        assert_eq!(rt; spelled.text(), wanted, "{cards}");
     }
     assert_eq!(rt; held(rt.alloc(), &[]).text(), "");
     Ok(())
@@ -109,21 +106,18 @@ const COMMENTED: &str = "++HOLD(UA00001) USER FMID(HAA1100) REASON(X) COMMENT(";
 /// Two records of a comment, which is 200 characters long with 54 more.
 const LINE: &str = "XXXXXXXXXXXXXXXXXXXXXXXXXXXXXXXXXXXXXXXXXXXXXXXXXXXXXXXXXXXXXXXXXXXXXXXX";
 
-const LONG: &[[&str; 2]] = &[
-    [
-        "XXXXXXXXXXXXXXXXXXXXXXXXXXXXXXXXXXXXXXXXXXXXXXXXXXXXXX).",
-        "HOLD UA00001 U",
-    ],
-    [
-        "XXXXXXXXXXXXXXXXXXXXXXXXXXXXXXXXXXXXXXXXXXXXXXXXXXXXXXX).",
-        "1 Mc6",
-    ],
-];
+/// The last record of such a comment, and how its hold begins as text, or the record and the code of its fault.
+const LONG: &str = "\
+XXXXXXXXXXXXXXXXXXXXXXXXXXXXXXXXXXXXXXXXXXXXXXXXXXXXXX). => HOLD UA00001 U
+XXXXXXXXXXXXXXXXXXXXXXXXXXXXXXXXXXXXXXXXXXXXXXXXXXXXXXX). => 1 Mc6
+";
 
 #[test]
 fn a_comment_of_more_than_200_characters_is_told(rt: HostRuntime) -> Result<(), Fail> {
-    for [last, wanted] in LONG {
-        let bytes = file(rt.alloc(), &[COMMENTED, LINE, LINE, last])?;
+    for line in LONG.lines() {
+        let (last, wanted) = case(line)?;
+        let cards = format!(in rt.alloc(); "{COMMENTED}|{LINE}|{LINE}|{last}")?;
+        let bytes = file_of(rt.alloc(), cards.as_str())?;
         let spelled = held(rt.alloc(), bytes.as_slice());
         let got = spelled.text();
         assert!(rt;

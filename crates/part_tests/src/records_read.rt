@@ -1,10 +1,11 @@
 //! Records, statements, commands and their words.
 
-use crate::cards::{Spelled, case, record};
+use crate::cards::{Spelled, case, file_of, record};
 use rec80::{
     Commands, Group, Groups, Piece, RecError, Record, Records, StmtError, Text, Words, records,
     statement,
 };
+use std::alloc::{AllocError, Global};
 use std::test::Fail;
 
 /// Each member with its own list in parentheses and a semicolon; a `?` where there is no member.
@@ -139,67 +140,60 @@ fn fault_at(place: usize, byte: u8) -> Option<RecError> {
 #[test]
 fn bytes_outside_records_are_told(rt: HostRuntime) {
     let (record, column) = (2, 80);
-    assert_eq!(rt;
-        fault_at(159, 0x7F),
-        Some(RecError::Rec2 { record, column })
-    );
+    let unprintable = Some(RecError::Rec2 { record, column });
+    assert_eq!(rt; fault_at(159, 0x7F), unprintable);
     assert_eq!(rt; fault_at(159, b'~'), Some(RecError::Rec1 { record: 3 }));
     assert_eq!(rt; fault_at(160, 0), Some(RecError::Rec1 { record: 3 }));
     assert!(rt; records(&[b' '; 160]).is_ok_and(|found| found.all.len() == 2));
 }
 
-/// Three cards, and the words of their commands, each behind the number of its record, or the first fault.
-const COMMANDS: &[[&str; 4]] = &[
-    ["SET BDY(TGT1)., /* . */", " , ", "", "1 SET BDY(TGT1;) "],
-    [
-        "SET BDY(A).",
-        "/* between",
-        "them */ APPLY CHECK - CHECK.",
-        "1 SET BDY(A;) 3 APPLY CHECK ?",
-    ],
-    ["LIST.", "", "/* open", "1 LIST 3 St2"],
-    ["LIST. X", "", "", "1 St4"],
-    ["", "LIST(", "", "2 St3"],
-    ["LIST", "", "", "1 St1"],
-    [" /* nothing */", " , ", "", ""],
-];
+/// Cards, with a bar between two, and the words of their commands, each behind the number of its record, or the first
+/// fault.
+const COMMANDS: &str = "\
+SET BDY(TGT1)., /* . */| , | => 1 SET BDY(TGT1;)
+SET BDY(A).|/* between|them */ APPLY CHECK - CHECK. => 1 SET BDY(A;) 3 APPLY CHECK ?
+LIST.||/* open => 1 LIST 3 St2
+LIST. X|| => 1 St4
+|LIST(| => 2 St3
+LIST|| => 1 St1
+";
 
-/// Answers whether there may be a next one.
-fn put_next(spelled: &mut Spelled, commands: &mut Commands<'_>) -> bool {
-    match commands.next_command() {
-        Ok(Some(command)) => {
-            spelled.put_number(command.number);
-            spelled.put(b" ");
-            put_words(spelled, command.words);
-            true
-        }
-        Ok(None) => false,
-        Err(error) => {
-            spelled.put_number(error.number);
-            spelled.put(b" ");
-            put_fault(spelled, error.why);
-            false
+fn put_commands(spelled: &mut Spelled, mut commands: Commands<'_>) {
+    for _ in 0..9 {
+        match commands.next_command() {
+            Ok(Some(command)) => {
+                spelled.put_number(command.number);
+                spelled.put(b" ");
+                put_words(spelled, command.words);
+            }
+            Ok(None) => return,
+            Err(error) => {
+                spelled.put_number(error.number);
+                spelled.put(b" ");
+                return put_fault(spelled, error.why);
+            }
         }
     }
 }
 
-fn commanded(first: &str, second: &str, third: &str) -> Spelled {
-    let cards = [record(first), record(second), record(third)];
-    let mut commands = Records { all: &cards }.commands();
+fn commanded(alloc: Global, cards: &str) -> Result<Spelled, AllocError> {
+    let bytes = file_of(alloc, cards)?;
     let mut spelled = Spelled::new();
-    for _ in 0..9 {
-        if !put_next(&mut spelled, &mut commands) {
-            break;
-        }
+    if let Ok(found) = records(bytes.as_slice()) {
+        put_commands(&mut spelled, found.commands());
     }
-    spelled
+    Ok(spelled)
 }
 
 #[test]
-fn commands_have_words_or_a_fault(rt: HostRuntime) {
-    for [first, second, third, wanted] in COMMANDS {
-        assert_eq!(rt; commanded(first, second, third).text(), *wanted, "{first}");
+fn commands_have_words_or_a_fault(rt: HostRuntime) -> Result<(), Fail> {
+    for line in COMMANDS.lines() {
+        let (cards, wanted) = case(line)?;
+        let spelled = commanded(rt.alloc(), cards)?;
+        assert_eq!(rt; spelled.text().trim_end(), wanted, "{cards}");
     }
+    assert_eq!(rt; commanded(rt.alloc(), " /* nothing */| , | ")?.text(), "");
+    Ok(())
 }
 
 /// A letter for each piece, and the characters that stand in no word.

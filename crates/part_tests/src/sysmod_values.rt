@@ -48,26 +48,12 @@ fn put_vers(alloc: Global, sysmod: &mut Sysmod, vers: &[(Srel, Id)]) -> Result<(
     Ok(())
 }
 
-/// A PTF with these `++VER`s.
-fn with_vers(alloc: Global, id: Id, vers: &[(Srel, Id)]) -> Result<Sysmod, AllocError> {
-    let mut sysmod = Sysmod::new(alloc, Kind::Ptf, id);
-    put_vers(alloc, &mut sysmod, vers)?;
-    Ok(sysmod)
-}
-
 /// A data element of each name.
 fn put_data(alloc: Global, sysmod: &mut Sysmod, names: &[Name]) -> Result<(), AllocError> {
     for name in names {
         sysmod.insert_change(data(alloc, *name)?)?;
     }
     Ok(())
-}
-
-/// A PTF with these elements.
-fn with_data(alloc: Global, id: Id, names: &[Name]) -> Result<Sysmod, AllocError> {
-    let mut sysmod = Sysmod::new(alloc, Kind::Ptf, id);
-    put_data(alloc, &mut sysmod, names)?;
-    Ok(sysmod)
 }
 
 /// The ids that it names for the SREL.
@@ -79,30 +65,27 @@ fn named_for(alloc: Global, sysmod: &Sysmod, srel: Srel) -> Result<Vec<Id>, Allo
 
 #[test]
 fn a_sysmod_names_ids_by_its_vers(rt: HostRuntime) -> Result<(), Fail> {
-    let (function, other, fix) = (id(b"HAA1100")?, id(b"HBB1100")?, id(b"UA00003")?);
+    let (function, other) = (id(b"HAA1100")?, id(b"HBB1100")?);
     let (low, high, none) = (srel(b"P004")?, srel(b"Z038")?, srel(b"C150")?);
     let vers = [(high, other), (low, function), (high, function)];
-    let mut fix = with_vers(rt.alloc(), fix, &vers)?;
+    let mut fix = Sysmod::new(rt.alloc(), Kind::Ptf, id(b"UA00003")?);
+    put_vers(rt.alloc(), &mut fix, &vers)?;
     assert_eq!(rt; fix.vers.len(), 3);
     assert_eq!(rt; fix.insert_ver(ver(rt.alloc(), low, other))?, 1);
     assert!(rt; fix.names(function) && fix.names_function(function) && !fix.supersedes(function));
-    assert!(rt;
-        fix.names_for(high, function)
-            && fix.names_for(low, function)
-            && !fix.names_for(none, function)
-    );
+    assert!(rt; fix.names_for(high, function) && fix.names_for(low, function));
+    assert!(rt; !fix.names_for(none, function));
     assert_eq!(rt; named_for(rt.alloc(), &fix, none)?.len(), 0);
-    assert_eq!(rt;
-        named_for(rt.alloc(), &fix, high)?.as_slice(),
-        [other, function].as_slice()
-    );
+    let named = named_for(rt.alloc(), &fix, high)?;
+    assert_eq!(rt; named.as_slice(), [other, function].as_slice());
     Ok(())
 }
 
 #[test]
 fn a_sysmod_has_one_change_for_an_element(rt: HostRuntime) -> Result<(), Fail> {
     let (first, second) = (name(b"AABC")?, name(b"BABC")?);
-    let mut fix = with_data(rt.alloc(), id(b"UA00003")?, &[second, first, second])?;
+    let mut fix = Sysmod::new(rt.alloc(), Kind::Ptf, id(b"UA00003")?);
+    put_data(rt.alloc(), &mut fix, &[second, first, second])?;
     assert_eq!(rt; fix.changes.len(), 2);
     assert!(rt; fix.has_change(ElemType::Data, second));
     assert!(rt; !fix.has_change(ElemType::Exec, second));

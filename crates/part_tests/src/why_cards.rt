@@ -1,40 +1,26 @@
 //! Global zones and zones for the tests, and what is told of ids in them.
 
-use crate::cards::file;
+use crate::cards::file_of;
 use fields::{Id, IdList, Name, Srel, YyDdd, ZoneName};
 use mcs::{HoldItem, Item, read_hold, read_ptfin};
 use report_why::{facts_code, facts_of, facts_text};
 use sorted::Table;
 use std::alloc::{AllocError, Global};
 use std::test::Fail;
-use sysmod::{Hold, Sysmod};
+use sysmod::Hold;
 use sysmods::GlobalZone;
 use terms::{ElemType, ZoneKind};
 use zones::{Applied, Element, Entry, Zone};
 
-/// The SYSMOD stands by itself, and its holds with the others.
-fn take(
-    alloc: Global,
-    item: Item,
-    sysmods: &mut Vec<Sysmod>,
-    holds: &mut Vec<Hold>,
-) -> Result<(), AllocError> {
-    if let Item::Sysmod(mut sysmod) = item {
-        holds.append(&mut sysmod.take_holds(alloc))?;
-        sysmods.push(sysmod)?;
-    }
-    Ok(())
-}
-
-/// The SYSMODs of these cards, with their holds laid aside.
-fn take_sysmods(
-    alloc: Global,
-    cards: &[u8],
-    sysmods: &mut Vec<Sysmod>,
-    holds: &mut Vec<Hold>,
-) -> Result<(), Fail> {
+/// RECEIVE of the SYSMODs of these cards.
+fn receive(alloc: Global, global: &mut GlobalZone, cards: &[u8]) -> Result<(), Fail> {
     for item in read_ptfin(alloc, cards)? {
-        take(alloc, item, sysmods, holds)?;
+        if let Item::Sysmod(sysmod) = item {
+            let refused = global.receive(alloc, sysmod)?;
+            if refused.is_some() {
+                return Err(Fail::from("a SYSMOD is refused"));
+            }
+        }
     }
     Ok(())
 }
@@ -49,20 +35,20 @@ fn take_holds(alloc: Global, cards: &[u8], holds: &mut Vec<Hold>) -> Result<(), 
     Ok(())
 }
 
-/// The global zone of the SYSMODs and of the holds of these records. The holds rise where those of the hold file come
-/// before those of the SYSMODs.
+/// The global zone of the holds and of the SYSMODs of these records.
 fn global_of(alloc: Global, cards: &[u8], holds: &[u8]) -> Result<GlobalZone, Fail> {
-    let mut sysmods = Vec::new(alloc);
-    let mut all = Vec::new(alloc);
-    take_holds(alloc, holds, &mut all)?;
-    take_sysmods(alloc, cards, &mut sysmods, &mut all)?;
-    Ok(GlobalZone::from_parts(alloc, sysmods, all)?.ok_or("no global zone")?)
+    let mut external = Vec::new(alloc);
+    take_holds(alloc, holds, &mut external)?;
+    let found = GlobalZone::from_parts(alloc, Vec::new(alloc), external)?;
+    let mut global = found.ok_or("no global zone")?;
+    receive(alloc, &mut global, cards)?;
+    Ok(global)
 }
 
-/// The global zone of the SYSMODs and of the holds of these cards.
-fn global(alloc: Global, cards: &str, holds: &[&str]) -> Result<GlobalZone, Fail> {
-    let cards = file(alloc, &[cards])?;
-    let holds = file(alloc, holds)?;
+/// The global zone of the holds and of the SYSMODs of these cards.
+fn global(alloc: Global, cards: &str, holds: &str) -> Result<GlobalZone, Fail> {
+    let cards = file_of(alloc, cards)?;
+    let holds = file_of(alloc, holds)?;
     global_of(alloc, cards.as_slice(), holds.as_slice())
 }
 
@@ -123,10 +109,10 @@ fn told(
     Ok((text, facts_code(facts.as_slice())))
 }
 
-/// A global zone by its cards, and what must be told of ids in it.
+/// A global zone by its cards, with a bar between two, and what must be told of ids in it.
 pub(crate) struct Wanted {
     pub(crate) cards: &'static str,
-    pub(crate) holds: &'static [&'static str],
+    pub(crate) holds: &'static str,
     pub(crate) text: &'static str,
     pub(crate) code: u8,
 }

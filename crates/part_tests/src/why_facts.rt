@@ -7,14 +7,14 @@ use std::alloc::Global;
 use std::test::Fail;
 use zones::Zone;
 
-const CARDS: &str =
-    "++FUNCTION(HAA1100).\n++VER(Z038).\n++DATA(X1) DISTLIB(A) SYSLIB(B).\nFIRST\n++PTF(UA00001).\n\
-        ++VER(Z038) FMID(HAA1100).\n++DATA(X1) DISTLIB(A) SYSLIB(B).\nSECOND\n++PTF(UA00002).\n\
-        ++VER(Z038) FMID(HAA1100) PRE(UA00001) REQ(UA00003).\n++IF FMID(HAA1100) THEN REQ(UA00004).\n\
-        ++HOLD(UA00002) SYSTEM FMID(HAA1100) REASON(ACTION) DATE(24123)\n  COMMENT(READ THIS).\n\
-        ++DATA(X1) DISTLIB(A) SYSLIB(B).\nTHIRD\n++PTF(UA00005).\n++VER(Z038) FMID(HAA1100)\n  SUP(UA00003).";
-
-const TOLD: &str = "UA00002 PTF      RECEIVED
+const WANTED: Wanted = Wanted {
+    cards: "++FUNCTION(HAA1100).|++VER(Z038).|++DATA(X1) DISTLIB(A) SYSLIB(B).|FIRST|++PTF(UA00001).|\
+        ++VER(Z038) FMID(HAA1100).|++DATA(X1) DISTLIB(A) SYSLIB(B).|SECOND|++PTF(UA00002).|\
+        ++VER(Z038) FMID(HAA1100) PRE(UA00001) REQ(UA00003).|++IF FMID(HAA1100) THEN REQ(UA00004).|\
+        ++HOLD(UA00002) SYSTEM FMID(HAA1100) REASON(ACTION) DATE(24123)|  COMMENT(READ THIS).|\
+        ++DATA(X1) DISTLIB(A) SYSLIB(B).|THIRD|++PTF(UA00005).|++VER(Z038) FMID(HAA1100)|  SUP(UA00003).",
+    holds: "++HOLD(UA00002) ERROR FMID(HAA1100) REASON(AA00009).",
+    text: "UA00002 PTF      RECEIVED
   VER 1 FMID HAA1100 FITS COUNTS
   FMID HAA1100 SUPPLIED
     SUPPLIER HAA1100
@@ -37,7 +37,9 @@ HAA1100 FUNCTION APPLIED
     RMID UA00001 NOTOVER
   NEEDED UA00001
 UA00099 -        MISSING
-";
+",
+    code: 4,
+};
 
 /// The function and the first PTF, which replaced the function's element, are applied.
 fn applied(alloc: Global) -> Result<Zone, Fail> {
@@ -48,13 +50,6 @@ fn applied(alloc: Global) -> Result<Zone, Fail> {
     elements.put(element(alloc, name(b"X1")?, function, fix))?;
     zone(entries, elements)
 }
-
-const WANTED: Wanted = Wanted {
-    cards: CARDS,
-    holds: &["++HOLD(UA00002) ERROR FMID(HAA1100) REASON(AA00009)."],
-    text: TOLD,
-    code: 4,
-};
 
 #[test]
 fn what_may_be_applied_and_what_is_missing_is_told(rt: HostRuntime) -> Result<(), Fail> {

@@ -8,13 +8,13 @@ use std::alloc::{AllocError, Global};
 use std::test::Fail;
 use zones::{Entry, Zone};
 
-const CARDS: &str =
-    "++FUNCTION(HAA1100).\n++VER(Z038).\n++FUNCTION(HAA1200).\n++VER(Z038) DELETE(HAA1100) NPRE(HBB1100).\n\
-        ++FUNCTION(HBB1100).\n++VER(Z038) NPRE(HAA1200).\n++PTF(UA00001).\n\
-        ++VER(Z038) FMID(HAA1100) PRE(UA00007) SUP(UA00000).\n++PTF(UB00001).\n\
-        ++VER(Z038) FMID(HBB1100) REQ(UA00001).\n++IF FMID(HAA1200) THEN REQ(UB00002).";
-
-const TOLD: &str = "HAA1200 FUNCTION RECEIVED
+const WANTED: Wanted = Wanted {
+    cards: "++FUNCTION(HAA1100).|++VER(Z038).|++FUNCTION(HAA1200).|++VER(Z038) DELETE(HAA1100) NPRE(HBB1100).|\
+        ++FUNCTION(HBB1100).|++VER(Z038) NPRE(HAA1200).|++PTF(UA00001).|\
+        ++VER(Z038) FMID(HAA1100) PRE(UA00007) SUP(UA00000).|++PTF(UB00001).|\
+        ++VER(Z038) FMID(HBB1100) REQ(UA00001).|++IF FMID(HAA1200) THEN REQ(UB00002).",
+    holds: "",
+    text: "HAA1200 FUNCTION RECEIVED
   VER 1 FMID - FITS COUNTS
   IFREQ UB00002 FMID HAA1200 BY UB00001 OPEN
     CANDIDATE -
@@ -34,31 +34,23 @@ UA00001 PTF      APPLIED
   NEEDED UB00001
 UA00000 -        SUPERSEDED
   ENTRY UA00000 - SUPBY UA00001 DELBY - WAIVED -
-";
+",
+    code: 0,
+};
 
-/// The PTF, with what was bypassed when it was applied.
-fn put_waiver(
-    alloc: Global,
-    entries: &mut Table<Entry>,
-    id: Id,
-    waived: Id,
-) -> Result<(), AllocError> {
+/// An entry with what was bypassed when it was applied.
+fn waiving(alloc: Global, id: Id, waived: Id) -> Result<Entry, AllocError> {
     let mut entry = entry(alloc, id);
     entry.waived.insert(waived)?;
-    entries.put(entry)
+    Ok(entry)
 }
 
-/// What the PTF supersedes.
-fn put_superseded(
-    alloc: Global,
-    entries: &mut Table<Entry>,
-    id: Id,
-    by: Id,
-) -> Result<(), AllocError> {
+/// An entry of what is superseded.
+fn superseded(alloc: Global, id: Id, by: Id) -> Result<Entry, AllocError> {
     let mut entry = entry(alloc, id);
     entry.applied = None;
     entry.supby.insert(by)?;
-    entries.put(entry)
+    Ok(entry)
 }
 
 /// Both functions and their service are applied.
@@ -67,17 +59,10 @@ fn applied(alloc: Global) -> Result<Zone, Fail> {
     let (fix, gone, waived) = (id(b"UA00001")?, id(b"UA00000")?, id(b"UA00007")?);
     let mut entries = Table::new(alloc);
     put_entries(alloc, &mut entries, &alone)?;
-    put_waiver(alloc, &mut entries, fix, waived)?;
-    put_superseded(alloc, &mut entries, gone, fix)?;
+    entries.put(waiving(alloc, fix, waived)?)?;
+    entries.put(superseded(alloc, gone, fix)?)?;
     zone(entries, Table::new(alloc))
 }
-
-const WANTED: Wanted = Wanted {
-    cards: CARDS,
-    holds: &[],
-    text: TOLD,
-    code: 0,
-};
 
 #[test]
 fn a_function_that_deletes_is_told(rt: HostRuntime) -> Result<(), Fail> {

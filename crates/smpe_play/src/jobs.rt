@@ -9,13 +9,31 @@ use std::test::Fail;
 use store::Store;
 use terms::ZoneKind;
 
-/// A failure with this name and both texts, where the one that was got is not the one that was wanted.
+/// The number of the first line of two texts that differs, and the line of each. Behind the end of one stands no line.
+pub(crate) fn first_difference<'a>(
+    got: &'a str,
+    wanted: &'a str,
+) -> (usize, Option<&'a str>, Option<&'a str>) {
+    let mut number: usize = 1;
+    let mut wanted_lines = wanted.split('\n');
+    for line in got.split('\n') {
+        let other = wanted_lines.next();
+        if other != Some(line) {
+            return (number, Some(line), other);
+        }
+        number = number.saturating_add(1);
+    }
+    (number, None, wanted_lines.next())
+}
+
+/// A failure with this name and the first lines that differ, where the text that was got is not what was wanted.
 pub fn compare(name: &str, got: &[u8], wanted: &str) -> Result<(), Fail> {
     if got == wanted.as_bytes() {
         return Ok(());
     }
     let got = std::str::from_utf8(got)?;
-    Err(Fail::new(format_args!("{name}: got {got}, wanted {wanted}")))
+    let (number, got, wanted) = first_difference(got, wanted);
+    Err(Fail::new(format_args!("{name}: line {number}: got {got:?}, wanted {wanted:?}")))
 }
 
 /// A card with this text, in which a tab leads to column 73.

@@ -2,7 +2,7 @@
 
 use crate::cards::{BEGINNING, Case, Step};
 use crate::disks::{in_memory, new_files, opened, reopened};
-use crate::jobs::{card_file, define_both, job_over, put_cards, run_printing};
+use crate::jobs::{card_file, define_both, first_difference, job_over, put_cards, run_printing};
 use smpe::{Answer, JobError};
 use sqlite::{Alter, Connection, FileStore};
 use sqlite_disk::Memory;
@@ -51,10 +51,10 @@ fn check(step: &Step, place: Place, report: &[u8], answers: &[Answer]) -> Result
         return Ok(());
     }
     let (shows, disk, name) = (place.shows, place.disk, step.name);
-    let got = std::str::from_utf8(report)?;
-    let (wanted, wanted_code) = (step.report, step.code);
+    let (line, got, wanted) = first_difference(std::str::from_utf8(report)?, step.report);
+    let wanted_code = step.code;
     Err(Fail::new(format_args!(
-        "{shows}: {name} {disk}: got {got} and {code:?}, wanted {wanted} and {wanted_code}"
+        "{shows}: {name} {disk}: line {line}: got {got:?} and {code:?}, wanted {wanted:?} and {wanted_code}"
     )))
 }
 

@@ -136,7 +136,7 @@ pub(crate) fn first_difference<'a>(
     (None, wanted_lines.next())
 }
 
-/// A failure with this name and the first lines that differ, where the text that was got is not the one that was wanted.
+/// A failure with this name and the first lines that differ, where the text that was got is not what was wanted.
 pub(crate) fn compare(name: &str, got: &str, wanted: &str) -> Result<(), Fail> {
     if got == wanted {
         return Ok(());
