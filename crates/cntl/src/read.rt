@@ -35,8 +35,8 @@ fn take_command_word(left: &mut Words<'_>) -> Option<CommandWord>
 
 /// The command of these words. `Memory` comes where memory runs out, and `Fault` has the first that applies of
 /// `UnknownCommand` where they begin with no command, `OperandTwice` where an operand or a member of BYPASS comes
-/// twice, `NoSingleList` where RESTORE has SELECT and GROUP or none of them, and `UnfitValue` where anything else is
-/// wrong with an operand.
+/// twice, `NoSingleList` where RESTORE has SELECT and GROUP or none of them, and `BadCommandOperand` where anything
+/// else is wrong with an operand.
 pub fn read_command(alloc: Global, words: &Words<'_>) -> Result<Command, CommandError>
     ensures command { (pieces : List AnyPiece) → LeavesPieces words.now pieces
         → IfOk result (λ c. IsCommand pieces (command_of c)) }
@@ -57,11 +57,11 @@ pub fn read_command(alloc: Global, words: &Words<'_>) -> Result<Command, Command
         return Err(CommandError::Fault(CommandCode::NoSingleList));
     }
     let Some(named) = operands.named(operands_of(word)) else {
-        return Err(CommandError::Fault(CommandCode::UnfitValue));
+        return Err(CommandError::Fault(CommandCode::BadCommandOperand));
     };
     match read_operands(alloc, word, named) {
         Ok(command) => Ok(command),
         Err(OperandError::Memory) => Err(CommandError::Memory),
-        Err(OperandError::Bad) => Err(CommandError::Fault(CommandCode::UnfitValue)),
+        Err(OperandError::Bad) => Err(CommandError::Fault(CommandCode::BadCommandOperand)),
     }
 }

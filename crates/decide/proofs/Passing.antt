@@ -9,8 +9,8 @@ use Rattle.terms.proofs.ListMembers.{filter_in, in_filter, none_in}
 use Rattle.terms.proofs.Places.{contains_at}
 use Rattle.terms.specs.declared.codes.Test.{Test}
 use Rattle.terms.specs.declared.codes.Test.TheVariants.{HeldBySystem, HeldByUser, ForbiddenByNpre, OwnedByAnother}
-use Rattle.terms.specs.declared.codes.Test.TheVariants.{UnrelatedLevel, NothingToUpdate, NotInTarget, ChainDeleted}
-use Rattle.terms.specs.declared.codes.Test.TheVariants.{InClash, AlreadyAccepted, HasDelete, UnappliedLevel, SeveralFit}
+use Rattle.terms.specs.declared.codes.Test.TheVariants.{Regression, NothingToUpdate, NotInTarget, ChainDeleted}
+use Rattle.terms.specs.declared.codes.Test.TheVariants.{InClash, AlreadyAccepted, HasDelete, OtherLevel, SeveralFit}
 use Rattle.terms.specs.Types.{Id}
 use Rattle.terms.specs.Lookups.{is_nil}
 use Rattle.terms.specs.Failures.{all_tests}
@@ -22,14 +22,14 @@ all_there HeldBySystem = (0, omega arith, refl)
 all_there HeldByUser = (1, omega arith, refl)
 all_there ForbiddenByNpre = (2, omega arith, refl)
 all_there OwnedByAnother = (3, omega arith, refl)
-all_there UnrelatedLevel = (4, omega arith, refl)
+all_there Regression = (4, omega arith, refl)
 all_there NothingToUpdate = (5, omega arith, refl)
 all_there NotInTarget = (6, omega arith, refl)
 all_there ChainDeleted = (7, omega arith, refl)
 all_there InClash = (8, omega arith, refl)
 all_there AlreadyAccepted = (9, omega arith, refl)
 all_there HasDelete = (10, omega arith, refl)
-all_there UnappliedLevel = (11, omega arith, refl)
+all_there OtherLevel = (11, omega arith, refl)
 all_there SeveralFit = (12, omega arith, refl)
 
 none_fails : (p : Test → Bool) → is_nil (filter p all_tests) ≡ true ↔ ((t : Test) → IsFalse (p t))

@@ -6,7 +6,8 @@ ghost use Rattle.terms.specs.declared.kinds.HoldKind.{HoldKind};
 ghost use Rattle.terms.specs.declared.kinds.ElemType.{ElemType};
 ghost use Rattle.terms.specs.declared.kinds.ZoneKind.{ZoneKind};
 ghost use Rattle.terms.specs.declared.codes.CommandWord.{CommandWord};
-ghost use Rattle.terms.specs.Spelling.{kind_text, hold_text, type_text, zone_kind_text, mc_text, cn_text, word_text};
+ghost use Rattle.terms.specs.Spelling.{kind_text, hold_text, type_text, zone_kind_text, statement_code_text};
+ghost use Rattle.terms.specs.Spelling.{command_code_text, word_text};
 ghost use Rattle.terms.specs.Spelling.{test_text, need_text, refusal_text};
 
 use terms::{
@@ -121,26 +122,26 @@ pub fn read_zone_kind(text: &[u8]) -> Option<ZoneKind>
 }
 
 /// The fault of a statement file, as it is spelled.
-pub fn mc_text(mc: StatementCode) -> &'static [u8]
-    ensures { result.now ≡ mc_text mc }
+pub fn statement_code_text(code: StatementCode) -> &'static [u8]
+    ensures { result.now ≡ statement_code_text code }
 {
-    match mc {
+    match code {
         StatementCode::BadStatementForm => b"Mc1",
         StatementCode::UnknownStatementWord => b"Mc2",
-        StatementCode::UnfitOperand => b"Mc3",
+        StatementCode::BadStatementOperand => b"Mc3",
         StatementCode::WrongPlace => b"Mc4",
-        StatementCode::UnfitText => b"Mc5",
+        StatementCode::BadText => b"Mc5",
         StatementCode::OverLimit => b"Mc6",
     }
 }
 
 /// The fault of a command file, as it is spelled.
-pub fn cn_text(cn: CommandCode) -> &'static [u8]
-    ensures { result.now ≡ cn_text cn }
+pub fn command_code_text(code: CommandCode) -> &'static [u8]
+    ensures { result.now ≡ command_code_text code }
 {
-    match cn {
+    match code {
         CommandCode::UnknownCommand => b"Cn1",
-        CommandCode::UnfitValue => b"Cn2",
+        CommandCode::BadCommandOperand => b"Cn2",
         CommandCode::OperandTwice => b"Cn3",
         CommandCode::NoSingleList => b"Cn4",
         CommandCode::BadCommandForm => b"Cn5",
@@ -190,14 +191,14 @@ pub fn test_text(test: Test) -> &'static [u8]
         Test::HeldByUser => b"J2",
         Test::ForbiddenByNpre => b"J3",
         Test::OwnedByAnother => b"J4",
-        Test::UnrelatedLevel => b"J5",
+        Test::Regression => b"J5",
         Test::NothingToUpdate => b"J6",
         Test::NotInTarget => b"J7",
         Test::ChainDeleted => b"J8",
         Test::InClash => b"J9",
         Test::AlreadyAccepted => b"J10",
         Test::HasDelete => b"J11",
-        Test::UnappliedLevel => b"J12",
+        Test::OtherLevel => b"J12",
         Test::SeveralFit => b"J13",
     }
 }
@@ -224,11 +225,11 @@ pub fn refusal_text(refusal: IdRefusal) -> &'static [u8]
 {
     match refusal {
         IdRefusal::MakesLoop => b"Rc2",
-        IdRefusal::OtherRole => b"Rc3",
+        IdRefusal::WrongRole => b"Rc3",
         IdRefusal::NoRoom => b"Rc4",
-        IdRefusal::NoSuchHold => b"Rl1",
-        IdRefusal::CameAlong => b"Rl2",
+        IdRefusal::NoHold => b"Rl1",
+        IdRefusal::Internal => b"Rl2",
         IdRefusal::AppliedSomewhere => b"Rj1",
-        IdRefusal::NotThere => b"Rj2",
+        IdRefusal::UnknownSysmod => b"Rj2",
     }
 }

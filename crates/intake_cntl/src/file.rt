@@ -89,7 +89,7 @@ fn append(
 // Why a command of known words is not read.
 fn reason_of(code: CommandCode) -> Reason {
     match code {
-        CommandCode::UnfitValue => Reason::Missing,
+        CommandCode::BadCommandOperand => Reason::Missing,
         CommandCode::NoSingleList => Reason::Contradiction,
         CommandCode::UnknownCommand | CommandCode::OperandTwice | CommandCode::BadCommandForm =>
             Reason::NotRead,

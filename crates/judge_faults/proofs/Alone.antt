@@ -14,8 +14,8 @@ use Rattle.terms.specs.declared.kinds.ZoneKind.{ZoneKind}
 use Rattle.terms.specs.declared.kinds.ZoneKind.TheVariants.{Target, Distribution}
 use Rattle.terms.specs.declared.codes.Test.{Test}
 use Rattle.terms.specs.declared.codes.Test.TheVariants.{HeldBySystem, HeldByUser, ForbiddenByNpre, OwnedByAnother}
-use Rattle.terms.specs.declared.codes.Test.TheVariants.{UnrelatedLevel, NothingToUpdate, NotInTarget, ChainDeleted}
-use Rattle.terms.specs.declared.codes.Test.TheVariants.{InClash, AlreadyAccepted, HasDelete, UnappliedLevel, SeveralFit}
+use Rattle.terms.specs.declared.codes.Test.TheVariants.{Regression, NothingToUpdate, NotInTarget, ChainDeleted}
+use Rattle.terms.specs.declared.codes.Test.TheVariants.{InClash, AlreadyAccepted, HasDelete, OtherLevel, SeveralFit}
 use Rattle.terms.specs.Types.{Text, Id, Change, Element, Global, Zone, is_distribution}
 use Rattle.terms.specs.Lookups.{change_key, changes_of, change_of, element_cmp, element_of, holds_of}
 use Rattle.terms.specs.Lookups.{is_applied}
@@ -25,7 +25,7 @@ use Rattle.terms.specs.Changes.{is_replacement, has_update}
 use Rattle.terms.specs.Lookups.{element_eq}
 use Rattle.terms.specs.Global.{IsGlobal}
 use Rattle.terms.specs.Tests.{Setting, view_of, owner_of, is_bypassed_hold, ChangesInView}
-use Rattle.terms.specs.Tests.{IsHeldBySystem, IsHeldByUser, ChangesOwnedByAnother, ChangesUnrelatedLevel}
+use Rattle.terms.specs.Tests.{IsHeldBySystem, IsHeldByUser, ChangesOwnedByAnother, Regresses}
 use Rattle.terms.specs.Tests.{HasNothingToUpdate, IsNotInTarget, IsChainDeleted, IsInClash}
 use Rattle.terms.specs.Tests.{FailsAlone, PassesAlone, Fails, Survives, has_candidate_base}
 use Rattle.terms.proofs.ElementOrder.{element_cmp_total, element_ties}
@@ -160,7 +160,7 @@ module _ (s : Setting) (is_global : IsGlobal s.global) where
             ),
       )
 
-      five : IsTrue a.lower ↔ ChangesUnrelatedLevel s x
+      five : IsTrue a.lower ↔ Regresses s x
       five = (
         λ lower.
             let both = own.lower.0 lower in
@@ -232,7 +232,7 @@ module _ (s : Setting) (is_global : IsGlobal s.global) where
             ∙ ap not fails.2,
       )
 
-      -- it passes the tests that look at it alone
+      -- it passes the tests that look at it by itself
       pub alone_if : IsTrue (passes_alone a) ↔ PassesAlone s x
       alone_if = (
         λ on.
@@ -257,7 +257,7 @@ module _ (s : Setting) (is_global : IsGlobal s.global) where
             let no_two = off a.user_held (λ on. alone.1 HeldByUser (two.0 on)) in
             let no_three = off a.forbidden (λ on. alone.1 ForbiddenByNpre (own.forbidden.0 on)) in
             let no_four = off a.foreign (λ on. alone.1 OwnedByAnother (four.0 on)) in
-            let no_five = off a.lower (λ on. alone.1 UnrelatedLevel (five.0 on)) in
+            let no_five = off a.lower (λ on. alone.1 Regression (five.0 on)) in
             let no_six = off a.bare (λ on. alone.1 NothingToUpdate (six.0 on)) in
             let no_seven = off a.unapplied (λ on. alone.1 NotInTarget (seven.0 on)) in
             let no_thirteen = off a.ambiguous (λ on. alone.1 SeveralFit (own.ambiguous.0 on)) in
@@ -270,14 +270,14 @@ module _ (s : Setting) (is_global : IsGlobal s.global) where
           by HeldByUser e1 e2 e3 e4 e5 e6 e7 e8 fails = true≢false (sym (two.1 fails) ∙ e2)
           by ForbiddenByNpre e1 e2 e3 e4 e5 e6 e7 e8 fails = true≢false (sym (own.forbidden.1 fails) ∙ e3)
           by OwnedByAnother e1 e2 e3 e4 e5 e6 e7 e8 fails = true≢false (sym (four.1 fails) ∙ e4)
-          by UnrelatedLevel e1 e2 e3 e4 e5 e6 e7 e8 fails = true≢false (sym (five.1 fails) ∙ e5)
+          by Regression e1 e2 e3 e4 e5 e6 e7 e8 fails = true≢false (sym (five.1 fails) ∙ e5)
           by NothingToUpdate e1 e2 e3 e4 e5 e6 e7 e8 fails = true≢false (sym (six.1 fails) ∙ e6)
           by NotInTarget e1 e2 e3 e4 e5 e6 e7 e8 fails = true≢false (sym (seven.1 fails) ∙ e7)
           by ChainDeleted e1 e2 e3 e4 e5 e6 e7 e8 fails = fails
           by InClash e1 e2 e3 e4 e5 e6 e7 e8 fails = fails
           by AlreadyAccepted e1 e2 e3 e4 e5 e6 e7 e8 fails = fails
           by HasDelete e1 e2 e3 e4 e5 e6 e7 e8 fails = fails
-          by UnappliedLevel e1 e2 e3 e4 e5 e6 e7 e8 fails = fails
+          by OtherLevel e1 e2 e3 e4 e5 e6 e7 e8 fails = fails
           by SeveralFit e1 e2 e3 e4 e5 e6 e7 e8 fails = true≢false (sym (own.ambiguous.1 fails) ∙ e8)
 
       never : (T : Type 0) → ¬ T → IsTrue false ↔ T
@@ -303,12 +303,12 @@ module _ (s : Setting) (is_global : IsGlobal s.global) where
         test_fails clashes nine HeldByUser = two
         test_fails clashes nine ForbiddenByNpre = own.forbidden
         test_fails clashes nine OwnedByAnother = four
-        test_fails clashes nine UnrelatedLevel = five
+        test_fails clashes nine Regression = five
         test_fails clashes nine NothingToUpdate = six
         test_fails clashes nine NotInTarget = seven
         test_fails clashes nine ChainDeleted = eight
         test_fails clashes nine InClash = nine
         test_fails clashes nine AlreadyAccepted = never (Fails s x AlreadyAccepted) (λ no. no)
         test_fails clashes nine HasDelete = never (Fails s x HasDelete) (λ no. no)
-        test_fails clashes nine UnappliedLevel = never (Fails s x UnappliedLevel) (λ no. no)
+        test_fails clashes nine OtherLevel = never (Fails s x OtherLevel) (λ no. no)
         test_fails clashes nine SeveralFit = own.ambiguous

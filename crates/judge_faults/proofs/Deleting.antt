@@ -1,4 +1,4 @@
--- Whom the DELETEs take, of those that pass the tests of a candidate alone.
+-- Whom the DELETEs take, of the candidates that pass the tests that look at each by itself.
 use Rattle.std.proofs.Common.{◌≡◌, ◌∙◌, inl, inr, ℕ, ◌+◌, Bool, true, false, List, [], ◌∷◌, ◌++◌}
 use Rattle.std.proofs.Common.{Some, length, sym, ap, subst, Contains, IsTrue, true≢false, slice_get, arith}
 use Rattle.std.specs.Prelude.{◌↔◌, ◌&&◌}
@@ -118,7 +118,7 @@ module _ (s : Setting) (is_global : IsGlobal s.global) (alone faults : List OwnF
     ambiguous = h.ambiguous;
   }
 
-  -- the faults by the tests that look at it alone stay
+  -- what the tests that look at it by itself found stays
   pub own_still : Beside (λ n x a. HasFaults s x a) s.cands faults
   own_still = record {
     lengths = marked.lengths;

@@ -1,4 +1,4 @@
--- What a candidate fails of the tests that look at it alone, from what each test answered.
+-- What a candidate fails of the tests that look at it by itself, from what each test answered.
 use Rattle.std.proofs.Common.{◌≡◌, List, Option, filter, IsTrue, IsFalse, subst}
 use Rattle.std.specs.Prelude.{◌↔◌, Any}
 use Rattle.std.specs.List.{list_any}

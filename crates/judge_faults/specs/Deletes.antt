@@ -1,4 +1,4 @@
--- What the candidates name in DELETE that pass the tests of a candidate alone, and whom that takes.
+-- What those candidates name in DELETE that pass the tests that look at each by itself, and whom that takes.
 use Rattle.std.specs.Prelude.{◌≡◌, ◌↔◌, ◌<◌, ◌&&◌, ℕ, Bool, List, Some, IsTrue, Contains, slice_get}
 use Rattle.terms.specs.Types.{Id, Global}
 use Rattle.terms.specs.Choice.{Choice, del_of}
@@ -6,7 +6,7 @@ use Rattle.terms.specs.Deleted.{is_deleted}
 use Rattle.judge_faults.specs.declared.own.OwnFaults.{OwnFaults}
 use Rattle.judge_faults.specs.Own.{passes_alone}
 
--- the candidate at the place passes the tests of a candidate alone
+-- the candidate at the place passes the tests that look at it by itself
 pub record PassesAloneAt (ids : List Id) (faults : List OwnFaults) (n : ℕ) (x : Id) : Type 0 where
   pub at : slice_get ids n ≡ Some x
   pub own : OwnFaults

@@ -49,7 +49,7 @@ is_unapplied s x =
     is_distribution s.zone.kind && not s.bypass.applycheck
     && not (option_map_or (λ target. is_applied target x) s.related false)
 
--- the tests that look at it alone, each as the code tests it
+-- the tests that look at it by itself, each as the code tests it
 pub record HasFaults (s : Setting) (x : Id) (a : OwnFaults) : Type 0 where
   pub system_held : a.system_held ≡ has_standing_hold s System x
   pub user_held : a.user_held ≡ has_standing_hold s User x
@@ -62,7 +62,7 @@ pub record HasFaults (s : Setting) (x : Id) (a : OwnFaults) : Type 0 where
   pub unapplied : a.unapplied ≡ is_unapplied s x
   pub ambiguous : IsTrue a.ambiguous ↔ HasSeveralFit s x
 
--- whether it fails none of the tests of a candidate alone
+-- whether it passes all tests that look at it by itself
 abbrev pub passes_alone : OwnFaults → Bool
 passes_alone a =
     not a.system_held && not a.user_held && not a.forbidden && not a.foreign && not a.lower && not a.bare

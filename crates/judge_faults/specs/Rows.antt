@@ -4,7 +4,7 @@ use Rattle.std.specs.List.{list_any}
 use Rattle.std.specs.Prelude.{nat_eq}
 use Rattle.terms.specs.declared.codes.Test.{Test}
 use Rattle.terms.specs.declared.codes.Test.TheVariants.{HeldBySystem, HeldByUser, ForbiddenByNpre, OwnedByAnother}
-use Rattle.terms.specs.declared.codes.Test.TheVariants.{UnrelatedLevel, NothingToUpdate, NotInTarget, ChainDeleted}
+use Rattle.terms.specs.declared.codes.Test.TheVariants.{Regression, NothingToUpdate, NotInTarget, ChainDeleted}
 use Rattle.terms.specs.declared.codes.Test.TheVariants.{InClash, SeveralFit}
 use Rattle.terms.specs.Failures.{all_tests}
 use Rattle.judge_faults.specs.declared.own.OwnFaults.{OwnFaults}
@@ -15,7 +15,7 @@ fails_test a clashes HeldBySystem = a.system_held
 fails_test a clashes HeldByUser = a.user_held
 fails_test a clashes ForbiddenByNpre = a.forbidden
 fails_test a clashes OwnedByAnother = a.foreign
-fails_test a clashes UnrelatedLevel = a.lower
+fails_test a clashes Regression = a.lower
 fails_test a clashes NothingToUpdate = a.bare
 fails_test a clashes NotInTarget = a.unapplied
 fails_test a clashes ChainDeleted = a.deleted

@@ -1,4 +1,4 @@
-//! Which candidates the DELETEs take, of those that pass the tests of a candidate alone.
+//! Whom the DELETEs take, of the candidates that pass the tests that look at each by itself.
 ghost use Rattle.std.specs.Prelude.{◌≡◌, List, length, IfOk};
 ghost use Rattle.terms.specs.Types.{Id as AnId};
 ghost use Rattle.terms.specs.Deleted.{deletions, is_deleted};
@@ -22,7 +22,7 @@ fn is_deleted(vers: &VerChoice<'_>, dels: &IdList, id: Id) -> bool
     vers.chain(id).any(|above| dels.contains(above))
 }
 
-// The faults, with whether a DELETE takes the chain.
+// The faults of a candidate, with `deleted` where a DELETE takes its chain and it passes the tests before that.
 fn with_deleted(vers: &VerChoice<'_>, dels: &IdList, own: OwnFaults, id: Id) -> OwnFaults
     ensures { result ≡ with_deleted (is_deleted vers.now.global.now (choice vers.now) dels.now id) own }
 {
@@ -32,7 +32,7 @@ fn with_deleted(vers: &VerChoice<'_>, dels: &IdList, own: OwnFaults, id: Id) -> 
     }
 }
 
-// The faults of all, with whom these deletions take.
+// The faults of all candidates, with `deleted` for those whom these deletions take.
 fn all_with(
     alloc: Global,
     vers: &VerChoice<'_>,
@@ -51,7 +51,8 @@ fn all_with(
     Ok(all)
 }
 
-/// The faults of all candidates with whom the DELETEs take, from those by the tests of a candidate alone.
+/// The faults of all candidates, from those of the tests that look at each by itself, with `deleted` for those whom the
+/// DELETEs take.
 pub(crate) fn all_with_deleted(
     alloc: Global,
     vers: &VerChoice<'_>,

@@ -1,4 +1,4 @@
-//! The tests that look at one candidate alone.
+//! The tests that look at one candidate by itself.
 ghost use Rattle.std.specs.Prelude.{◌≡◌, ◌==◌, ◌<◌, ◌&&◌, ◌↔◌, Some, Any, not, IsTrue, IsFalse, IfOk};
 ghost use Rattle.std.specs.Prelude.{[], filter, length, slice_get, option_copied, false};
 ghost use Rattle.std.specs.Str.{bytes_eq};
@@ -45,7 +45,7 @@ pub(crate) struct OwnFaults {
 }
 
 impl OwnFaults {
-    /// Whether it passes the tests of a candidate alone.
+    /// Whether it passes the tests that look at it by itself.
     pub(crate) fn passes_alone(self) -> bool
         ensures { result ≡ passes_alone self }
     {
@@ -151,7 +151,7 @@ fn is_ambiguous(scope: &Scope<'_, '_>, id: Id) -> bool
     fitting_count(scope.zone, scope.ids, vers_of(scope.global(), id)) >= 2
 }
 
-// What the candidate fails of the tests that look at it alone, in its view.
+// What the candidate fails of the tests that look at it by itself, in its view.
 fn own_faults(
     alloc: Global,
     scope: &Scope<'_, '_>,
@@ -191,7 +191,7 @@ fn own_faults(
     })
 }
 
-/// What each candidate fails of the tests that look at it alone.
+/// What each candidate fails of the tests that look at it by itself.
 pub(crate) fn all_faults(
     alloc: Global,
     scope: &Scope<'_, '_>,

@@ -2,7 +2,7 @@
 ghost use Rattle.std.specs.Prelude.{◌≡◌, ◌<◌, ◌^◌, [], ◌∷◌, length, filter, IfOk};
 ghost use Rattle.terms.specs.Beside.{Beside};
 ghost use Rattle.terms.specs.declared.codes.Test.TheVariants.{HeldBySystem, HeldByUser, ForbiddenByNpre};
-ghost use Rattle.terms.specs.declared.codes.Test.TheVariants.{OwnedByAnother, UnrelatedLevel, NothingToUpdate};
+ghost use Rattle.terms.specs.declared.codes.Test.TheVariants.{OwnedByAnother, Regression, NothingToUpdate};
 ghost use Rattle.terms.specs.declared.codes.Test.TheVariants.{NotInTarget, ChainDeleted, InClash, SeveralFit};
 ghost use Rattle.judge_faults.specs.Rows.{fails_test, row_of};
 
@@ -20,7 +20,7 @@ fn fails(own: OwnFaults, clashes: bool, test: Test) -> bool
         Test::HeldByUser => own.user_held,
         Test::ForbiddenByNpre => own.forbidden,
         Test::OwnedByAnother => own.foreign,
-        Test::UnrelatedLevel => own.lower,
+        Test::Regression => own.lower,
         Test::NothingToUpdate => own.bare,
         Test::NotInTarget => own.unapplied,
         Test::ChainDeleted => own.deleted,
@@ -33,7 +33,7 @@ fn fails(own: OwnFaults, clashes: bool, test: Test) -> bool
 // The tests that a candidate fails.
 fn row_of(alloc: Global, own: OwnFaults, clashes: bool) -> Result<Vec<Test>, AllocError>
     ensures { IfOk result (λ row. row.items ≡ filter (fails_test own clashes)
-        (HeldBySystem ∷ HeldByUser ∷ ForbiddenByNpre ∷ OwnedByAnother ∷ UnrelatedLevel ∷ NothingToUpdate ∷ NotInTarget
+        (HeldBySystem ∷ HeldByUser ∷ ForbiddenByNpre ∷ OwnedByAnother ∷ Regression ∷ NothingToUpdate ∷ NotInTarget
         ∷ ChainDeleted ∷ InClash ∷ SeveralFit ∷ [])) }
 {
     [
@@ -41,7 +41,7 @@ fn row_of(alloc: Global, own: OwnFaults, clashes: bool) -> Result<Vec<Test>, All
         Test::HeldByUser,
         Test::ForbiddenByNpre,
         Test::OwnedByAnother,
-        Test::UnrelatedLevel,
+        Test::Regression,
         Test::NothingToUpdate,
         Test::NotInTarget,
         Test::ChainDeleted,

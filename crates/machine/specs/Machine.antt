@@ -9,7 +9,7 @@ use Rattle.terms.specs.Types.{Receive, Reject, Apply, Accept, Restore, ListZone,
 use Rattle.terms.specs.Ptfin.{McsFault, IsPtfin, IsPtfinFault}
 use Rattle.terms.specs.HoldFile.{IsHoldFile, IsHoldFileFault}
 use Rattle.terms.specs.Commands.{CntlFault, IsCommandFile, IsCommandFileFault}
-use Rattle.machine.specs.Outcome.{Line, Refusal, PtfinFaulty, HoldFileFaulty, ControlFault, Outcome, Ran, Refused}
+use Rattle.machine.specs.Outcome.{Line, Refusal, BadPtfin, BadHoldFile, ControlFault, Outcome, Ran, Refused}
 use Rattle.machine.specs.Outcome.{Control, header_of}
 use Rattle.machine.specs.Outcome.{or_nothing, list_global, list_zone, job_code}
 use Rattle.machine.specs.Report.{text}
@@ -41,10 +41,10 @@ pub data Takes (files : Files) (s : State) (what : ReceiveWhat) : State → Outc
       → Takes files s what (record s { global = g }) (Ran (header_of (Receive what) s.boundary)
       (or_nothing (lines ++ more)))
   TakesNone : (fault : McsFault) → IsTrue what.sysmods → IsPtfinFault files.ptfin fault
-      → Takes files s what s (Refused (header_of (Receive what) s.boundary) (PtfinFaulty fault.number fault.code))
+      → Takes files s what s (Refused (header_of (Receive what) s.boundary) (BadPtfin fault.number fault.code))
   TakesNoHold : (items : List Item) (fault : McsFault) → HasItems IsPtfin what.sysmods files.ptfin items
       → IsTrue what.holddata → IsHoldFileFault files.holds fault
-      → Takes files s what s (Refused (header_of (Receive what) s.boundary) (HoldFileFaulty fault.number fault.code))
+      → Takes files s what s (Refused (header_of (Receive what) s.boundary) (BadHoldFile fault.number fault.code))
 
 -- REJECT takes the ids one after the other.
 pub record Rejects (s : State) (ids : List Id) (t : State) (outcome : Outcome) : Type 0 where

@@ -10,8 +10,8 @@ use Rattle.terms.specs.Types.{Restore, ListZone, Report}
 use Rattle.terms.specs.declared.codes.CommandWord.{CommandWord}
 use Rattle.terms.specs.declared.codes.CommandWord.TheVariants as word
 use Rattle.terms.specs.declared.codes.IdRefusal.{IdRefusal}
-use Rattle.terms.specs.declared.codes.IdRefusal.TheVariants.{MakesLoop, OtherRole, NoRoom, NoSuchHold, CameAlong}
-use Rattle.terms.specs.declared.codes.IdRefusal.TheVariants.{AppliedSomewhere, NotThere}
+use Rattle.terms.specs.declared.codes.IdRefusal.TheVariants.{MakesLoop, WrongRole, NoRoom, NoHold, Internal}
+use Rattle.terms.specs.declared.codes.IdRefusal.TheVariants.{AppliedSomewhere, UnknownSysmod}
 use Rattle.terms.specs.declared.codes.StatementCode.{StatementCode}
 use Rattle.terms.specs.declared.codes.CommandCode.{CommandCode}
 use Rattle.terms.specs.declared.codes.Test.{Test}
@@ -37,11 +37,11 @@ header_of Report b = record { word = word.Report; boundary = b; check = false }
 -- Why a command is refused: no SET came before it, SET names a zone that is not there, the boundary suits other
 -- commands, or a record of PTFIN or of the hold file is at fault.
 pub data Refusal : Type 0 where
-  BoundaryLacking : Refusal
-  ZoneLacking : Refusal
-  BoundaryUnfit : Refusal
-  PtfinFaulty : ℕ → StatementCode → Refusal
-  HoldFileFaulty : ℕ → StatementCode → Refusal
+  NoBoundary : Refusal
+  NoZone : Refusal
+  WrongKind : Refusal
+  BadPtfin : ℕ → StatementCode → Refusal
+  BadHoldFile : ℕ → StatementCode → Refusal
 
 -- what stands in a status line after the id: a SYSMOD's type, a hold's kind, or nothing known
 pub data Place : Type 0 where
@@ -144,12 +144,12 @@ list_zone text z = map (λ e. EntryLine z.kind e) z.entries ++ flat_map (λ e. e
 
 abbrev pub refusal_code : IdRefusal → ℕ
 refusal_code MakesLoop = 8
-refusal_code OtherRole = 8
+refusal_code WrongRole = 8
 refusal_code NoRoom = 8
-refusal_code NoSuchHold = 4
-refusal_code CameAlong = 4
+refusal_code NoHold = 4
+refusal_code Internal = 4
 refusal_code AppliedSomewhere = 8
-refusal_code NotThere = 8
+refusal_code UnknownSysmod = 8
 
 abbrev pub status_code : Status → ℕ
 status_code Received = 0

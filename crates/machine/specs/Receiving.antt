@@ -6,9 +6,9 @@ use Rattle.terms.specs.declared.codes.IdRefusal.TheVariants as refusal
 use Rattle.terms.specs.Types.{Text, Id, Hold, Sysmod, Global, Release, Item, ASysmod, AnAssign, HoldItem, AHold}
 use Rattle.terms.specs.Types.{ARelease}
 use Rattle.terms.specs.Lookups.{sysmod_of, is_received}
-use Rattle.terms.specs.Global.{hold, is_replacing, ReleaseFault, NoSuchHold, CameAlong, release, assign, with_source}
+use Rattle.terms.specs.Global.{hold, is_replacing, ReleaseFault, NoHold, Internal, release, assign, with_source}
 use Rattle.terms.specs.Global.{ReceiveFault}
-use Rattle.terms.specs.Global.{AlreadyReceived, MakesLoop, OtherRole, NoRoom, Receives}
+use Rattle.terms.specs.Global.{AlreadyReceived, MakesLoop, WrongRole, NoRoom, Receives}
 use Rattle.machine.specs.Outcome.{Place, OfKind, OfHold, NotReceived, Status, Received, Already, RefusedId, Assigned}
 use Rattle.machine.specs.Outcome.{Unknown, Held, Replaced, Released, Line, StatusLine}
 use Rattle.machine.specs.Runs.{Runs}
@@ -31,7 +31,7 @@ abbrev pub receive_status : Result Global ReceiveFault → Status
 receive_status (Ok new) = Received
 receive_status (Err AlreadyReceived) = Already
 receive_status (Err MakesLoop) = RefusedId refusal.MakesLoop
-receive_status (Err OtherRole) = RefusedId refusal.OtherRole
+receive_status (Err WrongRole) = RefusedId refusal.WrongRole
 receive_status (Err NoRoom) = RefusedId refusal.NoRoom
 
 -- one id of an ++ASSIGN: the source is added where it is received
@@ -52,8 +52,8 @@ hold_status g h = if is_replacing g h then Replaced h.reason else Held h.reason
 
 abbrev pub release_status : Release → Result Global ReleaseFault → Status
 release_status r (Ok new) = Released r.reason
-release_status r (Err NoSuchHold) = RefusedId refusal.NoSuchHold
-release_status r (Err CameAlong) = RefusedId refusal.CameAlong
+release_status r (Err NoHold) = RefusedId refusal.NoHold
+release_status r (Err Internal) = RefusedId refusal.Internal
 
 -- an item of the hold file, in whose line the hold's kind stands in place of the type
 abbrev pub TakesHoldItem : Global → HoldItem → Global → List Line → Type 0

@@ -3,14 +3,14 @@
 use Rattle.std.specs.Prelude.{◌≡◌, List, [], ◌∷◌, Result, Ok, Err}
 use Rattle.terms.specs.declared.codes.IdRefusal.TheVariants as refusal
 use Rattle.terms.specs.Types.{Id, Global, NamedZone}
-use Rattle.terms.specs.Global.{RejectFault, AppliedSomewhere, NotThere, reject}
+use Rattle.terms.specs.Global.{RejectFault, AppliedSomewhere, UnknownSysmod, reject}
 use Rattle.machine.specs.Outcome.{Status, Rejected, RefusedId, Line, StatusLine}
 use Rattle.machine.specs.Receiving.{global_after, place_of}
 
 abbrev pub reject_status : Result Global RejectFault → Status
 reject_status (Ok new) = Rejected
 reject_status (Err AppliedSomewhere) = RefusedId refusal.AppliedSomewhere
-reject_status (Err NotThere) = RefusedId refusal.NotThere
+reject_status (Err UnknownSysmod) = RefusedId refusal.UnknownSysmod
 
 -- One id, in whose line stands the type that the SYSMOD had.
 abbrev pub RejectsId : List NamedZone → Global → Id → Global → List Line → Type 0

@@ -6,10 +6,11 @@ use Rattle.terms.specs.declared.kinds.ZoneKind.{ZoneKind}
 use Rattle.terms.specs.declared.kinds.ZoneKind.TheVariants.{Target, Distribution}
 use Rattle.terms.specs.Types.{Text, Id, Entry}
 use Rattle.terms.specs.Lookups.{date_of}
-use Rattle.terms.specs.Spelling.{word_text, kind_text, hold_text, type_text, mc_text, cn_text, test_text, need_text}
+use Rattle.terms.specs.Spelling.{word_text, kind_text, hold_text, type_text, statement_code_text, command_code_text}
+use Rattle.terms.specs.Spelling.{test_text, need_text}
 use Rattle.terms.specs.Spelling.{refusal_text}
-use Rattle.machine.specs.Outcome.{Header, Refusal, BoundaryLacking, ZoneLacking, BoundaryUnfit, PtfinFaulty}
-use Rattle.machine.specs.Outcome.{HoldFileFaulty, Place, OfKind, OfHold, NotReceived, Failure}
+use Rattle.machine.specs.Outcome.{Header, Refusal, NoBoundary, NoZone, WrongKind, BadPtfin}
+use Rattle.machine.specs.Outcome.{BadHoldFile, Place, OfKind, OfHold, NotReceived, Failure}
 use Rattle.machine.specs.Outcome.{Status, Received, Already, RefusedId, Assigned, Unknown, Held, Replaced, Released}
 use Rattle.machine.specs.Outcome.{Rejected, Applied, Accepted, Superseded, Failed, Deleted, Missing, NoVer, Restored}
 use Rattle.machine.specs.Outcome.{NotApplied, ElementRow, Line, StatusLine, NothingLine, SysmodLine, HoldLine}
@@ -43,13 +44,13 @@ header_text h =
 
 -- the one line of a refused command
 abbrev pub refused_text : Refusal → Text
-refused_text BoundaryLacking = words_line (codes "REFUSED" ∷ codes "Cm1" ∷ [])
-refused_text ZoneLacking = words_line (codes "REFUSED" ∷ codes "Cm2" ∷ [])
-refused_text BoundaryUnfit = words_line (codes "REFUSED" ∷ codes "Cm3" ∷ [])
-refused_text (PtfinFaulty n code) =
-    words_line (codes "REFUSED" ∷ codes "Cm4" ∷ codes "RECORD" ∷ decimal n ∷ mc_text code ∷ [])
-refused_text (HoldFileFaulty n code) =
-    words_line (codes "REFUSED" ∷ codes "Cm5" ∷ codes "RECORD" ∷ decimal n ∷ mc_text code ∷ [])
+refused_text NoBoundary = words_line (codes "REFUSED" ∷ codes "Cm1" ∷ [])
+refused_text NoZone = words_line (codes "REFUSED" ∷ codes "Cm2" ∷ [])
+refused_text WrongKind = words_line (codes "REFUSED" ∷ codes "Cm3" ∷ [])
+refused_text (BadPtfin n code) =
+    words_line (codes "REFUSED" ∷ codes "Cm4" ∷ codes "RECORD" ∷ decimal n ∷ statement_code_text code ∷ [])
+refused_text (BadHoldFile n code) =
+    words_line (codes "REFUSED" ∷ codes "Cm5" ∷ codes "RECORD" ∷ decimal n ∷ statement_code_text code ∷ [])
 
 abbrev pub place_text : Place → Text
 place_text (OfKind kind) = kind_text kind
@@ -146,4 +147,4 @@ unfoldable pub text : Outcome → Text
 text (Ran h lines) = header_text h ++ flat_map line_text lines ++ code_text (lines_code lines)
 text (Refused h why) = header_text h ++ refused_text why ++ code_text 12
 text (Control fault) =
-    words_line (codes "CONTROL" ∷ codes "RECORD" ∷ decimal fault.number ∷ cn_text fault.code ∷ [])
+    words_line (codes "CONTROL" ∷ codes "RECORD" ∷ decimal fault.number ∷ command_code_text fault.code ∷ [])

@@ -12,7 +12,7 @@ use Rattle.terms.specs.declared.kinds.ZoneKind.TheVariants.{Target, Distribution
 use Rattle.terms.specs.Types.{Text, zone_number, Global, Zone, a_zone, NamedZone, Command, Set, Receive, Reject, Apply}
 use Rattle.terms.specs.Types.{Accept, Restore, ListZone, Report, is_distribution}
 use Rattle.terms.specs.Rising.{with_item}
-use Rattle.machine.specs.Outcome.{Refusal, BoundaryLacking, ZoneLacking, BoundaryUnfit}
+use Rattle.machine.specs.Outcome.{Refusal, NoBoundary, NoZone, WrongKind}
 
 -- the global zone, the target and distribution zones rising by name, and the boundary that the last SET gave
 pub record State : Type 0 where
@@ -54,12 +54,12 @@ at_zone s = is_some (current_zone s)
 
 -- why a command of these kinds can't run at this boundary: there is none, or it is not where the command can run
 abbrev pub unless_at : Bool → State → Option Refusal
-unless_at fits s = if not (is_some s.boundary) then Some BoundaryLacking else if fits then None else Some BoundaryUnfit
+unless_at fits s = if not (is_some s.boundary) then Some NoBoundary else if fits then None else Some WrongKind
 
 -- why the command can't run at this boundary, or SET names no zone
 unfoldable pub misplaced : State → Command → Option Refusal
 misplaced s (Set name) = if bytes_eq name global_name || is_some (zone_named s.zones name) then None
-    else Some ZoneLacking
+    else Some NoZone
 misplaced s (Receive what) = unless_at (at_global s) s
 misplaced s (Reject ids) = unless_at (at_global s) s
 misplaced s (Apply i) = unless_at (at_kind Target s) s
@@ -75,13 +75,14 @@ pub record ZoneDefinition : Type 0 where
   pub srel : Text
   pub related : Option Text
 
--- Zn1: a zone has the name, or it is GLOBAL. Zn2: a target zone wants a distribution zone that is related to none, and
--- a distribution zone wants no related zone. Zn3: the related zone has another SREL. Zn4: 64 zones are defined.
+-- NameTaken: a zone has the name, or it is GLOBAL. WrongRelated: a target zone wants a distribution zone that is
+-- related to none, and a distribution zone wants no related zone. OtherSrel: the related zone has another SREL.
+-- TooMany: 64 zones are defined.
 pub data ZoneFault : Type 0 where
-  Zn1 : ZoneFault
-  Zn2 : ZoneFault
-  Zn3 : ZoneFault
-  Zn4 : ZoneFault
+  NameTaken : ZoneFault
+  WrongRelated : ZoneFault
+  OtherSrel : ZoneFault
+  TooMany : ZoneFault
 
 -- whether some zone names this one as its related zone
 abbrev pub is_related : List NamedZone → Text → Bool
@@ -108,8 +109,8 @@ has_same_srel zones srel related =
 -- the zones with an empty one more, or the first fault that applies
 unfoldable pub define_zone : State → ZoneDefinition → Result State ZoneFault
 define_zone s d =
-    if bytes_eq d.name global_name || is_some (zone_named s.zones d.name) then Err Zn1
-    else if not (has_right_related s.zones d.kind d.related) then Err Zn2
-    else if not (has_same_srel s.zones d.srel d.related) then Err Zn3
-    else if nat_le 64 (length s.zones) then Err Zn4
+    if bytes_eq d.name global_name || is_some (zone_named s.zones d.name) then Err NameTaken
+    else if not (has_right_related s.zones d.kind d.related) then Err WrongRelated
+    else if not (has_same_srel s.zones d.srel d.related) then Err OtherSrel
+    else if nat_le 64 (length s.zones) then Err TooMany
     else Ok (with_zone s d.name (a_zone d.kind d.srel d.related [] []))

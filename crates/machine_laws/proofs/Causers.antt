@@ -51,14 +51,14 @@ passes_all s x is passes = (((is, alone), passes test.ChainDeleted), passes test
     alone test.HeldByUser fails = passes test.HeldByUser fails
     alone test.ForbiddenByNpre fails = passes test.ForbiddenByNpre fails
     alone test.OwnedByAnother fails = passes test.OwnedByAnother fails
-    alone test.UnrelatedLevel fails = passes test.UnrelatedLevel fails
+    alone test.Regression fails = passes test.Regression fails
     alone test.NothingToUpdate fails = passes test.NothingToUpdate fails
     alone test.NotInTarget fails = passes test.NotInTarget fails
     alone test.ChainDeleted fails = fails
     alone test.InClash fails = fails
     alone test.AlreadyAccepted fails = fails
     alone test.HasDelete fails = fails
-    alone test.UnappliedLevel fails = fails
+    alone test.OtherLevel fails = fails
     alone test.SeveralFit fails = passes test.SeveralFit fails
 
 module _ (d : Decision) (sel : Selection) where

@@ -3,13 +3,14 @@ use Rattle.std.proofs.Common.{◌≡◌, ◌≢◌, ◌⊎◌, ◌≤◌, ◌<�
 use Rattle.std.proofs.Common.{◌∷◌, ◌++◌, length, refl, sym, ◌∙◌, ap, subst, arith, length-append, true≢false}
 use Rattle.terms.specs.declared.codes.CommandWord.{CommandWord}
 use Rattle.terms.specs.declared.codes.CommandCode.{CommandCode}
-use Rattle.terms.specs.declared.codes.CommandCode.TheVariants.{UnknownCommand, UnfitValue, OperandTwice, NoSingleList}
+use Rattle.terms.specs.declared.codes.CommandCode.TheVariants.{UnknownCommand, BadCommandOperand, OperandTwice}
+use Rattle.terms.specs.declared.codes.CommandCode.TheVariants.{NoSingleList}
 use Rattle.terms.specs.declared.codes.CommandCode.TheVariants.{BadCommandForm}
 use Rattle.terms.specs.Types.{Text, Command}
 use Rattle.terms.specs.Records.{rec_fault_record}
 use Rattle.terms.specs.Statement.{Piece, Blank, TakesPiece, HasPieces, is_solid, solid}
-use Rattle.terms.specs.Statement.{followed, joined, IsPlace, Ends, IsIdle, StFault, Unended, CommentOpen}
-use Rattle.terms.specs.Statement.{ParensUnpaired, MoreBehind, BreaksOff}
+use Rattle.terms.specs.Statement.{followed, joined, IsPlace, Ends, IsIdle, StFault, NoPeriod, OpenComment}
+use Rattle.terms.specs.Statement.{BadParens, TextAfterPeriod, BreaksOff}
 use Rattle.terms.specs.CommandCuts.{BeginsNoGap, BeginsBehind, TakesCommand}
 use Rattle.terms.specs.CommandForms.{IsCommand}
 use Rattle.terms.specs.Commands.{CntlFault, BeginsWithCommands, IsCommandFile, has_double, is_unchosen, BeginsWith}
@@ -87,7 +88,8 @@ command_judged pieces no_command no_fault = no_fault UnknownCommand (λ w rest b
         → is_unchosen w rest ≡ u → ⊥
     by w rest begins true u double unchosen = no_fault OperandTwice (w, rest, begins, double)
     by w rest begins false true double unchosen = no_fault NoSingleList (w, rest, begins, double, unchosen)
-    by w rest begins false false double unchosen = no_fault UnfitValue (w, rest, begins, double, unchosen, no_command)
+    by w rest begins false false double unchosen = no_fault BadCommandOperand
+        (w, rest, begins, double, unchosen, no_command)
 
 module _ (n : ℕ) (records : List (List ℕ)) (none : ¬ NextRead n records) (gap : List Piece) (number : ℕ)
     (begins : BeginsBehind n records gap number) where
@@ -110,7 +112,7 @@ module _ (n : ℕ) (records : List (List ℕ)) (none : ¬ NextRead n records) (g
       )
 
   ended : (own : List Piece) (tail : Text) (inline : List (List ℕ)) → Ends records (gap ++ own) tail inline → ⊥
-  ended own tail inline ends = cut_fault MoreBehind own (tail, inline, ends, idle)
+  ended own tail inline ends = cut_fault TextAfterPeriod own (tail, inline, ends, idle)
     where
       idle : ¬ IsIdle tail
       idle is =
@@ -141,9 +143,9 @@ module _ (n : ℕ) (records : List (List ℕ)) (none : ¬ NextRead n records) (g
           ))))
 
   judged : (own : List Piece) (stop : Text) → HasPieces (joined records) (gap ++ own) stop → Stuck stop → ⊥
-  judged own stop has (AtEnd is) = cut_fault Unended own (subst (HasPieces (joined records) (gap ++ own)) is has)
-  judged own stop has (AtComment opens) = cut_fault CommentOpen own (stop, has, opens)
-  judged own stop has (AtPairs breaks) = cut_fault ParensUnpaired own (stop, has, breaks)
+  judged own stop has (AtEnd is) = cut_fault NoPeriod own (subst (HasPieces (joined records) (gap ++ own)) is has)
+  judged own stop has (AtComment opens) = cut_fault OpenComment own (stop, has, opens)
+  judged own stop has (AtPairs breaks) = cut_fault BadParens own (stop, has, breaks)
   judged own stop has (AtPeriod after is) =
       let e = ends_at records (gap ++ own) after (subst (HasPieces (joined records) (gap ++ own)) is has) in
       ended own e.0 e.1 e.2

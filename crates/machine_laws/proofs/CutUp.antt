@@ -10,11 +10,12 @@ use Rattle.std.proofs.lemmas.List.{take-append-drop, length-drop}
 use Rattle.std.proofs.lemmas.List.Elements.{All-cons, All-nil}
 use Rattle.terms.specs.Types.{Text}
 use Rattle.terms.specs.Forms.{is_word_byte}
-use Rattle.terms.specs.Records.{IsPrintable, HasRecords, front, RecFault, Rec1, Rec2, IsRecFault}
+use Rattle.terms.specs.Records.{IsPrintable, HasRecords, front, RecFault, ShortRecord, BadByte, IsRecFault}
 use Rattle.terms.specs.Groups.{starts_outside, Group, TakesGroup}
 use Rattle.terms.specs.Statement.{Piece, TheWord, TheList, Blank, Comment, Stray, is_blank, is_stray, behind_close}
 use Rattle.terms.specs.Statement.{behind_list, BeginsNoWord, TakesPiece, HasPieces, followed, joined, solid}
-use Rattle.terms.specs.Statement.{IsPlace, Ends, IsStatement, StFault, Unended, CommentOpen, ParensUnpaired, MoreBehind}
+use Rattle.terms.specs.Statement.{IsPlace, Ends, IsStatement, StFault, NoPeriod, OpenComment, BadParens}
+use Rattle.terms.specs.Statement.{TextAfterPeriod}
 use Rattle.terms.specs.Statement.{OpensComment}
 use Rattle.terms.specs.Statement.{BreaksPairs, IsStFault}
 use Rattle.terms.proofs.Closings.{list_before}
@@ -52,7 +53,7 @@ pub records_read : (bytes : List ℕ)
     → ((records : List (List ℕ)) × HasRecords bytes records) ⊎ ((fault : RecFault) × IsRecFault bytes fault)
 records_read bytes = elim (first_bad (take (length bytes / 80 * 80) bytes)) [
   | inr at ↦ inr (
-    Rec2 (at.0 / 80 + 1) (at.0 % 80 + 1),
+    BadByte (at.0 / 80 + 1) (at.0 % 80 + 1),
     bad_byte bytes (take (length bytes / 80 * 80) bytes) at.0 refl at.1 at.3 at.2,
   )
   | inl all ↦ elim (cases_eq (length bytes % 80) 0) [
@@ -61,7 +62,7 @@ records_read bytes = elim (first_bad (take (length bytes / 80 * 80) bytes)) [
       whole_file bytes whole
           (subst (All IsPrintable) (sym (flat_chunks (length bytes / 80) bytes (omega arith))) all),
     )
-    | inr rest ↦ inr (Rec1 (length bytes / 80 + 1), (rest, all, refl))
+    | inr rest ↦ inr (ShortRecord (length bytes / 80 + 1), (rest, all, refl))
   ]
 ]
 
@@ -315,12 +316,27 @@ statement_read records none =
     by cut.0 cut.1 cut.2 cut.3
   where
     by : (ps : List Piece) (rest : Text) → HasPieces (joined records) ps rest → Stuck rest → ⊥
-    by ps rest has (AtEnd is) = none (inr (Unended, (ps, subst (HasPieces (joined records) ps) is has)))
-    by ps rest has (AtComment opens) = none (inr (CommentOpen, (ps, (rest, has, opens))))
-    by ps rest has (AtPairs breaks) = none (inr (ParensUnpaired, (ps, (rest, has, breaks))))
+    by ps rest has (AtEnd is) = none (inr (NoPeriod, (ps, subst (HasPieces (joined records) ps) is has)))
+    by ps rest has (AtComment opens) = none (inr (OpenComment, (ps, (rest, has, opens))))
+    by ps rest has (AtPairs breaks) = none (inr (BadParens, (ps, (rest, has, breaks))))
     by ps rest has (AtPeriod after is) =
         let e = ends_at records ps after (subst (HasPieces (joined records) ps) is has) in
-        none (inr (MoreBehind, (ps, (e.0, e.1, e.2, λ idle. none (inl (solid ps, e.1, (ps, e.0, e.2, idle, refl)))))))
+        none (inr (
+          TextAfterPeriod,
+          (
+            ps,
+            (
+              e.0,
+              e.1,
+              e.2,
+              λ idle. none (inl (
+                solid ps,
+                e.1,
+                (ps, e.0, e.2, idle, refl),
+              )),
+            ),
+          ),
+        ))
 
 -- ---- groups
 

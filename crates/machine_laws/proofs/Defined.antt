@@ -30,7 +30,8 @@ use Rattle.terms.proofs.Orderings.{Less_from_is_lt}
 use Rattle.store_schema.specs.Inventory.{IsInventory, IsZoneNamed, HasDistribution, IsRelated, AreApart}
 use Rattle.machine_laws.proofs.Lists.{each_alike}
 use Rattle.machine_laws.proofs.ZonesKept.{stands_among}
-use Rattle.machine.specs.State.{State, zone_named, with_zone, ZoneDefinition, Zn1, Zn2, Zn3, Zn4, define_zone}
+use Rattle.machine.specs.State.{State, zone_named, with_zone, ZoneDefinition, NameTaken, WrongRelated, OtherSrel}
+use Rattle.machine.specs.State.{TooMany, define_zone}
 use Rattle.machine.specs.State.{is_related, has_right_related, has_same_srel, global_name}
 use Rattle.std.proofs.lemmas.Bool.{or_parts}
 use Rattle.terms.proofs.Booleans.{false_from_not}
@@ -56,7 +57,8 @@ pub defined : (s t : State) (d : ZoneDefinition) → define_zone s d ≡ Ok t �
 unfolding define_zone
 defined s t d is =
     let passed = tests (bytes_eq d.name global_name || is_some (zone_named s.zones d.name))
-    (has_right_related s.zones d.kind d.related) (has_same_srel s.zones d.srel d.related) _ Zn1 Zn2 Zn3 Zn4
+    (has_right_related s.zones d.kind d.related)
+    (has_same_srel s.zones d.srel d.related) _ NameTaken WrongRelated OtherSrel TooMany
     (with_zone s d.name (a_zone d.kind d.srel d.related [] [])) t is in
     let new = or_parts (bytes_eq d.name global_name) (is_some (zone_named s.zones d.name)) passed.0 in
     record {

@@ -2,8 +2,9 @@
 use Rattle.std.proofs.Common.{◌≡◌, ℕ, true, false, List, [], ◌∷◌, Option, refl, sym, ◌∙◌, ap, subst, inl, inr}
 use Rattle.std.proofs.lemmas.Bool.{true≢false}
 use Rattle.terms.specs.declared.codes.StatementCode.{StatementCode}
-use Rattle.terms.specs.declared.codes.StatementCode.TheVariants.{BadStatementForm, UnknownStatementWord, UnfitOperand}
-use Rattle.terms.specs.declared.codes.StatementCode.TheVariants.{WrongPlace, UnfitText, OverLimit}
+use Rattle.terms.specs.declared.codes.StatementCode.TheVariants.{BadStatementForm, UnknownStatementWord}
+use Rattle.terms.specs.declared.codes.StatementCode.TheVariants.{BadStatementOperand}
+use Rattle.terms.specs.declared.codes.StatementCode.TheVariants.{WrongPlace, BadText, OverLimit}
 use Rattle.terms.specs.declared.statement_words.StatementWord.{StatementWord}
 use Rattle.terms.specs.Types.{Text, Lines, HoldItem}
 use Rattle.terms.specs.Records.{HasRecords, rec_fault_record}
@@ -28,7 +29,8 @@ use Rattle.terms.proofs.ExactFaults.{faults_same}
 -- what is at fault behind a known word
 abbrev IsBehind : StatementWord → Option Text → List Piece → Lines → StatementCode → Type 0
 IsBehind w own rest inline WrongPlace = ¬ StandsInHoldFile w inline
-IsBehind w own rest inline UnfitOperand = StandsInHoldFile w inline × ((item : HoldItem) → ¬ HasItem w own rest item)
+IsBehind w own rest inline BadStatementOperand = StandsInHoldFile w inline
+    × ((item : HoldItem) → ¬ HasItem w own rest item)
 IsBehind w own rest inline OverLimit = (item : HoldItem) × StandsInHoldFile w inline × HasItem w own rest item
     × (¬ IsWithin item)
 IsBehind w own rest inline _ = ⊥
@@ -37,24 +39,24 @@ behind_codes : (w : StatementWord) (own : Option Text) (rest : List Piece) (inli
     → IsBehind w own rest inline a → IsBehind w own rest inline b → a ≡ b
 behind_codes w own rest inline BadStatementForm b f g = absurd f
 behind_codes w own rest inline UnknownStatementWord b f g = absurd f
-behind_codes w own rest inline UnfitText b f g = absurd f
-behind_codes w own rest inline UnfitOperand BadStatementForm f g = absurd g
-behind_codes w own rest inline UnfitOperand UnknownStatementWord f g = absurd g
-behind_codes w own rest inline UnfitOperand UnfitOperand f g = refl
-behind_codes w own rest inline UnfitOperand WrongPlace f g = absurd (g f.0)
-behind_codes w own rest inline UnfitOperand UnfitText f g = absurd g
-behind_codes w own rest inline UnfitOperand OverLimit f g = absurd (f.1 g.0 g.2)
+behind_codes w own rest inline BadText b f g = absurd f
+behind_codes w own rest inline BadStatementOperand BadStatementForm f g = absurd g
+behind_codes w own rest inline BadStatementOperand UnknownStatementWord f g = absurd g
+behind_codes w own rest inline BadStatementOperand BadStatementOperand f g = refl
+behind_codes w own rest inline BadStatementOperand WrongPlace f g = absurd (g f.0)
+behind_codes w own rest inline BadStatementOperand BadText f g = absurd g
+behind_codes w own rest inline BadStatementOperand OverLimit f g = absurd (f.1 g.0 g.2)
 behind_codes w own rest inline WrongPlace BadStatementForm f g = absurd g
 behind_codes w own rest inline WrongPlace UnknownStatementWord f g = absurd g
-behind_codes w own rest inline WrongPlace UnfitOperand f g = absurd (f g.0)
+behind_codes w own rest inline WrongPlace BadStatementOperand f g = absurd (f g.0)
 behind_codes w own rest inline WrongPlace WrongPlace f g = refl
-behind_codes w own rest inline WrongPlace UnfitText f g = absurd g
+behind_codes w own rest inline WrongPlace BadText f g = absurd g
 behind_codes w own rest inline WrongPlace OverLimit f g = absurd (f g.1)
 behind_codes w own rest inline OverLimit BadStatementForm f g = absurd g
 behind_codes w own rest inline OverLimit UnknownStatementWord f g = absurd g
-behind_codes w own rest inline OverLimit UnfitOperand f g = absurd (g.1 f.0 f.2)
+behind_codes w own rest inline OverLimit BadStatementOperand f g = absurd (g.1 f.0 f.2)
 behind_codes w own rest inline OverLimit WrongPlace f g = absurd (g f.1)
-behind_codes w own rest inline OverLimit UnfitText f g = absurd g
+behind_codes w own rest inline OverLimit BadText f g = absurd g
 behind_codes w own rest inline OverLimit OverLimit f g = refl
 
 record KnownFault (records : Lines) (code : StatementCode) : Type 0 where
@@ -95,7 +97,7 @@ data Judged (records : Lines) : StatementCode → Type 0 where
 judged : (records : Lines) (code : StatementCode) → IsItemFault records code → Judged records code
 judged records BadStatementForm f = OfForm f
 judged records UnknownStatementWord f = OfWord f
-judged records UnfitOperand (w, own, rest, inline, known, stands, none) = Behind UnfitOperand (record {
+judged records BadStatementOperand (w, own, rest, inline, known, stands, none) = Behind BadStatementOperand (record {
   w = w;
   own = own;
   rest = rest;
@@ -111,7 +113,7 @@ judged records WrongPlace (w, own, rest, inline, known, fault) = Behind WrongPla
   known = known;
   fault = fault;
 })
-judged records UnfitText f = absurd f
+judged records BadText f = absurd f
 judged records OverLimit (w, own, rest, inline, item, known, stands, has, over) = Behind OverLimit (record {
   w = w;
   own = own;

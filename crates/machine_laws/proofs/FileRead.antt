@@ -2,8 +2,9 @@
 use Rattle.std.proofs.Common.{◌≡◌, ◌⊎◌, ◌≤◌, inl, inr, ℕ, zero, suc, Bool, true, false, List, [], ◌∷◌, length, Option}
 use Rattle.std.proofs.Common.{refl, arith}
 use Rattle.terms.specs.declared.codes.StatementCode.{StatementCode}
-use Rattle.terms.specs.declared.codes.StatementCode.TheVariants.{BadStatementForm, UnknownStatementWord, UnfitOperand}
-use Rattle.terms.specs.declared.codes.StatementCode.TheVariants.{WrongPlace, UnfitText, OverLimit}
+use Rattle.terms.specs.declared.codes.StatementCode.TheVariants.{BadStatementForm, UnknownStatementWord}
+use Rattle.terms.specs.declared.codes.StatementCode.TheVariants.{BadStatementOperand}
+use Rattle.terms.specs.declared.codes.StatementCode.TheVariants.{WrongPlace, BadText, OverLimit}
 use Rattle.terms.specs.declared.statement_words.StatementWord.{StatementWord}
 use Rattle.terms.specs.Types.{Text, Lines, HoldItem}
 use Rattle.terms.specs.Records.{HasRecords, rec_fault_record}
@@ -44,7 +45,7 @@ module _ (current : Option Begun) (later records : Lines) where
   known_judged : (w : StatementWord) (own : Option Text) (rest : List Piece) (inline : Lines)
       → IsKnown records w own rest inline → ¬ ¬ GoodOrFault
   known_judged w own rest inline known none = none (inr (
-    UnfitOperand,
+    BadStatementOperand,
     (
       w,
       own,
@@ -62,7 +63,7 @@ module _ (current : Option Begun) (later records : Lines) where
       no_value s value = none (inr (OverLimit, (w, own, rest, inline, known, (s, placed, value, over))))
         where
           over : ¬ IsWithin current s inline
-          over within = none (inr (UnfitText, (w, own, rest, inline, known, (s, placed, value, within, bad))))
+          over within = none (inr (BadText, (w, own, rest, inline, known, (s, placed, value, within, bad))))
             where
               bad : ¬ HasGoodText s
               bad text = none (inl (
@@ -177,7 +178,7 @@ module _ (records : Lines) where
           known,
           λ stands.
               none (inr (
-                UnfitOperand,
+                BadStatementOperand,
                 (
                   w,
                   own,

@@ -11,9 +11,9 @@ use Rattle.std.proofs.lemmas.List.Elements.{All-filter, All-map, All-weaker}
 use Rattle.terms.specs.Types.{Text, Id, Hold, Sysmod, Global, Release, NamedZone}
 use Rattle.terms.specs.Lookups.{is_received, is_applied}
 use Rattle.terms.specs.Forms.{IsSource}
-use Rattle.terms.specs.Global.{IsSysmod, IsGlobal, hold_cmp, has_key, hold_of, marked, hold, CameAlong, release_found}
+use Rattle.terms.specs.Global.{IsSysmod, IsGlobal, hold_cmp, has_key, hold_of, marked, hold, Internal, release_found}
 use Rattle.terms.specs.Global.{release, without_hold, assign, with_sysmod, received, ReceiveFault, HasFault}
-use Rattle.terms.specs.Global.{AppliedSomewhere, NotThere}
+use Rattle.terms.specs.Global.{AppliedSomewhere, UnknownSysmod}
 use Rattle.terms.specs.Global.{without_sysmod, reject}
 use Rattle.terms.proofs.GlobalKept.{IsOwned, hold_kept, without_hold_kept, assign_kept, without_sysmod_kept}
 use Rattle.terms.proofs.Placing.{All_with_item, Rises_with_item}
@@ -97,7 +97,7 @@ release_forms g r has = found (hold_of g r.id r.kind r.reason)
     }
 
     released : (internal : Bool)
-        → HasGlobalForms (global_after g (if internal then Err CameAlong else Ok (without_hold r.id r.kind r.reason g)))
+        → HasGlobalForms (global_after g (if internal then Err Internal else Ok (without_hold r.id r.kind r.reason g)))
     released true = has
     released false = without
 
@@ -187,7 +187,8 @@ rejected_forms g zones x has = by (is_received g x) (list_any (λ (z : NamedZone
     }
 
     by : (there applied : Bool)
-        → HasGlobalForms (global_after g (if not there then Err NotThere else if applied then Err AppliedSomewhere else
+        → HasGlobalForms (global_after g (if not there then Err UnknownSysmod
+        else if applied then Err AppliedSomewhere else
         Ok (without_sysmod g x)))
     by false applied = has
     by true true = has

@@ -13,7 +13,7 @@ use Rattle.terms.specs.Types.{Text, Id, Sysmod, Global, Item, ASysmod, AnAssign,
 use Rattle.terms.specs.Lookups.{sysmod_of, is_received}
 use Rattle.terms.specs.Over.{Leads, Reaches}
 use Rattle.terms.specs.Global.{named, names_for, HasLoop, fits_roles, RolesFit, hold, release, assign}
-use Rattle.terms.specs.Global.{with_sysmod, ReceiveFault, AlreadyReceived, MakesLoop, OtherRole, NoRoom, HasFault}
+use Rattle.terms.specs.Global.{with_sysmod, ReceiveFault, AlreadyReceived, MakesLoop, WrongRole, NoRoom, HasFault}
 use Rattle.terms.specs.Global.{received, Receives}
 use Rattle.terms.proofs.Leads.{reaches_named, reaches_first, reaches_more}
 use Rattle.terms.proofs.Loops.{names_others, LeadsBack, no_loop_from_search}
@@ -129,7 +129,7 @@ accepted g s new no_loop fit small = (Ok (received g s), (none, refl))
     none : (f : ReceiveFault) → ¬ HasFault g s f
     none AlreadyReceived = new
     none MakesLoop = no_loop
-    none OtherRole = λ not. not fit
+    none WrongRole = λ not. not fit
     none NoRoom = small
 
 -- RECEIVE of one SYSMOD accepts it or refuses it.
@@ -145,7 +145,7 @@ receives_some g s no_loop = by (is_received g s.id) refl
     fitting : (¬ HasFault g s AlreadyReceived) → (¬ HasFault g s MakesLoop) → Answer g s
     fitting new none = elim (roles_or_not (with_sysmod g s)) [
       | inl fit ↦ sized new none fit
-      | inr not ↦ (Err OtherRole, (new, none, not))
+      | inr not ↦ (Err WrongRole, (new, none, not))
     ]
 
     by : (b : Bool) → is_received g s.id ≡ b → Answer g s

@@ -4,11 +4,11 @@ use Rattle.std.proofs.Common.{ap, ap₂}
 use Rattle.std.proofs.Common.{subst}
 use Rattle.terms.specs.Types.{Text, Id, Sysmod, Global, Item, ASysmod, AnAssign, HoldItem, AHold, ARelease}
 use Rattle.terms.specs.Types.{ReceiveWhat, Receive}
-use Rattle.terms.specs.Global.{ReceiveFault, AlreadyReceived, MakesLoop, OtherRole, NoRoom, HasFault, RefusedBy}
+use Rattle.terms.specs.Global.{ReceiveFault, AlreadyReceived, MakesLoop, WrongRole, NoRoom, HasFault, RefusedBy}
 use Rattle.terms.specs.Global.{Receives}
 use Rattle.terms.specs.Ptfin.{McsFault, IsPtfin, IsPtfinFault}
 use Rattle.terms.specs.HoldFile.{IsHoldFile, IsHoldFileFault}
-use Rattle.machine.specs.Outcome.{OfKind, StatusLine, Outcome, Ran, Refused, PtfinFaulty, HoldFileFaulty, header_of}
+use Rattle.machine.specs.Outcome.{OfKind, StatusLine, Outcome, Ran, Refused, BadPtfin, BadHoldFile, header_of}
 use Rattle.machine.specs.Outcome.{or_nothing}
 use Rattle.machine.specs.State.{State}
 use Rattle.machine.specs.Receiving.{global_after, receive_status, sourced, AssignsId, TakesItem, TakesHoldItem}
@@ -23,26 +23,26 @@ use Rattle.machine_laws.proofs.FileAnswers.{ptfin_once, hold_file_once}
 refused_applies : (g : Global) (s : Sysmod) (f : ReceiveFault) → RefusedBy g s f → HasFault g s f
 refused_applies g s AlreadyReceived r = r
 refused_applies g s MakesLoop r = r.1
-refused_applies g s OtherRole r = r.2
+refused_applies g s WrongRole r = r.2
 refused_applies g s NoRoom r = r.3
 
 -- The first fault that applies is one.
 pub fault_only : (g : Global) (s : Sysmod) (e f : ReceiveFault) → RefusedBy g s e → RefusedBy g s f → e ≡ f
 fault_only g s AlreadyReceived AlreadyReceived p q = refl
 fault_only g s AlreadyReceived MakesLoop p q = absurd (q.0 p)
-fault_only g s AlreadyReceived OtherRole p q = absurd (q.0 p)
+fault_only g s AlreadyReceived WrongRole p q = absurd (q.0 p)
 fault_only g s AlreadyReceived NoRoom p q = absurd (q.0 p)
 fault_only g s MakesLoop AlreadyReceived p q = absurd (p.0 q)
 fault_only g s MakesLoop MakesLoop p q = refl
-fault_only g s MakesLoop OtherRole p q = absurd (q.1 p.1)
+fault_only g s MakesLoop WrongRole p q = absurd (q.1 p.1)
 fault_only g s MakesLoop NoRoom p q = absurd (q.1 p.1)
-fault_only g s OtherRole AlreadyReceived p q = absurd (p.0 q)
-fault_only g s OtherRole MakesLoop p q = absurd (p.1 q.1)
-fault_only g s OtherRole OtherRole p q = refl
-fault_only g s OtherRole NoRoom p q = absurd (q.2 p.2)
+fault_only g s WrongRole AlreadyReceived p q = absurd (p.0 q)
+fault_only g s WrongRole MakesLoop p q = absurd (p.1 q.1)
+fault_only g s WrongRole WrongRole p q = refl
+fault_only g s WrongRole NoRoom p q = absurd (q.2 p.2)
 fault_only g s NoRoom AlreadyReceived p q = absurd (p.0 q)
 fault_only g s NoRoom MakesLoop p q = absurd (p.1 q.1)
-fault_only g s NoRoom OtherRole p q = absurd (p.2 q.2)
+fault_only g s NoRoom WrongRole p q = absurd (p.2 q.2)
 fault_only g s NoRoom NoRoom p q = refl
 
 pub receives_only : (g : Global) (s : Sysmod) (a b : Result Global ReceiveFault) → Receives g s a → Receives g s b
@@ -124,7 +124,7 @@ module _ (files : Files) (s : State) (what : ReceiveWhat) where
       (TakesAll items holds middle g lines more has has_holds runs runs_holds) = no_ptfin items fault reads has at
   takes_once t u p q (TakesNone fault reads at) (TakesNone fault' reads' at') = (
     refl,
-    ap (λ (f : McsFault). Refused (header_of (Receive what) s.boundary) (PtfinFaulty f.number f.code))
+    ap (λ (f : McsFault). Refused (header_of (Receive what) s.boundary) (BadPtfin f.number f.code))
         ((ptfin_once files.ptfin).faults fault fault' at at'),
   )
   takes_once t u p q (TakesNone fault reads at) (TakesNoHold items fault' has reads' at') =
@@ -135,6 +135,6 @@ module _ (files : Files) (s : State) (what : ReceiveWhat) where
       no_ptfin items fault reads has at
   takes_once t u p q (TakesNoHold items fault has reads at) (TakesNoHold items' fault' has' reads' at') = (
     refl,
-    ap (λ (f : McsFault). Refused (header_of (Receive what) s.boundary) (HoldFileFaulty f.number f.code))
+    ap (λ (f : McsFault). Refused (header_of (Receive what) s.boundary) (BadHoldFile f.number f.code))
         ((hold_file_once files.holds).faults fault fault' at at'),
   )

@@ -8,7 +8,7 @@ use Rattle.terms.proofs.TextOrder.{same_from}
 use Rattle.terms.specs.Types.{Text, Id, Hold, Sysmod, Global, Item, ASysmod, AnAssign, HoldItem, AHold, ARelease}
 use Rattle.terms.specs.Types.{NamedZone, Release}
 use Rattle.terms.specs.Lookups.{sysmod_of, is_received}
-use Rattle.terms.specs.Global.{hold, hold_of, release, release_found, without_hold, CameAlong, assign, with_sysmod}
+use Rattle.terms.specs.Global.{hold, hold_of, release, release_found, without_hold, Internal, assign, with_sysmod}
 use Rattle.terms.specs.Global.{received}
 use Rattle.terms.specs.Global.{ReceiveFault, AlreadyReceived, Receives}
 use Rattle.terms.specs.Closed.{AreClosed}
@@ -61,7 +61,7 @@ release_keeps : (g : Global) (r : Release) → KeepsReceived g (global_after g (
 release_keeps g r = found (hold_of g r.id r.kind r.reason)
   where
     released : (internal : Bool) → KeepsReceived g (global_after g
-        (if internal then Err CameAlong else Ok (without_hold r.id r.kind r.reason g)))
+        (if internal then Err Internal else Ok (without_hold r.id r.kind r.reason g)))
     released true = keeps_itself g
     released false = λ x there. refl
 

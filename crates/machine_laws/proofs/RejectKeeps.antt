@@ -9,7 +9,7 @@ use Rattle.terms.proofs.Searches.{All_from_no_list_any}
 use Rattle.terms.proofs.TextOrder.{same_from}
 use Rattle.terms.specs.Types.{Id, Global, NamedZone}
 use Rattle.terms.specs.Lookups.{IsZone, is_applied, sysmod_of, is_received}
-use Rattle.terms.specs.Global.{AppliedSomewhere, NotThere, without_sysmod, reject}
+use Rattle.terms.specs.Global.{AppliedSomewhere, UnknownSysmod, without_sysmod, reject}
 use Rattle.terms.specs.Closed.{AreClosed}
 use Rattle.terms.proofs.GlobalLookups.{sysmod_of_without_sysmod}
 use Rattle.machine.specs.Outcome.{Line}
@@ -38,7 +38,8 @@ module _ (zones : List NamedZone) (are : All (λ (z : NamedZone). IsZone z.zone)
           ∙ All_from_no_list_any (λ (z : NamedZone). is_applied z.zone x) zones none k d below))))
 
       by : (there applied : Bool) → list_any (λ (z : NamedZone). is_applied z.zone x) zones ≡ applied
-          → AreClosed (global_after g (if not there then Err NotThere else if applied then Err AppliedSomewhere else
+          → AreClosed (global_after g (if not there then Err UnknownSysmod
+          else if applied then Err AppliedSomewhere else
           Ok (without_sysmod g x))) zones
       by false applied at = closed
       by true true at = closed

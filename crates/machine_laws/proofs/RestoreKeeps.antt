@@ -13,7 +13,7 @@ use Rattle.std.proofs.lemmas.List.Folds.{Any-from_list_any}
 use Rattle.terms.proofs.ListMembers.{here, there, here_or, none_in, in_filter, filter_in, map_in, in_flat}
 use Rattle.terms.proofs.Searches.{All_from_no_list_any, find_gives}
 use Rattle.terms.proofs.TextOrder.{same_from, same_itself}
-use Rattle.terms.specs.declared.codes.Test.TheVariants.{AlreadyAccepted, UnappliedLevel}
+use Rattle.terms.specs.declared.codes.Test.TheVariants.{AlreadyAccepted, OtherLevel}
 use Rattle.terms.specs.declared.codes.NeedKind.TheVariants.{Dep}
 use Rattle.terms.specs.Types.{Id, IfReq, Ver, Applied, Change, Global, Entry, Element, Zone, RestoreList}
 use Rattle.terms.specs.Types.{type_number}
@@ -414,7 +414,7 @@ module _ (r : Restoring) (ids kept : List Id) (new : Zone) (is : IsRestore r ids
         Members_rmid : Contains (e.fmid ∷ e.rmid ∷ e.umids) e.rmid
         Members_rmid = there e.fmid (e.rmid ∷ e.umids) e.rmid (here e.rmid e.umids)
 
-    -- an element of the accepted zone that a candidate changes passes UnappliedLevel
+    -- a candidate that changes an element of the accepted zone passes OtherLevel
     tested : (x : Id) → Contains kept x → IsTrue (has_change r.global x e.elem_type e.name)
         → element_of r.accepted e.elem_type e.name ≡ Some e → IsTrue (may_return r e)
     tested x among changes at = by (change_of r.global x e.elem_type e.name) refl changes
@@ -437,7 +437,7 @@ module _ (r : Restoring) (ids kept : List Id) (new : Zone) (is : IsRestore r ids
             let returns : Option Element → Bool = λ o. option_map_or (may_return r) o true in
             elim (cases_Bool (may_return r e)) [
               | inl good ↦ good
-              | inr bad ↦ absurd ((may_be x among).passes UnappliedLevel
+              | inr bad ↦ absurd ((may_be x among).passes OtherLevel
                   (gives.1.0, h, gives.1.1, gives.1.2, ap returns found_there ∙ bad))
             ]
 

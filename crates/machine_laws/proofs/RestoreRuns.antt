@@ -12,7 +12,7 @@ use Rattle.terms.specs.declared.kinds.ZoneKind.TheVariants.{Target, Distribution
 use Rattle.terms.specs.Types.{Text, Zone, NamedZone, RestoreList, Restore, zone_number}
 use Rattle.terms.specs.Lookups.{IsZone}
 use Rattle.store_schema.specs.Inventory.{IsZoneNamed, IsRelated}
-use Rattle.machine.specs.Outcome.{BoundaryLacking, BoundaryUnfit, Outcome, Ran, header_of}
+use Rattle.machine.specs.Outcome.{NoBoundary, WrongKind, Outcome, Ran, header_of}
 use Rattle.machine.specs.State.{State, zone_named, current_zone, with_zone, misplaced}
 use Rattle.machine.specs.Machine.{RestoresThere}
 use Rattle.machine_laws.specs.Storable.{IsStorable}
@@ -58,8 +58,8 @@ of_named P zones name zone all found = by (find (λ z. bytes_eq z.name name) zon
         (z, All_find P (λ z. bytes_eq z.name name) zones z all at, cc same)
 
 -- where a command is not misplaced, it fits
-pub fits_from : (b fits : Bool) → (if not b then Some BoundaryLacking else if fits then None
-    else Some BoundaryUnfit) ≡ None → fits ≡ true
+pub fits_from : (b fits : Bool) → (if not b then Some NoBoundary else if fits then None
+    else Some WrongKind) ≡ None → fits ≡ true
 fits_from b true none = refl
 fits_from true false none = absurd (cc none)
 fits_from false false none = absurd (cc none)

@@ -18,7 +18,7 @@ use Rattle.terms.specs.Lookups.{at_most_one, is_in, is_before, is_applied, appli
 use Rattle.terms.specs.Lookups.{element_of, element_eq, element_key}
 use Rattle.terms.specs.Choice.{Choice, vers_of, fits, place, counting}
 use Rattle.terms.specs.Tests.{Setting}
-use Rattle.terms.specs.Restore.{Restoring, are_applied, is_alike, are_alike, may_return, ChangesUnappliedLevel}
+use Rattle.terms.specs.Restore.{Restoring, are_applied, is_alike, are_alike, may_return, ChangesOtherLevel}
 use Rattle.terms.specs.Closed.{IsClosedZone, IsOwned}
 use Rattle.store_schema.specs.Inventory.{Inventory}
 use Rattle.store_schema.specs.Earlier.{IsOfEarlier}
@@ -96,7 +96,7 @@ first_installs i is zone related sel bypass date d decides x kept =
     off = unsupplied zone x (is_fresh i.global zone x (and_parts _ _ (candidate_open i.global zone sel x
         ((decides.candidates.members x).0 cand))).0).not_supplied
 
--- ---- UnappliedLevel
+-- ---- OtherLevel
 
 module _ (zone accepted : Zone) (of_zone : HasFirsts zone) (of_accepted : HasFirsts accepted) where
   both_first : (x : Id) → IsTrue (is_applied zone x) → IsTrue (is_applied accepted x) → is_alike zone accepted x ≡ true
@@ -156,7 +156,7 @@ module _ (zone accepted : Zone) (of_zone : HasFirsts zone) (of_accepted : HasFir
         by (Some e) at = returns e (find_gives (λ (v : Element). element_eq (element_key v) (h.elem_type, h.name))
             accepted.elements e at).1
 
-    asks_applied : (x : Id) → ChangesUnappliedLevel r x
+    asks_applied : (x : Id) → ChangesOtherLevel r x
         ↔ Any (λ h. IsFalse (option_map_or (are_applied zone) (element h) true)) (changes_of g x)
     asks_applied x = (
       λ (k, h, below, at, fails). (k, h, below, at, sym (asks h) ∙ fails),

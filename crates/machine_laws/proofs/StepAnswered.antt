@@ -11,7 +11,7 @@ use Rattle.terms.specs.Forms.{IsSource}
 use Rattle.terms.specs.Global.{IsGlobal, reject}
 use Rattle.terms.specs.Ptfin.{IsPtfin}
 use Rattle.terms.specs.HoldFile.{IsHoldFile}
-use Rattle.machine.specs.Outcome.{Refusal, PtfinFaulty, HoldFileFaulty, StatusLine, Outcome, Ran, Refused}
+use Rattle.machine.specs.Outcome.{Refusal, BadPtfin, BadHoldFile, StatusLine, Outcome, Ran, Refused}
 use Rattle.machine.specs.Outcome.{Control, header_of, or_nothing}
 use Rattle.machine.specs.State.{State, current_zone, target_of, misplaced, define_zone}
 use Rattle.machine.specs.Receiving.{global_after, place_of, TakesItem, TakesHoldItem}
@@ -62,7 +62,7 @@ module _ (files : Files) (s : State) (what : ReceiveWhat) (has : HasGlobalForms 
             (subst (λ b. HasItems IsHoldFile b files.holds good.0) (sym at) good.1)
         | inr bad ↦ (
           s,
-          Refused (header_of (Receive what) s.boundary) (HoldFileFaulty bad.0.number bad.0.code),
+          Refused (header_of (Receive what) s.boundary) (BadHoldFile bad.0.number bad.0.code),
           TakesNoHold items bad.0 reads at bad.1,
         )
       ]
@@ -77,7 +77,7 @@ module _ (files : Files) (s : State) (what : ReceiveWhat) (has : HasGlobalForms 
             (subst (λ b. HasItems IsPtfin b files.ptfin good.0) (sym at) good.1)
         | inr bad ↦ (
           s,
-          Refused (header_of (Receive what) s.boundary) (PtfinFaulty bad.0.number bad.0.code),
+          Refused (header_of (Receive what) s.boundary) (BadPtfin bad.0.number bad.0.code),
           TakesNone bad.0 at bad.1,
         )
       ]

@@ -15,7 +15,7 @@ use Rattle.terms.specs.Types.{Text, Id, Global, Zone, a_zone, NamedZone, Receive
 use Rattle.terms.specs.Types.{Set, Receive, Reject, Apply, Accept, Restore, ListZone, Report}
 use Rattle.terms.specs.Lookups.{IsZone, is_in, is_applied, is_received}
 use Rattle.terms.specs.Choice.{counting}
-use Rattle.terms.specs.Global.{AppliedSomewhere, NotThere, without_sysmod, reject}
+use Rattle.terms.specs.Global.{AppliedSomewhere, UnknownSysmod, without_sysmod, reject}
 use Rattle.terms.specs.Install.{Installation, HasInstalled}
 use Rattle.terms.specs.Judged.{setting}
 use Rattle.terms.specs.Restore.{Restoring, Restores}
@@ -118,7 +118,8 @@ module _ (zones : List NamedZone) (z : NamedZone) (there : Contains zones z) (y 
           (All_from_no_list_any (λ (z : NamedZone). is_applied z.zone x) zones none) there)))
 
       by : (received applied : Bool) → list_any (λ (z : NamedZone). is_applied z.zone x) zones ≡ applied
-          → AreAlike g (global_after g (if not received then Err NotThere else if applied then Err AppliedSomewhere else
+          → AreAlike g (global_after g (if not received then Err UnknownSysmod
+          else if applied then Err AppliedSomewhere else
           Ok (without_sysmod g x))) y
       by false applied at = refl
       by true true at = refl

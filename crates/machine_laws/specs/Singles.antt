@@ -6,7 +6,7 @@ use Rattle.terms.specs.Types.{Text, Id, NamedZone, Selection, Bypass, Zone}
 use Rattle.terms.specs.Lookups.{at_most_one, changes_of, element_of}
 use Rattle.terms.specs.Choice.{Choice, vers_of, counting}
 use Rattle.terms.specs.Tests.{Setting, HasSeveralFit}
-use Rattle.terms.specs.Restore.{are_applied, ChangesUnappliedLevel}
+use Rattle.terms.specs.Restore.{are_applied, ChangesOtherLevel}
 use Rattle.terms.specs.Closed.{AreClosed}
 use Rattle.store_schema.specs.Inventory.{Inventory}
 use Rattle.store_schema.specs.Earlier.{IsOfEarlier}
@@ -33,7 +33,7 @@ abbrev pub LevelAsksApplied : Type 0
 LevelAsksApplied =
     (i : Inventory) → IsOfEarlier i → AreClosed i.global i.zones → (target distribution : NamedZone)
     → Contains i.zones target → Contains i.zones distribution → (c : Choice) (x : Id)
-    → ChangesUnappliedLevel (record {
+    → ChangesOtherLevel (record {
       global = i.global;
       choice = c;
       zone = target.zone;

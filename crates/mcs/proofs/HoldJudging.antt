@@ -1,8 +1,9 @@
 -- What a statement of a hold file says, and what is at fault with it.
 use Rattle.std.proofs.Common.{◌≡◌, ◌≢◌, false, List, [], Option, Result, Ok, Err, sym, subst}
 use Rattle.std.specs.Prelude.{IfOk, IfErr}
-use Rattle.terms.specs.declared.codes.StatementCode.TheVariants.{BadStatementForm, UnknownStatementWord, UnfitOperand}
-use Rattle.terms.specs.declared.codes.StatementCode.TheVariants.{WrongPlace, UnfitText, OverLimit}
+use Rattle.terms.specs.declared.codes.StatementCode.TheVariants.{BadStatementForm, UnknownStatementWord}
+use Rattle.terms.specs.declared.codes.StatementCode.TheVariants.{BadStatementOperand}
+use Rattle.terms.specs.declared.codes.StatementCode.TheVariants.{WrongPlace, BadText, OverLimit}
 use Rattle.terms.specs.declared.statement_words.StatementWord.{StatementWord}
 use Rattle.terms.specs.declared.statement_words.StatementWord.TheVariants as word
 use Rattle.terms.specs.Types as terms
@@ -60,9 +61,9 @@ pub form_error : (records : Lines) (e : StatementError) → IsFormError records 
 form_error records Memory f = tt
 form_error records (Fault BadStatementForm) f = f
 form_error records (Fault UnknownStatementWord) f = f
-form_error records (Fault UnfitOperand) f = absurd f
+form_error records (Fault BadStatementOperand) f = absurd f
 form_error records (Fault WrongPlace) f = absurd f
-form_error records (Fault UnfitText) f = absurd f
+form_error records (Fault BadText) f = absurd f
 form_error records (Fault OverLimit) f = absurd f
 
 pub text_behind : (w : StatementWord) (inline : Lines) → inline ≢ [] → StandsInHoldFile w inline → ⊥
@@ -88,9 +89,9 @@ error_of : (records : Lines) (w : StatementWord) (own : Option Text) (rest : Lis
 error_of records w own rest inline Memory known may f = tt
 error_of records w own rest inline (Fault BadStatementForm) known may f = absurd f
 error_of records w own rest inline (Fault UnknownStatementWord) known may f = absurd f
-error_of records w own rest inline (Fault UnfitOperand) known may f = (w, own, rest, inline, known, may, f)
+error_of records w own rest inline (Fault BadStatementOperand) known may f = (w, own, rest, inline, known, may, f)
 error_of records w own rest inline (Fault WrongPlace) known may f = absurd f
-error_of records w own rest inline (Fault UnfitText) known may f = absurd f
+error_of records w own rest inline (Fault BadText) known may f = absurd f
 error_of records w own rest inline (Fault OverLimit) known may f = (w, own, rest, inline, f.0, known, may, f.1, f.2)
 
 pub bad_item : (records : Lines) (w : StatementWord) (own : Option Text) (rest : List Piece) (inline : Lines)

@@ -2,8 +2,9 @@
 use Rattle.std.proofs.Common.{◌≡◌, Bool, false, List, Option, Some, None, Result, Ok, Err, sym, ◌∙◌, subst}
 use Rattle.std.specs.Prelude.{IfOk, IfErr, IsTrue, ◌↔◌}
 use Rattle.std.proofs.lemmas.Bool.{true≢false}
-use Rattle.terms.specs.declared.codes.StatementCode.TheVariants.{BadStatementForm, UnknownStatementWord, UnfitOperand}
-use Rattle.terms.specs.declared.codes.StatementCode.TheVariants.{WrongPlace, UnfitText, OverLimit}
+use Rattle.terms.specs.declared.codes.StatementCode.TheVariants.{BadStatementForm, UnknownStatementWord}
+use Rattle.terms.specs.declared.codes.StatementCode.TheVariants.{BadStatementOperand}
+use Rattle.terms.specs.declared.codes.StatementCode.TheVariants.{WrongPlace, BadText, OverLimit}
 use Rattle.terms.specs.declared.statement_words.StatementWord.{StatementWord}
 use Rattle.terms.specs.declared.statement_words.StatementWord.TheVariants as word
 use Rattle.terms.specs.Types.{Text, Lines, Sysmod}
@@ -55,7 +56,7 @@ error_of : (current : Option Begun) (later records : Lines) (w : StatementWord) 
 error_of current later records w own rest inline Memory at f = tt
 error_of current later records w own rest inline (Fault BadStatementForm) at f = absurd f
 error_of current later records w own rest inline (Fault UnknownStatementWord) at f = absurd f
-error_of current later records w own rest inline (Fault UnfitOperand) at f = (
+error_of current later records w own rest inline (Fault BadStatementOperand) at f = (
   w,
   own,
   rest,
@@ -64,7 +65,7 @@ error_of current later records w own rest inline (Fault UnfitOperand) at f = (
   (at.placed, f),
 )
 error_of current later records w own rest inline (Fault WrongPlace) at f = absurd f
-error_of current later records w own rest inline (Fault UnfitText) at f =
+error_of current later records w own rest inline (Fault BadText) at f =
     (w, own, rest, inline, at.known, (f.0, at.placed, f.1, f.2, f.3))
 error_of current later records w own rest inline (Fault OverLimit) at f =
     (w, own, rest, inline, at.known, (f.0, at.placed, f.1, f.2))
@@ -83,9 +84,9 @@ pub form_error : (current : Option Begun) (later records : Lines) (e : Statement
 form_error current later records Memory f = tt
 form_error current later records (Fault BadStatementForm) f = f
 form_error current later records (Fault UnknownStatementWord) f = f
-form_error current later records (Fault UnfitOperand) f = absurd f
+form_error current later records (Fault BadStatementOperand) f = absurd f
 form_error current later records (Fault WrongPlace) f = absurd f
-form_error current later records (Fault UnfitText) f = absurd f
+form_error current later records (Fault BadText) f = absurd f
 form_error current later records (Fault OverLimit) f = absurd f
 
 may_not_release : (s : Option Sysmod) → MayStand s word.Release → ⊥

@@ -1,7 +1,7 @@
 -- The operands and the text of a replacement.
 use Rattle.std.specs.Prelude.{◌≡◌, List, [], ◌∷◌, Option, codes}
 use Rattle.terms.specs.declared.kinds.ElemType.{ElemType}
-use Rattle.terms.specs.declared.codes.StatementCode.TheVariants.{UnfitText}
+use Rattle.terms.specs.declared.codes.StatementCode.TheVariants.{BadText}
 use Rattle.terms.specs.Types.{Text, Lines}
 use Rattle.terms.specs.Forms.{IsName}
 use Rattle.terms.specs.Words.{Word}
@@ -19,8 +19,8 @@ pub record HasNames (own : Option Text) (ws : List Word) (element distlib syslib
 
 abbrev pub IsTextError : ElemType → Lines → StatementError → Type 0
 IsTextError type inline Memory = Unit {0}
-IsTextError type inline (Fault code) = (code ≡ UnfitText) × ¬ IsReplacement type inline
+IsTextError type inline (Fault code) = (code ≡ BadText) × ¬ IsReplacement type inline
 
 abbrev pub IsUpdateTextError : Text → Lines → StatementError → Type 0
 IsUpdateTextError name inline Memory = Unit {0}
-IsUpdateTextError name inline (Fault code) = (code ≡ UnfitText) × ¬ IsUpdate name inline
+IsUpdateTextError name inline (Fault code) = (code ≡ BadText) × ¬ IsUpdate name inline

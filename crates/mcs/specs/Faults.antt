@@ -1,5 +1,5 @@
 -- What the errors of one statement say.
-use Rattle.terms.specs.declared.codes.StatementCode.TheVariants.{UnfitOperand}
+use Rattle.terms.specs.declared.codes.StatementCode.TheVariants.{BadStatementOperand}
 use Rattle.rec80.specs.declared.operand_errors.OperandError.{OperandError}
 use Rattle.rec80.specs.declared.operand_errors.OperandError.TheVariants as operand
 use Rattle.mcs.specs.declared.fault.StatementError.{StatementError}
@@ -8,4 +8,4 @@ use Rattle.mcs.specs.declared.fault.StatementError.TheVariants.{Memory, Fault}
 -- a statement with a bad operand has no value
 abbrev pub value_error : OperandError → StatementError
 value_error operand.Memory = Memory
-value_error operand.Bad = Fault UnfitOperand
+value_error operand.Bad = Fault BadStatementOperand

@@ -1,7 +1,7 @@
 -- The items of this crate as the definitions see them, and what is at fault with one or with the file.
 use Rattle.std.specs.Prelude.{ℕ, List, Option, map}
 use Rattle.terms.specs.declared.codes.StatementCode.{StatementCode}
-use Rattle.terms.specs.declared.codes.StatementCode.TheVariants.{UnfitOperand, OverLimit}
+use Rattle.terms.specs.declared.codes.StatementCode.TheVariants.{BadStatementOperand, OverLimit}
 use Rattle.terms.specs.declared.statement_words.StatementWord.{StatementWord}
 use Rattle.terms.specs.Types as terms
 use Rattle.terms.specs.Types.{Text, Lines}
@@ -28,7 +28,7 @@ pub record IsSaid (w : StatementWord) (own : Option Text) (rest : List Piece) (i
 
 -- It says none, or too much.
 abbrev pub IsSaidFault : StatementWord → Option Text → List Piece → StatementCode → Type 0
-IsSaidFault w own rest UnfitOperand = (item : terms.HoldItem) → ¬ HasItem w own rest item
+IsSaidFault w own rest BadStatementOperand = (item : terms.HoldItem) → ¬ HasItem w own rest item
 IsSaidFault w own rest OverLimit = (item : terms.HoldItem) × HasItem w own rest item × (¬ IsWithin item)
 IsSaidFault w own rest _ = ⊥
 

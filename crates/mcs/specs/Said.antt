@@ -1,7 +1,7 @@
 -- What a statement says that stands in order, and what is at fault with it.
 use Rattle.std.specs.Prelude.{List, Option, Result, IfOk, IfErr}
 use Rattle.terms.specs.declared.codes.StatementCode.{StatementCode}
-use Rattle.terms.specs.declared.codes.StatementCode.TheVariants.{UnfitOperand, UnfitText, OverLimit}
+use Rattle.terms.specs.declared.codes.StatementCode.TheVariants.{BadStatementOperand, BadText, OverLimit}
 use Rattle.terms.specs.declared.statement_words.StatementWord.{StatementWord}
 use Rattle.terms.specs.Types.{Text, Lines}
 use Rattle.terms.specs.Statement.{Piece}
@@ -27,11 +27,11 @@ pub record IsSaid (current : Option Begun) (w : StatementWord) (own : Option Tex
 
 -- It says nothing, or too much, or its text is bad.
 abbrev pub IsSaidFault : Option Begun → StatementWord → Option Text → List Piece → Lines → StatementCode → Type 0
-IsSaidFault current w own rest inline UnfitOperand = (s : Statement) → ¬ HasValue
+IsSaidFault current w own rest inline BadStatementOperand = (s : Statement) → ¬ HasValue
     (sysmod_in current) w own rest inline s
 IsSaidFault current w own rest inline OverLimit = (s : Statement) × HasValue (sysmod_in current) w own rest inline s
     × (¬ IsWithin current s inline)
-IsSaidFault current w own rest inline UnfitText =
+IsSaidFault current w own rest inline BadText =
     (s : Statement) × HasValue (sysmod_in current) w own rest inline s × IsWithin current s inline × (¬ HasGoodText s)
 IsSaidFault current w own rest inline _ = ⊥
 

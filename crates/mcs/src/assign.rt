@@ -70,8 +70,8 @@ fn is_within(assign: &Assign) -> bool
     assign.to.len() <= 1000
 }
 
-/// What an `++ASSIGN` says. `Memory` comes where memory runs out. `Fault` is `UnfitOperand` where it has anything but
-/// SOURCEID and TO, each in its form, and `OverLimit` where TO has more than 1,000 ids.
+/// What an `++ASSIGN` says. `Memory` comes where memory runs out. `Fault` is `BadStatementOperand` where it has
+/// anything but SOURCEID and TO, each in its form, and `OverLimit` where TO has more than 1,000 ids.
 pub fn assign_statement(
     alloc: Global,
     current: &Option<Begun>,

@@ -82,13 +82,13 @@ fn text_of(
     ensures bad { IfErr result (IsTextError elem_type inline.now) }
 {
     if inline.is_empty() {
-        return Err(StatementError::Fault(StatementCode::UnfitText));
+        return Err(StatementError::Fault(StatementCode::BadText));
     }
     let lines = lines(alloc, inline)?;
     match elem_type {
         ElemType::Mac | ElemType::Src => match Numbered::read(lines) {
             Ok(text) => Ok(text.into_lines()),
-            Err(_) => Err(StatementError::Fault(StatementCode::UnfitText)),
+            Err(_) => Err(StatementError::Fault(StatementCode::BadText)),
         },
         ElemType::Clist | ElemType::Data | ElemType::Exec | ElemType::Parm | ElemType::Proc => {
             Ok(lines)
@@ -96,9 +96,10 @@ fn text_of(
     }
 }
 
-/// What a replacement says. `Memory` comes where memory runs out. `Fault` is `UnfitOperand` where it has anything but a
-/// name, DISTLIB and SYSLIB, each in its form; `OverLimit` where the SYSMOD has 999 elements already, or the text has
-/// more than 99,999 records; and `UnfitText` where there is no text, or one of a macro or source that is not numbered.
+/// What a replacement says. `Memory` comes where memory runs out. `Fault` is `BadStatementOperand` where it has
+/// anything but a name, DISTLIB and SYSLIB, each in its form; `OverLimit` where the SYSMOD has 999 elements already, or
+/// the text has more than 99,999 records; and `BadText` where there is no text, or one of a macro or source that is not
+/// numbered.
 pub fn change_statement(
     alloc: Global,
     current: &Option<Begun>,
@@ -110,7 +111,7 @@ pub fn change_statement(
     ensures fault { Fails current.now known.now result }
 {
     let Some(names) = read_names(known) else {
-        return Err(StatementError::Fault(StatementCode::UnfitOperand));
+        return Err(StatementError::Fault(StatementCode::BadStatementOperand));
     };
     let inline = known.inline;
     if !is_within(current, inline) {
@@ -147,13 +148,13 @@ fn update_of(alloc: Global, name: Name, inline: &[Record]) -> Result<Update, Sta
     match Update::read(alloc, read, name.as_bytes()) {
         Ok(update) => Ok(update),
         Err(TextError::Memory) => Err(StatementError::Memory),
-        Err(TextError::Fault(_)) => Err(StatementError::Fault(StatementCode::UnfitText)),
+        Err(TextError::Fault(_)) => Err(StatementError::Fault(StatementCode::BadText)),
     }
 }
 
-/// What an update says. `Memory` comes where memory runs out. `Fault` is `UnfitOperand` where it has anything but one
-/// name; `OverLimit` where the SYSMOD has 999 elements already, or the text has more than 99,999 records; and
-/// `UnfitText` where the text is no update of the element.
+/// What an update says. `Memory` comes where memory runs out. `Fault` is `BadStatementOperand` where it has anything
+/// but one name; `OverLimit` where the SYSMOD has 999 elements already, or the text has more than 99,999 records; and
+/// `BadText` where the text is no update of the element.
 pub fn update_statement(
     alloc: Global,
     current: &Option<Begun>,
@@ -165,10 +166,10 @@ pub fn update_statement(
     ensures fault { Fails current.now known.now result }
 {
     if !known.operands.is_empty() {
-        return Err(StatementError::Fault(StatementCode::UnfitOperand));
+        return Err(StatementError::Fault(StatementCode::BadStatementOperand));
     }
     let Some(name) = one::<Name>(&known.first) else {
-        return Err(StatementError::Fault(StatementCode::UnfitOperand));
+        return Err(StatementError::Fault(StatementCode::BadStatementOperand));
     };
     let inline = known.inline;
     if !is_within(current, inline) {

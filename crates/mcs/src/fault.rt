@@ -41,6 +41,6 @@ pub fn no_value(error: OperandError) -> StatementError
 {
     match error {
         OperandError::Memory => StatementError::Memory,
-        OperandError::Bad => StatementError::Fault(StatementCode::UnfitOperand),
+        OperandError::Bad => StatementError::Fault(StatementCode::BadStatementOperand),
     }
 }

@@ -11,7 +11,7 @@ use fields::Id;
 use rec80::one;
 use terms::{Kind, StatementCode};
 
-/// What a header says. `Fault` is `UnfitOperand` where it has anything but one id. `Memory` never comes.
+/// What a header says. `Fault` is `BadStatementOperand` where it has anything but one id. `Memory` never comes.
 pub fn header_statement(
     current: &Option<Begun>,
     kind: Kind,
@@ -22,10 +22,10 @@ pub fn header_statement(
     ensures fault { Fails current.now known.now result }
 {
     if !known.operands.is_empty() {
-        return Err(StatementError::Fault(StatementCode::UnfitOperand));
+        return Err(StatementError::Fault(StatementCode::BadStatementOperand));
     }
     match one::<Id>(&known.first) {
         Some(id) => Ok(Statement::Header(kind, id)),
-        None => Err(StatementError::Fault(StatementCode::UnfitOperand)),
+        None => Err(StatementError::Fault(StatementCode::BadStatementOperand)),
     }
 }

@@ -52,14 +52,14 @@ fn release_item(known: &Known<'_>) -> Result<HoldItem, StatementError>
 {
     match release_of_operands(known) {
         Ok(release) => Ok(HoldItem::Release(release)),
-        Err(_) => Err(StatementError::Fault(StatementCode::UnfitOperand)),
+        Err(_) => Err(StatementError::Fault(StatementCode::BadStatementOperand)),
     }
 }
 
 /// What a statement of a hold file says. `Memory` comes where memory runs out, and `Fault` has the first that applies
 /// of `BadStatementForm` for its form, `UnknownStatementWord` for its word, `WrongPlace` for text behind it and for any
-/// word but `++HOLD` and `++RELEASE`, `UnfitOperand` for an operand, and `OverLimit` for a comment of more than 200
-/// characters.
+/// word but `++HOLD` and `++RELEASE`, `BadStatementOperand` for an operand, and `OverLimit` for a comment of more than
+/// 200 characters.
 pub(crate) fn read_item(alloc: Global, group: &Group<'_>) -> Result<HoldItem, StatementError>
     ensures good { IfOk result (λ item. IsGoodItem group.now.records.now (item_of item)) }
     ensures fault { All IsRecord group.now.records.now → IfErr result (IsItemError group.now.records.now) }

@@ -48,9 +48,9 @@ fn read_own_hold(alloc: Global, sysmod: &Sysmod, known: &Known<'_>) -> Result<Ho
     Ok(hold)
 }
 
-/// What a `++HOLD` in a SYSMOD says. `Memory` comes where memory runs out. `Fault` is `UnfitOperand` where no SYSMOD is
-/// begun, where an operand is unknown, comes twice, has not its form or is missing, and where it is no SYSTEM hold of
-/// this SYSMOD; and `OverLimit` where its comment has more than 200 characters.
+/// What a `++HOLD` in a SYSMOD says. `Memory` comes where memory runs out. `Fault` is `BadStatementOperand` where no
+/// SYSMOD is begun, where an operand is unknown, comes twice, has not its form or is missing, and where it is no SYSTEM
+/// hold of this SYSMOD; and `OverLimit` where its comment has more than 200 characters.
 pub fn hold_statement(
     alloc: Global,
     current: &Option<Begun>,
@@ -61,7 +61,7 @@ pub fn hold_statement(
     ensures fault { FailsPrintable current.now known.now result }
 {
     let Some(begun) = current else {
-        return Err(StatementError::Fault(StatementCode::UnfitOperand));
+        return Err(StatementError::Fault(StatementCode::BadStatementOperand));
     };
     let hold = match read_own_hold(alloc, &begun.sysmod, known) {
         Ok(hold) => hold,

@@ -130,9 +130,9 @@ fn is_within(begun: &Begun, condition: &IfReq) -> bool
     has_place(begun) && condition.req.len() <= 1000
 }
 
-/// What an `++IF` says. `Memory` comes where memory runs out. `Fault` is `UnfitOperand` where no SYSMOD is begun, where
-/// it has not FMID, THEN and REQ in this order, each in its form, and where REQ names the SYSMOD itself; and
-/// `OverLimit` where the last `++VER` has 100 `++IF`s already, or REQ has more than 1,000 ids.
+/// What an `++IF` says. `Memory` comes where memory runs out. `Fault` is `BadStatementOperand` where no SYSMOD is
+/// begun, where it has not FMID, THEN and REQ in this order, each in its form, and where REQ names the SYSMOD itself;
+/// and `OverLimit` where the last `++VER` has 100 `++IF`s already, or REQ has more than 1,000 ids.
 pub fn if_statement(
     alloc: Global,
     current: &Option<Begun>,
@@ -143,10 +143,10 @@ pub fn if_statement(
     ensures fault { Fails current.now known.now result }
 {
     let Some(begun) = current else {
-        return Err(StatementError::Fault(StatementCode::UnfitOperand));
+        return Err(StatementError::Fault(StatementCode::BadStatementOperand));
     };
     let Some(words) = known.operands.only() else {
-        return Err(StatementError::Fault(StatementCode::UnfitOperand));
+        return Err(StatementError::Fault(StatementCode::BadStatementOperand));
     };
     let condition = match read_if(alloc, &begun.sysmod, known, words) {
         Ok(condition) => condition,

@@ -47,7 +47,7 @@ fn said_by(
 
 /// What a statement says behind those so far. `Memory` comes where memory runs out, and `Fault` has the first that
 /// applies of `BadStatementForm` for its form, `UnknownStatementWord` for its word, `WrongPlace` for its place, and of
-/// `UnfitOperand` for an operand, `OverLimit` for a limit and `UnfitText` for its text.
+/// `BadStatementOperand` for an operand, `OverLimit` for a limit and `BadText` for its text.
 pub fn read_statement(
     alloc: Global,
     current: &Option<Begun>,

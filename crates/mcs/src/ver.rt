@@ -184,10 +184,10 @@ fn is_within(sysmod: &Sysmod, ver: &Ver) -> bool
     sysmod.vers.len() < 8 && are_short(ver)
 }
 
-/// What a `++VER` says. `Memory` comes where memory runs out. `Fault` is `UnfitOperand` where no SYSMOD is begun, where
-/// an operand is unknown, comes twice or has not its form, where service has no FMID or has NPRE or DELETE, and where
-/// an operand names the SYSMOD itself; and `OverLimit` where the SYSMOD has 8 `++VER`s already, or a list has more than
-/// 1,000 ids.
+/// What a `++VER` says. `Memory` comes where memory runs out. `Fault` is `BadStatementOperand` where no SYSMOD is
+/// begun, where an operand is unknown, comes twice or has not its form, where service has no FMID or has NPRE or
+/// DELETE, and where an operand names the SYSMOD itself; and `OverLimit` where the SYSMOD has 8 `++VER`s already, or a
+/// list has more than 1,000 ids.
 pub fn ver_statement(
     alloc: Global,
     current: &Option<Begun>,
@@ -198,10 +198,10 @@ pub fn ver_statement(
     ensures fault { Fails current.now known.now result }
 {
     let Some(begun) = current else {
-        return Err(StatementError::Fault(StatementCode::UnfitOperand));
+        return Err(StatementError::Fault(StatementCode::BadStatementOperand));
     };
     let Some(words) = known.operands.named(OPERANDS) else {
-        return Err(StatementError::Fault(StatementCode::UnfitOperand));
+        return Err(StatementError::Fault(StatementCode::BadStatementOperand));
     };
     let ver = match read_ver(alloc, &begun.sysmod, known, words) {
         Ok(ver) => ver,

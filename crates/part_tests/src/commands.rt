@@ -2,7 +2,7 @@
 
 use crate::cards::{Spelled, case, file_of, record};
 use cntl::{CntlError, Command, Install, read_cntl};
-use fields::spelling::cn_text;
+use fields::spelling::command_code_text;
 use fields::{Bypass, Reasons, ReceiveWhat, RestoreList, Source, ZoneName};
 use rec80::{Record, Records, Word, flag, ids, one, operand, rising};
 use std::alloc::{AllocError, Global};
@@ -218,7 +218,7 @@ fn commanded(alloc: Global, bytes: &[u8]) -> Spelled {
         Err(CntlError::Memory) => spelled.put(b"memory"),
         Err(CntlError::Fault { number, code }) => {
             spelled.put_number(number);
-            spelled.put_words(&[cn_text(code)]);
+            spelled.put_words(&[command_code_text(code)]);
         }
     }
     spelled

@@ -1,7 +1,7 @@
 //! Hold files.
 
 use crate::cards::{Spelled, case, file_of};
-use fields::spelling::{hold_text, mc_text};
+use fields::spelling::{hold_text, statement_code_text};
 use fields::{Id, Reason};
 use mcs::{HoldItem, McsError, read_hold};
 use std::alloc::Global;
@@ -53,7 +53,7 @@ pub(crate) fn put_error(spelled: &mut Spelled, error: McsError) {
         McsError::Memory => spelled.put(b"memory"),
         McsError::Fault { number, code } => {
             spelled.put_number(number);
-            spelled.put_words(&[mc_text(code)]);
+            spelled.put_words(&[statement_code_text(code)]);
         }
     }
 }

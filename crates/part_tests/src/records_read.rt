@@ -140,10 +140,13 @@ fn fault_at(place: usize, byte: u8) -> Option<RecError> {
 #[test]
 fn bytes_outside_records_are_told(rt: HostRuntime) {
     let (record, column) = (2, 80);
-    let unprintable = Some(RecError::Rec2 { record, column });
+    let unprintable = Some(RecError::BadByte { record, column });
     assert_eq!(rt; fault_at(159, 0x7F), unprintable);
-    assert_eq!(rt; fault_at(159, b'~'), Some(RecError::Rec1 { record: 3 }));
-    assert_eq!(rt; fault_at(160, 0), Some(RecError::Rec1 { record: 3 }));
+    assert_eq!(rt;
+        fault_at(159, b'~'),
+        Some(RecError::ShortRecord { record: 3 })
+    );
+    assert_eq!(rt; fault_at(160, 0), Some(RecError::ShortRecord { record: 3 }));
     assert!(rt; records(&[b' '; 160]).is_ok_and(|found| found.all.len() == 2));
 }
 

@@ -63,17 +63,17 @@ type Faulty = (&'static [&'static str], usize, TextCode);
 
 const TEXTS: &[Faulty] = &[
     (&[TEN, "U"], 2, TextCode::NoNumber),
-    (&[TEN, TWENTY, TWENTY], 3, TextCode::FallingNumber),
+    (&[TEN, TWENTY, TWENTY], 3, TextCode::NumberOutOfOrder),
 ];
 
 const UPDATES: &[Faulty] = &[
     (&[CHANGE, TEN, "U"], 3, TextCode::NoNumber),
-    (&[], 1, TextCode::NoChange),
-    (&[TEN, CHANGE], 1, TextCode::NoChange),
+    (&[], 1, TextCode::NoChangeRecord),
+    (&[TEN, CHANGE], 1, TextCode::NoChangeRecord),
     (&["./ CHANGE NAME=M2"], 1, TextCode::OtherElement),
     (&[CHANGE, TEN, DELETE_BACK], 3, TextCode::BadDelete),
     (&[CHANGE, CHANGE], 2, TextCode::BadDelete),
-    (&[CHANGE, TWENTY, TEN], 3, TextCode::FallingUpdate),
+    (&[CHANGE, TWENTY, TEN], 3, TextCode::UpdateOutOfOrder),
 ];
 
 fn text_fault(alloc: Global, cards: &[&str]) -> Result<Option<TextFault>, AllocError> {

@@ -6,7 +6,7 @@ use Rattle.std.proofs.lemmas.List.{length-drop, length-take-le, take_all, take-t
 use Rattle.std.proofs.lemmas.List.Elements.{All-nil, All-cons, All-take, All-drop}
 use Rattle.std.specs.List.{flat_map, All}
 use Rattle.std.specs.Simd.{first_chunks}
-use Rattle.terms.specs.Records.{IsPrintable, IsRecord, HasRecords, IsRecFault, Rec1, Rec2}
+use Rattle.terms.specs.Records.{IsPrintable, IsRecord, HasRecords, IsRecFault, ShortRecord, BadByte}
 
 abbrev joined_chunks : ℕ → List ℕ → List ℕ
 joined_chunks k bytes = flat_map (λ r. r) (first_chunks 80 k bytes)
@@ -48,7 +48,7 @@ whole_part bytes all flat all_are flat_is = flat_is ∙ ap (flat_map (λ r. r)) 
 
 pub bad_byte : (bytes flat : List ℕ) (i : ℕ) → flat ≡ take (length bytes / 80 * 80) bytes → i < length flat
     → All IsPrintable (take i flat) → (IsPrintable (get_or flat i 0) → ⊥)
-    → IsRecFault bytes (Rec2 (i / 80 + 1) (i % 80 + 1))
+    → IsRecFault bytes (BadByte (i / 80 + 1) (i % 80 + 1))
 bad_byte bytes flat i flat_is below printable bad =
     let within = length-take-le (length bytes / 80 * 80) bytes (omega arith) in
     let lower : i < length bytes / 80 * 80 = omega (arith, within, ap length flat_is) in
@@ -59,7 +59,7 @@ bad_byte bytes flat i flat_is below printable bad =
 
 pub cut_short : (bytes flat : List ℕ) (all : List (List ℕ)) (i : ℕ) → flat ≡ take (length bytes / 80 * 80) bytes
     → All IsPrintable (take i flat) → length flat ≤ i → (length bytes % 80 ≡ 0 → ⊥) → length all ≡ length bytes / 80
-    → IsRecFault bytes (Rec1 (length all + 1))
+    → IsRecFault bytes (ShortRecord (length all + 1))
 cut_short bytes flat all i flat_is printable over rest count =
     (rest, subst (All IsPrintable) (take_all i flat over ∙ flat_is) printable, ap (λ n. n + 1) count)
 

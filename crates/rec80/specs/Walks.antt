@@ -1,7 +1,8 @@
 -- Ways over the pieces of a text: over gaps, to where no piece begins, and over a whole statement.
 use Rattle.std.specs.Prelude.{◌≡◌, ℕ, List, [], ◌∷◌, ◌++◌}
 use Rattle.terms.specs.Statement.{Piece, HasPieces, solid, followed, IsPlace, IsIdle, OpensComment, BreaksPairs}
-use Rattle.terms.specs.Statement.{StFault, Unended, CommentOpen, ParensUnpaired, MoreBehind}
+use Rattle.terms.specs.Statement as statement
+use Rattle.terms.specs.Statement.{StFault}
 use Rattle.terms.specs.CommandCuts.{BeginsNoGap}
 use Rattle.rec80.specs.declared.cursor.Cursor.{Cursor}
 use Rattle.rec80.specs.declared.errors.StmtError.{StmtError}
@@ -34,7 +35,7 @@ BreaksFrom from TextAfterPeriod =
 
 -- the faults by their names
 abbrev pub st_fault : StmtError → StFault
-st_fault NoPeriod = Unended
-st_fault OpenComment = CommentOpen
-st_fault BadParens = ParensUnpaired
-st_fault TextAfterPeriod = MoreBehind
+st_fault NoPeriod = statement.NoPeriod
+st_fault OpenComment = statement.OpenComment
+st_fault BadParens = statement.BadParens
+st_fault TextAfterPeriod = statement.TextAfterPeriod

@@ -10,10 +10,10 @@ use thiserror::Error;
 pub enum RecError {
     /// The file ends inside this record.
     #[error("record {record} is cut short")]
-    Rec1 { record: usize },
+    ShortRecord { record: usize },
     /// A byte there is none of 0x20 to 0x7E.
     #[error("record {record} has a bad byte in column {column}")]
-    Rec2 { record: usize, column: usize },
+    BadByte { record: usize, column: usize },
 }
 
 impl RecError {
@@ -22,8 +22,8 @@ impl RecError {
         ensures { result ≡ rec_fault_record (rec_fault self.now) }
     {
         match *self {
-            RecError::Rec1 { record } => record,
-            RecError::Rec2 { record, .. } => record,
+            RecError::ShortRecord { record } => record,
+            RecError::BadByte { record, .. } => record,
         }
     }
 }

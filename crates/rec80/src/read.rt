@@ -12,8 +12,8 @@ fn is_printable(byte: u8) -> bool
     0x20 <= byte && byte <= 0x7E
 }
 
-/// The records of a file. `Rec2` comes where a whole record has a bad byte, at the first one, and `Rec1` where none
-/// has, but the file ends inside a record.
+/// The records of a file. `BadByte` comes where a whole record has a bad byte, at the first one, and `ShortRecord`
+/// where none has, but the file ends inside a record.
 pub fn records(bytes: &[u8]) -> Result<Records<'_>, RecError>
     ensures ok { IfOk result (λ found. HasRecords bytes.now found.all.now) }
     ensures good { (records : List (List ℕ)) → HasRecords bytes.now records → IsOk result }
@@ -22,14 +22,14 @@ pub fn records(bytes: &[u8]) -> Result<Records<'_>, RecError>
     let (all, rest) = bytes.as_chunks::<80>();
     for (i, byte) in all.as_flattened().iter().enumerate() {
         if !is_printable(*byte) {
-            return Err(RecError::Rec2 {
+            return Err(RecError::BadByte {
                 record: i / 80 + 1,
                 column: i % 80 + 1,
             });
         }
     }
     if !rest.is_empty() {
-        return Err(RecError::Rec1 {
+        return Err(RecError::ShortRecord {
             record: all.len() + 1,
         });
     }

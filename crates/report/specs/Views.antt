@@ -20,11 +20,11 @@ abbrev pub header_view : Header → machine.Header
 header_view h = record { word = h.word; boundary = h.boundary; check = h.check }
 
 abbrev pub refusal_view : Refusal → machine.Refusal
-refusal_view refusal.NoBoundary = machine.BoundaryLacking
-refusal_view refusal.NoZone = machine.ZoneLacking
-refusal_view refusal.WrongKind = machine.BoundaryUnfit
-refusal_view (refusal.Ptfin number code) = machine.PtfinFaulty number code
-refusal_view (refusal.HoldFile number code) = machine.HoldFileFaulty number code
+refusal_view refusal.NoBoundary = machine.NoBoundary
+refusal_view refusal.NoZone = machine.NoZone
+refusal_view refusal.WrongKind = machine.WrongKind
+refusal_view (refusal.BadPtfin number code) = machine.BadPtfin number code
+refusal_view (refusal.BadHoldFile number code) = machine.BadHoldFile number code
 
 abbrev pub place_view : Place → machine.Place
 place_view (place.Kind kind) = machine.OfKind kind

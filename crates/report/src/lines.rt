@@ -1,6 +1,6 @@
 //! The text of lines.
 ghost use Rattle.std.specs.Prelude.{◌≡◌, ◌∷◌, [], codes, decimal, option_map};
-ghost use Rattle.terms.specs.Spelling.{mc_text, test_text, need_text};
+ghost use Rattle.terms.specs.Spelling.{statement_code_text, test_text, need_text};
 ghost use Rattle.machine.specs.Outcome.{ErrsysmodLine};
 ghost use Rattle.machine.specs.Report.{words_line, header_text, refused_text, place_text, status_word};
 ghost use Rattle.machine.specs.Report.{status_detail, failure_text, line_text, left_in};
@@ -15,7 +15,7 @@ use crate::sink::Sink;
 use crate::words::{Word, put_words};
 use decide::Failure;
 use fields::spelling::{
-    hold_text, kind_text, mc_text, need_text, refusal_text, test_text, word_text,
+    hold_text, kind_text, need_text, refusal_text, statement_code_text, test_text, word_text,
 };
 use fields::{Id, Reason};
 use terms::StatementCode;
@@ -36,13 +36,13 @@ pub(crate) fn put_header<W: Sink>(header: &Header, page: &mut Page<'_, W>)
 /// The place of a fault, and its code.
 fn put_fault<W: Sink>(word: &[u8], number: usize, code: StatementCode, page: &mut Page<'_, W>)
     ensures { Paged W.Sink page.old page.new
-        (words_line (codes "REFUSED" ∷ word.now ∷ codes "RECORD" ∷ decimal number ∷ mc_text code ∷ [])) }
+        (words_line (codes "REFUSED" ∷ word.now ∷ codes "RECORD" ∷ decimal number ∷ statement_code_text code ∷ [])) }
 {
     let words = [
         Word::Of(word),
         Word::Of(b"RECORD"),
         Word::Number(number),
-        Word::Of(mc_text(code)),
+        Word::Of(statement_code_text(code)),
     ];
     put_words(b"REFUSED", &words, page);
 }
@@ -55,8 +55,8 @@ pub(crate) fn put_refusal<W: Sink>(refusal: &Refusal, page: &mut Page<'_, W>)
         Refusal::NoBoundary => page.put(b"REFUSED Cm1\n"),
         Refusal::NoZone => page.put(b"REFUSED Cm2\n"),
         Refusal::WrongKind => page.put(b"REFUSED Cm3\n"),
-        Refusal::Ptfin { number, code } => put_fault(b"Cm4", *number, *code, page),
-        Refusal::HoldFile { number, code } => put_fault(b"Cm5", *number, *code, page),
+        Refusal::BadPtfin { number, code } => put_fault(b"Cm4", *number, *code, page),
+        Refusal::BadHoldFile { number, code } => put_fault(b"Cm5", *number, *code, page),
     }
 }
 

@@ -24,9 +24,9 @@ pub enum Refusal {
     /// `Cm3`: the boundary suits other commands.
     WrongKind,
     /// `Cm4`: a fault of PTFIN, at the record where the statement begins.
-    Ptfin { number: usize, code: StatementCode },
+    BadPtfin { number: usize, code: StatementCode },
     /// `Cm5`: the same of the hold file.
-    HoldFile { number: usize, code: StatementCode },
+    BadHoldFile { number: usize, code: StatementCode },
 }
 
 /// What stands behind the id of a status line.

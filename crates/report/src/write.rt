@@ -14,7 +14,7 @@ use crate::page::Page;
 use crate::sink::{Sink, WriteFault};
 use crate::words::{Word, put_words};
 use crate::zone_lines::put_zone;
-use fields::spelling::cn_text;
+use fields::spelling::command_code_text;
 use terms::IdRefusal;
 
 fn line_code(line: &Line) -> u8
@@ -25,7 +25,7 @@ fn line_code(line: &Line) -> u8
         Line::Nothing | Line::Errsysmod { .. } => 4,
         Line::Status { status, .. } => match status {
             Status::Already | Status::Unknown => 4,
-            Status::Refused(IdRefusal::NoSuchHold | IdRefusal::CameAlong) => 4,
+            Status::Refused(IdRefusal::NoHold | IdRefusal::Internal) => 4,
             Status::Refused(_) => 8,
             Status::Failed(_) | Status::Deleted | Status::Missing => 8,
             Status::NoVer | Status::NotApplied => 8,
@@ -92,7 +92,7 @@ fn put_outcome<W: Sink>(outcome: &Outcome<'_>, page: &mut Page<'_, W>) -> u8
             let words = [
                 Word::Of(b"RECORD"),
                 Word::Number(*number),
-                Word::Of(cn_text(*code)),
+                Word::Of(command_code_text(*code)),
             ];
             put_words(b"CONTROL", &words, page);
             12

@@ -1,7 +1,7 @@
 -- The program's own lines, and its statuses.
 use Rattle.std.specs.Prelude.{ℕ, [], ◌∷◌, ◌++◌, codes}
 use Rattle.terms.specs.Types.{Text}
-use Rattle.machine.specs.State.{ZoneFault, Zn1, Zn2, Zn3, Zn4}
+use Rattle.machine.specs.State.{ZoneFault, NameTaken, WrongRelated, OtherSrel, TooMany}
 use Rattle.machine.specs.Machine as machine
 use Rattle.machine.specs.Machine.{Code, Defined, NotDefined}
 use Rattle.machine.specs.Report.{words_line}
@@ -14,10 +14,10 @@ use Rattle.smpe.specs.declared.messages.Fault.{Fault}
 use Rattle.smpe.specs.declared.messages.Fault.TheVariants.{Job, Arg, CannotRead}
 
 abbrev pub zone_fault_text : ZoneFault → Text
-zone_fault_text Zn1 = codes "Zn1"
-zone_fault_text Zn2 = codes "Zn2"
-zone_fault_text Zn3 = codes "Zn3"
-zone_fault_text Zn4 = codes "Zn4"
+zone_fault_text NameTaken = codes "Zn1"
+zone_fault_text WrongRelated = codes "Zn2"
+zone_fault_text OtherSrel = codes "Zn3"
+zone_fault_text TooMany = codes "Zn4"
 
 abbrev pub refused_text : ZoneFault → Text
 refused_text why = words_line (codes "ZONE" ∷ codes "REFUSED" ∷ zone_fault_text why ∷ [])

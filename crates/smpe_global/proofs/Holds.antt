@@ -3,7 +3,7 @@ use Rattle.std.proofs.Common.{◌≡◌, ◌∙◌, Bool, true, false, List, [],
 use Rattle.std.proofs.Common.{Result, Ok, Err, OnOk, OnErr, IfErr, if◌then◌else◌}
 use Rattle.std.proofs.lemmas.List.Elements.{All-nil, All-cons, All-head, All-tail}
 use Rattle.terms.specs.Types.{Id, Hold, Release, Global}
-use Rattle.terms.specs.Global.{CameAlong, hold_of, marked, hold, without_hold, release_found, release}
+use Rattle.terms.specs.Global.{Internal, hold_of, marked, hold, without_hold, release_found, release}
 use Rattle.machine.specs.Receiving.{global_after}
 use Rattle.sysmods.specs.declared.holds.ReleaseError.{ReleaseError}
 use Rattle.sysmods.specs.Faults.{a_release, release_fault}
@@ -26,7 +26,7 @@ released : (g new : Global) (r : Release) (o : Option Hold) → release_found g 
 released g new r None e = cc
 released g new r (Some h) e = by h.internal e
   where
-    by : (b : Bool) → (if b then Err CameAlong else Ok (without_hold r.id r.kind r.reason g)) ≡ Ok new
+    by : (b : Bool) → (if b then Err Internal else Ok (without_hold r.id r.kind r.reason g)) ≡ Ok new
         → new ≡ without_hold r.id r.kind r.reason g
     by true e = cc
     by false e = cc

@@ -9,7 +9,7 @@ use Rattle.std.proofs.lemmas.List.Sums.{fold-append}
 use Rattle.indexmap.specs.IndexMap.{IndexMap, values}
 use Rattle.terms.specs.Types.{Text, Id, Global, Zone, NamedZone}
 use Rattle.terms.specs.Lookups.{is_received, is_applied}
-use Rattle.terms.specs.Global.{IsGlobal, RejectFault, AppliedSomewhere, NotThere, reject, without_sysmod}
+use Rattle.terms.specs.Global.{IsGlobal, RejectFault, AppliedSomewhere, UnknownSysmod, reject, without_sysmod}
 use Rattle.machine.specs.Runs.{Runs}
 use Rattle.machine.specs.Receiving.{global_after}
 use Rattle.machine.proofs.Joined.{runs_append}
@@ -41,7 +41,7 @@ each_fits edits g all k edit below at =
 
 -- what REJECT answers, by whether it is received and whether it is applied
 abbrev pub answer : Global → Id → Bool → Bool → Result Global RejectFault
-answer g x received applied = if not received then Err NotThere else if applied then Err AppliedSomewhere
+answer g x received applied = if not received then Err UnknownSysmod else if applied then Err AppliedSomewhere
     else Ok (without_sysmod g x)
 
 module _ {S : Type 0} (zones : IndexMap Text Zone S) (g : Global) (x : Id) where

@@ -78,8 +78,8 @@ fn release_status(answer: Result<(), ReleaseError>, reason: Reason) -> Status
 {
     match answer {
         Ok(()) => Status::Released(reason),
-        Err(ReleaseError::NoHold) => Status::Refused(IdRefusal::NoSuchHold),
-        Err(ReleaseError::Internal) => Status::Refused(IdRefusal::CameAlong),
+        Err(ReleaseError::NoHold) => Status::Refused(IdRefusal::NoHold),
+        Err(ReleaseError::Internal) => Status::Refused(IdRefusal::Internal),
     }
 }
 

@@ -37,7 +37,7 @@ fn status_of(refused: Option<ReceiveFault>) -> Status
         None => Status::Received,
         Some(ReceiveFault::AlreadyReceived) => Status::Already,
         Some(ReceiveFault::MakesLoop) => Status::Refused(IdRefusal::MakesLoop),
-        Some(ReceiveFault::OtherRole) => Status::Refused(IdRefusal::OtherRole),
+        Some(ReceiveFault::WrongRole) => Status::Refused(IdRefusal::WrongRole),
         Some(ReceiveFault::NoRoom) => Status::Refused(IdRefusal::NoRoom),
     }
 }

@@ -46,7 +46,7 @@ fn take_out(
 {
     global.attest();
     if !global.is_received(id) {
-        return Ok(Status::Refused(IdRefusal::NotThere));
+        return Ok(Status::Refused(IdRefusal::UnknownSysmod));
     }
     if is_applied(zones, id) {
         return Ok(Status::Refused(IdRefusal::AppliedSomewhere));

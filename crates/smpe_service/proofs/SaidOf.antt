@@ -9,8 +9,8 @@ use Rattle.std.proofs.lemmas.Option.{slice_get-map, get_or_from_slice_get}
 use Rattle.terms.proofs.Places.{at_place, found_at}
 use Rattle.terms.specs.declared.codes.Test.{Test}
 use Rattle.terms.specs.declared.codes.Test.TheVariants.{HeldBySystem, HeldByUser, ForbiddenByNpre, OwnedByAnother}
-use Rattle.terms.specs.declared.codes.Test.TheVariants.{UnrelatedLevel, NothingToUpdate, NotInTarget, ChainDeleted}
-use Rattle.terms.specs.declared.codes.Test.TheVariants.{InClash, AlreadyAccepted, HasDelete, UnappliedLevel, SeveralFit}
+use Rattle.terms.specs.declared.codes.Test.TheVariants.{Regression, NothingToUpdate, NotInTarget, ChainDeleted}
+use Rattle.terms.specs.declared.codes.Test.TheVariants.{InClash, AlreadyAccepted, HasDelete, OtherLevel, SeveralFit}
 use Rattle.terms.specs.Types.{Id, Zone}
 use Rattle.terms.specs.Tests.{Setting, Fails, FailsAlone, IsEligible, AreSurvivors}
 use Rattle.terms.specs.Failures.{all_tests}
@@ -51,14 +51,14 @@ eligible_is s x = (
     passes e HeldByUser = e.0.0.1 HeldByUser
     passes e ForbiddenByNpre = e.0.0.1 ForbiddenByNpre
     passes e OwnedByAnother = e.0.0.1 OwnedByAnother
-    passes e UnrelatedLevel = e.0.0.1 UnrelatedLevel
+    passes e Regression = e.0.0.1 Regression
     passes e NothingToUpdate = e.0.0.1 NothingToUpdate
     passes e NotInTarget = e.0.0.1 NotInTarget
     passes e ChainDeleted = e.0.1
     passes e InClash = e.1
     passes e AlreadyAccepted = λ f. f
     passes e HasDelete = λ f. f
-    passes e UnappliedLevel = λ f. f
+    passes e OtherLevel = λ f. f
     passes e SeveralFit = e.0.0.1 SeveralFit
 
     alone : ((t : Test) → ¬ Fails s x t) → (t : Test) → ¬ FailsAlone s x t
@@ -66,14 +66,14 @@ eligible_is s x = (
     alone none HeldByUser = none HeldByUser
     alone none ForbiddenByNpre = none ForbiddenByNpre
     alone none OwnedByAnother = none OwnedByAnother
-    alone none UnrelatedLevel = none UnrelatedLevel
+    alone none Regression = none Regression
     alone none NothingToUpdate = none NothingToUpdate
     alone none NotInTarget = none NotInTarget
     alone none ChainDeleted = λ f. f
     alone none InClash = λ f. f
     alone none AlreadyAccepted = λ f. f
     alone none HasDelete = λ f. f
-    alone none UnappliedLevel = λ f. f
+    alone none OtherLevel = λ f. f
     alone none SeveralFit = none SeveralFit
 
 module _ (scope : Scope) (related : Option Zone) where

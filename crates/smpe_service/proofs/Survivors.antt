@@ -12,8 +12,8 @@ use Rattle.terms.proofs.Places.{contains_at, found_at}
 use Rattle.terms.proofs.Searches.{all_pass, passes_all}
 use Rattle.terms.specs.declared.codes.Test.{Test}
 use Rattle.terms.specs.declared.codes.Test.TheVariants.{HeldBySystem, HeldByUser, ForbiddenByNpre, OwnedByAnother}
-use Rattle.terms.specs.declared.codes.Test.TheVariants.{UnrelatedLevel, NothingToUpdate, NotInTarget, ChainDeleted}
-use Rattle.terms.specs.declared.codes.Test.TheVariants.{InClash, AlreadyAccepted, HasDelete, UnappliedLevel, SeveralFit}
+use Rattle.terms.specs.declared.codes.Test.TheVariants.{Regression, NothingToUpdate, NotInTarget, ChainDeleted}
+use Rattle.terms.specs.declared.codes.Test.TheVariants.{InClash, AlreadyAccepted, HasDelete, OtherLevel, SeveralFit}
 use Rattle.terms.specs.Types.{Id}
 use Rattle.terms.specs.Lookups.{IsRising}
 use Rattle.terms.specs.Tests.{Setting, AreSurvivors, Survives, FailsAlone, Fails}
@@ -101,20 +101,20 @@ among HeldBySystem = (0, omega arith, refl)
 among HeldByUser = (1, omega arith, refl)
 among ForbiddenByNpre = (2, omega arith, refl)
 among OwnedByAnother = (3, omega arith, refl)
-among UnrelatedLevel = (4, omega arith, refl)
+among Regression = (4, omega arith, refl)
 among NothingToUpdate = (5, omega arith, refl)
 among NotInTarget = (6, omega arith, refl)
 among ChainDeleted = (7, omega arith, refl)
 among InClash = (8, omega arith, refl)
 among AlreadyAccepted = (9, omega arith, refl)
 among HasDelete = (10, omega arith, refl)
-among UnappliedLevel = (11, omega arith, refl)
+among OtherLevel = (11, omega arith, refl)
 among SeveralFit = (12, omega arith, refl)
 
 module _ (s : Setting) (rows : List (List Test)) (failed : AreFailedTests s rows) where
   -- what fails only that test survives
   surviving : (x : Id) → SurvivesIn s.cands rows (length s.cands) x → Survives s x
-  surviving x h = ((contains_at s.cands h.place x h.at, alone), λ j8. off ChainDeleted refl j8)
+  surviving x h = ((contains_at s.cands h.place x h.at, alone), λ deleted. off ChainDeleted refl deleted)
     where
       row : h.row ≡ filter (failed.fails x) all_tests
       row = same_Some h.row (filter (failed.fails x) all_tests) (sym h.row_at ∙ failed.rows_are h.place x h.at)
@@ -129,14 +129,14 @@ module _ (s : Setting) (rows : List (List Test)) (failed : AreFailedTests s rows
       alone HeldByUser = off HeldByUser refl
       alone ForbiddenByNpre = off ForbiddenByNpre refl
       alone OwnedByAnother = off OwnedByAnother refl
-      alone UnrelatedLevel = off UnrelatedLevel refl
+      alone Regression = off Regression refl
       alone NothingToUpdate = off NothingToUpdate refl
       alone NotInTarget = off NotInTarget refl
       alone ChainDeleted = λ e. e
       alone InClash = λ e. e
       alone AlreadyAccepted = λ e. e
       alone HasDelete = λ e. e
-      alone UnappliedLevel = λ e. e
+      alone OtherLevel = λ e. e
       alone SeveralFit = off SeveralFit refl
 
   -- a survivor fails only that test
@@ -157,14 +157,14 @@ module _ (s : Setting) (rows : List (List Test)) (failed : AreFailedTests s rows
       only HeldByUser f = absurd (h.0.1 HeldByUser f)
       only ForbiddenByNpre f = absurd (h.0.1 ForbiddenByNpre f)
       only OwnedByAnother f = absurd (h.0.1 OwnedByAnother f)
-      only UnrelatedLevel f = absurd (h.0.1 UnrelatedLevel f)
+      only Regression f = absurd (h.0.1 Regression f)
       only NothingToUpdate f = absurd (h.0.1 NothingToUpdate f)
       only NotInTarget f = absurd (h.0.1 NotInTarget f)
       only ChainDeleted f = absurd (h.1 f)
       only InClash f = refl
       only AlreadyAccepted f = absurd f
       only HasDelete f = absurd f
-      only UnappliedLevel f = absurd f
+      only OtherLevel f = absurd f
       only SeveralFit f = absurd (h.0.1 SeveralFit f)
 
   pub survivors_are : (xs : List Id) → IsRising xs

@@ -7,7 +7,7 @@ use Rattle.std.specs.Str.{bytes_eq}
 use Rattle.indexmap.specs.IndexMap.{get}
 use Rattle.terms.proofs.TextOrder.{same_from, same_itself}
 use Rattle.terms.specs.Types.{Text, Zone, ListZone, Report}
-use Rattle.machine.specs.Outcome.{Refusal, Line, Ran, BoundaryLacking, BoundaryUnfit, header_of, list_global, list_zone}
+use Rattle.machine.specs.Outcome.{Refusal, Line, Ran, NoBoundary, WrongKind, header_of, list_global, list_zone}
 use Rattle.machine.specs.State.{State, global_name, zone_named, misplaced}
 use Rattle.machine.specs.Errsysmods.{AreErrsysmods}
 use Rattle.machine.specs.Machine.{Files, Performs, listed}
@@ -19,12 +19,12 @@ use Rattle.smpe_session.proofs.Places.{none_global}
 
 -- why LIST or REPORT can't run at a boundary, whose zone is this one
 abbrev list_refusal : Option Text → Option Zone → Option Refusal
-list_refusal boundary zone = if not (is_some boundary) then Some BoundaryLacking
-    else if option_map_or (bytes_eq global_name) boundary false || is_some zone then None else Some BoundaryUnfit
+list_refusal boundary zone = if not (is_some boundary) then Some NoBoundary
+    else if option_map_or (bytes_eq global_name) boundary false || is_some zone then None else Some WrongKind
 
 abbrev report_refusal : Option Text → Option Zone → Option Refusal
-report_refusal boundary zone = if not (is_some boundary) then Some BoundaryLacking else if is_some zone then None
-    else Some BoundaryUnfit
+report_refusal boundary zone = if not (is_some boundary) then Some NoBoundary else if is_some zone then None
+    else Some WrongKind
 
 -- what LIST prints there
 abbrev lines_at : State → Bool → Option Text → Option Zone → List Line
@@ -56,7 +56,7 @@ module _ (s : State) (text : Bool) where
       → listed s text ≡ lines_at s text boundary (option_and_then (zone_named s.zones) boundary)
   listed_at boundary at = listed_here ∙ ap (λ b. lines_at s text b (option_and_then (zone_named s.zones) b)) at
 
-  pub list_nowhere : s.boundary ≡ None → misplaced s (ListZone text) ≡ Some BoundaryLacking
+  pub list_nowhere : s.boundary ≡ None → misplaced s (ListZone text) ≡ Some NoBoundary
   list_nowhere at = list_at None at
 
   module _ (date : Text) (files : Files) where
@@ -70,7 +70,7 @@ module _ (s : State) (text : Bool) where
         let at = named ∙ ap Some is in
         lists (list_global s.global)
         (list_at (Some global_name) at ∙ ap (λ b. if b || is_some (zone_named s.zones global_name) then None
-        else Some BoundaryUnfit) (same_itself global_name))
+        else Some WrongKind) (same_itself global_name))
         (listed_at (Some global_name) at ∙ ap (λ b. if b then list_global s.global
         else option_map_or (list_zone text) (zone_named s.zones global_name) []) (same_itself global_name))
 
@@ -84,8 +84,8 @@ module _ (s : State) (text : Bool) where
         by true same = absurd (other (sym (same_from global_name name same)))
         by false differs = lists (list_zone text zone)
             (list_at (Some name) at
-            ∙ ap (λ b. if b || is_some (zone_named s.zones name) then None else Some BoundaryUnfit) differs
-            ∙ ap (λ z. if is_some z then None else Some BoundaryUnfit) there)
+            ∙ ap (λ b. if b || is_some (zone_named s.zones name) then None else Some WrongKind) differs
+            ∙ ap (λ z. if is_some z then None else Some WrongKind) there)
             (listed_at (Some name) at
             ∙ ap (λ b. if b then list_global s.global else option_map_or (list_zone text) (zone_named s.zones name) [])
             differs
@@ -100,20 +100,20 @@ module _ (s : State) where
       → misplaced s Report ≡ report_refusal boundary (option_and_then (zone_named s.zones) boundary)
   report_at boundary at = report_misplaced ∙ ap (λ b. report_refusal b (option_and_then (zone_named s.zones) b)) at
 
-  pub report_nowhere : s.boundary ≡ None → misplaced s Report ≡ Some BoundaryLacking
+  pub report_nowhere : s.boundary ≡ None → misplaced s Report ≡ Some NoBoundary
   report_nowhere at = report_at None at
 
   pub report_global : (name : Text) → IsInventory (kept s) → s.boundary ≡ Some name → name ≡ global_name
-      → misplaced s Report ≡ Some BoundaryUnfit
+      → misplaced s Report ≡ Some WrongKind
   report_global name inventory at is = report_at (Some name) at ∙ ap (λ z. if is_some z then None
-      else Some BoundaryUnfit)
+      else Some WrongKind)
       (ap (zone_named s.zones) is ∙ none_global s.zones inventory.zones)
 
   pub report_zone : (date : Text) (files : Files) (name : Text) (zone : Zone) (lines : List Line)
       → s.boundary ≡ Some name → zone_named s.zones name ≡ Some zone → AreErrsysmods s.global zone lines
       → Performs date files s Report s (Ran (header_of Report s.boundary) lines)
   report_zone date files name zone lines at there are = inr (
-    report_at (Some name) at ∙ ap (λ z. if is_some z then None else Some BoundaryUnfit) there,
+    report_at (Some name) at ∙ ap (λ z. if is_some z then None else Some WrongKind) there,
     (
       refl,
       record {

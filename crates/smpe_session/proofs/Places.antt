@@ -11,7 +11,7 @@ use Rattle.terms.specs.Types.{Text, zone_number, Zone, NamedZone, Id, ReceiveWha
 use Rattle.terms.specs.Types.{Restore, RestoreList}
 use Rattle.terms.proofs.TextOrder.{same_from, same_itself}
 use Rattle.terms.proofs.Searches.{All_find, find_gives}
-use Rattle.machine.specs.Outcome.{Refusal, BoundaryLacking, BoundaryUnfit}
+use Rattle.machine.specs.Outcome.{Refusal, NoBoundary, WrongKind}
 use Rattle.store_schema.specs.Inventory.{IsInventory, IsZoneNamed}
 use Rattle.machine.specs.State.{State, global_name, zone_named, at_global, at_kind, unless_at, misplaced}
 use Rattle.smpe_zones.specs.Kept.{kept}
@@ -21,9 +21,9 @@ use Rattle.smpe_session.specs.Places.{install_command}
 
 -- whether the boundary is the global zone
 abbrev refusal_at : Option Text → Option Refusal
-refusal_at boundary = if not (is_some boundary) then Some BoundaryLacking
+refusal_at boundary = if not (is_some boundary) then Some NoBoundary
     else if option_map_or (bytes_eq global_name) boundary
-    false then None else Some BoundaryUnfit
+    false then None else Some WrongKind
 
 pub receive_at : (s : State) (what : ReceiveWhat) → unless_at (at_global s) s ≡ misplaced s (Receive what)
 unfolding misplaced
@@ -36,27 +36,27 @@ reject_at s ids = refl
 by_boundary : (s : State) → unless_at (at_global s) s ≡ refusal_at s.boundary
 by_boundary s = refl
 
-pub at_nowhere : (s : State) → s.boundary ≡ None → Some BoundaryLacking ≡ unless_at (at_global s) s
+pub at_nowhere : (s : State) → s.boundary ≡ None → Some NoBoundary ≡ unless_at (at_global s) s
 at_nowhere s at = sym (by_boundary s ∙ ap refusal_at at)
 
 pub at_global_holds : (s : State) (name : Text) → s.boundary ≡ Some name → name ≡ global_name
     → None ≡ unless_at (at_global s) s
 at_global_holds s name at is =
-    sym (by_boundary s ∙ ap refusal_at (at ∙ ap Some is) ∙ ap (λ b. if b then None else Some BoundaryUnfit)
+    sym (by_boundary s ∙ ap refusal_at (at ∙ ap Some is) ∙ ap (λ b. if b then None else Some WrongKind)
     (same_itself global_name))
 
 pub at_elsewhere : (s : State) (name : Text) → s.boundary ≡ Some name → name ≢ global_name
-    → Some BoundaryUnfit ≡ unless_at (at_global s) s
+    → Some WrongKind ≡ unless_at (at_global s) s
 at_elsewhere s name at other = sym (by_boundary s ∙ ap refusal_at at ∙ by (bytes_eq global_name name) refl)
   where
-    by : (b : Bool) → bytes_eq global_name name ≡ b → (if b then None else Some BoundaryUnfit) ≡ Some BoundaryUnfit
+    by : (b : Bool) → bytes_eq global_name name ≡ b → (if b then None else Some WrongKind) ≡ Some WrongKind
     by true same = absurd (other (sym (same_from global_name name same)))
     by false differs = refl
 
 -- whether it names a zone of this kind
 abbrev refusal_of_kind : ZoneKind → Option Text → Option Zone → Option Refusal
-refusal_of_kind kind boundary zone = if not (is_some boundary) then Some BoundaryLacking else if option_map_or
-    (λ z. zone_number z.kind == zone_number kind) zone false then None else Some BoundaryUnfit
+refusal_of_kind kind boundary zone = if not (is_some boundary) then Some NoBoundary else if option_map_or
+    (λ z. zone_number z.kind == zone_number kind) zone false then None else Some WrongKind
 
 pub install_at : (s : State) (kind : ZoneKind) (i : Install) → misplaced s (install_command kind i)
     ≡ unless_at (at_kind kind s) s
@@ -74,7 +74,7 @@ by_kind : (s : State) (kind : ZoneKind) → unless_at (at_kind kind s) s ≡ ref
 by_kind s kind = refl
 
 pub kind_nowhere : (s : State) (kind : ZoneKind) → s.boundary ≡ None → unless_at (at_kind kind s) s
-    ≡ Some BoundaryLacking
+    ≡ Some NoBoundary
 kind_nowhere s kind at = by_kind s kind
     ∙ ap (λ b. refusal_of_kind kind b (option_and_then (zone_named s.zones) b)) at
 
@@ -97,13 +97,13 @@ other_kind Distribution Distribution other = absurd (other refl)
 pub kind_fits : (s : State) (kind : ZoneKind) (name : Text) (zone : Zone) → s.boundary ≡ Some name
     → zone_named s.zones name ≡ Some zone → zone.kind ≡ kind → unless_at (at_kind kind s) s ≡ None
 kind_fits s kind name zone at there is = at_zone s kind name (Some zone) at there
-    ∙ ap (λ k. if zone_number k == zone_number kind then None else Some BoundaryUnfit) is
-    ∙ ap (λ b. if b then None else Some BoundaryUnfit) (same_kind kind)
+    ∙ ap (λ k. if zone_number k == zone_number kind then None else Some WrongKind) is
+    ∙ ap (λ b. if b then None else Some WrongKind) (same_kind kind)
 
 pub kind_other : (s : State) (kind : ZoneKind) (name : Text) (zone : Zone) → s.boundary ≡ Some name
-    → zone_named s.zones name ≡ Some zone → zone.kind ≢ kind → unless_at (at_kind kind s) s ≡ Some BoundaryUnfit
+    → zone_named s.zones name ≡ Some zone → zone.kind ≢ kind → unless_at (at_kind kind s) s ≡ Some WrongKind
 kind_other s kind name zone at there other = at_zone s kind name (Some zone) at there
-    ∙ ap (λ b. if b then None else Some BoundaryUnfit) (other_kind zone.kind kind other)
+    ∙ ap (λ b. if b then None else Some WrongKind) (other_kind zone.kind kind other)
 
 -- no zone of an inventory has the global zone's name
 pub none_global : (zones : List NamedZone) → All IsZoneNamed zones → zone_named zones global_name ≡ None
@@ -118,7 +118,7 @@ none_global zones all = by (find (λ z. bytes_eq z.name global_name) zones) refl
 -- a boundary that is no zone of the session is the global zone
 pub kind_global : (s : State) (at : Session) (kind : ZoneKind) (name : Text) → IsSessionOf s at
     → IsInventory (kept s) → s.boundary ≡ Some name → get bytes_eq at.zones name ≡ None
-    → unless_at (at_kind kind s) s ≡ Some BoundaryUnfit
+    → unless_at (at_kind kind s) s ≡ Some WrongKind
 kind_global s at kind name is inventory named none = at_zone s kind name None named
     (elim (is.current name named) [
       | inl same ↦ ap (zone_named s.zones) same ∙ none_global s.zones inventory.zones

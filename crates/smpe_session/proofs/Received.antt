@@ -11,7 +11,7 @@ use Rattle.terms.proofs.Each.{recursion_weaker}
 use Rattle.store_schema.specs.Inventory.{IsInventory}
 use Rattle.machine.specs.Runs.{Runs}
 use Rattle.machine.specs.Receiving.{TakesItem, TakesHoldItem}
-use Rattle.machine.specs.Outcome.{Header, Line, PtfinFaulty, HoldFileFaulty, Ran, Refused, or_nothing, header_of}
+use Rattle.machine.specs.Outcome.{Header, Line, BadPtfin, BadHoldFile, Ran, Refused, or_nothing, header_of}
 use Rattle.machine.specs.State.{State, global_name, misplaced}
 use Rattle.machine.specs.Machine.{Files, HasItems, Performs, Takes, TakesAll, TakesNone, TakesNoHold}
 use Rattle.report.specs.declared.outcome.Refusal.{Refusal}
@@ -108,7 +108,7 @@ take_faulty date files what s boundary why same at takes = headed date files (Re
 module _ (files : Files) (what : ReceiveWhat) (why : Refusal) (sysmods : Bool) (ptfin : List ℕ)
     (same_sysmods : what.sysmods ≡ sysmods) (same_ptfin : files.ptfin ≡ ptfin) where
   pub ptfin_faulty : IsTrue sysmods × ((fault : McsFault) × IsPtfinFault ptfin fault
-      × (refusal_view why ≡ PtfinFaulty fault.number fault.code))
+      × (refusal_view why ≡ BadPtfin fault.number fault.code))
       → (s : State) → Takes files s what s (Refused (header_of (Receive what) s.boundary) (refusal_view why))
   ptfin_faulty (reads, (fault, is, code)) s =
       subst (λ r. Takes files s what s (Refused (header_of (Receive what) s.boundary) r)) (sym code)
@@ -117,7 +117,7 @@ module _ (files : Files) (what : ReceiveWhat) (why : Refusal) (sysmods : Bool) (
   pub hold_file_faulty : (items : List Item) (holddata : Bool) (holds : List ℕ) → what.holddata ≡ holddata
       → files.holds ≡ holds → HasItems IsPtfin sysmods ptfin items
       → IsTrue holddata × ((fault : McsFault) × IsHoldFileFault holds fault
-      × (refusal_view why ≡ HoldFileFaulty fault.number fault.code))
+      × (refusal_view why ≡ BadHoldFile fault.number fault.code))
       → (s : State) → Takes files s what s (Refused (header_of (Receive what) s.boundary) (refusal_view why))
   hold_file_faulty items holddata holds same_holddata same_holds has (reads, (fault, is, code)) s =
       subst (λ r. Takes files s what s (Refused (header_of (Receive what) s.boundary) r)) (sym code)

@@ -7,7 +7,7 @@ use Rattle.std.proofs.lemmas.Bool.{or_right}
 use Rattle.indexmap.specs.IndexMap.{get, Updates}
 use Rattle.terms.specs.Types.{Text, Zone, Set}
 use Rattle.terms.proofs.TextOrder.{same_from}
-use Rattle.machine.specs.Outcome.{Line, ZoneLacking, Refused, Ran, header_of}
+use Rattle.machine.specs.Outcome.{Line, NoZone, Refused, Ran, header_of}
 use Rattle.machine.specs.State.{State, global_name, zone_named, misplaced}
 use Rattle.machine.specs.Machine.{Files, Performs}
 use Rattle.smpe_session.specs.declared.session.Session.{Session}
@@ -63,12 +63,12 @@ sought_loaded s at new name zone is there global boundary updates = record {
 -- SET of no zone
 pub set_refused : (s : State) (at : Session) (name date : Text) (files : Files) (answer : Bool)
     → IsSought s at name answer → answer ≡ false
-    → Performs date files s (Set name) s (Refused (header_of (Set name) s.boundary) ZoneLacking)
+    → Performs date files s (Set name) s (Refused (header_of (Set name) s.boundary) NoZone)
 unfolding misplaced
 set_refused s at name date files true is none = absurd (cc none)
 set_refused s at name date files false is none = inl (
-  ZoneLacking,
-  ap (λ b. cond b None (Some ZoneLacking))
+  NoZone,
+  ap (λ b. cond b None (Some NoZone))
       (sym is.found),
   refl,
   refl,
@@ -80,7 +80,7 @@ pub set_ran : (s : State) (at : Session) (name date : Text) (files : Files) (lin
     → Performs date files s (Set name) (record s { boundary = Some name }) (Ran (header_of (Set name) s.boundary) lines)
 unfolding misplaced
 set_ran s at name date files lines true is some none = inr (
-  ap (λ b. cond b None (Some ZoneLacking)) (sym is.found),
+  ap (λ b. cond b None (Some NoZone)) (sym is.found),
   (refl, ap (λ ls. Ran (header_of (Set name) s.boundary) ls) none),
 )
 set_ran s at name date files lines false is some none = absurd (cc some)

@@ -2,7 +2,7 @@
 ghost use Rattle.std.specs.Prelude.{IfOk};
 ghost use Rattle.terms.specs.Ptfin.{IsPtfin, IsPtfinFault};
 ghost use Rattle.terms.specs.HoldFile.{IsHoldFile, IsHoldFileFault};
-ghost use Rattle.machine.specs.Outcome.{PtfinFaulty, HoldFileFaulty};
+ghost use Rattle.machine.specs.Outcome.{BadPtfin, BadHoldFile};
 ghost use Rattle.mcs.specs.Files.{items};
 ghost use Rattle.mcs.specs.HoldItems.{items as hold_items};
 ghost use Rattle.smpe_session.specs.Received.{HasRead, HasFound};
@@ -26,14 +26,14 @@ fn read_items(
     reads: bool,
     ptfin: &[u8],
 ) -> Result<Result<Vec<Item>, Refusal>, AllocError>
-    ensures { IfOk result (HasRead IsPtfin IsPtfinFault PtfinFaulty reads ptfin.now (λ v. items v.items)) }
+    ensures { IfOk result (HasRead IsPtfin IsPtfinFault BadPtfin reads ptfin.now (λ v. items v.items)) }
 {
     if !reads {
         return Ok(Ok(Vec::new(alloc)));
     }
     match read_ptfin(alloc, ptfin) {
         Ok(found) => Ok(Ok(found)),
-        Err(McsError::Fault { number, code }) => Ok(Err(Refusal::Ptfin { number, code })),
+        Err(McsError::Fault { number, code }) => Ok(Err(Refusal::BadPtfin { number, code })),
         Err(McsError::Memory) => Err(AllocError),
     }
 }
@@ -44,7 +44,7 @@ fn read_holds(
     reads: bool,
     holds: &[u8],
 ) -> Result<Result<Vec<HoldItem>, Refusal>, AllocError>
-    ensures { IfOk result (HasRead IsHoldFile IsHoldFileFault HoldFileFaulty reads holds.now
+    ensures { IfOk result (HasRead IsHoldFile IsHoldFileFault BadHoldFile reads holds.now
         (λ v. hold_items v.items)) }
 {
     if !reads {
@@ -52,7 +52,7 @@ fn read_holds(
     }
     match read_hold(alloc, holds) {
         Ok(found) => Ok(Ok(found)),
-        Err(McsError::Fault { number, code }) => Ok(Err(Refusal::HoldFile { number, code })),
+        Err(McsError::Fault { number, code }) => Ok(Err(Refusal::BadHoldFile { number, code })),
         Err(McsError::Memory) => Err(AllocError),
     }
 }

@@ -11,8 +11,8 @@ use Rattle.terms.proofs.TextOrder.{same_itself}
 use Rattle.terms.specs.declared.kinds.ZoneKind.TheVariants.{Target}
 use Rattle.terms.specs.declared.codes.Test.{Test}
 use Rattle.terms.specs.declared.codes.Test.TheVariants.{HeldBySystem, HeldByUser, ForbiddenByNpre, OwnedByAnother}
-use Rattle.terms.specs.declared.codes.Test.TheVariants.{UnrelatedLevel, NothingToUpdate, NotInTarget, ChainDeleted}
-use Rattle.terms.specs.declared.codes.Test.TheVariants.{InClash, AlreadyAccepted, HasDelete, UnappliedLevel, SeveralFit}
+use Rattle.terms.specs.declared.codes.Test.TheVariants.{Regression, NothingToUpdate, NotInTarget, ChainDeleted}
+use Rattle.terms.specs.declared.codes.Test.TheVariants.{InClash, AlreadyAccepted, HasDelete, OtherLevel, SeveralFit}
 use Rattle.terms.specs.declared.not_chosen.NotChosen.{NotChosen}
 use Rattle.terms.specs.Types.{Text, Id, Hold, Global, Zone}
 use Rattle.terms.specs.Lookups.{IsRising, is_nil, is_in}
@@ -126,7 +126,7 @@ module _ (g : Global) (zone : Zone) (x : Id) (facts : List Fact) (target : zone.
   ]
   no_failure OwnedByAnother (e, (type, name, has, there), apart) = apart
       (changed g zone x facts are clear type name e has there).0
-  no_failure UnrelatedLevel (strict, (e, z, (type, name, has, there), within, below)) =
+  no_failure Regression (strict, (e, z, (type, name, has, there), within, below)) =
       below ((changed g zone x facts are clear type name e has there).1 z within)
   no_failure NothingToUpdate
       (type, name, has, absent, base) = updates_there g zone x facts are clear type name has absent
@@ -135,7 +135,7 @@ module _ (g : Global) (zone : Zone) (x : Id) (facts : List Fact) (target : zone.
   no_failure InClash fails = fails
   no_failure AlreadyAccepted fails = fails
   no_failure HasDelete fails = fails
-  no_failure UnappliedLevel fails = fails
+  no_failure OtherLevel fails = fails
   no_failure SeveralFit fails = let one = one_fits g zone x facts are clear in absurd (omega (arith, one, fails))
 
   passes : PassesAlone s x

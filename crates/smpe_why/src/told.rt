@@ -1,6 +1,6 @@
 //! What is told of ids in a zone that was found.
 ghost use Rattle.std.specs.Prelude.{◌≡◌, Some, IfOk};
-ghost use Rattle.machine.specs.Outcome.{ZoneLacking};
+ghost use Rattle.machine.specs.Outcome.{NoZone};
 ghost use Rattle.machine.specs.Report.{refused_text};
 ghost use Rattle.smpe_why.specs.Telling.{IsTold};
 
@@ -39,7 +39,7 @@ fn told_in(alloc: Global, global: &GlobalZone, zone: &Zone, ids: &[Id]) -> Resul
 
 // There is no zone of the name, as SET tells it.
 fn unknown(alloc: Global) -> Result<Told, AllocError>
-    ensures { IfOk result (λ told. (told.text.items ≡ refused_text ZoneLacking) × (told.status ≡ 12)) }
+    ensures { IfOk result (λ told. (told.text.items ≡ refused_text NoZone) × (told.status ≡ 12)) }
 {
     let mut text = Vec::new(alloc);
     text.extend_from_slice(b"REFUSED Cm2\n")?;

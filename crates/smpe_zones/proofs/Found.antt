@@ -5,8 +5,7 @@ use Rattle.std.specs.Prelude.{is_some, nat_le, if◌then◌else◌, Result, Ok, 
 use Rattle.std.specs.Str.{bytes_eq}
 use Rattle.terms.specs.Types.{a_zone}
 use Rattle.machine.specs.State as state
-use Rattle.machine.specs.State.{State, ZoneDefinition, define_zone, with_zone, global_name, zone_named, Zn1, Zn2, Zn3}
-use Rattle.machine.specs.State.{Zn4}
+use Rattle.machine.specs.State.{State, ZoneDefinition, define_zone, with_zone, global_name, zone_named}
 use Rattle.store_zones.specs.Found.{head_of}
 use Rattle.smpe_zones.specs.declared.error.ZoneFault.{ZoneFault}
 use Rattle.smpe_zones.specs.declared.error.ZoneFault.TheVariants.{NameTaken, WrongRelated, OtherSrel, TooMany}
@@ -24,7 +23,8 @@ first_of a b c e = if a then Some NameTaken else if not b then Some WrongRelated
     if e then Some TooMany else None
 
 told_so : (a b c e : Bool) (new : State)
-    → (if a then Err Zn1 else if not b then Err Zn2 else if not c then Err Zn3 else if e then Err Zn4 else Ok new)
+    → (if a then Err state.NameTaken else if not b then Err state.WrongRelated else if not c then Err state.OtherSrel
+    else if e then Err state.TooMany else Ok new)
     ≡ answer new (first_of a b c e)
 told_so true b c e new = refl
 told_so false false c e new = refl

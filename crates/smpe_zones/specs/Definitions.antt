@@ -22,10 +22,10 @@ abbrev pub definition : Text → ZoneKind → Text → Option Text → ZoneDefin
 definition name kind srel related = record { name = name; kind = kind; srel = srel; related = related }
 
 abbrev pub fault_of : ZoneFault → state.ZoneFault
-fault_of NameTaken = state.Zn1
-fault_of WrongRelated = state.Zn2
-fault_of OtherSrel = state.Zn3
-fault_of TooMany = state.Zn4
+fault_of NameTaken = state.NameTaken
+fault_of WrongRelated = state.WrongRelated
+fault_of OtherSrel = state.OtherSrel
+fault_of TooMany = state.TooMany
 
 -- The call began at `old`. The zone is defined, or refused for the first fault, or the call failed.
 module _ {S : Type 0} (g : Ghosts S) (old at : Held S) (s : State) (d : ZoneDefinition) where
@@ -42,7 +42,8 @@ is_refused (Err (Refused why)) = true
 is_refused _ = false
 
 -- What a definition has done, whatever the tables are. A refused one has left all as it was.
-pub record HasCourse {S U : Type 0} (g : Ghosts S) (old new : Held S) (d : ZoneDefinition) (result : Result U ZoneError) :
+pub record HasCourse {S U : Type 0} (g : Ghosts S) (old new : Held S) (d : ZoneDefinition)
+    (result : Result U ZoneError) :
     Type 0 where
   pub once : GoesOnce g old new (IsOwn (Define d)) (Store store.NoState) (Store store.OtherSchema) result
   pub refused : IsTrue (is_refused result) → OnlyLoads g old new

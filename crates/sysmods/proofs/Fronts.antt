@@ -17,7 +17,7 @@ use Rattle.terms.specs.Types.{Text, Id, Hold, Sysmod, Global, a_global, is_funct
 use Rattle.terms.specs.Rising.{Rises, Splits, with_item}
 use Rattle.terms.specs.Lookups.{is_function}
 use Rattle.terms.specs.Global.{named, names_for, HasLoop, is_service, fits_roles, RolesFit, hold_cmp, hold, IsSysmod}
-use Rattle.terms.specs.Global.{IsGlobal, HasFault, ReceiveFault, AlreadyReceived, MakesLoop, OtherRole, NoRoom}
+use Rattle.terms.specs.Global.{IsGlobal, HasFault, ReceiveFault, AlreadyReceived, MakesLoop, WrongRole, NoRoom}
 use Rattle.terms.specs.Global.{with_sysmod}
 use Rattle.terms.proofs.Leads.{reaches_more}
 use Rattle.terms.proofs.GlobalKept.{IsOwned}
@@ -149,7 +149,7 @@ module _ (xs : List Sysmod) (s : Sysmod) where
     pub none_refused : IsGlobal (zone_of (xs ++ s ∷ [])) → (f : ReceiveFault) → ¬ HasFault (zone_of xs) s f
     none_refused g AlreadyReceived fault = true≢false (sym fault ∙ ap is_some (new_last low))
     none_refused g MakesLoop fault = g.no_loop (subst HasLoop zone_last fault)
-    none_refused g OtherRole fault = fault (subst RolesFit (sym zone_last) g.roles)
+    none_refused g WrongRole fault = fault (subst RolesFit (sym zone_last) g.roles)
     none_refused g NoRoom fault = omega (arith, fault, g.size, length-append xs (s ∷ []))
 
     -- Where it is not, it makes one.
@@ -180,7 +180,7 @@ module _ (g : Global) (s : Sysmod) where
   some_fault None none some = absurd (true≢false (sym some))
   some_fault (Some code.AlreadyReceived) fault some = (AlreadyReceived, fault)
   some_fault (Some code.MakesLoop) (first, fault) some = (MakesLoop, fault)
-  some_fault (Some code.OtherRole) (first, second, fault) some = (OtherRole, fault)
+  some_fault (Some code.WrongRole) (first, second, fault) some = (WrongRole, fault)
   some_fault (Some code.NoRoom) (first, second, third, fault) some = (NoRoom, fault)
 
   pub no_fault_holds : (o : Option Code) → IsRefusal g s o → is_some o ≡ false → (f : ReceiveFault) → ¬ HasFault g s f

@@ -8,7 +8,7 @@ use Rattle.terms.specs.Types.{Hold, Sysmod, Global, a_global}
 use Rattle.terms.specs.Rising.{with_item}
 use Rattle.terms.specs.Lookups.{is_received}
 use Rattle.terms.specs.Global.{IsGlobal, IsSysmod, HasFault, RefusedBy, ReceiveFault, AlreadyReceived, MakesLoop}
-use Rattle.terms.specs.Global.{OtherRole, NoRoom, with_sysmod}
+use Rattle.terms.specs.Global.{WrongRole, NoRoom, with_sysmod}
 use Rattle.terms.specs.Global.{received, fits_roles, RolesFit}
 use Rattle.terms.proofs.GlobalKept.{received_kept}
 use Rattle.sysmods.specs.Lists.{with_holds}
@@ -33,13 +33,13 @@ module _ (xs : List Sysmod) (hs : List Hold) (s : Sysmod) where
       → ¬ HasFault (a_global xs hs) s f
   no_fault none AlreadyReceived = none AlreadyReceived
   no_fault none MakesLoop = none MakesLoop
-  no_fault none OtherRole = none OtherRole
+  no_fault none WrongRole = none WrongRole
   no_fault none NoRoom = none NoRoom
 
   same_fault : (f : Code) → RefusedBy (zone_of xs) s (fault_of f) → RefusedBy (a_global xs hs) s (fault_of f)
   same_fault code.AlreadyReceived by = by
   same_fault code.MakesLoop by = by
-  same_fault code.OtherRole by = by
+  same_fault code.WrongRole by = by
   same_fault code.NoRoom by = by
 
   pub same_refusal : (fault : Option Code) → IsRefusal (zone_of xs) s fault → IsRefusal (a_global xs hs) s fault
@@ -63,7 +63,7 @@ taken g s xs hs xs_is hs_is = ap₂ a_global xs_is hs_is ∙ sym (folded s.holds
 pub kept : (g : Global) (s : Sysmod) → IsGlobal g → IsSysmod s → ((f : ReceiveFault) → ¬ HasFault g s f)
     → IsGlobal (received g s)
 kept g s k formed none = received_kept g s (new (is_received g s.id) refl) k formed (none MakesLoop)
-    (roles_stable (with_sysmod g s) (none OtherRole)) room
+    (roles_stable (with_sysmod g s) (none WrongRole)) room
   where
     new : (b : Bool) → is_received g s.id ≡ b → is_received g s.id ≡ false
     new true e = absurd (none AlreadyReceived e)

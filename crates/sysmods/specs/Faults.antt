@@ -2,7 +2,8 @@
 use Rattle.std.specs.Prelude.{◌≡◌, Option, None, Some, Ok, Err}
 use Rattle.terms.specs.declared.kinds.HoldKind.{HoldKind}
 use Rattle.terms.specs.Types.{Text, Id, Release, Sysmod, Global}
-use Rattle.terms.specs.Global.{Receives, ReleaseFault, NoSuchHold, CameAlong}
+use Rattle.terms.specs.Global as rule
+use Rattle.terms.specs.Global.{Receives, ReleaseFault}
 use Rattle.sysmods.specs.declared.faults.ReceiveFault.{ReceiveFault}
 use Rattle.sysmods.specs.Refused.{fault_of}
 use Rattle.sysmods.specs.declared.holds.ReleaseError.{ReleaseError}
@@ -17,5 +18,5 @@ abbrev pub a_release : Id → HoldKind → Text → Id → Release
 a_release x kind reason fmid = record { id = x; kind = kind; reason = reason; fmid = fmid }
 
 abbrev pub release_fault : ReleaseError → ReleaseFault
-release_fault NoHold = NoSuchHold
-release_fault Internal = CameAlong
+release_fault NoHold = rule.NoHold
+release_fault Internal = rule.Internal

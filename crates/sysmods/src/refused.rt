@@ -33,7 +33,7 @@ pub fn refusal(
         return Ok(Some(ReceiveFault::MakesLoop));
     }
     if !roles_fit(received, sysmod) {
-        return Ok(Some(ReceiveFault::OtherRole));
+        return Ok(Some(ReceiveFault::WrongRole));
     }
     if received.len() >= MOST {
         return Ok(Some(ReceiveFault::NoRoom));

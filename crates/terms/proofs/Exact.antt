@@ -7,8 +7,8 @@ use Rattle.std.proofs.lemmas.List.Concat.{flat_map-append}
 use Rattle.terms.specs.Types.{Text}
 use Rattle.terms.specs.Records.{front}
 use Rattle.terms.specs.Statement.{Piece, HasPieces, solid, joined, followed, Ends, IsIdle, IsStatement, StFault}
-use Rattle.terms.specs.Statement.{Unended}
-use Rattle.terms.specs.Statement.{CommentOpen, ParensUnpaired, MoreBehind, BreaksOff, IsStFault, OpensComment}
+use Rattle.terms.specs.Statement.{NoPeriod}
+use Rattle.terms.specs.Statement.{OpenComment, BadParens, TextAfterPeriod, BreaksOff, IsStFault, OpensComment}
 use Rattle.terms.specs.Statement.{BreaksPairs}
 use Rattle.terms.proofs.Pieces.{IsStop, stop_nil, stop_period, stop_comment, stop_pairs, pieces_only}
 
@@ -98,19 +98,19 @@ pairs_no_period rest after o e =
 -- What breaks off does not end well.
 pub breaks_not_ends : (records : List (List ℕ)) (qs ps : List Piece) (why : StFault) (tail : Text)
     (inline : List (List ℕ)) → BreaksOff records qs why → Ends records ps tail inline → IsIdle tail → ⊥
-breaks_not_ends records qs ps Unended tail inline b e idle =
+breaks_not_ends records qs ps NoPeriod tail inline b e idle =
     let same = pieces_only (joined records) qs ps [] (46 ∷ tail ++ followed inline) b stop_nil e.has_pieces
     (stop_period (tail ++ followed inline)) in
     cc (same.1)
-breaks_not_ends records qs ps CommentOpen tail inline b e idle =
+breaks_not_ends records qs ps OpenComment tail inline b e idle =
     let same = pieces_only (joined records) qs ps b.0 (46 ∷ tail ++ followed inline) b.1 (stop_comment b.0 b.2)
     e.has_pieces (stop_period (tail ++ followed inline)) in
     no_period b.0 (tail ++ followed inline) b.2 same.1
-breaks_not_ends records qs ps ParensUnpaired tail inline b e idle =
+breaks_not_ends records qs ps BadParens tail inline b e idle =
     let same = pieces_only (joined records) qs ps b.0 (46 ∷ tail ++ followed inline) b.1 (stop_pairs b.0 b.2)
     e.has_pieces (stop_period (tail ++ followed inline)) in
     pairs_no_period b.0 (tail ++ followed inline) b.2 same.1
-breaks_not_ends records qs ps MoreBehind tail inline b e idle =
+breaks_not_ends records qs ps TextAfterPeriod tail inline b e idle =
     let same = ends_only records qs ps b.0 tail b.1 inline b.2 e in
     b.3 (subst IsIdle (sym same.1) idle)
 
@@ -121,8 +121,8 @@ fault_no_statement records why pieces inline f s = breaks_not_ends records f.0 s
 
 -- the fault that shows where pieces stop
 abbrev fault_at : Text → StFault
-fault_at [] = Unended
-fault_at (b ∷ bs) = if b == 47 then CommentOpen else if b == 46 then MoreBehind else ParensUnpaired
+fault_at [] = NoPeriod
+fault_at (b ∷ bs) = if b == 47 then OpenComment else if b == 46 then TextAfterPeriod else BadParens
 
 -- where the pieces stop, and what stands there
 record Stops (records : List (List ℕ)) (ps : List Piece) (why : StFault) : Type 0 where
@@ -131,24 +131,24 @@ record Stops (records : List (List ℕ)) (ps : List Piece) (why : StFault) : Typ
   stop : IsStop rest
   why_is : fault_at rest ≡ why
 
-pairs_fault : (rest : Text) → BreaksPairs rest → fault_at rest ≡ ParensUnpaired
+pairs_fault : (rest : Text) → BreaksPairs rest → fault_at rest ≡ BadParens
 pairs_fault rest o = elim o.1 [ inl is ↦ ap fault_at is | inr is ↦ ap fault_at is.0 ]
 
 stops : (records : List (List ℕ)) (ps : List Piece) (why : StFault) → BreaksOff records ps why → Stops records ps why
-stops records ps Unended b = record { rest = []; has_pieces = b; stop = stop_nil; why_is = refl }
-stops records ps CommentOpen b = record {
+stops records ps NoPeriod b = record { rest = []; has_pieces = b; stop = stop_nil; why_is = refl }
+stops records ps OpenComment b = record {
   rest = b.0;
   has_pieces = b.1;
   stop = stop_comment b.0 b.2;
   why_is = ap fault_at b.2.1;
 }
-stops records ps ParensUnpaired b = record {
+stops records ps BadParens b = record {
   rest = b.0;
   has_pieces = b.1;
   stop = stop_pairs b.0 b.2;
   why_is = pairs_fault b.0 b.2;
 }
-stops records ps MoreBehind b = record {
+stops records ps TextAfterPeriod b = record {
   rest = 46 ∷ b.0 ++ followed b.1;
   has_pieces = b.2.has_pieces;
   stop = stop_period (b.0 ++ followed b.1);

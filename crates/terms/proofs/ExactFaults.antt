@@ -2,8 +2,9 @@
 use Rattle.std.proofs.Common.{◌≡◌, ℕ, true, false, List, [], ◌∷◌, Option, refl, sym, ◌∙◌, ap, ap₂, subst, inl, inr}
 use Rattle.std.proofs.lemmas.Bool.{true≢false}
 use Rattle.terms.specs.declared.codes.StatementCode.{StatementCode}
-use Rattle.terms.specs.declared.codes.StatementCode.TheVariants.{BadStatementForm, UnknownStatementWord, UnfitOperand}
-use Rattle.terms.specs.declared.codes.StatementCode.TheVariants.{WrongPlace, UnfitText, OverLimit}
+use Rattle.terms.specs.declared.codes.StatementCode.TheVariants.{BadStatementForm, UnknownStatementWord}
+use Rattle.terms.specs.declared.codes.StatementCode.TheVariants.{BadStatementOperand}
+use Rattle.terms.specs.declared.codes.StatementCode.TheVariants.{WrongPlace, BadText, OverLimit}
 use Rattle.terms.specs.declared.statement_words.StatementWord.{StatementWord}
 use Rattle.terms.specs.Types.{Text, Lines}
 use Rattle.terms.specs.Records.{HasRecords, rec_fault_record}
@@ -24,31 +25,31 @@ fault_codes : (current : Option Begun) (later : Lines) (w : StatementWord) (own 
     → IsFault current later w own rest inline b → a ≡ b
 fault_codes current later w own rest inline BadStatementForm b f g = absurd f
 fault_codes current later w own rest inline UnknownStatementWord b f g = absurd f
-fault_codes current later w own rest inline UnfitOperand BadStatementForm f g = absurd g
-fault_codes current later w own rest inline UnfitOperand UnknownStatementWord f g = absurd g
-fault_codes current later w own rest inline UnfitOperand UnfitOperand f g = refl
-fault_codes current later w own rest inline UnfitOperand WrongPlace f g = absurd (f.0 g.0 g.1)
-fault_codes current later w own rest inline UnfitOperand UnfitText f g = absurd (f.1 g.0 g.2)
-fault_codes current later w own rest inline UnfitOperand OverLimit f g = absurd (f.1 g.0 g.2)
+fault_codes current later w own rest inline BadStatementOperand BadStatementForm f g = absurd g
+fault_codes current later w own rest inline BadStatementOperand UnknownStatementWord f g = absurd g
+fault_codes current later w own rest inline BadStatementOperand BadStatementOperand f g = refl
+fault_codes current later w own rest inline BadStatementOperand WrongPlace f g = absurd (f.0 g.0 g.1)
+fault_codes current later w own rest inline BadStatementOperand BadText f g = absurd (f.1 g.0 g.2)
+fault_codes current later w own rest inline BadStatementOperand OverLimit f g = absurd (f.1 g.0 g.2)
 fault_codes current later w own rest inline WrongPlace BadStatementForm f g = absurd g
 fault_codes current later w own rest inline WrongPlace UnknownStatementWord f g = absurd g
-fault_codes current later w own rest inline WrongPlace UnfitOperand f g = absurd (g.0 f.0 f.1)
+fault_codes current later w own rest inline WrongPlace BadStatementOperand f g = absurd (g.0 f.0 f.1)
 fault_codes current later w own rest inline WrongPlace WrongPlace f g = refl
-fault_codes current later w own rest inline WrongPlace UnfitText f g = absurd (g.1 f.0 f.1)
+fault_codes current later w own rest inline WrongPlace BadText f g = absurd (g.1 f.0 f.1)
 fault_codes current later w own rest inline WrongPlace OverLimit f g = absurd (g.1 f.0 f.1)
-fault_codes current later w own rest inline UnfitText BadStatementForm f g = absurd g
-fault_codes current later w own rest inline UnfitText UnknownStatementWord f g = absurd g
-fault_codes current later w own rest inline UnfitText UnfitOperand f g = absurd (g.1 f.0 f.2)
-fault_codes current later w own rest inline UnfitText WrongPlace f g = absurd (f.1 g.0 g.1)
-fault_codes current later w own rest inline UnfitText UnfitText f g = refl
-fault_codes current later w own rest inline UnfitText OverLimit f g =
+fault_codes current later w own rest inline BadText BadStatementForm f g = absurd g
+fault_codes current later w own rest inline BadText UnknownStatementWord f g = absurd g
+fault_codes current later w own rest inline BadText BadStatementOperand f g = absurd (g.1 f.0 f.2)
+fault_codes current later w own rest inline BadText WrongPlace f g = absurd (f.1 g.0 g.1)
+fault_codes current later w own rest inline BadText BadText f g = refl
+fault_codes current later w own rest inline BadText OverLimit f g =
     let same = value_only (sysmod_in current) w own rest inline f.0 g.0 f.2 g.2 in
     absurd (g.3 (subst (λ t. IsWithin current t inline) same f.3))
 fault_codes current later w own rest inline OverLimit BadStatementForm f g = absurd g
 fault_codes current later w own rest inline OverLimit UnknownStatementWord f g = absurd g
-fault_codes current later w own rest inline OverLimit UnfitOperand f g = absurd (g.1 f.0 f.2)
+fault_codes current later w own rest inline OverLimit BadStatementOperand f g = absurd (g.1 f.0 f.2)
 fault_codes current later w own rest inline OverLimit WrongPlace f g = absurd (f.1 g.0 g.1)
-fault_codes current later w own rest inline OverLimit UnfitText f g =
+fault_codes current later w own rest inline OverLimit BadText f g =
     let same = value_only (sysmod_in current) w own rest inline g.0 f.0 g.2 f.2 in
     absurd (f.3 (subst (λ t. IsWithin current t inline) same g.3))
 fault_codes current later w own rest inline OverLimit OverLimit f g = refl
@@ -111,9 +112,9 @@ judged : (current : Option Begun) (later records : Lines) (code : StatementCode)
     → Judged current later records code
 judged current later records BadStatementForm f = OfForm f
 judged current later records UnknownStatementWord f = OfWord f
-judged current later records UnfitOperand f = behind current later records UnfitOperand f
+judged current later records BadStatementOperand f = behind current later records BadStatementOperand f
 judged current later records WrongPlace f = behind current later records WrongPlace f
-judged current later records UnfitText f = behind current later records UnfitText f
+judged current later records BadText f = behind current later records BadText f
 judged current later records OverLimit f = behind current later records OverLimit f
 
 judged_codes : (current : Option Begun) (later records : Lines) (a b : StatementCode) → Judged current later records a

@@ -6,7 +6,7 @@ use Rattle.std.specs.List.{flat_map}
 use Rattle.std.proofs.lemmas.Bool.{cases_order, true≢false, not-false}
 use Rattle.std.proofs.lemmas.List.{get_or-take}
 use Rattle.std.proofs.lemmas.List.Elements.{All-weaker, All-head, All-tail, All-append, All-nil}
-use Rattle.terms.specs.Records.{IsPrintable, IsRecord, HasRecords, RecFault, Rec1, Rec2, IsRecFault}
+use Rattle.terms.specs.Records.{IsPrintable, IsRecord, HasRecords, RecFault, ShortRecord, BadByte, IsRecFault}
 use Rattle.terms.specs.Texts.{HasLines}
 use Rattle.terms.specs.Groups.{begins_statement, starts_outside, IsGroup, Group, TakesGroup, HasGroups}
 use Rattle.terms.proofs.Longest.{StartsWithout, longest_only}
@@ -42,10 +42,10 @@ whole_printable (r ∷ rs) each =
 -- No file has records and a fault of its records.
 pub rec_fault_no_records : (bytes : List ℕ) (fault : RecFault) (records : List (List ℕ)) → IsRecFault bytes fault
     → HasRecords bytes records → ⊥
-rec_fault_no_records bytes (Rec1 n) records f h =
+rec_fault_no_records bytes (ShortRecord n) records f h =
     let whole = ap length h.bytes_are ∙ whole_length records h.each in
     f.0 (omega (arith, whole))
-rec_fault_no_records bytes (Rec2 n column) records f h =
+rec_fault_no_records bytes (BadByte n column) records f h =
     let all = subst (All IsPrintable) (sym h.bytes_are) (whole_printable records h.each) in
     f.2 (all f.0 0 (omega (arith, f.1)))
 
@@ -69,14 +69,14 @@ bad_only bytes i j end within i_in j_in bad bad' all all' =
 -- The first fault of a file's records is determined.
 pub rec_fault_only : (bytes : List ℕ) (fault other : RecFault) → IsRecFault bytes fault → IsRecFault bytes other
     → fault ≡ other
-rec_fault_only bytes (Rec1 n) (Rec1 m) f g = ap Rec1 (f.2 ∙ sym g.2)
-rec_fault_only bytes (Rec1 n) (Rec2 m column) f g = absurd (g.2
+rec_fault_only bytes (ShortRecord n) (ShortRecord m) f g = ap ShortRecord (f.2 ∙ sym g.2)
+rec_fault_only bytes (ShortRecord n) (BadByte m column) f g = absurd (g.2
     (early bytes (length bytes / 80 * 80) g.0 f.1 g.1 (omega arith)))
-rec_fault_only bytes (Rec2 n column) (Rec1 m) f g = absurd (f.2
+rec_fault_only bytes (BadByte n column) (ShortRecord m) f g = absurd (f.2
     (early bytes (length bytes / 80 * 80) f.0 g.1 f.1 (omega arith)))
-rec_fault_only bytes (Rec2 n column) (Rec2 m column') f g =
+rec_fault_only bytes (BadByte n column) (BadByte m column') f g =
     let same : f.0 ≡ g.0 = bad_only bytes f.0 g.0 (length bytes / 80 * 80) (omega arith) f.1 g.1 f.2 g.2 f.3 g.3 in
-    ap₂ Rec2 (f.4 ∙ ap (λ i. i / 80 + 1) same ∙ sym g.4) (f.5 ∙ ap (λ i. i % 80 + 1) same ∙ sym g.5)
+    ap₂ BadByte (f.4 ∙ ap (λ i. i / 80 + 1) same ∙ sym g.4) (f.5 ∙ ap (λ i. i % 80 + 1) same ∙ sym g.5)
 
 abbrev IsLater : List ℕ → Type 0
 IsLater r = begins_statement r ≡ false

@@ -2,8 +2,9 @@
 use Rattle.std.proofs.Common.{◌≡◌, ℕ, false, List, [], ◌∷◌, Option, refl, sym, ◌∙◌, ap, subst, inl, inr}
 use Rattle.std.proofs.lemmas.Bool.{true≢false}
 use Rattle.terms.specs.declared.codes.StatementCode.{StatementCode}
-use Rattle.terms.specs.declared.codes.StatementCode.TheVariants.{BadStatementForm, UnknownStatementWord, UnfitOperand}
-use Rattle.terms.specs.declared.codes.StatementCode.TheVariants.{WrongPlace, UnfitText, OverLimit}
+use Rattle.terms.specs.declared.codes.StatementCode.TheVariants.{BadStatementForm, UnknownStatementWord}
+use Rattle.terms.specs.declared.codes.StatementCode.TheVariants.{BadStatementOperand}
+use Rattle.terms.specs.declared.codes.StatementCode.TheVariants.{WrongPlace, BadText, OverLimit}
 use Rattle.terms.specs.declared.statement_words.StatementWord.{StatementWord}
 use Rattle.terms.specs.Types.{Text, Lines, HoldItem, AHold, ARelease}
 use Rattle.terms.specs.Groups.{TakesGroup, starts_outside}
@@ -58,13 +59,13 @@ item_fault_no_good records UnknownStatementWord item f g =
     let same = statement_only records g.4.pieces f.pieces g.3 f.inline g.4.statement f.statement in
     f.unknown g.0 g.1 g.2 (subst (λ p. TakesWord p (record { word = statement_text g.0; list = g.1 }) g.2) same.0
     g.4.begins)
-item_fault_no_good records UnfitOperand item f g =
+item_fault_no_good records BadStatementOperand item f g =
     let parts = known_only records g.0 f.0 g.1 f.1 g.2 f.2 g.3 f.3 g.4 f.4 in
     f.6 item (same_item g.0 f.0 g.1 f.1 g.2 f.2 g.3 f.3 item parts g.6)
 item_fault_no_good records WrongPlace item f g =
     let parts = known_only records g.0 f.0 g.1 f.1 g.2 f.2 g.3 f.3 g.4 f.4 in
     f.5 (same_place g.0 f.0 g.1 f.1 g.2 f.2 g.3 f.3 parts g.5)
-item_fault_no_good records UnfitText item f g = f
+item_fault_no_good records BadText item f g = f
 item_fault_no_good records OverLimit item f g =
     let parts = known_only records g.0 f.0 g.1 f.1 g.2 f.2 g.3 f.3 g.4 f.5 in
     let same = item_only f.0 f.1 f.2 item f.4 (same_item g.0 f.0 g.1 f.1 g.2 f.2 g.3 f.3 item parts g.6) f.7 in

@@ -2,8 +2,9 @@
 use Rattle.std.proofs.Common.{◌≡◌, ℕ, false, List, [], ◌∷◌, Option, sym, ◌∙◌, ap, subst, inl, inr}
 use Rattle.std.proofs.lemmas.Bool.{true≢false}
 use Rattle.terms.specs.declared.codes.StatementCode.{StatementCode}
-use Rattle.terms.specs.declared.codes.StatementCode.TheVariants.{BadStatementForm, UnknownStatementWord, UnfitOperand}
-use Rattle.terms.specs.declared.codes.StatementCode.TheVariants.{WrongPlace, UnfitText, OverLimit}
+use Rattle.terms.specs.declared.codes.StatementCode.TheVariants.{BadStatementForm, UnknownStatementWord}
+use Rattle.terms.specs.declared.codes.StatementCode.TheVariants.{BadStatementOperand}
+use Rattle.terms.specs.declared.codes.StatementCode.TheVariants.{WrongPlace, BadText, OverLimit}
 use Rattle.terms.specs.declared.statement_words.StatementWord.{StatementWord}
 use Rattle.terms.specs.Types.{Text, Lines, Item}
 use Rattle.terms.specs.Groups.{Group, TakesGroup, starts_outside}
@@ -55,9 +56,9 @@ fault_excludes : (current : Option Begun) (later : Lines) (w : StatementWord) (o
     → IsGood current later w own rest inline s → ⊥
 fault_excludes current later w own rest inline BadStatementForm s f g = f
 fault_excludes current later w own rest inline UnknownStatementWord s f g = f
-fault_excludes current later w own rest inline UnfitOperand s f g = f.1 s g.value
+fault_excludes current later w own rest inline BadStatementOperand s f g = f.1 s g.value
 fault_excludes current later w own rest inline WrongPlace s f g = g.placed f.0 f.1
-fault_excludes current later w own rest inline UnfitText s f g =
+fault_excludes current later w own rest inline BadText s f g =
     let same = value_only (sysmod_in current) w own rest inline s f.0 g.value f.2 in
     f.4 (subst HasGoodText same g.text)
 fault_excludes current later w own rest inline OverLimit s f g =
@@ -82,10 +83,10 @@ statement_fault_no_good current later records UnknownStatementWord s f g =
     let same = statement_only records g.4.pieces f.pieces g.3 f.inline g.4.statement f.statement in
     f.unknown g.0 g.1 g.2 (subst (λ p. TakesWord p (record { word = statement_text g.0; list = g.1 }) g.2) same.0
     g.4.begins)
-statement_fault_no_good current later records UnfitOperand s f g =
-    known_excludes current later records UnfitOperand s f g
+statement_fault_no_good current later records BadStatementOperand s f g =
+    known_excludes current later records BadStatementOperand s f g
 statement_fault_no_good current later records WrongPlace s f g = known_excludes current later records WrongPlace s f g
-statement_fault_no_good current later records UnfitText s f g = known_excludes current later records UnfitText s f g
+statement_fault_no_good current later records BadText s f g = known_excludes current later records BadText s f g
 statement_fault_no_good current later records OverLimit s f g = known_excludes current later records OverLimit s f g
 
 -- the first statement of two ways is the same, and so is what follows it

@@ -10,7 +10,8 @@ use Rattle.std.proofs.lemmas.Cmp.{nat_list_eq_equiv}
 use Rattle.terms.specs.declared.codes.CommandWord.{CommandWord}
 use Rattle.terms.specs.declared.codes.CommandWord.TheVariants as word
 use Rattle.terms.specs.declared.codes.CommandCode.{CommandCode}
-use Rattle.terms.specs.declared.codes.CommandCode.TheVariants.{UnknownCommand, UnfitValue, OperandTwice, NoSingleList}
+use Rattle.terms.specs.declared.codes.CommandCode.TheVariants.{UnknownCommand, BadCommandOperand, OperandTwice}
+use Rattle.terms.specs.declared.codes.CommandCode.TheVariants.{NoSingleList}
 use Rattle.terms.specs.declared.codes.CommandCode.TheVariants.{BadCommandForm}
 use Rattle.terms.specs.Types.{Text, Selection, Install, RestoreList, RestoreSelect, RestoreGroup, ReceiveWhat, Command}
 use Rattle.terms.specs.Types.{Set, Receive, Reject, Apply, Accept, Restore, ListZone, Report}
@@ -229,7 +230,7 @@ chosen rest ws Report h v = refl
 pub fault_no_value : (pieces : List Piece) (c : Command) (code : CommandCode) → IsCommand pieces c
     → IsCommandFault pieces code → ⊥
 fault_no_value pieces c UnknownCommand k f = f (command_word c) k.rest k.begins
-fault_no_value pieces c UnfitValue k f = f.5 c k
+fault_no_value pieces c BadCommandOperand k f = f.5 c k
 fault_no_value pieces c OperandTwice k f =
     let s = begins_only pieces f.0 (command_word c) f.1 k.rest f.2 k.begins in
     true≢false (sym f.3 ∙ ap (λ w. has_double w f.1) s.0 ∙ ap (has_double (command_word c)) s.1 ∙ single pieces c k)
@@ -254,23 +255,23 @@ unchosen_same pieces v w rest rest' b b' yes' no' =
 -- The first fault of a command is determined.
 pub fault_only : (pieces : List Piece) (a b : CommandCode) → IsCommandFault pieces a → IsCommandFault pieces b → a ≡ b
 fault_only pieces UnknownCommand UnknownCommand f g = refl
-fault_only pieces UnknownCommand UnfitValue f g = absurd (f g.0 g.1 g.2)
+fault_only pieces UnknownCommand BadCommandOperand f g = absurd (f g.0 g.1 g.2)
 fault_only pieces UnknownCommand OperandTwice f g = absurd (f g.0 g.1 g.2)
 fault_only pieces UnknownCommand NoSingleList f g = absurd (f g.0 g.1 g.2)
-fault_only pieces UnfitValue UnknownCommand f g = absurd (g f.0 f.1 f.2)
+fault_only pieces BadCommandOperand UnknownCommand f g = absurd (g f.0 f.1 f.2)
 fault_only pieces OperandTwice UnknownCommand f g = absurd (g f.0 f.1 f.2)
 fault_only pieces NoSingleList UnknownCommand f g = absurd (g f.0 f.1 f.2)
-fault_only pieces UnfitValue UnfitValue f g = refl
+fault_only pieces BadCommandOperand BadCommandOperand f g = refl
 fault_only pieces OperandTwice OperandTwice f g = refl
 fault_only pieces NoSingleList NoSingleList f g = refl
-fault_only pieces UnfitValue OperandTwice f g = absurd (double_same pieces g.0 f.0 g.1 f.1 g.2 f.2 g.3 f.3)
-fault_only pieces OperandTwice UnfitValue f g = absurd (double_same pieces f.0 g.0 f.1 g.1 f.2 g.2 f.3 g.3)
+fault_only pieces BadCommandOperand OperandTwice f g = absurd (double_same pieces g.0 f.0 g.1 f.1 g.2 f.2 g.3 f.3)
+fault_only pieces OperandTwice BadCommandOperand f g = absurd (double_same pieces f.0 g.0 f.1 g.1 f.2 g.2 f.3 g.3)
 fault_only pieces NoSingleList OperandTwice f g = absurd (double_same pieces g.0 f.0 g.1 f.1 g.2 f.2 g.3 f.3)
 fault_only pieces OperandTwice NoSingleList f g = absurd (double_same pieces f.0 g.0 f.1 g.1 f.2 g.2 f.3 g.3)
-fault_only pieces UnfitValue NoSingleList f g = absurd (unchosen_same pieces g.0 f.0 g.1 f.1 g.2 f.2 g.4 f.4)
-fault_only pieces NoSingleList UnfitValue f g = absurd (unchosen_same pieces f.0 g.0 f.1 g.1 f.2 g.2 f.4 g.4)
+fault_only pieces BadCommandOperand NoSingleList f g = absurd (unchosen_same pieces g.0 f.0 g.1 f.1 g.2 f.2 g.4 f.4)
+fault_only pieces NoSingleList BadCommandOperand f g = absurd (unchosen_same pieces f.0 g.0 f.1 g.1 f.2 g.2 f.4 g.4)
 fault_only pieces BadCommandForm b f g = absurd f
 fault_only pieces UnknownCommand BadCommandForm f g = absurd g
-fault_only pieces UnfitValue BadCommandForm f g = absurd g
+fault_only pieces BadCommandOperand BadCommandForm f g = absurd g
 fault_only pieces OperandTwice BadCommandForm f g = absurd g
 fault_only pieces NoSingleList BadCommandForm f g = absurd g

@@ -9,8 +9,9 @@ use Rattle.std.proofs.lemmas.List.{append_cancel_left}
 use Rattle.std.proofs.lemmas.List.Elements.{All-nil, All-cons, All-head, All-tail, filter-append}
 use Rattle.terms.proofs.Each.{any_here, any_later, any_cases, any_none, All_middle}
 use Rattle.terms.specs.declared.text_faults.TextCode.{TextCode}
-use Rattle.terms.specs.declared.text_faults.TextCode.TheVariants.{NoNumber, FallingNumber, NoChange, OtherElement}
-use Rattle.terms.specs.declared.text_faults.TextCode.TheVariants.{BadDelete, FallingUpdate}
+use Rattle.terms.specs.declared.text_faults.TextCode.TheVariants.{NoNumber, NumberOutOfOrder, NoChangeRecord}
+use Rattle.terms.specs.declared.text_faults.TextCode.TheVariants.{OtherElement}
+use Rattle.terms.specs.declared.text_faults.TextCode.TheVariants.{BadDelete, UpdateOutOfOrder}
 use Rattle.terms.specs.declared.text_faults.TextFault.{TextFault}
 use Rattle.terms.specs.Types.{Text, Lines}
 use Rattle.terms.specs.Texts.{IsNumberedLine, number_of, IsNumbered, line_at, IsChange, IsDelete, IsSomeDelete}
@@ -133,11 +134,11 @@ in_order before line after h b =
 numbered_code : (code : TextCode) (before : Lines) (line : List ℕ) (after : Lines) → IsNumbered (before ++ line ∷ after)
     → HasNumberedFault before line code → ⊥
 numbered_code NoNumber before line after h f = f (All_middle IsNumberedLine before line after h.numbers)
-numbered_code FallingNumber before line after h f = in_order before line after h f
-numbered_code NoChange before line after h f = f
+numbered_code NumberOutOfOrder before line after h f = in_order before line after h f
+numbered_code NoChangeRecord before line after h f = f
 numbered_code OtherElement before line after h f = f
 numbered_code BadDelete before line after h f = f
-numbered_code FallingUpdate before line after h f = f
+numbered_code UpdateOutOfOrder before line after h f = f
 
 -- A numbered text has no fault.
 pub numbered_no_fault : (text : Lines) (fault : TextFault) → IsNumbered text → IsNumberedFault text fault → ⊥
@@ -146,12 +147,12 @@ numbered_no_fault text fault h f = numbered_code fault.code f.before f.line f.af
 
 change_code : (name : Text) (line : List ℕ) (code : TextCode) → IsChange name line → HasChangeFault name line code → ⊥
 change_code name line NoNumber c f = f
-change_code name line FallingNumber c f = f
-change_code name line NoChange c f = f name c
+change_code name line NumberOutOfOrder c f = f
+change_code name line NoChangeRecord c f = f name c
 change_code name line OtherElement c f = f.1 (append_cancel_left (codes "NAME=") _ _
     (same_control _ _ _ _ line f.2 c).1)
 change_code name line BadDelete c f = f
-change_code name line FallingUpdate c f = f
+change_code name line UpdateOutOfOrder c f = f
 
 given_middle : (before : Lines) (line : List ℕ) (after : Lines) → (IsTrue (is_control line) → ⊥)
     → given (before ++ line ∷ after) ≡ given before ++ line ∷ given after
@@ -163,13 +164,13 @@ rest_code : (before : Lines) (line : List ℕ) (after : Lines) (code : TextCode)
     → HasRestFault before line code → ⊥
 rest_code before line after NoNumber h f = f.1 (All_middle IsNumberedLine (given before) line (given after)
     (subst IsNumbered (given_middle before line after f.0) h.numbered).numbers)
-rest_code before line after FallingNumber h f = f
-rest_code before line after NoChange h f = f
+rest_code before line after NumberOutOfOrder h f = f
+rest_code before line after NoChangeRecord h f = f
 rest_code before line after OtherElement h f = f
 rest_code before line after BadDelete h f = f.1 (All_middle (λ l. IsTrue (is_control l)
     → IsSomeDelete l) before line after
     h.controls f.0)
-rest_code before line after FallingUpdate h f = in_order (given before) line (given after)
+rest_code before line after UpdateOutOfOrder h f = in_order (given before) line (given after)
     (subst IsNumbered (given_middle before line after f.0) h.numbered) f.1
 
 -- An update has no fault.

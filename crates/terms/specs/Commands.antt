@@ -5,7 +5,8 @@ use Rattle.std.specs.List.{list_any}
 use Rattle.terms.specs.declared.codes.CommandWord.{CommandWord}
 use Rattle.terms.specs.declared.codes.CommandWord.TheVariants as word
 use Rattle.terms.specs.declared.codes.CommandCode.{CommandCode}
-use Rattle.terms.specs.declared.codes.CommandCode.TheVariants.{UnknownCommand, UnfitValue, OperandTwice, NoSingleList}
+use Rattle.terms.specs.declared.codes.CommandCode.TheVariants.{UnknownCommand, BadCommandOperand, OperandTwice}
+use Rattle.terms.specs.declared.codes.CommandCode.TheVariants.{NoSingleList}
 use Rattle.terms.specs.declared.codes.CommandCode.TheVariants.{BadCommandForm}
 use Rattle.terms.specs.Types.{Text, Command}
 use Rattle.terms.specs.Spelling.{word_text}
@@ -62,7 +63,7 @@ abbrev pub BeginsWith : List Piece → CommandWord → List Piece → Type 0
 BeginsWith pieces w rest = pieces ≡ TheWord (word_text w) ∷ rest
 
 -- What is wrong with a command that ends well. The first that applies of UnknownCommand, OperandTwice, NoSingleList and
--- UnfitValue is answered.
+-- BadCommandOperand is answered.
 abbrev pub IsCommandFault : List Piece → CommandCode → Type 0
 IsCommandFault pieces UnknownCommand = (w : CommandWord) (rest : List Piece) → BeginsWith pieces w rest → ⊥
 IsCommandFault pieces OperandTwice = (w : CommandWord) × (rest : List Piece) × BeginsWith pieces w rest
@@ -70,7 +71,7 @@ IsCommandFault pieces OperandTwice = (w : CommandWord) × (rest : List Piece) ×
 IsCommandFault pieces NoSingleList = (w : CommandWord) × (rest : List Piece) × BeginsWith pieces w rest
     × (has_double w rest ≡ false)
     × (is_unchosen w rest ≡ true)
-IsCommandFault pieces UnfitValue = (w : CommandWord) × (rest : List Piece) × BeginsWith pieces w rest
+IsCommandFault pieces BadCommandOperand = (w : CommandWord) × (rest : List Piece) × BeginsWith pieces w rest
     × (has_double w rest ≡ false)
     × (is_unchosen w rest ≡ false) × ((c : Command) → IsCommand pieces c → ⊥)
 IsCommandFault pieces BadCommandForm = ⊥

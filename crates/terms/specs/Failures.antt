@@ -11,10 +11,10 @@ use Rattle.terms.specs.Types.{Id}
 -- the tests by their numbers, and the kinds of needs, in the order of reports
 abbrev pub all_tests : List Test
 all_tests =
-    test.HeldBySystem ∷ test.HeldByUser ∷ test.ForbiddenByNpre ∷ test.OwnedByAnother ∷ test.UnrelatedLevel
+    test.HeldBySystem ∷ test.HeldByUser ∷ test.ForbiddenByNpre ∷ test.OwnedByAnother ∷ test.Regression
     ∷ test.NothingToUpdate ∷ test.NotInTarget ∷ test.ChainDeleted ∷ test.InClash ∷ test.AlreadyAccepted
     ∷ test.HasDelete ∷
-    test.UnappliedLevel ∷ test.SeveralFit ∷ []
+    test.OtherLevel ∷ test.SeveralFit ∷ []
 
 abbrev pub all_needs : List NeedKind
 all_needs = need.Fmid ∷ need.Pre ∷ need.Req ∷ need.Ifreq ∷ need.HoldError ∷ need.Orphan ∷ need.Elem ∷ need.Dep ∷ []

@@ -93,18 +93,18 @@ marked was h = record h { internal = h.internal || option_map_or (λ old. old.in
 abbrev pub hold : Global → Hold → Global
 hold g h = record g { holds = with_item hold_cmp (λ o. o) g.holds (marked (hold_of g h.id h.kind h.reason) h) }
 
--- NoSuchHold: there is no such hold. CameAlong: it is internal.
+-- There is no such hold, or it is internal.
 pub data ReleaseFault : Type 0 where
-  NoSuchHold : ReleaseFault
-  CameAlong : ReleaseFault
+  NoHold : ReleaseFault
+  Internal : ReleaseFault
 
 -- the global zone less the hold of this key
 abbrev pub without_hold : Id → HoldKind → Text → Global → Global
 without_hold x kind reason g = record g { holds = filter (λ h. not (has_key x kind reason h)) g.holds }
 
 abbrev pub release_found : Global → Release → Option Hold → Result Global ReleaseFault
-release_found g r None = Err NoSuchHold
-release_found g r (Some h) = if h.internal then Err CameAlong else Ok (without_hold r.id r.kind r.reason g)
+release_found g r None = Err NoHold
+release_found g r (Some h) = if h.internal then Err Internal else Ok (without_hold r.id r.kind r.reason g)
 
 -- ++RELEASE takes a hold away that is not internal.
 abbrev pub release : Global → Release → Result Global ReleaseFault
@@ -123,27 +123,27 @@ assign g source x =
 abbrev pub with_sysmod : Global → Sysmod → Global
 with_sysmod g s = record g { sysmods = with_item (slice_cmp nat_cmp) (λ r. r.id) g.sysmods (record s { holds = [] }) }
 
--- AlreadyReceived: the id is received. MakesLoop: it would close a loop. OtherRole: a function would be named where
+-- AlreadyReceived: the id is received. MakesLoop: it would close a loop. WrongRole: a function would be named where
 -- only service may be, or service where only functions may. NoRoom: it would be the 65,536th.
 pub data ReceiveFault : Type 0 where
   AlreadyReceived : ReceiveFault
   MakesLoop : ReceiveFault
-  OtherRole : ReceiveFault
+  WrongRole : ReceiveFault
   NoRoom : ReceiveFault
 
 -- the fault applies, whatever others do
 abbrev pub HasFault : Global → Sysmod → ReceiveFault → Type 0
 HasFault g s AlreadyReceived = IsTrue (is_received g s.id)
 HasFault g s MakesLoop = HasLoop (with_sysmod g s)
-HasFault g s OtherRole = ¬ RolesFit (with_sysmod g s)
+HasFault g s WrongRole = ¬ RolesFit (with_sysmod g s)
 HasFault g s NoRoom = 2 ^ 16 ≤ length g.sysmods + 1
 
 -- It is the first fault that applies. RECEIVE refuses the SYSMOD with it.
 abbrev pub RefusedBy : Global → Sysmod → ReceiveFault → Type 0
 RefusedBy g s AlreadyReceived = HasFault g s AlreadyReceived
 RefusedBy g s MakesLoop = (¬ HasFault g s AlreadyReceived) × HasFault g s MakesLoop
-RefusedBy g s OtherRole = (¬ HasFault g s AlreadyReceived) × (¬ HasFault g s MakesLoop) × HasFault g s OtherRole
-RefusedBy g s NoRoom = (¬ HasFault g s AlreadyReceived) × (¬ HasFault g s MakesLoop) × (¬ HasFault g s OtherRole)
+RefusedBy g s WrongRole = (¬ HasFault g s AlreadyReceived) × (¬ HasFault g s MakesLoop) × HasFault g s WrongRole
+RefusedBy g s NoRoom = (¬ HasFault g s AlreadyReceived) × (¬ HasFault g s MakesLoop) × (¬ HasFault g s WrongRole)
     × HasFault g s NoRoom
 
 -- the global zone with the SYSMOD and its internal holds
@@ -155,10 +155,10 @@ abbrev pub Receives : Global → Sysmod → Result Global ReceiveFault → Type 
 Receives g s (Ok new) = ((f : ReceiveFault) → ¬ HasFault g s f) × (new ≡ received g s)
 Receives g s (Err f) = RefusedBy g s f
 
--- AppliedSomewhere: it is applied in a zone. NotThere: no SYSMOD has the id.
+-- AppliedSomewhere: it is applied in a zone. UnknownSysmod: no SYSMOD has the id.
 pub data RejectFault : Type 0 where
   AppliedSomewhere : RejectFault
-  NotThere : RejectFault
+  UnknownSysmod : RejectFault
 
 -- the global zone less the SYSMOD and the internal holds on it
 abbrev pub without_sysmod : Global → Id → Global
@@ -170,6 +170,6 @@ without_sysmod g x = record g {
 -- REJECT: a received SYSMOD goes where it is applied nowhere, whatever SREL a zone has.
 abbrev pub reject : Global → List NamedZone → Id → Result Global RejectFault
 reject g zones x =
-    if not (is_received g x) then Err NotThere
+    if not (is_received g x) then Err UnknownSysmod
     else if list_any (λ z. is_applied z.zone x) zones then Err AppliedSomewhere
     else Ok (without_sysmod g x)

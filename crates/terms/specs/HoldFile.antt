@@ -2,7 +2,8 @@
 -- ++HOLD and ++RELEASE; Commands, RECEIVE: the SMPHOLD data set.)
 use Rattle.std.specs.Prelude.{◌≡◌, ◌⊎◌, ℕ, false, List, [], ◌∷◌, Option}
 use Rattle.terms.specs.declared.codes.StatementCode.{StatementCode}
-use Rattle.terms.specs.declared.codes.StatementCode.TheVariants.{BadStatementForm, UnknownStatementWord, UnfitOperand}
+use Rattle.terms.specs.declared.codes.StatementCode.TheVariants.{BadStatementForm, UnknownStatementWord}
+use Rattle.terms.specs.declared.codes.StatementCode.TheVariants.{BadStatementOperand}
 use Rattle.terms.specs.declared.codes.StatementCode.TheVariants.{WrongPlace, OverLimit}
 use Rattle.terms.specs.declared.statement_words.StatementWord.{StatementWord}
 use Rattle.terms.specs.declared.statement_words.StatementWord.TheVariants as word
@@ -38,14 +39,15 @@ abbrev pub IsGoodItem : Lines → HoldItem → Type 0
 IsGoodItem records item = (w : StatementWord) × (own : Option Text) × (rest : List Piece) × (inline : Lines)
     × IsKnown records w own rest inline × StandsInHoldFile w inline × HasItem w own rest item × IsWithin item
 
--- What is at fault with a statement. The first of BadStatementForm, UnknownStatementWord, WrongPlace, UnfitOperand and
--- OverLimit is answered.
+-- What is at fault with a statement. The first of BadStatementForm, UnknownStatementWord, WrongPlace,
+-- BadStatementOperand and OverLimit is answered.
 abbrev pub IsItemFault : Lines → StatementCode → Type 0
 IsItemFault records BadStatementForm = (why : StFault) × IsStFault records why
 IsItemFault records UnknownStatementWord = IsUnknown records
 IsItemFault records WrongPlace = (w : StatementWord) × (own : Option Text) × (rest : List Piece) × (inline : Lines)
     × IsKnown records w own rest inline × (¬ StandsInHoldFile w inline)
-IsItemFault records UnfitOperand = (w : StatementWord) × (own : Option Text) × (rest : List Piece) × (inline : Lines)
+IsItemFault records BadStatementOperand = (w : StatementWord) × (own : Option Text) × (rest : List Piece)
+    × (inline : Lines)
     × IsKnown records w own rest inline × StandsInHoldFile w inline × ((item : HoldItem) → ¬ HasItem w own rest item)
 IsItemFault records OverLimit = (w : StatementWord) × (own : Option Text) × (rest : List Piece) × (inline : Lines)
     × (item : HoldItem)

@@ -7,8 +7,9 @@ use Rattle.std.specs.Prelude.{codes}
 use Rattle.std.specs.List.{position_or_len}
 use Rattle.std.specs.Option.{option_map_or, option_and_then}
 use Rattle.terms.specs.declared.codes.StatementCode.{StatementCode}
-use Rattle.terms.specs.declared.codes.StatementCode.TheVariants.{BadStatementForm, UnknownStatementWord, UnfitOperand}
-use Rattle.terms.specs.declared.codes.StatementCode.TheVariants.{WrongPlace, UnfitText, OverLimit}
+use Rattle.terms.specs.declared.codes.StatementCode.TheVariants.{BadStatementForm, UnknownStatementWord}
+use Rattle.terms.specs.declared.codes.StatementCode.TheVariants.{BadStatementOperand}
+use Rattle.terms.specs.declared.codes.StatementCode.TheVariants.{WrongPlace, BadText, OverLimit}
 use Rattle.terms.specs.declared.kinds.Kind.{Kind}
 use Rattle.terms.specs.declared.kinds.Kind.TheVariants.{Function}
 use Rattle.terms.specs.declared.statement_words.StatementWord.{StatementWord}
@@ -186,18 +187,18 @@ pub record IsGood (current : Option Begun) (later : Lines) (w : StatementWord) (
   pub within : IsWithin current s inline
   pub text : HasGoodText s
 
--- What is at fault with a statement of a known word. The first of WrongPlace, UnfitOperand, OverLimit and UnfitText is
--- answered.
+-- What is at fault with a statement of a known word. The first of WrongPlace, BadStatementOperand, OverLimit and
+-- BadText is answered.
 abbrev pub IsFault : Option Begun → Lines → StatementWord → Option Text → List Piece → Lines → StatementCode → Type 0
 IsFault current later w own rest inline WrongPlace = (why : Disorder) × IsMisplaced
     (sysmod_in current) later w own rest inline why
-IsFault current later w own rest inline UnfitOperand =
+IsFault current later w own rest inline BadStatementOperand =
     IsPlaced (sysmod_in current) later w own rest inline × ((s : Statement)
     → ¬ HasValue (sysmod_in current) w own rest inline s)
 IsFault current later w own rest inline OverLimit = (s : Statement)
     × IsPlaced (sysmod_in current) later w own rest inline × HasValue (sysmod_in current) w own rest inline s
     × (¬ IsWithin current s inline)
-IsFault current later w own rest inline UnfitText = (s : Statement)
+IsFault current later w own rest inline BadText = (s : Statement)
     × IsPlaced (sysmod_in current) later w own rest inline × HasValue (sysmod_in current) w own rest inline s
     × IsWithin current s inline × (¬ HasGoodText s)
 IsFault current later w own rest inline _ = ⊥

@@ -7,7 +7,7 @@ use Rattle.std.specs.List.{list_any}
 use Rattle.std.specs.Option.{option_map_or}
 use Rattle.terms.specs.declared.kinds.ElemType.{ElemType}
 use Rattle.terms.specs.declared.codes.Test.{Test}
-use Rattle.terms.specs.declared.codes.Test.TheVariants.{AlreadyAccepted, HasDelete, UnappliedLevel}
+use Rattle.terms.specs.declared.codes.Test.TheVariants.{AlreadyAccepted, HasDelete, OtherLevel}
 use Rattle.terms.specs.declared.codes.NeedKind.{NeedKind}
 use Rattle.terms.specs.declared.codes.NeedKind.TheVariants.{Elem, Dep}
 use Rattle.terms.specs.Types.{Text, Id, Global, Element, Zone, RestoreList, RestoreSelect, RestoreGroup}
@@ -94,10 +94,10 @@ are_alike a b e = not (list_any (λ y. not (is_alike a b y)) (e.rmid ∷ e.umids
 abbrev pub may_return : Restoring → Element → Bool
 may_return r e = are_applied r.zone e && are_alike r.zone r.accepted e
 
--- UnappliedLevel: the distribution zone has an element of it under an FMID, an RMID or a UMID that the target zone has
+-- OtherLevel: the distribution zone has an element of it under an FMID, an RMID or a UMID that the target zone has
 -- not applied, or under an RMID or a UMID that the zones have applied by two ++VERs
-abbrev pub ChangesUnappliedLevel : Restoring → Id → Type 0
-ChangesUnappliedLevel r x =
+abbrev pub ChangesOtherLevel : Restoring → Id → Type 0
+ChangesOtherLevel r x =
     Any (λ h. IsFalse (option_map_or (may_return r) (element_of r.accepted h.elem_type h.name) true))
     (changes_of r.global x)
 
@@ -105,7 +105,7 @@ ChangesUnappliedLevel r x =
 abbrev pub FailsRestore : Restoring → Id → Test → Type 0
 FailsRestore r x AlreadyAccepted = IsAlreadyAccepted r x
 FailsRestore r x HasDelete = ComesWithDelete r x
-FailsRestore r x UnappliedLevel = ChangesUnappliedLevel r x
+FailsRestore r x OtherLevel = ChangesOtherLevel r x
 FailsRestore r x _ = ⊥
 
 -- a candidate that passes them

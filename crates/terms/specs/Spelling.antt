@@ -9,22 +9,24 @@ use Rattle.terms.specs.declared.kinds.ElemType.TheVariants.{Mac, Src, Clist, Dat
 use Rattle.terms.specs.declared.kinds.ZoneKind.{ZoneKind}
 use Rattle.terms.specs.declared.kinds.ZoneKind.TheVariants.{Target, Distribution}
 use Rattle.terms.specs.declared.codes.StatementCode.{StatementCode}
-use Rattle.terms.specs.declared.codes.StatementCode.TheVariants.{BadStatementForm, UnknownStatementWord, UnfitOperand}
-use Rattle.terms.specs.declared.codes.StatementCode.TheVariants.{WrongPlace, UnfitText, OverLimit}
+use Rattle.terms.specs.declared.codes.StatementCode.TheVariants.{BadStatementForm, UnknownStatementWord}
+use Rattle.terms.specs.declared.codes.StatementCode.TheVariants.{BadStatementOperand}
+use Rattle.terms.specs.declared.codes.StatementCode.TheVariants.{WrongPlace, BadText, OverLimit}
 use Rattle.terms.specs.declared.codes.CommandCode.{CommandCode}
-use Rattle.terms.specs.declared.codes.CommandCode.TheVariants.{UnknownCommand, UnfitValue, OperandTwice, NoSingleList}
+use Rattle.terms.specs.declared.codes.CommandCode.TheVariants.{UnknownCommand, BadCommandOperand, OperandTwice}
+use Rattle.terms.specs.declared.codes.CommandCode.TheVariants.{NoSingleList}
 use Rattle.terms.specs.declared.codes.CommandCode.TheVariants.{BadCommandForm}
 use Rattle.terms.specs.declared.codes.Test.{Test}
 use Rattle.terms.specs.declared.codes.Test.TheVariants.{HeldBySystem, HeldByUser, ForbiddenByNpre, OwnedByAnother}
-use Rattle.terms.specs.declared.codes.Test.TheVariants.{UnrelatedLevel, NothingToUpdate, NotInTarget, ChainDeleted}
-use Rattle.terms.specs.declared.codes.Test.TheVariants.{InClash, AlreadyAccepted, HasDelete, UnappliedLevel, SeveralFit}
+use Rattle.terms.specs.declared.codes.Test.TheVariants.{Regression, NothingToUpdate, NotInTarget, ChainDeleted}
+use Rattle.terms.specs.declared.codes.Test.TheVariants.{InClash, AlreadyAccepted, HasDelete, OtherLevel, SeveralFit}
 use Rattle.terms.specs.declared.codes.CommandWord.{CommandWord}
 use Rattle.terms.specs.declared.codes.CommandWord.TheVariants as word
 use Rattle.terms.specs.declared.codes.NeedKind.{NeedKind}
 use Rattle.terms.specs.declared.codes.NeedKind.TheVariants as need
 use Rattle.terms.specs.declared.codes.IdRefusal.{IdRefusal}
-use Rattle.terms.specs.declared.codes.IdRefusal.TheVariants.{MakesLoop, OtherRole, NoRoom, NoSuchHold, CameAlong}
-use Rattle.terms.specs.declared.codes.IdRefusal.TheVariants.{AppliedSomewhere, NotThere}
+use Rattle.terms.specs.declared.codes.IdRefusal.TheVariants.{MakesLoop, WrongRole, NoRoom, NoHold, Internal}
+use Rattle.terms.specs.declared.codes.IdRefusal.TheVariants.{AppliedSomewhere, UnknownSysmod}
 use Rattle.terms.specs.Types.{Text}
 
 abbrev pub kind_text : Kind → Text
@@ -51,20 +53,20 @@ abbrev pub zone_kind_text : ZoneKind → Text
 zone_kind_text Target = codes "target"
 zone_kind_text Distribution = codes "distribution"
 
-abbrev pub mc_text : StatementCode → Text
-mc_text BadStatementForm = codes "Mc1"
-mc_text UnknownStatementWord = codes "Mc2"
-mc_text UnfitOperand = codes "Mc3"
-mc_text WrongPlace = codes "Mc4"
-mc_text UnfitText = codes "Mc5"
-mc_text OverLimit = codes "Mc6"
+abbrev pub statement_code_text : StatementCode → Text
+statement_code_text BadStatementForm = codes "Mc1"
+statement_code_text UnknownStatementWord = codes "Mc2"
+statement_code_text BadStatementOperand = codes "Mc3"
+statement_code_text WrongPlace = codes "Mc4"
+statement_code_text BadText = codes "Mc5"
+statement_code_text OverLimit = codes "Mc6"
 
-abbrev pub cn_text : CommandCode → Text
-cn_text UnknownCommand = codes "Cn1"
-cn_text UnfitValue = codes "Cn2"
-cn_text OperandTwice = codes "Cn3"
-cn_text NoSingleList = codes "Cn4"
-cn_text BadCommandForm = codes "Cn5"
+abbrev pub command_code_text : CommandCode → Text
+command_code_text UnknownCommand = codes "Cn1"
+command_code_text BadCommandOperand = codes "Cn2"
+command_code_text OperandTwice = codes "Cn3"
+command_code_text NoSingleList = codes "Cn4"
+command_code_text BadCommandForm = codes "Cn5"
 
 abbrev pub word_text : CommandWord → Text
 word_text word.Set = codes "SET"
@@ -81,14 +83,14 @@ test_text HeldBySystem = codes "J1"
 test_text HeldByUser = codes "J2"
 test_text ForbiddenByNpre = codes "J3"
 test_text OwnedByAnother = codes "J4"
-test_text UnrelatedLevel = codes "J5"
+test_text Regression = codes "J5"
 test_text NothingToUpdate = codes "J6"
 test_text NotInTarget = codes "J7"
 test_text ChainDeleted = codes "J8"
 test_text InClash = codes "J9"
 test_text AlreadyAccepted = codes "J10"
 test_text HasDelete = codes "J11"
-test_text UnappliedLevel = codes "J12"
+test_text OtherLevel = codes "J12"
 test_text SeveralFit = codes "J13"
 
 abbrev pub need_text : NeedKind → Text
@@ -103,9 +105,9 @@ need_text need.Dep = codes "DEP"
 
 abbrev pub refusal_text : IdRefusal → Text
 refusal_text MakesLoop = codes "Rc2"
-refusal_text OtherRole = codes "Rc3"
+refusal_text WrongRole = codes "Rc3"
 refusal_text NoRoom = codes "Rc4"
-refusal_text NoSuchHold = codes "Rl1"
-refusal_text CameAlong = codes "Rl2"
+refusal_text NoHold = codes "Rl1"
+refusal_text Internal = codes "Rl2"
 refusal_text AppliedSomewhere = codes "Rj1"
-refusal_text NotThere = codes "Rj2"
+refusal_text UnknownSysmod = codes "Rj2"

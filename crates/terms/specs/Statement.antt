@@ -108,13 +108,13 @@ abbrev pub IsStatement : List (List ℕ) → List Piece → List (List ℕ) → 
 IsStatement records pieces inline =
     (ps : List Piece) × (tail : Text) × Ends records ps tail inline × IsIdle tail × (pieces ≡ solid ps)
 
--- Unended: nothing ends it. CommentOpen: a comment stays open. ParensUnpaired: a parenthesis without its partner, or a
--- third level of them. MoreBehind: more than gaps stand behind its period.
+-- NoPeriod: nothing ends it. OpenComment: a comment stays open. BadParens: a parenthesis without its partner, or a
+-- third level of them. TextAfterPeriod: more than gaps stand behind its period.
 pub data StFault : Type 0 where
-  Unended : StFault
-  CommentOpen : StFault
-  ParensUnpaired : StFault
-  MoreBehind : StFault
+  NoPeriod : StFault
+  OpenComment : StFault
+  BadParens : StFault
+  TextAfterPeriod : StFault
 
 -- A comment begins and is not closed.
 abbrev pub OpensComment : Text → Type 0
@@ -127,10 +127,10 @@ BreaksPairs text = (after : Text) × ((text ≡ 41 ∷ after) ⊎ ((text ≡ 40 
 -- After these pieces the records have no period, an open comment, or bad parentheses. Or their period has text after
 -- it.
 abbrev pub BreaksOff : List (List ℕ) → List Piece → StFault → Type 0
-BreaksOff records ps Unended = HasPieces (joined records) ps []
-BreaksOff records ps CommentOpen = (rest : Text) × HasPieces (joined records) ps rest × OpensComment rest
-BreaksOff records ps ParensUnpaired = (rest : Text) × HasPieces (joined records) ps rest × BreaksPairs rest
-BreaksOff records ps MoreBehind = (tail : Text) × (inline : List (List ℕ)) × Ends records ps tail inline
+BreaksOff records ps NoPeriod = HasPieces (joined records) ps []
+BreaksOff records ps OpenComment = (rest : Text) × HasPieces (joined records) ps rest × OpensComment rest
+BreaksOff records ps BadParens = (rest : Text) × HasPieces (joined records) ps rest × BreaksPairs rest
+BreaksOff records ps TextAfterPeriod = (tail : Text) × (inline : List (List ℕ)) × Ends records ps tail inline
     × (IsIdle tail → ⊥)
 
 -- the fault of the records, behind good pieces

@@ -10,7 +10,7 @@ use Rattle.terms.specs.declared.kinds.ElemType.{ElemType}
 use Rattle.terms.specs.declared.kinds.ZoneKind.TheVariants.{Distribution}
 use Rattle.terms.specs.declared.codes.Test.{Test}
 use Rattle.terms.specs.declared.codes.Test.TheVariants.{HeldBySystem, HeldByUser, ForbiddenByNpre, OwnedByAnother}
-use Rattle.terms.specs.declared.codes.Test.TheVariants.{UnrelatedLevel, NothingToUpdate, NotInTarget, ChainDeleted}
+use Rattle.terms.specs.declared.codes.Test.TheVariants.{Regression, NothingToUpdate, NotInTarget, ChainDeleted}
 use Rattle.terms.specs.declared.codes.Test.TheVariants.{InClash, SeveralFit}
 use Rattle.terms.specs.Types.{Text, Id, Hold, Global, Element, Zone, Reasons, NoReason, AnyReason, TheseReasons, Bypass}
 use Rattle.terms.specs.Lookups.{IsRising, is_in, has_change, holds_of, element_of, is_applied, is_function}
@@ -76,10 +76,10 @@ ChangesInView s x e = (type : ElemType) × (name : Text)
 abbrev pub ChangesOwnedByAnother : Setting → Id → Type 0
 ChangesOwnedByAnother s x = (e : Element) × ChangesInView s x e × (e.fmid ≢ owner_of s x)
 
--- UnrelatedLevel: an element that it changes has an RMID or UMID in its view that it is not over; BYPASS(ID) leaves
+-- Regression: an element that it changes has an RMID or UMID in its view that it is not over; BYPASS(ID) leaves
 -- this test out
-abbrev pub ChangesUnrelatedLevel : Setting → Id → Type 0
-ChangesUnrelatedLevel s x = IsFalse s.bypass.same_id
+abbrev pub Regresses : Setting → Id → Type 0
+Regresses s x = IsFalse s.bypass.same_id
     × ((e : Element) × (z : Id) × ChangesInView s x e × Contains (e.rmid ∷ e.umids) z × ¬ IsOver s.choice x z)
 
 -- whether its FMID is a candidate that replaces the element
@@ -110,7 +110,7 @@ FailsAlone s x HeldBySystem = IsHeldBySystem s x
 FailsAlone s x HeldByUser = IsHeldByUser s x
 FailsAlone s x ForbiddenByNpre = IsForbiddenByNpre s x
 FailsAlone s x OwnedByAnother = ChangesOwnedByAnother s x
-FailsAlone s x UnrelatedLevel = ChangesUnrelatedLevel s x
+FailsAlone s x Regression = Regresses s x
 FailsAlone s x NothingToUpdate = HasNothingToUpdate s x
 FailsAlone s x NotInTarget = IsNotInTarget s x
 FailsAlone s x SeveralFit = HasSeveralFit s x

@@ -21,11 +21,11 @@ pub enum StatementCode {
     /// The word that it begins with.
     UnknownStatementWord,
     /// An operand.
-    UnfitOperand,
+    BadStatementOperand,
     /// Its place among the others.
     WrongPlace,
     /// The text behind it.
-    UnfitText,
+    BadText,
     /// One of the limits.
     OverLimit,
 }
@@ -36,7 +36,7 @@ pub enum CommandCode {
     /// The word of a command.
     UnknownCommand,
     /// An operand, or a member of BYPASS.
-    UnfitValue,
+    BadCommandOperand,
     /// An operand, or a member of BYPASS, that comes again.
     OperandTwice,
     /// RESTORE with both SELECT and GROUP, or without them.
@@ -46,21 +46,21 @@ pub enum CommandCode {
 }
 
 /// The tests that a candidate passes or fails, each named for what fails it, in the order of the codes `J1` to `J13`:
-/// `AlreadyAccepted`, `HasDelete` and `UnappliedLevel` are RESTORE's, the others APPLY's and ACCEPT's.
+/// `AlreadyAccepted`, `HasDelete` and `OtherLevel` are RESTORE's, the others APPLY's and ACCEPT's.
 #[derive(Clone, Copy, Debug, PartialEq, Eq, PartialOrd, Ord, Hash)]
 pub enum Test {
     HeldBySystem,
     HeldByUser,
     ForbiddenByNpre,
     OwnedByAnother,
-    UnrelatedLevel,
+    Regression,
     NothingToUpdate,
     NotInTarget,
     ChainDeleted,
     InClash,
     AlreadyAccepted,
     HasDelete,
-    UnappliedLevel,
+    OtherLevel,
     SeveralFit,
 }
 
@@ -83,15 +83,15 @@ pub enum IdRefusal {
     /// It would close a loop of PRE, SUP and FMID.
     MakesLoop,
     /// A function would be named where only service may be, or service where only functions may.
-    OtherRole,
+    WrongRole,
     /// As many are received as can be.
     NoRoom,
     /// No hold has the key.
-    NoSuchHold,
+    NoHold,
     /// The hold came with its SYSMOD.
-    CameAlong,
+    Internal,
     /// It is applied in a zone.
     AppliedSomewhere,
     /// No SYSMOD has the id.
-    NotThere,
+    UnknownSysmod,
 }

@@ -6,15 +6,15 @@ pub enum TextCode {
     /// The record has no number: no eight digits in columns 73 to 80.
     NoNumber,
     /// The number of a text does not rise.
-    FallingNumber,
+    NumberOutOfOrder,
     /// An update does not begin with a CHANGE record.
-    NoChange,
+    NoChangeRecord,
     /// The CHANGE record names another element.
     OtherElement,
     /// Another `./` record is no good DELETE record.
     BadDelete,
     /// The number of an update does not rise.
-    FallingUpdate,
+    UpdateOutOfOrder,
 }
 
 /// The first record of a text that is at fault, counted from 1.

@@ -6,7 +6,7 @@ use Rattle.std.proofs.lemmas.List.{take-append-drop, drop_more, length-take-le, 
 use Rattle.std.proofs.lemmas.List.Elements.{All-push, All-weaker}
 use Rattle.std.proofs.lemmas.List.Quantifiers.{Any-push}
 use Rattle.terms.specs.declared.text_faults.TextCode.{TextCode}
-use Rattle.terms.specs.declared.text_faults.TextCode.TheVariants.{FallingNumber}
+use Rattle.terms.specs.declared.text_faults.TextCode.TheVariants.{NumberOutOfOrder}
 use Rattle.terms.specs.declared.text_faults.TextFault.{TextFault}
 use Rattle.terms.specs.Types.{Lines}
 use Rattle.terms.specs.Texts.{IsNumberedLine, number_of, IsNumbered, BreaksOrder, HasNumberedFault}
@@ -64,7 +64,7 @@ pub breaks : (seen : Lines) (least : ℕ) (line : List ℕ) → IsRead seen leas
 breaks seen least line h numbered low = (numbered, h.reached (number_of line) low)
 
 numbered_code : (seen : Lines) (least : ℕ) (line : List ℕ) (code : TextCode) → IsRead seen least
-    → IsNumberFault line least FallingNumber code → HasNumberedFault seen line code
+    → IsNumberFault line least NumberOutOfOrder code → HasNumberedFault seen line code
 numbered_code seen least line code h f =
     elim f [
       | inl none ↦ subst (HasNumberedFault seen line) (sym none.0) none.1
@@ -73,7 +73,7 @@ numbered_code seen least line code h f =
 
 pub numbered_fault : (lines : Lines) (i least : ℕ) (line : List ℕ) (fault : TextFault) → i < length lines
     → line ≡ get_or lines i line → IsRead (take i lines) least → fault.number ≡ i + 1
-    → IsNumberFault line least FallingNumber fault.code → IsNumberedFault lines fault
+    → IsNumberFault line least NumberOutOfOrder fault.code → IsNumberedFault lines fault
 numbered_fault lines i least line fault below at h number f = record {
   before = take i lines;
   line = line;

@@ -12,7 +12,7 @@ use Rattle.std.proofs.lemmas.List.Folds.{list_any-append}
 use Rattle.std.proofs.lemmas.List.Quantifiers.{Any-push}
 use Rattle.std.proofs.lemmas.List.Sorted.{list_any-IsPermutation}
 use Rattle.terms.specs.declared.text_faults.TextCode.{TextCode}
-use Rattle.terms.specs.declared.text_faults.TextCode.TheVariants.{BadDelete, FallingUpdate}
+use Rattle.terms.specs.declared.text_faults.TextCode.TheVariants.{BadDelete, UpdateOutOfOrder}
 use Rattle.terms.specs.declared.text_faults.TextFault.{TextFault}
 use Rattle.terms.specs.Types.{Text, Lines}
 use Rattle.terms.specs.Texts.{IsNumbered, IsNumberedLine, number_of, is_control, IsDelete, IsSomeDelete, given, Deletes}
@@ -132,7 +132,7 @@ good_from lines ranges sorted least i h all moved rising =
     }
 
 rest_code : (seen : Lines) (ranges : List Range) (least : ℕ) (line : List ℕ) (code : TextCode)
-    → IsSplit seen ranges least → is_control line ≡ false → IsNumberFault line least FallingUpdate code
+    → IsSplit seen ranges least → is_control line ≡ false → IsNumberFault line least UpdateOutOfOrder code
     → HasRestFault seen line code
 rest_code seen ranges least line code h no' f =
     let other : IsTrue (is_control line) → ⊥ = λ e. both_ways (is_control line) no' e in
@@ -167,7 +167,7 @@ control_fault lines ranges least i line fault below at h number code yes' none =
 -- a record without a number that rises
 pub number_fault : (lines : Lines) (ranges : List Range) (least i : ℕ) (line : List ℕ) (fault : TextFault)
     → i < length lines → line ≡ get_or lines i line → IsSplit (take i lines) ranges least → fault.number ≡ i + 2
-    → is_control line ≡ false → IsNumberFault line least FallingUpdate fault.code
+    → is_control line ≡ false → IsNumberFault line least UpdateOutOfOrder fault.code
     → IsFirstFault FollowChange HasRestFault 1 lines fault
 number_fault lines ranges least i line fault below at h number no' f =
     first_fault lines ranges least i line fault below at h number

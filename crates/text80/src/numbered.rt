@@ -36,14 +36,14 @@ impl Numbered {
     }
 
     /// The records as a numbered text. The error tells the first bad record, counted from 1: `NoNumber` where it has no
-    /// number, `FallingNumber` where its number does not rise.
+    /// number, `NumberOutOfOrder` where its number does not rise.
     pub fn read(lines: Vec<Line>) -> Result<Numbered, TextFault>
         ensures text { IfOk result (λ text. text ≡ lines.items) }
         ensures fault { IfErr result (IsNumberedFault lines.items) }
     {
         let mut least = 0;
         for (i, line) in lines.iter().enumerate() {
-            match rising_number(line, least, TextCode::FallingNumber) {
+            match rising_number(line, least, TextCode::NumberOutOfOrder) {
                 Ok(number) => least = number + 1,
                 Err(code) => return Err(TextFault {
                     number: i + 1,

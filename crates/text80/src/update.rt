@@ -33,10 +33,10 @@ impl Model for Update {
 
 impl Update {
     /// The records, CHANGE and all, as an update of the element of this name. `Memory` comes where memory runs out.
-    /// `Fault` tells the first bad record, counted from 1. Of the first one it is `NoChange` where it is no CHANGE, or
-    /// there are no records, and `OtherElement` where it names another element; behind that it is `NoNumber` where a
-    /// record has no number, `BadDelete` where a `./` record is no DELETE, and `FallingUpdate` where a number does not
-    /// rise.
+    /// `Fault` tells the first bad record, counted from 1. Of the first one it is `NoChangeRecord` where it is no
+    /// CHANGE, or there are no records, and `OtherElement` where it names another element; behind that it is `NoNumber`
+    /// where a record has no number, `BadDelete` where a `./` record is no DELETE, and `UpdateOutOfOrder` where a
+    /// number does not rise.
     pub fn read(alloc: Global, records: Vec<Line>, name: &[u8]) -> Result<Update, TextError>
         ensures update { IfOk result (λ update. (update ≡ records.items) × IsUpdate name.now records.items) }
         ensures fault { IfErr result (IsUpdateError name.now records.items) }
@@ -94,13 +94,13 @@ fn behind_change<'a>(records: &'a [Line], name: &[u8]) -> Result<&'a [Line], Tex
     let Some((first, rest)) = records.split_first() else {
         return Err(TextFault {
             number: 1,
-            code: TextCode::NoChange,
+            code: TextCode::NoChangeRecord,
         });
     };
     match changed(first) {
         None => Err(TextFault {
             number: 1,
-            code: TextCode::NoChange,
+            code: TextCode::NoChangeRecord,
         }),
         Some(found) if found != name => Err(TextFault {
             number: 1,
@@ -128,7 +128,7 @@ fn ranges_of(alloc: Global, lines: &[Line]) -> Result<Vec<Range>, TextError>
                 }
             }
         } else {
-            match rising_number(line, least, TextCode::FallingUpdate) {
+            match rising_number(line, least, TextCode::UpdateOutOfOrder) {
                 Ok(found) => least = found + 1,
                 Err(code) => return Err(TextError::Fault(TextFault { number, code })),
             }

@@ -8,8 +8,8 @@ use Rattle.std.proofs.lemmas.Bool.{not-true}
 use Rattle.std.proofs.lemmas.List.Folds.{Any-from_list_any, list_any-from_Any}
 use Rattle.terms.specs.declared.codes.Test.{Test}
 use Rattle.terms.specs.declared.codes.Test.TheVariants.{HeldBySystem, HeldByUser, ForbiddenByNpre, OwnedByAnother}
-use Rattle.terms.specs.declared.codes.Test.TheVariants.{UnrelatedLevel, NothingToUpdate, NotInTarget, ChainDeleted}
-use Rattle.terms.specs.declared.codes.Test.TheVariants.{InClash, AlreadyAccepted, HasDelete, UnappliedLevel, SeveralFit}
+use Rattle.terms.specs.declared.codes.Test.TheVariants.{Regression, NothingToUpdate, NotInTarget, ChainDeleted}
+use Rattle.terms.specs.declared.codes.Test.TheVariants.{InClash, AlreadyAccepted, HasDelete, OtherLevel, SeveralFit}
 use Rattle.terms.specs.Types.{Id, Applied, Entry, Element, Change, Zone}
 use Rattle.terms.specs.Lookups.{is_nil, applied_of, element_of, entry_of, is_applied, changes_of}
 use Rattle.terms.specs.Choice.{del_of}
@@ -84,7 +84,7 @@ nil_is (x ∷ xs) = (λ e same. cc same, λ apart. refl)
 pub fails_is : (r : Restoring) (x : Id) (t : Test) → IsTrue (fails_test r x t) ↔ FailsRestore r x t
 fails_is r x AlreadyAccepted = (λ h. h, λ h. h)
 fails_is r x HasDelete = nil_is (del_of r.choice x)
-fails_is r x UnappliedLevel = (
+fails_is r x OtherLevel = (
   λ on.
       let a = Any-from_list_any (is_behind r) (changes_of r.global x) on in
       (a.0, a.1, a.2, a.3, (behind_is r a.1).0 a.4),
@@ -94,7 +94,7 @@ fails_is r x HeldBySystem = (λ e. absurd (cc e), λ e. absurd e)
 fails_is r x HeldByUser = (λ e. absurd (cc e), λ e. absurd e)
 fails_is r x ForbiddenByNpre = (λ e. absurd (cc e), λ e. absurd e)
 fails_is r x OwnedByAnother = (λ e. absurd (cc e), λ e. absurd e)
-fails_is r x UnrelatedLevel = (λ e. absurd (cc e), λ e. absurd e)
+fails_is r x Regression = (λ e. absurd (cc e), λ e. absurd e)
 fails_is r x NothingToUpdate = (λ e. absurd (cc e), λ e. absurd e)
 fails_is r x NotInTarget = (λ e. absurd (cc e), λ e. absurd e)
 fails_is r x ChainDeleted = (λ e. absurd (cc e), λ e. absurd e)

@@ -1,7 +1,7 @@
 //! The tests of RESTORE.
 ghost use Rattle.std.specs.Prelude.{◌≡◌, [], ◌∷◌, not, filter, map, IfOk};
 ghost use Rattle.std.specs.List.{list_any};
-ghost use Rattle.terms.specs.declared.codes.Test.TheVariants.{AlreadyAccepted, HasDelete, UnappliedLevel};
+ghost use Rattle.terms.specs.declared.codes.Test.TheVariants.{AlreadyAccepted, HasDelete, OtherLevel};
 ghost use Rattle.terms.specs.Restore.{are_alike, is_alike, may_return};
 ghost use Rattle.undo.specs.Scopes.{restoring_of};
 ghost use Rattle.decide.specs.Said.{AreTests};
@@ -69,7 +69,7 @@ fn fails(scope: &Scope<'_, '_>, id: Id, test: Test) -> bool
             Some(ver) => !ver.del.is_empty(),
             None => false,
         },
-        Test::UnappliedLevel => changes_of(scope.vers.global(), id)
+        Test::OtherLevel => changes_of(scope.vers.global(), id)
             .iter()
             .any(|change| is_behind(scope, change)),
         _ => false,
@@ -79,9 +79,9 @@ fn fails(scope: &Scope<'_, '_>, id: Id, test: Test) -> bool
 // The tests that a candidate fails.
 fn row_of(alloc: Global, scope: &Scope<'_, '_>, id: Id) -> Result<Vec<Test>, AllocError>
     ensures { IfOk result (λ row. row.items ≡ filter (fails_test (restoring_of scope.now) id) (AlreadyAccepted
-        ∷ HasDelete ∷ UnappliedLevel ∷ [])) }
+        ∷ HasDelete ∷ OtherLevel ∷ [])) }
 {
-    [Test::AlreadyAccepted, Test::HasDelete, Test::UnappliedLevel]
+    [Test::AlreadyAccepted, Test::HasDelete, Test::OtherLevel]
         .iter()
         .filter(|test| fails(scope, id, **test))
         .copied()

@@ -57,4 +57,4 @@ returns-in-Listed-clause-code g c =
 pub returns-in-Control-clause-paged : goal.returns-in-Control-clause-paged
 unfolding text
 returns-in-Control-clause-paged g c =
-    rw c.in-Control.is (paged_as _ _ _ _ _ _ (rw c.cn_text.ensures refl) c.put_words.ensures.paged)
+    rw c.in-Control.is (paged_as _ _ _ _ _ _ (rw c.command_code_text.ensures refl) c.put_words.ensures.paged)

@@ -3,7 +3,7 @@ use Rattle.std.specs.List.{list_any}
 use Rattle.indexmap.specs.IndexMap.{values}
 use Rattle.terms.specs.declared.codes.IdRefusal.TheVariants as refusal
 use Rattle.terms.specs.Lookups.{is_received, is_applied}
-use Rattle.terms.specs.Global.{AppliedSomewhere, NotThere}
+use Rattle.terms.specs.Global.{AppliedSomewhere, UnknownSysmod}
 use Rattle.report.specs.declared.outcome.Status.TheVariants.{Refused}
 use Rattle.smpe_global.proofs.Ids.{taken_out, left_in, on_ok}
 use Rattle.smpe_global.proofs.rejected.take_out.Goals as goal
@@ -12,7 +12,7 @@ pub returns-then-not-is_received : goal.returns-then-not-is_received
 returns-then-not-is_received c =
     let zones = c.args.zones.now in
     left_in zones c.args.global.now c.args.id c.args.edits.now.items false
-    (list_any (λ zone. is_applied zone c.args.id) (values zones)) NotThere (Refused refusal.NotThere)
+    (list_any (λ zone. is_applied zone c.args.id) (values zones)) UnknownSysmod (Refused refusal.UnknownSysmod)
     (sym c.is_received.ensures ∙ c.if-not-is_received.true) refl refl refl
 
 pub returns-then-is_applied : goal.returns-then-is_applied

@@ -7,11 +7,11 @@ use Rattle.undo.specs.Scopes.{restoring_of}
 use Rattle.undo.specs.Tests.{is_behind, fails_test}
 use Rattle.undo.proofs.tests.fails.Goals as goal
 
-pub returns-in-UnappliedLevel : goal.returns-in-UnappliedLevel
-returns-in-UnappliedLevel c =
+pub returns-in-OtherLevel : goal.returns-in-OtherLevel
+returns-in-OtherLevel c =
     let r = restoring_of c.args.scope.now in
     let any : c.any.result ≡ list_any (is_behind r) c.changes_of.result.now =
     any_from_yields_List (is_behind r) _ _ _ c.any.ensures.ran (YieldsList-from_slice _ c.iter.ensures.rest)
     (λ x b q k. search (rules, tests)) in
-    subst (λ t. c.any.result ≡ fails_test r c.args.id t) (sym c.in-UnappliedLevel.is)
+    subst (λ t. c.any.result ≡ fails_test r c.args.id t) (sym c.in-OtherLevel.is)
     (any ∙ ap (list_any (is_behind r)) (c.changes_of.ensures ∙ ap (λ g. changes_of g c.args.id) c.global.ensures))

@@ -1,6 +1,6 @@
 use Rattle.std.proofs.Common.{◌∙◌, sym, subst, true≢false}
 use Rattle.terms.specs.Types.{ListZone}
-use Rattle.machine.specs.Outcome.{Ran, BoundaryLacking, list_global, list_zone, header_of}
+use Rattle.machine.specs.Outcome.{Ran, NoBoundary, list_global, list_zone, header_of}
 use Rattle.machine.specs.Machine.{Performs}
 use Rattle.smpe_session.proofs.Leading.{headed, refused}
 use Rattle.smpe_session.proofs.Looking.{at_global_zone, list_nowhere, list_global_holds, list_zone_holds}
@@ -8,7 +8,7 @@ use Rattle.smpe_session.proofs.session.Session.list.Goals as goal
 
 pub returns-in_default : goal.returns-in_default
 returns-in_default c = λ s is date files.
-    refused date files (ListZone c.args.text) s c.args.self.now.boundary BoundaryLacking is.boundary
+    refused date files (ListZone c.args.text) s c.args.self.now.boundary NoBoundary is.boundary
     (list_nowhere s c.args.text (sym is.boundary ∙ c.in_default.is))
 
 pub returns-then-is_global : goal.returns-then-is_global

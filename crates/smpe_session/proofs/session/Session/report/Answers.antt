@@ -1,7 +1,7 @@
 use Rattle.std.proofs.Common.{◌∙◌, Some, sym, subst}
 use Rattle.std.proofs.lemmas.Result.{IfOk-weaker}
 use Rattle.terms.specs.Types.{Report}
-use Rattle.machine.specs.Outcome.{Ran, BoundaryLacking, BoundaryUnfit}
+use Rattle.machine.specs.Outcome.{Ran, NoBoundary, WrongKind}
 use Rattle.machine.specs.Errsysmods.{AreErrsysmods}
 use Rattle.machine.specs.Machine.{Performs}
 use Rattle.smpe_session.proofs.Leading.{headed, refused}
@@ -10,7 +10,7 @@ use Rattle.smpe_session.proofs.session.Session.report.Goals as goal
 
 pub returns-in_default : goal.returns-in_default
 returns-in_default c = λ s is inventory date files.
-    refused date files Report s c.args.self.now.boundary BoundaryLacking is.boundary
+    refused date files Report s c.args.self.now.boundary NoBoundary is.boundary
     (report_nowhere s (sym is.boundary ∙ c.in_default.is))
 
 pub returns-in-Some-get : goal.returns-in-Some-get
@@ -27,6 +27,6 @@ returns-in-Some-get c = IfOk-weaker c.errsysmods.result _ _
 pub returns-in-None : goal.returns-in-None
 returns-in-None c = λ s is inventory date files.
     let at = sym is.boundary ∙ c.in-Some.is in
-    refused date files Report s c.args.self.now.boundary BoundaryUnfit is.boundary
+    refused date files Report s c.args.self.now.boundary WrongKind is.boundary
     (report_global s c.in-Some.name inventory at
     (at_global_zone s c.args.self.now c.in-Some.name is at (sym c.in-None.ensures.value)))
