@@ -20,5 +20,5 @@ pub returns-in-Global-clause-ok : goal.returns-in-Global-clause-ok
 returns-in-Global-clause-ok g c =
     let e = c.in-Global in
     rw e.is (on_ok c.write_edits.result _ _
-    (λ changes. edits_written g.S.Store c.args.tx.now.conn.now c.write_edits.new.tx.conn.now e.edits
+    (λ changes. edits_written g.S.Store c.args.tx.now.conn.now c.write_edits.new.tx.conn.now e.stated e.edits
     (rw c.as_slice.ensures.value at changes)) c.write_edits.ensures.ok)
