@@ -21,7 +21,8 @@ loop-edit-preserved g c =
           c.loop-edit.invariant.calls
           c.in_ok-write_edit.was c.write_edit.ensures.calls;
       changes = edits_go_on g.S.Store old mid new c.args.stated.now c.args.edits.now c.loop-edit.edit-index _
-          (omega arith) c.edit-item.is c.write_edit.ensures.continues.inside c.loop-edit.invariant.changes c.in_ok-write_edit.ensures.ok;
+          (omega arith) c.edit-item.is c.write_edit.ensures.continues.inside c.loop-edit.invariant.changes
+          c.in_ok-write_edit.ensures.ok;
     }
 
 pub returns-clause-calls : goal.returns-clause-calls
