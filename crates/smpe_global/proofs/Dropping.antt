@@ -19,7 +19,8 @@ use Rattle.terms.proofs.TextOrder.{same_itself}
 use Rattle.terms.proofs.GlobalKept.{hold_cmp_total}
 use Rattle.terms.proofs.HoldOrder.{has_key_ties}
 use Rattle.sysmods.specs.declared.edit.GlobalEdit.TheVariants.{RemoveSysmod}
-use Rattle.sysmods.specs.Edits.{after_edit, after_edits}
+use Rattle.sysmod.specs.Edited.{less_sysmod}
+use Rattle.sysmods.specs.Edits.{after_edits}
 use Rattle.smpe_global.specs.Edits.{IsOfReject}
 use Rattle.smpe_global.specs.Rejections.{removal, edits_of}
 
@@ -69,12 +70,12 @@ abbrev pub has_key_of : Hold → Hold → Bool
 has_key_of o h = has_key h.id h.kind h.reason o
 
 -- the holds less those of these keys
-removals_make : (g : Global) (hs : List Hold) → after_edits (map removal hs) g ≡ record g
+removals_make : (stated g : Global) (hs : List Hold) → after_edits stated (map removal hs) g ≡ record g
     { holds = filter (λ o. not (list_any (has_key_of o) hs)) g.holds }
-removals_make g [] = ap (λ os. record g { holds = os }) (sym
+removals_make stated g [] = ap (λ os. record g { holds = os }) (sym
     (filter_all (λ (o : Hold). true) g.holds (λ i d below. refl)))
-removals_make g (h ∷ hs) =
-    removals_make (without_hold h.id h.kind h.reason g) hs
+removals_make stated g (h ∷ hs) =
+    removals_make stated (without_hold h.id h.kind h.reason g) hs
     ∙ ap (λ os. record g { holds = os }) (filter_twice (λ o. has_key_of o h) (λ o. list_any (has_key_of o) hs) g.holds)
 
 -- holds of one key in a list that rises are one
@@ -150,11 +151,11 @@ module _ (g : Global) (x : Id) (is : IsGlobal g) where
   keyed o = any_filter (λ h. h.internal) (has_key_of o) (holds_of g System x)
       ∙ any_filter on (λ h. h.internal && has_key_of o h) g.holds
 
-  pub edits_make : after_edits (edits_of g x) g ≡ without_sysmod g x
-  edits_make =
+  pub edits_make : (stated : Global) → after_edits stated (edits_of g x) g ≡ without_sysmod g x
+  edits_make stated =
       let hs = filter (λ h. h.internal) (holds_of g System x) in
-      removals_make (after_edit g (RemoveSysmod x)) hs
-      ∙ ap (λ os. record (after_edit g (RemoveSysmod x)) { holds = os })
+      removals_make stated (less_sysmod x g) hs
+      ∙ ap (λ os. record (less_sysmod x g) { holds = os })
       (filter_alike (λ o. not (list_any (has_key_of o) hs)) (λ h. not (h.internal && bytes_eq h.id x)) g.holds
       (λ i d below. ap not (keyed (get_or g.holds i d) ∙ goes i d below)))
 

@@ -31,13 +31,14 @@ fits_always : (e : GlobalEdit) → IsOfReject e → (g : Global) → Fits g e
 fits_always (RemoveSysmod x) is g = tt
 fits_always (RemoveHold x kind reason) is g = tt
 fits_always (PutHold h) is g = absurd is
-fits_always (InsertSysmod s) is g = absurd is
+fits_always (InsertSysmod x sources) is g = absurd is
 fits_always (ReplaceSources s) is g = absurd is
 
 -- so they fit one after the other
-pub each_fits : (edits : List GlobalEdit) (g : Global) → All IsOfReject edits → EachFits edits g
-each_fits edits g all k edit below at =
-    fits_always edit (subst IsOfReject (sym at) (all k edit below)) (after_edits (take k edits) g)
+pub each_fits : (stated : Global) (edits : List GlobalEdit) (g : Global) → All IsOfReject edits
+    → EachFits stated edits g
+each_fits stated edits g all k edit below at =
+    fits_always edit (subst IsOfReject (sym at) (all k edit below)) (after_edits stated (take k edits) g)
 
 -- what REJECT answers, by whether it is received and whether it is applied
 abbrev pub answer : Global → Id → Bool → Bool → Result Global RejectFault
@@ -60,7 +61,7 @@ module _ {S : Type 0} (zones : IndexMap Text Zone S) (g : Global) (x : Id) where
     own = [];
     edits_are = sym (append-nil edits);
     rejects = λ k d below. absurd (omega (arith, below));
-    after = refl;
+    after = λ stated. refl;
     leads = λ named alike. sym (ap (global_after g) (answered named alike r a received is ∙ answers));
     told = λ named alike. printed ∙ sym (ap reject_status (answered named alike r a received is ∙ answers));
   }
@@ -72,7 +73,7 @@ module _ {S : Type 0} (zones : IndexMap Text Zone S) (g : Global) (x : Id) where
     own = edits_of g x;
     edits_are = written;
     rejects = edits_reject g x;
-    after = edits_make g x known ∙ sym out;
+    after = λ stated. edits_make g x known stated ∙ sym out;
     leads = λ named alike. out ∙ sym (ap (global_after g) (answered named alike true false there free));
     told = λ named alike. sym (ap reject_status (answered named alike true false there free));
   }
@@ -96,7 +97,8 @@ module _ {S : Type 0} (zones : IndexMap Text Zone S) (g : Global) where
             (runs_append (RejectsId named) g m new ids (x ∷ []) (map line_view lines) (line_view back.line ∷ [])
             (front.runs named alike) (step.runs named alike));
         rejects = All-append IsOfReject edits back.own front.rejects step.rejects;
-        after = fold-append after_edit g edits back.own ∙ ap (after_edits back.own) front.after ∙ step.after;
+        after = λ stated. fold-append (after_edit stated) g edits back.own
+            ∙ ap (after_edits stated back.own) (front.after stated) ∙ step.after stated;
       } in
       subst (λ es. AreRejected zones g (ids ++ x ∷ []) new es printed) (sym back.edits_are)
       (subst (AreRejected zones g (ids ++ x ∷ []) new (edits ++ back.own)) (sym back.lines_are) made)

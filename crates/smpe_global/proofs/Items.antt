@@ -9,11 +9,12 @@ use Rattle.machine.specs.Outcome as machine
 use Rattle.machine.specs.Runs.{Runs}
 use Rattle.machine.proofs.Joined.{runs_append, runs_one}
 use Rattle.report.specs.Views.{line_view}
-use Rattle.sysmods.specs.Edits.{after_edit, EachFits, after_edits}
+use Rattle.sysmods.specs.Edits.{after_edit, EachFits, after_edits, StatesThose}
 use Rattle.smpe_global.specs.declared.taken.Taken.{Taken}
 use Rattle.smpe_global.specs.Edits.{IsOfReceive}
 use Rattle.smpe_global.specs.Taken.{IsTaken}
 use Rattle.smpe_global.proofs.Fitting.{fits_none, fits_append}
+use Rattle.smpe_global.proofs.Stating.{states_same, states_then}
 
 module _ {I : Type 0} (Takes : Global → I → Global → List machine.Line → Type 0) where
   pub none_taken : (g : Global) (t : Taken) → IsTaken (Runs Takes g []) g g t t
@@ -24,8 +25,9 @@ module _ {I : Type 0} (Takes : Global → I → Global → List machine.Line →
     lines_are = sym (append-nil t.lines.items);
     prints = (refl, refl);
     receives = All-nil IsOfReceive;
-    fits = fits_none g;
-    after = refl;
+    stays = states_same g g refl;
+    fits = λ stated states. fits_none stated g;
+    after = λ stated states. refl;
   }
 
   -- one item more
@@ -44,9 +46,16 @@ module _ {I : Type 0} (Takes : Global → I → Global → List machine.Line →
         front.prints
         (runs_one Takes middle new item (map line_view back.lines) back.prints));
     receives = All-append IsOfReceive front.own back.own front.receives back.receives;
-    fits = fits_append g front.own back.own front.fits (subst (EachFits back.own) (sym front.after) back.fits);
-    after = fold-append after_edit g front.own back.own ∙ ap (after_edits back.own) front.after ∙ back.after;
+    stays = states_then g middle new front.stays back.stays;
+    fits = λ stated states. fits_append stated g front.own back.own (front.fits stated (at_middle stated states))
+        (subst (EachFits stated back.own) (sym (front.after stated (at_middle stated states)))
+        (back.fits stated states));
+    after = λ stated states. fold-append (after_edit stated) g front.own back.own
+        ∙ ap (after_edits stated back.own) (front.after stated (at_middle stated states)) ∙ back.after stated states;
   }
+    where
+      at_middle : (stated : Global) → StatesThose stated new → StatesThose stated middle
+      at_middle stated states = states_then middle new stated back.stays states
 
 module _ (Prints : Global → List machine.Line → Type 0) (g new : Global) (none all : Taken)
     (taken : IsTaken Prints g new none all) where
@@ -61,8 +70,10 @@ module _ (Prints : Global → List machine.Line → Type 0) (g new : Global) (no
   pub all_receive : none.edits.items ≡ [] → All IsOfReceive all.edits.items
   all_receive nothing = subst (All IsOfReceive) (edits_own nothing) taken.receives
 
-  pub all_fit : none.edits.items ≡ [] → EachFits all.edits.items g
-  all_fit nothing = subst (λ es. EachFits es g) (edits_own nothing) taken.fits
+  pub all_fit : none.edits.items ≡ [] → (stated : Global) → StatesThose stated new → EachFits stated all.edits.items g
+  all_fit nothing stated states = subst (λ es. EachFits stated es g) (edits_own nothing) (taken.fits stated states)
 
-  pub all_after : none.edits.items ≡ [] → after_edits all.edits.items g ≡ new
-  all_after nothing = subst (λ es. after_edits es g ≡ new) (edits_own nothing) taken.after
+  pub all_after : none.edits.items ≡ [] → (stated : Global) → StatesThose stated new
+      → after_edits stated all.edits.items g ≡ new
+  all_after nothing stated states =
+      subst (λ es. after_edits stated es g ≡ new) (edits_own nothing) (taken.after stated states)

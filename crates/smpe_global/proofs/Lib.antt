@@ -1,4 +1,5 @@
 pub mod Fitting
+pub mod Stating
 pub mod Items
 pub mod Sysmods
 pub mod Sources

@@ -64,8 +64,9 @@ module _ (source : Text) (g : Global) (x : Id) (rises : Rises (slice_cmp nat_cmp
     alone r h hit = let here = found r h hit in cc
 
     -- its edit gives it the sources
-    replaced : after_edits (ReplaceSources (head_of (with_source source s)) ∷ []) g ≡ assign g source x
-    replaced =
+    replaced : (stated : Global)
+        → after_edits stated (ReplaceSources (head_of (with_source source s)) ∷ []) g ≡ assign g source x
+    replaced stated =
         ap (λ ss. record g { sysmods = ss })
         (map_alike (put s.id) (assigned source x) g.sysmods each)
       where
@@ -86,19 +87,21 @@ module _ (source : Text) (g : Global) (x : Id) (rises : Rises (slice_cmp nat_cmp
         each : (r : Sysmod) → Contains g.sysmods r → r.id ≡ s.id → r.kind ≡ s.kind
         each r h same = ap (λ (y : Sysmod). y.kind) (alone r h (ap (λ y. bytes_eq y x) same ∙ named))
 
-  -- what is written of an id leads where it is to lead
-  pub assigned_written : (o : Option Sysmod) → sysmod_of (assign g source x) x ≡ o
-      → EachFits (source_edits o) g × (after_edits (source_edits o) g ≡ assign g source x)
-  assigned_written o is = subst (λ p. EachFits (source_edits p) g
-      × (after_edits (source_edits p) g ≡ assign g source x)) (sym (sysmod_of_assign g source x x) ∙ is)
+  -- what is written of the SYSMOD fits, and leads where it is to lead
+  abbrev Leads : Global → Option Sysmod → Type 0
+  Leads stated o = EachFits stated (source_edits o) g × (after_edits stated (source_edits o) g ≡ assign g source x)
+
+  pub assigned_written : (stated : Global) (o : Option Sysmod) → sysmod_of (assign g source x) x ≡ o
+      → Leads stated o
+  assigned_written stated o is = subst (Leads stated) (sym (sysmod_of_assign g source x x) ∙ is)
       (by (sysmod_of g x) refl)
     where
-      by : (p : Option Sysmod) → sysmod_of g x ≡ p → EachFits (source_edits (option_map (assigned source x) p)) g
-          × (after_edits (source_edits (option_map (assigned source x) p)) g ≡ assign g source x)
-      by None none = (fits_none g, sym (none_assigned none))
+      by : (p : Option Sysmod) → sysmod_of g x ≡ p → Leads stated (option_map (assigned source x) p)
+      by None none = (fits_none stated g, sym (none_assigned none))
       by (Some s) there =
           let same : assigned source x s ≡ with_source source s =
           ap (λ b. if b then with_source source s else s) (named s there) in
-          subst (λ r. EachFits (source_edits (Some r)) g × (after_edits (source_edits (Some r)) g ≡ assign g source x))
-          (sym same)
-          (fits_one g (ReplaceSources (head_of (with_source source s))) (replaced_fits s there), replaced s there)
+          subst (λ r. Leads stated (Some r)) (sym same) (
+            fits_one stated g (ReplaceSources (head_of (with_source source s))) (replaced_fits s there),
+            replaced s there stated,
+          )

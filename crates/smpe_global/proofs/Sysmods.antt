@@ -1,8 +1,11 @@
 -- A SYSMOD that is received or refused.
-use Rattle.std.proofs.Common.{◌≡◌, ◌∙◌, [], ◌∷◌, ◌++◌, refl, sym, ap, subst, Option, None, Some, Ok, Err, All, map}
+use Rattle.std.proofs.Common.{◌≡◌, ◌∙◌, List, [], ◌∷◌, ◌++◌, refl, sym, ap, subst, Option, None, Some, Ok, Err, All}
+use Rattle.std.proofs.Common.{map, append-nil}
+use Rattle.std.proofs.lemmas.Bool.{false_from_ne_true}
 use Rattle.std.proofs.lemmas.List.Elements.{All-nil, All-cons, All-map}
 use Rattle.terms.specs.Types.{Text, Global, Sysmod, ASysmod}
 use Rattle.terms.specs.Global.{IsSysmod, AlreadyReceived}
+use Rattle.terms.specs.Lookups.{is_received}
 use Rattle.machine.specs.Outcome.{OfKind, StatusLine}
 use Rattle.machine.specs.Receiving.{TakesItem, sourced, receive_status}
 use Rattle.sysmods.specs.declared.faults.ReceiveFault.{ReceiveFault}
@@ -11,49 +14,63 @@ use Rattle.sysmods.specs.Faults.{IsReceived}
 use Rattle.report.specs.declared.outcome.Line.{Line}
 use Rattle.report.specs.Views.{line_view}
 use Rattle.smpe_global.specs.declared.taken.Taken.{Taken}
+use Rattle.sysmods.specs.declared.edit.GlobalEdit.{GlobalEdit}
 use Rattle.sysmods.specs.declared.edit.GlobalEdit.TheVariants.{PutHold, InsertSysmod}
-use Rattle.smpe_global.specs.Edits.{IsOfReceive, answer_of, edits_of, edits_after}
+use Rattle.sysmods.specs.Edits.{StatesThose, EachFits, after_edits}
+use Rattle.smpe_global.specs.Edits.{IsOfReceive, answer_of, AreEditsOf}
 use Rattle.smpe_global.specs.Taken.{IsTaken}
 use Rattle.smpe_global.proofs.Fitting.{fits_none, sysmod_fits, sysmod_makes}
+use Rattle.smpe_global.proofs.Stating.{states_same, states_received}
 
 -- what writes a SYSMOD and its holds
-writes_receive : (s : Sysmod) → All IsOfReceive (edits_of s)
-writes_receive s = All-cons IsOfReceive (InsertSysmod (record s { holds = [] })) (map (λ h. PutHold h) s.holds) tt
-    (All-map IsOfReceive (λ h. PutHold h) s.holds (λ i d below. tt))
+writes_receive : (s : Sysmod) (edits : List GlobalEdit) → AreEditsOf s edits → All IsOfReceive edits
+writes_receive s edits (sources, names, are) = subst (All IsOfReceive) (sym are)
+    (All-cons IsOfReceive (InsertSysmod s.id sources) (map (λ h. PutHold h) s.holds) tt
+    (All-map IsOfReceive (λ h. PutHold h) s.holds (λ i d below. tt)))
 
+-- whose line is told
 module _ (source : Option Text) (g new : Global) (s : Sysmod) (line : Line) (was is : Taken)
-    (told : is.lines.items ≡ was.lines.items ++ line ∷ []) where
-  sysmod_taken : (refused : Option ReceiveFault) → is.edits.items ≡ was.edits.items
-      ++ edits_after refused (sourced source s)
-      → IsSysmod (sourced source s) → IsReceived g (sourced source s) new refused
-      → line_view line ≡ StatusLine s.id (OfKind s.kind) (receive_status (answer_of new refused))
-      → IsTaken (TakesItem source g (ASysmod s)) g new was is
-  sysmod_taken None written known (free, came) printed = record {
-    own = edits_after None (sourced source s);
-    edits_are = written;
-    lines = line ∷ [];
-    lines_are = told;
-    prints = (Ok new, (free, came), refl, ap (λ l. l ∷ []) printed);
-    receives = writes_receive (sourced source s);
-    fits = sysmod_fits g (sourced source s) (free AlreadyReceived);
-    after = sysmod_makes g (sourced source s) known ∙ sym came;
-  }
-  sysmod_taken (Some fault) written known (first, same) printed = record {
-    own = [];
-    edits_are = written;
-    lines = line ∷ [];
-    lines_are = told;
-    prints = (Err (fault_of fault), first, same, ap (λ l. l ∷ []) printed);
-    receives = All-nil IsOfReceive;
-    fits = fits_none g;
-    after = sym same;
-  }
+    (told : is.lines.items ≡ was.lines.items ++ line ∷ []) (refused : Option ReceiveFault)
+    (printed : line_view line ≡ StatusLine s.id (OfKind s.kind) (receive_status (answer_of new refused)))
+    (received : IsReceived g (sourced source s) new refused) where
+  printed_as : (r : Option ReceiveFault) → refused ≡ r
+      → line_view line ∷ [] ≡ StatusLine s.id (OfKind s.kind) (receive_status (answer_of new r)) ∷ []
+  printed_as r is = ap (λ l. l ∷ [])
+      (printed ∙ ap (λ q. StatusLine s.id (OfKind s.kind) (receive_status (answer_of new q))) is)
 
-  -- as it is sent
-  pub sent_taken : (sent : Sysmod) (refused : Option ReceiveFault) → sent ≡ sourced source s
-      → is.edits.items ≡ was.edits.items ++ edits_after refused sent → IsSysmod sent → IsReceived g sent new refused
-      → line_view line ≡ StatusLine s.id (OfKind s.kind) (receive_status (answer_of new refused))
+  pub sysmod_taken : (own : List GlobalEdit) → AreEditsOf (sourced source s) own
+      → is.edits.items ≡ was.edits.items ++ own → IsSysmod (sourced source s) → refused ≡ None
       → IsTaken (TakesItem source g (ASysmod s)) g new was is
-  sent_taken sent refused same written known r printed =
-      sysmod_taken refused (subst (λ c. is.edits.items ≡ was.edits.items ++ edits_after refused c) same written)
-      (subst IsSysmod same known) (subst (λ c. IsReceived g c new refused) same r) printed
+  sysmod_taken own (sources, names, are) written known none =
+      let sent = sourced source s in
+      let came = subst (IsReceived g sent new) none received in
+      let unknown = false_from_ne_true (is_received g sent.id) (came.0 AlreadyReceived) in
+      record {
+        own = own;
+        edits_are = written;
+        lines = line ∷ [];
+        lines_are = told;
+        prints = (Ok new, came, refl, printed_as None none);
+        receives = writes_receive sent own (sources, names, are);
+        stays = subst (λ n. StatesThose n g) (sym came.1) (states_received g sent unknown);
+        fits = λ stated states.
+            subst (λ es. EachFits stated es g) (sym are) (sysmod_fits stated g sent sources unknown);
+        after = λ stated states. ap (λ es. after_edits stated es g) are
+            ∙ sysmod_makes stated g sent sources names known (subst (StatesThose stated) came.1 states) ∙ sym came.1;
+      }
+
+  pub sysmod_refused : (fault : ReceiveFault) → is.edits.items ≡ was.edits.items → refused ≡ Some fault
+      → IsTaken (TakesItem source g (ASysmod s)) g new was is
+  sysmod_refused fault written some =
+      let first = subst (IsReceived g (sourced source s) new) some received in
+      record {
+        own = [];
+        edits_are = written ∙ sym (append-nil was.edits.items);
+        lines = line ∷ [];
+        lines_are = told;
+        prints = (Err (fault_of fault), first.0, first.1, printed_as (Some fault) some);
+        receives = All-nil IsOfReceive;
+        stays = states_same g new (ap (λ (n : Global). n.sysmods) first.1);
+        fits = λ stated states. fits_none stated g;
+        after = λ stated states. sym first.1;
+      }

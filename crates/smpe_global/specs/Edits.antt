@@ -1,5 +1,6 @@
 -- By which edits the tables follow, and what the calls of the global zone answer.
-use Rattle.std.specs.Prelude.{List, [], ◌∷◌, map, Option, None, Some, Result, Ok, Err}
+use Rattle.std.specs.Prelude.{◌≡◌, List, [], ◌∷◌, map, Option, None, Some, Result, Ok, Err, Vec}
+use Rattle.std.specs.declared.alloc.Global.{Global as AnyGlobal}
 use Rattle.terms.specs.declared.kinds.HoldKind.{HoldKind}
 use Rattle.terms.specs.Types.{Text, Id, Global, Sysmod}
 use Rattle.terms.specs.Global as rule
@@ -28,13 +29,10 @@ answer_of new None = Ok new
 answer_of new (Some fault) = Err (fault_of fault)
 
 -- the SYSMOD, and then its holds
-abbrev pub edits_of : Sysmod → List GlobalEdit
-edits_of s = InsertSysmod (record s { holds = [] }) ∷ map (λ h. PutHold h) s.holds
-
--- of a refused SYSMOD none
-abbrev pub edits_after : Option ReceiveFault → Sysmod → List GlobalEdit
-edits_after None s = edits_of s
-edits_after (Some fault) s = []
+abbrev pub AreEditsOf : Sysmod → List GlobalEdit → Type 0
+AreEditsOf s edits =
+    (sources : Vec Text AnyGlobal) × (sources.items ≡ s.sources)
+    × (edits ≡ InsertSysmod s.id sources ∷ map (λ h. PutHold h) s.holds)
 
 -- the SYSMOD with its sources, but without its statements
 abbrev pub head_of : Sysmod → Sysmod

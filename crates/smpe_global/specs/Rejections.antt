@@ -29,13 +29,14 @@ removal h = RemoveHold h.id h.kind h.reason
 abbrev pub edits_of : Global → Id → List GlobalEdit
 edits_of g x = RemoveSysmod x ∷ map removal (filter (λ h. h.internal) (holds_of g System x))
 
--- The id is rejected or refused, and the edits, behind those before, are REJECT's and lead where it does.
+-- The id is rejected or refused, and the edits, behind those before, are REJECT's and lead where it does, whatever
+-- SYSMODs state.
 pub record IsAnswered {S : Type 0} (zones : IndexMap Text Zone S) (g : Global) (x : Id) (new : Global)
     (edits later : List GlobalEdit) (status : Status) : Type 0 where
   pub own : List GlobalEdit
   pub edits_are : later ≡ edits ++ own
   pub rejects : All IsOfReject own
-  pub after : after_edits own g ≡ new
+  pub after : (stated : Global) → after_edits stated own g ≡ new
   pub leads : (named : List NamedZone) → AppliesAlike zones named → new ≡ global_after g (reject g named x)
   pub told : (named : List NamedZone) → AppliesAlike zones named → status_view status ≡ reject_status (reject g named x)
 
@@ -45,7 +46,7 @@ pub record AreRejected {S : Type 0} (zones : IndexMap Text Zone S) (g : Global) 
   pub runs : (named : List NamedZone) → AppliesAlike zones named
       → Runs (RejectsId named) g ids new (map line_view lines)
   pub rejects : All IsOfReject edits
-  pub after : after_edits edits g ≡ new
+  pub after : (stated : Global) → after_edits stated edits g ≡ new
 
 -- One id, behind what was written and printed before.
 pub record IsRejected {S : Type 0} (zones : IndexMap Text Zone S) (g : Global) (x : Id) (new : Global)

@@ -5,12 +5,13 @@ use Rattle.machine.specs.Outcome as machine
 use Rattle.report.specs.declared.outcome.Line.{Line}
 use Rattle.report.specs.Views.{line_view}
 use Rattle.sysmods.specs.declared.edit.GlobalEdit.{GlobalEdit}
-use Rattle.sysmods.specs.Edits.{EachFits, after_edits}
+use Rattle.sysmods.specs.Edits.{StatesThose, EachFits, after_edits}
 use Rattle.smpe_global.specs.declared.taken.Taken.{Taken}
 use Rattle.smpe_global.specs.Edits.{IsOfReceive}
 
--- The global zone g has become new, and of that these lines are printed. The edits are RECEIVE's, fit, and lead there
--- too. Edits and lines stand behind those that were there.
+-- The global zone g has become new, in which what SYSMODs state stays, and of that these lines are printed. The edits
+-- are RECEIVE's. Over any global zone in which what those of new state stands, they fit and lead there too. Edits and
+-- lines stand behind those that were there.
 pub record IsTaken (Prints : Global → List machine.Line → Type 0) (g new : Global) (was is : Taken) : Type 0 where
   pub own : List GlobalEdit
   pub edits_are : is.edits.items ≡ was.edits.items ++ own
@@ -18,5 +19,6 @@ pub record IsTaken (Prints : Global → List machine.Line → Type 0) (g new : G
   pub lines_are : is.lines.items ≡ was.lines.items ++ lines
   pub prints : Prints new (map line_view lines)
   pub receives : All IsOfReceive own
-  pub fits : EachFits own g
-  pub after : after_edits own g ≡ new
+  pub stays : StatesThose new g
+  pub fits : (stated : Global) → StatesThose stated new → EachFits stated own g
+  pub after : (stated : Global) → StatesThose stated new → after_edits stated own g ≡ new

@@ -1,29 +1,22 @@
 //! The edits by which the tables follow.
-ghost use Rattle.std.specs.Prelude.{◌≡◌, ◌++◌, map, OnOk};
-ghost use Rattle.smpe_global.specs.Edits.{edits_of};
+ghost use Rattle.std.specs.Prelude.{IfOk};
+ghost use Rattle.smpe_global.specs.Edits.{AreEditsOf};
 
+use sorted::TryClone;
 use std::alloc::{AllocError, Global};
-use sysmod::{Hold, Sysmod};
+use sysmod::Sysmod;
 use sysmods::GlobalEdit;
 
-fn put_holds(edits: &mut Vec<GlobalEdit>, holds: Vec<Hold>) -> Result<(), AllocError>
-    ensures { OnOk result (edits.new.items ≡ edits.old.items ++ map (λ h. GlobalEdit.PutHold h) holds.items) }
+/// What writes a SYSMOD that is received and its holds.
+pub(crate) fn edits_of(alloc: Global, sysmod: &Sysmod) -> Result<Vec<GlobalEdit>, AllocError>
+    ensures { IfOk result (λ edits. AreEditsOf sysmod.now edits.items) }
 {
+    let mut edits = Vec::new(alloc);
+    let sources = Vec::from_slice(alloc, sysmod.sources.as_slice())?;
+    edits.push(GlobalEdit::InsertSysmod(sysmod.id, sources))?;
+    let holds = sysmod.holds.as_slice();
     for hold in holds {
-        edits.push(GlobalEdit::PutHold(hold))?;
+        edits.push(GlobalEdit::PutHold(hold.try_clone(alloc)?))?;
     }
-    Ok(())
-}
-
-/// Appends what writes a SYSMOD that is received and its holds.
-pub(crate) fn write_received(
-    alloc: Global,
-    edits: &mut Vec<GlobalEdit>,
-    mut sysmod: Sysmod,
-) -> Result<(), AllocError>
-    ensures { OnOk result (edits.new.items ≡ edits.old.items ++ edits_of sysmod) }
-{
-    let holds = sysmod.take_holds(alloc);
-    edits.push(GlobalEdit::InsertSysmod(sysmod))?;
-    put_holds(edits, holds)
+    Ok(edits)
 }

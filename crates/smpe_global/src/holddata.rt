@@ -7,7 +7,7 @@ ghost use Rattle.machine.specs.Outcome.{Held, Replaced};
 ghost use Rattle.machine.specs.Receiving.{TakesHoldItem, release_status};
 ghost use Rattle.machine.specs.Runs.{Runs};
 ghost use Rattle.report.specs.Views.{line_view, status_view};
-ghost use Rattle.sysmods.specs.Edits.{EachFits, after_edits};
+ghost use Rattle.sysmods.specs.Edits.{StatesThose, EachFits, after_edits};
 ghost use Rattle.smpe_global.specs.Edits.{IsOfReceive, release_answer, release_edits};
 ghost use Rattle.smpe_global.specs.External.{IsExternal};
 ghost use Rattle.mcs.specs.HoldItems.{item_of, items};
@@ -161,8 +161,11 @@ pub fn receive_holds(
     ensures runs { IfOk result (λ t. Runs TakesHoldItem global.old (items found.items) global.new
         (map line_view t.lines.items)) }
     ensures receives { IfOk result (λ t. All IsOfReceive t.edits.items) }
-    ensures fits { IfOk result (λ t. EachFits t.edits.items global.old) }
-    ensures edits { IfOk result (λ t. after_edits t.edits.items global.old ≡ global.new) }
+    ensures stays { OnOk result (StatesThose global.new global.old) }
+    ensures fits { IfOk result (λ t. (stated : AGlobal) → StatesThose stated global.new
+        → EachFits stated t.edits.items global.old) }
+    ensures edits { IfOk result (λ t. (stated : AGlobal) → StatesThose stated global.new
+        → after_edits stated t.edits.items global.old ≡ global.new) }
 {
     let mut taken = Taken::new(alloc);
     take_hold_items(global, found, &mut taken)?;

@@ -1,24 +1,24 @@
 //! The items of a PTFIN.
-ghost use Rattle.std.specs.Prelude.{◌≡◌, ◌++◌, All, IfOk, IfSome, OnOk, map};
+ghost use Rattle.std.specs.Prelude.{◌≡◌, All, IfOk, IfSome, OnOk, map};
 ghost use Rattle.terms.specs.Types.{Global as AGlobal, ASysmod};
 ghost use Rattle.terms.specs.Forms.{IsSource};
 ghost use Rattle.machine.specs.Runs.{Runs};
 ghost use Rattle.machine.specs.Receiving.{TakesItem, sourced, receive_status};
 ghost use Rattle.mcs.specs.Files.{item_of, items};
 ghost use Rattle.report.specs.Views.{line_view, status_view};
-ghost use Rattle.sysmods.specs.Edits.{EachFits, after_edits};
-ghost use Rattle.smpe_global.specs.Edits.{IsOfReceive, answer_of, edits_after};
+ghost use Rattle.sysmods.specs.Edits.{StatesThose, EachFits, after_edits};
+ghost use Rattle.smpe_global.specs.Edits.{IsOfReceive, answer_of};
 ghost use Rattle.smpe_global.specs.Taken.{IsTaken};
 
 use crate::assign::take_assign;
-use crate::edits::write_received;
+use crate::edits::edits_of;
 use crate::taken::Taken;
 use fields::{Attest, Source};
 use mcs::Item;
 use report::{Line, Place, Status};
 use std::alloc::{AllocError, Global};
 use sysmod::Sysmod;
-use sysmods::{GlobalEdit, GlobalZone, ReceiveFault};
+use sysmods::{GlobalZone, ReceiveFault};
 use terms::IdRefusal;
 
 fn with_source(mut sysmod: Sysmod, source: &Option<Source>) -> Result<Sysmod, AllocError>
@@ -42,21 +42,6 @@ fn status_of(refused: Option<ReceiveFault>) -> Status
     }
 }
 
-/// Appends what writes a SYSMOD that is received, unless this refused it.
-fn write_unless(
-    alloc: Global,
-    refused: Option<ReceiveFault>,
-    sysmod: Sysmod,
-    edits: &mut Vec<GlobalEdit>,
-) -> Result<(), AllocError>
-    ensures { OnOk result (edits.new.items ≡ edits.old.items ++ edits_after refused sysmod) }
-{
-    match refused {
-        None => write_received(alloc, edits, sysmod),
-        Some(_) => Ok(()),
-    }
-}
-
 /// Receives a SYSMOD, with the source that the command adds.
 fn take_sysmod(
     alloc: Global,
@@ -72,14 +57,17 @@ fn take_sysmod(
     let kind = sysmod.kind;
     let sysmod = with_source(sysmod, source)?;
     sysmod.attest();
-    let refused = global.receive(alloc, &sysmod)?;
-    write_unless(alloc, refused, sysmod, &mut taken.edits)?;
+    let mut edits = edits_of(alloc, &sysmod)?;
+    let refused = global.receive(alloc, sysmod)?;
     taken.lines.push(Line::Status {
         id,
         place: Place::Kind(kind),
         status: status_of(refused),
     })?;
-    Ok(())
+    match refused {
+        None => taken.edits.append(&mut edits),
+        Some(_) => Ok(()),
+    }
 }
 
 fn take_item(
@@ -125,8 +113,10 @@ pub fn receive(
     ensures runs { IfOk result (λ t. Runs (TakesItem source) global.old (items found.items) global.new
         (map line_view t.lines.items)) }
     ensures receives { IfOk result (λ t. All IsOfReceive t.edits.items) }
-    ensures fits { IfOk result (λ t. EachFits t.edits.items global.old) }
-    ensures edits { IfOk result (λ t. after_edits t.edits.items global.old ≡ global.new) }
+    ensures fits { IfOk result (λ t. (stated : AGlobal) → StatesThose stated global.new
+        → EachFits stated t.edits.items global.old) }
+    ensures edits { IfOk result (λ t. (stated : AGlobal) → StatesThose stated global.new
+        → after_edits stated t.edits.items global.old ≡ global.new) }
     ensures form { IfSome source IsSource }
 {
     prove!(match &source {

@@ -3,7 +3,7 @@ ghost use Rattle.std.specs.Prelude.{◌≡◌, All, List, IfOk, OnOk, map};
 ghost use Rattle.std.specs.List.{list_any};
 ghost use Rattle.std.specs.Str.{bytes_eq};
 ghost use Rattle.indexmap.specs.IndexMap.{values, IsUnique};
-ghost use Rattle.terms.specs.Types.{NamedZone};
+ghost use Rattle.terms.specs.Types.{NamedZone, Global as AGlobal};
 ghost use Rattle.terms.specs.Lookups.{is_applied};
 ghost use Rattle.machine.specs.Runs.{Runs};
 ghost use Rattle.machine.specs.Rejecting.{RejectsId};
@@ -82,8 +82,8 @@ pub fn reject(
     ensures runs { IfOk result (λ r. (named : List NamedZone) → AppliesAlike zones.now named
         → Runs (RejectsId named) global.old ids.now global.new (map line_view r.lines.items)) }
     ensures rejects { IfOk result (λ r. All IsOfReject r.edits.items) }
-    ensures fits { IfOk result (λ r. EachFits r.edits.items global.old) }
-    ensures edits { IfOk result (λ r. after_edits r.edits.items global.old ≡ global.new) }
+    ensures fits { IfOk result (λ r. (stated : AGlobal) → EachFits stated r.edits.items global.old) }
+    ensures edits { IfOk result (λ r. (stated : AGlobal) → after_edits stated r.edits.items global.old ≡ global.new) }
     ensures names { IsUnique bytes_eq zones.now }
 {
     prove!(zones.len() < usize::MAX);

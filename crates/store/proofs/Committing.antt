@@ -15,7 +15,7 @@ use Rattle.sqlite.specs.State.{State, HasCleanDisk, Survives, Shows, KeepsCommit
 use Rattle.sqlite.proofs.StateLemmas.{survives_then}
 use Rattle.sqlite.proofs.Callers.{survives_begin}
 use Rattle.terms.specs.declared.kinds.ZoneKind.{ZoneKind}
-use Rattle.terms.specs.Types.{Text, Zone as AZone}
+use Rattle.terms.specs.Types.{Text, Zone as AZone, Global as AGlobal}
 use Rattle.zones.specs.Delta.{ZoneDelta, IsDelta}
 use Rattle.store_rows.specs.Calls.{Call, RunsInside}
 use Rattle.store_rows.specs.Inside.{StaysInside}
@@ -59,9 +59,10 @@ module _ {S : Type 0} (g : Ghosts S) (old new : Held S) where
       changes i j zone.now made.0 made.1 (is_edited delta zone.now made.0 is_delta
       (zone_was name zone.now made.0 i j inventory made.1) made.2)
 
-  pub edits_written : (edits : Vec GlobalEdit AnyGlobal) → ChangesGlobal g old new (EachFits edits.items)
-      (after_edits edits.items) → Writes g old (Global edits) new
-  edits_written edits changes i j makes inventory clean was =
+  pub edits_written : (stated : Bor AGlobal) (edits : Vec GlobalEdit AnyGlobal)
+      → ChangesGlobal g old new (EachFits stated.now edits.items) (after_edits stated.now edits.items)
+      → Writes g old (Global stated edits) new
+  edits_written stated edits changes i j makes inventory clean was =
       subst (λ (k : Inventory). HasContents store_schema (rows_of k) (state g new).now) (sym makes.1)
       (changes i makes.0 clean was)
 

@@ -1,10 +1,9 @@
 -- Calls over a store one after the other, whatever its tables are.
-use Rattle.std.proofs.Common.{◌≡◌, ◌⊎◌, Result, Ok, Err, OnOk, inl, inr, refl, arith}
+use Rattle.std.proofs.Common.{◌≡◌, Result, Ok, Err, OnOk, inl, inr, refl, arith}
 use Rattle.sqlite.specs.Store.{Ghosts}
 use Rattle.sqlite.specs.Held.{Held, state}
 use Rattle.sqlite.specs.State.{HasCleanDisk}
 use Rattle.sqlite.proofs.StateLemmas.{survives_then}
-use Rattle.store_rows.specs.Calls.{Call}
 use Rattle.store_rows.specs.Reads.{OnlyReads}
 use Rattle.store_rows.proofs.Queries.{keeps_then}
 use Rattle.store_schema.specs.declared.error.StoreError.{StoreError}

@@ -1,14 +1,15 @@
 -- The statements that write a change, and why its commit fails.
-use Rattle.std.specs.Prelude.{◌⊎◌, true, List, ◌++◌}
+use Rattle.std.specs.Prelude.{◌⊎◌, true, List, [], ◌++◌}
 use Rattle.std.specs.List.{flat_map}
+use Rattle.std.specs.Option.{option_map_or}
 use Rattle.sqlite.specs.Store.{Ghosts}
 use Rattle.sqlite.specs.declared.error.Error.{Error}
 use Rattle.sqlite.specs.Held.{Held, state}
 use Rattle.sorted.specs.declared.edits.Edit.{Edit}
 use Rattle.sorted.specs.declared.edits.Edit.TheVariants.{Put, Remove}
 use Rattle.terms.specs.declared.kinds.ElemType.{ElemType}
-use Rattle.terms.specs.Lookups.{entry_of, element_of}
-use Rattle.terms.specs.Types.{Text, Id, Entry, Element, Zone as AZone}
+use Rattle.terms.specs.Lookups.{entry_of, element_of, sysmod_of}
+use Rattle.terms.specs.Types.{Text, Id, Entry, Element, Zone as AZone, Global as AGlobal}
 use Rattle.sysmods.specs.declared.edit.GlobalEdit.{GlobalEdit}
 use Rattle.sysmods.specs.declared.edit.GlobalEdit.TheVariants.{PutHold, RemoveHold, InsertSysmod, ReplaceSources}
 use Rattle.sysmods.specs.declared.edit.GlobalEdit.TheVariants.{RemoveSysmod}
@@ -17,6 +18,7 @@ use Rattle.store_rows.specs.Calls.{Call, Refused}
 use Rattle.store_rows.specs.Reads.{HasFailed}
 use Rattle.store_sysmods.specs.Holds.{put_hold_calls, remove_hold_calls}
 use Rattle.store_sysmods.specs.Calls.{insert_sysmod_calls, replace_sources_calls, remove_sysmod_calls}
+use Rattle.store_sysmods.specs.Sysmods.{sourced}
 use Rattle.store_zones.specs.Calls.{zone_calls, put_entry_calls, remove_entry_calls}
 use Rattle.store_zones.specs.Calls.{put_element_calls, remove_element_calls}
 use Rattle.store_zones.specs.Zones.{empty_zone}
@@ -33,12 +35,14 @@ element_calls name zone (Put element) =
     put_element_calls name (element_of zone element.elem_type element.name) element
 element_calls name zone (Remove key) = remove_element_calls name key.0 key.1
 
-abbrev pub edit_calls : GlobalEdit → List Call
-edit_calls (PutHold hold) = put_hold_calls hold
-edit_calls (RemoveHold id kind reason) = remove_hold_calls id kind reason
-edit_calls (InsertSysmod sysmod) = insert_sysmod_calls sysmod
-edit_calls (ReplaceSources sysmod) = replace_sources_calls sysmod
-edit_calls (RemoveSysmod id) = remove_sysmod_calls id
+-- an edit of the global zone, where what the SYSMODs state stands in this one
+abbrev pub edit_calls : AGlobal → GlobalEdit → List Call
+edit_calls stated (PutHold hold) = put_hold_calls hold
+edit_calls stated (RemoveHold id kind reason) = remove_hold_calls id kind reason
+edit_calls stated (InsertSysmod id sources) =
+    option_map_or (λ s. insert_sysmod_calls (sourced s sources.items)) (sysmod_of stated id) []
+edit_calls stated (ReplaceSources sysmod) = replace_sources_calls sysmod
+edit_calls stated (RemoveSysmod id) = remove_sysmod_calls id
 
 -- the entries first, and then the elements
 abbrev pub delta_calls : Text → AZone → ZoneDelta → List Call
@@ -49,7 +53,7 @@ delta_calls name zone delta =
 abbrev pub calls_of : Change → List Call
 calls_of (NewZone name kind srel related) = zone_calls (empty_zone name kind srel related)
 calls_of (Zone name old delta) = delta_calls name old.now delta
-calls_of (Global edits) = flat_map edit_calls edits.items
+calls_of (Global stated edits) = flat_map (edit_calls stated.now) edits.items
 
 -- the database refused one of the statements
 abbrev pub IsRefused : {S : Type 0} → Ghosts S → Change → Held S → Type 0

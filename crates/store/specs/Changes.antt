@@ -19,4 +19,6 @@ pub record IsZoneAdded (zone : NamedZone) (i j : Inventory) : Type 0 where
 abbrev pub Makes : Change → Inventory → Inventory → Type 0
 Makes (NewZone name kind srel related) i j = IsZoneAdded (empty_zone name kind srel related) i j
 Makes (Zone name old delta) i j = (is : AZone) × IsZoneChange name old.now is i j × IsChanged delta old.now is
-Makes (Global edits) i j = EachFits edits.items i.global × (j ≡ record i { global = after_edits edits.items i.global })
+Makes (Global stated edits) i j =
+    EachFits stated.now edits.items i.global
+    × (j ≡ record i { global = after_edits stated.now edits.items i.global })

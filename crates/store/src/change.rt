@@ -1,7 +1,7 @@
 //! What one commit changes.
 
 use fields::{Srel, ZoneName};
-use sysmods::GlobalEdit;
+use sysmods::{GlobalEdit, GlobalZone};
 use terms::ZoneKind;
 use zones::{Zone, ZoneDelta};
 
@@ -12,6 +12,6 @@ pub enum Change<'a> {
     NewZone(ZoneName, ZoneKind, Srel, Option<ZoneName>),
     /// Entries and elements of the zone of this name, which stands so, are put and removed.
     Zone(ZoneName, &'a Zone, ZoneDelta),
-    /// The global zone is edited, by the first edit first.
-    Global(Vec<GlobalEdit>),
+    /// The global zone is edited, by the first edit first. What the SYSMODs that are received state stands in this one.
+    Global(&'a GlobalZone, Vec<GlobalEdit>),
 }

@@ -36,7 +36,7 @@ fn write<S: Alter>(
             delta.attest();
             write_delta(alloc, tx, *name, zone, delta)
         }
-        Change::Global(edits) => write_edits(alloc, tx, edits.as_slice()),
+        Change::Global(stated, edits) => write_edits(alloc, tx, stated, edits.as_slice()),
     }
 }
 

@@ -5,7 +5,7 @@ use Rattle.sqlite.specs.Order.{Row}
 use Rattle.sqlite.specs.Store.{Ghosts}
 use Rattle.sqlite.specs.Held.{Held}
 use Rattle.sqlite.specs.Table.{Table}
-use Rattle.terms.specs.Types.{Id, Sysmod, Global}
+use Rattle.terms.specs.Types.{Text, Id, Sysmod, Global}
 use Rattle.terms.specs.Global.{with_sysmod}
 use Rattle.terms.specs.Lookups.{is_received}
 use Rattle.sysmod.specs.Edited.{with_sources, less_sysmod}
@@ -15,6 +15,10 @@ use Rattle.store_schema.specs.Inventory.{Inventory}
 use Rattle.store_schema.specs.Rows.{sysmod_row, sources_of, vers_of, ifreqs_of, elems_of, morevers_of, moreifs_of}
 use Rattle.store_schema.specs.Stands.{rows_of}
 use Rattle.store_schema.specs.Tables.{sysmod, ver, ifreq, elem, source, morever, moreif, store_schema}
+
+-- the SYSMOD, from these sources
+abbrev pub sourced : Sysmod → List Text → Sysmod
+sourced s sources = record s { sources = sources }
 
 -- these rows too
 abbrev pub with_rows : List Row → List Row → List Row

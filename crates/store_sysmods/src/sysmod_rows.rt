@@ -7,7 +7,7 @@ ghost use Rattle.store_rows.specs.Rows.{HasContents};
 ghost use Rattle.store_schema.specs.Tables.{store_schema};
 ghost use Rattle.store_sysmods.specs.Calls.{insert_sysmod_calls, remove_sysmod_calls, replace_sources_calls};
 ghost use Rattle.store_sysmods.specs.Steps.{Step};
-ghost use Rattle.store_sysmods.specs.Sysmods.{AddsSysmod, ReplacesSources, RemovesSysmod};
+ghost use Rattle.store_sysmods.specs.Sysmods.{AddsSysmod, ReplacesSources, RemovesSysmod, sourced};
 ghost use Rattle.store_sysmods.specs.Sysmods.{with_source_rows, with_sysmod_rows, without_sysmod_rows};
 
 use crate::elem::Changes;
@@ -18,7 +18,7 @@ use crate::rows::insert_all;
 use crate::source::SourcesOf;
 use crate::ver::FirstVers;
 use crate::{elem, head, ifreq, moreif, morever, source, ver};
-use fields::Id;
+use fields::{Id, Source};
 use sqlite::{Alter, Error, Transaction};
 use std::alloc::Global;
 use sysmod::Sysmod;
@@ -28,12 +28,14 @@ fn insert_rows<S: Alter>(
     alloc: Global,
     tx: &mut Transaction<'_, S>,
     sysmod: &Sysmod,
+    sources: &[Source],
 ) -> Result<(), Error>
-    ensures { Step S.Store (insert_sysmod_calls sysmod.now) (with_sysmod_rows sysmod.now) tx.old tx.new result }
+    ensures { Step S.Store (insert_sysmod_calls (sourced sysmod.now sources.now))
+        (with_sysmod_rows (sourced sysmod.now sources.now)) tx.old tx.new result }
 {
     let id = sysmod.id;
     head::insert_row(tx, sysmod)?;
-    insert_all(tx, &SourcesOf { id }, sysmod.sources.as_slice())?;
+    insert_all(tx, &SourcesOf { id }, sources)?;
     insert_all(tx, &FirstVers { alloc, id }, sysmod.vers.as_slice())?;
     insert_all(tx, &FirstIfs { alloc, id }, sysmod.vers.as_slice())?;
     insert_all(tx, &Changes { alloc, id }, sysmod.changes.as_slice())?;
@@ -41,21 +43,25 @@ fn insert_rows<S: Alter>(
     insert_all(tx, &FurtherIfs { alloc, id }, sysmod.vers.as_slice())
 }
 
-/// Adds the rows of the SYSMOD, its sources, its `++VER`s with their `++IF`s, and its element
-/// statements, which are not there. Its holds have a table of their own. An error comes where the disk fails, where
-/// memory is short, and where the database refuses a row: its own, if its id is received, or one of two of one key.
+/// Adds the rows of the SYSMOD, of these sources in place of its own, of its `++VER`s with their `++IF`s, and of its
+/// element statements, which are not there. Its holds have a table of their own. An error comes where the disk fails,
+/// where memory is short, and where the database refuses a row: its own, if its id is received, or one of two of one
+/// key.
 pub fn insert_sysmod<S: Alter>(
     alloc: Global,
     tx: &mut Transaction<'_, S>,
     sysmod: &Sysmod,
+    sources: &[Source],
 ) -> Result<(), Error>
     ensures continues { Continues S.Store tx.old tx.new }
-    ensures calls { RunsInside S.Store (insert_sysmod_calls sysmod.now) tx.old.conn.now tx.new.conn.now result }
+    ensures calls { RunsInside S.Store (insert_sysmod_calls (sourced sysmod.now sources.now)) tx.old.conn.now
+        tx.new.conn.now result }
     ensures ok { OnOk result (Turns S.Store tx.old.conn.now tx.new.conn.now (HasContents store_schema)
-        (with_sysmod_rows sysmod.now)) }
-    ensures stands { OnOk result (AddsSysmod S.Store tx.old.conn.now tx.new.conn.now sysmod.now) }
+        (with_sysmod_rows (sourced sysmod.now sources.now))) }
+    ensures stands { OnOk result (AddsSysmod S.Store tx.old.conn.now tx.new.conn.now
+        (sourced sysmod.now sources.now)) }
 {
-    insert_rows(alloc, tx, sysmod)
+    insert_rows(alloc, tx, sysmod, sources)
 }
 
 /// Puts the rows of the SYSMOD's sources in place of those that are there. Where it is not received and has a source,

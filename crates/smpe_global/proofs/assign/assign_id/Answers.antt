@@ -1,4 +1,4 @@
-use Rattle.std.proofs.Common.{◌≡◌, ◌∷◌, [], ◌∙◌, sym, ap, if◌then◌else◌}
+use Rattle.std.proofs.Common.{◌≡◌, ◌∷◌, [], ◌∙◌, sym, ap, subst, if◌then◌else◌}
 use Rattle.terms.specs.Lookups.{sysmod_of}
 use Rattle.terms.specs.Global.{assign}
 use Rattle.machine.specs.Outcome.{StatusLine, Assigned, Unknown}
@@ -6,7 +6,9 @@ use Rattle.machine.specs.Receiving.{place_of}
 use Rattle.report.specs.declared.outcome.Line.TheVariants.{Status}
 use Rattle.report.specs.Views.{status_view}
 use Rattle.smpe_global.specs.Edits.{source_edits}
+use Rattle.sysmods.specs.Edits.{StatesThose}
 use Rattle.smpe_global.proofs.Sources.{assigned_written, sources_receive}
+use Rattle.smpe_global.proofs.Stating.{states_assigned}
 use Rattle.smpe_global.proofs.assign.assign_id.Goals as goal
 
 pub returns : goal.returns
@@ -17,7 +19,7 @@ returns c =
     let is = c.in_ok-received.ensures.ok in
     let o = sysmod_of c.assign.new.self x in
     let at : sysmod_of (assign g source x) x ≡ o = ap (λ n. sysmod_of n x) (sym is) in
-    let written = assigned_written source g x c.attest.ensures.sysmods o at in
+    let written = assigned_written source g x c.attest.ensures.sysmods in
     let status = c.status_of.result in
     record {
       own = source_edits o;
@@ -32,6 +34,7 @@ returns c =
             ∙ ap (λ b. if b then Assigned source else Unknown) c.in_ok-received.ensures.received)),
       );
       receives = sources_receive o;
-      fits = written.0;
-      after = written.1 ∙ sym is;
+      stays = subst (λ n. StatesThose n g) (sym is) (states_assigned source g x);
+      fits = λ stated states. (written stated o at).0;
+      after = λ stated states. (written stated o at).1 ∙ sym is;
     }

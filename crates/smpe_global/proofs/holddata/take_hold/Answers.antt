@@ -1,5 +1,5 @@
 use Rattle.std.proofs.Common.{◌∷◌, [], ◌∙◌, sym, ap, true≢false, if◌then◌else◌}
-use Rattle.terms.specs.Types.{Hold}
+use Rattle.terms.specs.Types.{Hold, Global}
 use Rattle.terms.specs.Global.{is_replacing}
 use Rattle.machine.specs.Outcome.{StatusLine, OfHold, Held, Replaced}
 use Rattle.report.specs.declared.outcome.Line.TheVariants.{Status}
@@ -9,6 +9,7 @@ use Rattle.std.proofs.lemmas.List.Elements.{All-nil, All-cons}
 use Rattle.smpe_global.specs.Edits.{IsOfReceive}
 use Rattle.smpe_global.proofs.Fitting.{fits_one}
 use Rattle.smpe_global.proofs.Holds.{marked_written}
+use Rattle.smpe_global.proofs.Stating.{states_same}
 use Rattle.smpe_global.proofs.holddata.take_hold.Goals as goal
 
 pub hold-requires : goal.hold-requires
@@ -34,6 +35,7 @@ returns c =
             c.hold.view_is),
       );
       receives = All-cons IsOfReceive (PutHold copy) [] tt (All-nil IsOfReceive);
-      fits = fits_one g (PutHold copy) tt;
-      after = marked_written g h copy c.in_ok-copy.ensures ∙ sym c.in_ok-placed.ensures.ok;
+      stays = states_same g c.hold-2.new.self (ap (λ (n : Global). n.sysmods) c.in_ok-placed.ensures.ok);
+      fits = λ stated states. fits_one stated g (PutHold copy) tt;
+      after = λ stated states. marked_written stated g h copy c.in_ok-copy.ensures ∙ sym c.in_ok-placed.ensures.ok;
     }

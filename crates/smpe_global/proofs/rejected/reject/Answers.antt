@@ -19,7 +19,8 @@ loop-id-preserved c =
     c.in_ok-reject_one.ensures)
 
 pub returns-clause-fits : goal.returns-clause-fits
-returns-clause-fits c = each_fits c.loop-id.rejected.edits.items c.args.global.now c.loop-id.invariant.rejects
+returns-clause-fits c stated =
+    each_fits stated c.loop-id.rejected.edits.items c.args.global.now c.loop-id.invariant.rejects
 
 pub returns-clause-rejects : goal.returns-clause-rejects
 returns-clause-rejects c = c.loop-id.invariant.rejects

@@ -16,17 +16,18 @@ loop-edit-preserved g c =
       continues = continues_then g.S.Store c.args.tx.now c.loop-edit.tx c.write_edit.new.tx
           c.loop-edit.invariant.continues
           c.write_edit.ensures.continues;
-      calls = one_more g.S.Store edit_calls c.args.edits.now c.loop-edit.edit-index old mid new _ (omega arith)
-          c.edit-item.is c.loop-edit.invariant.continues.inside c.write_edit.ensures.continues.inside
+      calls = one_more g.S.Store (edit_calls c.args.stated.now) c.args.edits.now c.loop-edit.edit-index old mid new _
+          (omega arith) c.edit-item.is c.loop-edit.invariant.continues.inside c.write_edit.ensures.continues.inside
           c.loop-edit.invariant.calls
           c.in_ok-write_edit.was c.write_edit.ensures.calls;
-      changes = edits_go_on g.S.Store old mid new c.args.edits.now c.loop-edit.edit-index _ (omega arith) c.edit-item.is
-          c.write_edit.ensures.continues.inside c.loop-edit.invariant.changes c.in_ok-write_edit.ensures.ok;
+      changes = edits_go_on g.S.Store old mid new c.args.stated.now c.args.edits.now c.loop-edit.edit-index _
+          (omega arith) c.edit-item.is c.write_edit.ensures.continues.inside c.loop-edit.invariant.changes
+          c.in_ok-write_edit.ensures.ok;
     }
 
 pub returns-clause-calls : goal.returns-clause-calls
 returns-clause-calls g c =
-    all_written g.S.Store edit_calls c.args.edits.now c.loop-edit.edit-index _ _ (omega arith)
+    all_written g.S.Store (edit_calls c.args.stated.now) c.args.edits.now c.loop-edit.edit-index _ _ (omega arith)
     c.loop-edit.invariant.calls
 
 pub returns-clause-ok : goal.returns-clause-ok
@@ -35,7 +36,7 @@ returns-clause-ok g c =
 
 pub returns-in_err-write_edit-clause-calls : goal.returns-in_err-write_edit-clause-calls
 returns-in_err-write_edit-clause-calls g c =
-    one_failed g.S.Store edit_calls c.args.edits.now c.loop-edit.edit-index c.args.tx.now.conn.now
+    one_failed g.S.Store (edit_calls c.args.stated.now) c.args.edits.now c.loop-edit.edit-index c.args.tx.now.conn.now
     c.loop-edit.tx.conn.now
     c.write_edit.new.tx.conn.now c.write_edit.result c.from_residual.result _ (omega arith) c.edit-item.is
     c.loop-edit.invariant.continues.inside c.write_edit.ensures.continues.inside c.loop-edit.invariant.calls

@@ -10,8 +10,8 @@ use Rattle.store.proofs.edits.write_edits.Given as goal
 abbrev pub invariant-loop-edit : goal.invariant-loop-edit
 invariant-loop-edit g l = record {
   continues : Continues g.S.Store l.fn.tx l.tx;
-  calls : RunsInside g.S.Store (flat_map edit_calls (take l.edit-index l.edits)) l.fn.tx.conn.now l.tx.conn.now
-      {X = Unit {0}} (Ok tt);
-  changes : ChangesGlobal g.S.Store l.fn.tx.conn.now l.tx.conn.now (EachFits l.edits)
-      (after_edits (take l.edit-index l.edits));
+  calls : RunsInside g.S.Store (flat_map (edit_calls l.stated) (take l.edit-index l.edits)) l.fn.tx.conn.now
+      l.tx.conn.now {X = Unit {0}} (Ok tt);
+  changes : ChangesGlobal g.S.Store l.fn.tx.conn.now l.tx.conn.now (EachFits l.stated l.edits)
+      (after_edits l.stated (take l.edit-index l.edits));
 }

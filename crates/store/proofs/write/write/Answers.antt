@@ -13,12 +13,13 @@ pub returns-in-Zone-clause-ok : goal.returns-in-Zone-clause-ok
 returns-in-Zone-clause-ok g c =
     let z = c.in-Zone in
     rw z.is (on_ok c.write_delta.result _ _
-    (delta_written g.S.Store c.args.tx.now.conn.now c.write_delta.new.tx.conn.now z.name z.zone z.delta c.attest.ensures)
+    (delta_written g.S.Store c.args.tx.now.conn.now c.write_delta.new.tx.conn.now z.name z.zone z.delta
+    c.attest.ensures)
     c.write_delta.ensures.ok)
 
 pub returns-in-Global-clause-ok : goal.returns-in-Global-clause-ok
 returns-in-Global-clause-ok g c =
     let e = c.in-Global in
     rw e.is (on_ok c.write_edits.result _ _
-    (λ changes. edits_written g.S.Store c.args.tx.now.conn.now c.write_edits.new.tx.conn.now e.edits
+    (λ changes. edits_written g.S.Store c.args.tx.now.conn.now c.write_edits.new.tx.conn.now e.stated e.edits
     (rw c.as_slice.ensures.value at changes)) c.write_edits.ensures.ok)

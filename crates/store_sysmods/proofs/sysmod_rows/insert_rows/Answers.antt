@@ -13,6 +13,7 @@ use Rattle.store_sysmods.specs.Elems.{insert_elem}
 use Rattle.store_sysmods.specs.MoreVers.{insert_morever}
 use Rattle.store_sysmods.specs.MoreIfs.{insert_moreif}
 use Rattle.store_sysmods.specs.Steps.{Puts}
+use Rattle.store_sysmods.specs.Sysmods.{sourced}
 use Rattle.store_sysmods.proofs.Behind.{each_behind, first_rows, further_rows, first_if_rows, further_if_rows}
 use Rattle.store_sysmods.proofs.Steps.{puts_as, step_ok, step_then, step_stops, step_errs}
 use Rattle.store_sysmods.proofs.sysmod_rows.insert_rows.Given.{Over}
@@ -23,22 +24,21 @@ use Rattle.store_sysmods.proofs.sysmod_rows.insert_rows.Goals.{After-insert_all-
 use Rattle.store_sysmods.proofs.sysmod_rows.insert_rows.Goals as goal
 
 sources : (g : Over) (c : After-insert_all g)
-    → Puts g.S.Store insert_source source (sources_of c.args.sysmod.now) c.insert_row.new.tx
-    c.insert_all.new.tx c.insert_all.result
+    → Puts g.S.Store insert_source source (sources_of (sourced c.args.sysmod.now c.args.sources.now))
+    c.insert_row.new.tx c.insert_all.new.tx c.insert_all.result
 sources g c =
-    let view = c.sysmod.view_is in
-    puts_as g.S.Store insert_source source (each_behind (source_row c.sysmod.inside.id) [] c.as_slice.result.now
-    ∙ ap₂ (λ x names. map (source_row x) names) (ap (λ (t : Sysmod). t.id) view)
-    (c.as_slice.ensures.items ∙ ap (λ (t : Sysmod). t.sources) view)) c.insert_all.ensures
+    let names = c.args.sources.now in
+    puts_as g.S.Store insert_source source (each_behind (source_row c.sysmod.inside.id) [] names
+    ∙ ap (λ (t : Sysmod). map (source_row t.id) names) c.sysmod.view_is) c.insert_all.ensures
 
 vers : (g : Over) (c : After-insert_all-2 g)
     → Puts g.S.Store insert_ver ver (vers_of c.args.sysmod.now) c.insert_all.new.tx
     c.insert_all-2.new.tx c.insert_all-2.result
 vers g c =
     let view = c.sysmod.view_is in
-    puts_as g.S.Store insert_ver ver (first_rows c.sysmod.inside.id c.as_slice-2.result.now
+    puts_as g.S.Store insert_ver ver (first_rows c.sysmod.inside.id c.as_slice.result.now
     ∙ ap₂ (λ (x : Id) (vs : List Ver). map (λ (v : ℕ × Ver). ver_row x v.1) (filter is_first (numbered_behind [] vs)))
-    (ap (λ (t : Sysmod). t.id) view) (c.as_slice-2.ensures.value ∙ ap (λ (t : Sysmod). t.vers) view))
+    (ap (λ (t : Sysmod). t.id) view) (c.as_slice.ensures.value ∙ ap (λ (t : Sysmod). t.vers) view))
     c.insert_all-2.ensures
 
 ifs : (g : Over) (c : After-insert_all-3 g)
@@ -46,10 +46,10 @@ ifs : (g : Over) (c : After-insert_all-3 g)
     c.insert_all-3.new.tx c.insert_all-3.result
 ifs g c =
     let view = c.sysmod.view_is in
-    puts_as g.S.Store insert_ifreq ifreq (first_if_rows c.sysmod.inside.id c.as_slice-3.result.now
+    puts_as g.S.Store insert_ifreq ifreq (first_if_rows c.sysmod.inside.id c.as_slice-2.result.now
     ∙ ap₂ (λ (x : Id) (vs : List Ver). flat_map (λ (v : ℕ × Ver). map (ifreq_row x v.1.srel)
     (enumerate_from 1 v.1.ifs)) (filter is_first (numbered_behind [] vs)))
-    (ap (λ (t : Sysmod). t.id) view) (c.as_slice-3.ensures.value ∙ ap (λ (t : Sysmod). t.vers) view))
+    (ap (λ (t : Sysmod). t.id) view) (c.as_slice-2.ensures.value ∙ ap (λ (t : Sysmod). t.vers) view))
     c.insert_all-3.ensures
 
 elems : (g : Over) (c : After-insert_all-4 g)
@@ -57,18 +57,18 @@ elems : (g : Over) (c : After-insert_all-4 g)
     c.insert_all-4.new.tx c.insert_all-4.result
 elems g c =
     let view = c.sysmod.view_is in
-    puts_as g.S.Store insert_elem elem (each_behind (elem_row c.sysmod.inside.id) [] c.as_slice-4.result.now
+    puts_as g.S.Store insert_elem elem (each_behind (elem_row c.sysmod.inside.id) [] c.as_slice-3.result.now
     ∙ ap₂ (λ x cs. map (elem_row x) cs) (ap (λ (t : Sysmod). t.id) view)
-    (c.as_slice-4.ensures.value ∙ ap (λ (t : Sysmod). t.changes) view)) c.insert_all-4.ensures
+    (c.as_slice-3.ensures.value ∙ ap (λ (t : Sysmod). t.changes) view)) c.insert_all-4.ensures
 
 morevers : (g : Over) (c : After-insert_all-5 g)
     → Puts g.S.Store insert_morever morever (morevers_of c.args.sysmod.now) c.insert_all-4.new.tx
     c.insert_all-5.new.tx c.insert_all-5.result
 morevers g c =
     let view = c.sysmod.view_is in
-    puts_as g.S.Store insert_morever morever (further_rows c.sysmod.inside.id c.as_slice-5.result.now
+    puts_as g.S.Store insert_morever morever (further_rows c.sysmod.inside.id c.as_slice-4.result.now
     ∙ ap₂ (λ (x : Id) (vs : List Ver). map (morever_row x) (filter (λ v. not (is_first v)) (numbered_behind [] vs)))
-    (ap (λ (t : Sysmod). t.id) view) (c.as_slice-5.ensures.value ∙ ap (λ (t : Sysmod). t.vers) view))
+    (ap (λ (t : Sysmod). t.id) view) (c.as_slice-4.ensures.value ∙ ap (λ (t : Sysmod). t.vers) view))
     c.insert_all-5.ensures
 
 moreifs : (g : Over) (c : After-insert_all-6 g)
@@ -76,10 +76,10 @@ moreifs : (g : Over) (c : After-insert_all-6 g)
     c.insert_all-6.new.tx c.insert_all-6.result
 moreifs g c =
     let view = c.sysmod.view_is in
-    puts_as g.S.Store insert_moreif moreif (further_if_rows c.sysmod.inside.id c.as_slice-6.result.now
+    puts_as g.S.Store insert_moreif moreif (further_if_rows c.sysmod.inside.id c.as_slice-5.result.now
     ∙ ap₂ (λ (x : Id) (vs : List Ver). flat_map (λ (v : ℕ × Ver). map (moreif_row x v.1.srel v.0)
     (enumerate_from 1 v.1.ifs)) (filter (λ v. not (is_first v)) (numbered_behind [] vs)))
-    (ap (λ (t : Sysmod). t.id) view) (c.as_slice-6.ensures.value ∙ ap (λ (t : Sysmod). t.vers) view))
+    (ap (λ (t : Sysmod). t.id) view) (c.as_slice-5.ensures.value ∙ ap (λ (t : Sysmod). t.vers) view))
     c.insert_all-6.ensures
 
 -- ---- what is left behind each
@@ -115,14 +115,14 @@ returns g c =
 
 pub returns-in_err-insert_row : goal.returns-in_err-insert_row
 returns-in_err-insert_row g c =
-    step_errs g.S.Store c.in_err-insert_row.was c.from_residual.ensures.1 (step_stops g.S.Store
-    (behind_row c.args.sysmod.now) c.from_residual.result c.in_err-insert_row.was c.from_residual.ensures.1
-    c.insert_row.ensures)
+    let s = sourced c.args.sysmod.now c.args.sources.now in
+    step_errs g.S.Store c.in_err-insert_row.was c.from_residual.ensures.1 (step_stops g.S.Store (behind_row s)
+    c.from_residual.result c.in_err-insert_row.was c.from_residual.ensures.1 c.insert_row.ensures)
 
 pub returns-in_err-insert_all : goal.returns-in_err-insert_all
 returns-in_err-insert_all g c =
     let p = goal.at.returns-in_err-insert_all g c in
-    let s = c.args.sysmod.now in
+    let s = sourced c.args.sysmod.now c.args.sources.now in
     let S = g.S.Store in
     step_errs S c.in_err-insert_all.was c.from_residual-in_err-insert_all.ensures.1
     (step_then S (step_ok S c.in_ok-insert_row.was c.insert_row.ensures)
@@ -132,7 +132,7 @@ returns-in_err-insert_all g c =
 pub returns-in_err-insert_all-2 : goal.returns-in_err-insert_all-2
 returns-in_err-insert_all-2 g c =
     let p = goal.at.returns-in_err-insert_all-2 g c in
-    let s = c.args.sysmod.now in
+    let s = sourced c.args.sysmod.now c.args.sources.now in
     let S = g.S.Store in
     step_errs S c.in_err-insert_all-2.was c.from_residual-in_err-insert_all-2.ensures.1
     (step_then S (step_ok S c.in_ok-insert_row.was c.insert_row.ensures)
@@ -143,7 +143,7 @@ returns-in_err-insert_all-2 g c =
 pub returns-in_err-insert_all-3 : goal.returns-in_err-insert_all-3
 returns-in_err-insert_all-3 g c =
     let p = goal.at.returns-in_err-insert_all-3 g c in
-    let s = c.args.sysmod.now in
+    let s = sourced c.args.sysmod.now c.args.sources.now in
     let S = g.S.Store in
     step_errs S c.in_err-insert_all-3.was c.from_residual-in_err-insert_all-3.ensures.1
     (step_then S (step_ok S c.in_ok-insert_row.was c.insert_row.ensures)
@@ -155,7 +155,7 @@ returns-in_err-insert_all-3 g c =
 pub returns-in_err-insert_all-4 : goal.returns-in_err-insert_all-4
 returns-in_err-insert_all-4 g c =
     let p = goal.at.returns-in_err-insert_all-4 g c in
-    let s = c.args.sysmod.now in
+    let s = sourced c.args.sysmod.now c.args.sources.now in
     let S = g.S.Store in
     step_errs S c.in_err-insert_all-4.was c.from_residual-in_err-insert_all-4.ensures.1
     (step_then S (step_ok S c.in_ok-insert_row.was c.insert_row.ensures)
@@ -168,7 +168,7 @@ returns-in_err-insert_all-4 g c =
 pub returns-in_err-insert_all-5 : goal.returns-in_err-insert_all-5
 returns-in_err-insert_all-5 g c =
     let p = goal.at.returns-in_err-insert_all-5 g c in
-    let s = c.args.sysmod.now in
+    let s = sourced c.args.sysmod.now c.args.sources.now in
     let S = g.S.Store in
     step_errs S c.in_err-insert_all-5.was c.from_residual-in_err-insert_all-5.ensures.1
     (step_then S (step_ok S c.in_ok-insert_row.was c.insert_row.ensures)

@@ -1,5 +1,6 @@
 use Rattle.store_rows.proofs.InsideLemmas.{on_ok}
 use Rattle.store_schema.specs.Stands.{rows_of}
+use Rattle.store_sysmods.specs.Sysmods.{sourced}
 use Rattle.store_sysmods.proofs.SysmodLemmas.{sysmod_added}
 use Rattle.store_sysmods.proofs.sysmod_rows.insert_sysmod.Goals as goal
 
@@ -15,4 +16,5 @@ returns-clause-ok g c = c.insert_rows.ensures.ok
 pub returns-clause-stands : goal.returns-clause-stands
 returns-clause-stands g c =
     on_ok c.insert_rows.result _ _ (λ turned i none clean held.
-    sysmod_added i c.args.sysmod.now _ none (turned clean (rows_of i) held)) c.insert_rows.ensures.ok
+    sysmod_added i (sourced c.args.sysmod.now c.args.sources.now) _ none (turned clean (rows_of i) held))
+    c.insert_rows.ensures.ok
