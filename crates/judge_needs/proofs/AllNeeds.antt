@@ -1,27 +1,26 @@
 -- The needs of candidates, each once, as they come in.
-use Rattle.std.proofs.Common.{◌≡◌, ◌≢◌, ◌⊎◌, inl, inr, ℕ, zero, suc, ◌<◌, ◌+◌, Bool, true, List, [], ◌++◌}
-use Rattle.std.proofs.Common.{Some, IsTrue, refl, sym, ap, append-nil, ◌∙◌, subst, filter, map, Contains, arith}
-use Rattle.std.proofs.Common.{length, slice_get}
-use Rattle.std.specs.Prelude.{◌↔◌, get_or}
+use Rattle.std.proofs.Common.{◌≡◌, ◌≢◌, ◌⊎◌, inl, inr, ℕ, zero, suc, ◌<◌, ◌+◌, Bool, true, List, [], ◌∷◌, ◌++◌}
+use Rattle.std.proofs.Common.{Option, None, Some, IsTrue, refl, sym, ap, append-nil, ◌∙◌, subst, filter, map, Contains}
+use Rattle.std.proofs.Common.{arith, length, take, drop, get_or}
+use Rattle.std.specs.Prelude.{◌↔◌, AllPairs, MatchOption}
 use Rattle.std.proofs.lemmas.Bool.{cases_eq}
-use Rattle.std.proofs.lemmas.Option.{same_Some, slice_get_within}
-use Rattle.std.proofs.lemmas.List.{append_assoc}
+use Rattle.std.proofs.lemmas.List.{append_assoc, take-append-drop}
 use Rattle.std.proofs.lemmas.List.Elements.{Contains-append_left, Contains-append_right, Contains-append_cases}
-use Rattle.std.proofs.lemmas.List.Elements.{Contains-get_or}
+use Rattle.std.proofs.lemmas.List.Elements.{Contains-get_or, All-contains}
 use Rattle.std.proofs.lemmas.List.Kept.{AllPairs-filter}
 use Rattle.terms.specs.declared.codes.NeedKind.{NeedKind}
 use Rattle.terms.specs.declared.codes.NeedKind.TheVariants.{Fmid, Pre, Req, Ifreq, HoldError, Orphan, Elem, Dep}
 use Rattle.terms.specs.Types.{Id, Zone, Bypass}
-use Rattle.terms.specs.Lookups.{IsRising, is_before}
+use Rattle.terms.specs.Lookups.{IsRising, at_most_one, is_before}
 use Rattle.terms.specs.Tests.{Setting}
-use Rattle.terms.specs.Needs.{asked, zone_left}
-use Rattle.terms.proofs.ListMembers.{map_in, in_map, filter_in, in_filter, none_in}
-use Rattle.terms.proofs.Places.{contains_at, found_at}
-use Rattle.terms.proofs.Pairs.{AllPairs_join, pairs_map}
+use Rattle.terms.specs.Needs.{asked}
+use Rattle.terms.proofs.IdPlaces.{before_apart}
+use Rattle.terms.proofs.Lists.{front_more}
+use Rattle.terms.proofs.ListMembers.{here, here_or, map_in, in_map, filter_in, in_filter, none_in}
+use Rattle.terms.proofs.Pairs.{AllPairs_front, AllPairs_join, AllPairs_parts, pairs_map}
 use Rattle.decide.specs.declared.stated.Need.{Need}
 use Rattle.decide.specs.Said.{a_need}
-use Rattle.judge_needs.specs.Needed.{is_open, IsOpen, AreAllNeeds, AddsPart, IsOfKind, IsOpenAt, AreNeeds}
-use Rattle.terms.proofs.IdPlaces.{before_apart, two_places}
+use Rattle.judge_needs.specs.Needed.{is_open, IsOpen, AreAllNeeds, AreNeedsOf, AddsPart, IsOfKind}
 
 pub join : (D E : Id → NeedKind → Id → Type 0) (xs ys : List Need) → AreAllNeeds D xs → AreAllNeeds E ys
     → ((x : Id) (kind : NeedKind) (z : Id) → D x kind z → ¬ E x kind z)
@@ -156,7 +155,7 @@ module _ (s : Setting) (survivors : List Id) (left : Zone) (x : Id) where
   abbrev Of : NeedKind → NeedKind → Id → Type 0
   Of kind = IsOfKind left s.bypass kind (asked s survivors x kind)
 
-  -- those x the kinds in front x a number
+  -- those of the kinds in front of a number
   abbrev UpTo : ℕ → NeedKind → Id → Type 0
   UpTo n kind z = (rank kind < n) × IsOpen s survivors left x kind z
 
@@ -217,74 +216,61 @@ module _ (s : Setting) (survivors : List Id) (left : Zone) (x : Id) where
       (next_kind Pre l0 l1 l2
       (next_kind Fmid l0 l0 l1 (no_kind l0) fmid) pre) req) ifreq) hold) orphan)
 
+-- the one at a place of ids that rise is none of those in front of it
+apart : (xs : List Id) (k : ℕ) (x y : Id) → IsRising xs → k < length xs → x ≡ get_or xs k x → Contains (take k xs) y
+    → y ≢ x
+apart xs k x y rising below at in_front =
+    let whole = subst (AllPairs Before) (sym (take-append-drop (k + 1) xs)) rising in
+    let front = AllPairs_front Before (take (k + 1) xs) (drop (k + 1) xs) whole in
+    let before = (AllPairs_parts Before (take k xs) [] x (subst (AllPairs Before) (front_more xs k x below at) front)).0 in
+    before_apart y x (All-contains (λ y. Before y x) (take k xs) y before in_front)
+  where
+    Before : Id → Id → Type 0
+    Before y z = IsTrue (is_before y z)
+
 module _ (s : Setting) (survivors : List Id) (left : Zone) where
   -- the next candidate
-  pub needs_next : (k : ℕ) (x : Id) (old new : List Need) → IsRising s.cands → slice_get s.cands k ≡ Some x
-      → AddsPart x (IsOpen s survivors left x) old new
-      → AreAllNeeds (IsOpenAt s survivors left k) old → AreAllNeeds (IsOpenAt s survivors left (k + 1)) new
-  needs_next k x old new rising at p w =
-      subst (AreAllNeeds (IsOpenAt s survivors left (k + 1))) (sym p.are)
+  pub needs_next : (xs : List Id) (k : ℕ) (x : Id) (old new : List Need) → IsRising xs → k < length xs
+      → x ≡ get_or xs k x → AddsPart x (IsOpen s survivors left x) old new
+      → AreNeedsOf s survivors left (take k xs) old → AreNeedsOf s survivors left (take (k + 1) xs) new
+  needs_next xs k x old new rising below at p w =
+      subst (λ l. AreNeedsOf s survivors left l new) (sym (front_more xs k x below at))
+      (subst (AreNeedsOf s survivors left (take k xs ++ x ∷ [])) (sym p.are)
       (alike _ _ (old ++ p.more) (λ y kind z. (up y kind z, down y kind z))
-      (join (IsOpenAt s survivors left k) (λ y kind z. (y ≡ x) × IsOpen s survivors left x kind z) old p.more w p.needs
-      (λ y kind z l r. two_places s.cands rising l.place k y x l.at at (λ same. omega (arith, l.below, same)) r.0)))
+      (join (λ y kind z. Contains (take k xs) y × IsOpen s survivors left y kind z)
+      (λ y kind z. (y ≡ x) × IsOpen s survivors left x kind z) old p.more w p.needs
+      (λ y kind z l r. apart xs k x y rising below at l.0 r.0))))
     where
       up : (y : Id) (kind : NeedKind) (z : Id)
-          → IsOpenAt s survivors left k y kind z ⊎ ((y ≡ x) × IsOpen s survivors left x kind z)
-          → IsOpenAt s survivors left (k + 1) y kind z
-      up y kind z (inl l) = record {
-        place = l.place;
-        below = omega (arith, l.below);
-        at = l.at;
-        is_open = l.is_open;
-      }
-      up y kind z (inr r) = record {
-        place = k;
-        below = omega arith;
-        at = at ∙ ap (λ v. Some v) (sym r.0);
-        is_open = subst (λ v. IsOpen s survivors left v kind z) (sym r.0) r.1;
-      }
+          → (Contains (take k xs) y × IsOpen s survivors left y kind z)
+          ⊎ ((y ≡ x) × IsOpen s survivors left x kind z)
+          → Contains (take k xs ++ x ∷ []) y × IsOpen s survivors left y kind z
+      up y kind z (inl l) = (Contains-append_left (take k xs) (x ∷ []) y l.0, l.1)
+      up y kind z (inr r) = (
+        Contains-append_right (take k xs) (x ∷ []) y (subst (Contains (x ∷ [])) (sym r.0) (here x [])),
+        subst (λ v. IsOpen s survivors left v kind z) (sym r.0) r.1,
+      )
 
-      down : (y : Id) (kind : NeedKind) (z : Id) → IsOpenAt s survivors left (k + 1) y kind z
-          → IsOpenAt s survivors left k y kind z ⊎ ((y ≡ x) × IsOpen s survivors left x kind z)
-      down y kind z h = elim (cases_eq h.place k) [
-        | inl this ↦
-            let same : y ≡ x = same_Some y x (sym h.at ∙ subst (λ m. slice_get s.cands m ≡ Some x) (sym this) at) in
-            inr (same, subst (λ v. IsOpen s survivors left v kind z) same h.is_open)
-        | inr other ↦ inl (record {
-          place = h.place;
-          below = omega (arith, h.below, other);
-          at = h.at;
-          is_open = h.is_open;
-        })
+      down : (y : Id) (kind : NeedKind) (z : Id)
+          → Contains (take k xs ++ x ∷ []) y × IsOpen s survivors left y kind z
+          → (Contains (take k xs) y × IsOpen s survivors left y kind z)
+          ⊎ ((y ≡ x) × IsOpen s survivors left x kind z)
+      down y kind z h = elim (Contains-append_cases (take k xs) (x ∷ []) y h.0) [
+        | inl before ↦ inl (before, h.1)
+        | inr last ↦ elim (here_or x [] y last) [
+          | inl same ↦ inr (sym same, subst (λ v. IsOpen s survivors left v kind z) (sym same) h.1)
+          | inr none ↦ absurd (none_in y none)
+        ]
       ]
 
-  pub needs_none : AreAllNeeds (IsOpenAt s survivors left 0) []
-  needs_none = record {
-    members = λ x kind z. (λ h. absurd (none_in (a_need x kind z) h), λ h. absurd (omega (arith, h.below)));
-    once = λ i j d less below. absurd (omega (arith, below));
-  }
+-- the FMID as a list of ids
+pub one_of : (fmid : Option Id) (ids : List Id) → MatchOption fmid (ids ≡ []) (λ x. ids ≡ x ∷ []) → ids ≡ at_most_one fmid
+one_of None ids is = is
+one_of (Some x) ids is = is
 
--- those of all candidates
-pub all_needs : (s : Setting) (survivors : List Id) (left : Zone) (needs : List Need) → left ≡ zone_left s survivors
-    → AreAllNeeds (IsOpenAt s survivors left (length s.cands)) needs → AreNeeds s survivors needs
-all_needs s survivors left needs is w = record {
-  members = λ x kind z. (
-    λ h.
-        let own = (w.members x kind z).0 h in (
-          contains_at s.cands own.place x own.at,
-          subst (λ zone. IsOpen s survivors zone x kind z) is own.is_open,
-        ),
-    λ h.
-        let at = found_at s.cands x h.0 in
-        (w.members x kind z).1 (record {
-          place = at.0;
-          below = slice_get_within s.cands at.0 x at.1;
-          at = at.1;
-          is_open = subst (λ zone. IsOpen s survivors zone x kind z) (sym is) h.1;
-        }),
-  );
-  once = w.once;
-}
+pub one_rises : (fmid : Option Id) → IsRising (at_most_one fmid)
+one_rises None = λ i j d less below. absurd (omega (arith, below))
+one_rises (Some x) = λ i j d less below. absurd (omega (arith, less, below))
 
 -- the same ids, in another list
 pub same_asked : (zone : Zone) (b : Bypass) (kind : NeedKind) (of : Id) (xs ys : List Id) (old new : List Need)

@@ -13,10 +13,15 @@ use Rattle.terms.specs.Types.{Id}
 use Rattle.terms.specs.Lookups.{is_in}
 use Rattle.terms.specs.Choice.{Choice, sup_of}
 use Rattle.terms.specs.Over.{Supersedes}
+use Rattle.terms.specs.Needs.{takes_superseder}
 use Rattle.decide.specs.declared.stated.Need.{Need}
 use Rattle.judge_needs.specs.declared.superseded.Closure.{Closure}
-use Rattle.judge_needs.specs.Closures.{AddsBelow, AreEnough, IsClosure, SupersedesOne, is_asked}
+use Rattle.judge_needs.specs.Closures.{AddsBelow, AreEnough, IsClosure, SupersedesOne}
 use Rattle.judge_needs.specs.Pairs.{ArePairs, AreSuperseded, IsNeeded}
+
+-- whether it is the highest one, or none of those that the highest one names in SUP
+abbrev pub is_asked : Id → List Id → Id → Bool
+is_asked highest sup d = bytes_eq d highest || not (is_in sup d)
 
 -- those of the named ids that the highest one does not name in SUP, and that one
 pub enough_are : (c : Choice) (highest : Id) (named some : List Id) → Contains named highest
@@ -141,13 +146,20 @@ module _ (c : Choice) (needed : List Id) where
       ]
 
 module _ (needs : List Need) (needed : List Id)
-    (same : (z : Id) → Contains needed z ↔ Contains (map (λ (w : Need). w.id) needs) z) where
-  -- the ids that somebody needs
+    (same : (z : Id) → Contains needed z
+    ↔ Contains (map (λ (w : Need). w.id) (filter (λ w. takes_superseder w.kind) needs)) z) where
+  abbrev served : List Need
+  served = filter (λ w. takes_superseder w.kind) needs
+
+  -- the ids that somebody needs where a superseder serves
   are_needed : (z : Id) → Contains needed z ↔ IsNeeded needs z
   are_needed z = (
-    λ h. map_in (λ (w : Need). w.id) needs z ((same z).0 h),
-    λ w. (same z).1 (subst (Contains (map (λ (w : Need). w.id) needs)) w.2
-        (in_map (λ (w : Need). w.id) needs w.0 w.1)),
+    λ h.
+        let m = map_in (λ (w : Need). w.id) served z ((same z).0 h) in
+        let f = filter_in (λ w. takes_superseder w.kind) needs m.0 m.1 in
+        (m.0, f.0, f.1, m.2),
+    λ w. (same z).1 (subst (Contains (map (λ (w : Need). w.id) served)) w.3
+        (in_map (λ (w : Need). w.id) served w.0 (in_filter (λ w. takes_superseder w.kind) needs w.0 w.1 w.2))),
   )
 
   pub pairs_needed : (c : Choice) (xs : List Id) (pairs : List (Id × Id)) → ArePairs (SupersedesOne c needed) xs pairs

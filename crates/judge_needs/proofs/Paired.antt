@@ -1,9 +1,13 @@
 -- Pairs of candidates and ids, as they come in.
 use Rattle.std.proofs.Common.{◌≡◌, ◌⊎◌, inl, inr, ℕ, ◌<◌, ◌+◌, List, [], ◌∷◌, ◌++◌, map, take, length, get_or, Contains}
-use Rattle.std.proofs.Common.{sym, ap, subst}
+use Rattle.std.proofs.Common.{cond, sym, ap, subst}
 use Rattle.std.specs.Prelude.{◌↔◌}
 use Rattle.std.proofs.lemmas.List.Elements.{Contains-append_left, Contains-append_right, Contains-append_cases}
+use Rattle.terms.specs.declared.codes.NeedKind.TheVariants.{Ifreq}
 use Rattle.terms.specs.Types.{Id}
+use Rattle.terms.specs.Choice.{pre_of, req_of}
+use Rattle.terms.specs.Tests.{Setting}
+use Rattle.terms.specs.Needs.{asked, bypassed_ids}
 use Rattle.terms.proofs.ListMembers.{here, here_or, none_in, in_map, map_in}
 use Rattle.terms.proofs.Lists.{front_more}
 use Rattle.judge_needs.specs.Pairs.{AddsBy, AddsPairs, ArePairs}
@@ -63,6 +67,17 @@ pairs_alike x Some Same old new same adds y z = (
   λ h. elim ((adds y z).0 h) [ inl was ↦ inl was | inr added ↦ inr (added.0, (same z).0 added.1) ],
   λ h. (adds y z).1 (elim h [ inl was ↦ inl was | inr added ↦ inr (added.0, (same z).1 added.1) ]),
 )
+
+-- the bypassed requisites, kind by kind
+pub kinds_then : (s : Setting) (x : Id) (pre req : List Id) (old one two new : List (Id × Id))
+    → pre ≡ cond s.bypass.pre (pre_of s.choice x) [] → req ≡ cond s.bypass.req (req_of s.choice x) []
+    → AddsPairs x pre old one → AddsPairs x req one two
+    → AddsPairs x (cond s.bypass.ifreq (asked s [] x Ifreq) []) two new → AddsPairs x (bypassed_ids s x) old new
+kinds_then s x pre req old one two new pre_is req_is by_pre by_req by_ifreq =
+    let ifreq = cond s.bypass.ifreq (asked s [] x Ifreq) [] in
+    subst (λ l. AddsPairs x (l ++ cond s.bypass.req (req_of s.choice x) [] ++ ifreq) old new) pre_is
+    (subst (λ l. AddsPairs x (pre ++ l ++ ifreq) old new) req_is
+    (pairs_then x (pre ++ req) ifreq old two new (pairs_then x pre req old one two by_pre by_req) by_ifreq))
 
 module _ (Of : Id → Id → Type 0) where
   -- the next candidate

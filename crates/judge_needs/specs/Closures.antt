@@ -1,8 +1,6 @@
 -- The needed ids that SYSMODs supersede.
-use Rattle.std.specs.Prelude.{◌↔◌, ◌⊎◌, ◌||◌, Bool, not, List, Contains}
-use Rattle.std.specs.Str.{bytes_eq}
+use Rattle.std.specs.Prelude.{◌↔◌, ◌⊎◌, List, Contains}
 use Rattle.terms.specs.Types.{Id}
-use Rattle.terms.specs.Lookups.{is_in}
 use Rattle.terms.specs.Choice.{Choice, sup_of}
 use Rattle.terms.specs.Over.{Supersedes}
 use Rattle.judge_needs.specs.declared.superseded.Closure.{Closure}
@@ -19,10 +17,6 @@ IsClosure c needed k = (z : Id) → Contains k.ids z ↔ SupersedesOne c needed 
 abbrev pub AddsBelow : Choice → List Id → List Id → List Id → List Id → Type 0
 AddsBelow c needed xs old new =
     (z : Id) → Contains new z ↔ (Contains old z ⊎ ((x : Id) × Contains xs x × SupersedesOne c needed x z))
-
--- whether it is the highest one, or none of those that the highest one names in SUP
-abbrev pub is_asked : Id → List Id → Id → Bool
-is_asked highest sup d = bytes_eq d highest || not (is_in sup d)
 
 -- some of these ids, of which one names each other one of these in SUP
 pub record AreEnough (c : Choice) (xs some : List Id) : Type 0 where

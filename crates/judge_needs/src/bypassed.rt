@@ -1,31 +1,20 @@
 //! The bypassed requisites of the candidates.
-ghost use Rattle.std.specs.Prelude.{◌≡◌, ◌++◌, [], map, OnOk, IfOk, if◌then◌else◌};
-ghost use Rattle.terms.specs.declared.codes.NeedKind.TheVariants.{Ifreq};
-ghost use Rattle.terms.specs.Deleted.{deletions};
-ghost use Rattle.terms.specs.Needs.{asked, bypassed_ids, is_bypassed};
-ghost use Rattle.judge_needs.specs.Conditions.{AreStated};
-ghost use Rattle.zones_views.specs.Scopes.{choice_of, setting_of};
+ghost use Rattle.std.specs.Prelude.{◌≡◌, [], OnOk, IfOk, if◌then◌else◌};
+ghost use Rattle.terms.specs.Needs.{bypassed_ids, is_bypassed};
+ghost use Rattle.zones_views.specs.Scopes.{setting_of};
 ghost use Rattle.judge_needs.specs.Pairs.{AddsPairs, AreBypassed};
 
-use crate::conditions::if_needed;
-use crate::stated::{Stated, all_stated};
+use crate::conditions::Conditions;
 use fields::Id;
 use std::alloc::{AllocError, Global};
 use terms::NeedKind;
-use zones_views::{Scope, deletions};
+use zones_views::Scope;
 
 /// Adds the pairs of an id with these.
-pub(crate) fn add_pairs(
-    pairs: &mut Vec<(Id, Id)>,
-    id: Id,
-    requisites: &[Id],
-) -> Result<(), AllocError>
-    ensures { OnOk result (pairs.new.items ≡ pairs.old.items ++ map (λ z. (id, z)) requisites.now) }
+pub(crate) fn add_pairs(pairs: &mut Vec<(Id, Id)>, id: Id, others: &[Id]) -> Result<(), AllocError>
+    ensures { OnOk result (AddsPairs id others.now pairs.old.items pairs.new.items) }
 {
-    for requisite in requisites {
-        pairs.push((id, *requisite))?;
-    }
-    Ok(())
+    pairs.extend(others.iter().map(|other| (id, *other)))
 }
 
 // These requisites of one kind, if BYPASS covers it.
@@ -39,43 +28,23 @@ fn covered<'a>(scope: &Scope<'_, '_>, kind: NeedKind, requisites: &'a [Id]) -> &
     }
 }
 
-// Adds those by `++IF`.
-fn add_ifreq(
-    alloc: Global,
-    scope: &Scope<'_, '_>,
-    stated: &Stated,
-    all_dels: &[Id],
-    id: Id,
-    pairs: &mut Vec<(Id, Id)>,
-) -> Result<(), AllocError>
-    requires stated { AreStated (choice_of scope.now) scope.now.zone.now stated.now }
-    requires dels { all_dels.now ≡ deletions (choice_of scope.now) scope.now.ids.now }
-    ensures { OnOk result (AddsPairs id (if scope.now.bypass.now.ifreq then asked (setting_of scope.now) [] id Ifreq
-        else []) pairs.old.items pairs.new.items) }
-{
-    if scope.is_bypassed(NeedKind::Ifreq) {
-        let requisites = if_needed(alloc, scope, stated, all_dels, id)?;
-        add_pairs(pairs, id, requisites.as_slice())?;
-    }
-    Ok(())
-}
-
 // Adds those of one candidate.
 fn add_bypassed(
     alloc: Global,
-    scope: &Scope<'_, '_>,
-    stated: &Stated,
-    all_dels: &[Id],
+    conditions: &Conditions<'_, '_>,
     id: Id,
     pairs: &mut Vec<(Id, Id)>,
 ) -> Result<(), AllocError>
-    requires stated { AreStated (choice_of scope.now) scope.now.zone.now stated.now }
-    requires dels { all_dels.now ≡ deletions (choice_of scope.now) scope.now.ids.now }
-    ensures { OnOk result (AddsPairs id (bypassed_ids (setting_of scope.now) id) pairs.old.items pairs.new.items) }
+    ensures { OnOk result (AddsPairs id (bypassed_ids (setting_of conditions.now.scope) id) pairs.old.items
+        pairs.new.items) }
 {
+    let scope = &conditions.scope;
     add_pairs(pairs, id, covered(scope, NeedKind::Pre, scope.pre(id)))?;
     add_pairs(pairs, id, covered(scope, NeedKind::Req, scope.req(id)))?;
-    add_ifreq(alloc, scope, stated, all_dels, id, pairs)?;
+    if scope.is_bypassed(NeedKind::Ifreq) {
+        let by_ifs = conditions.requisites(alloc, id)?;
+        add_pairs(pairs, id, by_ifs.as_slice())?;
+    }
     Ok(())
 }
 
@@ -86,12 +55,10 @@ pub fn bypassed_pairs(alloc: Global, scope: &Scope<'_, '_>) -> Result<Vec<(Id, I
     if !scope.bypasses_requisites() {
         return Ok(Vec::new(alloc));
     }
-    let stated = all_stated(alloc, scope)?;
-    let all_dels = deletions(alloc, scope.vers, scope.ids.as_slice())?;
-    let dels = all_dels.as_slice();
+    let conditions = Conditions::new(alloc, scope)?;
     let mut pairs = Vec::new(alloc);
     for id in scope.ids.as_slice() {
-        add_bypassed(alloc, scope, &stated, dels, *id, &mut pairs)?;
+        add_bypassed(alloc, &conditions, *id, &mut pairs)?;
     }
     Ok(pairs)
 }
