@@ -16,11 +16,12 @@ use Rattle.terms.specs.Tests.{Setting}
 use Rattle.terms.specs.Needs.{asked}
 use Rattle.terms.proofs.IdPlaces.{before_apart}
 use Rattle.terms.proofs.Lists.{front_more}
-use Rattle.terms.proofs.ListMembers.{here, here_or, map_in, in_map, filter_in, in_filter, none_in}
+use Rattle.terms.proofs.ListMembers.{map_in, in_map, filter_in, in_filter, none_in}
 use Rattle.terms.proofs.Pairs.{AllPairs_front, AllPairs_join, AllPairs_parts, pairs_map}
 use Rattle.decide.specs.declared.stated.Need.{Need}
 use Rattle.decide.specs.Said.{a_need}
 use Rattle.judge_needs.specs.Needed.{is_open, IsOpen, AreAllNeeds, AreNeedsOf, AddsPart, IsOfKind}
+use Rattle.judge_needs.proofs.Growing.{front_in}
 
 pub join : (D E : Id → NeedKind → Id → Type 0) (xs ys : List Need) → AreAllNeeds D xs → AreAllNeeds E ys
     → ((x : Id) (kind : NeedKind) (z : Id) → D x kind z → ¬ E x kind z)
@@ -222,8 +223,8 @@ apart : (xs : List Id) (k : ℕ) (x y : Id) → IsRising xs → k < length xs �
 apart xs k x y rising below at in_front =
     let whole = subst (AllPairs Before) (sym (take-append-drop (k + 1) xs)) rising in
     let front = AllPairs_front Before (take (k + 1) xs) (drop (k + 1) xs) whole in
-    let before = (AllPairs_parts Before (take k xs) [] x (subst (AllPairs Before) (front_more xs k x below at) front)).0 in
-    before_apart y x (All-contains (λ y. Before y x) (take k xs) y before in_front)
+    let parts = AllPairs_parts Before (take k xs) [] x (subst (AllPairs Before) (front_more xs k x below at) front) in
+    before_apart y x (All-contains (λ y. Before y x) (take k xs) y parts.0 in_front)
   where
     Before : Id → Id → Type 0
     Before y z = IsTrue (is_before y z)
@@ -234,37 +235,34 @@ module _ (s : Setting) (survivors : List Id) (left : Zone) where
       → x ≡ get_or xs k x → AddsPart x (IsOpen s survivors left x) old new
       → AreNeedsOf s survivors left (take k xs) old → AreNeedsOf s survivors left (take (k + 1) xs) new
   needs_next xs k x old new rising below at p w =
-      subst (λ l. AreNeedsOf s survivors left l new) (sym (front_more xs k x below at))
-      (subst (AreNeedsOf s survivors left (take k xs ++ x ∷ [])) (sym p.are)
+      subst (AreNeedsOf s survivors left (take (k + 1) xs)) (sym p.are)
       (alike _ _ (old ++ p.more) (λ y kind z. (up y kind z, down y kind z))
       (join (λ y kind z. Contains (take k xs) y × IsOpen s survivors left y kind z)
       (λ y kind z. (y ≡ x) × IsOpen s survivors left x kind z) old p.more w p.needs
-      (λ y kind z l r. apart xs k x y rising below at l.0 r.0))))
+      (λ y kind z l r. apart xs k x y rising below at l.0 r.0)))
     where
       up : (y : Id) (kind : NeedKind) (z : Id)
           → (Contains (take k xs) y × IsOpen s survivors left y kind z)
           ⊎ ((y ≡ x) × IsOpen s survivors left x kind z)
-          → Contains (take k xs ++ x ∷ []) y × IsOpen s survivors left y kind z
-      up y kind z (inl l) = (Contains-append_left (take k xs) (x ∷ []) y l.0, l.1)
+          → Contains (take (k + 1) xs) y × IsOpen s survivors left y kind z
+      up y kind z (inl l) = ((front_in xs k x y below at).1 (inl l.0), l.1)
       up y kind z (inr r) = (
-        Contains-append_right (take k xs) (x ∷ []) y (subst (Contains (x ∷ [])) (sym r.0) (here x [])),
+        (front_in xs k x y below at).1 (inr r.0),
         subst (λ v. IsOpen s survivors left v kind z) (sym r.0) r.1,
       )
 
       down : (y : Id) (kind : NeedKind) (z : Id)
-          → Contains (take k xs ++ x ∷ []) y × IsOpen s survivors left y kind z
+          → Contains (take (k + 1) xs) y × IsOpen s survivors left y kind z
           → (Contains (take k xs) y × IsOpen s survivors left y kind z)
           ⊎ ((y ≡ x) × IsOpen s survivors left x kind z)
-      down y kind z h = elim (Contains-append_cases (take k xs) (x ∷ []) y h.0) [
+      down y kind z h = elim ((front_in xs k x y below at).0 h.0) [
         | inl before ↦ inl (before, h.1)
-        | inr last ↦ elim (here_or x [] y last) [
-          | inl same ↦ inr (sym same, subst (λ v. IsOpen s survivors left v kind z) (sym same) h.1)
-          | inr none ↦ absurd (none_in y none)
-        ]
+        | inr same ↦ inr (same, subst (λ v. IsOpen s survivors left v kind z) same h.1)
       ]
 
 -- the FMID as a list of ids
-pub one_of : (fmid : Option Id) (ids : List Id) → MatchOption fmid (ids ≡ []) (λ x. ids ≡ x ∷ []) → ids ≡ at_most_one fmid
+pub one_of : (fmid : Option Id) (ids : List Id) → MatchOption fmid (ids ≡ []) (λ x. ids ≡ x ∷ [])
+    → ids ≡ at_most_one fmid
 one_of None ids is = is
 one_of (Some x) ids is = is
 

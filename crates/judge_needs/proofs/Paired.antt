@@ -8,9 +8,9 @@ use Rattle.terms.specs.Types.{Id}
 use Rattle.terms.specs.Choice.{pre_of, req_of}
 use Rattle.terms.specs.Tests.{Setting}
 use Rattle.terms.specs.Needs.{asked, bypassed_ids}
-use Rattle.terms.proofs.ListMembers.{here, here_or, none_in, in_map, map_in}
-use Rattle.terms.proofs.Lists.{front_more}
+use Rattle.terms.proofs.ListMembers.{none_in, in_map, map_in}
 use Rattle.judge_needs.specs.Pairs.{AddsBy, AddsPairs, ArePairs}
+use Rattle.judge_needs.proofs.Growing.{front_in}
 
 pub pairs_map : (x : Id) (more : List Id) (old new : List (Id × Id)) → new ≡ old ++ map (λ z. (x, z)) more
     → AddsPairs x more old new
@@ -83,25 +83,13 @@ module _ (Of : Id → Id → Type 0) where
   -- the next candidate
   pub pairs_next : (xs : List Id) (k : ℕ) (x : Id) (old new : List (Id × Id)) → k < length xs → x ≡ get_or xs k x
       → AddsBy x (Of x) old new → ArePairs Of (take k xs) old → ArePairs Of (take (k + 1) xs) new
-  pairs_next xs k x old new below at adds was =
-      subst (λ l. ArePairs Of l new) (sym (front_more xs k x below at)) (λ y z. (up y z, down y z))
-    where
-      up : (y z : Id) → Contains new (y, z) → Contains (take k xs ++ x ∷ []) y × Of y z
-      up y z h = elim ((adds y z).0 h) [
-        | inl before ↦
-            let both = (was y z).0 before in
-            (Contains-append_left (take k xs) (x ∷ []) y both.0, both.1)
-        | inr added ↦ (
-          Contains-append_right (take k xs) (x ∷ []) y (subst (Contains (x ∷ [])) (sym added.0) (here x [])),
-          subst (λ w. Of w z) (sym added.0) added.1,
-        )
-      ]
-
-      down : (y z : Id) → Contains (take k xs ++ x ∷ []) y × Of y z → Contains new (y, z)
-      down y z h = elim (Contains-append_cases (take k xs) (x ∷ []) y h.0) [
-        | inl before ↦ (adds y z).1 (inl ((was y z).1 (before, h.1)))
-        | inr last ↦ elim (here_or x [] y last) [
-          | inl same ↦ (adds y z).1 (inr (sym same, subst (λ w. Of w z) (sym same) h.1))
-          | inr none ↦ absurd (none_in y none)
-        ]
-      ]
+  pairs_next xs k x old new below at adds was y z = (
+    λ h. elim ((adds y z).0 h) [
+      | inl before ↦ let both = (was y z).0 before in ((front_in xs k x y below at).1 (inl both.0), both.1)
+      | inr added ↦ ((front_in xs k x y below at).1 (inr added.0), subst (λ w. Of w z) (sym added.0) added.1)
+    ],
+    λ h. (adds y z).1 (elim ((front_in xs k x y below at).0 h.0) [
+      | inl before ↦ inl ((was y z).1 (before, h.1))
+      | inr same ↦ inr (same, subst (λ w. Of w z) same h.1)
+    ]),
+  )

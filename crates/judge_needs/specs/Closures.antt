@@ -13,10 +13,9 @@ SupersedesOne c needed x z = Contains needed z × Supersedes c x z
 abbrev pub IsClosure : Choice → List Id → Closure → Type 0
 IsClosure c needed k = (z : Id) → Contains k.ids z ↔ SupersedesOne c needed k.id z
 
--- what these supersede of the needed ids comes in
-abbrev pub AddsBelow : Choice → List Id → List Id → List Id → List Id → Type 0
-AddsBelow c needed xs old new =
-    (z : Id) → Contains new z ↔ (Contains old z ⊎ ((x : Id) × Contains xs x × SupersedesOne c needed x z))
+-- what x supersedes of the needed ids comes in
+abbrev pub AddsBelow : Choice → List Id → Id → List Id → List Id → Type 0
+AddsBelow c needed x old new = (z : Id) → Contains new z ↔ (Contains old z ⊎ SupersedesOne c needed x z)
 
 -- some of these ids, of which one names each other one of these in SUP
 pub record AreEnough (c : Choice) (xs some : List Id) : Type 0 where

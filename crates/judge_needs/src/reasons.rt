@@ -1,10 +1,9 @@
 //! The reasons of the ERROR holds on a candidate.
-ghost use Rattle.std.specs.Prelude.{◌↔◌, not, map, filter, Contains, IfOk};
-ghost use Rattle.terms.specs.declared.kinds.HoldKind.TheVariants.{Error};
+ghost use Rattle.std.specs.Prelude.{◌↔◌, [], Contains, IfOk};
+ghost use Rattle.terms.specs.declared.codes.NeedKind.TheVariants.{HoldError};
 ghost use Rattle.terms.specs.Types.{Id as AnId};
-ghost use Rattle.terms.specs.Lookups.{holds_of};
-ghost use Rattle.terms.specs.Tests.{is_bypassed_hold};
-ghost use Rattle.zones_views.specs.Scopes.{global_of};
+ghost use Rattle.terms.specs.Needs.{asked};
+ghost use Rattle.zones_views.specs.Scopes.{setting_of};
 
 use fields::{Id, IdList};
 use std::alloc::{AllocError, Global};
@@ -17,8 +16,8 @@ pub(crate) fn open_reasons(
     scope: &Scope<'_, '_>,
     id: Id,
 ) -> Result<IdList, AllocError>
-    ensures { IfOk result (λ ids. (z : AnId) → Contains ids z ↔ Contains (map (λ h. h.reason)
-        (filter (λ h. not (is_bypassed_hold scope.now.bypass.now h)) (holds_of (global_of scope.now) Error id))) z) }
+    ensures { IfOk result (λ ids. (z : AnId) → Contains ids z
+        ↔ Contains (asked (setting_of scope.now) [] id HoldError) z) }
 {
     let mut found = Vec::new(alloc);
     for hold in scope.global().holds_of(HoldKind::Error, id) {

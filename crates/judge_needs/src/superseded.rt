@@ -1,6 +1,6 @@
-//! Whom each candidate supersedes of the ids that somebody needs, where whoever supersedes them serves that: mostly these
-//! are few among all that it supersedes. Candidates rise, and mostly supersede lower ones: what these supersede is known
-//! then, and is not searched for again.
+//! Whom each candidate supersedes of the ids that are needed where a superseder serves: mostly these are few among all
+//! that it supersedes. Candidates rise, and mostly supersede lower ones: what these supersede is known then, and is not
+//! searched for again.
 ghost use Rattle.std.specs.Prelude.{◌≡◌, ◌↔◌, ◌∷◌, [], List, All, Contains, IfOk, OnOk, map, filter};
 ghost use Rattle.terms.specs.Types.{Id as AnId};
 ghost use Rattle.terms.specs.Lookups.{is_in};
@@ -103,7 +103,7 @@ fn append_below(
     found: &mut Vec<Id>,
 ) -> Result<(), AllocError>
     requires { All (IsClosure (choice vers.now) needed.now) known.now }
-    ensures { OnOk result (AddsBelow (choice vers.now) needed.now (id ∷ []) found.old.items found.new.items) }
+    ensures { OnOk result (AddsBelow (choice vers.now) needed.now id found.old.items found.new.items) }
 {
     match known.get(id) {
         Some(closure) => found.extend_from_slice(closure.ids.as_slice()),
@@ -127,8 +127,8 @@ fn superseded(
     ensures { IfOk result (λ ids. (z : AnId) → Contains ids z ↔ SupersedesOne (choice vers.now) needed.now id z) }
 {
     let named = sup(vers, id);
-    let enough = enough(alloc, vers, named)?;
     let mut found = needed_among(alloc, needed, named)?;
+    let enough = enough(alloc, vers, named)?;
     for other in enough.as_slice() {
         append_below(alloc, vers, needed, known, *other, &mut found)?;
     }

@@ -13,7 +13,8 @@ use Rattle.judge_needs.proofs.needed.add_open.Goals as goal
 
 pub add_asked-requires : goal.add_asked-requires
 add_asked-requires c =
-    subst IsRising (sym (one_of c.fmid-fmid.result c.as_slice.result.now c.as_slice.ensures)) (one_rises c.fmid-fmid.result)
+    subst IsRising (sym (one_of c.fmid-fmid.result c.as_slice.result.now c.as_slice.ensures))
+    (one_rises c.fmid-fmid.result)
 
 pub returns : goal.returns
 returns c =

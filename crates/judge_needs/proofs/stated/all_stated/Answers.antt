@@ -19,4 +19,5 @@ loop-entry-preserved c f =
     ∙ ap (λ l. old ++ map (a_requisite c.entry.inside.id) (reqs_where (bytes_eq f) l)) c.ifs.ensures
     ∙ ap (λ (e : Entry). old ++ stated_by ch f e.id) c.entry.view_is
     ∙ ap (λ l. l ++ stated_by ch f e.id) (c.loop-entry.invariant f)
-    ∙ sym (stated_next ch f c.entries-entry-items.result.now c.loop-entry.entry-index e (omega arith) c.entry-item.is on)
+    ∙ sym (stated_next ch f c.entries-entry-items.result.now c.loop-entry.entry-index e (omega arith)
+    c.entry-item.is on)

@@ -1,8 +1,8 @@
 use Rattle.std.proofs.Common.{◌≤◌, ◌∙◌, ap, arith, filter, length, subst, take_all}
 use Rattle.terms.specs.Lookups.{is_in}
 use Rattle.sysmods.specs.Choices.{choice}
-use Rattle.judge_needs.specs.Closures.{AddsBelow, AreEnough}
-use Rattle.judge_needs.proofs.Closing.{all_below, below_none, below_next}
+use Rattle.judge_needs.specs.Closures.{AreEnough}
+use Rattle.judge_needs.proofs.Closing.{AddsAll, all_below, below_none, below_next}
 use Rattle.judge_needs.proofs.superseded.superseded.Goals as goal
 
 pub loop-other-init : goal.loop-other-init
@@ -26,7 +26,7 @@ returns c z =
     all_below ch needed c.args.id some start found
     (subst (λ l. AreEnough ch l some) c.sup-named.ensures c.in_ok-enough.ensures)
     (c.in_ok-found.ensures ∙ ap (filter (is_in needed)) c.sup-named.ensures)
-    (subst (λ l. AddsBelow ch needed l start found)
+    (subst (λ l. AddsAll ch needed l start found)
     (take_all c.loop-other.other-index c.as_slice-other-items.result.now whole
     ∙ c.as_slice-other-items.ensures.value) c.loop-other.invariant) z in
     (λ h. both.0 ((c.from_vec.ensures z).0 h), λ h. (c.from_vec.ensures z).1 (both.1 h))

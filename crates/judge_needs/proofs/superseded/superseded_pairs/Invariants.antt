@@ -7,5 +7,6 @@ use Rattle.judge_needs.proofs.superseded.superseded_pairs.Given as goal
 abbrev pub invariant-loop-id : goal.invariant-loop-id
 invariant-loop-id l = record {
   known : All (IsClosure (choice l.vers) l.needed-inside.items.items) l.known;
-  pairs : ArePairs (SupersedesOne (choice l.vers) l.needed-inside.items.items) (take l.id-index l.id-items) l.pairs.items;
+  pairs : ArePairs (SupersedesOne (choice l.vers) l.needed-inside.items.items) (take l.id-index l.id-items)
+      l.pairs.items;
 }
