@@ -1,13 +1,9 @@
 -- Pairs of candidates and ids, as they come in.
 use Rattle.std.proofs.Common.{◌≡◌, ◌⊎◌, inl, inr, ℕ, ◌<◌, ◌+◌, List, [], ◌∷◌, ◌++◌, map, take, length, get_or, Contains}
-use Rattle.std.proofs.Common.{cond, sym, ap, subst}
+use Rattle.std.proofs.Common.{sym, ap, subst}
 use Rattle.std.specs.Prelude.{◌↔◌}
 use Rattle.std.proofs.lemmas.List.Elements.{Contains-append_left, Contains-append_right, Contains-append_cases}
-use Rattle.terms.specs.declared.codes.NeedKind.TheVariants.{Ifreq}
 use Rattle.terms.specs.Types.{Id}
-use Rattle.terms.specs.Choice.{pre_of, req_of}
-use Rattle.terms.specs.Tests.{Setting}
-use Rattle.terms.specs.Needs.{asked, bypassed_ids}
 use Rattle.terms.proofs.ListMembers.{none_in, in_map, map_in}
 use Rattle.judge_needs.specs.Pairs.{AddsBy, AddsPairs, ArePairs}
 use Rattle.judge_needs.proofs.Growing.{front_in}
@@ -37,29 +33,6 @@ pairs_map x more old new are y z = (up, down)
         (subst (λ w. Contains {X = Id × Id} (map (λ z. (x, z)) more) (w, z)) (sym added.0)
         (in_map (λ z. (x, z)) more z added.1)))
 
-pub pairs_same : (x : Id) (old : List (Id × Id)) → AddsPairs x [] old old
-pairs_same x old y z = (λ h. inl h, λ h. elim h [ inl was ↦ was | inr added ↦ absurd (none_in z added.1) ])
-
-pub pairs_then : (x : Id) (p q : List Id) (a b c : List (Id × Id)) → AddsPairs x p a b → AddsPairs x q b c
-    → AddsPairs x (p ++ q) a c
-pairs_then x p q a b c first second y z = (up, down)
-  where
-    up : Contains c (y, z) → Contains a (y, z) ⊎ ((y ≡ x) × Contains (p ++ q) z)
-    up h = elim ((second y z).0 h) [
-      | inl in_b ↦ elim ((first y z).0 in_b) [
-        | inl in_a ↦ inl in_a
-        | inr added ↦ inr (added.0, Contains-append_left p q z added.1)
-      ]
-      | inr added ↦ inr (added.0, Contains-append_right p q z added.1)
-    ]
-
-    down : Contains a (y, z) ⊎ ((y ≡ x) × Contains (p ++ q) z) → Contains c (y, z)
-    down (inl in_a) = (second y z).1 (inl ((first y z).1 (inl in_a)))
-    down (inr added) = elim (Contains-append_cases p q z added.1) [
-      | inl in_p ↦ (second y z).1 (inl ((first y z).1 (inr (added.0, in_p))))
-      | inr in_q ↦ (second y z).1 (inr (added.0, in_q))
-    ]
-
 -- the same ids, said in another way
 pub pairs_alike : (x : Id) (Some Same : Id → Type 0) (old new : List (Id × Id)) → ((z : Id) → Some z ↔ Same z)
     → AddsBy x Some old new → AddsBy x Same old new
@@ -68,16 +41,19 @@ pairs_alike x Some Same old new same adds y z = (
   λ h. (adds y z).1 (elim h [ inl was ↦ inl was | inr added ↦ inr (added.0, (same z).1 added.1) ]),
 )
 
--- the bypassed requisites, kind by kind
-pub kinds_then : (s : Setting) (x : Id) (pre req : List Id) (old one two new : List (Id × Id))
-    → pre ≡ cond s.bypass.pre (pre_of s.choice x) [] → req ≡ cond s.bypass.req (req_of s.choice x) []
-    → AddsPairs x pre old one → AddsPairs x req one two
-    → AddsPairs x (cond s.bypass.ifreq (asked s [] x Ifreq) []) two new → AddsPairs x (bypassed_ids s x) old new
-kinds_then s x pre req old one two new pre_is req_is by_pre by_req by_ifreq =
-    let ifreq = cond s.bypass.ifreq (asked s [] x Ifreq) [] in
-    subst (λ l. AddsPairs x (l ++ cond s.bypass.req (req_of s.choice x) [] ++ ifreq) old new) pre_is
-    (subst (λ l. AddsPairs x (pre ++ l ++ ifreq) old new) req_is
-    (pairs_then x (pre ++ req) ifreq old two new (pairs_then x pre req old one two by_pre by_req) by_ifreq))
+-- a list with another one behind it that has the same ids
+pub same_behind : (front old new : List Id) → ((z : Id) → Contains old z ↔ Contains new z) → (z : Id)
+    → Contains (front ++ old) z ↔ Contains (front ++ new) z
+same_behind front old new same z = (
+  λ h. elim (Contains-append_cases front old z h) [
+    | inl before ↦ Contains-append_left front new z before
+    | inr behind ↦ Contains-append_right front new z ((same z).0 behind)
+  ],
+  λ h. elim (Contains-append_cases front new z h) [
+    | inl before ↦ Contains-append_left front old z before
+    | inr behind ↦ Contains-append_right front old z ((same z).1 behind)
+  ],
+)
 
 module _ (Of : Id → Id → Type 0) where
   -- the next candidate

@@ -1,5 +1,6 @@
 //! The bypassed requisites of the candidates.
-ghost use Rattle.std.specs.Prelude.{◌≡◌, [], OnOk, IfOk, if◌then◌else◌};
+ghost use Rattle.std.specs.Prelude.{◌≡◌, ◌↔◌, [], Contains, OnOk, IfOk, if◌then◌else◌};
+ghost use Rattle.terms.specs.Types.{Id as AnId};
 ghost use Rattle.terms.specs.Needs.{bypassed_ids, is_bypassed};
 ghost use Rattle.zones_views.specs.Scopes.{setting_of};
 ghost use Rattle.judge_needs.specs.Pairs.{AddsPairs, AreBypassed};
@@ -28,24 +29,23 @@ fn covered<'a>(scope: &Scope<'_, '_>, kind: NeedKind, requisites: &'a [Id]) -> &
     }
 }
 
-// Adds those of one candidate.
-fn add_bypassed(
+// Its requisites that BYPASS covers.
+fn bypassed(
     alloc: Global,
     conditions: &Conditions<'_, '_>,
     id: Id,
-    pairs: &mut Vec<(Id, Id)>,
-) -> Result<(), AllocError>
-    ensures { OnOk result (AddsPairs id (bypassed_ids (setting_of conditions.now.scope) id) pairs.old.items
-        pairs.new.items) }
+) -> Result<Vec<Id>, AllocError>
+    ensures { IfOk result (λ ids. (z : AnId) → Contains ids.items z
+        ↔ Contains (bypassed_ids (setting_of conditions.now.scope) id) z) }
 {
     let scope = &conditions.scope;
-    add_pairs(pairs, id, covered(scope, NeedKind::Pre, scope.pre(id)))?;
-    add_pairs(pairs, id, covered(scope, NeedKind::Req, scope.req(id)))?;
+    let mut ids = Vec::from_slice(alloc, covered(scope, NeedKind::Pre, scope.pre(id)))?;
+    ids.extend_from_slice(covered(scope, NeedKind::Req, scope.req(id)))?;
     if scope.is_bypassed(NeedKind::Ifreq) {
         let by_ifs = conditions.requisites(alloc, id)?;
-        add_pairs(pairs, id, by_ifs.as_slice())?;
+        ids.extend_from_slice(by_ifs.as_slice())?;
     }
-    Ok(())
+    Ok(ids)
 }
 
 /// Each candidate with each of its PRE, REQ and IFREQ that BYPASS covers. The error comes where memory runs out.
@@ -58,7 +58,8 @@ pub fn bypassed_pairs(alloc: Global, scope: &Scope<'_, '_>) -> Result<Vec<(Id, I
     let conditions = Conditions::new(alloc, scope)?;
     let mut pairs = Vec::new(alloc);
     for id in scope.ids.as_slice() {
-        add_bypassed(alloc, &conditions, *id, &mut pairs)?;
+        let ids = bypassed(alloc, &conditions, *id)?;
+        add_pairs(&mut pairs, *id, ids.as_slice())?;
     }
     Ok(pairs)
 }
