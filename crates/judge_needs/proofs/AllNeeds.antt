@@ -159,24 +159,23 @@ module _ (s : Setting) (survivors : List Id) (left : Zone) (x : Id) where
       → AllByRecursion (λ j. rank j < rank kind) kinds → AddsPart x (Among kinds) a b → AddsPart x (Of kind) b c
       → AddsPart x (Among (kind ∷ kinds)) a c
   next_kind kinds kind a b c lower front next =
-      same_part x (λ k z. Among kinds k z ⊎ Of kind k z) (Among (kind ∷ kinds)) a c (λ k z. (up k z, down k z))
+      same_part x (λ k z. Among kinds k z ⊎ Of kind k z) (Among (kind ∷ kinds)) a c (λ k z. (
+        λ h. elim h [
+          | inl l ↦ (there kind kinds k l.0, l.1)
+          | inr o ↦ (
+            subst (Contains (kind ∷ kinds)) (sym o.0) (here kind kinds),
+            subst (λ j. IsOpen s survivors left x j z) (sym o.0) (o.1, o.2),
+          )
+        ],
+        λ h. elim (here_or kind kinds k h.0) [
+          | inl same ↦
+              let of_kind = subst (λ j. IsOpen s survivors left x j z) (sym same) h.1 in
+              inr (sym same, of_kind.0, of_kind.1)
+          | inr later ↦ inl (later, h.1)
+        ],
+      ))
       (both_parts x (Among kinds) (Of kind) a b c front next
       (λ k z h o. let less = lower_at kind kinds k lower h.0 in omega (arith, less, ap rank o.0)))
-    where
-      up : (k : NeedKind) (z : Id) → Among kinds k z ⊎ Of kind k z → Among (kind ∷ kinds) k z
-      up k z (inl h) = (there kind kinds k h.0, h.1)
-      up k z (inr o) = (
-        subst (Contains (kind ∷ kinds)) (sym o.0) (here kind kinds),
-        subst (λ j. IsOpen s survivors left x j z) (sym o.0) (o.1, o.2),
-      )
-
-      down : (k : NeedKind) (z : Id) → Among (kind ∷ kinds) k z → Among kinds k z ⊎ Of kind k z
-      down k z h = elim (here_or kind kinds k h.0) [
-        | inl same ↦
-            let of_kind = subst (λ j. IsOpen s survivors left x j z) (sym same) h.1 in
-            inr (sym same, of_kind.0, of_kind.1)
-        | inr later ↦ inl (later, h.1)
-      ]
 
   abbrev all_kinds : List NeedKind
   all_kinds = Orphan ∷ HoldError ∷ Ifreq ∷ Req ∷ Pre ∷ Fmid ∷ []
@@ -226,29 +225,22 @@ module _ (s : Setting) (survivors : List Id) (left : Zone) where
       → AreNeedsOf s survivors left (take k xs) old → AreNeedsOf s survivors left (take (k + 1) xs) new
   needs_next xs k x old new rising below at p w =
       subst (AreNeedsOf s survivors left (take (k + 1) xs)) (sym p.are)
-      (alike _ _ (old ++ p.more) (λ y kind z. (up y kind z, down y kind z))
+      (alike _ _ (old ++ p.more) (λ y kind z. (
+        λ h. elim h [
+          | inl l ↦ ((front_in xs k x y below at).1 (inl l.0), l.1)
+          | inr r ↦ (
+            (front_in xs k x y below at).1 (inr r.0),
+            subst (λ v. IsOpen s survivors left v kind z) (sym r.0) r.1,
+          )
+        ],
+        λ h. elim ((front_in xs k x y below at).0 h.0) [
+          | inl before ↦ inl (before, h.1)
+          | inr same ↦ inr (same, subst (λ v. IsOpen s survivors left v kind z) same h.1)
+        ],
+      ))
       (join (λ y kind z. Contains (take k xs) y × IsOpen s survivors left y kind z)
       (λ y kind z. (y ≡ x) × IsOpen s survivors left x kind z) old p.more w p.needs
       (λ y kind z l r. apart xs k x y rising below at l.0 r.0)))
-    where
-      up : (y : Id) (kind : NeedKind) (z : Id)
-          → (Contains (take k xs) y × IsOpen s survivors left y kind z)
-          ⊎ ((y ≡ x) × IsOpen s survivors left x kind z)
-          → Contains (take (k + 1) xs) y × IsOpen s survivors left y kind z
-      up y kind z (inl l) = ((front_in xs k x y below at).1 (inl l.0), l.1)
-      up y kind z (inr r) = (
-        (front_in xs k x y below at).1 (inr r.0),
-        subst (λ v. IsOpen s survivors left v kind z) (sym r.0) r.1,
-      )
-
-      down : (y : Id) (kind : NeedKind) (z : Id)
-          → Contains (take (k + 1) xs) y × IsOpen s survivors left y kind z
-          → (Contains (take k xs) y × IsOpen s survivors left y kind z)
-          ⊎ ((y ≡ x) × IsOpen s survivors left x kind z)
-      down y kind z h = elim ((front_in xs k x y below at).0 h.0) [
-        | inl before ↦ inl (before, h.1)
-        | inr same ↦ inr (same, subst (λ v. IsOpen s survivors left v kind z) same h.1)
-      ]
 
 -- the FMID as a list of ids
 pub one_of : (fmid : Option Id) (ids : List Id) → MatchOption fmid (ids ≡ []) (λ x. ids ≡ x ∷ [])

@@ -1,10 +1,10 @@
 -- Pairs of candidates and ids, as they come in.
-use Rattle.std.proofs.Common.{◌≡◌, ◌⊎◌, inl, inr, ℕ, ◌<◌, ◌+◌, List, [], ◌∷◌, ◌++◌, map, take, length, get_or, Contains}
+use Rattle.std.proofs.Common.{◌≡◌, ◌⊎◌, inl, inr, ℕ, ◌<◌, ◌+◌, List, ◌++◌, map, take, length, get_or, Contains}
 use Rattle.std.proofs.Common.{sym, ap, subst}
 use Rattle.std.specs.Prelude.{◌↔◌}
 use Rattle.std.proofs.lemmas.List.Elements.{Contains-append_left, Contains-append_right, Contains-append_cases}
 use Rattle.terms.specs.Types.{Id}
-use Rattle.terms.proofs.ListMembers.{none_in, in_map, map_in}
+use Rattle.terms.proofs.ListMembers.{in_map, map_in}
 use Rattle.judge_needs.specs.Pairs.{AddsBy, AddsPairs, ArePairs}
 use Rattle.judge_needs.proofs.Growing.{front_in}
 

@@ -1,16 +1,14 @@
 -- What SYSMODs that deletions leave state for functions.
-use Rattle.std.proofs.Common.{◌≡◌, ◌<◌, ◌+◌, ℕ, Bool, true, false, List, [], ◌∷◌, ◌++◌, filter, map, cond, is_some}
-use Rattle.std.proofs.Common.{None, Contains, append-nil, get_or, length, take, refl, sym, ap, ◌∙◌}
+use Rattle.std.proofs.Common.{◌≡◌, Bool, true, false, List, [], ◌∷◌, ◌++◌, filter, map, cond, is_some}
+use Rattle.std.proofs.Common.{None, Contains, refl, sym, ap, ◌∙◌}
 use Rattle.std.specs.Prelude.{◌&&◌, not, if◌then◌else◌}
 use Rattle.std.specs.List.{flat_map}
 use Rattle.std.specs.Option.{option_map_or}
 use Rattle.std.specs.Str.{bytes_eq}
 use Rattle.std.proofs.lemmas.List.{map-append}
-use Rattle.std.proofs.lemmas.List.Concat.{flat_map-append}
 use Rattle.std.proofs.lemmas.List.Elements.{filter-append}
 use Rattle.terms.proofs.ListMembers.{here, there}
 use Rattle.terms.proofs.Options.{is_some_unless}
-use Rattle.terms.proofs.Searches.{filter_next}
 use Rattle.terms.specs.Types.{Id, Global, Entry, Zone}
 use Rattle.terms.specs.Lookups.{has_content, is_applied, applied_ids, IsZone}
 use Rattle.terms.specs.Choice.{Choice}
@@ -127,16 +125,3 @@ pub stated_left : (g : Global) (c : Choice) (dels : List Id) (zone : Zone) → I
 stated_left g c dels zone z f =
     stated_passing c f (is_applied (zone_less g c dels zone)) (applied_ids zone)
     ∙ ap (λ xs. stated_for c xs f) (sym (applied_left g c dels zone z))
-
--- what is stated with one applied SYSMOD more
-pub stated_next : (c : Choice) (f : Id) (es : List Entry) (k : ℕ) (e : Entry) → k < length es → e ≡ get_or es k e
-    → is_some e.applied ≡ true
-    → flat_map (stated_by c f) (map (λ e. e.id) (filter (λ e. is_some e.applied) (take (k + 1) es)))
-    ≡ flat_map (stated_by c f) (map (λ e. e.id) (filter (λ e. is_some e.applied) (take k es))) ++ stated_by c f e.id
-stated_next c f es k e below at on =
-    let front = filter (λ (e : Entry). is_some e.applied) (take k es) in
-    ap (λ l. flat_map (stated_by c f) (map (λ e. e.id) l)) (filter_next (λ e. is_some e.applied) es k e below at
-    ∙ ap (λ b. front ++ cond b (e ∷ []) []) on)
-    ∙ ap (flat_map (stated_by c f)) (map-append (λ (e : Entry). e.id) front (e ∷ []))
-    ∙ flat_map-append (stated_by c f) (map (λ e. e.id) front) (e.id ∷ [])
-    ∙ ap (λ l. flat_map (stated_by c f) (map (λ e. e.id) front) ++ l) (append-nil (stated_by c f e.id))

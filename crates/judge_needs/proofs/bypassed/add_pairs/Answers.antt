@@ -1,4 +1,4 @@
-use Rattle.std.proofs.Common.{◌∙◌, map, rules}
+use Rattle.std.proofs.Common.{map, rules}
 use Rattle.std.proofs.lemmas.Iterator.{YieldsList-from_map, YieldsList-from_slice}
 use Rattle.std.proofs.lemmas.Iterator.Adapters.{items_from_extend}
 use Rattle.std.proofs.lemmas.Result.{on_ok_weaker}

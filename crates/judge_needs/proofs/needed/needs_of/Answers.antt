@@ -1,4 +1,4 @@
-use Rattle.std.proofs.Common.{◌≡◌, ◌≤◌, ◌∙◌, List, ap, arith, length, subst, take_all}
+use Rattle.std.proofs.Common.{◌≡◌, ◌≤◌, ◌∙◌, List, arith, length, subst, take_all}
 use Rattle.terms.specs.Types.{Id}
 use Rattle.terms.specs.Deleted.{deletions, zone_less}
 use Rattle.zones_views.specs.Scopes.{global_of, choice_of, setting_of}
