@@ -26,6 +26,6 @@ AreBypassed s xs pairs = ArePairs (λ x. Contains (bypassed_ids s x)) xs pairs
 abbrev pub IsNeeded : List Need → Id → Type 0
 IsNeeded needs z = (w : Need) × Contains needs w × IsTrue (takes_superseder w.kind) × (w.id ≡ z)
 
--- the pairs of these candidates with the ids that they supersede, of those that somebody needs so
+-- the pairs of these candidates with the ids that they supersede, of those that somebody needs
 abbrev pub AreSuperseded : Choice → List Need → List Id → List (Id × Id) → Type 0
 AreSuperseded c needs xs pairs = ArePairs (λ x z. IsNeeded needs z × Supersedes c x z) xs pairs

@@ -18,7 +18,7 @@ pub(crate) fn add_pairs(pairs: &mut Vec<(Id, Id)>, id: Id, others: &[Id]) -> Res
     pairs.extend(others.iter().map(|other| (id, *other)))
 }
 
-// These requisites of one kind, if BYPASS covers it.
+// The requisites, if BYPASS covers their kind.
 fn covered<'a>(scope: &Scope<'_, '_>, kind: NeedKind, requisites: &'a [Id]) -> &'a [Id]
     ensures { result.now ≡ if is_bypassed scope.now.bypass.now kind then requisites.now else [] }
 {
@@ -29,12 +29,8 @@ fn covered<'a>(scope: &Scope<'_, '_>, kind: NeedKind, requisites: &'a [Id]) -> &
     }
 }
 
-// Its requisites that BYPASS covers.
-fn bypassed(
-    alloc: Global,
-    conditions: &Conditions<'_, '_>,
-    id: Id,
-) -> Result<Vec<Id>, AllocError>
+// The requisites of a candidate that BYPASS covers.
+fn bypassed(alloc: Global, conditions: &Conditions<'_, '_>, id: Id) -> Result<Vec<Id>, AllocError>
     ensures { IfOk result (λ ids. (z : AnId) → Contains ids.items z
         ↔ Contains (bypassed_ids (setting_of conditions.now.scope) id) z) }
 {

@@ -17,7 +17,7 @@ use sorted::lists::listed;
 use std::alloc::{AllocError, Global};
 use zones_views::{Scope, deletions, view_deletions};
 
-/// What the requisites by `++IF` are found by: what applied SYSMODs state, and what all candidates name in DELETE.
+/// What the requisites by `++IF` are found by: what applied SYSMODs state, and what the candidates name in DELETE.
 #[derive(Drop)]
 pub(crate) struct Conditions<'a, 'b> {
     pub(crate) scope: Scope<'a, 'b>,
@@ -27,7 +27,7 @@ pub(crate) struct Conditions<'a, 'b> {
     ghost are_all: { dels.items ≡ deletions (choice_of scope) scope.ids.now },
 }
 
-// Those of its own `++IF`s whose function is applied or a candidate.
+// The requisites in its own `++IF`s whose function is applied or a candidate.
 fn own_requisites(alloc: Global, left: &Left<'_, '_>, id: Id) -> Result<Vec<Id>, AllocError>
     ensures { IfOk result (λ found. found.items
         ≡ if_reqs (choice_of left.now.scope) (is_there (left_of left.now) left.now.scope.ids.now) id) }
@@ -45,7 +45,7 @@ fn own_requisites(alloc: Global, left: &Left<'_, '_>, id: Id) -> Result<Vec<Id>,
 }
 
 impl<'a, 'b> Conditions<'a, 'b> {
-    /// Those of the candidates.
+    /// Gathers both for the candidates.
     pub(crate) fn new(alloc: Global, scope: &Scope<'a, 'b>) -> Result<Self, AllocError>
         ensures { IfOk result (λ conditions. conditions.scope ≡ scope.now) }
     {

@@ -1,9 +1,9 @@
 //! What each candidate needs: its function, what it names in PRE and REQ, the requisites by `++IF`, the reasons of
 //! ERROR holds on it, and what its DELETE orphans, as far as neither BYPASS nor what is left of the zone meets that.
-ghost use Rattle.std.specs.Prelude.{◌≡◌, ◌↔◌, [], Contains, OnOk, IfOk, if◌then◌else◌};
+ghost use Rattle.std.specs.Prelude.{◌≡◌, ◌↔◌, Contains, OnOk, IfOk};
 ghost use Rattle.terms.specs.Types.{Id as AnId};
-ghost use Rattle.terms.specs.Lookups.{IsRising, is_in};
-ghost use Rattle.terms.specs.Needs.{orphans};
+ghost use Rattle.terms.specs.Lookups.{IsRising};
+ghost use Rattle.terms.specs.Needs.{asked};
 ghost use Rattle.zones_views.specs.Scopes.{setting_of};
 ghost use Rattle.judge_needs.specs.Left.{left_of};
 ghost use Rattle.judge_needs.specs.Needed.{IsOpen, IsOfKind, AreNeeds, AddsPart};
@@ -45,7 +45,7 @@ fn orphaned(
     id: Id,
 ) -> Result<IdList, AllocError>
     ensures { IfOk result (λ ids. (z : AnId) → Contains ids z
-        ↔ Contains (if is_in survivors.now id then orphans (setting_of scope.now) id else []) z) }
+        ↔ Contains (asked (setting_of scope.now) survivors.now id NeedKind.Orphan) z) }
 {
     if survivors.contains(id) {
         let ids = orphans(alloc, scope.vers, scope.zone, id)?;

@@ -36,7 +36,7 @@ impl Keyed for Closure {
     }
 }
 
-// What it names in SUP.
+// What the SYSMOD names in SUP.
 fn sup<'a>(vers: &VerChoice<'a>, id: Id) -> &'a [Id]
     ensures { result.now ≡ sup_of (choice vers.now) id }
 {
