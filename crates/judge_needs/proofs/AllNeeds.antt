@@ -1,27 +1,27 @@
 -- The needs of candidates, each once, as they come in.
-use Rattle.std.proofs.Common.{◌≡◌, ◌≢◌, ◌⊎◌, inl, inr, ℕ, zero, suc, ◌<◌, ◌+◌, Bool, true, List, [], ◌++◌}
-use Rattle.std.proofs.Common.{Some, IsTrue, refl, sym, ap, append-nil, ◌∙◌, subst, filter, map, Contains, arith}
-use Rattle.std.proofs.Common.{length, slice_get}
-use Rattle.std.specs.Prelude.{◌↔◌, get_or}
-use Rattle.std.proofs.lemmas.Bool.{cases_eq}
-use Rattle.std.proofs.lemmas.Option.{same_Some, slice_get_within}
-use Rattle.std.proofs.lemmas.List.{append_assoc}
+use Rattle.std.proofs.Common.{◌≡◌, ◌≢◌, ◌⊎◌, inl, inr, ℕ, ◌<◌, ◌+◌, Bool, true, List, [], ◌∷◌, ◌++◌}
+use Rattle.std.proofs.Common.{Option, None, Some, IsTrue, refl, sym, ap, append-nil, ◌∙◌, subst, filter, map, Contains}
+use Rattle.std.proofs.Common.{arith, length, take, drop, get_or}
+use Rattle.std.specs.Prelude.{◌↔◌, AllPairs, MatchOption}
+use Rattle.std.specs.List.{AllByRecursion}
+use Rattle.std.proofs.lemmas.List.{append_assoc, take-append-drop}
 use Rattle.std.proofs.lemmas.List.Elements.{Contains-append_left, Contains-append_right, Contains-append_cases}
-use Rattle.std.proofs.lemmas.List.Elements.{Contains-get_or}
+use Rattle.std.proofs.lemmas.List.Elements.{Contains-get_or, All-contains}
 use Rattle.std.proofs.lemmas.List.Kept.{AllPairs-filter}
 use Rattle.terms.specs.declared.codes.NeedKind.{NeedKind}
 use Rattle.terms.specs.declared.codes.NeedKind.TheVariants.{Fmid, Pre, Req, Ifreq, HoldError, Orphan, Elem, Dep}
 use Rattle.terms.specs.Types.{Id, Zone, Bypass}
-use Rattle.terms.specs.Lookups.{IsRising, is_before}
+use Rattle.terms.specs.Lookups.{IsRising, at_most_one, is_before}
 use Rattle.terms.specs.Tests.{Setting}
-use Rattle.terms.specs.Needs.{asked, zone_left}
-use Rattle.terms.proofs.ListMembers.{map_in, in_map, filter_in, in_filter, none_in}
-use Rattle.terms.proofs.Places.{contains_at, found_at}
-use Rattle.terms.proofs.Pairs.{AllPairs_join, pairs_map}
+use Rattle.terms.specs.Needs.{asked}
+use Rattle.terms.proofs.IdPlaces.{before_apart}
+use Rattle.terms.proofs.Lists.{front_more}
+use Rattle.terms.proofs.ListMembers.{here, here_or, there, map_in, in_map, filter_in, in_filter, none_in}
+use Rattle.terms.proofs.Pairs.{AllPairs_front, AllPairs_join, AllPairs_parts, pairs_map}
 use Rattle.decide.specs.declared.stated.Need.{Need}
 use Rattle.decide.specs.Said.{a_need}
-use Rattle.judge_needs.specs.Needed.{is_open, IsOpen, AreAllNeeds, AddsPart, IsOfKind, IsOpenAt, AreNeeds}
-use Rattle.terms.proofs.IdPlaces.{before_apart, two_places}
+use Rattle.judge_needs.specs.Needed.{is_open, IsOpen, AreAllNeeds, AreNeedsOf, AddsPart, IsOfKind}
+use Rattle.judge_needs.proofs.Growing.{front_in}
 
 pub join : (D E : Id → NeedKind → Id → Type 0) (xs ys : List Need) → AreAllNeeds D xs → AreAllNeeds E ys
     → ((x : Id) (kind : NeedKind) (z : Id) → D x kind z → ¬ E x kind z)
@@ -127,164 +127,130 @@ rank Orphan = 5
 rank Elem = 6
 rank Dep = 7
 
-ranked : ℕ → NeedKind
-ranked zero = Fmid
-ranked (suc zero) = Pre
-ranked (suc (suc zero)) = Req
-ranked (suc (suc (suc zero))) = Ifreq
-ranked (suc (suc (suc (suc zero)))) = HoldError
-ranked (suc (suc (suc (suc (suc zero))))) = Orphan
-ranked (suc (suc (suc (suc (suc (suc zero)))))) = Elem
-ranked _ = Dep
-
-ranked_rank : (kind : NeedKind) → ranked (rank kind) ≡ kind
-unfolding rank ranked
-ranked_rank Fmid = refl
-ranked_rank Pre = refl
-ranked_rank Req = refl
-ranked_rank Ifreq = refl
-ranked_rank HoldError = refl
-ranked_rank Orphan = refl
-ranked_rank Elem = refl
-ranked_rank Dep = refl
-
-same_rank : (j k : NeedKind) → rank j ≡ rank k → j ≡ k
-same_rank j k e = sym (ranked_rank j) ∙ ap ranked e ∙ ranked_rank k
+lower_at : (kind : NeedKind) (kinds : List NeedKind) (k : NeedKind) → AllByRecursion (λ j. rank j < rank kind) kinds
+    → Contains kinds k → rank k < rank kind
+lower_at kind [] k lower h = absurd (none_in k h)
+lower_at kind (j ∷ js) k lower h =
+    elim (here_or j js k h) [
+      | inl same ↦ subst (λ m. rank m < rank kind) same lower.0
+      | inr later ↦ lower_at kind js k lower.1 later
+    ]
 
 -- the needs of a candidate, kind by kind
 module _ (s : Setting) (survivors : List Id) (left : Zone) (x : Id) where
   abbrev Of : NeedKind → NeedKind → Id → Type 0
   Of kind = IsOfKind left s.bypass kind (asked s survivors x kind)
 
-  -- those x the kinds in front x a number
-  abbrev UpTo : ℕ → NeedKind → Id → Type 0
-  UpTo n kind z = (rank kind < n) × IsOpen s survivors left x kind z
+  -- those of these kinds
+  abbrev Among : List NeedKind → NeedKind → Id → Type 0
+  Among kinds kind z = Contains kinds kind × IsOpen s survivors left x kind z
 
-  no_kind : (l : List Need) → AddsPart x (UpTo 0) l l
+  no_kind : (l : List Need) → AddsPart x (Among []) l l
   no_kind l = record {
     more = [];
     are = sym (append-nil l);
     needs = record {
-      members = λ y kind z. (λ h. absurd (none_in (a_need y kind z) h), λ h. absurd (omega (arith, h.1.0)));
+      members = λ y kind z. (λ h. absurd (none_in (a_need y kind z) h), λ h. absurd (none_in kind h.1.0));
       once = λ i j d less below. absurd (omega (arith, below));
     };
   }
 
-  next_kind : (kind : NeedKind) (a b c : List Need) → AddsPart x (UpTo (rank kind)) a b → AddsPart x (Of kind) b c
-      → AddsPart x (UpTo (rank kind + 1)) a c
-  next_kind kind a b c front next =
-      same_part x (λ k z. UpTo (rank kind) k z ⊎ Of kind k z) (UpTo (rank kind + 1)) a c (λ k z. (up k z, down k z))
-      (both_parts x (UpTo (rank kind)) (Of kind) a b c front next (λ k z h o. omega (arith, h.0, ap rank o.0)))
-    where
-      up : (k : NeedKind) (z : Id) → UpTo (rank kind) k z ⊎ Of kind k z → UpTo (rank kind + 1) k z
-      up k z (inl h) = (omega (arith, h.0), h.1)
-      up k z (inr o) = (
-        omega (arith, ap rank o.0),
-        subst (λ j. IsOpen s survivors left x j z) (sym o.0) (o.1, o.2),
-      )
+  next_kind : (kinds : List NeedKind) (kind : NeedKind) (a b c : List Need)
+      → AllByRecursion (λ j. rank j < rank kind) kinds → AddsPart x (Among kinds) a b → AddsPart x (Of kind) b c
+      → AddsPart x (Among (kind ∷ kinds)) a c
+  next_kind kinds kind a b c lower front next =
+      same_part x (λ k z. Among kinds k z ⊎ Of kind k z) (Among (kind ∷ kinds)) a c (λ k z. (
+        λ h. elim h [
+          | inl l ↦ (there kind kinds k l.0, l.1)
+          | inr o ↦ (
+            subst (Contains (kind ∷ kinds)) (sym o.0) (here kind kinds),
+            subst (λ j. IsOpen s survivors left x j z) (sym o.0) (o.1, o.2),
+          )
+        ],
+        λ h. elim (here_or kind kinds k h.0) [
+          | inl same ↦
+              let of_kind = subst (λ j. IsOpen s survivors left x j z) (sym same) h.1 in
+              inr (sym same, of_kind.0, of_kind.1)
+          | inr later ↦ inl (later, h.1)
+        ],
+      ))
+      (both_parts x (Among kinds) (Of kind) a b c front next
+      (λ k z h o. let less = lower_at kind kinds k lower h.0 in omega (arith, less, ap rank o.0)))
 
-      down : (k : NeedKind) (z : Id) → UpTo (rank kind + 1) k z → UpTo (rank kind) k z ⊎ Of kind k z
-      down k z h = elim (cases_eq (rank k) (rank kind)) [
-        | inl this ↦
-            let same : k ≡ kind = same_rank k kind this in
-            let of_kind = subst (λ j. IsOpen s survivors left x j z) same h.1 in
-            inr (same, of_kind.0, of_kind.1)
-        | inr other ↦ inl (omega (arith, h.0, other), h.1)
-      ]
+  abbrev all_kinds : List NeedKind
+  all_kinds = Orphan ∷ HoldError ∷ Ifreq ∷ Req ∷ Pre ∷ Fmid ∷ []
 
-  asked_below : (kind : NeedKind) (z : Id) → IsOpen s survivors left x kind z → rank kind < 6
-  unfolding rank
-  asked_below Fmid z h = omega arith
-  asked_below Pre z h = omega arith
-  asked_below Req z h = omega arith
-  asked_below Ifreq z h = omega arith
-  asked_below HoldError z h = omega arith
-  asked_below Orphan z h = omega arith
-  asked_below Elem z h = absurd (none_in z h.0)
-  asked_below Dep z h = absurd (none_in z h.0)
+  asked_among : (kind : NeedKind) (z : Id) → IsOpen s survivors left x kind z → Contains all_kinds kind
+  asked_among Orphan z h = (0, omega arith, refl)
+  asked_among HoldError z h = (1, omega arith, refl)
+  asked_among Ifreq z h = (2, omega arith, refl)
+  asked_among Req z h = (3, omega arith, refl)
+  asked_among Pre z h = (4, omega arith, refl)
+  asked_among Fmid z h = (5, omega arith, refl)
+  asked_among Elem z h = absurd (none_in z h.0)
+  asked_among Dep z h = absurd (none_in z h.0)
 
   pub all_parts : (l0 l1 l2 l3 l4 l5 l6 : List Need) → AddsPart x (Of Fmid) l0 l1 → AddsPart x (Of Pre) l1 l2
       → AddsPart x (Of Req) l2 l3 → AddsPart x (Of Ifreq) l3 l4 → AddsPart x (Of HoldError) l4 l5
       → AddsPart x (Of Orphan) l5 l6 → AddsPart x (IsOpen s survivors left x) l0 l6
   unfolding rank
   all_parts l0 l1 l2 l3 l4 l5 l6 fmid pre req ifreq hold orphan =
-      same_part x (UpTo 6) (IsOpen s survivors left x) l0 l6
-      (λ kind z. (λ h. h.1, λ h. (asked_below kind z h, h)))
-      (next_kind Orphan l0 l5 l6
-      (next_kind HoldError l0 l4 l5
-      (next_kind Ifreq l0 l3 l4
-      (next_kind Req l0 l2 l3
-      (next_kind Pre l0 l1 l2
-      (next_kind Fmid l0 l0 l1 (no_kind l0) fmid) pre) req) ifreq) hold) orphan)
+      same_part x (Among all_kinds) (IsOpen s survivors left x) l0 l6
+      (λ kind z. (λ h. h.1, λ h. (asked_among kind z h, h)))
+      (next_kind (HoldError ∷ Ifreq ∷ Req ∷ Pre ∷ Fmid ∷ []) Orphan l0 l5 l6
+      (omega arith, (omega arith, (omega arith, (omega arith, (omega arith, tt)))))
+      (next_kind (Ifreq ∷ Req ∷ Pre ∷ Fmid ∷ []) HoldError l0 l4 l5
+      (omega arith, (omega arith, (omega arith, (omega arith, tt))))
+      (next_kind (Req ∷ Pre ∷ Fmid ∷ []) Ifreq l0 l3 l4 (omega arith, (omega arith, (omega arith, tt)))
+      (next_kind (Pre ∷ Fmid ∷ []) Req l0 l2 l3 (omega arith, (omega arith, tt))
+      (next_kind (Fmid ∷ []) Pre l0 l1 l2 (omega arith, tt)
+      (next_kind [] Fmid l0 l0 l1 tt (no_kind l0) fmid) pre) req) ifreq) hold) orphan)
+
+-- the one at a place of ids that rise is none of those in front of it
+apart : (xs : List Id) (k : ℕ) (x y : Id) → IsRising xs → k < length xs → x ≡ get_or xs k x → Contains (take k xs) y
+    → y ≢ x
+apart xs k x y rising below at in_front =
+    let whole = subst (AllPairs Before) (sym (take-append-drop (k + 1) xs)) rising in
+    let front = AllPairs_front Before (take (k + 1) xs) (drop (k + 1) xs) whole in
+    let parts = AllPairs_parts Before (take k xs) [] x (subst (AllPairs Before) (front_more xs k x below at) front) in
+    before_apart y x (All-contains (λ y. Before y x) (take k xs) y parts.0 in_front)
+  where
+    Before : Id → Id → Type 0
+    Before y z = IsTrue (is_before y z)
 
 module _ (s : Setting) (survivors : List Id) (left : Zone) where
   -- the next candidate
-  pub needs_next : (k : ℕ) (x : Id) (old new : List Need) → IsRising s.cands → slice_get s.cands k ≡ Some x
-      → AddsPart x (IsOpen s survivors left x) old new
-      → AreAllNeeds (IsOpenAt s survivors left k) old → AreAllNeeds (IsOpenAt s survivors left (k + 1)) new
-  needs_next k x old new rising at p w =
-      subst (AreAllNeeds (IsOpenAt s survivors left (k + 1))) (sym p.are)
-      (alike _ _ (old ++ p.more) (λ y kind z. (up y kind z, down y kind z))
-      (join (IsOpenAt s survivors left k) (λ y kind z. (y ≡ x) × IsOpen s survivors left x kind z) old p.more w p.needs
-      (λ y kind z l r. two_places s.cands rising l.place k y x l.at at (λ same. omega (arith, l.below, same)) r.0)))
-    where
-      up : (y : Id) (kind : NeedKind) (z : Id)
-          → IsOpenAt s survivors left k y kind z ⊎ ((y ≡ x) × IsOpen s survivors left x kind z)
-          → IsOpenAt s survivors left (k + 1) y kind z
-      up y kind z (inl l) = record {
-        place = l.place;
-        below = omega (arith, l.below);
-        at = l.at;
-        is_open = l.is_open;
-      }
-      up y kind z (inr r) = record {
-        place = k;
-        below = omega arith;
-        at = at ∙ ap (λ v. Some v) (sym r.0);
-        is_open = subst (λ v. IsOpen s survivors left v kind z) (sym r.0) r.1;
-      }
+  pub needs_next : (xs : List Id) (k : ℕ) (x : Id) (old new : List Need) → IsRising xs → k < length xs
+      → x ≡ get_or xs k x → AddsPart x (IsOpen s survivors left x) old new
+      → AreNeedsOf s survivors left (take k xs) old → AreNeedsOf s survivors left (take (k + 1) xs) new
+  needs_next xs k x old new rising below at p w =
+      subst (AreNeedsOf s survivors left (take (k + 1) xs)) (sym p.are)
+      (alike _ _ (old ++ p.more) (λ y kind z. (
+        λ h. elim h [
+          | inl l ↦ ((front_in xs k x y below at).1 (inl l.0), l.1)
+          | inr r ↦ (
+            (front_in xs k x y below at).1 (inr r.0),
+            subst (λ v. IsOpen s survivors left v kind z) (sym r.0) r.1,
+          )
+        ],
+        λ h. elim ((front_in xs k x y below at).0 h.0) [
+          | inl before ↦ inl (before, h.1)
+          | inr same ↦ inr (same, subst (λ v. IsOpen s survivors left v kind z) same h.1)
+        ],
+      ))
+      (join (λ y kind z. Contains (take k xs) y × IsOpen s survivors left y kind z)
+      (λ y kind z. (y ≡ x) × IsOpen s survivors left x kind z) old p.more w p.needs
+      (λ y kind z l r. apart xs k x y rising below at l.0 r.0)))
 
-      down : (y : Id) (kind : NeedKind) (z : Id) → IsOpenAt s survivors left (k + 1) y kind z
-          → IsOpenAt s survivors left k y kind z ⊎ ((y ≡ x) × IsOpen s survivors left x kind z)
-      down y kind z h = elim (cases_eq h.place k) [
-        | inl this ↦
-            let same : y ≡ x = same_Some y x (sym h.at ∙ subst (λ m. slice_get s.cands m ≡ Some x) (sym this) at) in
-            inr (same, subst (λ v. IsOpen s survivors left v kind z) same h.is_open)
-        | inr other ↦ inl (record {
-          place = h.place;
-          below = omega (arith, h.below, other);
-          at = h.at;
-          is_open = h.is_open;
-        })
-      ]
+-- the FMID as a list of ids
+pub one_of : (fmid : Option Id) (ids : List Id) → MatchOption fmid (ids ≡ []) (λ x. ids ≡ x ∷ [])
+    → ids ≡ at_most_one fmid
+one_of None ids is = is
+one_of (Some x) ids is = is
 
-  pub needs_none : AreAllNeeds (IsOpenAt s survivors left 0) []
-  needs_none = record {
-    members = λ x kind z. (λ h. absurd (none_in (a_need x kind z) h), λ h. absurd (omega (arith, h.below)));
-    once = λ i j d less below. absurd (omega (arith, below));
-  }
-
--- those of all candidates
-pub all_needs : (s : Setting) (survivors : List Id) (left : Zone) (needs : List Need) → left ≡ zone_left s survivors
-    → AreAllNeeds (IsOpenAt s survivors left (length s.cands)) needs → AreNeeds s survivors needs
-all_needs s survivors left needs is w = record {
-  members = λ x kind z. (
-    λ h.
-        let own = (w.members x kind z).0 h in (
-          contains_at s.cands own.place x own.at,
-          subst (λ zone. IsOpen s survivors zone x kind z) is own.is_open,
-        ),
-    λ h.
-        let at = found_at s.cands x h.0 in
-        (w.members x kind z).1 (record {
-          place = at.0;
-          below = slice_get_within s.cands at.0 x at.1;
-          at = at.1;
-          is_open = subst (λ zone. IsOpen s survivors zone x kind z) (sym is) h.1;
-        }),
-  );
-  once = w.once;
-}
+pub one_rises : (fmid : Option Id) → IsRising (at_most_one fmid)
+one_rises None = λ i j d less below. absurd (omega (arith, below))
+one_rises (Some x) = λ i j d less below. absurd (omega (arith, less, below))
 
 -- the same ids, in another list
 pub same_asked : (zone : Zone) (b : Bypass) (kind : NeedKind) (of : Id) (xs ys : List Id) (old new : List Need)

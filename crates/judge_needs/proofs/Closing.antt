@@ -3,20 +3,26 @@ use Rattle.std.proofs.Common.{◌≡◌, ◌⊎◌, inl, inr, ℕ, ◌<◌, ◌+
 use Rattle.std.proofs.Common.{refl, sym, ap, ◌∙◌, subst, filter, map, take, length, get_or}
 use Rattle.std.specs.Prelude.{◌↔◌, ◌||◌, not, if◌then◌else◌}
 use Rattle.std.specs.Str.{bytes_eq}
-use Rattle.std.proofs.lemmas.List.Elements.{All-push, Contains-append_left, Contains-append_right, Contains-append_cases}
+use Rattle.std.proofs.lemmas.List.Elements.{All-push, Contains-append_left, Contains-append_right}
+use Rattle.std.proofs.lemmas.List.Elements.{Contains-append_cases}
 use Rattle.std.proofs.lemmas.Slice.Eq.{bytes_eq-Decides}
-use Rattle.terms.proofs.ListMembers.{here, here_or, none_in, none_in_nil, in_filter, filter_in, in_map, map_in}
+use Rattle.terms.proofs.ListMembers.{none_in, none_in_nil, in_filter, filter_in, in_map, map_in}
 use Rattle.terms.proofs.Ids.{is_in_from_Contains, Contains_from_is_in}
-use Rattle.terms.proofs.Lists.{front_more}
 use Rattle.terms.proofs.Leads.{reaches_named, reaches_first}
 use Rattle.terms.specs.Types.{Id}
 use Rattle.terms.specs.Lookups.{is_in}
 use Rattle.terms.specs.Choice.{Choice, sup_of}
 use Rattle.terms.specs.Over.{Supersedes}
+use Rattle.terms.specs.Needs.{takes_superseder}
 use Rattle.decide.specs.declared.stated.Need.{Need}
 use Rattle.judge_needs.specs.declared.superseded.Closure.{Closure}
-use Rattle.judge_needs.specs.Closures.{AddsBelow, AreEnough, IsClosure, SupersedesOne, is_asked}
+use Rattle.judge_needs.specs.Closures.{AddsBelow, AreEnough, IsClosure, SupersedesOne}
 use Rattle.judge_needs.specs.Pairs.{ArePairs, AreSuperseded, IsNeeded}
+use Rattle.judge_needs.proofs.Growing.{front_in}
+
+-- whether it is the highest one, or none of those that the highest one names in SUP
+abbrev pub is_asked : Id → List Id → Id → Bool
+is_asked highest sup d = bytes_eq d highest || not (is_in sup d)
 
 -- those of the named ids that the highest one does not name in SUP, and that one
 pub enough_are : (c : Choice) (highest : Id) (named some : List Id) → Contains named highest
@@ -47,11 +53,10 @@ enough_are c highest named some in_named is = record {
     by x h false e =
         inl (among x h (ap (λ b. bytes_eq x highest || not b) e ∙ either (bytes_eq x highest)))
 
-pub enough_none : (c : Choice) (named : List Id) → named ≡ [] → AreEnough c named []
-enough_none c named is = record {
-  of = λ x h. absurd (none_in x h);
-  all = λ x h. none_in_nil named x is h;
-}
+-- what these supersede of the needed ids comes in
+abbrev pub AddsAll : Choice → List Id → List Id → List Id → List Id → Type 0
+AddsAll c needed xs old new =
+    (z : Id) → Contains new z ↔ (Contains old z ⊎ ((x : Id) × Contains xs x × SupersedesOne c needed x z))
 
 module _ (c : Choice) (needed : List Id) where
   -- what is known, and one more of it, if it comes in
@@ -72,56 +77,46 @@ module _ (c : Choice) (needed : List Id) where
         (in_filter (is_in needed) all z ((are z).1 h.1) (is_in_from_Contains needed z h.0)),
   )
 
-  pub below_none : (l : List Id) → AddsBelow c needed [] l l
+  pub below_none : (l : List Id) → AddsAll c needed [] l l
   below_none l z = (λ h. inl h, λ h. elim h [ inl was ↦ was | inr by ↦ absurd (none_in by.0 by.1) ])
 
   pub below_one : (x : Id) (ids old new : List Id) → ((z : Id) → Contains ids z ↔ SupersedesOne c needed x z)
-      → new ≡ old ++ ids → AddsBelow c needed (x ∷ []) old new
-  below_one x ids old new are is z = (up, down)
-    where
-      up : Contains new z → Contains old z ⊎ ((y : Id) × Contains (x ∷ []) y × SupersedesOne c needed y z)
-      up h = elim (Contains-append_cases old ids z (subst (λ l. Contains l z) is h)) [
-        | inl was ↦ inl was
-        | inr own ↦ inr (x, here x [], (are z).0 own)
-      ]
-
-      down : Contains old z ⊎ ((y : Id) × Contains (x ∷ []) y × SupersedesOne c needed y z) → Contains new z
-      down (inl was) = subst (λ l. Contains l z) (sym is) (Contains-append_left old ids z was)
-      down (inr (y, in_one, over)) = elim (here_or x [] y in_one) [
-        | inl same ↦ subst (λ l. Contains l z) (sym is) (Contains-append_right old ids z
-            ((are z).1 (subst (λ v. SupersedesOne c needed v z) (sym same) over)))
-        | inr none ↦ absurd (none_in y none)
-      ]
+      → new ≡ old ++ ids → AddsBelow c needed x old new
+  below_one x ids old new are is z = (
+    λ h. elim (Contains-append_cases old ids z (subst (λ l. Contains l z) is h)) [
+      | inl was ↦ inl was
+      | inr own ↦ inr ((are z).0 own)
+    ],
+    λ h. subst (λ l. Contains l z) (sym is) (elim h [
+      | inl was ↦ Contains-append_left old ids z was
+      | inr over ↦ Contains-append_right old ids z ((are z).1 over)
+    ]),
+  )
 
   -- the next one
   pub below_next : (xs : List Id) (k : ℕ) (x : Id) (old mid new : List Id) → k < length xs → x ≡ get_or xs k x
-      → AddsBelow c needed (take k xs) old mid → AddsBelow c needed (x ∷ []) mid new
-      → AddsBelow c needed (take (k + 1) xs) old new
-  below_next xs k x old mid new below at first next =
-      subst (λ l. AddsBelow c needed l old new) (sym (front_more xs k x below at)) (λ z. (up z, down z))
-    where
-      up : (z : Id) → Contains new z
-          → Contains old z ⊎ ((y : Id) × Contains (take k xs ++ x ∷ []) y × SupersedesOne c needed y z)
-      up z h = elim ((next z).0 h) [
-        | inl in_mid ↦ elim ((first z).0 in_mid) [
-          | inl was ↦ inl was
-          | inr by ↦ inr (by.0, Contains-append_left (take k xs) (x ∷ []) by.0 by.1, by.2)
-        ]
-        | inr by ↦ inr (by.0, Contains-append_right (take k xs) (x ∷ []) by.0 by.1, by.2)
+      → AddsAll c needed (take k xs) old mid → AddsBelow c needed x mid new
+      → AddsAll c needed (take (k + 1) xs) old new
+  below_next xs k x old mid new below at first next z = (
+    λ h. elim ((next z).0 h) [
+      | inl in_mid ↦ elim ((first z).0 in_mid) [
+        | inl was ↦ inl was
+        | inr by ↦ inr (by.0, (front_in xs k x by.0 below at).1 (inl by.1), by.2)
       ]
-
-      down : (z : Id)
-          → Contains old z ⊎ ((y : Id) × Contains (take k xs ++ x ∷ []) y × SupersedesOne c needed y z)
-          → Contains new z
-      down z (inl was) = (next z).1 (inl ((first z).1 (inl was)))
-      down z (inr (y, in_both, over)) = elim (Contains-append_cases (take k xs) (x ∷ []) y in_both) [
-        | inl front ↦ (next z).1 (inl ((first z).1 (inr (y, front, over))))
-        | inr last ↦ (next z).1 (inr (y, last, over))
+      | inr over ↦ inr (x, (front_in xs k x x below at).1 (inr refl), over)
+    ],
+    λ h. (next z).1 (elim h [
+      | inl was ↦ inl ((first z).1 (inl was))
+      | inr by ↦ elim ((front_in xs k x by.0 below at).0 by.1) [
+        | inl front ↦ inl ((first z).1 (inr (by.0, front, by.2)))
+        | inr same ↦ inr (subst (λ v. SupersedesOne c needed v z) same by.2)
       ]
+    ]),
+  )
 
   -- what a SYSMOD supersedes is what it names in SUP and what enough of these supersede
   pub all_below : (x : Id) (some named found : List Id) → AreEnough c (sup_of c x) some
-      → named ≡ filter (is_in needed) (sup_of c x) → AddsBelow c needed some named found
+      → named ≡ filter (is_in needed) (sup_of c x) → AddsAll c needed some named found
       → (z : Id) → Contains found z ↔ SupersedesOne c needed x z
   all_below x some named found enough is adds z = (λ h. up ((adds z).0 h), λ h. (adds z).1 (down h.0 h.1))
     where
@@ -141,13 +136,20 @@ module _ (c : Choice) (needed : List Id) where
       ]
 
 module _ (needs : List Need) (needed : List Id)
-    (same : (z : Id) → Contains needed z ↔ Contains (map (λ (w : Need). w.id) needs) z) where
-  -- the ids that somebody needs
+    (same : (z : Id) → Contains needed z
+    ↔ Contains (map (λ (w : Need). w.id) (filter (λ w. takes_superseder w.kind) needs)) z) where
+  abbrev served : List Need
+  served = filter (λ w. takes_superseder w.kind) needs
+
+  -- the ids that somebody needs where a superseder serves
   are_needed : (z : Id) → Contains needed z ↔ IsNeeded needs z
   are_needed z = (
-    λ h. map_in (λ (w : Need). w.id) needs z ((same z).0 h),
-    λ w. (same z).1 (subst (Contains (map (λ (w : Need). w.id) needs)) w.2
-        (in_map (λ (w : Need). w.id) needs w.0 w.1)),
+    λ h.
+        let m = map_in (λ (w : Need). w.id) served z ((same z).0 h) in
+        let f = filter_in (λ w. takes_superseder w.kind) needs m.0 m.1 in
+        (m.0, f.0, f.1, m.2),
+    λ w. (same z).1 (subst (Contains (map (λ (w : Need). w.id) served)) w.3
+        (in_map (λ (w : Need). w.id) served w.0 (in_filter (λ w. takes_superseder w.kind) needs w.0 w.1 w.2))),
   )
 
   pub pairs_needed : (c : Choice) (xs : List Id) (pairs : List (Id × Id)) → ArePairs (SupersedesOne c needed) xs pairs

@@ -1,12 +1,12 @@
 -- Pairs of candidates and ids, as they come in.
-use Rattle.std.proofs.Common.{◌≡◌, ◌⊎◌, inl, inr, ℕ, ◌<◌, ◌+◌, List, [], ◌∷◌, ◌++◌, map, take, length, get_or, Contains}
+use Rattle.std.proofs.Common.{◌≡◌, ◌⊎◌, inl, inr, ℕ, ◌<◌, ◌+◌, List, ◌++◌, map, take, length, get_or, Contains}
 use Rattle.std.proofs.Common.{sym, ap, subst}
 use Rattle.std.specs.Prelude.{◌↔◌}
 use Rattle.std.proofs.lemmas.List.Elements.{Contains-append_left, Contains-append_right, Contains-append_cases}
 use Rattle.terms.specs.Types.{Id}
-use Rattle.terms.proofs.ListMembers.{here, here_or, none_in, in_map, map_in}
-use Rattle.terms.proofs.Lists.{front_more}
+use Rattle.terms.proofs.ListMembers.{in_map, map_in}
 use Rattle.judge_needs.specs.Pairs.{AddsBy, AddsPairs, ArePairs}
+use Rattle.judge_needs.proofs.Growing.{front_in}
 
 pub pairs_map : (x : Id) (more : List Id) (old new : List (Id × Id)) → new ≡ old ++ map (λ z. (x, z)) more
     → AddsPairs x more old new
@@ -33,29 +33,6 @@ pairs_map x more old new are y z = (up, down)
         (subst (λ w. Contains {X = Id × Id} (map (λ z. (x, z)) more) (w, z)) (sym added.0)
         (in_map (λ z. (x, z)) more z added.1)))
 
-pub pairs_same : (x : Id) (old : List (Id × Id)) → AddsPairs x [] old old
-pairs_same x old y z = (λ h. inl h, λ h. elim h [ inl was ↦ was | inr added ↦ absurd (none_in z added.1) ])
-
-pub pairs_then : (x : Id) (p q : List Id) (a b c : List (Id × Id)) → AddsPairs x p a b → AddsPairs x q b c
-    → AddsPairs x (p ++ q) a c
-pairs_then x p q a b c first second y z = (up, down)
-  where
-    up : Contains c (y, z) → Contains a (y, z) ⊎ ((y ≡ x) × Contains (p ++ q) z)
-    up h = elim ((second y z).0 h) [
-      | inl in_b ↦ elim ((first y z).0 in_b) [
-        | inl in_a ↦ inl in_a
-        | inr added ↦ inr (added.0, Contains-append_left p q z added.1)
-      ]
-      | inr added ↦ inr (added.0, Contains-append_right p q z added.1)
-    ]
-
-    down : Contains a (y, z) ⊎ ((y ≡ x) × Contains (p ++ q) z) → Contains c (y, z)
-    down (inl in_a) = (second y z).1 (inl ((first y z).1 (inl in_a)))
-    down (inr added) = elim (Contains-append_cases p q z added.1) [
-      | inl in_p ↦ (second y z).1 (inl ((first y z).1 (inr (added.0, in_p))))
-      | inr in_q ↦ (second y z).1 (inr (added.0, in_q))
-    ]
-
 -- the same ids, said in another way
 pub pairs_alike : (x : Id) (Some Same : Id → Type 0) (old new : List (Id × Id)) → ((z : Id) → Some z ↔ Same z)
     → AddsBy x Some old new → AddsBy x Same old new
@@ -64,29 +41,31 @@ pairs_alike x Some Same old new same adds y z = (
   λ h. (adds y z).1 (elim h [ inl was ↦ inl was | inr added ↦ inr (added.0, (same z).1 added.1) ]),
 )
 
+-- a list with another one behind it that has the same ids
+pub same_behind : (front old new : List Id) → ((z : Id) → Contains old z ↔ Contains new z) → (z : Id)
+    → Contains (front ++ old) z ↔ Contains (front ++ new) z
+same_behind front old new same z = (
+  λ h. elim (Contains-append_cases front old z h) [
+    | inl before ↦ Contains-append_left front new z before
+    | inr behind ↦ Contains-append_right front new z ((same z).0 behind)
+  ],
+  λ h. elim (Contains-append_cases front new z h) [
+    | inl before ↦ Contains-append_left front old z before
+    | inr behind ↦ Contains-append_right front old z ((same z).1 behind)
+  ],
+)
+
 module _ (Of : Id → Id → Type 0) where
   -- the next candidate
   pub pairs_next : (xs : List Id) (k : ℕ) (x : Id) (old new : List (Id × Id)) → k < length xs → x ≡ get_or xs k x
       → AddsBy x (Of x) old new → ArePairs Of (take k xs) old → ArePairs Of (take (k + 1) xs) new
-  pairs_next xs k x old new below at adds was =
-      subst (λ l. ArePairs Of l new) (sym (front_more xs k x below at)) (λ y z. (up y z, down y z))
-    where
-      up : (y z : Id) → Contains new (y, z) → Contains (take k xs ++ x ∷ []) y × Of y z
-      up y z h = elim ((adds y z).0 h) [
-        | inl before ↦
-            let both = (was y z).0 before in
-            (Contains-append_left (take k xs) (x ∷ []) y both.0, both.1)
-        | inr added ↦ (
-          Contains-append_right (take k xs) (x ∷ []) y (subst (Contains (x ∷ [])) (sym added.0) (here x [])),
-          subst (λ w. Of w z) (sym added.0) added.1,
-        )
-      ]
-
-      down : (y z : Id) → Contains (take k xs ++ x ∷ []) y × Of y z → Contains new (y, z)
-      down y z h = elim (Contains-append_cases (take k xs) (x ∷ []) y h.0) [
-        | inl before ↦ (adds y z).1 (inl ((was y z).1 (before, h.1)))
-        | inr last ↦ elim (here_or x [] y last) [
-          | inl same ↦ (adds y z).1 (inr (sym same, subst (λ w. Of w z) (sym same) h.1))
-          | inr none ↦ absurd (none_in y none)
-        ]
-      ]
+  pairs_next xs k x old new below at adds was y z = (
+    λ h. elim ((adds y z).0 h) [
+      | inl before ↦ let both = (was y z).0 before in ((front_in xs k x y below at).1 (inl both.0), both.1)
+      | inr added ↦ ((front_in xs k x y below at).1 (inr added.0), subst (λ w. Of w z) (sym added.0) added.1)
+    ],
+    λ h. (adds y z).1 (elim ((front_in xs k x y below at).0 h.0) [
+      | inl before ↦ inl ((was y z).1 (before, h.1))
+      | inr same ↦ inr (same, subst (λ w. Of w z) same h.1)
+    ]),
+  )

@@ -1,8 +1,6 @@
 -- The needed ids that SYSMODs supersede.
-use Rattle.std.specs.Prelude.{◌↔◌, ◌⊎◌, ◌||◌, Bool, not, List, Contains}
-use Rattle.std.specs.Str.{bytes_eq}
+use Rattle.std.specs.Prelude.{◌↔◌, ◌⊎◌, List, Contains}
 use Rattle.terms.specs.Types.{Id}
-use Rattle.terms.specs.Lookups.{is_in}
 use Rattle.terms.specs.Choice.{Choice, sup_of}
 use Rattle.terms.specs.Over.{Supersedes}
 use Rattle.judge_needs.specs.declared.superseded.Closure.{Closure}
@@ -15,14 +13,9 @@ SupersedesOne c needed x z = Contains needed z × Supersedes c x z
 abbrev pub IsClosure : Choice → List Id → Closure → Type 0
 IsClosure c needed k = (z : Id) → Contains k.ids z ↔ SupersedesOne c needed k.id z
 
--- what these supersede of the needed ids comes in
-abbrev pub AddsBelow : Choice → List Id → List Id → List Id → List Id → Type 0
-AddsBelow c needed xs old new =
-    (z : Id) → Contains new z ↔ (Contains old z ⊎ ((x : Id) × Contains xs x × SupersedesOne c needed x z))
-
--- whether it is the highest one, or none of those that the highest one names in SUP
-abbrev pub is_asked : Id → List Id → Id → Bool
-is_asked highest sup d = bytes_eq d highest || not (is_in sup d)
+-- what x supersedes of the needed ids comes in
+abbrev pub AddsBelow : Choice → List Id → Id → List Id → List Id → Type 0
+AddsBelow c needed x old new = (z : Id) → Contains new z ↔ (Contains old z ⊎ SupersedesOne c needed x z)
 
 -- some of these ids, of which one names each other one of these in SUP
 pub record AreEnough (c : Choice) (xs some : List Id) : Type 0 where

@@ -1,6 +1,5 @@
 -- What a candidate needs that neither BYPASS nor what is left of the zone meets.
-use Rattle.std.specs.Prelude.{◌≡◌, ◌≢◌, ◌↔◌, ◌<◌, ◌++◌, ◌&&◌, ℕ, Bool, not, List, Some, AllPairs, Contains, IsTrue}
-use Rattle.std.specs.Prelude.{slice_get}
+use Rattle.std.specs.Prelude.{◌≡◌, ◌≢◌, ◌↔◌, ◌++◌, ◌&&◌, Bool, not, List, AllPairs, Contains, IsTrue}
 use Rattle.terms.specs.declared.codes.NeedKind.{NeedKind}
 use Rattle.terms.specs.Types.{Id, Zone, Bypass}
 use Rattle.terms.specs.Tests.{Setting}
@@ -27,19 +26,15 @@ pub record AddsPart (of : Id) (Part : NeedKind → Id → Type 0) (old new : Lis
   pub are : new ≡ old ++ more
   pub needs : AreAllNeeds (λ x kind z. (x ≡ of) × Part kind z) more
 
--- those of one kind: the ids of the list that neither BYPASS nor the zone meets
+-- the needs of one kind: the ids of the list that neither BYPASS nor the zone meets
 abbrev pub IsOfKind : Zone → Bypass → NeedKind → List Id → NeedKind → Id → Type 0
 IsOfKind zone b kind asked k z = (k ≡ kind) × Contains asked z × IsTrue (is_open zone b kind z)
 
--- the needs of the candidates in front of a place
-pub record IsOpenAt (s : Setting) (survivors : List Id) (left : Zone) (end : ℕ) (x : Id) (kind : NeedKind) (z : Id) :
-    Type 0 where
-  pub place : ℕ
-  pub below : place < end
-  pub at : slice_get s.cands place ≡ Some x
-  pub is_open : IsOpen s survivors left x kind z
+-- the needs of these candidates, where this is left of the zone, each once
+abbrev pub AreNeedsOf : Setting → List Id → Zone → List Id → List Need → Type 0
+AreNeedsOf s survivors left xs needs =
+    AreAllNeeds (λ x kind z. Contains xs x × IsOpen s survivors left x kind z) needs
 
--- those of all candidates, each once
+-- the needs of all candidates, each once
 abbrev pub AreNeeds : Setting → List Id → List Need → Type 0
-AreNeeds s survivors needs =
-    AreAllNeeds (λ x kind z. Contains s.cands x × IsOpen s survivors (zone_left s survivors) x kind z) needs
+AreNeeds s survivors needs = AreNeedsOf s survivors (zone_left s survivors) s.cands needs

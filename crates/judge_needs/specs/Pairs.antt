@@ -1,10 +1,10 @@
 -- Pairs of a candidate and an id: its bypassed requisites, and the needed ids that it supersedes.
-use Rattle.std.specs.Prelude.{◌≡◌, ◌↔◌, ◌⊎◌, List, Contains}
+use Rattle.std.specs.Prelude.{◌≡◌, ◌↔◌, ◌⊎◌, List, Contains, IsTrue}
 use Rattle.terms.specs.Types.{Id}
 use Rattle.terms.specs.Choice.{Choice}
 use Rattle.terms.specs.Over.{Supersedes}
 use Rattle.terms.specs.Tests.{Setting}
-use Rattle.terms.specs.Needs.{bypassed_ids}
+use Rattle.terms.specs.Needs.{bypassed_ids, takes_superseder}
 use Rattle.decide.specs.declared.stated.Need.{Need}
 
 -- the pairs of an id with these come in
@@ -18,14 +18,14 @@ AddsPairs x more old new = AddsBy x (Contains more) old new
 abbrev pub ArePairs : (Id → Id → Type 0) → List Id → List (Id × Id) → Type 0
 ArePairs Of xs pairs = (x z : Id) → Contains pairs (x, z) ↔ (Contains xs x × Of x z)
 
--- with their bypassed requisites
+-- the pairs of these candidates with their bypassed requisites
 abbrev pub AreBypassed : Setting → List Id → List (Id × Id) → Type 0
 AreBypassed s xs pairs = ArePairs (λ x. Contains (bypassed_ids s x)) xs pairs
 
--- somebody needs it
+-- somebody needs the id, and a superseder serves that need
 abbrev pub IsNeeded : List Need → Id → Type 0
-IsNeeded needs z = (w : Need) × Contains needs w × (w.id ≡ z)
+IsNeeded needs z = (w : Need) × Contains needs w × IsTrue (takes_superseder w.kind) × (w.id ≡ z)
 
--- with the needed ids that they supersede
+-- the pairs of these candidates with the ids that they supersede, of those that somebody needs
 abbrev pub AreSuperseded : Choice → List Need → List Id → List (Id × Id) → Type 0
 AreSuperseded c needs xs pairs = ArePairs (λ x z. IsNeeded needs z × Supersedes c x z) xs pairs

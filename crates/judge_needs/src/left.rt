@@ -1,8 +1,7 @@
 //! What deletions leave of the zone.
-ghost use Rattle.std.specs.Prelude.{◌≡◌, ◌||◌};
+ghost use Rattle.std.specs.Prelude.{◌≡◌};
 ghost use Rattle.terms.specs.Needs.{is_met};
 ghost use Rattle.terms.specs.Lookups.{is_applied};
-ghost use Rattle.judge_needs.specs.Conditions.{is_there};
 ghost use Rattle.judge_needs.specs.Left.{left_of};
 ghost use Rattle.judge_needs.specs.Needed.{is_open};
 
@@ -23,13 +22,6 @@ impl<'a, 'b> Left<'a, 'b> {
         ensures { result ≡ is_applied (left_of self.now) id }
     {
         is_left(self.scope.vers, self.dels, self.scope.zone, id)
-    }
-
-    /// Whether the function is still applied, or a candidate.
-    pub(crate) fn has_function(&self, id: Id) -> bool
-        ensures { result ≡ is_there (left_of self.now) self.now.scope.ids.now id }
-    {
-        self.has(id) || self.scope.ids.contains(id)
     }
 
     // Whether it meets a need: as an FMID only what is applied does.

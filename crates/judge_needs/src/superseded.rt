@@ -1,21 +1,23 @@
-//! Whom each candidate supersedes of the ids that somebody needs: mostly these are few among all that it supersedes.
-//! Candidates rise, and mostly supersede lower ones: what these supersede is known then, and is not searched for again.
+//! Whom each candidate supersedes of the ids that are needed where a superseder serves: mostly these are few among all
+//! that it supersedes. Candidates rise, and mostly supersede lower ones: what these supersede is known then, and is not
+//! searched for again.
 ghost use Rattle.std.specs.Prelude.{◌≡◌, ◌↔◌, ◌∷◌, [], List, All, Contains, IfOk, OnOk, map, filter};
 ghost use Rattle.terms.specs.Types.{Id as AnId};
 ghost use Rattle.terms.specs.Lookups.{is_in};
 ghost use Rattle.terms.specs.Choice.{sup_of};
+ghost use Rattle.terms.specs.Needs.{takes_superseder};
 ghost use Rattle.decide.specs.declared.stated.Need.{Need as ANeed};
 ghost use Rattle.sysmods.specs.Choices.{choice};
-ghost use Rattle.judge_needs.specs.Closures.{AddsBelow, AreEnough, IsClosure, SupersedesOne, is_asked};
-ghost use Rattle.judge_needs.specs.Pairs.{AddsBy, ArePairs, AreSuperseded};
+ghost use Rattle.judge_needs.specs.Closures.{AddsBelow, AreEnough, IsClosure, SupersedesOne};
+ghost use Rattle.judge_needs.specs.Pairs.{AreSuperseded};
 
 use crate::bypassed::add_pairs;
 use decide::Need;
 use fields::{Id, IdList};
 use sorted::{Keyed, Table};
 use std::alloc::{AllocError, Global};
-use sysmod::Ver;
 use sysmods::VerChoice;
+use terms::NeedKind;
 
 /// The needed ids that a SYSMOD supersedes.
 #[derive(Drop)]
@@ -34,7 +36,7 @@ impl Keyed for Closure {
     }
 }
 
-// What it names in SUP.
+// What the SYSMOD names in SUP.
 fn sup<'a>(vers: &VerChoice<'a>, id: Id) -> &'a [Id]
     ensures { result.now ≡ sup_of (choice vers.now) id }
 {
@@ -44,36 +46,23 @@ fn sup<'a>(vers: &VerChoice<'a>, id: Id) -> &'a [Id]
     }
 }
 
-// Whether an id is the highest one, or one that this does not name in SUP.
-fn is_asked(highest: Id, ver: &Ver, id: Id) -> bool
-    ensures { result ≡ is_asked highest ver.now.sup id }
+// Whether what supersedes an id serves a need of the kind.
+fn takes_superseder(kind: NeedKind) -> bool
+    ensures { result ≡ takes_superseder kind }
 {
-    id == highest || !ver.sup.contains(id)
+    !matches!(kind, NeedKind::Fmid | NeedKind::Elem | NeedKind::Dep)
 }
 
-// Those of the named ids.
-fn all_asked(alloc: Global, highest: Id, ver: &Ver, named: &[Id]) -> Result<Vec<Id>, AllocError>
-    ensures { IfOk result (λ asked. asked.items ≡ filter (is_asked highest ver.now.sup) named.now) }
+// The ids that are needed where a superseder serves.
+fn needed_ids(alloc: Global, needs: &[Need]) -> Result<Vec<Id>, AllocError>
+    ensures { IfOk result (λ ids. ids.items
+        ≡ map (λ (w : ANeed). w.id) (filter (λ (w : ANeed). takes_superseder w.kind) needs.now)) }
 {
-    named
+    needs
         .iter()
-        .filter(|id| is_asked(highest, ver, **id))
-        .copied()
+        .filter(|need| takes_superseder(need.kind))
+        .map(|need| need.id)
         .collect(alloc)
-}
-
-// Those of the named ids that together supersede all that any of them does: not those that the highest one names in
-// SUP itself, and in cumulative service it names all others.
-fn enough(alloc: Global, vers: &VerChoice<'_>, named: &[Id]) -> Result<Vec<Id>, AllocError>
-    ensures { IfOk result (λ asked. AreEnough (choice vers.now) named.now asked.items) }
-{
-    let Some(highest) = named.last() else {
-        return Ok(Vec::new(alloc));
-    };
-    match vers.ver(*highest) {
-        Some(ver) => all_asked(alloc, *highest, ver, named),
-        None => Vec::from_slice(alloc, named),
-    }
 }
 
 // Those of the ids that are needed.
@@ -82,6 +71,24 @@ fn needed_among(alloc: Global, needed: &IdList, ids: &[Id]) -> Result<Vec<Id>, A
 {
     ids.iter()
         .filter(|id| needed.contains(**id))
+        .copied()
+        .collect(alloc)
+}
+
+// Those of the named ids that together supersede all that any of them does: not those that the highest one names in
+// SUP itself, and in cumulative service it names all others.
+fn enough(alloc: Global, vers: &VerChoice<'_>, named: &[Id]) -> Result<Vec<Id>, AllocError>
+    ensures { IfOk result (λ some. AreEnough (choice vers.now) named.now some.items) }
+{
+    let Some(highest) = named.last() else {
+        return Ok(Vec::new(alloc));
+    };
+    let Some(ver) = vers.ver(*highest) else {
+        return Vec::from_slice(alloc, named);
+    };
+    named
+        .iter()
+        .filter(|id| **id == *highest || !ver.sup.contains(**id))
         .copied()
         .collect(alloc)
 }
@@ -96,7 +103,7 @@ fn append_below(
     found: &mut Vec<Id>,
 ) -> Result<(), AllocError>
     requires { All (IsClosure (choice vers.now) needed.now) known.now }
-    ensures { OnOk result (AddsBelow (choice vers.now) needed.now (id ∷ []) found.old.items found.new.items) }
+    ensures { OnOk result (AddsBelow (choice vers.now) needed.now id found.old.items found.new.items) }
 {
     match known.get(id) {
         Some(closure) => found.extend_from_slice(closure.ids.as_slice()),
@@ -106,23 +113,6 @@ fn append_below(
             found.extend_from_slice(asked.as_slice())
         }
     }
-}
-
-fn append_all_below(
-    alloc: Global,
-    vers: &VerChoice<'_>,
-    needed: &IdList,
-    known: &Table<Closure>,
-    ids: &[Id],
-    found: &mut Vec<Id>,
-) -> Result<(), AllocError>
-    requires { All (IsClosure (choice vers.now) needed.now) known.now }
-    ensures { OnOk result (AddsBelow (choice vers.now) needed.now ids.now found.old.items found.new.items) }
-{
-    for id in ids {
-        append_below(alloc, vers, needed, known, *id, found)?;
-    }
-    Ok(())
 }
 
 // The needed ids that a SYSMOD supersedes: those that it names in SUP, and what these supersede.
@@ -137,58 +127,16 @@ fn superseded(
     ensures { IfOk result (λ ids. (z : AnId) → Contains ids z ↔ SupersedesOne (choice vers.now) needed.now id z) }
 {
     let named = sup(vers, id);
-    let enough = enough(alloc, vers, named)?;
     let mut found = needed_among(alloc, needed, named)?;
-    append_all_below(alloc, vers, needed, known, enough.as_slice(), &mut found)?;
+    let enough = enough(alloc, vers, named)?;
+    for other in enough.as_slice() {
+        append_below(alloc, vers, needed, known, *other, &mut found)?;
+    }
     Ok(IdList::from_vec(found))
 }
 
-// Adds those of one candidate.
-fn add_superseded(
-    alloc: Global,
-    vers: &VerChoice<'_>,
-    needed: &IdList,
-    id: Id,
-    known: &mut Table<Closure>,
-    pairs: &mut Vec<(Id, Id)>,
-) -> Result<(), AllocError>
-    requires { All (IsClosure (choice vers.now) needed.now) known.old }
-    ensures known { OnOk result (All (IsClosure (choice vers.now) needed.now) known.new) }
-    ensures adds { OnOk result (AddsBy id (SupersedesOne (choice vers.now) needed.now id) pairs.old.items
-        pairs.new.items) }
-{
-    let ids = superseded(alloc, vers, needed, known, id)?;
-    add_pairs(pairs, id, ids.as_slice())?;
-    known.push_last(Closure { id, ids })?;
-    Ok(())
-}
-
-// The ids that are needed.
-fn needed_ids(alloc: Global, needs: &[Need]) -> Result<Vec<Id>, AllocError>
-    ensures { IfOk result (λ ids. ids.items ≡ map (λ (w : ANeed). w.id) needs.now) }
-{
-    needs.iter().map(|need| need.id).collect(alloc)
-}
-
-// Each candidate with each of these ids that it supersedes.
-fn pairs_with(
-    alloc: Global,
-    vers: &VerChoice<'_>,
-    ids: &IdList,
-    needed: &IdList,
-) -> Result<Vec<(Id, Id)>, AllocError>
-    ensures { IfOk result (λ pairs. ArePairs (SupersedesOne (choice vers.now) needed.now) ids.now pairs.items) }
-{
-    let mut known = Table::new(alloc);
-    let mut pairs = Vec::new(alloc);
-    for id in ids.as_slice() {
-        add_superseded(alloc, vers, needed, *id, &mut known, &mut pairs)?;
-    }
-    Ok(pairs)
-}
-
-/// Each candidate with each needed id that it supersedes, directly or through others. The error comes where memory runs
-/// out.
+/// Each candidate with each id that it supersedes, directly or through others, of those that are needed where a
+/// superseder serves. The error comes where memory runs out.
 pub fn superseded_pairs(
     alloc: Global,
     vers: &VerChoice<'_>,
@@ -201,6 +149,15 @@ pub fn superseded_pairs(
     if needed.is_empty() {
         return Ok(Vec::new(alloc));
     }
-    let pairs = pairs_with(alloc, vers, ids, &needed)?;
+    let mut known = Table::new(alloc);
+    let mut pairs = Vec::new(alloc);
+    for id in ids.as_slice() {
+        let below = superseded(alloc, vers, &needed, &known, *id)?;
+        add_pairs(&mut pairs, *id, below.as_slice())?;
+        known.push_last(Closure {
+            id: *id,
+            ids: below,
+        })?;
+    }
     Ok(pairs)
 }

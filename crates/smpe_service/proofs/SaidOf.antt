@@ -114,7 +114,7 @@ module _ (scope : Scope) (related : Option Zone) where
               λ by. elim by [ inl same ↦ inl same | inr pair ↦ inr (pair.0, ((over y z).0 pair.1).1.1) ],
               λ by. elim by [
                 | inl same ↦ inl same
-                | inr pair ↦ inr (pair.0, (over y z).1 (there, ((a_need x kind z, asked, refl), pair.1)))
+                | inr pair ↦ inr (pair.0, (over y z).1 (there, ((a_need x kind z, asked, pair.0, refl), pair.1)))
               ],
             );
       };

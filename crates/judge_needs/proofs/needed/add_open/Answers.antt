@@ -1,11 +1,20 @@
-use Rattle.std.proofs.Common.{subst}
+use Rattle.std.proofs.Common.{◌∙◌, [], ap, subst, sym, Contains}
+use Rattle.std.specs.Prelude.{◌↔◌}
+use Rattle.std.proofs.lemmas.Result.{on_ok_weaker}
 use Rattle.terms.specs.declared.codes.NeedKind.TheVariants.{Fmid, Pre, Req, Ifreq, HoldError, Orphan}
-use Rattle.terms.specs.Lookups.{at_most_one}
+use Rattle.terms.specs.Types.{Id}
+use Rattle.terms.specs.Lookups.{IsRising, at_most_one}
+use Rattle.terms.specs.Needs.{asked}
 use Rattle.zones_views.specs.Scopes.{setting_of}
 use Rattle.judge_needs.specs.Left.{left_of}
 use Rattle.judge_needs.specs.Needed.{AddsPart, IsOfKind}
-use Rattle.judge_needs.proofs.AllNeeds.{all_parts, same_asked}
+use Rattle.judge_needs.proofs.AllNeeds.{all_parts, one_of, one_rises, same_asked}
 use Rattle.judge_needs.proofs.needed.add_open.Goals as goal
+
+pub add_asked-requires : goal.add_asked-requires
+add_asked-requires c =
+    subst IsRising (sym (one_of c.fmid-fmid.result c.as_slice.result.now c.as_slice.ensures))
+    (one_rises c.fmid-fmid.result)
 
 pub returns : goal.returns
 returns c =
@@ -13,18 +22,24 @@ returns c =
     let x = c.args.id in
     let left = left_of c.args.left.now in
     let b = c.args.left.now.scope.bypass.now in
-    all_parts s c.args.survivors.now left x c.args.needs.now.items c.add_function.new.needs.items
-    c.add_asked.new.needs.items c.add_asked-2.new.needs.items c.add_asked-3.new.needs.items
-    c.add_asked-4.new.needs.items c.add_asked-5.new.needs.items
-    (subst (λ f. AddsPart x (IsOfKind left b Fmid (at_most_one f)) c.args.needs.now.items
-    c.add_function.new.needs.items) c.fmid.ensures c.in_ok-add_function.ensures)
-    (subst (λ l. AddsPart x (IsOfKind left b Pre l) c.add_function.new.needs.items c.add_asked.new.needs.items)
-    c.pre.ensures.items c.in_ok-add_asked.ensures)
-    (subst (λ l. AddsPart x (IsOfKind left b Req l) c.add_asked.new.needs.items c.add_asked-2.new.needs.items)
-    c.req.ensures.items c.in_ok-add_asked-2.ensures)
-    (same_asked left b Ifreq x _ _ _ _ (rw c.as_slice.ensures.items c.in_ok-by_ifs.ensures)
-    c.in_ok-add_asked-3.ensures)
-    (same_asked left b HoldError x _ _ _ _ (rw c.as_slice-2.ensures.items c.in_ok-reasons.ensures)
-    c.in_ok-add_asked-4.ensures)
-    (same_asked left b Orphan x _ _ _ _ (rw c.as_slice-3.ensures.items c.in_ok-lost.ensures)
+    let none = c.args.needs.now.items in
+    let fmid = c.add_asked.new.needs.items in
+    let pre = c.add_asked-2.new.needs.items in
+    let req = c.add_asked-3.new.needs.items in
+    let ifreq = c.add_asked-4.new.needs.items in
+    let hold = c.add_asked-5.new.needs.items in
+    let by_ifs : (z : Id) → Contains c.in_ok-by_ifs.by_ifs z ↔ Contains (asked s [] x Ifreq) z =
+    subst (λ scope. (z : Id) → Contains c.in_ok-by_ifs.by_ifs z ↔ Contains (asked (setting_of scope) [] x Ifreq) z)
+    c.requires c.in_ok-by_ifs.ensures in
+    on_ok_weaker c.add_asked-6.result
+    (λ orphan. all_parts s c.args.survivors.now left x none fmid pre req ifreq hold c.add_asked-6.new.needs.items
+    (subst (λ l. AddsPart x (IsOfKind left b Fmid l) none fmid)
+    (one_of c.fmid-fmid.result c.as_slice.result.now c.as_slice.ensures ∙ ap at_most_one c.fmid-fmid.ensures)
+    c.in_ok-add_asked.ensures)
+    (subst (λ l. AddsPart x (IsOfKind left b Pre l) fmid pre) c.pre.ensures.items c.in_ok-add_asked-2.ensures)
+    (subst (λ l. AddsPart x (IsOfKind left b Req l) pre req) c.req.ensures.items c.in_ok-add_asked-3.ensures)
+    (same_asked left b Ifreq x _ _ _ _ (rw c.as_slice-2.ensures.items by_ifs) c.in_ok-add_asked-4.ensures)
+    (same_asked left b HoldError x _ _ _ _ (rw c.as_slice-3.ensures.items c.in_ok-reasons.ensures)
     c.in_ok-add_asked-5.ensures)
+    (same_asked left b Orphan x _ _ _ _ (rw c.as_slice-4.ensures.items c.in_ok-lost.ensures) orphan))
+    c.add_asked-6.ensures
