@@ -1,6 +1,7 @@
 -- Commands of the global zone: where they lead, and the session of that state.
-use Rattle.std.proofs.Common.{◌≡◌, ◌⊎◌, ◌∙◌, List, Option, Some, Result, refl, sym, ap, subst, inl}
+use Rattle.std.proofs.Common.{◌≡◌, ◌⊎◌, ◌∙◌, List, Vec, Option, Some, Result, Bor, refl, sym, ap, subst, inl}
 use Rattle.std.specs.Prelude.{IsSome}
+use Rattle.std.specs.declared.alloc.Global.{Global as AnyGlobal}
 use Rattle.std.specs.Str.{bytes_eq}
 use Rattle.indexmap.specs.IndexMap.{get}
 use Rattle.sqlite.specs.Store.{Ghosts}
@@ -15,33 +16,41 @@ use Rattle.sysmods.specs.declared.edit.GlobalEdit.{GlobalEdit}
 use Rattle.sysmods.specs.Edits.{EachFits, after_edits}
 use Rattle.store.specs.Changes.{Makes}
 use Rattle.store.specs.declared.change.Change.{Change}
+use Rattle.store.specs.declared.change.Change.TheVariants as changes
 use Rattle.smpe_zones.specs.Ends.{HasCommitted}
 use Rattle.smpe_zones.specs.Kept.{kept}
 use Rattle.smpe_zones.specs.Own.{IsOwnOf}
 use Rattle.smpe_session.specs.declared.session.Session.{Session}
 use Rattle.smpe_session.specs.Sessions.{IsSessionOf}
 use Rattle.smpe_session.specs.Steps.{LeadsToGlobal, HasRun}
+use Rattle.smpe_session.specs.Uses.{UsesStore}
 use Rattle.smpe_session.proofs.Stepping.{run_committed}
 
 -- the change that is committed, and where it leads
 pub record LeadsBy (date : Text) (files : Files) (c : Command) (s : State) (new : Global) (edits : List GlobalEdit)
     (lines : List Line) : Type 0 where
-  pub fits : EachFits edits s.global
-  pub makes : kept (record s { global = new }) ≡ record (kept s) { global = after_edits edits s.global }
+  pub fits : EachFits new edits s.global
+  pub makes : kept (record s { global = new }) ≡ record (kept s) { global = after_edits new edits s.global }
   pub inventory : IsInventory (kept (record s { global = new }))
   pub leads : LeadsToGlobal date files c s new (record s { global = new }) lines
 
 pub leads_by : (date : Text) (files : Files) (c : Command) (s : State) (old new : Global) (edits : List GlobalEdit)
     (lines : List Line) → s.global ≡ old
-    → EachFits edits old → after_edits edits old ≡ new → IsInventory (kept (record s { global = new }))
+    → EachFits new edits old → after_edits new edits old ≡ new → IsInventory (kept (record s { global = new }))
     → LeadsToGlobal date files c s new (record s { global = new }) lines
     → LeadsBy date files c s new edits lines
 leads_by date files c s old new edits lines global fits after inventory leads = record {
-  fits = subst (EachFits edits) (sym global) fits;
-  makes = ap (λ k. record (kept s) { global = k }) (sym (ap (after_edits edits) global ∙ after));
+  fits = subst (EachFits new edits) (sym global) fits;
+  makes = ap (λ k. record (kept s) { global = k }) (sym (ap (after_edits new edits) global ∙ after));
   inventory = inventory;
   leads = leads;
 }
+
+-- the global zone in which stands what SYSMODs state, of the change which a call commits
+abbrev pub stated_in : {S X : Type 0} {g : Ghosts S} {before after : Held S} {stated : Bor Global}
+    {edits : Vec GlobalEdit AnyGlobal} {Ends : State → Result X StoreError → Type 0} {r : Result X StoreError}
+    → UsesStore g before after (λ own. own ≡ changes.Global stated edits) Ends r → Bor Global
+stated_in {stated = stated} uses = stated
 
 -- a commit of it
 pub run_led : {S V : Type 0} (g : Ghosts S) (old at : Held S) (date : Text) (files : Files) (c : Command) (s : State)

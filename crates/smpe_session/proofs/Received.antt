@@ -17,7 +17,7 @@ use Rattle.machine.specs.Machine.{Files, HasItems, Performs, Takes, TakesAll, Ta
 use Rattle.report.specs.declared.outcome.Refusal.{Refusal}
 use Rattle.report.specs.Views.{refusal_view}
 use Rattle.sysmods.specs.declared.edit.GlobalEdit.{GlobalEdit}
-use Rattle.sysmods.specs.Edits.{after_edit, EachFits, after_edits}
+use Rattle.sysmods.specs.Edits.{after_edit, EachFits, after_edits, StatesThose}
 use Rattle.store.specs.declared.change.Change.{Change}
 use Rattle.store.specs.declared.change.Change.TheVariants as changes
 use Rattle.smpe_zones.specs.Kept.{kept}
@@ -25,6 +25,7 @@ use Rattle.smpe_zones.specs.Own.{IsReceived}
 use Rattle.smpe_global.specs.Edits.{IsOfReceive}
 use Rattle.smpe_global.specs.External.{IsExternal}
 use Rattle.smpe_global.proofs.Fitting.{fits_append}
+use Rattle.smpe_global.proofs.Stating.{states_same}
 use Rattle.machine_laws.proofs.HoldFileForms.{IsHoldItem, hold_file_formed}
 use Rattle.machine_laws.proofs.ReceivingForms.{take_forms}
 use Rattle.smpe_session.specs.Received.{AreTaken}
@@ -46,11 +47,18 @@ each_external false bytes holds none = subst (All IsExternal) (sym none) (All-fr
 pub both_taken : (source : Option Text) (items : List Item) (holds : List HoldItem) (g middle new : Global)
     (edits later all : List GlobalEdit) (first more lines : List Line)
     → All IsOfReceive edits → All IsOfReceive later
-    → Runs (TakesItem source) g items middle first → EachFits edits g → after_edits edits g ≡ middle
-    → Runs TakesHoldItem middle holds new more → EachFits later middle → after_edits later middle ≡ new
+    → Runs (TakesItem source) g items middle first
+    → ((stated : Global) → StatesThose stated middle → EachFits stated edits g)
+    → ((stated : Global) → StatesThose stated middle → after_edits stated edits g ≡ middle)
+    → Runs TakesHoldItem middle holds new more → StatesThose new middle
+    → ((stated : Global) → StatesThose stated new → EachFits stated later middle)
+    → ((stated : Global) → StatesThose stated new → after_edits stated later middle ≡ new)
     → all ≡ edits ++ later → lines ≡ first ++ more → AreTaken source items holds g new all lines
-both_taken source items holds g middle new edits later all first more lines own others runs fits after runs_holds
-    fits_holds after_holds all_are lines_are = record {
+both_taken source items holds g middle new edits later all first more lines own others runs fits after runs_holds stays
+    fits_holds after_holds all_are lines_are =
+    let itself = states_same new new refl in
+    let there = after new stays in
+    record {
       middle = middle;
       first = first;
       more = more;
@@ -58,16 +66,16 @@ both_taken source items holds g middle new edits later all first more lines own 
       runs_holds = runs_holds;
       lines_are = lines_are;
       receives = subst (All IsOfReceive) (sym all_are) (All-append IsOfReceive edits later own others);
-      fits = subst (λ es. EachFits es g) (sym all_are) (fits_append g edits later fits
-          (subst (EachFits later) (sym after) fits_holds));
-      after = ap (λ es. after_edits es g) all_are ∙ fold-append after_edit g edits later ∙ ap (after_edits later) after
-          ∙ after_holds;
+      fits = subst (λ es. EachFits new es g) (sym all_are) (fits_append new g edits later (fits new stays)
+          (subst (EachFits new later) (sym there) (fits_holds new itself)));
+      after = ap (λ es. after_edits new es g) all_are ∙ fold-append (after_edit new) g edits later
+          ∙ ap (after_edits new later) there ∙ after_holds new itself;
     }
 
 -- it changes the global zone alone
 pub received_here : (change : Change) (header : Header) → IsReceived change → header.boundary ≡ Some global_name
     → IsAtBoundary change header
-received_here (changes.Global edits) header own at = at
+received_here (changes.Global stated edits) header own at = at
 received_here (changes.Zone name old delta) header own at = absurd own
 received_here (changes.NewZone name kind srel related) header own at = absurd own
 

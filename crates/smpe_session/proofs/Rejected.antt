@@ -20,14 +20,14 @@ use Rattle.smpe_session.proofs.Leading.{LeadsBy, leads_by}
 -- it changes the global zone alone
 pub rejected_here : (change : Change) (header : Header) → IsRejected change → header.boundary ≡ Some global_name
     → IsAtBoundary change header
-rejected_here (changes.Global edits) header own at = at
+rejected_here (changes.Global stated edits) header own at = at
 rejected_here (changes.Zone name old delta) header own at = absurd own
 rejected_here (changes.NewZone name kind srel related) header own at = absurd own
 
 pub rejected : (date : Text) (files : Files) (ids : List Id) (s : State) (old new : Global) (edits : List GlobalEdit)
     (lines : List Line)
     → s.global ≡ old → IsInventory (kept s) → misplaced s (Reject ids) ≡ None
-    → Runs (RejectsId s.zones) old ids new lines → EachFits edits old → after_edits edits old ≡ new
+    → Runs (RejectsId s.zones) old ids new lines → EachFits new edits old → after_edits new edits old ≡ new
     → LeadsBy date files (Reject ids) s new edits lines
 rejected date files ids s old new edits lines global is at runs_old fits after =
     let runs = subst (λ k. Runs (RejectsId s.zones) k ids new lines) (sym global) runs_old in

@@ -33,7 +33,7 @@ HasFound files what items holds (Err why) =
     (s : State) → Takes files s what s (Refused (header_of (Receive what) s.boundary) (refusal_view why))
 
 -- The items of PTFIN, and then those of the hold file, lead from g to new and print these lines. The edits are
--- RECEIVE's, and lead there too.
+-- RECEIVE's, and lead there too, since what SYSMODs state stands in new.
 pub record AreTaken (source : Option Text) (items : List Item) (holds : List HoldItem) (g new : Global)
     (edits : List GlobalEdit) (lines : List Line) : Type 0 where
   pub middle : Global
@@ -43,5 +43,5 @@ pub record AreTaken (source : Option Text) (items : List Item) (holds : List Hol
   pub runs_holds : Runs TakesHoldItem middle holds new more
   pub lines_are : lines ≡ first ++ more
   pub receives : All IsOfReceive edits
-  pub fits : EachFits edits g
-  pub after : after_edits edits g ≡ new
+  pub fits : EachFits new edits g
+  pub after : after_edits new edits g ≡ new

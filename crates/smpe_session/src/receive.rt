@@ -72,7 +72,7 @@ fn take_items<S: Alter>(
 {
     let Taken { edits, lines } = take_found(alloc, global, found, source)?;
     let lines = or_nothing(lines)?;
-    commit_change(store, &Change::Global(edits), lines)
+    commit_change(store, &Change::Global(&*global, edits), lines)
 }
 
 impl Session {

@@ -43,7 +43,7 @@ fn reject_ids<S: Alter>(
     ensures names { IsUnique bytes_eq zones.now }
 {
     let Rejected { edits, lines } = reject(alloc, global, zones, ids)?;
-    commit_change(store, &Change::Global(edits), lines)
+    commit_change(store, &Change::Global(&*global, edits), lines)
 }
 
 impl Session {

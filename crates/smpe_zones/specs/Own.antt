@@ -8,12 +8,12 @@ use Rattle.store.specs.declared.change.Change.TheVariants.{NewZone, Zone, Global
 
 -- a change of the global zone that removes no SYSMOD
 abbrev pub IsReceived : Change → Type 0
-IsReceived (Global edits) = All IsOfReceive edits.items
+IsReceived (Global stated edits) = All IsOfReceive edits.items
 IsReceived _ = ⊥
 
 -- one that removes SYSMODs and holds alone
 abbrev pub IsRejected : Change → Type 0
-IsRejected (Global edits) = All IsOfReject edits.items
+IsRejected (Global stated edits) = All IsOfReject edits.items
 IsRejected _ = ⊥
 
 -- a change of a target or distribution zone that is there

@@ -1,8 +1,8 @@
 //! Removals, sources in place of others, and what a commit leaves alone.
 
 use crate::known::{
-    commit, commit_delta, compare, doubled, known_with, lines, loaded, opened, run, run_all,
-    zone_name,
+    commit, commit_delta, commit_edits, compare, doubled, known_with, lines, loaded, opened, run,
+    run_all, zone_name,
 };
 use crate::round_trip::{all_lines, delta_to};
 use fields::{Id, IdList, Name, Reason, Source, VerNumber, YyDdd};
@@ -30,26 +30,26 @@ fn removals(alloc: Global) -> Result<ZoneDelta, Fail> {
 // A source of 64 characters.
 const LONG: &[u8] = b"PUT2401$RSU2404#PUT2401$RSU2404#PUT2401$RSU2404#PUT2401$RSU2404#";
 
-fn new_sources(alloc: Global) -> Result<Change<'static>, Fail> {
+fn new_sources(alloc: Global) -> Result<Vec<GlobalEdit>, Fail> {
     let mut sysmod = Sysmod::new(alloc, Kind::Apar, id(b"AAA0003")?);
     sysmod.insert_source(Source::read(b"PUT2402").ok_or("no source")?)?;
     sysmod.insert_source(Source::read(LONG).ok_or("no source")?)?;
-    Ok(Change::Global(vec![in alloc; GlobalEdit::ReplaceSources(sysmod)]?))
+    Ok(vec![in alloc; GlobalEdit::ReplaceSources(sysmod)]?)
 }
 
 /// A hold and a SYSMOD go.
-fn rejections(alloc: Global) -> Result<Change<'static>, Fail> {
+fn rejections(alloc: Global) -> Result<Vec<GlobalEdit>, Fail> {
     let reason = Reason::read(b"MINE").ok_or("no reason")?;
-    Ok(Change::Global(vec![in alloc;
+    Ok(vec![in alloc;
         GlobalEdit::RemoveHold(id(b"UZZ9999")?, HoldKind::User, reason),
         GlobalEdit::RemoveSysmod(id(b"LLL0001")?),
-    ]?))
+    ]?)
 }
 
 fn commit_all<S: Alter>(alloc: Global, store: &mut Store<S>) -> Result<(), Fail> {
     commit_delta(store, zone_name(b"TGT1")?, removals(alloc)?)?;
-    commit(store, &new_sources(alloc)?)?;
-    commit(store, &rejections(alloc)?)
+    commit_edits(alloc, store, new_sources(alloc)?)?;
+    commit_edits(alloc, store, rejections(alloc)?)
 }
 
 const LEFT: &str =
@@ -274,7 +274,7 @@ const WRITTEN: &[&str] = &[
 fn commit_two<S: Alter>(alloc: Global, store: &mut Store<S>, zone: &Zone) -> Result<(), Fail> {
     let change = Change::Zone(zone_name(b"TGT1")?, zone, removals(alloc)?);
     commit(store, &change)?;
-    commit(store, &new_sources(alloc)?)
+    commit_edits(alloc, store, new_sources(alloc)?)
 }
 
 /// All rows once one is bad and both are committed. The zone is as it was before.

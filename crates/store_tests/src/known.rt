@@ -9,7 +9,8 @@ use sqlite_disk::Memory;
 use sqlite_value::value::ValueRef;
 use std::alloc::Global;
 use std::test::Fail;
-use store::{Change, Store};
+use store::{Change, GlobalEdit, Store};
+use sysmods::GlobalZone;
 use text80::RECORD;
 use zones::{Zone, ZoneDelta};
 
@@ -213,6 +214,16 @@ pub(crate) fn commit_delta<S: Alter>(
 ) -> Result<(), Fail> {
     let zone = loaded(store, name)?;
     commit(store, &Change::Zone(name, &zone, delta))
+}
+
+/// Commits edits of the global zone that insert no SYSMOD, so that it is stated nowhere.
+pub(crate) fn commit_edits<S: Alter>(
+    alloc: Global,
+    store: &mut Store<S>,
+    edits: Vec<GlobalEdit>,
+) -> Result<(), Fail> {
+    let stated = GlobalZone::new(alloc);
+    commit(store, &Change::Global(&stated, edits))
 }
 
 /// Appends the texts that the query finds, each as a line.

@@ -1,8 +1,8 @@
 //! What is committed is loaded again, in memory and over files.
 
 use crate::known::{
-    CHOSEN, FURTHER, again, commit, commit_delta, compare, in_memory, known_with, lines, loaded,
-    new_files, opened, put_lines,
+    CHOSEN, FURTHER, again, commit, commit_delta, commit_edits, compare, in_memory, known_with,
+    lines, loaded, new_files, opened, put_lines,
 };
 use fields::{Id, ZoneName};
 use sorted::TryClone;
@@ -11,7 +11,6 @@ use sqlite_disk::Memory;
 use std::alloc::Global;
 use std::test::Fail;
 use store::{Change, GlobalEdit, Store};
-use sysmod::Hold;
 use sysmods::GlobalZone;
 use zones::{Zone, ZoneDelta};
 
@@ -47,34 +46,22 @@ pub(crate) fn all_lines<S: Alter>(alloc: Global, conn: &mut Connection<S>) -> Re
     Ok(all)
 }
 
-fn copy_of(hold: &Hold) -> Result<Hold, Fail> {
-    Ok(Hold {
-        id: hold.id,
-        kind: hold.kind,
-        reason: hold.reason,
-        fmid: hold.fmid,
-        class: hold.class,
-        date: hold.date,
-        comment: hold.comment.clone()?,
-        internal: hold.internal,
-    })
-}
-
 fn add_all(alloc: Global, edits: &mut Vec<GlobalEdit>, global: &GlobalZone) -> Result<(), Fail> {
     for sysmod in global.sysmods() {
-        edits.push(GlobalEdit::InsertSysmod(sysmod.try_clone(alloc)?))?;
+        let sources = Vec::from_slice(alloc, sysmod.sources.as_slice())?;
+        edits.push(GlobalEdit::InsertSysmod(sysmod.id, sources))?;
     }
     for hold in global.holds() {
-        edits.push(GlobalEdit::PutHold(copy_of(hold)?))?;
+        edits.push(GlobalEdit::PutHold(hold.try_clone(alloc)?))?;
     }
     Ok(())
 }
 
 /// The edits by which an empty global zone becomes this one.
-fn edits_to(alloc: Global, global: &GlobalZone) -> Result<Change<'static>, Fail> {
+fn edits_to(alloc: Global, global: &GlobalZone) -> Result<Change<'_>, Fail> {
     let mut edits = Vec::new(alloc);
     add_all(alloc, &mut edits, global)?;
-    Ok(Change::Global(edits))
+    Ok(Change::Global(global, edits))
 }
 
 fn put_all(alloc: Global, delta: &mut ZoneDelta, zone: &Zone) -> Result<(), Fail> {
@@ -176,15 +163,15 @@ const FURTHER_LINES: &str =
     "SELECT id||' '||srel||' '||n||' '||ifnull(fmid, '-')||' '||pre||'/'||req||'/'||sup FROM morever UNION ALL \
         SELECT id||' '||srel||' '||v||'.'||n||' '||fmid||' '||req FROM moreif ORDER BY 1";
 
-fn rejection(alloc: Global) -> Result<Change<'static>, Fail> {
+fn rejection(alloc: Global) -> Result<Vec<GlobalEdit>, Fail> {
     let id = Id::read(b"LLL0001").ok_or("no id")?;
-    Ok(Change::Global(vec![in alloc; GlobalEdit::RemoveSysmod(id)]?))
+    Ok(vec![in alloc; GlobalEdit::RemoveSysmod(id)]?)
 }
 
 /// The rows of further `++VER`s that are left when their SYSMOD is removed.
 fn left_of_further(alloc: Global) -> Result<String, Fail> {
     let mut store = opened(alloc, known_with(alloc, FURTHER)?)?;
-    commit(&mut store, &rejection(alloc)?)?;
+    commit_edits(alloc, &mut store, rejection(alloc)?)?;
     lines(alloc, &mut store.close(), FURTHER_LINES)
 }
 

@@ -15,6 +15,6 @@ returns-clause-taken c =
     (map line_view first.lines.items) (map line_view more.lines.items) (map line_view c.append-2.new.self.items)
     c.in_ok-edits.ensures.receives c.in_ok-more.ensures.receives
     c.in_ok-edits.ensures.runs c.in_ok-edits.ensures.fits c.in_ok-edits.ensures.edits c.in_ok-more.ensures.runs
-    c.in_ok-more.ensures.fits c.in_ok-more.ensures.edits
+    c.in_ok-more.ensures.stays c.in_ok-more.ensures.fits c.in_ok-more.ensures.edits
     c.in_ok-append.ensures.items (ap (map line_view) c.in_ok-append-2.ensures.items
     ∙ map-append line_view first.lines.items more.lines.items)

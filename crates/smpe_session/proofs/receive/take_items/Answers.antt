@@ -6,7 +6,7 @@ use Rattle.mcs.specs.HoldItems.{items as hold_items}
 use Rattle.report.specs.Views.{line_view}
 use Rattle.store.specs.declared.change.Change.TheVariants as Change
 use Rattle.smpe_zones.specs.Own.{IsReceived}
-use Rattle.smpe_session.proofs.Leading.{run_led}
+use Rattle.smpe_session.proofs.Leading.{run_led, stated_in}
 use Rattle.smpe_session.proofs.Received.{received}
 use Rattle.smpe_session.proofs.Stepping.{stopped}
 use Rattle.smpe_session.proofs.Using.{nothing, ran_short, weaker}
@@ -32,7 +32,8 @@ returns g c = weaker c.commit_change.ensures.uses
     (map line_view taken.lines.items) (map line_view c.in_ok-lines.lines.items) global inventory at sources
     c.take_found.ensures.form reads reads_holds c.in_ok-edits.ensures.taken c.in_ok-lines.ensures in
     run_led g.S.Store c.args.store.now c.commit_change.new.store date files (Receive what) s c.take_found.new.global
-    taken.edits.items (λ v. map line_view v.items) c.in_ok-lines.lines led (Change.Global taken.edits)
+    taken.edits.items (λ v. map line_view v.items) c.in_ok-lines.lines led
+    (Change.Global (stated_in c.commit_change.ensures.uses) taken.edits)
     c.in_ok-edits.ensures.taken.receives
     (led.fits, led.makes) c.commit_change.result
     (ended (record s { global = c.take_found.new.global }) (led.fits, led.makes) led.inventory))

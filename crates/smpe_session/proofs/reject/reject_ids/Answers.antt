@@ -4,7 +4,7 @@ use Rattle.machine.specs.Machine.{Perform}
 use Rattle.report.specs.Views.{line_view}
 use Rattle.store.specs.declared.change.Change.TheVariants as Change
 use Rattle.smpe_zones.specs.Own.{IsRejected}
-use Rattle.smpe_session.proofs.Leading.{run_led}
+use Rattle.smpe_session.proofs.Leading.{run_led, stated_in}
 use Rattle.smpe_session.proofs.Rejected.{rejected}
 use Rattle.smpe_session.proofs.Stepping.{stopped}
 use Rattle.smpe_session.proofs.Using.{nothing, ran_short, weaker}
@@ -22,8 +22,10 @@ returns-clause-uses g c = weaker c.commit_change.ensures.uses
     let rejects = c.in_ok-edits.field-0 in
     let led = rejected date files c.args.ids.now s c.args.global.now c.reject.new.global rejects.edits.items
     (map line_view rejects.lines.items) global inventory at (c.in_ok-edits.ensures.runs s.zones alike)
-    c.in_ok-edits.ensures.fits c.in_ok-edits.ensures.edits in
+    (c.in_ok-edits.ensures.fits c.reject.new.global)
+    (c.in_ok-edits.ensures.edits c.reject.new.global) in
     run_led g.S.Store c.args.store.now c.commit_change.new.store date files (Reject c.args.ids.now) s
     c.reject.new.global rejects.edits.items (λ v. map line_view v.items) rejects.lines led
-    (Change.Global rejects.edits) c.in_ok-edits.ensures.rejects (led.fits, led.makes) c.commit_change.result
+    (Change.Global (stated_in c.commit_change.ensures.uses) rejects.edits) c.in_ok-edits.ensures.rejects
+    (led.fits, led.makes) c.commit_change.result
     (ended (record s { global = c.reject.new.global }) (led.fits, led.makes) led.inventory))
