@@ -20,8 +20,8 @@ use zones_views::Scope;
 
 /// What is said of the candidates: for each one the tests that it fails, what each one needs, each candidate with each
 /// id that it supersedes, directly or through others, of those that are needed where a superseder serves, and each
-/// candidate with each of its PRE, REQ and IFREQ that BYPASS covers; and, for whoever asks on, what the tests have found
-/// of who is over whom.
+/// candidate with each of its PRE, REQ and IFREQ that BYPASS covers; and, for whoever asks on, what the tests have
+/// found of who is over whom.
 #[derive(Drop)]
 pub struct Judged<'a, 'b> {
     pub tests: Vec<Vec<Test>>,
