@@ -1,5 +1,5 @@
 //! The elements that SYSMODs change.
-ghost use Rattle.std.specs.Prelude.{◌≡◌, ◌⊎◌, All, AllPairs, Any, IsTrue, IsSome, IfOk, IfSome, option_copied};
+ghost use Rattle.std.specs.Prelude.{◌≡◌, ◌⊎◌, All, AllPairs, Any, IsTrue, IsSome, IfOk};
 ghost use Rattle.terms.specs.declared.kinds.ElemType.{ElemType as AType};
 ghost use Rattle.terms.specs.Changes.{has_replacement};
 ghost use Rattle.sysmods.specs.Choices.{choice};
@@ -17,7 +17,7 @@ use crate::grouping::changes_by_element;
 use crate::ordering::in_order;
 use fields::{Id, Name};
 use std::alloc::{AllocError, Global};
-use sysmods::{Overs, VerChoice};
+use sysmods::Overs;
 use terms::ElemType;
 use zones::{Element, Zone};
 use zones_views::element_left;
@@ -50,7 +50,7 @@ pub(crate) fn elements_after(
     Ok(elements)
 }
 
-/// The element after the SYSMODs that change it.
+/// The element after the SYSMODs that change it, in the order that over gives them.
 fn changed_element(
     alloc: Global,
     overs: &mut Overs<'_, '_>,
@@ -72,46 +72,7 @@ fn changed_element(
         → HasElementAfter i element.0 element.1 e) }
     ensures overs { overs.new ≡ overs.old }
 {
-    let base = left_of(overs.vers(), zone, deletions, element.0, element.1);
-    after_all(alloc, overs, base, element.0, element.1, changers)
-}
-
-/// The element after these SYSMODs, in the order that over gives them.
-fn after_all(
-    alloc: Global,
-    overs: &mut Overs<'_, '_>,
-    base: Option<&Element>,
-    elem_type: ElemType,
-    name: Name,
-    changers: &[Id],
-) -> Result<Element, AllocError>
-    requires base { IfSome (option_copied base) (λ e. (e.elem_type ≡ elem_type) × (e.name ≡ name)) }
-    requires changers { All (λ x. IsTrue (has_change overs.old.global.now x elem_type name)) changers.now }
-    requires order { AllPairs (λ x y. IsOver (choice overs.old) x y ⊎ IsOver (choice overs.old) y x)
-        changers.now }
-    requires some { IsSome (option_copied base)
-        ⊎ Any (λ x. IsTrue (has_replacement overs.old.global.now x elem_type name)) changers.now }
-    ensures key { IfOk result (λ e. (e.elem_type ≡ elem_type) × (e.name ≡ name)) }
-    ensures element { IfOk result (λ e. (i : Installation)
-        → AreChangers i overs.old.global.now (choice overs.old) elem_type name (option_copied base.entry) changers.now
-        → HasElementAfter i elem_type name e) }
-    ensures overs { overs.new ≡ overs.old }
-{
+    let base = element_left(overs.vers(), deletions, zone, element.0, element.1);
     let ordered = in_order(alloc, overs, changers)?;
-    element_after(alloc, overs.vers(), base, elem_type, name, &ordered)
-}
-
-/// The element that the zone has, unless the deletions meet its owner's chain.
-fn left_of<'a>(
-    vers: &VerChoice<'_>,
-    zone: &'a Zone,
-    deletions: &[Id],
-    elem_type: ElemType,
-    name: Name,
-) -> Option<&'a Element>
-    ensures left { option_copied result ≡ element_of
-        (zone_less vers.now.global.now (choice vers.now) deletions.now zone.now) elem_type name }
-    ensures key { IfSome (option_copied result) (λ e. (e.elem_type ≡ elem_type) × (e.name ≡ name)) }
-{
-    element_left(vers, deletions, zone, elem_type, name)
+    element_after(alloc, overs.vers(), base, element.0, element.1, &ordered)
 }

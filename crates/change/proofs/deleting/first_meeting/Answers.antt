@@ -6,7 +6,7 @@ use Rattle.std.proofs.lemmas.Iterator.Adapters.{option_map_id}
 use Rattle.sysmods.specs.Choices.{choice}
 use Rattle.terms.specs.Choice.{del_of}
 use Rattle.terms.specs.Deleted.{is_deleted}
-use Rattle.change.proofs.deleting.first_that_meets.Goals as goal
+use Rattle.change.proofs.deleting.first_meeting.Goals as goal
 
 pub returns : goal.returns
 returns c =
