@@ -92,6 +92,19 @@ module _ (c : Choice) (ids : List Id) where
   seen_next = going_next (sup_of c) (IsNamed c ids) (IsSuperseded c ids)
       (λ y z by named. (by.0, by.1, reaches_last (sup_of c) by.0 y z by.2 named))
 
+  -- it passes over one of these SYSMODs, as it has begun with what that names
+  pub seen_begun : (seen : List Id) (n : ℕ) (y : Id) → n < length seen → y ≡ get_or seen n y → Contains ids y
+      → IsUnderWay ids seen n → IsUnderWay ids seen (n + 1)
+  seen_begun seen n y below at begun s = record {
+    within = omega (arith, below);
+    sound = s.sound;
+    first = s.first;
+    closed = λ x z gone named. elim ((in_more seen n y below at x).0 gone) [
+      | inl before ↦ s.closed x z before named
+      | inr same ↦ s.first z (x, subst (Contains ids) same begun, named)
+    ];
+  }
+
   -- having gone through all, it has seen all that one of these SYSMODs supersedes
   pub seen_all : (seen : List Id) (n : ℕ) → length seen ≤ n → IsUnderWay ids seen n
       → (z : Id) → Contains seen z ↔ IsSuperseded c ids z

@@ -30,28 +30,31 @@ pub(crate) fn taking_effect(
     ensures ids { IfOk result (λ e. (x : AnId) → Contains e.ids x ↔ IsUnsuperseded (choice vers.now) kept.now x) }
     ensures superseded { IfOk result (λ e. ArePaired (choice vers.now) e.ids e.superseded.items) }
 {
-    let seen = all_superseded(alloc, vers, kept.as_slice())?;
+    let seen = all_superseded(alloc, vers, kept)?;
     let ids = IdList::from_vec(without(alloc, kept.as_slice(), &seen)?);
     let superseded = with_superseders(alloc, vers, ids.as_slice())?;
     Ok(Effective { ids, superseded })
 }
 
-/// What one of these SYSMODs supersedes: what they name in SUP, what that names, and so on.
+/// What one of the kept SYSMODs supersedes: what they name in SUP, what that names, and so on.
 fn all_superseded(
     alloc: Global,
     vers: &VerChoice<'_>,
-    ids: &[Id],
+    kept: &IdList,
 ) -> Result<IndexSet<Id>, AllocError>
-    ensures { IfOk result (λ seen. (z : AnId) → Contains seen.keys z ↔ IsSuperseded (choice vers.now) ids.now z) }
+    ensures { IfOk result (λ seen. (z : AnId) → Contains seen.keys z ↔ IsSuperseded (choice vers.now) kept.now z) }
 {
     let mut seen = IndexSet::new(alloc);
-    for id in ids {
+    for id in kept.as_slice() {
         see_named(vers, *id, &mut seen)?;
     }
     let mut gone = 0;
     while gone < seen.len() {
         let id = seen.as_slice()[gone];
-        see_named(vers, id, &mut seen)?;
+        // What a kept one names is seen already.
+        if !kept.contains(id) {
+            see_named(vers, id, &mut seen)?;
+        }
         gone += 1;
     }
     Ok(seen)

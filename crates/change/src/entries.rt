@@ -2,7 +2,7 @@
 ghost use Rattle.std.specs.Prelude.{◌≡◌, [], IfOk, OnOk, filter};
 ghost use Rattle.change.specs.Deleting.{AreDeletions};
 ghost use Rattle.change.specs.Entries.{is_open, IsAppliedEntry, IsOtherEntry, IsEntryAfter};
-ghost use Rattle.change.specs.Entries.{PutsEntry, HasPutEntries};
+ghost use Rattle.change.specs.Entries.{HasPutEntries};
 
 use crate::deleting::{Deleting, left_entry};
 use crate::differing::{put_entry, remove_entry};
@@ -13,7 +13,8 @@ use std::alloc::{AllocError, Global};
 use zones::{Applied, Entry, ZoneDelta};
 use zones_views::supplies_left;
 
-/// Puts the entries that change.
+/// Puts the entries that the install makes of those that it may change. One that stays as it is is not put, and one that
+/// nothing holds goes.
 pub(crate) fn put_entries(
     alloc: Global,
     deleting: &Deleting,
@@ -25,29 +26,15 @@ pub(crate) fn put_entries(
     ensures { OnOk result (HasPutEntries deleting.now plan.now plan.now.touched delta.old delta.new) }
 {
     for id in plan.touched.as_slice() {
-        put_one(alloc, deleting, plan, *id, delta)?;
+        let entry = entry_after(alloc, deleting, plan, *id)?;
+        entry.attest();
+        if entry.has_content() {
+            put_entry(deleting.zone, entry, delta)?;
+        } else {
+            remove_entry(deleting.zone, *id, delta)?;
+        }
     }
     Ok(())
-}
-
-/// Puts the entry that the install makes of the id's. One that stays as it is is not put, and one that nothing holds
-/// goes.
-fn put_one(
-    alloc: Global,
-    deleting: &Deleting,
-    plan: &Plan,
-    id: Id,
-    delta: &mut ZoneDelta,
-) -> Result<(), AllocError>
-    requires { AreDeletions deleting.now }
-    ensures { OnOk result (PutsEntry deleting.now plan.now id delta.old delta.new) }
-{
-    let entry = entry_after(alloc, deleting, plan, id)?;
-    entry.attest();
-    if !entry.has_content() {
-        return remove_entry(deleting.zone, id, delta);
-    }
-    put_entry(deleting.zone, entry, delta)
 }
 
 /// The entry after the install.

@@ -59,8 +59,8 @@ fn touched(
     zone: &Zone,
     dels: &[Id],
 ) -> Result<IdList, AllocError>
-    ensures { IfOk result (λ ids. (x : AnId)
-        → Contains ids x ↔ Contains ((map (λ p. p.0) superseded.now ++ effective.now) ++ at_stake zone.now dels.now) x) }
+    ensures { IfOk result (λ ids. (x : AnId) → Contains ids x
+        ↔ Contains ((map (λ p. p.0) superseded.now ++ effective.now) ++ at_stake zone.now dels.now) x) }
 {
     let mut ids = Vec::new(alloc);
     for pair in superseded {

@@ -1,9 +1,7 @@
 use Rattle.std.proofs.Common.{◌∙◌, filter, not, ap, subst}
-use Rattle.std.specs.Prelude.{◌↔◌, Contains}
-use Rattle.terms.specs.Types.{Id}
 use Rattle.terms.specs.Lookups.{is_in}
 use Rattle.sysmods.specs.Choices.{choice}
-use Rattle.change.specs.Superseded.{ArePaired, IsSuperseded}
+use Rattle.change.specs.Superseded.{ArePaired}
 use Rattle.change.proofs.TakingEffect.{unsuperseded}
 use Rattle.change.proofs.effective.taking_effect.Goals as goal
 
@@ -13,14 +11,12 @@ returns-clause-ids c = λ x.
     let kept = c.args.kept.now in
     let seen = c.in_ok-seen.seen.keys in
     let left = c.in_ok-without.field-0.items in
-    let is_seen = subst (λ ids. (z : Id) → Contains seen z ↔ IsSuperseded by ids z) c.as_slice.ensures.items
-    c.in_ok-seen.ensures in
-    let is_left = unsuperseded by kept seen left is_seen
-    (c.in_ok-without.ensures ∙ ap (filter (λ x. not (is_in seen x))) c.as_slice-2.ensures.items) x in
+    let is_left = unsuperseded by kept seen left c.in_ok-seen.ensures
+    (c.in_ok-without.ensures ∙ ap (filter (λ x. not (is_in seen x))) c.as_slice.ensures.items) x in
     let same = c.from_vec-ids.ensures x in
     (λ h. is_left.0 (same.0 h), λ u. same.1 (is_left.1 u))
 
 pub returns-clause-superseded : goal.returns-clause-superseded
 returns-clause-superseded c =
-    subst (λ ids. ArePaired (choice c.args.vers.now) ids c.in_ok-superseded.superseded.items) c.as_slice-3.ensures.items
+    subst (λ ids. ArePaired (choice c.args.vers.now) ids c.in_ok-superseded.superseded.items) c.as_slice-2.ensures.items
     c.in_ok-superseded.ensures
