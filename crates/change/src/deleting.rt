@@ -1,8 +1,7 @@
 //! What DELETE takes out of a zone, and which SYSMOD has deleted an id.
-ghost use Rattle.std.specs.Prelude.{◌≡◌, IfOk, find};
-ghost use Rattle.terms.specs.Lookups.{is_in, delby_of};
+ghost use Rattle.std.specs.Prelude.{◌≡◌, IfOk};
+ghost use Rattle.terms.specs.Lookups.{delby_of};
 ghost use Rattle.terms.specs.Choice.{del_of};
-ghost use Rattle.terms.specs.Deleted.{is_deleted};
 ghost use Rattle.sysmods.specs.Choices.{choice};
 ghost use Rattle.change.specs.Deleting.{AreDeletions, is_cut, left};
 ghost use Rattle.change.specs.Deleting.{first_deleter, delby_left};
@@ -42,19 +41,28 @@ impl<'a, 'b> Deleting<'a, 'b> {
         }
     }
 
-    /// The first whose DELETE meets the chain of a function that is taken out, or that names another id. Hardly any id
-    /// is named.
+    /// Of a function that is taken out, the first kept one whose DELETE meets its chain. Of any other id, the first that
+    /// names it.
     fn first_deleter(&self, id: Id) -> Option<Id>
         requires { AreDeletions self.now }
         ensures { result ≡ first_deleter self.now id }
     {
-        if self.vers.global().is_function(id) && self.takes_out(id) {
-            return first_meeting(self.vers, self.kept, id);
+        let vers = self.vers;
+        if vers.global().is_function(id) && self.takes_out(id) {
+            return self
+                .kept
+                .iter()
+                .copied()
+                .find(|k| vers.meets(id, del_of(vers, *k)));
         }
+        // Hardly any id is named.
         if !self.dels.contains(&id) {
             return None;
         }
-        first_naming(self.vers, self.kept, id)
+        self.kept
+            .iter()
+            .copied()
+            .find(|k| del_of(vers, *k).contains(&id))
     }
 }
 
@@ -93,23 +101,6 @@ fn old_delby(zone: &Zone, id: Id) -> Option<Id>
         Some(entry) => entry.delby,
         None => None,
     }
-}
-
-/// The first of these whose DELETE meets the id's chain.
-fn first_meeting(vers: &VerChoice<'_>, ids: &[Id], id: Id) -> Option<Id>
-    ensures { result ≡ find (λ k. is_deleted vers.now.global.now (choice vers.now) (del_of (choice vers.now) k) id)
-        ids.now }
-{
-    ids.iter()
-        .copied()
-        .find(|k| vers.meets(id, del_of(vers, *k)))
-}
-
-/// The first of these that names the id in DELETE.
-fn first_naming(vers: &VerChoice<'_>, ids: &[Id], id: Id) -> Option<Id>
-    ensures { result ≡ find (λ k. is_in (del_of (choice vers.now) k) id) ids.now }
-{
-    ids.iter().copied().find(|k| del_of(vers, *k).contains(&id))
 }
 
 /// What the SYSMOD names in DELETE.

@@ -1,7 +1,7 @@
 //! The entries that an install makes.
 ghost use Rattle.std.specs.Prelude.{◌≡◌, [], IfOk, OnOk, filter};
 ghost use Rattle.change.specs.Deleting.{AreDeletions};
-ghost use Rattle.change.specs.Entries.{is_open, IsAppliedEntry, IsOtherEntry, IsEntryAfter};
+ghost use Rattle.change.specs.Entries.{is_open, IsAppliedEntry, IsOtherEntry};
 ghost use Rattle.change.specs.Entries.{HasPutEntries};
 
 use crate::deleting::{Deleting, left_entry};
@@ -25,8 +25,13 @@ pub(crate) fn put_entries(
     requires empty { delta.old.entries ≡ [] }
     ensures { OnOk result (HasPutEntries deleting.now plan.now plan.now.touched delta.old delta.new) }
 {
+    deleting.zone.attest();
     for id in plan.touched.as_slice() {
-        let entry = entry_after(alloc, deleting, plan, *id)?;
+        let entry = if plan.effective.contains(*id) {
+            applied_entry(alloc, deleting, plan, *id)?
+        } else {
+            other_entry(alloc, deleting, plan, *id)?
+        };
         entry.attest();
         if entry.has_content() {
             put_entry(deleting.zone, entry, delta)?;
@@ -35,18 +40,6 @@ pub(crate) fn put_entries(
         }
     }
     Ok(())
-}
-
-/// The entry after the install.
-fn entry_after(alloc: Global, deleting: &Deleting, plan: &Plan, id: Id) -> Result<Entry, AllocError>
-    requires { AreDeletions deleting.now }
-    ensures { IfOk result (IsEntryAfter deleting.now plan.now id) }
-{
-    deleting.zone.attest();
-    if plan.effective.contains(id) {
-        return applied_entry(alloc, deleting, plan, id);
-    }
-    other_entry(alloc, deleting, plan, id)
 }
 
 /// The entry of a SYSMOD that takes effect. What is waived are its bypassed requisites that nothing supplies.
