@@ -1,16 +1,15 @@
 //! The elements that SYSMODs change.
-ghost use Rattle.std.specs.Prelude.{◌≡◌, ◌⊎◌, All, AllPairs, Any, IsTrue, IsSome, IfOk};
+ghost use Rattle.std.specs.Prelude.{◌⊎◌, AllPairs, Any, IsTrue, IsSome, IfOk};
 ghost use Rattle.terms.specs.declared.kinds.ElemType.{ElemType as AType};
 ghost use Rattle.terms.specs.Changes.{has_replacement};
 ghost use Rattle.sysmods.specs.Choices.{choice};
 ghost use Rattle.terms.specs.Deleted.{zone_less};
-ghost use Rattle.terms.specs.Install.{Installation, HasElementAfter};
+ghost use Rattle.terms.specs.Install.{Installation};
 ghost use Rattle.terms.specs.Lookups.{element_of, has_change};
 ghost use Rattle.terms.specs.Over.{IsOver};
 ghost use Rattle.terms.specs.Tests.{ShareElement};
 ghost use Rattle.terms.specs.Types.{Text};
 ghost use Rattle.change.specs.Elements.{AreElementsAfter, IsInstallOf};
-ghost use Rattle.change.specs.Folding.{AreChangers};
 
 use crate::folding::element_after;
 use crate::grouping::changes_by_element;
@@ -45,34 +44,10 @@ pub(crate) fn elements_after(
     let changes = changes_by_element(alloc, overs.vers().global(), effective)?;
     let mut elements = Vec::new(alloc);
     for (element, changers) in &changes {
-        elements.push(changed_element(alloc, overs, zone, deletions, *element, changers)?)?;
+        let base = element_left(overs.vers(), deletions, zone, element.0, element.1);
+        let ordered = in_order(alloc, overs, changers)?;
+        let changed = element_after(alloc, overs.vers(), base, element.0, element.1, &ordered)?;
+        elements.push(changed)?;
     }
     Ok(elements)
-}
-
-/// The element after the SYSMODs that change it, in the order that over gives them.
-fn changed_element(
-    alloc: Global,
-    overs: &mut Overs<'_, '_>,
-    zone: &Zone,
-    deletions: &[Id],
-    element: (ElemType, Name),
-    changers: &[Id],
-) -> Result<Element, AllocError>
-    requires changers { All (λ x. IsTrue (has_change overs.old.global.now x element.0 element.1)) changers.now }
-    requires order { AllPairs (λ x y. IsOver (choice overs.old) x y ⊎ IsOver (choice overs.old) y x) changers.now }
-    requires some { IsSome (element_of (zone_less overs.old.global.now (choice overs.old) deletions.now zone.now)
-        element.0 element.1)
-        ⊎ Any (λ x. IsTrue (has_replacement overs.old.global.now x element.0 element.1)) changers.now }
-    ensures key { IfOk result (λ e. (e.elem_type ≡ element.0) × (e.name ≡ element.1)) }
-    ensures element { IfOk result (λ e. (i : Installation)
-        → AreChangers i overs.old.global.now (choice overs.old) element.0 element.1
-        (element_of (zone_less overs.old.global.now (choice overs.old) deletions.now zone.now) element.0 element.1)
-        changers.now
-        → HasElementAfter i element.0 element.1 e) }
-    ensures overs { overs.new ≡ overs.old }
-{
-    let base = element_left(overs.vers(), deletions, zone, element.0, element.1);
-    let ordered = in_order(alloc, overs, changers)?;
-    element_after(alloc, overs.vers(), base, element.0, element.1, &ordered)
 }

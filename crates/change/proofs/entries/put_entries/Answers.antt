@@ -45,16 +45,20 @@ loop-id-preserved c =
       waived = c.attest-in-loop-id.ensures.1;
     } in
     put_next d p c.as_slice-id-items.result.now c.loop-id.id-index x c.args.delta.now c.loop-id.delta
-    c.if-has_content.delta (omega arith) c.id-item.is (e, made, elim c.if-has_content.branch [
-      | then-has_content+in_ok-put_entry w ↦
-          subst₂ (λ v delta. AddsEntryEdit d.zone.now v c.loop-id.delta delta)
-          (sym (ap (λ b. if b then Put e else Remove x) (sym c.has_content.ensures ∙ w.if-has_content.true)))
-          (sym w.delta-is) w.in_ok-put_entry.ensures
-      | else-has_content+in_ok-remove_entry w ↦
-          subst₂ (λ v delta. AddsEntryEdit d.zone.now v c.loop-id.delta delta)
-          (sym (ap (λ b. if b then Put e else Remove x) (sym c.has_content.ensures ∙ w.if-has_content.false)))
-          (sym w.delta-is) w.in_ok-remove_entry.ensures
-    ])
+    c.if-has_content.delta (omega arith) c.id-item.is (
+      e,
+      made,
+      elim c.if-has_content.branch [
+        | then-has_content+in_ok-put_entry w ↦
+            subst₂ (λ v delta. AddsEntryEdit d.zone.now v c.loop-id.delta delta)
+            (sym (ap (λ b. if b then Put e else Remove x) (sym c.has_content.ensures ∙ w.if-has_content.true)))
+            (sym w.delta-is) w.in_ok-put_entry.ensures
+        | else-has_content+in_ok-remove_entry w ↦
+            subst₂ (λ v delta. AddsEntryEdit d.zone.now v c.loop-id.delta delta)
+            (sym (ap (λ b. if b then Put e else Remove x) (sym c.has_content.ensures ∙ w.if-has_content.false)))
+            (sym w.delta-is) w.in_ok-remove_entry.ensures
+      ],
+    )
     c.loop-id.invariant
 
 pub returns : goal.returns
