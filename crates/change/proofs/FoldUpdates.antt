@@ -40,16 +40,6 @@ is_for_parts type name h is =
     let both = and_parts (type_number h.elem_type == type_number type) (bytes_eq h.name name) is in
     (type_from_number h.elem_type type (eqb-true _ _ both.0), same_from h.name name both.1)
 
--- what changes an element is received
-pub change_received : (g : Global) (x : Id) (type : ElemType) (name : Text) → IsTrue (has_change g x type name)
-    → IsSome (sysmod_of g x)
-change_received g x type name has = by (sysmod_of g x) has
-  where
-    by : (o : Option Sysmod) → IsTrue (is_some (find (is_for type name) (option_map_or (λ s. s.changes) o [])))
-        → IsSome o
-    by None has = has
-    by (Some s) has = refl
-
 -- the statement that is found has the type and the name
 pub change_key : (g : Global) (x : Id) (type : ElemType) (name : Text) (h : Change) → change_of g x type name ≡ Some h
     → (h.elem_type ≡ type) × (h.name ≡ name)

@@ -1,5 +1,5 @@
 -- Who takes effect: the kept SYSMODs that none of them supersedes, as no SYSMOD supersedes itself.
-use Rattle.std.proofs.Common.{◌≡◌, ◌⊎◌, inl, inr, Bool, true, false, not, List, [], ◌++◌, refl, sym, ap}
+use Rattle.std.proofs.Common.{◌≡◌, ◌⊎◌, inl, inr, Bool, true, false, not, List, ◌++◌, refl, sym, ap}
 use Rattle.std.proofs.Common.{◌∙◌, subst, true≢false, map, ℕ, ◌+◌, ◌<◌, ◌≤◌, length, take, get_or, arith}
 use Rattle.std.specs.Prelude.{◌↔◌, Contains, filter}
 use Rattle.std.proofs.lemmas.Bool.{not-true}
@@ -57,14 +57,6 @@ module _ (c : Choice) (ids : List Id) where
   -- the SYSMODs `from` name in SUP.
   abbrev pub IsUnderWay : List Id → List Id → ℕ → Type 0
   IsUnderWay from seen n = IsGoing (sup_of c) (IsNamed c from) (IsSuperseded c ids) seen n
-
-  pub begun_none : (seen : List Id) → seen ≡ [] → IsUnderWay [] seen 0
-  begun_none seen empty = record {
-    within = omega arith;
-    sound = λ z h. absurd (none_in z (subst (λ xs. Contains xs z) empty h));
-    first = λ z named. absurd (none_in named.0 named.1);
-    closed = λ y z none named. absurd (none_in y none);
-  }
 
   -- it begins with what one more names
   pub begun_next : (k : ℕ) (x : Id) (old new : List Id) → k < length ids → x ≡ get_or ids k x
@@ -131,12 +123,6 @@ module _ (c : Choice) (ids : List Id) where
       free : IsUnsuperseded c ids x → (b : Bool) → is_in seen x ≡ b → not b ≡ true
       free u false e = refl
       free u true e = absurd (u.first ((is_seen x).0 (Contains_from_is_in seen x e)))
-
-  pub paired_none : (pairs : List (Id × Id)) → pairs ≡ [] → ArePaired c [] pairs
-  paired_none pairs empty z x = (
-    λ h. absurd (none_in (z, x) (subst (λ ps. Contains {X = Id × Id} ps (z, x)) empty h)),
-    λ h. absurd (none_in x h.0),
-  )
 
   -- one more, with all that it supersedes
   pub paired_next : (k : ℕ) (x : Id) (old new : List (Id × Id)) (all : List Id) → k < length ids → x ≡ get_or ids k x

@@ -1,6 +1,5 @@
 //! What DELETE takes out of a zone, and which SYSMOD has deleted an id.
 ghost use Rattle.std.specs.Prelude.{◌≡◌, IfOk};
-ghost use Rattle.terms.specs.Lookups.{delby_of};
 ghost use Rattle.terms.specs.Choice.{del_of};
 ghost use Rattle.sysmods.specs.Choices.{choice};
 ghost use Rattle.change.specs.Deleting.{AreDeletions, is_cut, left};
@@ -35,7 +34,7 @@ impl<'a, 'b> Deleting<'a, 'b> {
         requires { AreDeletions self.now }
         ensures { result ≡ delby_left self.now id }
     {
-        match old_delby(self.zone, id) {
+        match self.zone.entry(id).and_then(|entry| entry.delby) {
             Some(deleter) => Some(deleter),
             None => self.first_deleter(id),
         }
@@ -91,15 +90,6 @@ pub(crate) fn left_entry(alloc: Global, deleting: &Deleting, id: Id) -> Result<E
             delby: None,
             waived: IdList::new(alloc),
         }),
-    }
-}
-
-fn old_delby(zone: &Zone, id: Id) -> Option<Id>
-    ensures { result ≡ delby_of zone.now id }
-{
-    match zone.entry(id) {
-        Some(entry) => entry.delby,
-        None => None,
     }
 }
 

@@ -1,5 +1,6 @@
-//! Which kept SYSMODs take effect, and what these supersede. What any kept one supersedes is found by one search from
-//! all of them, so that a chain of SUP is gone through once, whatever the order of its ids.
+//! Which kept SYSMODs take effect, and what these supersede. What any kept one supersedes is found first, by one search
+//! from all of them, and then what each one that takes effect does. So the time of a chain of SUP grows with its length
+//! alone, whatever the order of its ids.
 ghost use Rattle.std.specs.Prelude.{◌≡◌, ◌↔◌, not, filter, Contains, IfOk, OnOk};
 ghost use Rattle.terms.specs.Types.{Id as AnId};
 ghost use Rattle.terms.specs.Choice.{sup_of};
@@ -36,7 +37,7 @@ pub(crate) fn taking_effect(
     Ok(Effective { ids, superseded })
 }
 
-/// What one of the kept SYSMODs supersedes: what they name in SUP, what that names, and so on.
+/// What any of the kept SYSMODs supersedes: what they name in SUP, what that names, and so on.
 fn all_superseded(
     alloc: Global,
     vers: &VerChoice<'_>,

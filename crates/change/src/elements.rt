@@ -14,10 +14,9 @@ ghost use Rattle.change.specs.Elements.{AreElementsAfter, IsInstallOf};
 use crate::folding::element_after;
 use crate::grouping::changes_by_element;
 use crate::ordering::in_order;
-use fields::{Id, Name};
+use fields::Id;
 use std::alloc::{AllocError, Global};
 use sysmods::Overs;
-use terms::ElemType;
 use zones::{Element, Zone};
 use zones_views::element_left;
 
