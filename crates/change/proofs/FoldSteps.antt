@@ -1,11 +1,11 @@
 -- One SYSMOD more is folded in, and what all of them make of an element is what the definitions ask for.
 use Rattle.std.proofs.Common.{◌≡◌, ◌≢◌, ◌⊎◌, inl, inr, List, [], ◌∷◌, ◌++◌, Option, Some, None, refl, sym}
-use Rattle.std.proofs.Common.{ap, ◌∙◌, subst, arith, append_assoc, Contains}
+use Rattle.std.proofs.Common.{ap, ◌∙◌, subst, subst₂, arith, append_assoc, Contains}
 use Rattle.std.specs.Prelude.{ℕ}
-use Rattle.std.proofs.lemmas.List.Elements.{Contains-append_left, Contains-append_right, Contains-append_cases}
-use Rattle.terms.proofs.ListMembers.{there, here_or, none_in, in_middle}
+use Rattle.std.proofs.lemmas.List.Elements.{Contains-append_left, Contains-append_right}
+use Rattle.terms.proofs.ListMembers.{there, none_in, in_middle}
 use Rattle.terms.specs.declared.kinds.ElemType.{ElemType}
-use Rattle.terms.specs.Types.{Text, Id, Lines, Action, Replaces, Updates, Global, Element}
+use Rattle.terms.specs.Types.{Text, Id, Lines, Action, Replaces, Updates, Change, Global, Element}
 use Rattle.terms.specs.Lookups.{IsRising, change_of}
 use Rattle.terms.specs.Choice.{Choice}
 use Rattle.terms.specs.Over.{IsOver, names, owner}
@@ -13,17 +13,10 @@ use Rattle.terms.specs.Texts.{line_at, given, Touches}
 use Rattle.terms.proofs.Leads.{reaches_through}
 use Rattle.change.specs.Folding.{replacement, IsUpdateOf, IsMadeBy, IsStep, UpdatesBy, AreUpdates, DecidesAmong}
 use Rattle.change.specs.Folding.{IsUpdatedBy, HasReplaced, HasUpdated, IsFolded}
+use Rattle.change.proofs.Gathered.{in_push}
 
 none_rise : IsRising []
 none_rise = λ i j d less below. absurd (omega (arith, below))
-
--- the last one, or one before it
-last_or : {X : Type 0} (xs : List X) (x y : X) → Contains (xs ++ x ∷ []) y → Contains xs y ⊎ (x ≡ y)
-last_or xs x y h =
-    elim (Contains-append_cases xs (x ∷ []) y h) [
-      | inl before ↦ inl before
-      | inr last ↦ elim (here_or x [] y last) [ inl same ↦ inr same | inr later ↦ absurd (none_in y later) ]
-    ]
 
 module _ (g : Global) (c : Choice) (type : ElemType) (name : Text) where
   abbrev Update : Id → Lines → Type 0
@@ -78,14 +71,14 @@ module _ (g : Global) (c : Choice) (type : ElemType) (name : Text) where
       from_umids : (z : Id) → Contains base.umids z ⊎ Contains (ys ++ x ∷ []) z → Contains e.umids z
       from_umids z (inl based) = (step.umids z).1 (inl ((before.umids z).1 (inl based)))
       from_umids z (inr h) =
-          elim (last_or ys x z h) [
+          elim ((in_push ys x z).0 h) [
             | inl m ↦ (step.umids z).1 (inl ((before.umids z).1 (inr m)))
             | inr same ↦ (step.umids z).1 (inr same)
           ]
 
       decided : (n : ℕ) (y : Id) (u : Lines) → DecidesAmong g c type name (ys ++ x ∷ []) n y u
           → line_at e.text n ≡ line_at (given u) n
-      decided n y u d = by (last_or ys x y d.member)
+      decided n y u d = by ((in_push ys x y).0 d.member)
         where
           by : Contains ys y ⊎ (x ≡ y) → line_at e.text n ≡ line_at (given u) n
           by (inr same) =
@@ -106,10 +99,21 @@ module _ (g : Global) (c : Choice) (type : ElemType) (name : Text) where
   more_updates : (ys : List Id) (x : Id) (update : Lines) → Update x update → AreUpdates g c type name ys
       → AreUpdates g c type name (ys ++ x ∷ [])
   more_updates ys x update updates all y h =
-      elim (last_or ys x y h) [
+      elim ((in_push ys x y).0 h) [
         | inl m ↦ all y m
         | inr same ↦ (update, subst (λ z. Update z update) same updates)
       ]
+
+  -- what a statement of x for the element makes of it is the step by x
+  pub step_by : (x by : Id) (h : Change) (old new : Option Element) → change_of g x type name ≡ Some h
+      → h.elem_type ≡ type → h.name ≡ name → by ≡ owner g c x → IsMadeBy by x h.elem_type h.name h.action old new
+      → IsStep g c type name x old new
+  step_by x by h old new at typed named owned made = (
+    h,
+    at,
+    subst₂ (λ t n. IsMadeBy (owner g c x) x t n h.action old new) typed named
+        (subst (λ o. IsMadeBy o x h.elem_type h.name h.action old new) owned made),
+  )
 
   -- one SYSMOD more, which is over the others
   pub fold_more : (xs : List Id) (x : Id) (start old new : Option Element)

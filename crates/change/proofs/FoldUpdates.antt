@@ -1,67 +1,23 @@
 -- One update of an element, and the statement by which a SYSMOD changes it.
-use Rattle.std.proofs.Common.{◌≡◌, ◌⊎◌, inl, inr, List, [], ◌∷◌, ◌++◌, Option, Some, None, refl, sym}
+use Rattle.std.proofs.Common.{◌≡◌, ◌⊎◌, List, [], Option, Some, None, refl, sym}
 use Rattle.std.proofs.Common.{ap, ◌∙◌, subst, Contains, true≢false}
-use Rattle.std.specs.Prelude.{◌==◌, ℕ, IsTrue, is_some, find, position, get_or}
+use Rattle.std.specs.Prelude.{◌==◌, ◌↔◌, ℕ, IsTrue, is_some, find, position, get_or}
 use Rattle.std.specs.Option.{IsSome, option_map_or}
-use Rattle.std.specs.declared.cmp.Ordering.{Ordering}
-use Rattle.std.specs.declared.cmp.Ordering.TheVariants.{Less, Equal, Greater}
-use Rattle.std.specs.Ordering.{nat_cmp, is_lt, is_eq, ordering_reverse}
-use Rattle.std.specs.Cmp.Lexicographic.{slice_cmp, texts_ties}
+use Rattle.std.specs.Ordering.{nat_cmp}
+use Rattle.std.specs.Cmp.Lexicographic.{slice_cmp}
 use Rattle.std.specs.Str.{bytes_eq}
 use Rattle.std.proofs.lemmas.Bool.{and_parts, eqb-true}
-use Rattle.std.proofs.lemmas.Cmp.{nat_list_cmp_total}
-use Rattle.std.proofs.lemmas.List.Elements.{Contains-append_left, Contains-append_right, Contains-append_cases}
-use Rattle.terms.proofs.ListMembers.{here_or, none_in, in_middle, in_filter, filter_in}
 use Rattle.terms.proofs.TextOrder.{same_from}
 use Rattle.terms.specs.declared.kinds.ElemType.{ElemType}
 use Rattle.terms.specs.Types.{Text, Id, Lines, type_number, Change, Sysmod, Global, Element}
 use Rattle.terms.specs.Lookups.{IsRising, sysmod_of, change_of, changes_of, has_change}
-use Rattle.terms.specs.Rising.{before, behind, with_item}
+use Rattle.terms.specs.Rising.{with_item}
 use Rattle.terms.specs.Texts.{IsMerge}
 use Rattle.terms.proofs.Searches.{find_passes}
 use Rattle.sysmods.proofs.First.{find_position, find_no_position}
 use Rattle.terms.proofs.ElementOrder.{type_from_number}
 use Rattle.change.specs.Folding.{is_for, IsUpdateOf}
-
--- what stands in a list of ids with one id more
-in_with : (xs : List Id) (x z : Id) → Contains (with_item (slice_cmp nat_cmp) (λ y. y) xs x) z
-    → Contains xs z ⊎ (x ≡ z)
-in_with xs x z h =
-    elim (Contains-append_cases (before (slice_cmp nat_cmp) (λ y. y) x xs ++ x ∷ []) (behind (slice_cmp nat_cmp)
-    (λ y. y) x xs) z h) [
-      | inl front ↦ elim (Contains-append_cases (before (slice_cmp nat_cmp) (λ y. y) x xs) (x ∷ []) z front) [
-        | inl low ↦ inl (filter_in (λ y. is_lt (slice_cmp nat_cmp y x)) xs z low).0
-        | inr one ↦ elim (here_or x [] z one) [ inl same ↦ inr same | inr later ↦ absurd (none_in z later) ]
-      ]
-      | inr high ↦ inl (filter_in (λ y. is_lt (slice_cmp nat_cmp x y)) xs z high).0
-    ]
-
-abbrev low : List Id → Id → List Id
-low xs x = before (slice_cmp nat_cmp) (λ y. y) x xs
-
-abbrev high : List Id → Id → List Id
-high xs x = behind (slice_cmp nat_cmp) (λ y. y) x xs
-
-with_it : (xs : List Id) (x z : Id) → x ≡ z → Contains (with_item (slice_cmp nat_cmp) (λ y. y) xs x) z
-with_it xs x z same =
-    Contains-append_left (low xs x ++ x ∷ []) (high xs x) z
-    (subst (Contains (low xs x ++ x ∷ [])) same (in_middle (low xs x) x []))
-
-with_old : (xs : List Id) (x z : Id) → Contains xs z → (r : Ordering) → slice_cmp nat_cmp z x ≡ r
-    → Contains (with_item (slice_cmp nat_cmp) (λ y. y) xs x) z
-with_old xs x z there Less e =
-    Contains-append_left (low xs x ++ x ∷ []) (high xs x) z (Contains-append_left (low xs x) (x ∷ []) z
-    (in_filter (λ y. is_lt (slice_cmp nat_cmp y x)) xs z there (ap is_lt e)))
-with_old xs x z there Equal e = with_it xs x z (sym (same_from z x (texts_ties z x ∙ ap is_eq e)))
-with_old xs x z there Greater e =
-    Contains-append_right (low xs x ++ x ∷ []) (high xs x) z
-    (in_filter (λ y. is_lt (slice_cmp nat_cmp x y)) xs z there
-    (ap is_lt (nat_list_cmp_total.antisymm x z ∙ ap ordering_reverse e)))
-
-with_in : (xs : List Id) (x z : Id) → Contains xs z ⊎ (x ≡ z)
-    → Contains (with_item (slice_cmp nat_cmp) (λ y. y) xs x) z
-with_in xs x z (inl there) = with_old xs x z there (slice_cmp nat_cmp z x) refl
-with_in xs x z (inr same) = with_it xs x z same
+use Rattle.change.proofs.Gathered.{in_with_item}
 
 -- an element with the merged text and one UMID more
 pub update_made : (x : Id) (update : Lines) (was old e : Element) → was ≡ old
@@ -72,10 +28,8 @@ update_made x update was old e same rest rising umids merged =
     subst (λ o. IsUpdateOf x update o e) same (record {
       rest = rest;
       rising = rising;
-      umids = λ z. (
-        λ h. in_with was.umids x z (subst (λ l. Contains l z) umids h),
-        λ h. subst (λ l. Contains l z) (sym umids) (with_in was.umids x z h),
-      );
+      umids = λ z. subst (λ l. Contains l z ↔ (Contains was.umids z ⊎ (x ≡ z))) (sym umids)
+          (in_with_item was.umids x z);
       merged = merged;
     })
 
@@ -85,16 +39,6 @@ pub is_for_parts : (type : ElemType) (name : Text) (h : Change) → IsTrue (is_f
 is_for_parts type name h is =
     let both = and_parts (type_number h.elem_type == type_number type) (bytes_eq h.name name) is in
     (type_from_number h.elem_type type (eqb-true _ _ both.0), same_from h.name name both.1)
-
--- what changes an element is received
-pub change_received : (g : Global) (x : Id) (type : ElemType) (name : Text) → IsTrue (has_change g x type name)
-    → IsSome (sysmod_of g x)
-change_received g x type name has = by (sysmod_of g x) has
-  where
-    by : (o : Option Sysmod) → IsTrue (is_some (find (is_for type name) (option_map_or (λ s. s.changes) o [])))
-        → IsSome o
-    by None has = has
-    by (Some s) has = refl
 
 -- the statement that is found has the type and the name
 pub change_key : (g : Global) (x : Id) (type : ElemType) (name : Text) (h : Change) → change_of g x type name ≡ Some h

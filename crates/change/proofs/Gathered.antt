@@ -17,7 +17,7 @@ use Rattle.terms.specs.Types.{Id}
 use Rattle.terms.specs.Rising.{with_item, before, behind}
 use Rattle.sorted.specs.Lists.{Lists, Adds, Holds}
 use Rattle.sorted.proofs.Gaining.{gains_nothing, gains_one, holds_gained}
-use Rattle.change.specs.Pairs.{AreGrouped, AreGroupedBack}
+use Rattle.change.specs.Pairs.{AreGrouped}
 
 abbrev Has : List (Id × Id) → Id → Id → Type 0
 Has pairs a b = Contains {X = Id × Id} pairs (a, b)
@@ -103,20 +103,6 @@ module _ (pairs : List (Id × Id)) (i : ℕ) (p : Id × Id) (old new : Lists Id 
         λ h. gains.1 (elim ((more x z).0 h) [ inl was ↦ inl ((are x z).1 was) | inr last ↦ inr last ]),
       )
 
-  pub grouped_back_next : Adds order p.1 p.0 old new → AreGroupedBack (take i pairs) old
-      → AreGroupedBack (take (i + 1) pairs) new
-  grouped_back_next adds are z x =
-      let gains = gains_one order nat_list_cmp_total exact old new p.1 p.0 adds z x in (
-        λ h. (more x z).1 (elim (gains.0 h) [
-          | inl was ↦ inl ((are z x).0 was)
-          | inr last ↦ inr (last.1, last.0)
-        ]),
-        λ h. gains.1 (elim ((more x z).0 h) [
-          | inl was ↦ inl ((are z x).1 was)
-          | inr last ↦ inr (last.1, last.0)
-        ]),
-      )
-
 -- nothing is gathered in empty groups
 empty_holds : (groups : Lists Id Id) → IsEmpty groups → (These : Id → Id → Type 0) → ((x z : Id) → ¬ These x z)
     → Holds order groups These
@@ -125,6 +111,3 @@ empty_holds groups empty These none =
 
 pub grouped_none : (groups : Lists Id Id) → IsEmpty groups → AreGrouped [] groups
 grouped_none groups empty = empty_holds groups empty (λ x z. Has [] x z) (λ x z h. none_in {X = Id × Id} (x, z) h)
-
-pub grouped_back_none : (groups : Lists Id Id) → IsEmpty groups → AreGroupedBack [] groups
-grouped_back_none groups empty = empty_holds groups empty (λ z x. Has [] x z) (λ z x h. none_in {X = Id × Id} (x, z) h)

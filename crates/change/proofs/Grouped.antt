@@ -1,12 +1,9 @@
 -- The elements that SYSMODs change, added one SYSMOD after the other, each stand there with all that change them.
 use Rattle.std.proofs.Common.{◌≡◌, ℕ, ◌<◌, ◌+◌, Bool, true, false, List, [], ◌∷◌, ◌++◌, map, subst, Option}
-use Rattle.std.proofs.Common.{Some, None, refl, sym, ap, ◌∙◌, IsTrue, All, cond, append-nil, length}
+use Rattle.std.proofs.Common.{Some, refl, sym, ap, ◌∙◌, IsTrue, All, cond, append-nil, length}
 use Rattle.std.proofs.Common.{take}
 use Rattle.std.specs.Prelude.{find, filter, is_some, get_or}
-use Rattle.std.specs.Option.{option_map_or}
 use Rattle.std.specs.Ordering.{is_lt, is_eq, ordering_reverse}
-use Rattle.std.specs.Map.{lookup}
-use Rattle.std.specs.BTreeMap.{is_at}
 use Rattle.std.proofs.lemmas.List.{take-map, get_or-map, length-map}
 use Rattle.std.proofs.lemmas.List.Elements.{filter-append}
 use Rattle.terms.proofs.Lists.{front_more}
@@ -70,16 +67,6 @@ once x (h ∷ hs) k rises =
         ∙ find_over (λ o. element_eq (change_key o) k) hs [] (none_behind h hs k (AllPairs_first (λ a b. IsTrue
         (is_lt (element_cmp (change_key a) (change_key b)))) h hs rises) e))
     by false e = refl
-
--- no SYSMOD
-pub changers_none : (g : Global) (all : Lists Key Id) → all.entries ≡ [] → AreByElement g [] all
-changers_none g all empty = record {
-  list = λ k. ap (λ es. option_map_or (λ v. v.items) (lookup (is_at (key_cmp k)) es) []) empty;
-  some = λ k v there. absurd (none_there (sym (ap (lookup (is_at (key_cmp k))) empty) ∙ there));
-}
-  where
-    none_there : {X : Type 0} {v : X} → None ≡ Some v → ⊥
-    none_there f = cc
 
 -- one SYSMOD more
 pub changers_next : (g : Global) (ids : List Id) (i : ℕ) (x : Id) (old new : Lists Key Id) → IsGlobal g → i < length ids

@@ -15,7 +15,7 @@ use Rattle.terms.specs.Lookups.{at_most_one, is_in, IsZone, change_of, has_chang
 use Rattle.terms.specs.Lookups.{is_applied, is_supplied, is_nil, supby_of}
 use Rattle.terms.specs.Choice.{counting, fmid_of, del_of}
 use Rattle.terms.specs.Changes.{is_replacement, has_replacement, has_update}
-use Rattle.terms.specs.Over.{IsOver, names, owner, Reaches, Supersedes}
+use Rattle.terms.specs.Over.{IsOver, names, Reaches, Supersedes}
 use Rattle.terms.specs.Global.{IsGlobal}
 use Rattle.terms.specs.Deleted.{deletions, is_deleted, zone_less}
 use Rattle.terms.specs.Tests.{Setting, view_of, owner_of, ShareElement, MayNotShare, has_candidate_base}
@@ -219,15 +219,6 @@ module _ (s : Setting) (survivors kept : List Id) (members : (x : Id) → Contai
           ∙ ap (λ c. zone_less s.global c (deletions c i.kept) i.zone) of.choice
           ∙ ap (λ ids. zone_less s.global s.choice (deletions s.choice ids) i.zone) of.kept
           ∙ ap (zone_less s.global s.choice (deletions s.choice kept)) of.zone
-
-      pub install_owner : (x y : Id) → Contains i.kept x → Contains i.kept y → ShareElement i.global x y
-          → owner i.global i.choice x ≡ owner i.global i.choice y
-      install_owner x y of_x of_y share =
-          let one = kept_owner x y (in_kept x of_x) (in_kept y of_y)
-          (subst (λ g. ShareElement g x y) of.global share) in
-          let same : (z : Id) → owner i.global i.choice z ≡ owner_of s z =
-          λ z. ap (λ g. owner g i.choice z) of.global ∙ ap (λ c. owner s.global c z) of.choice in
-          same x ∙ one ∙ sym (same y)
 
       pub install_over : (x y : Id) → Contains i.kept x → Contains i.kept y → x ≢ y → ShareElement i.global x y
           → IsOver i.choice x y ⊎ IsOver i.choice y x

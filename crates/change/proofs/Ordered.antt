@@ -24,15 +24,6 @@ newest R xs k x pairs below is y m =
     let sides = AllPairs_parts R (take k xs) (drop (suc k) xs) (get_or xs k x) (subst (AllPairs R) split pairs) in
     subst (R y) (sym is) (All-contains (λ z. R z (get_or xs k x)) (take k xs) y sides.0 m)
 
--- what all behind a place have and the item before it has
-pub one_before : {X : Type 0} (P : X → Type 0) (xs : List X) (p : ℕ) (x : X) → 0 < p → p ≤ length xs
-    → x ≡ get_or xs (p - 1) x → P x → All P (drop p xs) → All P (drop (p - 1) xs)
-one_before P xs p x some within is one all =
-    let next : p ≡ suc (p - 1) = omega (arith, some) in
-    subst (All P) (sym (drop-cons xs (p - 1) x (omega (arith, some, within))))
-    (All-cons P (get_or xs (p - 1) x) (drop (suc (p - 1)) xs) (subst P is one)
-    (subst (λ k. All P (drop k xs)) next all))
-
 -- a back of a list in order
 pub pairs_drop : {X : Type 0} (R : X → X → Type 0) (n : ℕ) (xs : List X) → AllPairs R xs → AllPairs R (drop n xs)
 pairs_drop R zero xs pairs = pairs

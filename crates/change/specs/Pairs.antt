@@ -1,4 +1,4 @@
--- Pairs of ids, gathered by their first ids or by their second ones.
+-- Pairs of ids, gathered by their first ids.
 use Rattle.std.specs.Prelude.{List, Contains}
 use Rattle.std.specs.Ordering.{nat_cmp}
 use Rattle.std.specs.Cmp.Lexicographic.{slice_cmp}
@@ -12,7 +12,3 @@ others_of = listed (slice_cmp nat_cmp)
 -- the groups have these pairs
 abbrev pub AreGrouped : List (Id × Id) → Lists Id Id → Type 0
 AreGrouped pairs groups = Holds (slice_cmp nat_cmp) groups (λ x z. Contains {X = Id × Id} pairs (x, z))
-
--- the groups have them turned round
-abbrev pub AreGroupedBack : List (Id × Id) → Lists Id Id → Type 0
-AreGroupedBack pairs groups = Holds (slice_cmp nat_cmp) groups (λ z x. Contains {X = Id × Id} pairs (x, z))

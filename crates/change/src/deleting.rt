@@ -1,18 +1,16 @@
 //! What DELETE takes out of a zone, and which SYSMOD has deleted an id.
-ghost use Rattle.std.specs.Prelude.{◌≡◌, IfOk, find};
-ghost use Rattle.terms.specs.Lookups.{is_in, is_supplied, delby_of};
+ghost use Rattle.std.specs.Prelude.{◌≡◌, IfOk};
 ghost use Rattle.terms.specs.Choice.{del_of};
-ghost use Rattle.terms.specs.Deleted.{is_deleted};
 ghost use Rattle.sysmods.specs.Choices.{choice};
-ghost use Rattle.change.specs.Deleting.{AreDeletions, is_cut, left, first_meeting, first_naming};
-ghost use Rattle.change.specs.Deleting.{is_function_gone, first_deleter, delby_left};
+ghost use Rattle.change.specs.Deleting.{AreDeletions, is_cut, left};
+ghost use Rattle.change.specs.Deleting.{first_deleter, delby_left};
 ghost use Rattle.change.specs.Entries.{old_entry};
 
 use fields::{Attest, Id, IdList};
 use std::alloc::{AllocError, Global};
 use sysmods::VerChoice;
 use zones::{Entry, Zone};
-use zones_views::{TakesOut, entry_less, supplies_left};
+use zones_views::{TakesOut, entry_less};
 
 /// Kept SYSMODs, what they name in DELETE by the `++VER`s that count, and the zone that this takes from.
 #[derive(Clone, Copy)]
@@ -31,56 +29,39 @@ impl<'a, 'b> Deleting<'a, 'b> {
         self.vers.meets(id, self.dels)
     }
 
-    /// Whether the id is supplied in what is left.
-    pub(crate) fn supplies(&self, id: Id) -> bool
-        ensures { result ≡ is_supplied (left self.now) id }
-    {
-        supplies_left(self.vers, self.dels, self.zone, id)
-    }
-
     /// Its DELBY: what is there, else the first that deletes it.
     pub(crate) fn delby(&self, id: Id) -> Option<Id>
         requires { AreDeletions self.now }
         ensures { result ≡ delby_left self.now id }
     {
-        match old_delby(self.zone, id) {
+        match self.zone.entry(id).and_then(|entry| entry.delby) {
             Some(deleter) => Some(deleter),
             None => self.first_deleter(id),
         }
     }
 
+    /// Of a function that is taken out, the first kept one whose DELETE meets its chain. Of any other id, the first that
+    /// names it.
     fn first_deleter(&self, id: Id) -> Option<Id>
         requires { AreDeletions self.now }
         ensures { result ≡ first_deleter self.now id }
     {
-        if self.is_function_gone(id) {
-            return self.first_meeting(id);
+        let vers = self.vers;
+        if vers.global().is_function(id) && self.takes_out(id) {
+            return self
+                .kept
+                .iter()
+                .copied()
+                .find(|k| vers.meets(id, del_of(vers, *k)));
         }
-        self.first_naming(id)
-    }
-
-    fn is_function_gone(&self, id: Id) -> bool
-        ensures { result ≡ is_function_gone self.now id }
-    {
-        self.vers.global().is_function(id) && self.takes_out(id)
-    }
-
-    // The first whose deletions meet the id's chain.
-    fn first_meeting(&self, id: Id) -> Option<Id>
-        ensures { result ≡ first_meeting self.now id }
-    {
-        first_that_meets(self.vers, self.kept, id)
-    }
-
-    // The first that names the id in DELETE. Hardly any id is named.
-    fn first_naming(&self, id: Id) -> Option<Id>
-        requires { AreDeletions self.now }
-        ensures { result ≡ first_naming self.now id }
-    {
-        if !is_among(self.dels, id) {
+        // Hardly any id is named.
+        if !self.dels.contains(&id) {
             return None;
         }
-        first_that_names(self.vers, self.kept, id)
+        self.kept
+            .iter()
+            .copied()
+            .find(|k| del_of(vers, *k).contains(&id))
     }
 }
 
@@ -112,48 +93,12 @@ pub(crate) fn left_entry(alloc: Global, deleting: &Deleting, id: Id) -> Result<E
     }
 }
 
-fn old_delby(zone: &Zone, id: Id) -> Option<Id>
-    ensures { result ≡ delby_of zone.now id }
+/// What the SYSMOD names in DELETE.
+fn del_of<'a>(vers: &VerChoice<'a>, id: Id) -> &'a [Id]
+    ensures { result.now ≡ del_of (choice vers.now) id }
 {
-    match zone.entry(id) {
-        Some(entry) => entry.delby,
-        None => None,
-    }
-}
-
-fn is_among(ids: &[Id], id: Id) -> bool
-    ensures { result ≡ is_in ids.now id }
-{
-    ids.contains(&id)
-}
-
-fn first_that_names(vers: &VerChoice<'_>, ids: &[Id], id: Id) -> Option<Id>
-    ensures { result ≡ find (λ k. is_in (del_of (choice vers.now) k) id) ids.now }
-{
-    ids.iter().copied().find(|k| names_in_delete(vers, *k, id))
-}
-
-fn first_that_meets(vers: &VerChoice<'_>, ids: &[Id], id: Id) -> Option<Id>
-    ensures { result ≡ find (λ k. is_deleted vers.now.global.now (choice vers.now) (del_of (choice vers.now) k) id)
-        ids.now }
-{
-    ids.iter().copied().find(|k| deletes_one(vers, *k, id))
-}
-
-fn names_in_delete(vers: &VerChoice<'_>, k: Id, id: Id) -> bool
-    ensures { result ≡ is_in (del_of (choice vers.now) k) id }
-{
-    match vers.ver(k) {
-        Some(ver) => ver.del.contains(id),
-        None => false,
-    }
-}
-
-fn deletes_one(vers: &VerChoice<'_>, k: Id, id: Id) -> bool
-    ensures { result ≡ is_deleted vers.now.global.now (choice vers.now) (del_of (choice vers.now) k) id }
-{
-    match vers.ver(k) {
-        Some(ver) => vers.meets(id, ver.del.as_slice()),
-        None => vers.meets(id, &[]),
+    match vers.ver(id) {
+        Some(ver) => ver.del.as_slice(),
+        None => &[],
     }
 }

@@ -1,6 +1,6 @@
 //! Edits come into a delta where they change something.
-ghost use Rattle.std.specs.Prelude.{◌≡◌, ◌↔◌, [], Some, IsTrue, OnOk};
-ghost use Rattle.terms.specs.Lookups.{element_cmp, element_key, element_of, entry_of, has_content, waives_applied};
+ghost use Rattle.std.specs.Prelude.{◌≡◌, [], IsTrue, OnOk};
+ghost use Rattle.terms.specs.Lookups.{element_cmp, element_key, has_content, waives_applied};
 ghost use Rattle.terms.specs.Rising.{Rises};
 ghost use Rattle.sorted.specs.Edits.{edit_key};
 ghost use Rattle.sorted.specs.declared.edits.Edit.TheVariants.{Put, Remove};
@@ -21,7 +21,9 @@ pub(crate) fn put_entry(zone: &Zone, entry: Entry, delta: &mut ZoneDelta) -> Res
     requires waived { IsTrue (waives_applied entry) }
     ensures { OnOk result (AddsEntryEdit zone.now (Put entry) delta.old delta.new) }
 {
-    if has_entry(zone, &entry) {
+    if let Some(old) = zone.entry(entry.id)
+        && is_same_entry(old, &entry)
+    {
         return Ok(());
     }
     delta.put_entry(entry)
@@ -35,16 +37,6 @@ pub(crate) fn remove_entry(zone: &Zone, id: Id, delta: &mut ZoneDelta) -> Result
         return Ok(());
     }
     delta.remove_entry(id)
-}
-
-// Whether the zone has this very entry.
-fn has_entry(zone: &Zone, entry: &Entry) -> bool
-    ensures { IsTrue result ↔ (entry_of zone.now entry.now.id ≡ Some entry.now) }
-{
-    match zone.entry(entry.id) {
-        Some(old) => is_same_entry(old, entry),
-        None => false,
-    }
 }
 
 /// Does those of the edits that change something.
@@ -63,42 +55,22 @@ pub(crate) fn edit_elements(
     Ok(())
 }
 
+/// Puts the element, unless the zone has this very one, or removes it, if the zone has it.
 fn edit_element(zone: &Zone, edit: ElementEdit, delta: &mut ZoneDelta) -> Result<(), AllocError>
     ensures { OnOk result (AddsElementEdit zone.now edit delta.old delta.new) }
 {
     match edit {
-        Edit::Put(element) => put_element(zone, element, delta),
-        Edit::Remove(key) => remove_element(zone, key.0, key.1, delta),
+        Edit::Put(element) => {
+            if is_element(&element, zone.element(element.elem_type, element.name)) {
+                return Ok(());
+            }
+            delta.put_element(element)
+        }
+        Edit::Remove((elem_type, name)) => {
+            if zone.element(elem_type, name).is_none() {
+                return Ok(());
+            }
+            delta.remove_element(elem_type, name)
+        }
     }
-}
-
-fn put_element(zone: &Zone, element: Element, delta: &mut ZoneDelta) -> Result<(), AllocError>
-    ensures { OnOk result (AddsElementEdit zone.now (Put element) delta.old delta.new) }
-{
-    if has_element(zone, &element) {
-        return Ok(());
-    }
-    delta.put_element(element)
-}
-
-// Whether the zone has this very element.
-fn has_element(zone: &Zone, element: &Element) -> bool
-    ensures { IsTrue result
-        ↔ (Some element.now ≡ element_of zone.now element.now.elem_type element.now.name) }
-{
-    is_element(element, zone.element(element.elem_type, element.name))
-}
-
-fn remove_element(
-    zone: &Zone,
-    elem_type: ElemType,
-    name: Name,
-    delta: &mut ZoneDelta,
-) -> Result<(), AllocError>
-    ensures { OnOk result (AddsElementEdit zone.now (Remove (elem_type, name)) delta.old delta.new) }
-{
-    if zone.element(elem_type, name).is_none() {
-        return Ok(());
-    }
-    delta.remove_element(elem_type, name)
 }

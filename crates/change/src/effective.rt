@@ -1,21 +1,21 @@
-//! Which kept SYSMODs take effect, and what these supersede. Searches begin with the highest ids: what one of them
-//! supersedes is not searched from again, so that a chain of SUP is gone through once.
-ghost use Rattle.std.specs.Prelude.{◌≡◌, ◌↔◌, ◌++◌, ◌∷◌, not, map, filter, List, Contains, IfOk, OnOk};
+//! Which kept SYSMODs take effect, and what these supersede. What any kept one supersedes is found first, by one search
+//! from all of them, and then what each one that takes effect does. So the time of a chain of SUP grows with its length
+//! alone, whatever the order of its ids.
+ghost use Rattle.std.specs.Prelude.{◌≡◌, ◌↔◌, not, filter, Contains, IfOk, OnOk};
 ghost use Rattle.terms.specs.Types.{Id as AnId};
+ghost use Rattle.terms.specs.Choice.{sup_of};
 ghost use Rattle.terms.specs.Lookups.{is_in};
-ghost use Rattle.terms.specs.Over.{Supersedes};
 ghost use Rattle.sysmods.specs.Choices.{choice};
 ghost use Rattle.sysmods.specs.Seen.{AddsAll};
-ghost use Rattle.change.specs.Superseded.{AreFound, IsUnsuperseded};
+ghost use Rattle.change.specs.Superseded.{ArePaired, IsSuperseded, IsUnsuperseded};
 
-use crate::pairs::pairs_of;
 use fields::{Id, IdList};
 use indexmap::IndexSet;
 use std::alloc::{AllocError, Global};
 use sysmods::VerChoice;
 
-/// The kept SYSMODs that no kept one supersedes, and each of these with each id that it supersedes. Each other kept one
-/// becomes SUPERSEDED.
+/// The kept SYSMODs that no kept one supersedes, and each id that one of these supersedes, with that one. Each other
+/// kept one becomes SUPERSEDED.
 #[derive(Drop)]
 pub(crate) struct Effective {
     pub(crate) ids: IdList,
@@ -29,59 +29,47 @@ pub(crate) fn taking_effect(
     kept: &IdList,
 ) -> Result<Effective, AllocError>
     ensures ids { IfOk result (λ e. (x : AnId) → Contains e.ids x ↔ IsUnsuperseded (choice vers.now) kept.now x) }
-    ensures superseded { IfOk result (λ e. (x z : AnId) → Contains {X = AnId × AnId} e.superseded.items (x, z)
-        ↔ (Contains e.ids x × Supersedes (choice vers.now) x z)) }
+    ensures superseded { IfOk result (λ e. ArePaired (choice vers.now) e.ids e.superseded.items) }
 {
-    let ids = kept.as_slice();
-    let mut pairs = Vec::new(alloc);
-    let mut seen = IndexSet::new(alloc);
-    let mut place = ids.len();
-    while place > 0 {
-        add_superseded(alloc, vers, ids[place - 1], &mut pairs, &mut seen)?;
-        place -= 1;
-    }
-    let effective = IdList::from_vec(without(alloc, ids, &seen)?);
-    let superseded = pairs_of(alloc, &effective, pairs.as_slice())?;
-    Ok(Effective {
-        ids: effective,
-        superseded,
-    })
+    let seen = all_superseded(alloc, vers, kept)?;
+    let ids = IdList::from_vec(without(alloc, kept.as_slice(), &seen)?);
+    let superseded = with_superseders(alloc, vers, ids.as_slice())?;
+    Ok(Effective { ids, superseded })
 }
 
-// Goes through one more: adds the pairs of it with what it supersedes, unless it is seen to be superseded itself.
-fn add_superseded(
+/// What any of the kept SYSMODs supersedes: what they name in SUP, what that names, and so on.
+fn all_superseded(
     alloc: Global,
     vers: &VerChoice<'_>,
-    id: Id,
-    pairs: &mut Vec<(Id, Id)>,
-    seen: &mut IndexSet<Id>,
-) -> Result<(), AllocError>
-    ensures { OnOk result ((gone : List AnId) → AreFound (choice vers.now) gone pairs.old.items seen.old.keys
-        → AreFound (choice vers.now) (id ∷ gone) pairs.new.items seen.new.keys) }
+    kept: &IdList,
+) -> Result<IndexSet<Id>, AllocError>
+    ensures { IfOk result (λ seen. (z : AnId) → Contains seen.keys z ↔ IsSuperseded (choice vers.now) kept.now z) }
 {
-    if seen.contains(&id) {
+    let mut seen = IndexSet::new(alloc);
+    for id in kept.as_slice() {
+        see_named(vers, *id, &mut seen)?;
+    }
+    let mut gone = 0;
+    while gone < seen.len() {
+        let id = seen.as_slice()[gone];
+        // What a kept one names is seen already.
+        if !kept.contains(id) {
+            see_named(vers, id, &mut seen)?;
+        }
+        gone += 1;
+    }
+    Ok(seen)
+}
+
+/// Adds what the SYSMOD names in SUP.
+fn see_named(vers: &VerChoice<'_>, id: Id, seen: &mut IndexSet<Id>) -> Result<(), AllocError>
+    ensures { OnOk result (AddsAll seen.old.keys (sup_of (choice vers.now) id) seen.new.keys) }
+{
+    let Some(ver) = vers.ver(id) else {
         return Ok(());
-    }
-    let ids = vers.sup_all(alloc, id)?;
-    push_pairs(pairs, id, ids.as_slice())?;
-    see_all(ids.as_slice(), seen)?;
-    Ok(())
-}
-
-fn push_pairs(pairs: &mut Vec<(Id, Id)>, id: Id, ids: &[Id]) -> Result<(), AllocError>
-    ensures { OnOk result (pairs.new.items ≡ pairs.old.items ++ map (λ z. (id, z)) ids.now) }
-{
-    for other in ids {
-        pairs.push((id, *other))?;
-    }
-    Ok(())
-}
-
-fn see_all(ids: &[Id], seen: &mut IndexSet<Id>) -> Result<(), AllocError>
-    ensures { OnOk result (AddsAll seen.old.keys ids.now seen.new.keys) }
-{
-    for id in ids {
-        seen.insert(*id)?;
+    };
+    for other in ver.sup.as_slice() {
+        seen.insert(*other)?;
     }
     Ok(())
 }
@@ -93,4 +81,22 @@ fn without(alloc: Global, ids: &[Id], seen: &IndexSet<Id>) -> Result<Vec<Id>, Al
         .filter(|id| !seen.contains(*id))
         .copied()
         .collect(alloc)
+}
+
+/// Each id that one of these SYSMODs supersedes, with that one.
+fn with_superseders(
+    alloc: Global,
+    vers: &VerChoice<'_>,
+    ids: &[Id],
+) -> Result<Vec<(Id, Id)>, AllocError>
+    ensures { IfOk result (λ pairs. ArePaired (choice vers.now) ids.now pairs.items) }
+{
+    let mut pairs = Vec::new(alloc);
+    for id in ids {
+        let superseded = vers.sup_all(alloc, *id)?;
+        for other in superseded.as_slice() {
+            pairs.push((*other, *id))?;
+        }
+    }
+    Ok(pairs)
 }

@@ -6,8 +6,8 @@ ghost use Rattle.terms.specs.Changes.{has_replacement};
 ghost use Rattle.terms.specs.Install.{Installation, HasElementAfter};
 ghost use Rattle.terms.specs.Lookups.{IsRising, change_of, has_change};
 ghost use Rattle.terms.specs.Over.{IsOver};
-ghost use Rattle.terms.specs.Texts.{IsMerge, IsNumbered};
-ghost use Rattle.change.specs.Folding.{AreChangers, IsFolded, IsMadeBy, IsStep, IsUpdateOf, is_for};
+ghost use Rattle.terms.specs.Texts.{IsNumbered};
+ghost use Rattle.change.specs.Folding.{AreChangers, IsFolded, IsMadeBy, IsUpdateOf, is_for};
 
 use fields::{Attest, Id, IdList, Name};
 use sorted::TryClone;
@@ -15,7 +15,7 @@ use std::alloc::{AllocError, Global};
 use sysmod::{Action, ElemChange};
 use sysmods::{GlobalZone, VerChoice};
 use terms::ElemType;
-use text80::{Line, Numbered, Update, merge};
+use text80::{Numbered, Update, merge};
 use zones::Element;
 
 /// The element after all these SYSMODs, which change it and of which each later one is over each earlier one. The zone
@@ -41,14 +41,12 @@ pub(crate) fn element_after(
     vers.global().attest();
     match last_replacement(vers.global(), elem_type, name, changers) {
         Some(place) => folded(alloc, vers, None, elem_type, name, &changers[place..]),
-        None => folded(
-            alloc,
-            vers,
-            copy_of(alloc, base)?,
-            elem_type,
-            name,
-            changers,
-        ),
+        None => {
+            let base = base.unwrap();
+            base.umids.attest();
+            let copy = base.try_clone(alloc)?;
+            folded(alloc, vers, Some(copy), elem_type, name, changers)
+        }
     }
 }
 
@@ -109,47 +107,10 @@ fn folded(
     vers.global().attest();
     let mut element = start;
     for id in changers {
-        element = after_one(alloc, vers, element, elem_type, name, *id)?;
+        let change = change_of(vers.global(), *id, elem_type, name);
+        element = changed(alloc, vers.owner(*id), *id, change, element)?;
     }
     Ok(element.unwrap())
-}
-
-/// A copy of the zone's element, if it has one.
-fn copy_of(alloc: Global, base: Option<&Element>) -> Result<Option<Element>, AllocError>
-    ensures same { IfOk result (λ copy. copy ≡ option_copied base.entry) }
-    ensures rising { IfSome (option_copied base.entry) (λ e. IsRising e.umids) }
-{
-    match base {
-        Some(element) => {
-            element.umids.attest();
-            Ok(Some(element.try_clone(alloc)?))
-        }
-        None => Ok(None),
-    }
-}
-
-/// The element after one SYSMOD that changes it.
-fn after_one(
-    alloc: Global,
-    vers: &VerChoice<'_>,
-    old: Option<Element>,
-    elem_type: ElemType,
-    name: Name,
-    id: Id,
-) -> Result<Option<Element>, AllocError>
-    requires changes { IsTrue (has_change vers.now.global.now id elem_type name) }
-    requires old { IfSome old (λ e. (e.elem_type ≡ elem_type) × (e.name ≡ name)) }
-    ensures step { IfOk result (λ new. IsStep vers.now.global.now (choice vers.now) elem_type name id old new) }
-    ensures new { IfOk result (λ new. IfSome new (λ e. (e.elem_type ≡ elem_type) × (e.name ≡ name))) }
-{
-    let owner = vers.owner(id);
-    changed(
-        alloc,
-        owner,
-        id,
-        change_of(vers.global(), id, elem_type, name),
-        old,
-    )
 }
 
 /// The SYSMOD's statement for the element.
@@ -224,6 +185,7 @@ fn updated(alloc: Global, id: Id, update: &Update, old: Element) -> Result<Eleme
         text,
     } = old;
     umids.insert(id)?;
+    let text = merge(alloc, &Numbered::known(text), update)?.into_lines();
     Ok(Element {
         elem_type,
         name,
@@ -232,15 +194,6 @@ fn updated(alloc: Global, id: Id, update: &Update, old: Element) -> Result<Eleme
         umids,
         distlib,
         syslib,
-        text: merged(alloc, text, update)?,
+        text,
     })
-}
-
-/// The text with the update made.
-fn merged(alloc: Global, text: Vec<Line>, update: &Update) -> Result<Vec<Line>, AllocError>
-    requires { IsNumbered text.items }
-    ensures { IfOk result (λ new. IsMerge text.items update.now new.items) }
-{
-    let text = Numbered::known(text);
-    Ok(merge(alloc, &text, update)?.into_lines())
 }

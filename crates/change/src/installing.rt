@@ -9,7 +9,7 @@ ghost use Rattle.terms.specs.Install.{HasInstalled, TakesEffect};
 ghost use Rattle.change.specs.Elements.{HasBases};
 ghost use Rattle.zones.specs.Differing.{EachChanges};
 ghost use Rattle.change.specs.Plans.{installation_of, IsFresh};
-ghost use Rattle.change.specs.Puts.{with_elements, less_element, less_elements};
+ghost use Rattle.change.specs.Puts.{with_elements, less_elements};
 
 use crate::deleting::Deleting;
 use crate::differing::{ElementEdit, edit_elements};
@@ -96,31 +96,10 @@ fn remove_elements(deleting: &Deleting, edits: &mut Table<ElementEdit>) -> Resul
     if deleting.dels.is_empty() {
         return Ok(());
     }
-    remove_among(deleting, deleting.zone.elements(), edits)
-}
-
-fn remove_among(
-    deleting: &Deleting,
-    elements: &[Element],
-    edits: &mut Table<ElementEdit>,
-) -> Result<(), AllocError>
-    ensures { OnOk result (edits.new ≡ less_elements deleting.now edits.old elements.now) }
-{
-    for element in elements {
-        remove_if_deleted(deleting, element, edits)?;
-    }
-    Ok(())
-}
-
-fn remove_if_deleted(
-    deleting: &Deleting,
-    element: &Element,
-    edits: &mut Table<ElementEdit>,
-) -> Result<(), AllocError>
-    ensures { OnOk result (edits.new ≡ less_element deleting.now edits.old element.now) }
-{
-    if deleting.deletes(element.fmid) {
-        return edits.put(Edit::Remove((element.elem_type, element.name)));
+    for element in deleting.zone.elements() {
+        if deleting.deletes(element.fmid) {
+            edits.put(Edit::Remove((element.elem_type, element.name)))?;
+        }
     }
     Ok(())
 }

@@ -1,7 +1,7 @@
-//! Pairs of ids: those of some first ids, and all gathered by their first ids or by their second ones.
-ghost use Rattle.std.specs.Prelude.{◌≡◌, IfOk, filter, map};
+//! Pairs of ids: those of some first ids, and the second ids of each first one.
+ghost use Rattle.std.specs.Prelude.{◌≡◌, IfOk, filter};
 ghost use Rattle.terms.specs.Lookups.{is_in};
-ghost use Rattle.change.specs.Pairs.{AreGrouped, AreGroupedBack};
+ghost use Rattle.change.specs.Pairs.{AreGrouped};
 
 use fields::{Id, IdList};
 use sorted::lists::{Lists, add};
@@ -32,25 +32,4 @@ pub(crate) fn grouped(alloc: Global, pairs: &[(Id, Id)]) -> Result<Lists<Id, Id>
         add(alloc, &mut groups, pair.0, pair.1)?;
     }
     Ok(groups)
-}
-
-/// The first ids by their second ids.
-pub(crate) fn grouped_by_second(
-    alloc: Global,
-    pairs: &[(Id, Id)],
-) -> Result<Lists<Id, Id>, AllocError>
-    ensures { IfOk result (AreGroupedBack pairs.now) }
-{
-    let mut groups = BTreeMap::new(alloc);
-    for pair in pairs {
-        add(alloc, &mut groups, pair.1, pair.0)?;
-    }
-    Ok(groups)
-}
-
-/// The second ids.
-pub(crate) fn seconds(alloc: Global, pairs: &[(Id, Id)]) -> Result<Vec<Id>, AllocError>
-    ensures { IfOk result (λ ids. ids.items ≡ map (λ p. p.1) pairs.now) }
-{
-    pairs.iter().map(|pair| pair.1).collect(alloc)
 }

@@ -8,13 +8,15 @@ use Rattle.change.proofs.entries.other_entry.Goals as goal
 pub returns : goal.returns
 returns c =
     let old = c.in_ok-old.old in
-    let supby = c.in_ok-supby.supby in
+    let more = c.listed.result.now in
+    let supby = c.from_vec-supby.result in
     let delby = c.delby-delby.result in
     subst (IsOtherEntry c.args.deleting.now c.args.plan.now c.args.id)
     (ap {A = Entry} {B = Entry} (λ e. record e { supby = supby; delby = delby }) (sym c.old.view_is))
-    (other_from c.args.deleting.now c.args.plan.now c.args.id old c.listed-more.result.now supby delby c.in_ok-old.ensures
-    c.listed-more.ensures
+    (other_from c.args.deleting.now c.args.plan.now c.args.id old more supby delby c.in_ok-old.ensures
+    c.listed.ensures
     (subst (λ ids. (x : Id) → Contains supby x ↔ Contains ids x)
-    (ap (λ xs. xs ++ c.listed-more.result.now)
-    (c.as_slice.ensures.items ∙ ap (λ (e : Entry). e.supby) c.old.view_is)) c.in_ok-supby.ensures.members)
+    (c.in_ok-extend_from_slice.ensures.items ∙ ap (λ xs. xs ++ more)
+    (c.in_ok-supby.ensures.items ∙ c.as_slice.ensures.items ∙ ap (λ (e : Entry). e.supby) c.old.view_is))
+    c.from_vec-supby.ensures)
     c.delby-delby.ensures)

@@ -1,16 +1,64 @@
-use Rattle.std.proofs.Common.{◌∙◌, subst, arith}
+use Rattle.std.proofs.Common.{◌∙◌, sym, ap, subst, subst₂, arith}
+use Rattle.std.specs.Prelude.{if◌then◌else◌}
 use Rattle.std.proofs.lemmas.List.{take_all}
-use Rattle.change.specs.Entries.{HasPutEntries}
+use Rattle.sorted.specs.declared.edits.Edit.TheVariants.{Put, Remove}
+use Rattle.zones.specs.Differing.{AddsEntryEdit}
+use Rattle.change.specs.Entries.{IsEntryAfter, IsMadeEntry, HasPutEntries}
+use Rattle.change.proofs.Made.{after_applied, after_other}
 use Rattle.change.proofs.Put.{put_none, put_next}
+use Rattle.change.proofs.entries.put_entries.Goals.{After-attest-in-loop-id}
+use Rattle.change.proofs.entries.put_entries.Goals.{then-contains+in_ok-entry, else-contains+in_ok-entry-2}
+use Rattle.change.proofs.entries.put_entries.Goals.{then-has_content+in_ok-put_entry}
+use Rattle.change.proofs.entries.put_entries.Goals.{else-has_content+in_ok-remove_entry}
 use Rattle.change.proofs.entries.put_entries.Goals as goal
 
 pub loop-id-init : goal.loop-id-init
 loop-id-init c = put_none c.args.deleting.now c.args.plan.now c.args.delta.now c.requires.empty
 
+-- the entry is what the install makes of it
+is_after : (c : After-attest-in-loop-id) → IsEntryAfter c.args.deleting.now c.args.plan.now c.id-item.result
+    c.if-contains.entry
+is_after c =
+    let d = c.args.deleting.now in
+    let p = c.args.plan.now in
+    let x = c.id-item.result in
+    elim c.if-contains.branch [
+      | then-contains+in_ok-entry w ↦ subst (IsEntryAfter d p x) (sym w.entry-is)
+          (after_applied d p x _ (sym c.contains.ensures ∙ w.if-contains.true) w.in_ok-entry.ensures)
+      | else-contains+in_ok-entry-2 w ↦ subst (IsEntryAfter d p x) (sym w.entry-is)
+          (after_other d p x _ c.attest.ensures (sym c.contains.ensures ∙ w.if-contains.false) w.in_ok-entry-2.ensures)
+    ]
+
+pub put_entry-requires-clause-waived : goal.put_entry-requires-clause-waived
+put_entry-requires-clause-waived c =
+    (is_after (goal.at.put_entry-requires-clause-waived c).After-attest-in-loop-id).waives
+
 pub loop-id-preserved : goal.loop-id-preserved
 loop-id-preserved c =
-    put_next c.args.deleting.now c.args.plan.now c.as_slice-id-items.result.now c.loop-id.id-index c.id-item.result
-    c.args.delta.now c.loop-id.delta c.put_one.new.delta (omega arith) c.id-item.is c.in_ok-put_one.ensures
+    let d = c.args.deleting.now in
+    let p = c.args.plan.now in
+    let x = c.id-item.result in
+    let e = c.if-contains.entry in
+    let made : IsMadeEntry d p x e = record {
+      after = is_after (goal.at.loop-id-preserved c).After-attest-in-loop-id;
+      supby = c.attest-in-loop-id.ensures.0;
+      waived = c.attest-in-loop-id.ensures.1;
+    } in
+    put_next d p c.as_slice-id-items.result.now c.loop-id.id-index x c.args.delta.now c.loop-id.delta
+    c.if-has_content.delta (omega arith) c.id-item.is (
+      e,
+      made,
+      elim c.if-has_content.branch [
+        | then-has_content+in_ok-put_entry w ↦
+            subst₂ (λ v delta. AddsEntryEdit d.zone.now v c.loop-id.delta delta)
+            (sym (ap (λ b. if b then Put e else Remove x) (sym c.has_content.ensures ∙ w.if-has_content.true)))
+            (sym w.delta-is) w.in_ok-put_entry.ensures
+        | else-has_content+in_ok-remove_entry w ↦
+            subst₂ (λ v delta. AddsEntryEdit d.zone.now v c.loop-id.delta delta)
+            (sym (ap (λ b. if b then Put e else Remove x) (sym c.has_content.ensures ∙ w.if-has_content.false)))
+            (sym w.delta-is) w.in_ok-remove_entry.ensures
+      ],
+    )
     c.loop-id.invariant
 
 pub returns : goal.returns

@@ -1,4 +1,4 @@
-use Rattle.std.proofs.Common.{◌≡◌, ◌-◌, ℕ, List, length, take, drop, inr, All, AllPairs, Any, IsTrue, subst, sym, arith}
+use Rattle.std.proofs.Common.{◌≡◌, ◌-◌, ℕ, List, length, take, drop, inr, All, AllPairs, Any, IsTrue, subst, sym, ap, ◌∙◌, arith}
 use Rattle.std.proofs.Common.{None, Some}
 use Rattle.std.specs.Option.{option_copied}
 use Rattle.std.proofs.lemmas.List.{take_all, length-drop}
@@ -8,7 +8,7 @@ use Rattle.sysmods.specs.Choices.{choice}
 use Rattle.terms.specs.Changes.{has_replacement}
 use Rattle.terms.specs.Lookups.{has_change}
 use Rattle.terms.specs.Over.{IsOver}
-use Rattle.terms.specs.Types.{Id}
+use Rattle.terms.specs.Types.{Id, Element}
 use Rattle.change.specs.Folding.{IsFolded}
 use Rattle.change.proofs.ChosenVers.{not_over_itself}
 use Rattle.change.proofs.FoldEnd.{folded_after, folded_behind}
@@ -48,8 +48,8 @@ returns-in-Some-clause-element c =
     (behind c.in-Some.place xs) fold)) i are)
     c.folded.ensures.folded
 
-pub returns-in_ok-copy_of-in-None-clause-element : goal.returns-in_ok-copy_of-in-None-clause-element
-returns-in_ok-copy_of-in-None-clause-element c =
+pub returns-in_ok-copy-in-None-clause-element : goal.returns-in_ok-copy-in-None-clause-element
+returns-in_ok-copy-in-None-clause-element c =
     let g = c.args.vers.now.global.now in
     let chosen = choice c.args.vers.now in
     let xs = c.args.changers.now in
@@ -57,6 +57,7 @@ returns-in_ok-copy_of-in-None-clause-element c =
     IfOk-weaker c.folded-in-None.result _ _
     (λ e fold. λ i are. folded_after g chosen c.args.elem_type c.args.name xs base e c.requires.order
     (not_over_itself c.args.vers.now (rw c.global.ensures at c.attest.ensures))
-    (subst (λ o. IsFolded g chosen c.args.elem_type c.args.name xs o (Some e)) c.in_ok-copy_of-in-None.ensures.same
+    (subst (λ o. IsFolded g chosen c.args.elem_type c.args.name xs o (Some e))
+    (ap (λ (e : Element). Some e) c.in_ok-copy-in-None.ensures ∙ sym (ap option_copied c.unwrap-base.ensures))
     fold) i are)
     c.folded-in-None.ensures.folded

@@ -1,7 +1,11 @@
 use Rattle.std.proofs.Common.{take}
-use Rattle.change.specs.Grouping.{AreByElement}
+use Rattle.change.specs.Grouping.{AddsBy, AreByElement}
 use Rattle.change.proofs.grouping.changes_by_element.Given as goal
 
 -- the SYSMODs so far are added
 abbrev pub invariant-loop-id : goal.invariant-loop-id
 invariant-loop-id l = AreByElement l.global (take l.id-index l.ids) l.changers
+
+-- the SYSMOD is added by the statements so far
+abbrev pub invariant-loop-change : goal.invariant-loop-change
+invariant-loop-change l = AddsBy l.id (take l.change-index l.change-items) l.initial.changers l.changers

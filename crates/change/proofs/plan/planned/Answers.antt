@@ -1,10 +1,11 @@
-use Rattle.std.proofs.Common.{◌∙◌, ◌++◌, ap₂, sym, subst, map}
+use Rattle.std.proofs.Common.{◌++◌, ap₂, sym, subst, map}
 use Rattle.std.specs.Prelude.{◌↔◌, Contains}
 use Rattle.terms.specs.Types.{Id}
 use Rattle.terms.specs.Global.{IsGlobal}
 use Rattle.terms.specs.Install.{Installation, TakesEffect}
 use Rattle.sysmods.specs.Choices.{choice}
-use Rattle.change.specs.Pairs.{AreGroupedBack}
+use Rattle.change.specs.Deleting.{at_stake}
+use Rattle.change.specs.Pairs.{AreGrouped}
 use Rattle.change.specs.Plans.{installation_of, IsPlan}
 use Rattle.change.proofs.ChosenVers.{looked_up, never_itself}
 use Rattle.change.proofs.Planned.{is_plan}
@@ -16,29 +17,28 @@ returns c =
     let vers = c.args.vers.now in
     let i : Installation = installation_of vers c.args.installing.now in
     let dels = c.args.dels.now in
-    let effective = c.in_ok-effective.field-0.ids in
+    let effective = c.in_ok-ids.field-0.ids in
     let touched = c.in_ok-touched.touched in
-    let pairs = c.in_ok-effective.field-0.superseded.items in
+    let pairs = c.in_ok-ids.field-0.superseded.items in
     let is_global : IsGlobal vers.global.now = rw c.global.ensures at c.attest.ensures in
     let never = never_itself vers.global.now vers.srel (choice vers) (looked_up vers) is_global.no_loop in
     let effect : (x : Id) → Contains effective x ↔ TakesEffect i x = λ x.
-    let un = c.in_ok-effective.ensures.ids x in
+    let un = c.in_ok-ids.ensures.ids x in
     let takes = takes_effect i never x in
     (λ h. takes.0 (un.0 h), λ h. un.1 (takes.1 h)) in
     subst (λ xs. IsPlan i dels (record {
       effective = xs;
-      superseders = c.in_ok-grouped_by_second.field-0;
-      bypassed = c.in_ok-grouped.field-0;
+      superseders = c.in_ok-grouped.field-0;
+      bypassed = c.in_ok-grouped-2.field-0;
       touched = touched;
       date = i.date;
-    })) (sym c.effective.view_is)
-    (is_plan i dels effective touched pairs c.in_ok-grouped_by_second.field-0
-    c.in_ok-grouped.field-0 effect c.in_ok-effective.ensures.superseded
+    })) (sym c.ids.view_is)
+    (is_plan i dels effective touched pairs c.in_ok-grouped.field-0
+    c.in_ok-grouped-2.field-0 effect c.in_ok-ids.ensures.superseded
     (subst (λ ids. (x : Id) → Contains touched x ↔ Contains ids x)
-    (ap₂ (λ xs ys. xs ++ ys)
-    (ap₂ (λ xs ys. map (λ p. p.1) xs ++ ys) c.as_slice-2.ensures.value c.as_slice.ensures.items)
-    (c.deref.ensures.value ∙ c.in_ok-at_stake.ensures))
+    (ap₂ (λ xs ys. (map (λ p. p.0) xs ++ ys) ++ at_stake i.zone dels) c.as_slice-2.ensures.value
+    c.as_slice.ensures.items)
     c.in_ok-touched.ensures)
-    (subst (λ ps. AreGroupedBack ps c.in_ok-grouped_by_second.field-0) c.as_slice-3.ensures.value
-    c.in_ok-grouped_by_second.ensures)
+    (subst (λ ps. AreGrouped ps c.in_ok-grouped.field-0) c.as_slice-3.ensures.value
     c.in_ok-grouped.ensures)
+    c.in_ok-grouped-2.ensures)
