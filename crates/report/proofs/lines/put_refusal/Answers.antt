@@ -1,10 +1,10 @@
 use Rattle.report.proofs.lines.put_refusal.Goals as goal
 
-pub returns-in-Ptfin : goal.returns-in-Ptfin
-returns-in-Ptfin g c = rw c.in-Ptfin.is c.put_fault.ensures
+pub returns-in-BadPtfin : goal.returns-in-BadPtfin
+returns-in-BadPtfin g c = rw c.in-BadPtfin.is c.put_fault.ensures
 
-pub returns-in-HoldFile : goal.returns-in-HoldFile
-returns-in-HoldFile g c = rw c.in-HoldFile.is c.put_fault-in-HoldFile.ensures
+pub returns-in-BadHoldFile : goal.returns-in-BadHoldFile
+returns-in-BadHoldFile g c = rw c.in-BadHoldFile.is c.put_fault-in-BadHoldFile.ensures
 
 pub returns-in-NoBoundary : goal.returns-in-NoBoundary
 returns-in-NoBoundary g c = rw c.in-NoBoundary.is c.put.ensures.paged
