@@ -40,8 +40,8 @@ impl<'a, 'b> Deleting<'a, 'b> {
         }
     }
 
-    /// Of a function that is taken out, the first kept one whose DELETE meets its chain. Of any other id, the first that
-    /// names it.
+    /// Of a function that is taken out, the first kept one whose DELETE meets its chain. Of any other id, the first
+    /// that names it.
     fn first_deleter(&self, id: Id) -> Option<Id>
         requires { AreDeletions self.now }
         ensures { result ≡ first_deleter self.now id }

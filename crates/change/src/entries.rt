@@ -13,8 +13,8 @@ use std::alloc::{AllocError, Global};
 use zones::{Applied, Entry, ZoneDelta};
 use zones_views::supplies_left;
 
-/// Puts the entries that the install makes of those that it may change. One that stays as it is is not put, and one that
-/// nothing holds goes.
+/// Puts the entries that the install makes of those that it may change. One that stays as it is is not put, and one
+/// that nothing holds goes.
 pub(crate) fn put_entries(
     alloc: Global,
     deleting: &Deleting,

@@ -99,7 +99,8 @@ fn folded(
     requires rising { IfSome start (λ e. IsRising e.umids) }
     requires changers { All (λ x. IsTrue (has_change vers.now.global.now x elem_type name)) changers.now }
     requires order { AllPairs (λ x y. IsOver (choice vers.now) y x) changers.now }
-    requires some { IsSome start ⊎ Any (λ x. IsTrue (has_replacement vers.now.global.now x elem_type name)) changers.now }
+    requires some { IsSome start
+        ⊎ Any (λ x. IsTrue (has_replacement vers.now.global.now x elem_type name)) changers.now }
     ensures key { IfOk result (λ e. (e.elem_type ≡ elem_type) × (e.name ≡ name)) }
     ensures folded { IfOk result
         (λ e. IsFolded vers.now.global.now (choice vers.now) elem_type name changers.now start (Some e)) }

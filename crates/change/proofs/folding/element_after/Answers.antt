@@ -1,4 +1,5 @@
-use Rattle.std.proofs.Common.{◌≡◌, ◌-◌, ℕ, List, length, take, drop, inr, All, AllPairs, Any, IsTrue, subst, sym, ap, ◌∙◌, arith}
+use Rattle.std.proofs.Common.{◌≡◌, ◌-◌, ◌∙◌, ℕ, List, length, take, drop, inr, All, AllPairs, Any, IsTrue, subst, sym}
+use Rattle.std.proofs.Common.{ap, arith}
 use Rattle.std.proofs.Common.{None, Some}
 use Rattle.std.specs.Option.{option_copied}
 use Rattle.std.proofs.lemmas.List.{take_all, length-drop}
@@ -22,12 +23,14 @@ behind p xs = take_all (length xs - p) (drop p xs) (omega (arith, length-drop p 
 pub folded-requires-clause-changers : goal.folded-requires-clause-changers
 folded-requires-clause-changers c =
     let P : Id → Type 0 = λ x. IsTrue (has_change c.args.vers.now.global.now x c.args.elem_type c.args.name) in
-    subst (All P) (sym (behind c.in-Some.place c.args.changers.now)) (All-drop P c.in-Some.place c.args.changers.now c.requires.changers)
+    subst (All P) (sym (behind c.in-Some.place c.args.changers.now))
+    (All-drop P c.in-Some.place c.args.changers.now c.requires.changers)
 
 pub folded-requires-clause-order : goal.folded-requires-clause-order
 folded-requires-clause-order c =
     let R : Id → Id → Type 0 = λ x y. IsOver (choice c.args.vers.now) y x in
-    subst (AllPairs R) (sym (behind c.in-Some.place c.args.changers.now)) (pairs_drop R c.in-Some.place c.args.changers.now c.requires.order)
+    subst (AllPairs R) (sym (behind c.in-Some.place c.args.changers.now))
+    (pairs_drop R c.in-Some.place c.args.changers.now c.requires.order)
 
 pub folded-requires-clause-some : goal.folded-requires-clause-some
 folded-requires-clause-some c =
