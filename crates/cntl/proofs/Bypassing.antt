@@ -1,5 +1,5 @@
 -- The members of BYPASS, and why there are none.
-use Rattle.std.proofs.Common.{◌≡◌, false, List, [], get_or, Option, Some, None, sym, ◌∙◌, ap, subst}
+use Rattle.std.proofs.Common.{◌≡◌, Bool, false, List, map, [], get_or, Option, Some, None, sym, ◌∙◌, ap, subst}
 use Rattle.std.specs.Prelude.{All, Contains, IsSomeAnd, codes}
 use Rattle.std.specs.List.{list_any}
 use Rattle.std.proofs.lemmas.Bool.{or_parts}
@@ -16,6 +16,7 @@ use Rattle.terms.specs.Commands.{runs_from, runs_in, has_double}
 use Rattle.terms.specs.Operands.{list_behind, is_often}
 use Rattle.terms.proofs.BypassMembers.{behind_operand}
 use Rattle.terms.proofs.ExactBypass.{are_members}
+use Rattle.terms.proofs.Searches.{list_any_map}
 use Rattle.rec80.specs.Left.{AreNamed}
 use Rattle.cntl.specs.Singles.{AreSingle}
 use Rattle.terms.proofs.Reasons.{class_of}
@@ -27,6 +28,11 @@ single_words w pieces ws h single =
     ap (λ l. list_any (is_often 2 (runs_in l)) (members_of w)) (sym (ap (list_behind (codes "BYPASS")) h
     ∙ behind_operand (codes "BYPASS") ws))
     ∙ (or_parts _ (list_any (is_often 2 (runs_in (list_behind (codes "BYPASS") pieces))) (members_of w)) single).1
+
+-- whether a name of a list passes a test
+pub any_named : {X : Type 0} (test : Text → Bool) (text : X → Text) (xs : List X) (names : List Text)
+    → map text xs ≡ names → list_any (λ x. test (text x)) xs ≡ list_any test names
+any_named test text xs names named = sym (list_any_map test text xs) ∙ ap (list_any test) named
 
 module _ (kind : HoldKind) where
   list_classes : (list : Option Text) (vs : List Text) → IsSomeAnd list (λ text. IsListOf (IsReason kind) text vs)

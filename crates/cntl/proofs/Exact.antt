@@ -1,8 +1,8 @@
--- A file that is commands has no fault, and one that has a fault is no commands.
+-- A file that is commands has no fault.
 use Rattle.std.proofs.Common.{◌≡◌, ℕ, List, refl}
-use Rattle.std.specs.Prelude.{Result, Ok, Err, IfOk, IfErr, OnOk}
+use Rattle.std.specs.Prelude.{Result, Ok, Err, IfErr}
 use Rattle.terms.specs.Types as terms
-use Rattle.terms.specs.Commands.{CntlFault, IsCommandFile, IsCommandFileFault}
+use Rattle.terms.specs.Commands.{IsCommandFile}
 use Rattle.terms.proofs.ExactCommandFiles.{fault_no_file}
 use Rattle.cntl.specs.declared.errors.CntlError.{CntlError}
 use Rattle.cntl.specs.declared.errors.CntlError.TheVariants.{Memory, Fault}
@@ -14,8 +14,3 @@ good_file bytes (Ok x) fails cs is = tt
 good_file bytes (Err Memory) fails cs is = refl
 good_file bytes (Err (Fault number code)) fails cs is = absurd
     (fault_no_file bytes cs (record { number = number; code = code }) is fails)
-
-pub faulty_file : {T : Type 0} (bytes : List ℕ) (r : Result T CntlError) (view : T → List terms.Command)
-    → IfOk r (λ x. IsCommandFile bytes (view x)) → (fault : CntlFault) → IsCommandFileFault bytes fault → OnOk r ⊥
-faulty_file bytes (Ok x) view is fault f = fault_no_file bytes (view x) fault is f
-faulty_file bytes (Err e) view is fault f = tt

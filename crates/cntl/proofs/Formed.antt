@@ -1,12 +1,12 @@
 -- The parts of what a command has, and why it has none.
-use Rattle.std.proofs.Common.{◌≡◌, true, List, None, subst}
-use Rattle.std.specs.Prelude.{codes, IsSomeAnd}
+use Rattle.std.proofs.Common.{◌≡◌, true, List}
+use Rattle.std.specs.Prelude.{codes}
 use Rattle.terms.specs.declared.codes.CommandWord.TheVariants as word
 use Rattle.terms.specs.Types.{Text, Install, Command, Reject, Apply, Accept, Restore, Report}
-use Rattle.terms.specs.Types.{RestoreList, RestoreSelect, RestoreGroup}
+use Rattle.terms.specs.Types.{RestoreList}
 use Rattle.terms.specs.Forms.{IsId}
 use Rattle.terms.specs.Words.{Word}
-use Rattle.terms.specs.Operands.{operand, HasFlag, HasSorted}
+use Rattle.terms.specs.Operands.{operand, HasFlag}
 use Rattle.terms.specs.CommandForms.{HasSome, HasInstall, HasRestoreList, HasOperands, command_word}
 
 -- what a command of each word has
@@ -34,18 +34,3 @@ pub of_report : (ws : List Word) (c : Command) → command_word c ≡ word.Repor
     → HasFlag (operand (codes "ERRSYSMODS") ws) true
 of_report ws Report e h = h
 of_report ws c e h = absurd (cc (e))
-
-module _ (ws : List Word) where
-  none_there : (name : Text) (ids : List Text) → operand name ws ≡ None → HasSome IsId (operand name ws) ids → ⊥
-  none_there name ids none h = subst (λ o. IsSomeAnd o (λ w. HasSorted IsId w ids)) none h.0
-
-  -- Of two lists one is there.
-  pub by_select : operand (codes "GROUP") ws ≡ None → (list : RestoreList) × HasRestoreList ws list
-      → (ids : List Text) × HasSome IsId (operand (codes "SELECT") ws) ids
-  by_select none (RestoreSelect ids, h) = (ids, h.1)
-  by_select none (RestoreGroup ids, h) = absurd (none_there (codes "GROUP") ids none h.1)
-
-  pub by_group : operand (codes "SELECT") ws ≡ None → (list : RestoreList) × HasRestoreList ws list
-      → (ids : List Text) × HasSome IsId (operand (codes "GROUP") ws) ids
-  by_group none (RestoreSelect ids, h) = absurd (none_there (codes "SELECT") ids none h.1)
-  by_group none (RestoreGroup ids, h) = (ids, h.1)

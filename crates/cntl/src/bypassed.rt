@@ -1,14 +1,11 @@
 //! The operand BYPASS and its members.
-ghost use Rattle.std.specs.Prelude.{◌≡◌, ◌↔◌, ℕ, Bool, false, List, [], All, IsTrue, codes, IfOk, IfErr, OnErr};
-ghost use Rattle.std.specs.List.{list_any};
+ghost use Rattle.std.specs.Prelude.{◌↔◌, ℕ, Bool, List, IsTrue, codes, IfOk, IfErr, OnErr};
 ghost use Rattle.terms.specs.Types as terms;
 ghost use Rattle.terms.specs.Forms.{IsClass, IsReason};
 ghost use Rattle.terms.specs.Words as grammar;
 ghost use Rattle.terms.specs.Words.{HasMembers, IsShort};
 ghost use Rattle.terms.specs.Operands.{operand, HasFlag, HasSorted};
-ghost use Rattle.terms.specs.CommandForms.{members_of, HasShort, HasReasons, HasBypassed, IsBypassList, HasBypass};
-ghost use Rattle.terms.specs.Commands.{runs_from};
-ghost use Rattle.terms.specs.Operands.{is_often};
+ghost use Rattle.terms.specs.CommandForms.{members_of, HasShort, HasReasons, HasBypassed, HasBypass};
 ghost use Rattle.rec80.specs.Cursors.{text_of};
 ghost use Rattle.rec80.specs.Views.{word_of, words_of};
 ghost use Rattle.rec80.specs.Failing.{Excludes};
@@ -41,29 +38,14 @@ fn suits_kind(kind: HoldKind, reason: Reason) -> bool
     }
 }
 
-/// Whether each is a reason of holds of the kind.
-fn suit_kind(kind: HoldKind, reasons: &ReasonList) -> bool
-    ensures { IsTrue result ↔ All (IsReason kind) reasons.now }
-{
-    reasons.iter().all(|reason| suits_kind(kind, *reason))
-}
-
-fn class_reasons(alloc: Global, member: &Word<'_>) -> Result<ReasonList, OperandError>
-    ensures ok { IfOk result (λ list. HasSorted IsClass (word_of member.now) list × IsShort list) }
-    ensures bad { IfErr result (λ e. Excludes e ((values : List (List ℕ))
-        × (HasSorted IsClass (word_of member.now) values × IsShort values))) }
-{
-    short_list::<Reason>(alloc, member)
-}
-
 /// The reasons in the list of a member, which are those of holds of the kind.
 fn reason_list(alloc: Global, kind: HoldKind, member: &Word<'_>) -> Result<ReasonList, OperandError>
     ensures ok { IfOk result (λ list. HasSorted (IsReason kind) (word_of member.now) list × IsShort list) }
     ensures bad { IfErr result (λ e. Excludes e ((values : List (List ℕ))
         × (HasSorted (IsReason kind) (word_of member.now) values × IsShort values))) }
 {
-    let reasons = class_reasons(alloc, member)?;
-    if !suit_kind(kind, &reasons) {
+    let reasons = short_list::<Reason>(alloc, member)?;
+    if !reasons.iter().all(|reason| suits_kind(kind, *reason)) {
         return Err(OperandError::Bad);
     }
     Ok(reasons)
@@ -90,14 +72,6 @@ fn reasons(
     Ok(Reasons::These(reason_list(alloc, kind, &member)?))
 }
 
-fn class_list(alloc: Global, member: &Word<'_>) -> Result<ClassList, OperandError>
-    ensures ok { IfOk result (λ list. HasSorted IsClass (word_of member.now) list × IsShort list) }
-    ensures bad { IfErr result (λ e. Excludes e ((values : List (List ℕ))
-        × (HasSorted IsClass (word_of member.now) values × IsShort values))) }
-{
-    short_list::<Class>(alloc, member)
-}
-
 fn classes(alloc: Global, list: &Text<'_>) -> Result<ClassList, OperandError>
     ensures ok { (ms : List grammar.Word) → HasMembers (text_of list.now) ms
         → IfOk result (λ classes. HasShort IsClass (operand (codes "HOLDCLASS") ms) classes) }
@@ -105,7 +79,7 @@ fn classes(alloc: Global, list: &Text<'_>) -> Result<ClassList, OperandError>
         ((classes : List (List ℕ)) × HasShort IsClass (operand (codes "HOLDCLASS") ms) classes)) }
 {
     match named_member(list, b"HOLDCLASS") {
-        Some(member) => class_list(alloc, &member),
+        Some(member) => short_list::<Class>(alloc, &member),
         None => Ok(ClassList::new(alloc)),
     }
 }
@@ -129,19 +103,6 @@ fn bypassed(alloc: Global, list: &Text<'_>) -> Result<Bypass, OperandError>
     })
 }
 
-/// What the list of BYPASS says, of whose members none is there twice.
-fn bypass_list(alloc: Global, word: CommandWord, list: &Text<'_>) -> Result<Bypass, OperandError>
-    ensures ok { list_any (is_often 2 (runs_from false [] (text_of list.now))) (members_of word)
-        ≡ false → IfOk result (λ b. IsBypassList word (text_of list.now) b) }
-    ensures bad { IfErr result (λ e. Excludes e ((b : terms.Bypass)
-        × IsBypassList word (text_of list.now) b)) }
-{
-    if !are_members(members_of(word), list) {
-        return Err(OperandError::Bad);
-    }
-    bypassed(alloc, list)
-}
-
 /// What BYPASS says, of whose members none is there twice. Where it is absent, nothing is bypassed. `Memory` comes
 /// where memory runs out, `Bad` where BYPASS is there and has no list, or one with a member that the command's BYPASS
 /// has not, or has in another form.
@@ -157,5 +118,8 @@ pub fn bypass(alloc: Global, word: CommandWord, words: &[Word<'_>]) -> Result<By
     let Some(list) = found.list else {
         return Err(OperandError::Bad);
     };
-    bypass_list(alloc, word, &list)
+    if !are_members(members_of(word), &list) {
+        return Err(OperandError::Bad);
+    }
+    bypassed(alloc, &list)
 }

@@ -46,9 +46,14 @@ fn read_next(alloc: Global, left: &mut Commands<'_>) -> Result<Option<Command>, 
     }
 }
 
-fn read_all(alloc: Global, bytes: &[u8]) -> Result<Vec<Command>, CntlError>
+/// The commands of a command file. `Memory` comes where memory runs out. `Fault` is `BadCommandForm` at the first bad
+/// record, wherever it stands; else the fault of the first faulty command, at the record where this begins:
+/// `BadCommandForm` also where its form is at fault, or where a comment between commands is not closed.
+pub fn read_cntl(alloc: Global, bytes: &[u8]) -> Result<Vec<Command>, CntlError>
     ensures commands { IfOk result (λ read. IsCommandFile bytes.now (map command_of read.items)) }
+    ensures good { (cs : List terms.Command) → IsCommandFile bytes.now cs → IfErr result (λ e. e ≡ CntlError.Memory) }
     ensures fault { IfErr result (λ e. FailsFile bytes.now e) }
+    ensures faulty { (fault : CntlFault) → IsCommandFileFault bytes.now fault → OnOk result ⊥ }
 {
     let file = match records(bytes) {
         Ok(file) => file,
@@ -65,16 +70,4 @@ fn read_all(alloc: Global, bytes: &[u8]) -> Result<Vec<Command>, CntlError>
         read.push(command)?;
     }
     Ok(read)
-}
-
-/// The commands of a command file. `Memory` comes where memory runs out. `Fault` is `BadCommandForm` at the first bad
-/// record, wherever it stands; else the fault of the first faulty command, at the record where this begins:
-/// `BadCommandForm` also where its form is at fault, or where a comment between commands is not closed.
-pub fn read_cntl(alloc: Global, bytes: &[u8]) -> Result<Vec<Command>, CntlError>
-    ensures commands { IfOk result (λ read. IsCommandFile bytes.now (map command_of read.items)) }
-    ensures good { (cs : List terms.Command) → IsCommandFile bytes.now cs → IfErr result (λ e. e ≡ CntlError.Memory) }
-    ensures fault { IfErr result (λ e. FailsFile bytes.now e) }
-    ensures faulty { (fault : CntlFault) → IsCommandFileFault bytes.now fault → OnOk result ⊥ }
-{
-    read_all(alloc, bytes)
 }

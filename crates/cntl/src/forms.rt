@@ -1,7 +1,7 @@
 //! The operands of each command.
-ghost use Rattle.std.specs.Prelude.{◌≡◌, true, codes, IfOk, IfErr, OnErr};
+ghost use Rattle.std.specs.Prelude.{◌≡◌, IfOk, IfErr, OnErr};
 ghost use Rattle.terms.specs.Types as terms;
-ghost use Rattle.terms.specs.Operands.{operand, HasFlag};
+ghost use Rattle.terms.specs.Operands.{operand};
 ghost use Rattle.terms.specs.CommandForms.{HasReceive, HasSelection, HasInstall, HasRestoreList, HasOperands};
 ghost use Rattle.terms.specs.CommandForms.{command_word};
 ghost use Rattle.rec80.specs.Views.{words_of};
@@ -12,9 +12,9 @@ ghost use Rattle.cntl.specs.Singles.{AreSingle};
 
 use crate::bypassed::bypass;
 use crate::command::{Command, Install};
-use crate::values::{flag_of, id_list, is_absent, some_ids, source_list, zone};
-use fields::{ReceiveWhat, RestoreList, Selection, Source};
-use rec80::{BadOperand, OperandError, Word, optional};
+use crate::values::{flag_of, optional_list, short_list, some_ids};
+use fields::{Id, ReceiveWhat, RestoreList, Selection, Source, ZoneName};
+use rec80::{BadOperand, OperandError, Word, operand, optional, required};
 use std::alloc::Global;
 use terms::CommandWord;
 
@@ -32,17 +32,6 @@ fn receive(words: &[Word<'_>]) -> Result<ReceiveWhat, BadOperand>
     })
 }
 
-/// Whether REPORT names what it reports.
-fn errsysmods(words: &[Word<'_>]) -> Result<(), BadOperand>
-    ensures ok { IfOk result (λ _. HasFlag (operand (codes "ERRSYSMODS") (words_of words.now)) true) }
-    ensures bad { OnErr result (HasFlag (operand (codes "ERRSYSMODS") (words_of words.now)) true → ⊥) }
-{
-    if !flag_of(words, b"ERRSYSMODS")? {
-        return Err(BadOperand);
-    }
-    Ok(())
-}
-
 fn selection(alloc: Global, words: &[Word<'_>]) -> Result<Selection, OperandError>
     ensures ok { IfOk result (λ s. HasSelection (words_of words.now) s) }
     ensures bad { IfErr result (λ e. Excludes e ((s : terms.Selection) × HasSelection (words_of words.now) s)) }
@@ -52,11 +41,11 @@ fn selection(alloc: Global, words: &[Word<'_>]) -> Result<Selection, OperandErro
     let apars = flag_of(words, b"APARS")?;
     let usermods = flag_of(words, b"USERMODS")?;
     let groupextend = flag_of(words, b"GROUPEXTEND")?;
-    let select = id_list(alloc, words, b"SELECT")?;
-    let exclude = id_list(alloc, words, b"EXCLUDE")?;
-    let sourceid = source_list(alloc, words, b"SOURCEID")?;
-    let forfmid = id_list(alloc, words, b"FORFMID")?;
-    let group = id_list(alloc, words, b"GROUP")?;
+    let select = optional_list::<Id>(alloc, words, b"SELECT")?;
+    let exclude = optional_list::<Id>(alloc, words, b"EXCLUDE")?;
+    let sourceid = optional_list::<Source>(alloc, words, b"SOURCEID")?;
+    let forfmid = optional_list::<Id>(alloc, words, b"FORFMID")?;
+    let group = optional_list::<Id>(alloc, words, b"GROUP")?;
     Ok(Selection {
         functions,
         ptfs,
@@ -85,19 +74,17 @@ fn install(alloc: Global, word: CommandWord, words: &[Word<'_>]) -> Result<Insta
     })
 }
 
-/// The ids of SELECT or of GROUP, where not both are there.
+/// The ids of SELECT or of GROUP, of which one is there and not both.
 fn restore_list(alloc: Global, words: &[Word<'_>]) -> Result<RestoreList, OperandError>
     ensures ok { IfOk result (λ list. HasRestoreList (words_of words.now) (restore_list_of list)) }
     ensures bad { IfErr result (λ e. Excludes e ((list : terms.RestoreList)
         × HasRestoreList (words_of words.now) list)) }
 {
-    if is_absent(words, b"GROUP") {
-        return Ok(RestoreList::Select(some_ids(alloc, words, b"SELECT")?));
+    match (operand(words, b"SELECT"), operand(words, b"GROUP")) {
+        (Some(ids), None) => Ok(RestoreList::Select(short_list::<Id>(alloc, &ids)?)),
+        (None, Some(ids)) => Ok(RestoreList::Group(short_list::<Id>(alloc, &ids)?)),
+        _ => Err(OperandError::Bad),
     }
-    if is_absent(words, b"SELECT") {
-        return Ok(RestoreList::Group(some_ids(alloc, words, b"GROUP")?));
-    }
-    Err(OperandError::Bad)
 }
 
 /// The command of this word and of the operands that are left, which are known ones. No member of BYPASS is there
@@ -115,7 +102,10 @@ pub fn read_operands(
         × HasOperands (words_of words.now) c))) }
 {
     match word {
-        CommandWord::Set => Ok(Command::Set(zone(words)?)),
+        CommandWord::Set => match required::<ZoneName>(words, b"BDY") {
+            Some(zone) => Ok(Command::Set(zone)),
+            None => Err(OperandError::Bad),
+        },
         CommandWord::Receive => Ok(Command::Receive(receive(words)?)),
         CommandWord::Reject => Ok(Command::Reject(some_ids(alloc, words, b"SELECT")?)),
         CommandWord::Apply => Ok(Command::Apply(install(alloc, CommandWord::Apply, words)?)),
@@ -128,7 +118,9 @@ pub fn read_operands(
             text: flag_of(words, b"TEXT")?,
         }),
         CommandWord::Report => {
-            errsysmods(words)?;
+            if !flag_of(words, b"ERRSYSMODS")? {
+                return Err(OperandError::Bad);
+            }
             Ok(Command::Report)
         }
     }

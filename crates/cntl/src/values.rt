@@ -1,14 +1,14 @@
 //! The values of single operands.
-ghost use Rattle.std.specs.Prelude.{◌≡◌, ◌↔◌, ℕ, Bool, None, List, IsTrue, codes, map, IfOk, IfErr, OnErr};
-ghost use Rattle.terms.specs.Forms.{IsId, IsSource, IsZoneName};
+ghost use Rattle.std.specs.Prelude.{ℕ, Bool, List, map, IfOk, IfErr, OnErr};
+ghost use Rattle.terms.specs.Forms.{IsId};
 ghost use Rattle.terms.specs.Words.{IsShort};
-ghost use Rattle.terms.specs.Operands.{operand, HasFlag, HasSorted, HasRequired};
+ghost use Rattle.terms.specs.Operands.{operand, HasFlag, HasSorted};
 ghost use Rattle.terms.specs.CommandForms.{HasShort, HasSome};
 ghost use Rattle.rec80.specs.Views.{word_of, words_of};
 ghost use Rattle.rec80.specs.Failing.{Excludes};
 
-use fields::{Id, IdList, Rising, Source, SourceList, ZoneName};
-use rec80::{BadOperand, Member, OperandError, Word, flag, operand, required, rising};
+use fields::{Id, IdList, Rising};
+use rec80::{BadOperand, Member, OperandError, Word, flag, operand, rising};
 use std::alloc::Global;
 
 /// How many members a list may have.
@@ -21,25 +21,6 @@ pub fn flag_of(words: &[Word<'_>], name: &[u8]) -> Result<bool, BadOperand>
         → HasFlag (operand name.now (words_of words.now)) flag → ⊥) }
 {
     flag(&operand(words, name))
-}
-
-/// Whether there is no operand of that name.
-pub fn is_absent(words: &[Word<'_>], name: &[u8]) -> bool
-    ensures { IsTrue result ↔ (operand name.now (words_of words.now) ≡ None) }
-{
-    operand(words, name).is_none()
-}
-
-/// The zone that SET names. The error comes where there is no BDY with a list of one zone name.
-pub fn zone(words: &[Word<'_>]) -> Result<ZoneName, BadOperand>
-    ensures ok { IfOk result (λ zone. HasRequired IsZoneName (operand (codes "BDY") (words_of words.now)) zone) }
-    ensures bad { OnErr result ((zone : List ℕ)
-        → HasRequired IsZoneName (operand (codes "BDY") (words_of words.now)) zone → ⊥) }
-{
-    match required::<ZoneName>(words, b"BDY") {
-        Some(zone) => Ok(zone),
-        None => Err(BadOperand),
-    }
 }
 
 /// The members of the word's list in rising order. `Memory` comes where memory runs out, `Bad` where the word has no
@@ -57,16 +38,20 @@ pub fn short_list<T: Member>(alloc: Global, word: &Word<'_>) -> Result<Rising<T>
     Ok(list)
 }
 
-/// The ids of an operand, none where it is absent. `Memory` comes where memory runs out, `Bad` where the operand is
-/// there and has no list of ids, more than 1,000 of them, or one of them twice.
-pub fn id_list(alloc: Global, words: &[Word<'_>], name: &[u8]) -> Result<IdList, OperandError>
-    ensures ok { IfOk result (λ list. HasShort IsId (operand name.now (words_of words.now)) list) }
-    ensures bad { IfErr result (λ e. Excludes e ((list : List (List ℕ))
-        × HasShort IsId (operand name.now (words_of words.now)) list)) }
+/// The members of the list of an operand, none where it is absent. `Memory` comes where memory runs out, `Bad` where the
+/// operand is there and has no list of such members, more than 1,000 of them, or one of them twice.
+pub fn optional_list<T: Member>(
+    alloc: Global,
+    words: &[Word<'_>],
+    name: &[u8],
+) -> Result<Rising<T>, OperandError>
+    ensures ok { IfOk result (λ list. HasShort T.form (operand name.now (words_of words.now)) (map T.text list)) }
+    ensures bad { IfErr result (λ e. Excludes e ((values : List (List ℕ))
+        × HasShort T.form (operand name.now (words_of words.now)) values)) }
 {
     match operand(words, name) {
-        Some(word) => short_list::<Id>(alloc, &word),
-        None => Ok(IdList::new(alloc)),
+        Some(word) => short_list::<T>(alloc, &word),
+        None => Ok(Rising::new(alloc)),
     }
 }
 
@@ -80,22 +65,5 @@ pub fn some_ids(alloc: Global, words: &[Word<'_>], name: &[u8]) -> Result<IdList
     match operand(words, name) {
         Some(word) => short_list::<Id>(alloc, &word),
         None => Err(OperandError::Bad),
-    }
-}
-
-/// The sources of an operand, none where it is absent. `Memory` comes where memory runs out, `Bad` where the operand is
-/// there and has no list of sources, more than 1,000 of them, or one of them twice.
-pub fn source_list(
-    alloc: Global,
-    words: &[Word<'_>],
-    name: &[u8],
-) -> Result<SourceList, OperandError>
-    ensures ok { IfOk result (λ list. HasShort IsSource (operand name.now (words_of words.now)) list) }
-    ensures bad { IfErr result (λ e. Excludes e ((list : List (List ℕ))
-        × HasShort IsSource (operand name.now (words_of words.now)) list)) }
-{
-    match operand(words, name) {
-        Some(word) => short_list::<Source>(alloc, &word),
-        None => Ok(SourceList::new(alloc)),
     }
 }

@@ -1,4 +1,4 @@
-use Rattle.std.proofs.Common.{◌∙◌, subst}
+use Rattle.std.proofs.Common.{◌∙◌, true, subst}
 use Rattle.std.proofs.lemmas.Result.{err_from_is_err_and}
 use Rattle.rec80.specs.Views.{words_of}
 use Rattle.cntl.proofs.Formed.{of_reject, of_apply, of_accept, of_restore, of_report}
@@ -41,15 +41,12 @@ pub returns-in_ok-install-in-Accept-clause-ok : goal.returns-in_ok-install-in-Ac
 returns-in_ok-install-in-Accept-clause-ok c = λ single.
     c.in_ok-install-in-Accept.ensures.ok (subst (λ w. AreSingle w (words_of c.args.words.now)) c.in-Accept.is single)
 
-pub returns-in_err-errsysmods-in-Report-clause-bad : goal.returns-in_err-errsysmods-in-Report-clause-bad
-returns-in_err-errsysmods-in-Report-clause-bad c =
-    let p = err_from_is_err_and c.from_residual-in_err-errsysmods-in-Report.result
-    c.from_residual-in_err-errsysmods-in-Report.ensures.1 in
-    rw (p.1, p.2) (λ x. c.in_err-errsysmods-in-Report.ensures.bad
+pub returns-in_err-flag_of-in-Report-clause-bad : goal.returns-in_err-flag_of-in-Report-clause-bad
+returns-in_err-flag_of-in-Report-clause-bad c =
+    let p = err_from_is_err_and c.from_residual-in_err-flag_of-in-Report.result
+    c.from_residual-in_err-flag_of-in-Report.ensures.1 in
+    rw (p.1, p.2) (λ x. c.in_err-flag_of-in-Report.ensures.bad true
     (of_report (words_of c.args.words.now) x.0 (x.1.0 ∙ c.in-Report.is) x.1.1))
-
-pub returns-in_ok-errsysmods-in-Report-clause-ok : goal.returns-in_ok-errsysmods-in-Report-clause-ok
-returns-in_ok-errsysmods-in-Report-clause-ok c = λ single. c.in_ok-errsysmods-in-Report.ensures.ok
 
 pub returns-in_err-restore_list-in-Restore-clause-bad : goal.returns-in_err-restore_list-in-Restore-clause-bad
 returns-in_err-restore_list-in-Restore-clause-bad c =

@@ -1,3 +1,7 @@
+use Rattle.std.proofs.Common.{subst}
+use Rattle.std.proofs.lemmas.List.{map-id}
+use Rattle.terms.specs.Forms.{IsId, IsSource}
+use Rattle.terms.specs.CommandForms.{HasShort}
 use Rattle.std.proofs.lemmas.Result.{err_from_is_err_and}
 use Rattle.rec80.proofs.Failing.{excludes_more}
 use Rattle.cntl.proofs.forms.selection.Goals as goal
@@ -49,10 +53,10 @@ returns-clause-ok c = record {
   ptfs = c.in_ok-ptfs.ensures.ok;
   apars = c.in_ok-apars.ensures.ok;
   usermods = c.in_ok-usermods.ensures.ok;
-  select = c.in_ok-select.ensures.ok;
-  exclude = c.in_ok-exclude.ensures.ok;
-  sourceid = c.in_ok-sourceid.ensures.ok;
-  forfmid = c.in_ok-forfmid.ensures.ok;
-  group = c.in_ok-group.ensures.ok;
+  select = subst (HasShort IsId _) (map-id c.in_ok-select.select) c.in_ok-select.ensures.ok;
+  exclude = subst (HasShort IsId _) (map-id c.in_ok-exclude.exclude) c.in_ok-exclude.ensures.ok;
+  sourceid = subst (HasShort IsSource _) (map-id c.in_ok-sourceid.sourceid) c.in_ok-sourceid.ensures.ok;
+  forfmid = subst (HasShort IsId _) (map-id c.in_ok-forfmid.forfmid) c.in_ok-forfmid.ensures.ok;
+  group = subst (HasShort IsId _) (map-id c.in_ok-group.group) c.in_ok-group.ensures.ok;
   groupextend = c.in_ok-groupextend.ensures.ok;
 }
