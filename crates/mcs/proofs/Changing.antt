@@ -76,8 +76,12 @@ pub text_fault : (current : Option Begun) (w : StatementWord) (own : Option Text
     → IsSaidError current w own rest inline error
 text_fault current w own rest inline type name d s Memory e value within = tt
 text_fault current w own rest inline type name d s (Fault code) e value within =
-    subst (λ k. IsSaidFault current w own rest inline k) (sym e.0)
-    (SaysChange (a_change type name d s inline), value, within, λ good. e.1 ((replacement_fits type name d s inline).0 good))
+    subst (λ k. IsSaidFault current w own rest inline k) (sym e.0) (
+      SaysChange (a_change type name d s inline),
+      value,
+      within,
+      λ good. e.1 ((replacement_fits type name d s inline).0 good),
+    )
 
 abbrev pub an_update : ElemType → Text → Lines → Change
 an_update type name text = record { elem_type = type; name = name; action = Updates text }

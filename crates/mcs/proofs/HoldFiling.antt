@@ -1,7 +1,7 @@
 -- Items, one by one.
-use Rattle.std.proofs.Common.{◌≡◌, ℕ, List, [], ◌∷◌, ◌++◌, refl, sym, ap, subst, inr, Result, Ok, Err}
+use Rattle.std.proofs.Common.{◌≡◌, ℕ, List, [], ◌∷◌, ◌++◌, refl, sym, ap, subst, inr}
 use Rattle.std.proofs.Common.{inl}
-use Rattle.std.specs.Prelude.{All, IfOk, IfErr}
+use Rattle.std.specs.Prelude.{All}
 use Rattle.terms.specs.declared.codes.StatementCode.{StatementCode}
 use Rattle.terms.specs.Types as terms
 use Rattle.terms.specs.Types.{Lines}
@@ -69,7 +69,7 @@ pub first_error : (bytes : List ℕ) (error : McsError) → IsFileError bytes er
 first_error bytes Memory f = tt
 first_error bytes (Fault n code) f = inl f
 
-file_error : (bytes : List ℕ) (records : Lines) (error : McsError) → HasRecords bytes records
+pub file_error : (bytes : List ℕ) (records : Lines) (error : McsError) → HasRecords bytes records
     → IsRestError 1 records error → IsHoldFileError bytes error
 file_error bytes records Memory h r = tt
 file_error bytes records (Fault number code) h r = inr (records, r.0, r.1, r.2, h, r.3, r.4)
@@ -80,27 +80,3 @@ pub error_is : (bytes : List ℕ) (error : McsError) (found : List terms.HoldIte
 error_is bytes Memory found e p = refl
 error_is bytes (Fault number code) found e p = absurd (hold_file_fault_no_items bytes
     (record { number = number; code = code }) found e p)
-
--- The whole file's items, and its fault.
-pub file_items : {X : Type 0} (seen : X → List terms.HoldItem) (bytes : List ℕ) (records : Lines) (n : ℕ)
-    (r : Result X McsError) → HasRecords bytes records → n ≡ 1
-    → IfOk r (λ x. (m : ℕ) × BeginsWithItems n records (seen x) m []) → IfOk r (λ x. IsHoldFile bytes (seen x))
-file_items seen bytes records n (Ok x) h one b = (
-  records,
-  b.0,
-  h,
-  subst (λ k. BeginsWithItems k records (seen x) b.0 []) one b.1,
-)
-file_items seen bytes records n (Err e) h one b = tt
-
-pub file_fault : {X : Type 0} (bytes : List ℕ) (records : Lines) (n : ℕ) (r : Result X McsError)
-    → HasRecords bytes records → n ≡ 1
-    → (All IsRecord records → IfErr r (IsRestError n records)) → IfErr r (IsHoldFileError bytes)
-file_fault bytes records n (Ok x) h one f = tt
-file_fault bytes records n (Err e) h one f = file_error bytes records e h
-    (subst (λ k. IsRestError k records e) one (f h.each))
-
-pub file_good : {X : Type 0} (bytes : List ℕ) (r : Result X McsError) (found : List terms.HoldItem)
-    → IfErr r (IsHoldFileError bytes) → IsHoldFile bytes found → IfErr r (λ e. e ≡ Memory)
-file_good bytes (Ok x) found f p = tt
-file_good bytes (Err e) found f p = error_is bytes e found f p

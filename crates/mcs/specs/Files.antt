@@ -5,7 +5,7 @@ use Rattle.terms.specs.Statements.{Statement, SaysHold}
 use Rattle.terms.specs.Types as terms
 use Rattle.terms.specs.Ptfin as ptfin
 use Rattle.terms.specs.Types.{Lines}
-use Rattle.terms.specs.Ptfin.{McsFault, IsPtfinFault}
+use Rattle.terms.specs.Ptfin.{IsPtfinFault}
 use Rattle.mcs.specs.declared.file.Item.{Item}
 use Rattle.mcs.specs.declared.file.Item.TheVariants.{Sysmod, Assign}
 use Rattle.mcs.specs.declared.file.Begun.{Begun}

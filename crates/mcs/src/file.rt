@@ -1,6 +1,5 @@
 //! The items of a PTFIN, and what its statements have made so far.
-ghost use Rattle.std.specs.Prelude.{◌≡◌, ◌++◌, ◌∷◌, [], IfOk, option_map};
-ghost use Rattle.terms.specs.Types.{AnAssign};
+ghost use Rattle.std.specs.Prelude.{◌≡◌, IfOk, option_map};
 ghost use Rattle.terms.specs.Statements.{SaysHold};
 ghost use Rattle.terms.specs.Ptfin.{nothing, after, items_of, with_ver as begun_with_ver, with_if as begun_with_if};
 ghost use Rattle.terms.specs.Ptfin.{with_hold as begun_with_hold, with_change as begun_with_change};
@@ -60,22 +59,6 @@ fn with_current(mut whole: Vec<Item>, current: Option<Begun>) -> Result<Vec<Item
     if let Some(begun) = current {
         whole.push(Item::Sysmod(begun.sysmod))?;
     }
-    Ok(whole)
-}
-
-/// The items with the SYSMOD and the `++ASSIGN` behind them.
-fn with_assign(
-    whole: Vec<Item>,
-    current: Option<Begun>,
-    assign: Assign,
-) -> Result<Vec<Item>, AllocError>
-    ensures { IfOk result (λ found. items found.items ≡ items_of (record {
-      whole = items whole.items;
-      current = begun_in current;
-    }) ++ AnAssign assign ∷ []) }
-{
-    let mut whole = with_current(whole, current)?;
-    whole.push(Item::Assign(assign))?;
     Ok(whole)
 }
 
@@ -160,10 +143,14 @@ impl SoFar {
                     last: None,
                 }),
             }),
-            Statement::Assign(assign) => Ok(SoFar {
-                whole: with_assign(whole, current, assign)?,
-                current: None,
-            }),
+            Statement::Assign(assign) => {
+                let mut whole = with_current(whole, current)?;
+                whole.push(Item::Assign(assign))?;
+                Ok(SoFar {
+                    whole,
+                    current: None,
+                })
+            }
             Statement::Ver(ver) => Ok(SoFar {
                 whole,
                 current: with_ver(current, ver)?,

@@ -1,34 +1,14 @@
 //! Hold files: their holds and releases, or their first fault.
-ghost use Rattle.std.specs.Prelude.{◌≡◌, ℕ, List, [], All, IfOk, IfErr};
+ghost use Rattle.std.specs.Prelude.{◌≡◌, List, IfOk, IfErr};
 ghost use Rattle.terms.specs.Types.{HoldItem as AnyItem};
-ghost use Rattle.terms.specs.Records.{IsRecord};
-ghost use Rattle.terms.specs.HoldFile.{BeginsWithItems, IsHoldFile};
+ghost use Rattle.terms.specs.HoldFile.{IsHoldFile};
 ghost use Rattle.mcs.specs.declared.error.McsError.TheVariants.{Memory};
-ghost use Rattle.mcs.specs.HoldItems.{items, IsHoldFileError, IsRestError};
+ghost use Rattle.mcs.specs.HoldItems.{items, IsHoldFileError};
 
 use crate::error::McsError;
 use crate::file_faults::{error_at, statements};
 use crate::hold_item::{HoldItem, read_item};
-use rec80::Groups;
 use std::alloc::Global;
-
-/// The items of the statements that are left.
-fn read_items(alloc: Global, groups: Groups<'_>) -> Result<Vec<HoldItem>, McsError>
-    ensures good { IfOk result (λ found. (m : ℕ) × BeginsWithItems groups.entry.number groups.entry.rest.now
-        (items found.items) m []) }
-    ensures fault { All IsRecord groups.entry.rest.now
-        → IfErr result (IsRestError groups.entry.number groups.entry.rest.now) }
-{
-    let mut left = groups;
-    let mut found = Vec::new(alloc);
-    while let Some(group) = left.next_group() {
-        match read_item(alloc, &group) {
-            Ok(item) => found.push(item)?,
-            Err(error) => return Err(error_at(group.number, error)),
-        }
-    }
-    Ok(found)
-}
 
 /// The holds and releases of a hold file, in its order; the holds are external. `Memory` comes where memory runs out.
 /// `Fault` is `BadStatementForm` at the first bad record, wherever it stands; else `WrongPlace` at record 1, if no
@@ -39,9 +19,13 @@ pub fn read_hold(alloc: Global, bytes: &[u8]) -> Result<Vec<HoldItem>, McsError>
     ensures good { (found : List AnyItem) → IsHoldFile bytes.now found → IfErr result (λ e. e ≡ Memory) }
     ensures fault { IfErr result (IsHoldFileError bytes.now) }
 {
-    let groups = match statements(bytes) {
-        Ok(groups) => groups,
-        Err(error) => return Err(error),
-    };
-    read_items(alloc, groups)
+    let mut left = statements(bytes)?;
+    let mut found = Vec::new(alloc);
+    while let Some(group) = left.next_group() {
+        match read_item(alloc, &group) {
+            Ok(item) => found.push(item)?,
+            Err(error) => return Err(error_at(group.number, error)),
+        }
+    }
+    Ok(found)
 }

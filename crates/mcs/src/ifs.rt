@@ -1,5 +1,5 @@
 //! `++IF`.
-ghost use Rattle.std.specs.Prelude.{◌≡◌, ◌≢◌, ◌↔◌, ◌<◌, [], ◌∷◌, length, codes, IsTrue, IfOk, IfErr, IfSome, IfNone};
+ghost use Rattle.std.specs.Prelude.{◌≡◌, ◌↔◌, ◌<◌, [], ◌∷◌, length, codes, IsTrue, IfOk, IfErr, IfSome, IfNone};
 ghost use Rattle.std.specs.Prelude.{option_copied};
 ghost use Rattle.terms.specs.declared.statement_words.StatementWord.TheVariants as word;
 ghost use Rattle.terms.specs.Types.{IfReq as AnyIf};
@@ -29,17 +29,6 @@ fn is_named(word: &Word<'_>, name: &[u8]) -> bool
     word.word == name
 }
 
-/// The words, where there are three.
-fn three<'a>(words: &[Word<'a>]) -> Option<(Word<'a>, Word<'a>, Word<'a>)>
-    ensures some { IfSome result (λ x. words.now ≡ x.0 ∷ x.1 ∷ x.2 ∷ []) }
-    ensures none { IfNone result (length words.now ≢ 3) }
-{
-    match words {
-        [first, second, third] => Some((*first, *second, *third)),
-        _ => None,
-    }
-}
-
 /// The words of an `++IF` that have a list.
 #[derive(Clone, Copy, Debug)]
 struct Lists<'a> {
@@ -55,23 +44,19 @@ fn read_lists<'a>(words: &[Word<'a>]) -> Option<Lists<'a>>
     ensures none { IfNone result ((fmid req : grammar.Word) → fmid.word ≡ codes "FMID" → req.word ≡ codes "REQ"
         → words_of words.now ≡ fmid ∷ grammar.plain (codes "THEN") ∷ req ∷ [] → ⊥) }
 {
-    let Some(found) = three(words) else {
+    let [fmid, then, req] = words else {
         return None;
     };
-    let (fmid, then, req) = found;
-    if !is_named(&fmid, b"FMID") {
-        return None;
-    }
-    if !is_named(&then, b"THEN") {
+    if !is_named(fmid, b"FMID") || !is_named(then, b"THEN") || !is_named(req, b"REQ") {
         return None;
     }
     if then.list.is_some() {
         return None;
     }
-    if !is_named(&req, b"REQ") {
-        return None;
-    }
-    Some(Lists { fmid, req })
+    Some(Lists {
+        fmid: *fmid,
+        req: *req,
+    })
 }
 
 /// The `++IF` of these words.
@@ -112,22 +97,16 @@ fn last_ver(begun: &Begun) -> Option<&Ver>
     begun.sysmod.vers.get(place)
 }
 
-/// Whether the last `++VER` may have one `++IF` more.
-fn has_place(begun: &Begun) -> bool
-    ensures { IsTrue result ↔ IfSome (last_of (begun_of begun.now)) (λ v. length v.ifs < 100) }
-{
-    match last_ver(begun) {
-        Some(ver) => ver.ifs.len() < 100,
-        None => true,
-    }
-}
-
 /// Whether the last `++VER` may have this `++IF` too.
 fn is_within(begun: &Begun, condition: &IfReq) -> bool
     ensures { IsTrue result ↔ (IfSome (last_of (begun_of begun.now)) (λ v. length v.ifs < 100)
         × grammar.IsShort condition.now.req) }
 {
-    has_place(begun) && condition.req.len() <= 1000
+    let has_place = match last_ver(begun) {
+        Some(ver) => ver.ifs.len() < 100,
+        None => true,
+    };
+    has_place && condition.req.len() <= 1000
 }
 
 /// What an `++IF` says. `Memory` comes where memory runs out. `Fault` is `BadStatementOperand` where no SYSMOD is

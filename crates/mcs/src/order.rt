@@ -4,7 +4,7 @@ ghost use Rattle.terms.specs.declared.statement_words.StatementWord.TheVariants 
 ghost use Rattle.terms.specs.declared.kinds.Kind.TheVariants.{Function};
 ghost use Rattle.terms.specs.Statements.{changed_type};
 ghost use Rattle.terms.specs.Statement.{Piece};
-ghost use Rattle.terms.specs.Ptfin.{MayStand, NamesFmid, IsSecond, IsUpdateWord, Disorder, IsMisplaced, sysmod_in};
+ghost use Rattle.terms.specs.Ptfin.{MayStand, NamesFmid, IsSecond, Disorder, IsMisplaced, sysmod_in};
 ghost use Rattle.rec80.specs.Read.{IsRead};
 ghost use Rattle.mcs.specs.KnownWords.{own_list};
 ghost use Rattle.mcs.specs.Files.{begun_in};
@@ -33,20 +33,19 @@ fn changed_type(word: StatementWord) -> Option<ElemType>
     }
 }
 
-/// Whether an `++IF` may follow what the SYSMOD has.
-fn may_have_if(sysmod: &Sysmod) -> bool
-    ensures { IsTrue result ↔ MayStand (Some sysmod.now) word.If }
+/// Whether a statement of the word may stand there.
+fn may_stand(current: &Option<Begun>, word: StatementWord) -> bool
+    ensures { IsTrue result ↔ MayStand (sysmod_in (begun_in current.now)) word }
 {
-    !sysmod.vers.is_empty() && sysmod.holds.is_empty() && sysmod.changes.is_empty()
-}
-
-/// Whether a statement of the word may follow what the SYSMOD has.
-fn may_follow(sysmod: &Sysmod, word: StatementWord) -> bool
-    ensures { IsTrue result ↔ MayStand (Some sysmod.now) word }
-{
+    let Some(begun) = current else {
+        return matches!(word, StatementWord::Header(_) | StatementWord::Assign);
+    };
+    let sysmod = &begun.sysmod;
     match word {
         StatementWord::Ver => sysmod.holds.is_empty() && sysmod.changes.is_empty(),
-        StatementWord::If => may_have_if(sysmod),
+        StatementWord::If => {
+            !sysmod.vers.is_empty() && sysmod.holds.is_empty() && sysmod.changes.is_empty()
+        }
         StatementWord::Hold => !sysmod.vers.is_empty() && sysmod.changes.is_empty(),
         StatementWord::Release => false,
         StatementWord::Header(_)
@@ -54,16 +53,6 @@ fn may_follow(sysmod: &Sysmod, word: StatementWord) -> bool
         | StatementWord::Replace(_)
         | StatementWord::UpdateMac
         | StatementWord::UpdateSrc => !sysmod.vers.is_empty(),
-    }
-}
-
-/// Whether a statement of the word may stand there.
-fn may_stand(current: &Option<Begun>, word: StatementWord) -> bool
-    ensures { IsTrue result ↔ MayStand (sysmod_in (begun_in current.now)) word }
-{
-    match current {
-        None => matches!(word, StatementWord::Header(_) | StatementWord::Assign),
-        Some(begun) => may_follow(&begun.sysmod, word),
     }
 }
 
@@ -124,17 +113,6 @@ fn is_second_ver(sysmod: &Sysmod, known: &Known<'_>) -> bool
     }
 }
 
-/// Whether it is a second change of one element.
-fn is_second_change(sysmod: &Sysmod, elem_type: ElemType, known: &Known<'_>) -> bool
-    requires { changed_type known.now.word ≡ Some elem_type }
-    ensures { (rest : List Piece) → IsTrue result ↔ IsSecond sysmod.now known.now.word (own_list known.now) rest }
-{
-    match one::<Name>(&known.first) {
-        Some(name) => sysmod.has_change(elem_type, name),
-        None => false,
-    }
-}
-
 /// Whether it is a second `++VER`, or a second change of one element.
 fn is_second(sysmod: &Sysmod, known: &Known<'_>) -> bool
     ensures { (rest : List Piece) → IsRead rest known.now.operands
@@ -143,18 +121,13 @@ fn is_second(sysmod: &Sysmod, known: &Known<'_>) -> bool
     if matches!(known.word, StatementWord::Ver) {
         return is_second_ver(sysmod, known);
     }
-    match changed_type(known.word) {
-        Some(elem_type) => is_second_change(sysmod, elem_type, known),
+    let Some(elem_type) = changed_type(known.word) else {
+        return false;
+    };
+    match one::<Name>(&known.first) {
+        Some(name) => sysmod.has_change(elem_type, name),
         None => false,
     }
-}
-
-/// Whether it is an update in a function.
-fn is_update_in_function(sysmod: &Sysmod, word: StatementWord) -> bool
-    ensures { IsTrue result ↔ (IsUpdateWord word × (sysmod.now.kind ≡ Function)) }
-{
-    matches!(word, StatementWord::UpdateMac | StatementWord::UpdateSrc)
-        && matches!(sysmod.kind, Kind::Function)
 }
 
 /// Whether the statement is out of order behind the statements so far.
@@ -175,7 +148,12 @@ pub fn is_misplaced(current: &Option<Begun>, later: &[Record], known: &Known<'_>
     }
     match current {
         Some(begun) => {
-            is_second(&begun.sysmod, known) || is_update_in_function(&begun.sysmod, known.word)
+            let is_update = matches!(
+                known.word,
+                StatementWord::UpdateMac | StatementWord::UpdateSrc
+            );
+            is_second(&begun.sysmod, known)
+                || (is_update && matches!(begun.sysmod.kind, Kind::Function))
         }
         None => false,
     }

@@ -41,22 +41,15 @@ fn suits_kind(kind: Kind, words: &[Word<'_>]) -> bool
     }
 }
 
-/// Whether the list does not name the SYSMOD.
-fn is_free_of(own: Id, ids: &IdList) -> bool
-    ensures { result ≡ not (is_in ids.now own) }
-{
-    !ids.contains(own)
-}
-
 /// Whether no list names the SYSMOD.
 fn names_others(own: Id, ver: &Ver) -> bool
     ensures { result ≡ list_all (λ ids. not (is_in ids own)) (lists_of ver.now) }
 {
-    is_free_of(own, &ver.pre)
-        && is_free_of(own, &ver.req)
-        && is_free_of(own, &ver.sup)
-        && is_free_of(own, &ver.npre)
-        && is_free_of(own, &ver.del)
+    !ver.pre.contains(own)
+        && !ver.req.contains(own)
+        && !ver.sup.contains(own)
+        && !ver.npre.contains(own)
+        && !ver.del.contains(own)
 }
 
 /// The lists of a `++VER`.
@@ -166,22 +159,16 @@ fn read_ver(
     Ok(ver)
 }
 
-/// Whether no list is longer than the limit.
-fn are_short(ver: &Ver) -> bool
-    ensures { IsTrue result ↔ All IsShort (lists_of ver.now) }
-{
-    ver.pre.len() <= 1000
-        && ver.req.len() <= 1000
-        && ver.sup.len() <= 1000
-        && ver.npre.len() <= 1000
-        && ver.del.len() <= 1000
-}
-
 /// Whether the SYSMOD may have this `++VER` too.
 fn is_within(sysmod: &Sysmod, ver: &Ver) -> bool
     ensures { IsTrue result ↔ ((length sysmod.now.vers < 8) × All IsShort (lists_of ver.now)) }
 {
-    sysmod.vers.len() < 8 && are_short(ver)
+    sysmod.vers.len() < 8
+        && ver.pre.len() <= 1000
+        && ver.req.len() <= 1000
+        && ver.sup.len() <= 1000
+        && ver.npre.len() <= 1000
+        && ver.del.len() <= 1000
 }
 
 /// What a `++VER` says. `Memory` comes where memory runs out. `Fault` is `BadStatementOperand` where no SYSMOD is

@@ -1,19 +1,11 @@
 //! The words that statements begin with.
-ghost use Rattle.std.specs.Prelude.{◌≡◌, ◌≢◌, ◌++◌, ℕ, List, codes, IfSome, IfNone};
+ghost use Rattle.std.specs.Prelude.{◌≡◌, ◌≢◌, ◌++◌, codes, IfSome, IfNone};
 ghost use Rattle.terms.specs.declared.statement_words.StatementWord.{StatementWord as AnyWord};
 ghost use Rattle.terms.specs.Statements.{statement_text};
 ghost use Rattle.mcs.specs.KnownWords.{IsFixed};
 
 use fields::spelling::{read_kind, read_type};
 use terms::StatementWord;
-
-/// What follows `++`.
-fn behind_plus(word: &[u8]) -> Option<&[u8]>
-    ensures some { IfSome result (λ rest. word.now ≡ codes "++" ++ rest.now) }
-    ensures none { IfNone result ((rest : List ℕ) → word.now ≢ codes "++" ++ rest) }
-{
-    word.strip_prefix(b"++")
-}
 
 /// The word without a kind or a type that is spelled so behind `++`.
 fn fixed_word(rest: &[u8]) -> Option<StatementWord>
@@ -37,7 +29,7 @@ pub fn statement_word(word: &[u8]) -> Option<StatementWord>
     ensures found { IfSome result (λ w. statement_text w ≡ word.now) }
     ensures none { IfNone result ((w : AnyWord) → statement_text w ≢ word.now) }
 {
-    let rest = behind_plus(word)?;
+    let rest = word.strip_prefix(b"++")?;
     if let Some(fixed) = fixed_word(rest) {
         return Some(fixed);
     }
