@@ -1,5 +1,7 @@
 -- Statements that run one after the other in a transaction, and why one fails.
-use Rattle.std.specs.Prelude.{◌≡◌, ◌⊎◌, ℕ, IsTrue, List, [], ◌∷◌, ◌++◌, Result, Ok, Err}
+use Rattle.std.specs.Prelude.{◌≡◌, ◌⊎◌, ◌*◌, ◌/◌, ℕ, zero, suc, IsTrue, List, [], ◌∷◌, ◌++◌, map, length, take, drop}
+use Rattle.std.specs.Prelude.{Result, Ok, Err}
+use Rattle.std.specs.List.{flat_map}
 use Rattle.sqlite.specs.Store.{Ghosts}
 use Rattle.sqlite.specs.Order.{Row}
 use Rattle.sqlite.specs.declared.error.Error.{Error}
@@ -12,6 +14,26 @@ use Rattle.store_rows.specs.Reads.{HasFailed}
 -- a statement: its text and its parameters
 abbrev pub Call : Type 0
 Call = List ℕ × Row
+
+-- how many rows one INSERT puts, where there are so many
+abbrev pub many : ℕ
+many = 16
+
+-- so many runs of as many rows
+abbrev pub runs : ℕ → List Row → List (List Row)
+runs zero rows = []
+runs (suc n) rows = take many rows ∷ runs n (drop many rows)
+
+-- the columns of rows, row after row
+abbrev pub columns_of : List Row → Row
+columns_of = flat_map (λ (row : Row). row)
+
+-- INSERTs of these rows, whose columns are the parameters: first as many rows at a time by one text, and then those
+-- that are left, one at a time by another.
+abbrev pub puts : List ℕ → List ℕ → List Row → List Call
+puts some one rows =
+    let n = length rows / many in
+    map (λ run. (some, columns_of run)) (runs n rows) ++ map (λ row. (one, row)) (drop (n * many) rows)
 
 module _ {S : Type 0} (g : Ghosts S) where
   -- each of them ran, the first of them first

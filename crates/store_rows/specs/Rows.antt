@@ -1,10 +1,11 @@
 -- What the tables of a database hold: rows in any order, each as the values of its columns.
-use Rattle.std.specs.Prelude.{◌≡◌, ◌&&◌, ◌==◌, ℕ, Bool, true, false, not, if◌then◌else◌, List, [], ◌∷◌, map, filter}
+use Rattle.std.specs.Prelude.{◌≡◌, ◌&&◌, ◌==◌, ℕ, Bool, true, false, not, if◌then◌else◌, List, [], ◌∷◌, ◌++◌, map, filter}
 use Rattle.std.specs.Prelude.{length, IsPermutation}
 use Rattle.std.specs.List.{AllByRecursion, range_with_len}
 use Rattle.sqlite.specs.Order.{Row, column}
 use Rattle.sqlite.specs.Tree.{rowid}
 use Rattle.sqlite.specs.Collation.TheVariants.{Binary}
+use Rattle.sqlite.specs.Values.{bound_value}
 use Rattle.sqlite.specs.Schema.{Schema}
 use Rattle.sqlite.specs.Table.{Table}
 use Rattle.sqlite_schema.specs.Rules.{equal}
@@ -44,9 +45,17 @@ in_table table make contents t = if t == table.tree then make (contents t) else 
 abbrev pub AreFound : Table → Row → List Row → List Row → Type 0
 AreFound table key found rows = IsPermutation found (filter (has_key key) (map (shown table) rows))
 
+-- a row as it is bound to parameters
+abbrev pub as_bound : Row → Row
+as_bound = map bound_value
+
 -- one more row
 abbrev pub with_row : Row → List Row → List Row
 with_row row rows = row ∷ rows
+
+-- these rows too
+abbrev pub with_rows : List Row → List Row → List Row
+with_rows news rows = news ++ rows
 
 -- the rows that have not the key
 abbrev pub without : Row → List Row → List Row

@@ -67,11 +67,17 @@ pub record IsTableOf (schema : Schema) (at : ℕ) (table : Table) : Type 0 where
   pub alone : list_all (λ (t : Table). not (t.tree == table.tree) || (length t.columns == length table.columns))
       schema.tables ≡ true
 
--- INSERT of one row, whose columns are the parameters
-pub record PutsIn (schema : Schema) (at : ℕ) (table : Table) (sql : List ℕ) : Type 0 where
+-- rows of so many columns, each with a rowid to be chosen, whose columns are the parameters from one on
+abbrev pub given_rows : ℕ → ℕ → ℕ → List Term
+given_rows width from zero = []
+given_rows width from (suc n) =
+    (lit Null ∷ map (col 0) (range_with_len from width)) ++ given_rows width (from + width) n
+
+-- INSERT of so many rows, whose columns are the parameters, row after row
+pub record PutsIn (schema : Schema) (at : ℕ) (table : Table) (count : ℕ) (sql : List ℕ) : Type 0 where
   pub there : IsTableOf schema at table
   pub command : command_of (understood schema sql) ≡ Insert at
-      (Values (lit Null ∷ map (col 0) (range_with_len 0 (length table.columns))) (length table.columns + 1))
+      (Values (given_rows (length table.columns) 0 count) (length table.columns + 1))
   pub plain : IsPlain (understood schema sql)
   pub uncounted : table.is_counted ≡ false
   pub timeless : table.stamps.terms ≡ []

@@ -1,13 +1,27 @@
-//! The columns of a row that was read.
+//! The columns of a row.
 
-ghost use Rattle.std.specs.Prelude.{◌≡◌, ◌≢◌, ℕ, ℤ, List, Option, IfSome, IfNone};
+ghost use Rattle.std.specs.Prelude.{◌≡◌, ◌≢◌, ℕ, ℤ, List, Option, IfOk, IfSome, IfNone};
 ghost use Rattle.std.specs.Option.{option_copied};
 ghost use Rattle.sqlite.specs.declared.types.Value.TheVariants.{Int, Text, Blob};
 ghost use Rattle.sqlite.specs.Order.{column};
-ghost use Rattle.sqlite.specs.Values.{or_null};
+ghost use Rattle.sqlite.specs.Values.{bound, or_null};
+ghost use Rattle.store_rows.specs.Rows.{as_bound};
 
 use sqlite::Row;
+use sqlite_value::row::Row as Cells;
 use sqlite_value::value::ValueRef;
+use std::alloc::{AllocError, Global};
+
+/// A row of these columns.
+pub fn cells_of(alloc: Global, values: &[ValueRef<'_>]) -> Result<Cells, AllocError>
+    ensures { IfOk result (λ cells. as_bound cells ≡ bound values.now) }
+{
+    let mut cells = Cells::new(alloc);
+    for value in values {
+        cells.push(*value)?;
+    }
+    Ok(cells)
+}
 
 /// The text in a column.
 #[tactic(auto, using(crate::proofs::ContentsLemmas::past_end))]

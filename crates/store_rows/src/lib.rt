@@ -8,7 +8,7 @@ mod error;
 mod reading;
 mod statement;
 
-pub use columns::{blob, optional_text, text, whole};
+pub use columns::{blob, cells_of, optional_text, text, whole};
 pub use error::ReadError;
 pub use reading::{FromRow, load};
-pub use statement::{insert, put, remove, remove_parent, replace};
+pub use statement::{insert, insert_rows, put, remove, remove_parent, replace};

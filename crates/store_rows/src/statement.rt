@@ -1,19 +1,25 @@
 //! The statements that write rows, each in a transaction that is open.
 
-ghost use Rattle.std.specs.Prelude.{◌≡◌, ◌∷◌, [], ℕ, List, length, take, Ok, OnOk};
+ghost use Rattle.std.specs.Prelude.{◌≡◌, ◌∷◌, [], ℕ, List, map, length, take, Ok, OnOk, IfOk};
+ghost use Rattle.std.specs.List.{AllByRecursion};
 ghost use Rattle.sqlite.specs.Held.{state};
 ghost use Rattle.sqlite.specs.State.{HasCleanDisk, Executes};
 ghost use Rattle.sqlite.specs.Values.{bound};
 ghost use Rattle.sqlite.specs.Schema.{Schema};
 ghost use Rattle.sqlite.specs.Table.{Table};
-ghost use Rattle.store_rows.specs.Calls.{RunsInside};
+ghost use Rattle.store_rows.specs.Calls.{RunsInside, many, columns_of, puts};
 ghost use Rattle.store_rows.specs.Inside.{Continues, Turns};
-ghost use Rattle.store_rows.specs.Rows.{Contents, HasContents, HaveNone, in_table, with_row, with_put, in_place};
-ghost use Rattle.store_rows.specs.Rows.{without};
+ghost use Rattle.store_rows.specs.Rows.{Contents, HasContents, HaveNone, in_table, as_bound, with_row, with_rows};
+ghost use Rattle.store_rows.specs.Rows.{with_put, in_place, without};
 ghost use Rattle.store_rows.specs.Texts.{SuitColumns, PutsIn, PutsByKey, PutsInPlace, TakesOut, TakesOutParent};
 
 use sqlite::{Alter, Error, Transaction};
+use sqlite_value::row::Row as Cells;
 use sqlite_value::value::ValueRef;
+use std::alloc::{AllocError, Global};
+
+/// How many rows one statement puts.
+const MANY: usize = 16;
 
 /// Runs a statement that shows no rows.
 fn run<S: Alter>(
@@ -31,6 +37,68 @@ fn run<S: Alter>(
     Ok(())
 }
 
+// The columns of the rows, row after row.
+fn values_of<'a>(alloc: Global, rows: &'a [Cells]) -> Result<Vec<ValueRef<'a>>, AllocError>
+    ensures { IfOk result (λ values. bound values.items ≡ columns_of (map as_bound rows.now)) }
+{
+    let mut values = Vec::new(alloc);
+    for row in rows {
+        for at in 0..row.len() {
+            values.push(row.get(at))?;
+        }
+    }
+    Ok(values)
+}
+
+// Puts these rows by one statement.
+fn insert_run<S: Alter>(
+    alloc: Global,
+    tx: &mut Transaction<'_, S>,
+    sql: &str,
+    rows: &[Cells],
+) -> Result<(), Error>
+    ensures continues { Continues S.Store tx.old tx.new }
+    ensures calls { RunsInside S.Store ((sql.now, columns_of (map as_bound rows.now)) ∷ []) tx.old.conn.now
+        tx.new.conn.now result }
+    ensures ok { OnOk result ((schema : Schema) (at : ℕ) (table : Table)
+        → PutsIn schema at table (length rows.now) sql.now
+        → AllByRecursion (SuitColumns table.columns) (map as_bound rows.now)
+        → Turns S.Store tx.old.conn.now tx.new.conn.now (HasContents schema)
+        (in_table table (with_rows (map as_bound rows.now)))) }
+{
+    let values = values_of(alloc, rows)?;
+    run(tx, sql, values.as_slice())
+}
+
+/// Puts these rows too into the table that the texts name: by the first text so many at a time as go into one
+/// statement, and by the second those that are left, one at a time. An error comes where the database refuses a
+/// statement, as for a row whose key is there, where the disk fails or memory is short.
+pub fn insert_rows<S: Alter>(
+    alloc: Global,
+    tx: &mut Transaction<'_, S>,
+    some: &str,
+    one: &str,
+    rows: &[Cells],
+) -> Result<(), Error>
+    ensures continues { Continues S.Store tx.old tx.new }
+    ensures calls { RunsInside S.Store (puts some.now one.now (map as_bound rows.now)) tx.old.conn.now
+        tx.new.conn.now result }
+    ensures ok { OnOk result ((schema : Schema) (at : ℕ) (table : Table)
+        → PutsIn schema at table many some.now → PutsIn schema at table 1 one.now
+        → AllByRecursion (SuitColumns table.columns) (map as_bound rows.now)
+        → Turns S.Store tx.old.conn.now tx.new.conn.now (HasContents schema)
+        (in_table table (with_rows (map as_bound rows.now)))) }
+{
+    let (full, left) = rows.split_at(rows.len() - rows.len() % MANY);
+    for run in full.chunks_exact(MANY) {
+        insert_run(alloc, tx, some, run)?;
+    }
+    for row in left.chunks_exact(1) {
+        insert_run(alloc, tx, one, row)?;
+    }
+    Ok(())
+}
+
 /// Puts one more row into the table that the text names, whose columns are the parameters. An error comes where the
 /// database refuses the statement, as for a row whose key is there, where the disk fails or memory is short.
 pub fn insert<S: Alter>(
@@ -40,7 +108,7 @@ pub fn insert<S: Alter>(
 ) -> Result<(), Error>
     ensures continues { Continues S.Store tx.old tx.new }
     ensures calls { RunsInside S.Store ((sql.now, bound row.now) ∷ []) tx.old.conn.now tx.new.conn.now result }
-    ensures ok { OnOk result ((schema : Schema) (at : ℕ) (table : Table) → PutsIn schema at table sql.now
+    ensures ok { OnOk result ((schema : Schema) (at : ℕ) (table : Table) → PutsIn schema at table 1 sql.now
         → SuitColumns table.columns (bound row.now)
         → Turns S.Store tx.old.conn.now tx.new.conn.now (HasContents schema)
         (in_table table (with_row (bound row.now)))) }

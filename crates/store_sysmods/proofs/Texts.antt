@@ -36,31 +36,31 @@ cascades children olds child columns places collation shallow moves = record {
   moves = moves;
 }
 
-pub puts_sysmod : PutsIn store_schema 1 sysmod insert_sysmod
+pub puts_sysmod : PutsIn store_schema 1 sysmod 1 insert_sysmod
 unfolding understood everything
 puts_sysmod = puts_in refl refl refl (refl, refl) refl refl
 
-pub puts_source : PutsIn store_schema 9 source insert_source
+pub puts_source : PutsIn store_schema 9 source 1 insert_source
 unfolding understood everything
 puts_source = puts_in refl refl refl (refl, refl) refl refl
 
-pub puts_ver : PutsIn store_schema 2 ver insert_ver
+pub puts_ver : PutsIn store_schema 2 ver 1 insert_ver
 unfolding understood everything
 puts_ver = puts_in refl refl refl (refl, refl) refl refl
 
-pub puts_ifreq : PutsIn store_schema 3 ifreq insert_ifreq
+pub puts_ifreq : PutsIn store_schema 3 ifreq 1 insert_ifreq
 unfolding understood everything
 puts_ifreq = puts_in refl refl refl (refl, refl) refl refl
 
-pub puts_elem : PutsIn store_schema 5 elem insert_elem
+pub puts_elem : PutsIn store_schema 5 elem 1 insert_elem
 unfolding understood everything
 puts_elem = puts_in refl refl refl (refl, refl) refl refl
 
-pub puts_morever : PutsIn store_schema 10 morever insert_morever
+pub puts_morever : PutsIn store_schema 10 morever 1 insert_morever
 unfolding understood everything
 puts_morever = puts_in refl refl refl (refl, refl) refl refl
 
-pub puts_moreif : PutsIn store_schema 11 moreif insert_moreif
+pub puts_moreif : PutsIn store_schema 11 moreif 1 insert_moreif
 unfolding understood everything
 puts_moreif = puts_in refl refl refl (refl, refl) refl refl
 

@@ -12,11 +12,11 @@ use Rattle.store_zones.specs.Entries.{put_entry, delete_entry, insert_entry}
 use Rattle.store_zones.specs.Heads.{insert_zone}
 use Rattle.store_rows.proofs.Meant.{puts_in, puts_by_key, takes_out}
 
-pub puts_zone : PutsIn store_schema 6 zone insert_zone
+pub puts_zone : PutsIn store_schema 6 zone 1 insert_zone
 unfolding understood everything
 puts_zone = puts_in refl refl refl (refl, refl) refl refl
 
-pub adds_entry : PutsIn store_schema 7 entry insert_entry
+pub adds_entry : PutsIn store_schema 7 entry 1 insert_entry
 unfolding understood everything
 adds_entry = puts_in refl refl refl (refl, refl) refl refl
 
@@ -28,7 +28,7 @@ pub takes_entry : TakesOut store_schema 7 entry 2 delete_entry
 unfolding understood everything same_name joined
 takes_entry = takes_out refl refl refl (refl, refl) (omega arith) (λ olds. refl)
 
-pub adds_chosen : PutsIn store_schema 12 chosen insert_chosen
+pub adds_chosen : PutsIn store_schema 12 chosen 1 insert_chosen
 unfolding understood everything
 adds_chosen = puts_in refl refl refl (refl, refl) refl refl
 
@@ -40,7 +40,7 @@ pub takes_chosen : TakesOut store_schema 12 chosen 2 delete_chosen
 unfolding understood everything same_name joined
 takes_chosen = takes_out refl refl refl (refl, refl) (omega arith) (λ olds. refl)
 
-pub adds_element : PutsIn store_schema 8 zelem insert_element
+pub adds_element : PutsIn store_schema 8 zelem 1 insert_element
 unfolding understood everything
 adds_element = puts_in refl refl refl (refl, refl) refl refl
 
