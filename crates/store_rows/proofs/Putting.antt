@@ -1,0 +1,136 @@
+-- INSERTs one after the other: of as many rows at a time as go into one statement, and of one row at a time.
+use Rattle.std.proofs.Common.{◌≡◌, ℕ, suc, ◌+◌, ◌*◌, ◌/◌, ◌<◌, List, [], ◌∷◌, ◌++◌, map, length, take, drop, append-nil}
+use Rattle.std.proofs.Common.{Result, Ok, Err, IsErrAnd, OnOk, arith, refl, sym, ap, ap₂, subst, ◌∙◌}
+use Rattle.std.specs.List.{AllByRecursion}
+use Rattle.std.proofs.lemmas.List.{take_at, drop_at, length-append, append_assoc}
+use Rattle.std.proofs.Math.Seq.{drop-append-add}
+use Rattle.sqlite.specs.Store.{Ghosts}
+use Rattle.sqlite.specs.Order.{Row}
+use Rattle.sqlite.specs.Schema.{Schema}
+use Rattle.sqlite.specs.Table.{Table}
+use Rattle.sqlite.specs.declared.error.Error.{Error}
+use Rattle.sqlite.specs.declared.transaction.Transaction.{Transaction}
+use Rattle.terms.proofs.Each.{recursion_front, recursion_back}
+use Rattle.store_rows.specs.Calls.{Call, RunsInside, many, runs, columns_of, puts}
+use Rattle.store_rows.specs.Inside.{Continues}
+use Rattle.store_rows.specs.Texts.{SuitColumns, PutsIn}
+use Rattle.store_rows.proofs.Adding.{Adds, adds_none, adds_then}
+use Rattle.store_rows.proofs.CallLemmas.{follows_err, runs_then, runs_err}
+use Rattle.store_rows.proofs.InsideLemmas.{on_ok, continues, continues_then}
+
+-- ---- the statements
+
+module _ (some one : List ℕ) where
+  -- a whole run comes first
+  pub puts_run : (run more : List Row) → length run ≡ many
+      → puts some one (run ++ more) ≡ (some, columns_of run) ∷ puts some one more
+  puts_run run more long =
+      let n = length more / many in
+      let all = run ++ more in
+      let runs_of = λ (rows : List (List Row)). map {B = Call} (λ r. (some, columns_of r)) rows in
+      let ones_of = λ (rows : List Row). map {B = Call} (λ row. (one, row)) rows in
+      let count : length all / many ≡ suc n = omega (arith, long, length-append run more) in
+      let left : drop (suc n * many) all ≡ drop (n * many) more =
+      ap (λ k. drop k all) (omega (arith, long)) ∙ drop-append-add run more (n * many) in
+      ap (λ k. runs_of (runs k all) ++ ones_of (drop (k * many) all)) count
+      ∙ ap₂ (λ (first : List Row) (rest : List Row). (some, columns_of first) ∷ runs_of (runs n rest)
+      ++ ones_of (drop (suc n * many) all)) (take_at run more many long) (drop_at run more many long)
+      ∙ ap (λ rest. (some, columns_of run) ∷ runs_of (runs n more) ++ ones_of rest) left
+
+  -- no whole run is left
+  pub puts_few : (rows : List Row) → length rows < many → puts some one rows ≡ map (λ row. (one, row)) rows
+  puts_few rows few =
+      let none : length rows / many ≡ 0 = omega (arith, few) in
+      ap (λ k. map {B = Call} (λ r. (some, columns_of r)) (runs k rows) ++ map {B = Call} (λ row. (one, row))
+      (drop (k * many) rows)) none
+
+-- ---- what they do
+
+module _ {S : Type 0} (g : Ghosts S) (some one : List ℕ) where
+  -- The statements ran, and the table that the texts name holds these rows too; or one of them failed, or memory was
+  -- short. Nothing is committed.
+  pub record Added {X : Type 0} (calls : List Call) (rows : List Row) (old new : Transaction S) (result : Result X Error) :
+      Type 0 where
+    pub continues : Continues g old new
+    pub runs : RunsInside g calls old.conn.now new.conn.now result
+    pub ok : OnOk result ((schema : Schema) (at : ℕ) (table : Table)
+        → PutsIn schema at table many some → PutsIn schema at table 1 one
+        → AllByRecursion (SuitColumns table.columns) rows → Adds g schema table rows old.conn.now new.conn.now)
+
+  pub added_none : (old : Transaction S) → Added [] [] old old {X = Unit {0}} (Ok (tt {0}))
+  added_none old = record {
+    continues = continues g old;
+    runs = λ clean inside. (refl, inside);
+    ok = λ schema at table whole single kept. adds_none g schema table old.conn.now;
+  }
+
+  pub added_then : {X Y : Type 0} {xs ys : List Call} {news more : List Row} {a b c : Transaction S}
+      (q : Result X Error) (x : X) (r : Result Y Error) → q ≡ Ok x → Added xs news a b q → Added ys more b c r
+      → Added (xs ++ ys) (news ++ more) a c r
+  added_then {xs = xs} {ys = ys} {news = news} {more = more} {a = a} {b = b} {c = c} (Err e) x r is first next =
+      absurd cc
+  added_then {xs = xs} {ys = ys} {news = news} {more = more} {a = a} {b = b} {c = c} (Ok w) x r is first next = record {
+    continues = continues_then g a b c first.continues next.continues;
+    runs = runs_then g xs ys a.conn.now b.conn.now c.conn.now (Ok w) x r first.continues.inside next.continues.inside is
+        first.runs next.runs;
+    ok = on_ok r _ _ (λ turns schema at table whole single kept.
+        adds_then g schema table a.conn.now b.conn.now c.conn.now news more next.continues.inside
+        (first.ok schema at table whole single (recursion_front _ news more kept))
+        (turns schema at table whole single (recursion_back _ news more kept))) next.ok;
+  }
+
+  no_rows : {X : Type 0} (r : Result X Error) (e : Error) (P : Type 0) → IsErrAnd r (λ z. z ≡ e) → OnOk r P
+  no_rows (Ok x) e P told = absurd told
+  no_rows (Err z) e P told = tt
+
+  -- one of the first failed, and none behind it was begun
+  pub added_stops : {X Y : Type 0} {xs : List Call} {news : List Row} {a b : Transaction S} (ys : List Call)
+      (all : List Row) (q : Result X Error) (e : Error) (r : Result Y Error) → q ≡ Err e → IsErrAnd r (λ z. z ≡ e)
+      → Added xs news a b q → Added (xs ++ ys) all a b r
+  added_stops ys all (Ok x) e r is told first = absurd cc
+  added_stops {xs = xs} {a = a} {b = b} ys all (Err d) e r is told first = record {
+    continues = first.continues;
+    runs = runs_err g xs ys a.conn.now b.conn.now (Err d) r refl (follows_err (Err d) e r is told) first.runs;
+    ok = no_rows r e _ told;
+  }
+
+  -- ---- in a loop
+
+  -- What becomes of the rows that are left, becomes of all.
+  abbrev pub Leaves : List Call → List Row → Transaction S → List Call → List Row → Transaction S → Type 0
+  Leaves calls rows old rest left now =
+      (new : Transaction S) (r : Result (Unit {0}) Error) → Added rest left now new r → Added calls rows old new r
+
+  module _ (calls : List Call) (rows : List Row) (old mid : Transaction S) where
+    -- a run was put
+    pub run_put : (run more : List Row) (new : Transaction S) {X : Type 0} (q : Result X Error) (x : X)
+        → length run ≡ many → q ≡ Ok x → Leaves calls rows old (puts some one (run ++ more)) (run ++ more) mid
+        → Added ((some, columns_of run) ∷ []) run mid new q → Leaves calls rows old (puts some one more) more new
+    run_put run more new q x long is before it last r next =
+        before last r (subst (λ l. Added l (run ++ more) mid last r) (sym (puts_run some one run more long))
+        (added_then q x r is it next))
+
+    pub run_failed : (run more : List Row) (new : Transaction S) {X : Type 0} (q : Result X Error) (e : Error)
+        (r : Result (Unit {0}) Error) → length run ≡ many → q ≡ Err e → IsErrAnd r (λ z. z ≡ e)
+        → Leaves calls rows old (puts some one (run ++ more)) (run ++ more) mid
+        → Added ((some, columns_of run) ∷ []) run mid new q → Added calls rows old new r
+    run_failed run more new q e r long is told before it =
+        before new r (subst (λ l. Added l (run ++ more) mid new r) (sym (puts_run some one run more long))
+        (added_stops (puts some one more) (run ++ more) q e r is told it))
+
+    -- a row was put
+    pub row_put : (row : Row) (more : List Row) (new : Transaction S) {X : Type 0} (q : Result X Error) (x : X)
+        → q ≡ Ok x → Leaves calls rows old (map (λ r. (one, r)) (row ∷ more)) (row ∷ more) mid
+        → Added ((one, columns_of (row ∷ [])) ∷ []) (row ∷ []) mid new q
+        → Leaves calls rows old (map (λ r. (one, r)) more) more new
+    row_put row more new q x is before it last r next =
+        before last r (added_then q x r is (subst (λ cells. Added ((one, cells) ∷ []) (row ∷ []) mid new q)
+        (append-nil row) it) next)
+
+    pub row_failed : (row : Row) (more : List Row) (new : Transaction S) {X : Type 0} (q : Result X Error) (e : Error)
+        (r : Result (Unit {0}) Error) → q ≡ Err e → IsErrAnd r (λ z. z ≡ e)
+        → Leaves calls rows old (map (λ r. (one, r)) (row ∷ more)) (row ∷ more) mid
+        → Added ((one, columns_of (row ∷ [])) ∷ []) (row ∷ []) mid new q → Added calls rows old new r
+    row_failed row more new q e r is told before it =
+        before new r (added_stops (map (λ r. (one, r)) more) (row ∷ more) q e r is told
+        (subst (λ cells. Added ((one, cells) ∷ []) (row ∷ []) mid new q) (append-nil row) it))
