@@ -1,8 +1,8 @@
 -- INSERTs one after the other: of as many rows at a time as go into one statement, and of one row at a time.
 use Rattle.std.proofs.Common.{◌≡◌, ℕ, suc, ◌+◌, ◌*◌, ◌/◌, ◌<◌, List, [], ◌∷◌, ◌++◌, map, length, take, drop, append-nil}
-use Rattle.std.proofs.Common.{Result, Ok, Err, IsErrAnd, OnOk, arith, refl, sym, ap, ap₂, subst, ◌∙◌}
+use Rattle.std.proofs.Common.{Result, Ok, Err, IsErr, IsErrAnd, OnOk, arith, refl, sym, ap, ap₂, subst, subst₂, ◌∙◌}
 use Rattle.std.specs.List.{AllByRecursion}
-use Rattle.std.proofs.lemmas.List.{take_at, drop_at, length-append, append_assoc}
+use Rattle.std.proofs.lemmas.List.{take_at, drop_at, length-append}
 use Rattle.std.proofs.Math.Seq.{drop-append-add}
 use Rattle.sqlite.specs.Store.{Ghosts}
 use Rattle.sqlite.specs.Order.{Row}
@@ -20,6 +20,16 @@ use Rattle.store_rows.proofs.InsideLemmas.{on_ok, continues, continues_then}
 
 -- ---- the statements
 
+-- a row at a time
+abbrev pub singles : List ℕ → List Row → List Call
+singles one = map (λ row. (one, row))
+
+pub singles_run : (one : List ℕ) (run more : List Row) → length run ≡ 1
+    → singles one (run ++ more) ≡ (one, columns_of run) ∷ singles one more
+singles_run one [] more long = absurd cc
+singles_run one (row ∷ []) more long = ap (λ (cells : Row). (one, cells) ∷ singles one more) (sym (append-nil row))
+singles_run one (row ∷ r ∷ run) more long = absurd (omega (arith, long))
+
 module _ (some one : List ℕ) where
   -- a whole run comes first
   pub puts_run : (run more : List Row) → length run ≡ many
@@ -28,21 +38,19 @@ module _ (some one : List ℕ) where
       let n = length more / many in
       let all = run ++ more in
       let runs_of = λ (rows : List (List Row)). map {B = Call} (λ r. (some, columns_of r)) rows in
-      let ones_of = λ (rows : List Row). map {B = Call} (λ row. (one, row)) rows in
       let count : length all / many ≡ suc n = omega (arith, long, length-append run more) in
       let left : drop (suc n * many) all ≡ drop (n * many) more =
       ap (λ k. drop k all) (omega (arith, long)) ∙ drop-append-add run more (n * many) in
-      ap (λ k. runs_of (runs k all) ++ ones_of (drop (k * many) all)) count
+      ap (λ k. runs_of (runs k all) ++ singles one (drop (k * many) all)) count
       ∙ ap₂ (λ (first : List Row) (rest : List Row). (some, columns_of first) ∷ runs_of (runs n rest)
-      ++ ones_of (drop (suc n * many) all)) (take_at run more many long) (drop_at run more many long)
-      ∙ ap (λ rest. (some, columns_of run) ∷ runs_of (runs n more) ++ ones_of rest) left
+      ++ singles one (drop (suc n * many) all)) (take_at run more many long) (drop_at run more many long)
+      ∙ ap (λ rest. (some, columns_of run) ∷ runs_of (runs n more) ++ singles one rest) left
 
   -- no whole run is left
-  pub puts_few : (rows : List Row) → length rows < many → puts some one rows ≡ map (λ row. (one, row)) rows
+  pub puts_few : (rows : List Row) → length rows < many → puts some one rows ≡ singles one rows
   puts_few rows few =
       let none : length rows / many ≡ 0 = omega (arith, few) in
-      ap (λ k. map {B = Call} (λ r. (some, columns_of r)) (runs k rows) ++ map {B = Call} (λ row. (one, row))
-      (drop (k * many) rows)) none
+      ap (λ k. map {B = Call} (λ r. (some, columns_of r)) (runs k rows) ++ singles one (drop (k * many) rows)) none
 
 -- ---- what they do
 
@@ -57,7 +65,7 @@ module _ {S : Type 0} (g : Ghosts S) (some one : List ℕ) where
         → PutsIn schema at table many some → PutsIn schema at table 1 one
         → AllByRecursion (SuitColumns table.columns) rows → Adds g schema table rows old.conn.now new.conn.now)
 
-  pub added_none : (old : Transaction S) → Added [] [] old old {X = Unit {0}} (Ok (tt {0}))
+  pub added_none : (old : Transaction S) → Added {X = Unit {0}} [] [] old old (Ok (tt {0}))
   added_none old = record {
     continues = continues g old;
     runs = λ clean inside. (refl, inside);
@@ -87,12 +95,37 @@ module _ {S : Type 0} (g : Ghosts S) (some one : List ℕ) where
   pub added_stops : {X Y : Type 0} {xs : List Call} {news : List Row} {a b : Transaction S} (ys : List Call)
       (all : List Row) (q : Result X Error) (e : Error) (r : Result Y Error) → q ≡ Err e → IsErrAnd r (λ z. z ≡ e)
       → Added xs news a b q → Added (xs ++ ys) all a b r
-  added_stops ys all (Ok x) e r is told first = absurd cc
-  added_stops {xs = xs} {a = a} {b = b} ys all (Err d) e r is told first = record {
+  added_stops {xs = xs} {a = a} {b = b} ys all q e r is told first = record {
     continues = first.continues;
-    runs = runs_err g xs ys a.conn.now b.conn.now (Err d) r refl (follows_err (Err d) e r is told) first.runs;
+    runs = runs_err g xs ys a.conn.now b.conn.now q r (subst IsErr (sym is) refl) (follows_err q e r is told) first.runs;
     ok = no_rows r e _ told;
   }
+
+  -- one statement, of so many rows
+  module _ {X : Type 0} (rows : List Row) (n : ℕ) (old new : Transaction S) (q : Result X Error) (text : List ℕ) where
+    abbrev pub TurnsBy : Type 0
+    TurnsBy = (schema : Schema) (at : ℕ) (table : Table) → PutsIn schema at table n text
+        → AllByRecursion (SuitColumns table.columns) rows → Adds g schema table rows old.conn.now new.conn.now
+
+    pub added_some : n ≡ many → text ≡ some → Continues g old new
+        → RunsInside g ((text, columns_of rows) ∷ []) old.conn.now new.conn.now q → OnOk q TurnsBy
+        → Added ((text, columns_of rows) ∷ []) rows old new q
+    added_some long is kept ran ok = record {
+      continues = kept;
+      runs = ran;
+      ok = on_ok q _ _ (λ turns schema at table whole single suits. turns schema at table
+          (subst₂ (PutsIn schema at table) (sym long) (sym is) whole) suits) ok;
+    }
+
+    pub added_one : n ≡ 1 → text ≡ one → Continues g old new
+        → RunsInside g ((text, columns_of rows) ∷ []) old.conn.now new.conn.now q → OnOk q TurnsBy
+        → Added ((text, columns_of rows) ∷ []) rows old new q
+    added_one long is kept ran ok = record {
+      continues = kept;
+      runs = ran;
+      ok = on_ok q _ _ (λ turns schema at table whole single suits. turns schema at table
+          (subst₂ (PutsIn schema at table) (sym long) (sym is) single) suits) ok;
+    }
 
   -- ---- in a loop
 
@@ -101,36 +134,24 @@ module _ {S : Type 0} (g : Ghosts S) (some one : List ℕ) where
   Leaves calls rows old rest left now =
       (new : Transaction S) (r : Result (Unit {0}) Error) → Added rest left now new r → Added calls rows old new r
 
-  module _ (calls : List Call) (rows : List Row) (old mid : Transaction S) where
-    -- a run was put
-    pub run_put : (run more : List Row) (new : Transaction S) {X : Type 0} (q : Result X Error) (x : X)
-        → length run ≡ many → q ≡ Ok x → Leaves calls rows old (puts some one (run ++ more)) (run ++ more) mid
-        → Added ((some, columns_of run) ∷ []) run mid new q → Leaves calls rows old (puts some one more) more new
-    run_put run more new q x long is before it last r next =
-        before last r (subst (λ l. Added l (run ++ more) mid last r) (sym (puts_run some one run more long))
+  module _ (calls : List Call) (rows : List Row) (old mid new : Transaction S) (rest after : List Call)
+      (left run more : List Row) (parts : left ≡ run ++ more) (text : List ℕ)
+      (first : rest ≡ (text, columns_of run) ∷ after) {X : Type 0} (q : Result X Error)
+      (before : Leaves calls rows old rest left mid)
+      (it : Added ((text, columns_of run) ∷ []) run mid new q) where
+    -- one statement more ran
+    pub one_put : (x : X) → q ≡ Ok x → Leaves calls rows old after more new
+    one_put x is last r next = before last r (subst₂ (λ c l. Added c l mid last r) (sym first) (sym parts)
         (added_then q x r is it next))
 
-    pub run_failed : (run more : List Row) (new : Transaction S) {X : Type 0} (q : Result X Error) (e : Error)
-        (r : Result (Unit {0}) Error) → length run ≡ many → q ≡ Err e → IsErrAnd r (λ z. z ≡ e)
-        → Leaves calls rows old (puts some one (run ++ more)) (run ++ more) mid
-        → Added ((some, columns_of run) ∷ []) run mid new q → Added calls rows old new r
-    run_failed run more new q e r long is told before it =
-        before new r (subst (λ l. Added l (run ++ more) mid new r) (sym (puts_run some one run more long))
-        (added_stops (puts some one more) (run ++ more) q e r is told it))
+    -- one failed
+    pub one_failed : (e : Error) (r : Result (Unit {0}) Error) → q ≡ Err e → IsErrAnd r (λ z. z ≡ e)
+        → Added calls rows old new r
+    one_failed e r is told = before new r (subst₂ (λ c l. Added c l mid new r) (sym first) (sym parts)
+        (added_stops after (run ++ more) q e r is told it))
 
-    -- a row was put
-    pub row_put : (row : Row) (more : List Row) (new : Transaction S) {X : Type 0} (q : Result X Error) (x : X)
-        → q ≡ Ok x → Leaves calls rows old (map (λ r. (one, r)) (row ∷ more)) (row ∷ more) mid
-        → Added ((one, columns_of (row ∷ [])) ∷ []) (row ∷ []) mid new q
-        → Leaves calls rows old (map (λ r. (one, r)) more) more new
-    row_put row more new q x is before it last r next =
-        before last r (added_then q x r is (subst (λ cells. Added ((one, cells) ∷ []) (row ∷ []) mid new q)
-        (append-nil row) it) next)
-
-    pub row_failed : (row : Row) (more : List Row) (new : Transaction S) {X : Type 0} (q : Result X Error) (e : Error)
-        (r : Result (Unit {0}) Error) → q ≡ Err e → IsErrAnd r (λ z. z ≡ e)
-        → Leaves calls rows old (map (λ r. (one, r)) (row ∷ more)) (row ∷ more) mid
-        → Added ((one, columns_of (row ∷ [])) ∷ []) (row ∷ []) mid new q → Added calls rows old new r
-    row_failed row more new q e r is told before it =
-        before new r (added_stops (map (λ r. (one, r)) more) (row ∷ more) q e r is told
-        (subst (λ cells. Added ((one, cells) ∷ []) (row ∷ []) mid new q) (append-nil row) it))
+  -- none is left
+  pub all_put : (calls : List Call) (rows : List Row) (old now : Transaction S) (left : List Row) → length left ≡ 0
+      → Leaves calls rows old (singles one left) left now → Added calls rows old now (Ok (tt {0}))
+  all_put calls rows old now [] none before = before now (Ok (tt {0})) (added_none now)
+  all_put calls rows old now (row ∷ left) none before = absurd cc
