@@ -1,8 +1,8 @@
 -- INSERTs one after the other: of as many rows at a time as go into one statement, and of one row at a time.
-use Rattle.std.proofs.Common.{◌≡◌, ℕ, suc, ◌+◌, ◌*◌, ◌/◌, ◌<◌, List, [], ◌∷◌, ◌++◌, map, length, take, drop, append-nil}
+use Rattle.std.proofs.Common.{◌≡◌, ℕ, suc, ◌+◌, ◌*◌, ◌/◌, ◌<◌, List, [], ◌∷◌, ◌++◌, map, length, drop, append-nil}
 use Rattle.std.proofs.Common.{Result, Ok, Err, IsErr, IsErrAnd, OnOk, arith, refl, sym, ap, ap₂, subst, subst₂, ◌∙◌}
 use Rattle.std.specs.List.{AllByRecursion}
-use Rattle.std.proofs.lemmas.List.{take_at, drop_at, length-append}
+use Rattle.std.proofs.lemmas.List.{take_at, drop_at, length-append, length-map, map-append}
 use Rattle.std.proofs.Math.Seq.{drop-append-add}
 use Rattle.sqlite.specs.Store.{Ghosts}
 use Rattle.sqlite.specs.Order.{Row}
@@ -13,6 +13,7 @@ use Rattle.sqlite.specs.declared.transaction.Transaction.{Transaction}
 use Rattle.terms.proofs.Each.{recursion_front, recursion_back}
 use Rattle.store_rows.specs.Calls.{Call, RunsInside, many, runs, columns_of, puts}
 use Rattle.store_rows.specs.Inside.{Continues}
+use Rattle.store_rows.specs.Rows.{as_bound}
 use Rattle.store_rows.specs.Texts.{SuitColumns, PutsIn}
 use Rattle.store_rows.proofs.Adding.{Adds, adds_none, adds_then}
 use Rattle.store_rows.proofs.CallLemmas.{follows_err, runs_then, runs_err}
@@ -57,8 +58,8 @@ module _ (some one : List ℕ) where
 module _ {S : Type 0} (g : Ghosts S) (some one : List ℕ) where
   -- The statements ran, and the table that the texts name holds these rows too; or one of them failed, or memory was
   -- short. Nothing is committed.
-  pub record Added {X : Type 0} (calls : List Call) (rows : List Row) (old new : Transaction S) (result : Result X Error) :
-      Type 0 where
+  pub record Added {X : Type 0} (calls : List Call) (rows : List Row) (old new : Transaction S)
+      (result : Result X Error) : Type 0 where
     pub continues : Continues g old new
     pub runs : RunsInside g calls old.conn.now new.conn.now result
     pub ok : OnOk result ((schema : Schema) (at : ℕ) (table : Table)
@@ -97,35 +98,10 @@ module _ {S : Type 0} (g : Ghosts S) (some one : List ℕ) where
       → Added xs news a b q → Added (xs ++ ys) all a b r
   added_stops {xs = xs} {a = a} {b = b} ys all q e r is told first = record {
     continues = first.continues;
-    runs = runs_err g xs ys a.conn.now b.conn.now q r (subst IsErr (sym is) refl) (follows_err q e r is told) first.runs;
+    runs = runs_err g xs ys a.conn.now b.conn.now q r (subst IsErr (sym is) refl) (follows_err q e r is told)
+        first.runs;
     ok = no_rows r e _ told;
   }
-
-  -- one statement, of so many rows
-  module _ {X : Type 0} (rows : List Row) (n : ℕ) (old new : Transaction S) (q : Result X Error) (text : List ℕ) where
-    abbrev pub TurnsBy : Type 0
-    TurnsBy = (schema : Schema) (at : ℕ) (table : Table) → PutsIn schema at table n text
-        → AllByRecursion (SuitColumns table.columns) rows → Adds g schema table rows old.conn.now new.conn.now
-
-    pub added_some : n ≡ many → text ≡ some → Continues g old new
-        → RunsInside g ((text, columns_of rows) ∷ []) old.conn.now new.conn.now q → OnOk q TurnsBy
-        → Added ((text, columns_of rows) ∷ []) rows old new q
-    added_some long is kept ran ok = record {
-      continues = kept;
-      runs = ran;
-      ok = on_ok q _ _ (λ turns schema at table whole single suits. turns schema at table
-          (subst₂ (PutsIn schema at table) (sym long) (sym is) whole) suits) ok;
-    }
-
-    pub added_one : n ≡ 1 → text ≡ one → Continues g old new
-        → RunsInside g ((text, columns_of rows) ∷ []) old.conn.now new.conn.now q → OnOk q TurnsBy
-        → Added ((text, columns_of rows) ∷ []) rows old new q
-    added_one long is kept ran ok = record {
-      continues = kept;
-      runs = ran;
-      ok = on_ok q _ _ (λ turns schema at table whole single suits. turns schema at table
-          (subst₂ (PutsIn schema at table) (sym long) (sym is) single) suits) ok;
-    }
 
   -- ---- in a loop
 
@@ -134,21 +110,69 @@ module _ {S : Type 0} (g : Ghosts S) (some one : List ℕ) where
   Leaves calls rows old rest left now =
       (new : Transaction S) (r : Result (Unit {0}) Error) → Added rest left now new r → Added calls rows old new r
 
-  module _ (calls : List Call) (rows : List Row) (old mid new : Transaction S) (rest after : List Call)
-      (left run more : List Row) (parts : left ≡ run ++ more) (text : List ℕ)
-      (first : rest ≡ (text, columns_of run) ∷ after) {X : Type 0} (q : Result X Error)
-      (before : Leaves calls rows old rest left mid)
-      (it : Added ((text, columns_of run) ∷ []) run mid new q) where
-    -- one statement more ran
-    pub one_put : (x : X) → q ≡ Ok x → Leaves calls rows old after more new
-    one_put x is last r next = before last r (subst₂ (λ c l. Added c l mid last r) (sym first) (sym parts)
-        (added_then q x r is it next))
-
-    -- one failed
-    pub one_failed : (e : Error) (r : Result (Unit {0}) Error) → q ≡ Err e → IsErrAnd r (λ z. z ≡ e)
+  -- what a call in the loop leads to
+  pub record GoesOn {X : Type 0} (calls : List Call) (rows : List Row) (old : Transaction S) (rest : List Call)
+      (left : List Row) (new : Transaction S) (result : Result X Error) : Type 0 where
+    pub ran : (x : X) → result ≡ Ok x → Leaves calls rows old rest left new
+    pub failed : (e : Error) (r : Result (Unit {0}) Error) → result ≡ Err e → IsErrAnd r (λ z. z ≡ e)
         → Added calls rows old new r
-    one_failed e r is told = before new r (subst₂ (λ c l. Added c l mid new r) (sym first) (sym parts)
-        (added_stops after (run ++ more) q e r is told it))
+
+  -- a statement put the first of the rows that were left
+  first_put : {X : Type 0} {calls : List Call} {rows : List Row} {old mid new : Transaction S} {q : Result X Error}
+      (rest after : List Call) (left run more : List Row) (text : List ℕ) → left ≡ run ++ more
+      → rest ≡ (text, columns_of run) ∷ after → Leaves calls rows old rest left mid
+      → Added ((text, columns_of run) ∷ []) run mid new q → GoesOn calls rows old after more new q
+  first_put {mid = mid} {new = new} {q = q} rest after left run more text parts first before it = record {
+    ran = λ x is last r next. before last r (subst₂ (λ c l. Added c l mid last r) (sym first) (sym parts)
+        (added_then q x r is it next));
+    failed = λ e r is told. before new r (subst₂ (λ c l. Added c l mid new r) (sym first) (sym parts)
+        (added_stops after (run ++ more) q e r is told it));
+  }
+
+  module _ {X : Type 0} (old mid new : Transaction S) (q : Result X Error) (cells run more : List Row)
+      (parts : cells ≡ run ++ more) (kept : Continues g mid new) where
+    bound_parts : map as_bound cells ≡ map as_bound run ++ map as_bound more
+    bound_parts = ap (map as_bound) parts ∙ map-append as_bound run more
+
+    -- by a text that puts as many rows as these
+    abbrev pub TurnsBy : List ℕ → Type 0
+    TurnsBy text = OnOk q ((schema : Schema) (at : ℕ) (table : Table) → PutsIn schema at table (length run) text
+        → AllByRecursion (SuitColumns table.columns) (map as_bound run)
+        → Adds g schema table (map as_bound run) mid.conn.now new.conn.now)
+
+    pub run_put : {calls : List Call} {all : List Row} → length run ≡ many
+        → RunsInside g ((some, columns_of (map as_bound run)) ∷ []) mid.conn.now new.conn.now q → TurnsBy some
+        → Leaves calls all old (puts some one (map as_bound cells)) (map as_bound cells) mid
+        → GoesOn calls all old (puts some one (map as_bound more)) (map as_bound more) new q
+    run_put long ran ok before =
+        let rows = map as_bound run in
+        let after = puts some one (map as_bound more) in
+        first_put (puts some one (map as_bound cells)) after (map as_bound cells) rows (map as_bound more) some
+        bound_parts (ap (puts some one) bound_parts ∙ puts_run some one rows (map as_bound more)
+        (length-map run as_bound ∙ long))
+        before (record {
+          continues = kept;
+          runs = ran;
+          ok = on_ok q _ _ (λ turns schema at table whole single suits. turns schema at table
+              (subst (λ n. PutsIn schema at table n some) (sym long) whole) suits) ok;
+        })
+
+    pub row_put : {calls : List Call} {all : List Row} → length run ≡ 1
+        → RunsInside g ((one, columns_of (map as_bound run)) ∷ []) mid.conn.now new.conn.now q → TurnsBy one
+        → Leaves calls all old (singles one (map as_bound cells)) (map as_bound cells) mid
+        → GoesOn calls all old (singles one (map as_bound more)) (map as_bound more) new q
+    row_put long ran ok before =
+        let rows = map as_bound run in
+        let after = singles one (map as_bound more) in
+        first_put (singles one (map as_bound cells)) after (map as_bound cells) rows (map as_bound more) one
+        bound_parts (ap (singles one) bound_parts ∙ singles_run one rows (map as_bound more)
+        (length-map run as_bound ∙ long))
+        before (record {
+          continues = kept;
+          runs = ran;
+          ok = on_ok q _ _ (λ turns schema at table whole single suits. turns schema at table
+              (subst (λ n. PutsIn schema at table n one) (sym long) single) suits) ok;
+        })
 
   -- none is left
   pub all_put : (calls : List Call) (rows : List Row) (old now : Transaction S) (left : List Row) → length left ≡ 0

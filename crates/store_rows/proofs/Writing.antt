@@ -15,7 +15,7 @@ use Rattle.sqlite.specs.Order.{Row}
 use Rattle.sqlite.specs.Tree.{Trees, rowid, put_row}
 use Rattle.sqlite.specs.Schema.{Schema}
 use Rattle.sqlite.specs.Table.{Table}
-use Rattle.sqlite.specs.Term.{Term, lit, col, eval, eval_all, holds}
+use Rattle.sqlite.specs.Term.{lit, col, eval, eval_all, holds}
 use Rattle.sqlite_schema.specs.declared.schema.Column.{Column}
 use Rattle.sqlite_schema.specs.declared.schema.Keys.TheVariants.{Enforced}
 use Rattle.sqlite.specs.Edit.{edit_of, with_rowid, next_rowid, taken_by, are_fresh, have_rowids, put_all, edited}
