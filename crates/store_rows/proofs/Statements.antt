@@ -3,7 +3,7 @@ use Rattle.std.proofs.Common.{◌≡◌, ◌⊎◌, inl, inr, ℕ, ℤ, ◌/◌,
 use Rattle.std.proofs.Common.{MatchBool, filter, IsPermutation, List, [], ◌∷◌, ◌++◌, map, slice_get}
 use Rattle.std.proofs.Common.{unwrap_or, Bool, true, false, Option, Some, None, Ok, Err, Result, IsTrue, refl, sym}
 use Rattle.std.proofs.Common.{ap, subst, subst₂, ◌∙◌, append-nil, fold}
-use Rattle.std.proofs.lemmas.Bool.{cases_Bool}
+use Rattle.std.proofs.lemmas.Bool.{cases_Bool, and_parts, not-true}
 use Rattle.std.specs.List.{flat_map, list_all}
 use Rattle.std.proofs.lemmas.List.Sorted.{IsPermutation-map}
 use Rattle.terms.proofs.Lists.{flat_if_single}
@@ -17,7 +17,7 @@ use Rattle.sqlite.specs.Program.{IsProgramAnswer}
 use Rattle.sqlite_value.specs.declared.keys.Key.{Key}
 use Rattle.sqlite_trees.proofs.ListLemmas.{map-map}
 use Rattle.sqlite.specs.Term.{Term, eval_all, holds}
-use Rattle.sqlite.specs.Tree.{Trees}
+use Rattle.sqlite.specs.Tree.{Trees, put_row}
 use Rattle.sqlite.specs.Table.{Table}
 use Rattle.sqlite.specs.Schema.{Schema}
 use Rattle.sqlite.specs.Source.TheVariants.{Values}
@@ -25,7 +25,7 @@ use Rattle.sqlite.specs.Command.TheVariants.{Insert, InsertOr, Update, Delete}
 use Rattle.sqlite_schema.specs.declared.command.Conflict.TheVariants.{Abort}
 use Rattle.sqlite_schema.specs.declared.command.Upsert.{Upsert}
 use Rattle.sqlite.specs.Cast.{cast_row}
-use Rattle.sqlite.specs.Edit.{edit_of, with_rowid}
+use Rattle.sqlite.specs.Edit.{is_taken, put_all, edit_of, with_rowid, are_fresh, Applies}
 use Rattle.sqlite_rules.specs.Edit.{Edit, taken_by}
 use Rattle.sqlite.specs.Rowids.TheVariants.{Chosen, Given, Above}
 use Rattle.sqlite.specs.Effect.{Database, Answers, value_rows}
@@ -36,10 +36,13 @@ use Rattle.sqlite.specs.Rows.{Inserts, InsertsOr, Updates, Deletes}
 use Rattle.sqlite.specs.State.{State, HasCleanDisk, mode_of, Writes, Executes, ExecutesInside}
 use Rattle.sqlite.specs.Store.{Ghosts}
 use Rattle.sqlite.specs.Held.{Held, state}
+use Rattle.sqlite.proofs.Callers.{one_step}
 use Rattle.sqlite_schema.specs.declared.schema.Keys.TheVariants.{Enforced}
 use Rattle.sqlite_schema.specs.declared.program.Program.{Program}
+use Rattle.sqlite_rules.specs.Action.{works}
 use Rattle.sqlite_rules.specs.Action as action
 use Rattle.sqlite_rules.specs.Calls.{ids_of}
+use Rattle.sqlite_rules.proofs.ActionLemmas.{no_works}
 use Rattle.store_rows.specs.Texts.{scan_by}
 
 -- a statement that answered in a transaction ran
@@ -216,6 +219,21 @@ module _ (old new : State) (schema : Schema) (has : old.now.schema ≡ schema) (
       let edit = λ (rows : List Row). edit_of db table (ids_of rows) Given 1 rows in
       queried q edit (λ rows next. record { trees = next; rows = (edit rows).news; last = None }) (λ _ _. refl)
       (wrote (λ it. Updates it q params db) w.tally w.changed)
+
+-- One row is put in. No foreign key acts on it.
+pub puts_one : (schema : Schema) (table : Table) (db next : Trees) (sources : List Row) (new : Row)
+    → (edit_of db table [] Chosen 0 sources).news ≡ new ∷ []
+    → action.Writes schema Enforced db (edit_of db table [] Chosen 0 sources) (Ok next)
+    → (is_taken (db table.tree) new ≡ false) × (next table.tree ≡ put_row new (db table.tree))
+    × Applies schema Enforced db (edit_of db table [] Chosen 0 sources) next
+puts_one schema table db next sources new is w =
+    let edit = edit_of db table [] Chosen 0 sources in
+    let a = one_step schema Enforced db next edit (no_works schema Enforced 0 table.tree edit.news) w in (
+      not-true _ (and_parts _ _ (subst (λ news. are_fresh (db table.tree) news ≡ true) is a.fresh)).0,
+      a.rows
+          ∙ ap (put_all (db table.tree)) is,
+      a,
+    )
 
 abbrev no_tables : List (List Row)
 no_tables = []
