@@ -31,7 +31,12 @@ use terms::Kind;
 
 const SELECT: &str = "SELECT id, kind, sources FROM sysmod";
 
-const INSERT: &str = "INSERT INTO sysmod (id, kind, sources) VALUES (?1, ?2, ?3)";
+pub(crate) const INSERT: &str = "INSERT INTO sysmod (id, kind, sources) VALUES (?1, ?2, ?3)";
+
+// Sixteen rows, as many as one statement puts.
+pub(crate) const INSERT_MANY: &str = "INSERT INTO sysmod (id, kind, sources) VALUES \
+    (?, ?, ?), (?, ?, ?), (?, ?, ?), (?, ?, ?), (?, ?, ?), (?, ?, ?), (?, ?, ?), (?, ?, ?), (?, ?, ?), (?, ?, ?), \
+    (?, ?, ?), (?, ?, ?), (?, ?, ?), (?, ?, ?), (?, ?, ?), (?, ?, ?)";
 
 const DELETE: &str = "DELETE FROM sysmod WHERE id = ?1";
 

@@ -23,7 +23,12 @@ use store_schema::{Query, id_in};
 
 const SELECT: &str = "SELECT id, name FROM source";
 
-const INSERT: &str = "INSERT INTO source (id, name) VALUES (?1, ?2)";
+pub(crate) const INSERT: &str = "INSERT INTO source (id, name) VALUES (?1, ?2)";
+
+// Sixteen rows, as many as one statement puts.
+pub(crate) const INSERT_MANY: &str = "INSERT INTO source (id, name) VALUES \
+    (?, ?), (?, ?), (?, ?), (?, ?), (?, ?), (?, ?), (?, ?), (?, ?), (?, ?), (?, ?), (?, ?), (?, ?), (?, ?), \
+    (?, ?), (?, ?), (?, ?)";
 
 const DELETE: &str = "DELETE FROM source WHERE id = ?1";
 
