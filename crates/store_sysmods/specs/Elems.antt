@@ -6,7 +6,7 @@ use Rattle.terms.specs.Forms.{IsId}
 use Rattle.terms.specs.Types.{Text, Lines, Action, Replaces, Updates}
 use Rattle.store_schema.specs.Forms.{HasChangeForms}
 use Rattle.store_schema.specs.Rows.{elem_row}
-use Rattle.store_sysmods.specs.declared.elem.TheConstants.{SELECT, INSERT, DELETE}
+use Rattle.store_sysmods.specs.declared.elem.TheConstants.{SELECT, INSERT, INSERT_MANY, DELETE}
 use Rattle.store_sysmods.specs.declared.elem.ElemRow.{ElemRow}
 
 abbrev pub select_elems : List ℕ
@@ -14,6 +14,9 @@ select_elems = SELECT.now
 
 abbrev pub insert_elem : List ℕ
 insert_elem = INSERT.now
+
+abbrev pub insert_elems : List ℕ
+insert_elems = INSERT_MANY.now
 
 abbrev pub delete_elems : List ℕ
 delete_elems = DELETE.now

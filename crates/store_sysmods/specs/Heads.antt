@@ -9,7 +9,7 @@ use Rattle.store_schema.specs.Forms.{AreSorted}
 use Rattle.store_schema.specs.Rows.{ids}
 use Rattle.store_schema.specs.declared.schema.Schema.{Schema}
 use Rattle.store_schema.specs.declared.schema.Schema.TheVariants.{First}
-use Rattle.store_sysmods.specs.declared.head.TheConstants.{SELECT, INSERT, DELETE}
+use Rattle.store_sysmods.specs.declared.head.TheConstants.{SELECT, INSERT, INSERT_MANY, DELETE}
 use Rattle.store_sysmods.specs.declared.head.HeadRow.{HeadRow}
 use Rattle.store_sysmods.specs.declared.head.BareHead.{BareHead}
 
@@ -18,6 +18,9 @@ select_sysmods = SELECT.now
 
 abbrev pub insert_sysmod : List ℕ
 insert_sysmod = INSERT.now
+
+abbrev pub insert_sysmods : List ℕ
+insert_sysmods = INSERT_MANY.now
 
 abbrev pub delete_sysmod : List ℕ
 delete_sysmod = DELETE.now

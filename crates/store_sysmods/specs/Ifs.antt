@@ -6,7 +6,7 @@ use Rattle.terms.specs.Forms.{IsId, IsSrel}
 use Rattle.terms.specs.Types.{Id, Ver}
 use Rattle.store_schema.specs.Forms.{HasIfForms}
 use Rattle.store_schema.specs.Rows.{ifreq_row, is_first}
-use Rattle.store_sysmods.specs.declared.ifreq.TheConstants.{SELECT, INSERT, DELETE}
+use Rattle.store_sysmods.specs.declared.ifreq.TheConstants.{SELECT, INSERT, INSERT_MANY, DELETE}
 use Rattle.store_sysmods.specs.declared.ifreq.IfRow.{IfRow}
 
 abbrev pub select_ifreqs : List ℕ
@@ -14,6 +14,9 @@ select_ifreqs = SELECT.now
 
 abbrev pub insert_ifreq : List ℕ
 insert_ifreq = INSERT.now
+
+abbrev pub insert_ifreqs : List ℕ
+insert_ifreqs = INSERT_MANY.now
 
 abbrev pub delete_ifreqs : List ℕ
 delete_ifreqs = DELETE.now

@@ -4,7 +4,7 @@ use Rattle.std.specs.List.{enumerate_from}
 use Rattle.sqlite.specs.Order.{Row}
 use Rattle.terms.specs.Types.{Id, Ver}
 use Rattle.store_schema.specs.Rows.{moreif_row, is_first}
-use Rattle.store_sysmods.specs.declared.moreif.TheConstants.{SELECT, INSERT, DELETE}
+use Rattle.store_sysmods.specs.declared.moreif.TheConstants.{SELECT, INSERT, INSERT_MANY, DELETE}
 use Rattle.store_sysmods.specs.declared.ifreq.IfRow.{IfRow}
 use Rattle.store_sysmods.specs.Ifs.{HasIfRowForms}
 
@@ -13,6 +13,9 @@ select_moreifs = SELECT.now
 
 abbrev pub insert_moreif : List ℕ
 insert_moreif = INSERT.now
+
+abbrev pub insert_moreifs : List ℕ
+insert_moreifs = INSERT_MANY.now
 
 abbrev pub delete_moreifs : List ℕ
 delete_moreifs = DELETE.now

@@ -3,7 +3,7 @@ use Rattle.std.specs.Prelude.{◌≡◌, ℕ, ◌<◌, not, if◌then◌else◌,
 use Rattle.sqlite.specs.Order.{Row}
 use Rattle.terms.specs.Types.{Id, Ver}
 use Rattle.store_schema.specs.Rows.{morever_row, is_first}
-use Rattle.store_sysmods.specs.declared.morever.TheConstants.{SELECT, INSERT, DELETE}
+use Rattle.store_sysmods.specs.declared.morever.TheConstants.{SELECT, INSERT, INSERT_MANY, DELETE}
 use Rattle.store_sysmods.specs.declared.ver.VerRow.{VerRow}
 use Rattle.store_sysmods.specs.Vers.{HasVerRowForms}
 
@@ -12,6 +12,9 @@ select_morevers = SELECT.now
 
 abbrev pub insert_morever : List ℕ
 insert_morever = INSERT.now
+
+abbrev pub insert_morevers : List ℕ
+insert_morevers = INSERT_MANY.now
 
 abbrev pub delete_morevers : List ℕ
 delete_morevers = DELETE.now

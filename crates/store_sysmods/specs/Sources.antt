@@ -3,7 +3,7 @@ use Rattle.std.specs.Prelude.{ℕ, List}
 use Rattle.sqlite.specs.Order.{Row}
 use Rattle.terms.specs.Forms.{IsId, IsSource}
 use Rattle.store_schema.specs.Rows.{source_row}
-use Rattle.store_sysmods.specs.declared.source.TheConstants.{SELECT, INSERT, DELETE}
+use Rattle.store_sysmods.specs.declared.source.TheConstants.{SELECT, INSERT, INSERT_MANY, DELETE}
 use Rattle.store_sysmods.specs.declared.source.SourceRow.{SourceRow}
 
 abbrev pub select_sources : List ℕ
@@ -11,6 +11,9 @@ select_sources = SELECT.now
 
 abbrev pub insert_source : List ℕ
 insert_source = INSERT.now
+
+abbrev pub insert_sources : List ℕ
+insert_sources = INSERT_MANY.now
 
 abbrev pub delete_sources : List ℕ
 delete_sources = DELETE.now

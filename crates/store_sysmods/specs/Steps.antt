@@ -5,12 +5,10 @@ use Rattle.sqlite.specs.Order.{Row}
 use Rattle.sqlite.specs.Table.{Table}
 use Rattle.sqlite.specs.declared.transaction.Transaction.{Transaction}
 use Rattle.sqlite.specs.declared.error.Error.{Error}
-use Rattle.store_rows.specs.Calls.{Call, RunsInside}
+use Rattle.store_rows.specs.Calls.{Call, RunsInside, puts}
 use Rattle.store_rows.specs.Inside.{Continues, Turns}
-use Rattle.store_rows.specs.Rows.{Contents, HasContents, in_table}
+use Rattle.store_rows.specs.Rows.{Contents, HasContents, in_table, with_rows}
 use Rattle.store_schema.specs.Tables.{store_schema}
-use Rattle.store_sysmods.specs.Calls.{puts}
-use Rattle.store_sysmods.specs.Sysmods.{with_rows}
 
 -- The statements ran, and made this of what the tables held; or one of them failed, or memory was short. Nothing is
 -- committed.
@@ -20,7 +18,8 @@ pub record Step {S X : Type 0} (g : Ghosts S) (calls : List Call) (make : Conten
   pub runs : RunsInside g calls old.conn.now new.conn.now result
   pub ok : OnOk result (Turns g old.conn.now new.conn.now (HasContents store_schema) make)
 
--- the text ran for each of these rows, and the table holds them too
-abbrev pub Puts : {S X : Type 0} → Ghosts S → List ℕ → Table → List Row → Transaction S → Transaction S
+-- the rows were put by the two texts, and the table holds them too
+abbrev pub Puts : {S X : Type 0} → Ghosts S → List ℕ → List ℕ → Table → List Row → Transaction S → Transaction S
     → Result X Error → Type 0
-Puts g text table rows old new result = Step g (puts text rows) (in_table table (with_rows rows)) old new result
+Puts g some one table rows old new result =
+    Step g (puts some one rows) (in_table table (with_rows rows)) old new result

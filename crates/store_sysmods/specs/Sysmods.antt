@@ -1,5 +1,6 @@
 -- What the rows of a SYSMOD make of the tables, and of the inventory that the tables stand for.
-use Rattle.std.specs.Prelude.{◌≡◌, false, List, [], ◌∷◌, ◌++◌, All}
+use Rattle.std.specs.Prelude.{◌≡◌, false, List, [], ◌∷◌, All, fold, map}
+use Rattle.std.specs.List.{flat_map}
 use Rattle.sqlite.specs.declared.types.Value.TheVariants as value
 use Rattle.sqlite.specs.Order.{Row}
 use Rattle.sqlite.specs.Store.{Ghosts}
@@ -9,32 +10,35 @@ use Rattle.terms.specs.Types.{Text, Id, Sysmod, Global}
 use Rattle.terms.specs.Global.{with_sysmod}
 use Rattle.terms.specs.Lookups.{is_received}
 use Rattle.sysmod.specs.Edited.{with_sources, less_sysmod}
-use Rattle.store_rows.specs.Inside.{Leads, Turns}
-use Rattle.store_rows.specs.Rows.{Contents, HasContents, in_table, with_row, without}
+use Rattle.store_rows.specs.Inside.{Leads}
+use Rattle.store_rows.specs.Rows.{Contents, HasContents, as_bound, in_table, with_rows, without}
 use Rattle.store_schema.specs.Inventory.{Inventory}
 use Rattle.store_schema.specs.Rows.{sysmod_row, sources_of, vers_of, ifreqs_of, elems_of, morevers_of, moreifs_of}
 use Rattle.store_schema.specs.Stands.{rows_of}
 use Rattle.store_schema.specs.Tables.{sysmod, ver, ifreq, elem, source, morever, moreif, store_schema}
+use Rattle.store_sysmods.specs.declared.sysmod_rows.SysmodRows.{SysmodRows}
 
 -- the SYSMOD, from these sources
 abbrev pub sourced : Sysmod → List Text → Sysmod
 sourced s sources = record s { sources = sources }
 
--- these rows too
-abbrev pub with_rows : List Row → List Row → List Row
-with_rows news rows = news ++ rows
+-- Rows that wait to be written: they are those of these SYSMODs, table after table.
+pub record AreRowsOf (rows : SysmodRows) (ss : List Sysmod) : Type 0 where
+  pub sysmods : map as_bound rows.sysmods.items ≡ map sysmod_row ss
+  pub sources : map as_bound rows.sources.items ≡ flat_map sources_of ss
+  pub vers : map as_bound rows.vers.items ≡ flat_map vers_of ss
+  pub ifreqs : map as_bound rows.ifreqs.items ≡ flat_map ifreqs_of ss
+  pub elems : map as_bound rows.elems.items ≡ flat_map elems_of ss
+  pub morevers : map as_bound rows.morevers.items ≡ flat_map morevers_of ss
+  pub moreifs : map as_bound rows.moreifs.items ≡ flat_map moreifs_of ss
 
--- one table holds these rows too
-abbrev pub Adds : {S : Type 0} → Ghosts S → Held S → Held S → Table → List Row → Type 0
-Adds g old new table news = Turns g old new (HasContents store_schema) (in_table table (with_rows news))
-
--- the tables hold the rows of the SYSMOD too
-abbrev pub with_sysmod_rows : Sysmod → Contents → Contents
-with_sysmod_rows s contents =
-    in_table moreif (with_rows (moreifs_of s)) (in_table morever (with_rows (morevers_of s))
-    (in_table elem (with_rows (elems_of s)) (in_table ifreq (with_rows (ifreqs_of s))
-    (in_table ver (with_rows (vers_of s)) (in_table source (with_rows (sources_of s))
-    (in_table sysmod (with_row (sysmod_row s)) contents))))))
+-- the tables hold the rows of these SYSMODs too
+abbrev pub with_sysmods_rows : List Sysmod → Contents → Contents
+with_sysmods_rows ss contents =
+    in_table moreif (with_rows (flat_map moreifs_of ss)) (in_table morever (with_rows (flat_map morevers_of ss))
+    (in_table elem (with_rows (flat_map elems_of ss)) (in_table ifreq (with_rows (flat_map ifreqs_of ss))
+    (in_table ver (with_rows (flat_map vers_of ss)) (in_table source (with_rows (flat_map sources_of ss))
+    (in_table sysmod (with_rows (map sysmod_row ss)) contents))))))
 
 -- the first column of the SYSMOD's rows
 abbrev pub sysmod_key : Id → Row
@@ -65,11 +69,19 @@ ChangesGlobal g old new Fits make =
     (i : Inventory) → Fits i.global → Leads g old new (HasContents store_schema (rows_of i))
     (HasContents store_schema (rows_of (record i { global = make i.global })))
 
--- The SYSMOD, which is not received, takes its place among the others. Its holds are not among those of the global zone
+-- SYSMODs that come to the global zone, one after the other
+abbrev pub with_sysmods : List Sysmod → Global → Global
+with_sysmods ss global = fold with_sysmod global ss
+
+-- none of them is received when it comes
+abbrev pub AreNew : List Sysmod → Global → Type 0
+AreNew [] global = Unit {0}
+AreNew (s ∷ ss) global = (is_received global s.id ≡ false) × AreNew ss (with_sysmod global s)
+
+-- SYSMODs that are not received take their places among the others. Their holds are not among those of the global zone
 -- yet.
-abbrev pub AddsSysmod : {S : Type 0} → Ghosts S → Held S → Held S → Sysmod → Type 0
-AddsSysmod g old new s = ChangesGlobal g old new (λ global. is_received global s.id ≡ false)
-    (λ global. with_sysmod global s)
+abbrev pub AddsSysmods : {S : Type 0} → Ghosts S → Held S → Held S → List Sysmod → Type 0
+AddsSysmods g old new ss = ChangesGlobal g old new (AreNew ss) (with_sysmods ss)
 
 -- The SYSMOD's sources take the place of those that it had.
 abbrev pub ReplacesSources : {S : Type 0} → Ghosts S → Held S → Held S → Sysmod → Type 0

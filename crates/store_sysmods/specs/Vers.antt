@@ -7,7 +7,7 @@ use Rattle.terms.specs.Forms.{IsId}
 use Rattle.terms.specs.Types.{Id, Ver}
 use Rattle.store_schema.specs.Forms.{HasVerForms}
 use Rattle.store_schema.specs.Rows.{ver_row, is_first}
-use Rattle.store_sysmods.specs.declared.ver.TheConstants.{SELECT, INSERT, DELETE}
+use Rattle.store_sysmods.specs.declared.ver.TheConstants.{SELECT, INSERT, INSERT_MANY, DELETE}
 use Rattle.store_sysmods.specs.declared.ver.Lists.{Lists}
 use Rattle.store_sysmods.specs.declared.ver.VerRow.{VerRow}
 
@@ -16,6 +16,9 @@ select_vers = SELECT.now
 
 abbrev pub insert_ver : List ℕ
 insert_ver = INSERT.now
+
+abbrev pub insert_vers : List ℕ
+insert_vers = INSERT_MANY.now
 
 abbrev pub delete_vers : List ℕ
 delete_vers = DELETE.now

@@ -1,49 +1,46 @@
-//! Rows that are added to one table, an item after the other.
+//! The rows of the items of a list, each of which may count those before it.
 
-ghost use Rattle.std.specs.Prelude.{◌≡◌, ◌+◌, ◌<◌, ◌^◌, length, []};
+ghost use Rattle.std.specs.Prelude.{◌≡◌, ◌+◌, ◌<◌, ◌^◌, ◌++◌, length, map, [], OnOk};
+ghost use Rattle.store_rows.specs.Rows.{as_bound};
 ghost use Rattle.store_sysmods.specs.Behind.{rows_behind};
-ghost use Rattle.store_sysmods.specs.Steps.{Puts};
 
-use sqlite::{Alter, Error, Transaction};
+use sqlite_value::row::Row as Cells;
+use std::alloc::AllocError;
 
 /// Which rows of one table an item has, behind others of its list.
 pub(crate) trait Rows {
-    ghost use Rattle.std.specs.Prelude.{◌≡◌, ◌+◌, ◌<◌, ◌^◌, ℕ, List, length};
+    ghost use Rattle.std.specs.Prelude.{◌≡◌, ◌+◌, ◌<◌, ◌^◌, ◌++◌, List, length, map, OnOk};
     ghost use Rattle.sqlite.specs.Order.{Row};
-    ghost use Rattle.sqlite.specs.Table.{Table};
-    ghost use Rattle.store_sysmods.specs.Steps.{Puts};
+    ghost use Rattle.store_rows.specs.Rows.{as_bound};
 
     type Item;
 
-    // The statement that puts a row into the table.
-    ghost text: { List ℕ };
-
-    ghost table: { Table };
-
-    ghost rows: { Self → List Self.Item → Self.Item → List Row };
+    ghost of_item: { Self → List Self.Item → Self.Item → List Row };
 
     /// Adds the rows of the item.
-    fn insert<S: Alter>(
+    fn push(
         &self,
-        tx: &mut Transaction<'_, S>,
+        rows: &mut Vec<Cells>,
         front: &[Self::Item],
         item: &Self::Item,
-    ) -> Result<(), Error>
+    ) -> Result<(), AllocError>
         requires { length front.now + 1 < 2 ^ 63 }
-        ensures { Puts S.Store text table (rows self.now front.now item.now) tx.old tx.new result };
+        ensures { OnOk result (map as_bound rows.new.items
+            ≡ map as_bound rows.old.items ++ of_item self.now front.now item.now) };
 }
 
 /// Adds the rows of each item.
-pub(crate) fn insert_all<R: Rows, S: Alter>(
-    tx: &mut Transaction<'_, S>,
+pub(crate) fn push_all<R: Rows>(
+    rows: &mut Vec<Cells>,
     kind: &R,
     items: &[R::Item],
-) -> Result<(), Error>
+) -> Result<(), AllocError>
     requires { length items.now < 2 ^ 63 }
-    ensures { Puts S.Store R.text R.table (rows_behind (R.rows kind.now) [] items.now) tx.old tx.new result }
+    ensures { OnOk result (map as_bound rows.new.items
+        ≡ map as_bound rows.old.items ++ rows_behind (R.of_item kind.now) [] items.now) }
 {
     for (index, item) in items.iter().enumerate() {
-        kind.insert(tx, &items[..index], item)?;
+        kind.push(rows, &items[..index], item)?;
     }
     Ok(())
 }

@@ -1,81 +1,186 @@
 //! SYSMODs, whose rows stand in a table of their own and in those that refer to it.
 
-ghost use Rattle.std.specs.Prelude.{◌≡◌, OnOk};
+ghost use Rattle.std.specs.Prelude.{◌≡◌, List, [], ◌∷◌, ◌++◌, length, OnOk};
+ghost use Rattle.terms.specs.Types.{Sysmod as ASysmod};
 ghost use Rattle.store_rows.specs.Calls.{RunsInside};
 ghost use Rattle.store_rows.specs.Inside.{Continues, Turns};
 ghost use Rattle.store_rows.specs.Rows.{HasContents};
 ghost use Rattle.store_schema.specs.Tables.{store_schema};
-ghost use Rattle.store_sysmods.specs.Calls.{insert_sysmod_calls, remove_sysmod_calls, replace_sources_calls};
-ghost use Rattle.store_sysmods.specs.Steps.{Step};
-ghost use Rattle.store_sysmods.specs.Sysmods.{AddsSysmod, ReplacesSources, RemovesSysmod, sourced};
-ghost use Rattle.store_sysmods.specs.Sysmods.{with_source_rows, with_sysmod_rows, without_sysmod_rows};
+ghost use Rattle.store_sysmods.specs.Calls.{insert_sysmods_calls, remove_sysmod_calls, replace_sources_calls};
+ghost use Rattle.store_sysmods.specs.Sysmods.{AddsSysmods, AreRowsOf, ReplacesSources, RemovesSysmod, sourced};
+ghost use Rattle.store_sysmods.specs.Sysmods.{with_source_rows, with_sysmods_rows, without_sysmod_rows};
 
 use crate::elem::Changes;
 use crate::ifreq::FirstIfs;
 use crate::moreif::FurtherIfs;
 use crate::morever::FurtherVers;
-use crate::rows::insert_all;
+use crate::rows::push_all;
 use crate::source::SourcesOf;
 use crate::ver::FirstVers;
 use crate::{elem, head, ifreq, moreif, morever, source, ver};
 use fields::{Id, Source};
 use sqlite::{Alter, Error, Transaction};
-use std::alloc::Global;
+use sqlite_value::row::Row as Cells;
+use std::alloc::{AllocError, Global};
+use store_rows::insert_rows;
 use sysmod::Sysmod;
 
-// Adds the SYSMOD's rows, table after table.
-fn insert_rows<S: Alter>(
-    alloc: Global,
-    tx: &mut Transaction<'_, S>,
-    sysmod: &Sysmod,
-    sources: &[Source],
-) -> Result<(), Error>
-    ensures { Step S.Store (insert_sysmod_calls (sourced sysmod.now sources.now))
-        (with_sysmod_rows (sourced sysmod.now sources.now)) tx.old tx.new result }
-{
-    let id = sysmod.id;
-    head::insert_row(tx, sysmod)?;
-    insert_all(tx, &SourcesOf { id }, sources)?;
-    insert_all(tx, &FirstVers { alloc, id }, sysmod.vers.as_slice())?;
-    insert_all(tx, &FirstIfs { alloc, id }, sysmod.vers.as_slice())?;
-    insert_all(tx, &Changes { alloc, id }, sysmod.changes.as_slice())?;
-    insert_all(tx, &FurtherVers { alloc, id }, sysmod.vers.as_slice())?;
-    insert_all(tx, &FurtherIfs { alloc, id }, sysmod.vers.as_slice())
+/// The rows of SYSMODs that wait to be written, table after table, so that one statement puts those of several.
+#[derive(Drop)]
+pub struct SysmodRows {
+    sysmods: Vec<Cells>,
+    sources: Vec<Cells>,
+    vers: Vec<Cells>,
+    ifreqs: Vec<Cells>,
+    elems: Vec<Cells>,
+    morevers: Vec<Cells>,
+    moreifs: Vec<Cells>,
 }
 
-/// Adds the rows of the SYSMOD, of these sources in place of its own, of its `++VER`s with their `++IF`s, and of its
-/// element statements, which are not there. Its holds have a table of their own. An error comes where the disk fails,
-/// where memory is short, and where the database refuses a row: its own, if its id is received, or one of two of one
-/// key.
-pub fn insert_sysmod<S: Alter>(
+impl SysmodRows {
+    pub fn new(alloc: Global) -> SysmodRows
+        ensures { AreRowsOf result [] }
+    {
+        SysmodRows {
+            sysmods: Vec::new(alloc),
+            sources: Vec::new(alloc),
+            vers: Vec::new(alloc),
+            ifreqs: Vec::new(alloc),
+            elems: Vec::new(alloc),
+            morevers: Vec::new(alloc),
+            moreifs: Vec::new(alloc),
+        }
+    }
+
+    /// How many SYSMODs they are of.
+    pub fn len(&self) -> usize
+        ensures { (ss : List ASysmod) → AreRowsOf self.now ss → result ≡ length ss }
+    {
+        self.sysmods.len()
+    }
+
+    /// Adds the rows of the SYSMOD, of these sources in place of its own, of its `++VER`s with their `++IF`s, and of
+    /// its element statements. Its holds have a table of their own.
+    pub fn push(
+        &mut self,
+        alloc: Global,
+        sysmod: &Sysmod,
+        sources: &[Source],
+    ) -> Result<(), AllocError>
+        ensures { OnOk result ((ss : List ASysmod) → AreRowsOf self.old ss
+            → AreRowsOf self.new (ss ++ sourced sysmod.now sources.now ∷ [])) }
+    {
+        let id = sysmod.id;
+        let vers = sysmod.vers.as_slice();
+        self.sysmods.push(head::row_of(alloc, sysmod)?)?;
+        push_all(&mut self.sources, &SourcesOf { alloc, id }, sources)?;
+        push_all(&mut self.vers, &FirstVers { alloc, id }, vers)?;
+        push_all(&mut self.ifreqs, &FirstIfs { alloc, id }, vers)?;
+        push_all(
+            &mut self.elems,
+            &Changes { alloc, id },
+            sysmod.changes.as_slice(),
+        )?;
+        push_all(&mut self.morevers, &FurtherVers { alloc, id }, vers)?;
+        push_all(&mut self.moreifs, &FurtherIfs { alloc, id }, vers)
+    }
+}
+
+/// Adds the rows of SYSMODs, which are not there. An error comes where the disk fails, where memory is short, and where
+/// the database refuses a row: that of a SYSMOD whose id is received, or one of two of one key.
+pub fn insert_sysmods<S: Alter>(
     alloc: Global,
     tx: &mut Transaction<'_, S>,
-    sysmod: &Sysmod,
-    sources: &[Source],
+    rows: &SysmodRows,
 ) -> Result<(), Error>
     ensures continues { Continues S.Store tx.old tx.new }
-    ensures calls { RunsInside S.Store (insert_sysmod_calls (sourced sysmod.now sources.now)) tx.old.conn.now
-        tx.new.conn.now result }
-    ensures ok { OnOk result (Turns S.Store tx.old.conn.now tx.new.conn.now (HasContents store_schema)
-        (with_sysmod_rows (sourced sysmod.now sources.now))) }
-    ensures stands { OnOk result (AddsSysmod S.Store tx.old.conn.now tx.new.conn.now
-        (sourced sysmod.now sources.now)) }
+    ensures calls { (ss : List ASysmod) → AreRowsOf rows.now ss
+        → RunsInside S.Store (insert_sysmods_calls ss) tx.old.conn.now tx.new.conn.now result }
+    ensures ok { OnOk result ((ss : List ASysmod) → AreRowsOf rows.now ss
+        → Turns S.Store tx.old.conn.now tx.new.conn.now (HasContents store_schema) (with_sysmods_rows ss)) }
+    ensures stands { OnOk result ((ss : List ASysmod) → AreRowsOf rows.now ss
+        → AddsSysmods S.Store tx.old.conn.now tx.new.conn.now ss) }
 {
-    insert_rows(alloc, tx, sysmod, sources)
+    insert_rows(
+        alloc,
+        tx,
+        head::INSERT_MANY,
+        head::INSERT,
+        rows.sysmods.as_slice(),
+    )?;
+    insert_rows(
+        alloc,
+        tx,
+        source::INSERT_MANY,
+        source::INSERT,
+        rows.sources.as_slice(),
+    )?;
+    insert_rows(
+        alloc,
+        tx,
+        ver::INSERT_MANY,
+        ver::INSERT,
+        rows.vers.as_slice(),
+    )?;
+    insert_rows(
+        alloc,
+        tx,
+        ifreq::INSERT_MANY,
+        ifreq::INSERT,
+        rows.ifreqs.as_slice(),
+    )?;
+    insert_rows(
+        alloc,
+        tx,
+        elem::INSERT_MANY,
+        elem::INSERT,
+        rows.elems.as_slice(),
+    )?;
+    insert_rows(
+        alloc,
+        tx,
+        morever::INSERT_MANY,
+        morever::INSERT,
+        rows.morevers.as_slice(),
+    )?;
+    insert_rows(
+        alloc,
+        tx,
+        moreif::INSERT_MANY,
+        moreif::INSERT,
+        rows.moreifs.as_slice(),
+    )
 }
 
 /// Puts the rows of the SYSMOD's sources in place of those that are there. Where it is not received and has a source,
 /// the database refuses the first of them, and of two that are the same the second. Any other error comes of the disk,
 /// or of memory that is short.
-pub fn replace_sources<S: Alter>(tx: &mut Transaction<'_, S>, sysmod: &Sysmod) -> Result<(), Error>
+pub fn replace_sources<S: Alter>(
+    alloc: Global,
+    tx: &mut Transaction<'_, S>,
+    sysmod: &Sysmod,
+) -> Result<(), Error>
     ensures continues { Continues S.Store tx.old tx.new }
     ensures calls { RunsInside S.Store (replace_sources_calls sysmod.now) tx.old.conn.now tx.new.conn.now result }
     ensures ok { OnOk result (Turns S.Store tx.old.conn.now tx.new.conn.now (HasContents store_schema)
         (with_source_rows sysmod.now)) }
     ensures stands { OnOk result (ReplacesSources S.Store tx.old.conn.now tx.new.conn.now sysmod.now) }
 {
-    source::remove_rows(tx, sysmod.id)?;
-    insert_all(tx, &SourcesOf { id: sysmod.id }, sysmod.sources.as_slice())
+    let id = sysmod.id;
+    let mut rows = Vec::new(alloc);
+    push_all(
+        &mut rows,
+        &SourcesOf { alloc, id },
+        sysmod.sources.as_slice(),
+    )?;
+    source::remove_rows(tx, id)?;
+    insert_rows(
+        alloc,
+        tx,
+        source::INSERT_MANY,
+        source::INSERT,
+        rows.as_slice(),
+    )
 }
 
 /// Takes out the SYSMOD of the id, if there is one, with all its rows. The holds on it stay. An error comes where the

@@ -1,13 +1,13 @@
 //! The table of `++VER`s, of which a SYSMOD has one for each SREL here: the first.
 
 ghost use Rattle.std.specs.Prelude.{◌≡◌, ◌≢◌, [], ◌∷◌, IfOk, IsErrOf};
-ghost use Rattle.store_rows.specs.Rows.{in_table, without};
+ghost use Rattle.store_rows.specs.Rows.{as_bound, in_table, without};
 ghost use Rattle.store_schema.specs.Rows.{ver_row};
 ghost use Rattle.store_schema.specs.Tables.{ver as ver_table};
 ghost use Rattle.store_sysmods.specs.declared.ver.VerRow.{VerRow as AVerRow};
-ghost use Rattle.store_sysmods.specs.Steps.{Step, Puts};
+ghost use Rattle.store_sysmods.specs.Steps.{Step};
 ghost use Rattle.store_sysmods.specs.Sysmods.{sysmod_key};
-ghost use Rattle.store_sysmods.specs.Vers.{insert_ver as into_ver, delete_vers, AreLists};
+ghost use Rattle.store_sysmods.specs.Vers.{delete_vers, AreLists};
 
 use crate::cells::{other_in, others_in};
 use crate::listed::Listed;
@@ -15,16 +15,25 @@ use crate::numbers::number_behind;
 use crate::rows::Rows;
 use fields::{Id, Srel};
 use sqlite::{Alter, Error, Row, Transaction};
+use sqlite_value::row::Row as Cells;
 use sqlite_value::value::ValueRef;
 use std::alloc::{AllocError, Global};
-use store_rows::{FromRow, ReadError, insert, remove};
+use store_rows::{FromRow, ReadError, cells_of, remove};
 use store_schema::{Query, id_in, joined_ids, srel_in, text_or_null};
 use sysmod::Ver;
 
 const SELECT: &str = "SELECT id, srel, fmid, pre, req, sup, npre, del FROM ver";
 
-const INSERT: &str =
+pub(crate) const INSERT: &str =
     "INSERT INTO ver (id, srel, fmid, pre, req, sup, npre, del) VALUES (?1, ?2, ?3, ?4, ?5, ?6, ?7, ?8)";
+
+// Sixteen rows, as many as one statement puts.
+pub(crate) const INSERT_MANY: &str =
+    "INSERT INTO ver (id, srel, fmid, pre, req, sup, npre, del) VALUES \
+    (?, ?, ?, ?, ?, ?, ?, ?), (?, ?, ?, ?, ?, ?, ?, ?), (?, ?, ?, ?, ?, ?, ?, ?), (?, ?, ?, ?, ?, ?, ?, ?), \
+    (?, ?, ?, ?, ?, ?, ?, ?), (?, ?, ?, ?, ?, ?, ?, ?), (?, ?, ?, ?, ?, ?, ?, ?), (?, ?, ?, ?, ?, ?, ?, ?), \
+    (?, ?, ?, ?, ?, ?, ?, ?), (?, ?, ?, ?, ?, ?, ?, ?), (?, ?, ?, ?, ?, ?, ?, ?), (?, ?, ?, ?, ?, ?, ?, ?), \
+    (?, ?, ?, ?, ?, ?, ?, ?), (?, ?, ?, ?, ?, ?, ?, ?), (?, ?, ?, ?, ?, ?, ?, ?), (?, ?, ?, ?, ?, ?, ?, ?)";
 
 const DELETE: &str = "DELETE FROM ver WHERE id = ?1";
 
@@ -145,15 +154,10 @@ pub(crate) fn lists_of(alloc: Global, ver: &Ver) -> Result<Lists, AllocError>
     })
 }
 
-// Adds the `++VER`'s row, of whose lists these are the texts.
-fn insert_row<S: Alter>(
-    tx: &mut Transaction<'_, S>,
-    id: &Id,
-    ver: &Ver,
-    lists: &Lists,
-) -> Result<(), Error>
+// The `++VER`'s row, of whose lists these are the texts.
+fn row_of(alloc: Global, id: &Id, ver: &Ver, lists: &Lists) -> Result<Cells, AllocError>
     requires { AreLists lists.now ver.now }
-    ensures { Puts S.Store into_ver ver_table (ver_row id.now ver.now ∷ []) tx.old tx.new result }
+    ensures { IfOk result (λ row. as_bound row ≡ ver_row id.now ver.now) }
 {
     let id = ValueRef::Text(id.as_bytes());
     let srel = ValueRef::Text(ver.srel.as_bytes());
@@ -163,7 +167,7 @@ fn insert_row<S: Alter>(
     let sup = ValueRef::Text(lists.sup.as_slice());
     let npre = ValueRef::Text(lists.npre.as_slice());
     let del = ValueRef::Text(lists.del.as_slice());
-    insert(tx, INSERT, &[id, srel, fmid, pre, req, sup, npre, del])
+    cells_of(alloc, &[id, srel, fmid, pre, req, sup, npre, del])
 }
 
 /// The rows of the SYSMOD's first `++VER`s, without those of their `++IF`s.
@@ -174,30 +178,20 @@ pub(crate) struct FirstVers {
 }
 
 impl Rows for FirstVers {
-    ghost use Rattle.store_schema.specs.Tables.{ver as ver_table};
     ghost use Rattle.store_sysmods.specs.Behind.{of_numbered};
-    ghost use Rattle.store_sysmods.specs.Vers.{insert_ver as into_ver, first_row};
+    ghost use Rattle.store_sysmods.specs.Vers.{first_row};
 
     type Item = Ver;
 
-    ghost text = { into_ver };
+    ghost of_item = { λ of. of_numbered (first_row of.id) };
 
-    ghost table = { ver_table };
-
-    ghost rows = { λ of. of_numbered (first_row of.id) };
-
-    fn insert<S: Alter>(
-        &self,
-        tx: &mut Transaction<'_, S>,
-        front: &[Ver],
-        ver: &Ver,
-    ) -> Result<(), Error> {
-        let number = number_behind(front, ver);
-        if number != 1 {
+    fn push(&self, rows: &mut Vec<Cells>, front: &[Ver], ver: &Ver) -> Result<(), AllocError> {
+        if number_behind(front, ver) != 1 {
             return Ok(());
         }
         let lists = lists_of(self.alloc, ver)?;
-        insert_row(tx, &self.id, ver, &lists)
+        rows.push(row_of(self.alloc, &self.id, ver, &lists)?)?;
+        Ok(())
     }
 }
 
