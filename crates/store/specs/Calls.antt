@@ -44,10 +44,14 @@ Course = List Call × List Sysmod
 abbrev pub most_wait : ℕ
 most_wait = 256
 
--- The SYSMOD waits with the others. Where so many do, those are written first.
+-- Where so many wait, they are written, so that there is room for one more.
+abbrev pub with_room : Course → Course
+with_room (calls, waiting) =
+    if length waiting == most_wait then (calls ++ insert_sysmods_calls waiting, []) else (calls, waiting)
+
+-- the SYSMOD waits with the others
 abbrev pub with_waiting : Course → Sysmod → Course
-with_waiting (calls, waiting) s =
-    if length waiting == most_wait then (calls ++ insert_sysmods_calls waiting, s ∷ []) else (calls, waiting ++ s ∷ [])
+with_waiting course s = let room = with_room course in (room.0, room.1 ++ s ∷ [])
 
 -- Those that wait are written, and then these statements run.
 abbrev pub behind_waiting : Course → List Call → Course

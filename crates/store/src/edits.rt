@@ -1,12 +1,17 @@
 //! Edits of the global zone, written in a transaction that is open. SYSMODs that come wait for others, so that one
 //! statement puts rows of several.
 
-ghost use Rattle.std.specs.Prelude.{List, OnOk, ◌++◌};
+ghost use Rattle.std.specs.Prelude.{◌≡◌, false, List, [], OnOk};
+ghost use Rattle.terms.specs.Global.{with_sysmod};
+ghost use Rattle.terms.specs.Lookups.{is_received};
+ghost use Rattle.terms.specs.Types.{Sysmod as ASysmod};
 ghost use Rattle.store_rows.specs.Calls.{RunsInside};
 ghost use Rattle.store_rows.specs.Inside.{Continues};
-ghost use Rattle.store.specs.Calls.{edits_calls};
-ghost use Rattle.store_sysmods.specs.Sysmods.{ChangesGlobal};
-ghost use Rattle.sysmods.specs.Edits.{EachFits, after_edits};
+ghost use Rattle.store_sysmods.specs.Calls.{insert_sysmods_calls};
+ghost use Rattle.store_sysmods.specs.Sysmods.{AreRowsOf, ChangesGlobal, sourced};
+ghost use Rattle.store.specs.Calls.{edits_calls, with_edit, with_room, with_waiting};
+ghost use Rattle.store.specs.Waiting.{Waits};
+ghost use Rattle.sysmods.specs.Edits.{EachFits, Fits, after_edit, after_edits};
 
 use fields::Source;
 use sqlite::{Alter, Error, Transaction};
@@ -25,10 +30,30 @@ fn write_waiting<S: Alter>(
     alloc: Global,
     tx: &mut Transaction<'_, S>,
     waiting: &mut SysmodRows,
-) -> Result<(), Error> {
+) -> Result<(), Error>
+    ensures continues { Continues S.Store tx.old tx.new }
+    ensures goes { (ss : List ASysmod) → AreRowsOf waiting.old ss → Waits S.Store ss (insert_sysmods_calls ss, [])
+        (λ g. Unit {0}) (λ g. g) tx.old.conn.now tx.new.conn.now waiting.new result }
+{
     insert_sysmods(alloc, tx, waiting)?;
     *waiting = SysmodRows::new(alloc);
     Ok(())
+}
+
+// Where there are as many as may wait, they are written.
+fn make_room<S: Alter>(
+    alloc: Global,
+    tx: &mut Transaction<'_, S>,
+    waiting: &mut SysmodRows,
+) -> Result<(), Error>
+    ensures continues { Continues S.Store tx.old tx.new }
+    ensures goes { (ss : List ASysmod) → AreRowsOf waiting.old ss → Waits S.Store ss (with_room ([], ss))
+        (λ g. Unit {0}) (λ g. g) tx.old.conn.now tx.new.conn.now waiting.new result }
+{
+    if waiting.len() != MOST_WAIT {
+        return Ok(());
+    }
+    write_waiting(alloc, tx, waiting)
 }
 
 // The SYSMOD waits with the others.
@@ -38,10 +63,14 @@ fn add_waiting<S: Alter>(
     waiting: &mut SysmodRows,
     sysmod: &Sysmod,
     sources: &[Source],
-) -> Result<(), Error> {
-    if waiting.len() == MOST_WAIT {
-        write_waiting(alloc, tx, waiting)?;
-    }
+) -> Result<(), Error>
+    ensures continues { Continues S.Store tx.old tx.new }
+    ensures goes { (ss : List ASysmod) → AreRowsOf waiting.old ss
+        → Waits S.Store ss (with_waiting ([], ss) (sourced sysmod.now sources.now))
+        (λ g. is_received g sysmod.now.id ≡ false) (λ g. with_sysmod g (sourced sysmod.now sources.now))
+        tx.old.conn.now tx.new.conn.now waiting.new result }
+{
+    make_room(alloc, tx, waiting)?;
     waiting.push(alloc, sysmod, sources)?;
     Ok(())
 }
@@ -52,7 +81,12 @@ fn write_edit<S: Alter>(
     stated: &GlobalZone,
     waiting: &mut SysmodRows,
     edit: &GlobalEdit,
-) -> Result<(), Error> {
+) -> Result<(), Error>
+    ensures continues { Continues S.Store tx.old tx.new }
+    ensures goes { (ss : List ASysmod) → AreRowsOf waiting.old ss
+        → Waits S.Store ss (with_edit stated.now ([], ss) edit.now) (λ g. Fits g edit.now)
+        (λ g. after_edit stated.now g edit.now) tx.old.conn.now tx.new.conn.now waiting.new result }
+{
     match edit {
         GlobalEdit::PutHold(hold) => put_hold(tx, hold),
         GlobalEdit::RemoveHold(id, kind, reason) => remove_hold(tx, *id, *kind, *reason),
