@@ -1,9 +1,9 @@
 -- The columns of rows, and what a statement's edit makes of what the tables hold.
 use Rattle.std.proofs.Common.{◌≡◌, ◌≢◌, inl, inr, ℕ, ℤ, zero, suc, ◌+◌, ◌<◌, ◌≤◌, ◌==◌, length, drop, take}
-use Rattle.std.proofs.Common.{List, [], ◌∷◌, map, filter, Bool, true, false, not, ◌&&◌, ◌||◌}
+use Rattle.std.proofs.Common.{List, [], ◌∷◌, ◌++◌, map, filter, Bool, true, false, not, ◌&&◌, ◌||◌}
 use Rattle.std.proofs.Common.{IsPermutation, arith, refl, sym, ap, subst, ◌∙◌, drop-cons}
 use Rattle.std.specs.List.{AllByRecursion, list_all, range_with_len}
-use Rattle.std.proofs.lemmas.List.{drop_all}
+use Rattle.std.proofs.lemmas.List.{take_all, take_at, drop_at, length-append, length-drop}
 use Rattle.std.proofs.lemmas.List.Sorted.{IsPermutation-sym, IsPermutation-trans, IsPermutation-cons, IsPermutation-map}
 use Rattle.std.proofs.lemmas.Bool.Decides.{eqb_tells}
 use Rattle.std.proofs.lemmas.Bool.{eqb-true}
@@ -34,11 +34,23 @@ past_end (v ∷ r) (suc at) le = past_end r at (omega arith)
 dropped : (r : Row) (at : ℕ) → at < length r → drop at r ≡ column r at ∷ drop (at + 1) r
 dropped r at h = let e : suc at ≡ at + 1 = omega arith in drop-cons r at Null h ∙ ap (λ k. column r at ∷ drop k r) e
 
+-- so many columns from a place on
+pub columns_at : (r : Row) (at n : ℕ) → at + n ≤ length r → map (column r) (range_with_len at n) ≡ take n (drop at r)
+columns_at r at zero e = refl
+columns_at r at (suc n) e = ap (λ vs. column r at ∷ vs) (columns_at r (at + 1) n (omega arith))
+    ∙ sym (ap (take (suc n)) (dropped r at (omega arith)))
+
 -- the columns from a place on to the end
 pub columns_from : (r : Row) (at n : ℕ) → at + n ≡ length r → map (column r) (range_with_len at n) ≡ drop at r
-columns_from r at zero e = sym (drop_all at r (omega arith))
-columns_from r at (suc n) e = ap (λ vs. column r at ∷ vs) (columns_from r (at + 1) n (omega arith))
-    ∙ sym (dropped r at (omega arith))
+columns_from r at n e = columns_at r at n (omega arith) ∙ take_all n (drop at r) (omega (arith, length-drop at r))
+
+-- the columns behind some and before others
+pub columns_within : (front mid back : Row) (at n : ℕ) → at ≡ length front → n ≡ length mid
+    → map (column (front ++ (mid ++ back))) (range_with_len at n) ≡ mid
+columns_within front mid back at n behind long =
+    columns_at (front ++ (mid ++ back)) at n
+    (omega (arith, behind, long, length-append front (mid ++ back), length-append mid back))
+    ∙ ap (take n) (drop_at front (mid ++ back) at (sym behind)) ∙ take_at mid back n (sym long)
 
 -- the tests of a key are those of the columns that it gives
 pub meets_from : (params r : Row) (at n m : ℕ) → at + n ≤ length params → n ≤ m

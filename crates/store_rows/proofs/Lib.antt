@@ -19,3 +19,5 @@ pub mod Typed
 pub mod Meant
 pub mod Unique
 pub mod Upserts
+pub mod Adding
+pub mod Putting

@@ -20,16 +20,16 @@ use Rattle.sqlite.proofs.Callers.{command_of}
 use Rattle.sqlite_rules.specs.Action.{works}
 use Rattle.store_rows.specs.Texts.{PutsIn, PutsByKey, PutsInPlace, TakesOut, ReadsRows, Suits}
 use Rattle.store_rows.specs.Texts.{key_tests, scan_by, by_key, unique_keys, first_columns, works_of_update, tail_of}
-use Rattle.store_rows.specs.Texts.{places_of, AreTexts}
+use Rattle.store_rows.specs.Texts.{places_of, AreTexts, given_rows}
 use Rattle.store_rows.proofs.Typed.{none_typed, one_typed}
 
 module _ {schema : Schema} {at : ℕ} {table : Table} {sql : List ℕ} (found : slice_get schema.tables at ≡ Some table)
     (alone : list_all (λ (t : Table). not (t.tree == table.tree) || (length t.columns == length table.columns))
     schema.tables ≡ true) where
-  pub puts_in : command_of (understood schema sql) ≡ Insert at
-      (Values (lit Null ∷ map (col 0) (range_with_len 0 (length table.columns))) (length table.columns + 1))
+  pub puts_in : {count : ℕ} → command_of (understood schema sql) ≡ Insert at
+      (Values (given_rows (length table.columns) 0 count) (length table.columns + 1))
       → IsPlain (understood schema sql) → table.is_counted ≡ false → table.stamps.terms ≡ []
-      → PutsIn schema at table sql
+      → PutsIn schema at table count sql
   puts_in command plain uncounted timeless = record {
     there = record { found = found; alone = alone };
     command = command;

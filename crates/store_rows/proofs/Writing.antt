@@ -1,10 +1,11 @@
 -- What one statement makes of what the tables hold.
-use Rattle.std.proofs.Common.{◌≡◌, ℕ, suc, ◌+◌, ◌/◌, ◌<◌, ◌≤◌, ◌==◌, length, drop, take, List, [], ◌∷◌, ◌++◌, map}
-use Rattle.std.proofs.Common.{filter, Bool, true, false, Ok, IsPermutation, arith, refl, sym, ap, ap₂, subst, ◌∙◌}
-use Rattle.std.specs.List.{range_with_len, list_all, flat_map, filter_map}
-use Rattle.std.proofs.lemmas.List.{take_all}
+use Rattle.std.proofs.Common.{◌≡◌, ℕ, zero, suc, ◌+◌, ◌*◌, ◌/◌, ◌≤◌, ◌==◌, length, drop, take, List, [], ◌∷◌, ◌++◌, map}
+use Rattle.std.proofs.Common.{filter, Bool, true, false, Ok, IsPermutation, arith, refl, sym, ap, ap₂, subst, subst₂}
+use Rattle.std.proofs.Common.{◌∙◌, append-nil}
+use Rattle.std.specs.List.{AllByRecursion, range_with_len, list_all, flat_map, filter_map}
+use Rattle.std.proofs.lemmas.List.{take_all, take_at, drop_at, length-append, append_assoc}
 use Rattle.std.proofs.lemmas.List.FromFn.{length-map-range_with_len}
-use Rattle.std.proofs.Math.Nat.{div_self}
+use Rattle.std.proofs.Math.Nat.{mul-div_cancel}
 use Rattle.sqlite.specs.declared.types.Value.{Value}
 use Rattle.sqlite.specs.declared.types.Value.TheVariants.{Null, Int}
 use Rattle.sqlite.specs.Ops.{unary}
@@ -14,11 +15,11 @@ use Rattle.sqlite.specs.Order.{Row}
 use Rattle.sqlite.specs.Tree.{Trees, rowid, put_row}
 use Rattle.sqlite.specs.Schema.{Schema}
 use Rattle.sqlite.specs.Table.{Table}
-use Rattle.sqlite.specs.Term.{Term, lit, col, eval, eval_all, holds}
+use Rattle.sqlite.specs.Term.{lit, col, eval, eval_all, holds}
 use Rattle.sqlite_schema.specs.declared.schema.Column.{Column}
 use Rattle.sqlite_schema.specs.declared.schema.Keys.TheVariants.{Enforced}
 use Rattle.sqlite.specs.Edit.{edit_of, with_rowid, next_rowid, taken_by, are_fresh, have_rowids, put_all, edited}
-use Rattle.sqlite.specs.Edit.{without_all}
+use Rattle.sqlite.specs.Edit.{without_all, numbered}
 use Rattle.sqlite.specs.Rowids.TheVariants.{Chosen, Given}
 use Rattle.sqlite.specs.Effect.{value_rows}
 use Rattle.sqlite.specs.Listing.{understood}
@@ -34,18 +35,20 @@ use Rattle.sqlite_rules.proofs.PlaceLemmas.{given}
 use Rattle.sqlite_rules.specs.Calls.{ids_of}
 use Rattle.sqlite_schema.specs.declared.program.Program.{Program}
 use Rattle.store_rows.specs.Rows.{shown, has_key, without, with_row, in_place, AreRows, Contents, HasContents, HaveNone}
-use Rattle.store_rows.specs.Rows.{in_table}
+use Rattle.store_rows.specs.Rows.{in_table, with_rows}
+use Rattle.store_rows.specs.Calls.{columns_of}
 use Rattle.store_rows.specs.Texts.{key_tests, scan_by, SuitColumns, PutsIn, PutsInPlace, TakesOut}
-use Rattle.store_rows.specs.Texts.{TakesOutParent, IsCascade, works_of_update}
+use Rattle.store_rows.specs.Texts.{TakesOutParent, IsCascade, works_of_update, given_rows}
 use Rattle.store_rows.proofs.RowLemmas.{filter_same, ids_shown}
-use Rattle.store_rows.proofs.Statements.{inserts, updates, deletes, puts_one, scans}
+use Rattle.store_rows.proofs.Statements.{inserts, updates, deletes, scans}
 use Rattle.store_rows.proofs.Parents.{step_then_idle, cascades_from, taken_meets, idle_cascade}
 use Rattle.std.proofs.lemmas.Bool.{and_parts, ne_eqb, not-true}
 use Rattle.std.proofs.lemmas.List.Sorted.{IsPermutation-refl, IsPermutation-sym, IsPermutation-trans}
 use Rattle.std.proofs.lemmas.List.Sorted.{IsPermutation-cons, IsPermutation-map, IsPermutation-append_left}
 use Rattle.std.proofs.lemmas.List.Sorted.{IsPermutation-middle}
 use Rattle.terms.proofs.Booleans.{cond_same}
-use Rattle.store_rows.proofs.ContentsLemmas.{columns_from, meets_from, puts, takes, each_table, held_at}
+use Rattle.store_rows.proofs.ContentsLemmas.{columns_from, columns_within, meets_from, puts, takes, each_table}
+use Rattle.store_rows.proofs.ContentsLemmas.{held_at}
 
 -- ---- values that their columns keep
 
@@ -72,52 +75,124 @@ shown_of table id row e = columns_from (id ∷ row) 1 (length table.columns) (om
 
 -- ---- INSERT
 
-one_row : (params : Row) (terms : List Term) → 0 < length terms
-    → value_rows params (length terms) (length terms / length terms) terms ≡ eval_all terms (params ∷ []) ∷ []
-one_row params terms some = rw (div_self some, take_all (length terms) terms (omega arith)) refl
+pub puts_all : (table : Table) (news held rows : List Row) → are_fresh rows news ≡ true → have_rowids news ≡ true
+    → AreRows table held rows → AreRows table (map (shown table) news ++ held) (put_all rows news)
+puts_all table [] held rows fresh keyed h = h
+puts_all table (n ∷ news) held rows fresh keyed h =
+    let free = and_parts _ _ fresh in
+    let ids = and_parts _ _ keyed in
+    let one = puts table held rows n (not-true _ free.0) ids.0 h in
+    let all = puts_all table news (shown table n ∷ held) (put_row n rows) free.1 ids.1 one in
+    record {
+      same = IsPermutation-trans _ _ _ (IsPermutation-sym _ _
+          (IsPermutation-middle (map (shown table) news) (shown table n) held)) all.same;
+      numbered = all.numbered;
+    }
 
-length_terms : (n : ℕ) → length (lit Null ∷ map (col 0) (range_with_len 0 n)) ≡ n + 1
-length_terms n = omega (arith, length-map-range_with_len (col 0) 0 n)
+length_terms : (from n : ℕ) → length (lit Null ∷ map (col 0) (range_with_len from n)) ≡ n + 1
+length_terms from n = omega (arith, length-map-range_with_len (col 0) from n)
 
--- the parameters as one row, before its rowid is chosen
+given_long : (width from n : ℕ) → length (given_rows width from n) ≡ n * (width + 1)
+given_long width from zero = omega arith
+given_long width from (suc n) =
+    let terms = lit Null ∷ map (col 0) (range_with_len from width) in
+    length-append terms (given_rows width (from + width) n)
+    ∙ ap₂ ◌+◌ (length_terms from width) (given_long width (from + width) n) ∙ omega arith
+
+-- rows that are behind other parameters, before their rowids are chosen
+rows_behind : (front : Row) (width from : ℕ) (rows : List Row) → from ≡ length front
+    → AllByRecursion (λ (r : Row). width ≡ length r) rows
+    → value_rows (front ++ columns_of rows) (width + 1) (length rows) (given_rows width from (length rows))
+    ≡ map (λ r. Null ∷ r) rows
+rows_behind front width from [] behind wide = refl
+rows_behind front width from (r ∷ rows) behind wide =
+    let params = front ++ (r ++ columns_of rows) in
+    let terms = lit Null ∷ map (col 0) (range_with_len from width) in
+    let more = given_rows width (from + width) (length rows) in
+    let long : length terms ≡ width + 1 = length_terms from width in
+    let first : eval_all (take (width + 1) (terms ++ more)) (params ∷ []) ≡ Null ∷ r =
+    ap (λ ts. eval_all ts (params ∷ [])) (take_at terms more (width + 1) long)
+    ∙ ap (λ cells. Null ∷ cells) (map-map (λ t. eval t (params ∷ [])) (col 0) (range_with_len from width)
+    ∙ columns_within front r (columns_of rows) from width behind wide.0) in
+    let later = rows_behind (front ++ r) width (from + width) rows
+    (omega (arith, length-append front r, behind, wide.0)) wide.1 in
+    ap₂ ◌∷◌ first (ap₂ (λ ps ts. value_rows ps (width + 1) (length rows) ts)
+    (sym (append_assoc front r (columns_of rows))) (drop_at terms more (width + 1) long) ∙ later)
+
+-- the parameters as rows
+source_rows : (width : ℕ) (rows : List Row) → AllByRecursion (λ (r : Row). width ≡ length r) rows
+    → value_rows (columns_of rows) (width + 1) (length (given_rows width 0 (length rows)) / (width + 1))
+    (given_rows width 0 (length rows)) ≡ map (λ r. Null ∷ r) rows
+source_rows width rows wide =
+    let terms = given_rows width 0 (length rows) in
+    let count : length terms / (width + 1) ≡ length rows =
+    ap (λ k. k / (width + 1)) (given_long width 0 (length rows)) ∙ mul-div_cancel (length rows) (omega arith) in
+    ap (λ n. value_rows (columns_of rows) (width + 1) n terms) count ∙ rows_behind [] width 0 rows refl wide
+
+-- the parameters as one row
 pub source_row : (row : Row) (width : ℕ) → width ≡ length row
     → value_rows row (width + 1) (length (lit Null ∷ map (col 0) (range_with_len 0 width)) / (width + 1))
     (lit Null ∷ map (col 0) (range_with_len 0 width)) ≡ (Null ∷ row) ∷ []
 source_row row width e =
-    let terms = lit Null ∷ map (col 0) (range_with_len 0 width) in
-    let long : length terms ≡ width + 1 = length_terms width in
-    ap (λ k. value_rows row k (length terms / k) terms) (sym long) ∙ one_row row terms (omega (arith, long))
-    ∙ ap (λ cells. (Null ∷ cells) ∷ []) (map-map (λ t. eval t (row ∷ [])) (col 0) (range_with_len 0 width)
-    ∙ columns_from row 0 width (omega (arith, e)))
+    subst₂ (λ params terms. value_rows params (width + 1) (length terms / (width + 1)) terms ≡ (Null ∷ row) ∷ [])
+    (append-nil row) (append-nil (lit Null ∷ map (col 0) (range_with_len 0 width)))
+    (source_rows width (row ∷ []) (e, tt))
 
-pub put_in : (schema : Schema) (at : ℕ) (table : Table) (sql : List ℕ) (row : Row) (old new : State) (count : ℕ)
-    (contents : Contents) → PutsIn schema at table sql → SuitColumns table.columns row
-    → HasContents schema contents old.now → Executes sql row old new (Ok count)
-    → HasContents schema (in_table table (with_row row) contents) new.now
-put_in schema at table sql row old new count contents text kept was h =
+all_wide : (columns : List Column) (rows : List Row) → AllByRecursion (SuitColumns columns) rows
+    → AllByRecursion (λ (r : Row). length columns ≡ length r) rows
+all_wide columns [] kept = tt
+all_wide columns (r ∷ rows) kept = (kept_length columns r kept.0, all_wide columns rows kept.1)
+
+-- what the new rows show, whatever rowids are chosen for them
+news_shown : (table : Table) (rows news : List Row) → AllByRecursion (SuitColumns table.columns) news
+    → map (shown table) (numbered Chosen rows (map (λ s. cast_row table (drop 0 s)) (map (λ r. Null ∷ r) news))) ≡ news
+news_shown table rows [] kept = refl
+news_shown table rows (r ∷ news) kept =
+    let new = with_rowid Chosen rows (cast_row table (Null ∷ r)) in
+    let is : new ≡ Int (next_rowid rows) ∷ r =
+    ap₂ (λ id cells. with_rowid Chosen rows (id ∷ cells)) cast_null (kept_cast table.columns r kept.0) in
+    ap₂ ◌∷◌ (ap (shown table) is ∙ shown_of table _ r (kept_length table.columns r kept.0))
+    (news_shown table (put_row new rows) news kept.1)
+
+pub put_rows_in : (schema : Schema) (at : ℕ) (table : Table) (sql : List ℕ) (rows : List Row) (old new : State)
+    (count : ℕ) (contents : Contents) → PutsIn schema at table (length rows) sql
+    → AllByRecursion (SuitColumns table.columns) rows → HasContents schema contents old.now
+    → Executes sql (columns_of rows) old new (Ok count)
+    → HasContents schema (in_table table (with_rows rows) contents) new.now
+put_rows_in schema at table sql rows old new count contents text kept was h =
     let width = length table.columns in
-    let terms = lit Null ∷ map (col 0) (range_with_len 0 width) in
-    let w = runs_as sql row old new schema was.schema_is (Insert at (Values terms (width + 1))) text.command text.plain
-    count h in
+    let terms = given_rows width 0 (length rows) in
+    let params = columns_of rows in
+    let w = runs_as sql params old new schema was.schema_is (Insert at (Values terms (width + 1))) text.command
+    text.plain count h in
     let it = inserts old new schema was.schema_is at table text.there.found (statement_of sql (understood schema sql))
-    row count terms (width + 1) text.uncounted text.timeless w in
-    let rows = old.now.trees table.tree in
-    let new_row = Int (next_rowid rows) ∷ row in
-    let source = it.1 ∙ source_row row width (kept_length table.columns row kept) in
-    let news : (edit_of old.now.trees table [] Chosen 0 it.0).news ≡ new_row ∷ [] =
-    ap (λ all. (edit_of old.now.trees table [] Chosen 0 all).news) source
-    ∙ ap₂ (λ id cells. with_rowid Chosen rows (id ∷ cells) ∷ []) cast_null (kept_cast table.columns row kept) in
-    let put = puts_one schema table old.now.trees new.now.trees it.0 new_row news it.3 in
-    let holds_now = held_at schema at table contents old.now.trees text.there was.tables in
-    let done = subst (λ cells. AreRows table (cells ∷ contents table.tree) (put_row new_row rows))
-    (shown_of table (Int (next_rowid rows)) row (kept_length table.columns row kept))
-    (puts table _ _ new_row put.0 refl holds_now) in
+    params count terms (width + 1) text.uncounted text.timeless w in
+    let db = old.now.trees in
+    let edit = edit_of db table [] Chosen 0 it.0 in
+    let done = one_step schema Enforced db new.now.trees edit (no_works schema Enforced 0 table.tree edit.news) it.3 in
+    let seen : map (shown table) edit.news ≡ rows =
+    ap (λ all. map (shown table) (edit_of db table [] Chosen 0 all).news)
+    (it.1 ∙ source_rows width rows (all_wide table.columns rows kept))
+    ∙ news_shown table (db table.tree) rows kept in
+    let held = contents table.tree in
+    let all = subst (λ news. AreRows table (news ++ held) (edited db edit)) seen
+    (puts_all table edit.news held (db table.tree) done.fresh done.keyed
+    (held_at schema at table contents db text.there was.tables)) in
     record {
       schema_is = it.2;
       sound = w.sound;
-      tables = each_table table (with_row row) contents old.now.trees new.now.trees
-          (rw put.1 done) schema.tables text.there.alone was.tables put.2.tables;
+      tables = each_table table (with_rows rows) contents db new.now.trees (rw done.rows all) schema.tables
+          text.there.alone was.tables done.tables;
     }
+
+-- one row
+pub put_in : (schema : Schema) (at : ℕ) (table : Table) (sql : List ℕ) (row : Row) (old new : State) (count : ℕ)
+    (contents : Contents) → PutsIn schema at table 1 sql → SuitColumns table.columns row
+    → HasContents schema contents old.now → Executes sql row old new (Ok count)
+    → HasContents schema (in_table table (with_row row) contents) new.now
+put_in schema at table sql row old new count contents text kept was h =
+    put_rows_in schema at table sql (row ∷ []) old new count contents text (kept, tt) was
+    (subst (λ params. Executes sql params old new (Ok count)) (sym (append-nil row)) h)
 
 -- ---- DELETE
 
@@ -201,20 +276,6 @@ take_out_parent schema at table children sql (k ∷ l ∷ key) old new count con
     absurd (omega arith)
 
 -- ---- UPDATE
-
-pub puts_all : (table : Table) (news held rows : List Row) → are_fresh rows news ≡ true → have_rowids news ≡ true
-    → AreRows table held rows → AreRows table (map (shown table) news ++ held) (put_all rows news)
-puts_all table [] held rows fresh keyed h = h
-puts_all table (n ∷ news) held rows fresh keyed h =
-    let free = and_parts _ _ fresh in
-    let ids = and_parts _ _ keyed in
-    let one = puts table held rows n (not-true _ free.0) ids.0 h in
-    let all = puts_all table news (shown table n ∷ held) (put_row n rows) free.1 ids.1 one in
-    record {
-      same = IsPermutation-trans _ _ _ (IsPermutation-sym _ _
-          (IsPermutation-middle (map (shown table) news) (shown table n) held)) all.same;
-      numbered = all.numbered;
-    }
 
 -- the rows that have the key, each become this one, and the others
 in_place_parts : (key row : Row) (rows : List Row) → IsPermutation (in_place key row rows)

@@ -89,12 +89,16 @@ pub fn insert_rows<S: Alter>(
         → Turns S.Store tx.old.conn.now tx.new.conn.now (HasContents schema)
         (in_table table (with_rows (map as_bound rows.now)))) }
 {
-    let (full, left) = rows.split_at(rows.len() - rows.len() % MANY);
-    for run in full.chunks_exact(MANY) {
+    let mut rest = rows;
+    while rest.len() >= MANY {
+        let (run, more) = rest.split_at(MANY);
         insert_run(alloc, tx, some, run)?;
+        rest = more;
     }
-    for row in left.chunks_exact(1) {
+    while !rest.is_empty() {
+        let (row, more) = rest.split_at(1);
         insert_run(alloc, tx, one, row)?;
+        rest = more;
     }
     Ok(())
 }

@@ -1,16 +1,11 @@
 -- The rows of the items of a list, each behind those before it.
-use Rattle.std.proofs.Common.{◌≡◌, ℕ, ◌+◌, ◌<◌, ◌≤◌, arith, List, [], ◌∷◌, ◌++◌, append-nil, map, filter, length}
-use Rattle.std.proofs.Common.{take, drop, not, get_or, Result, Ok}
-use Rattle.std.proofs.Common.{Err, IsErrAnd, refl, sym, ap, ◌∙◌}
+use Rattle.std.proofs.Common.{◌≡◌, ℕ, ◌+◌, ◌<◌, List, [], ◌∷◌, ◌++◌, append-nil, map, filter, length}
+use Rattle.std.proofs.Common.{take, not, get_or, refl, sym, ap, ◌∙◌}
 use Rattle.std.specs.List.{flat_map, enumerate_from}
-use Rattle.std.proofs.lemmas.List.{append_assoc, length-append, take_more, take_all, take-append-drop}
+use Rattle.std.proofs.lemmas.List.{append_assoc, length-append, take_more}
 use Rattle.std.proofs.lemmas.List.Concat.{flat_map_single}
 use Rattle.terms.proofs.Lists.{flat_if}
-use Rattle.sqlite.specs.Store.{Ghosts}
 use Rattle.sqlite.specs.Order.{Row}
-use Rattle.sqlite.specs.Table.{Table}
-use Rattle.sqlite.specs.declared.transaction.Transaction.{Transaction}
-use Rattle.sqlite.specs.declared.error.Error.{Error}
 use Rattle.terms.specs.Types.{Id, Ver}
 use Rattle.store_schema.specs.Rows.{ver_row, morever_row, ifreq_row, moreif_row, is_first, numbered_behind}
 use Rattle.store_sysmods.specs.Behind.{rows_behind, of_each, of_counted, of_numbered}
@@ -18,8 +13,6 @@ use Rattle.store_sysmods.specs.Vers.{first_row}
 use Rattle.store_sysmods.specs.MoreVers.{further_row}
 use Rattle.store_sysmods.specs.Ifs.{first_ifs}
 use Rattle.store_sysmods.specs.MoreIfs.{further_ifs}
-use Rattle.store_sysmods.specs.Steps.{Puts}
-use Rattle.store_sysmods.proofs.Steps.{puts_as, puts_then, puts_stops}
 
 -- ---- the same rows as a list tells them
 
@@ -82,35 +75,10 @@ module _ {X : Type 0} (rows : List X → X → List Row) where
       (rows_behind rows (front ++ x ∷ xs) ys))
 
   module _ (items : List X) (i : ℕ) (item : X) (within : i < length items) (is : item ≡ get_or items i item) where
-    one_more : rows_behind rows [] (take i items) ++ rows (take i items) item ≡ rows_behind rows [] (take (i + 1) items)
+    pub one_more : rows_behind rows [] (take i items) ++ rows (take i items) item
+        ≡ rows_behind rows [] (take (i + 1) items)
     one_more =
         ap (λ more. rows_behind rows [] (take i items) ++ more) (sym (append-nil (rows (take i items) item)))
         ∙ sym (behind_both [] (take i items) (item ∷ []))
         ∙ ap (λ x. rows_behind rows [] (take i items ++ x ∷ [])) is
         ∙ ap (rows_behind rows []) (sym (take_more items i item within))
-
-    and_rest : rows_behind rows [] (take (i + 1) items) ++ rows_behind rows (take (i + 1) items) (drop (i + 1) items)
-        ≡ rows_behind rows [] items
-    and_rest = sym (behind_both [] (take (i + 1) items) (drop (i + 1) items))
-        ∙ ap (rows_behind rows []) (take-append-drop (i + 1) items)
-
-    module _ {S : Type 0} (g : Ghosts S) (text : List ℕ) (table : Table) {a b c : Transaction S}
-        (done : Puts g text table (rows_behind rows [] (take i items)) a b (Ok (tt {0}))) where
-      -- an item more
-      pub puts_more : {Y : Type 0} {r : Result Y Error} → Puts g text table (rows (take i items) item) b c r
-          → Puts g text table (rows_behind rows [] (take (i + 1) items)) a c r
-      puts_more more = puts_as g text table one_more (puts_then g text table _ _ done more)
-
-      -- an item failed
-      pub puts_fails : {Y Z : Type 0} {q : Result Y Error} {e : Error} (r : Result Z Error) → q ≡ Err e
-          → IsErrAnd r (λ z. z ≡ e) → Puts g text table (rows (take i items) item) b c q
-          → Puts g text table (rows_behind rows [] items) a c r
-      puts_fails r failed told more =
-          puts_as g text table and_rest (puts_stops g text table _ _ r failed told (puts_more more))
-
-  -- all items
-  pub puts_all : {S : Type 0} (g : Ghosts S) (text : List ℕ) (table : Table) {a b : Transaction S} (items : List X)
-      (i : ℕ) → length items ≤ i → Puts g text table (rows_behind rows [] (take i items)) a b (Ok (tt {0}))
-      → Puts g text table (rows_behind rows [] items) a b (Ok (tt {0}))
-  puts_all g text table items i end done =
-      puts_as g text table (ap (rows_behind rows []) (take_all i items (omega (arith, end)))) done

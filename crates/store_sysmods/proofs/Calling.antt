@@ -1,14 +1,12 @@
 -- Statements that write rows, one item after the other.
-use Rattle.std.proofs.Common.{◌≡◌, ℕ, List, [], ◌∷◌, ◌++◌}
+use Rattle.std.proofs.Common.{◌≡◌, List, ◌++◌}
 use Rattle.std.proofs.Common.{Result, Ok, Err, IsErr, IsErrAnd, refl, sym, subst}
 use Rattle.sqlite.specs.Store.{Ghosts}
-use Rattle.sqlite.specs.Order.{Row}
 use Rattle.sqlite.specs.declared.error.Error.{Error}
 use Rattle.sqlite.specs.Held.{Held}
 use Rattle.store_rows.specs.Inside.{StaysInside}
 use Rattle.store_rows.specs.Calls.{Call, RunsInside}
 use Rattle.store_rows.proofs.CallLemmas.{follows_err, runs_then, runs_err}
-use Rattle.store_sysmods.specs.Calls.{puts}
 
 fails : {X : Type 0} (q : Result X Error) (e : Error) → q ≡ Err e → IsErr q
 fails q e is = subst IsErr (sym is) refl
@@ -20,14 +18,6 @@ module _ {S : Type 0} (g : Ghosts S) where
       → q ≡ Err e → IsErrAnd r (λ z. z ≡ e) → RunsInside g xs a b q → RunsInside g (xs ++ ys) a b r
   runs_stops xs ys a b q e r failed told first =
       runs_err g xs ys a b q r (fails q e failed) (follows_err q e r failed told) first
-
-  pub runs_none : (text : List ℕ) (a : Held S) → RunsInside g (puts text []) a a {X = Unit} (Ok (tt {0}))
-  runs_none text a clean inside = (refl, inside)
-
-  -- one statement whose parameters are this row
-  pub runs_key : {X : Type 0} (text : List ℕ) (row r : Row) (a b : Held S) (q : Result X Error) → r ≡ row
-      → RunsInside g ((text, r) ∷ []) a b q → RunsInside g ((text, row) ∷ []) a b q
-  runs_key text row r a b q is h = subst (λ p. RunsInside g ((text, p) ∷ []) a b q) is h
 
   -- some that ran, and more of them
   pub runs_rest : {Y : Type 0} (xs ys : List Call) (a b c : Held S) (r : Result Y Error) → StaysInside g a b

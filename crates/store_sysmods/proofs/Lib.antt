@@ -1,6 +1,7 @@
 pub mod Texts
 pub mod RowForms
-pub mod Adding
+pub mod Pushing
+pub mod Kept
 pub mod Calling
 pub mod Calls
 pub mod Partings

@@ -1,6 +1,6 @@
 -- Calls one after the other: the statements that they run, and what the tables hold then.
-use Rattle.std.proofs.Common.{◌≡◌, ℕ, List, [], ◌∷◌, ◌++◌, Result, Ok, Err, IsErrAnd, OnOk, sym, ap, subst}
-use Rattle.std.proofs.lemmas.List.{map-append}
+use Rattle.std.proofs.Common.{◌≡◌, ℕ, List, [], ◌∷◌, ◌++◌, Result, Ok, Err, IsErrAnd, OnOk, sym, subst}
+use Rattle.std.specs.List.{AllByRecursion}
 use Rattle.sqlite.specs.Store.{Ghosts}
 use Rattle.sqlite.specs.Order.{Row}
 use Rattle.sqlite.specs.Table.{Table}
@@ -8,16 +8,20 @@ use Rattle.sqlite.specs.declared.error.Error.{Error}
 use Rattle.sqlite.specs.declared.transaction.Transaction.{Transaction}
 use Rattle.terms.specs.Types.{Id}
 use Rattle.store_rows.specs.Inside.{Continues, Turns}
-use Rattle.store_rows.specs.Calls.{Call, RunsInside}
-use Rattle.store_rows.specs.Rows.{Contents, HasContents, in_table, with_row, without}
+use Rattle.store_rows.specs.Calls.{Call, RunsInside, puts}
+use Rattle.store_rows.specs.Rows.{Contents, HasContents, in_table, with_row, with_rows, without}
 use Rattle.store_rows.specs.Texts.{SuitColumns}
-use Rattle.store_rows.proofs.InsideLemmas.{on_ok, continues, continues_then, turns_then}
+use Rattle.store_rows.proofs.InsideLemmas.{on_ok, continues_then, turns_then}
 use Rattle.store_schema.specs.Tables.{store_schema}
-use Rattle.store_sysmods.specs.Calls.{puts}
 use Rattle.store_sysmods.specs.Steps.{Step, Puts}
-use Rattle.store_sysmods.specs.Sysmods.{with_rows, sysmod_key}
-use Rattle.store_sysmods.proofs.Adding.{adds_none, adds_then}
-use Rattle.store_sysmods.proofs.Calling.{runs_rest, runs_stops, runs_none}
+use Rattle.store_sysmods.specs.Sysmods.{sysmod_key}
+use Rattle.store_sysmods.proofs.Calling.{runs_rest, runs_stops}
+
+-- what is so of each of these, where there was no error
+pub each_ok : {X E A : Type 0} (r : Result X E) (P Q : A → Type 0) → ((x : A) → P x → OnOk r (Q x))
+    → OnOk r ((x : A) → P x → Q x)
+each_ok (Ok y) P Q each = each
+each_ok (Err e) P Q each = tt
 
 module _ {S : Type 0} (g : Ghosts S) where
   -- statements that ran
@@ -78,48 +82,32 @@ module _ {S : Type 0} (g : Ghosts S) where
   step_takes_of text table {a = a} {b = b} {r = r} is step =
       subst (λ y. Step g ((text, sysmod_key y) ∷ []) (in_table table (without (sysmod_key y))) a b r) is step
 
-  -- ---- rows that are added to one table
+  -- ---- rows that are put into one table
 
-  module _ (text : List ℕ) (table : Table) where
-    pub puts_none : (a : Transaction S) → Puts g text table [] a a (Ok (tt {0}))
-    puts_none a = record {
-      continues = continues g a;
-      runs = runs_none g text a.conn.now;
-      ok = adds_none g table a.conn.now;
-    }
+  -- the bound values are a row of the table
+  pub step_row : {X : Type 0} (text : List ℕ) (table : Table) {row r : Row} {a b : Transaction S} {q : Result X Error}
+      → r ≡ row → SuitColumns table.columns row → Continues g a b
+      → RunsInside g ((text, r) ∷ []) a.conn.now b.conn.now q
+      → OnOk q (SuitColumns table.columns r
+      → Turns g a.conn.now b.conn.now (HasContents store_schema) (in_table table (with_row r)))
+      → Step g ((text, row) ∷ []) (in_table table (with_row row)) a b q
+  step_row text table {r = r} {a = a} {b = b} {q = q} is suits kept runs ok =
+      subst (λ x. Step g ((text, x) ∷ []) (in_table table (with_row x)) a b q) is (record {
+        continues = kept;
+        runs = runs;
+        ok = on_ok q _ _ (λ turned. turned (subst (SuitColumns table.columns) (sym is) suits)) ok;
+      })
 
-    pub puts_as : {X : Type 0} {xs ys : List Row} {a b : Transaction S} {r : Result X Error} → xs ≡ ys
-        → Puts g text table xs a b r → Puts g text table ys a b r
-    puts_as {a = a} {b = b} {r = r} is step = subst (λ l. Puts g text table l a b r) is step
-
-    -- the bound values are a row of the table
-    pub puts_row : {X : Type 0} {row r : Row} {a b : Transaction S} {q : Result X Error} → r ≡ row
-        → SuitColumns table.columns row → Continues g a b → RunsInside g ((text, r) ∷ []) a.conn.now b.conn.now q
-        → OnOk q (SuitColumns table.columns r
-        → Turns g a.conn.now b.conn.now (HasContents store_schema) (in_table table (with_row r)))
-        → Puts g text table (row ∷ []) a b q
-    puts_row {r = r} {a = a} {b = b} {q = q} is suits kept runs ok =
-        puts_as (ap (λ l. l ∷ []) is) (record {
-          continues = kept;
-          runs = runs;
-          ok = on_ok q _ _ (λ turned. turned (subst (SuitColumns table.columns) (sym is) suits)) ok;
-        })
-
-    pub puts_then : {X : Type 0} (xs ys : List Row) {a b c : Transaction S} {r : Result X Error}
-        → Puts g text table xs a b (Ok (tt {0})) → Puts g text table ys b c r → Puts g text table (xs ++ ys) a c r
-    puts_then xs ys {a = a} {b = b} {c = c} {r = r} one two = record {
-      continues = continues_then g a b c one.continues two.continues;
-      runs = subst (λ calls. RunsInside g calls a.conn.now c.conn.now r) (sym (map-append (λ row. (text, row)) xs ys))
-          (runs_rest g (puts text xs) (puts text ys) a.conn.now b.conn.now c.conn.now r one.continues.inside
-          two.continues.inside one.runs two.runs);
-      ok = on_ok r _ _ (adds_then g table a.conn.now b.conn.now c.conn.now xs ys two.continues.inside one.ok) two.ok;
-    }
-
-    -- a row failed, and none behind it was begun
-    pub puts_stops : {X Y : Type 0} (xs ys : List Row) {a b : Transaction S} {q : Result X Error} {e : Error}
-        (r : Result Y Error) → q ≡ Err e → IsErrAnd r (λ z. z ≡ e) → Puts g text table xs a b q
-        → Puts g text table (xs ++ ys) a b r
-    puts_stops xs ys {a = a} {b = b} r failed told first =
-        subst (λ calls. Step g calls (in_table table (with_rows (xs ++ ys))) a b r)
-        (sym (map-append (λ row. (text, row)) xs ys))
-        (step_errs failed told (step_stops (puts text ys) r failed told first))
+  -- and so are many
+  pub puts_rows : {X : Type 0} (some one : List ℕ) (table : Table) {rows rs : List Row} {a b : Transaction S}
+      {q : Result X Error} → rs ≡ rows → AllByRecursion (SuitColumns table.columns) rows → Continues g a b
+      → RunsInside g (puts some one rs) a.conn.now b.conn.now q
+      → OnOk q (AllByRecursion (SuitColumns table.columns) rs
+      → Turns g a.conn.now b.conn.now (HasContents store_schema) (in_table table (with_rows rs)))
+      → Puts g some one table rows a b q
+  puts_rows some one table {rs = rs} {a = a} {b = b} {q = q} is suits kept runs ok =
+      subst (λ l. Puts g some one table l a b q) is (record {
+        continues = kept;
+        runs = runs;
+        ok = on_ok q _ _ (λ turned. turned (subst (AllByRecursion (SuitColumns table.columns)) (sym is) suits)) ok;
+      })

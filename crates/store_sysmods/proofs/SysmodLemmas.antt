@@ -1,7 +1,7 @@
 -- What the tables hold when a SYSMOD comes, goes, or has other sources.
 use Rattle.std.proofs.Common.{◌≡◌, inl, inr, arith, ℕ, List, [], ◌∷◌, ◌++◌, append-nil, map, filter, length, Bool, true}
 use Rattle.std.proofs.Common.{false, not, if◌then◌else◌, IsPermutation, Ordering, Less, Equal, Greater, refl, sym, ap}
-use Rattle.std.proofs.Common.{ap₂, subst, ◌∙◌}
+use Rattle.std.proofs.Common.{ap₂, subst, subst₂, ◌∙◌}
 use Rattle.std.specs.List.{AllByRecursion, flat_map, enumerate_from}
 use Rattle.std.specs.Prelude.{find, is_some}
 use Rattle.std.specs.Ordering.{is_lt, is_eq, nat_cmp, ordering_reverse}
@@ -10,14 +10,16 @@ use Rattle.std.specs.Str.{bytes_eq}
 use Rattle.std.proofs.lemmas.Cmp.{nat_list_cmp_total}
 use Rattle.std.proofs.lemmas.Map.Text.{is_eq-slice_cmp}
 use Rattle.std.proofs.lemmas.List.Concat.{flat_map_single}
-use Rattle.std.proofs.lemmas.List.Sorted.{IsPermutation-sym}
+use Rattle.std.proofs.lemmas.List.{append_assoc}
+use Rattle.std.proofs.lemmas.List.Sorted.{IsPermutation-refl, IsPermutation-sym, IsPermutation-trans}
+use Rattle.std.proofs.lemmas.List.Sorted.{IsPermutation-append_right}
 use Rattle.sqlite.specs.declared.types.Value.TheVariants as value
 use Rattle.sqlite.specs.Effect.{Database}
 use Rattle.sqlite.specs.Order.{Row}
 use Rattle.sqlite.specs.Table.{Table}
 use Rattle.sqlite_rules.specs.Lists.{Has}
 use Rattle.sqlite_rules.proofs.ListLemmas.{has_left, has_kept}
-use Rattle.terms.specs.Types.{Text, Id, Ver, Sysmod}
+use Rattle.terms.specs.Types.{Text, Id, Ver, Sysmod, Global}
 use Rattle.terms.specs.Global.{with_sysmod}
 use Rattle.terms.specs.Lookups.{is_received}
 use Rattle.terms.proofs.TextOrder.{same_from}
@@ -25,15 +27,17 @@ use Rattle.sysmod.specs.Edited.{with_sources, less_sysmod}
 use Rattle.store_rows.specs.Rows.{Contents, has_key, without, HasContents}
 use Rattle.store_rows.proofs.Keys.{equals, and_true}
 use Rattle.store_rows.proofs.ContentsLemmas.{permuted}
+use Rattle.store_rows.proofs.Parts.{moved_front}
 use Rattle.store_rows.proofs.RowLemmas.{same_rows}
 use Rattle.store_schema.specs.Inventory.{Inventory}
 use Rattle.store_schema.specs.Rows.{sysmod_row, source_row, sources_of, ver_row, vers_of, ifreq_row, ifreqs_of}
 use Rattle.store_schema.specs.Rows.{elem_row, elems_of, morever_row, morevers_of, moreif_row, moreifs_of}
-use Rattle.store_schema.specs.Rows.{first_vers, further_vers}
+use Rattle.store_schema.specs.Rows.{first_vers, further_vers, hold_row}
 use Rattle.store_schema.specs.Stands.{rows_of}
 use Rattle.store_schema.specs.Tables.{store_schema, meta, sysmod, ver, ifreq, hold, elem, zone, entry, zelem, source}
 use Rattle.store_schema.specs.Tables.{morever, moreif, chosen}
-use Rattle.store_sysmods.specs.Sysmods.{with_sysmod_rows, without_sysmod_rows, with_source_rows, sysmod_key}
+use Rattle.store_sysmods.specs.Sysmods.{AreNew, with_sysmods, with_sysmods_rows, without_sysmod_rows}
+use Rattle.store_sysmods.specs.Sysmods.{with_source_rows, sysmod_key}
 use Rattle.store_sysmods.proofs.KeyLemmas.{at_most_one, has_sysmod}
 use Rattle.store_sysmods.proofs.Partings.{parted, between, all_map, all_flat, without_items, flat_kept}
 
@@ -114,33 +118,45 @@ apart x y other = one_side (slice_cmp nat_cmp x y) (slice_cmp nat_cmp y x) (nat_
 abbrev own_row : Sysmod → List Row
 own_row s = sysmod_row s ∷ []
 
-module _ (i : Inventory) (s : Sysmod) where
-  abbrev all : List Sysmod
-  all = i.global.sysmods
+rows_between : (g : Global) (s : Sysmod) (f : Sysmod → List Row) → is_received g s.id ≡ false
+    → IsPermutation (flat_map f (with_sysmod g s).sysmods) (f (record s { holds = [] }) ++ flat_map f g.sysmods)
+rows_between g s f none =
+    between f (λ r. is_lt (slice_cmp nat_cmp r.id s.id)) (λ r. is_lt (slice_cmp nat_cmp s.id r.id)) g.sysmods
+    (record s { holds = [] }) (λ r h. apart r.id s.id (none_found s.id g.sysmods none r h))
 
-  abbrev laid_aside : Sysmod
-  laid_aside = record s { holds = [] }
+-- Several come, whose rows do not tell holds.
+rows_added : (f : Sysmod → List Row) → ((s : Sysmod) → f (record s { holds = [] }) ≡ f s) → (ss : List Sysmod)
+    (g : Global) → AreNew ss g
+    → IsPermutation (flat_map f (with_sysmods ss g).sysmods) (flat_map f ss ++ flat_map f g.sysmods)
+rows_added f same [] g new = IsPermutation-refl _
+rows_added f same (s ∷ ss) g (none, later) =
+    let first = subst (λ l. IsPermutation (flat_map f (with_sysmod g s).sysmods) (l ++ flat_map f g.sysmods)) (same s)
+    (rows_between g s f none) in
+    subst (IsPermutation (flat_map f (with_sysmods ss (with_sysmod g s)).sysmods))
+    (sym (append_assoc (f s) (flat_map f ss) (flat_map f g.sysmods)))
+    (IsPermutation-trans _ _ _ (rows_added f same ss (with_sysmod g s) later)
+    (IsPermutation-trans _ _ _ (IsPermutation-append_right (flat_map f ss) _ _ first)
+    (moved_front (flat_map f ss) (f s) (flat_map f g.sysmods))))
 
-  rows_between : (f : Sysmod → List Row) → is_received i.global s.id ≡ false
-      → IsPermutation (flat_map f (with_sysmod i.global s).sysmods) (f laid_aside ++ flat_map f all)
-  rows_between f none =
-      between f (λ r. is_lt (slice_cmp nat_cmp r.id s.id)) (λ r. is_lt (slice_cmp nat_cmp s.id r.id)) all laid_aside
-      (λ r h. apart r.id s.id (none_found s.id all none r h))
+holds_kept : (ss : List Sysmod) (g : Global) → (with_sysmods ss g).holds ≡ g.holds
+holds_kept [] g = refl
+holds_kept (s ∷ ss) g = holds_kept ss (with_sysmod g s)
 
-  pub sysmod_added : (db : Database) → is_received i.global s.id ≡ false
-      → HasContents store_schema (with_sysmod_rows s (rows_of i)) db
-      → HasContents store_schema (rows_of (record i { global = with_sysmod i.global s })) db
-  sysmod_added db none =
-      let new = (with_sysmod i.global s).sysmods in
-      let own : IsPermutation (map sysmod_row new) (sysmod_row s ∷ map sysmod_row all) =
-      subst (λ l. IsPermutation l (sysmod_row s ∷ map sysmod_row all)) (flat_map_single sysmod_row new)
-      (subst (λ l. IsPermutation (flat_map own_row new) (sysmod_row s ∷ l)) (flat_map_single sysmod_row all)
-      (rows_between own_row none)) in
-      permuted_sysmods (with_sysmod_rows s (rows_of i))
-      (rows_of (record i { global = with_sysmod i.global s })) db
-      (refl, (refl, (refl, (refl, (refl, (refl, tt)))))) own (rows_between sources_of none)
-      (rows_between vers_of none) (rows_between ifreqs_of none) (rows_between elems_of none)
-      (rows_between morevers_of none) (rows_between moreifs_of none)
+pub sysmods_added : (ss : List Sysmod) (i : Inventory) (db : Database) → AreNew ss i.global
+    → HasContents store_schema (with_sysmods_rows ss (rows_of i)) db
+    → HasContents store_schema (rows_of (record i { global = with_sysmods ss i.global })) db
+sysmods_added ss i db new =
+    let all = i.global.sysmods in
+    let own : IsPermutation (map sysmod_row (with_sysmods ss i.global).sysmods)
+    (map sysmod_row ss ++ map sysmod_row all) =
+    subst₂ IsPermutation (flat_map_single sysmod_row (with_sysmods ss i.global).sysmods)
+    (ap₂ ◌++◌ (flat_map_single sysmod_row ss) (flat_map_single sysmod_row all))
+    (rows_added own_row (λ s. refl) ss i.global new) in
+    permuted_sysmods (with_sysmods_rows ss (rows_of i)) (rows_of (record i { global = with_sysmods ss i.global })) db
+    (refl, (ap (map hold_row) (holds_kept ss i.global), (refl, (refl, (refl, (refl, tt)))))) own
+    (rows_added sources_of (λ s. refl) ss i.global new) (rows_added vers_of (λ s. refl) ss i.global new)
+    (rows_added ifreqs_of (λ s. refl) ss i.global new) (rows_added elems_of (λ s. refl) ss i.global new)
+    (rows_added morevers_of (λ s. refl) ss i.global new) (rows_added moreifs_of (λ s. refl) ss i.global new)
 
 -- ---- a SYSMOD goes
 

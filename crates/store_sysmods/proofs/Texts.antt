@@ -10,17 +10,18 @@ use Rattle.sqlite.specs.Table.{Table}
 use Rattle.sqlite_rules.specs.Action.{Work, pairs}
 use Rattle.sqlite_rules.specs.Lists.{Has}
 use Rattle.sqlite_rules.proofs.ListLemmas.{has_got}
+use Rattle.store_rows.specs.Calls.{many}
 use Rattle.store_rows.specs.Texts.{PutsIn, TakesOut, TakesOutParent, IsCascade}
 use Rattle.store_rows.proofs.Meant.{puts_in, takes_out}
 use Rattle.store_rows.proofs.Parents.{if_set_off}
 use Rattle.store_schema.specs.Tables.{store_schema, sysmod, ver, ifreq, elem, source, morever, moreif}
-use Rattle.store_sysmods.specs.Sources.{insert_source, delete_sources}
-use Rattle.store_sysmods.specs.Vers.{insert_ver, delete_vers}
-use Rattle.store_sysmods.specs.Ifs.{insert_ifreq, delete_ifreqs}
-use Rattle.store_sysmods.specs.Elems.{insert_elem, delete_elems}
-use Rattle.store_sysmods.specs.Heads.{insert_sysmod, delete_sysmod}
-use Rattle.store_sysmods.specs.MoreVers.{insert_morever, delete_morevers}
-use Rattle.store_sysmods.specs.MoreIfs.{insert_moreif, delete_moreifs}
+use Rattle.store_sysmods.specs.Sources.{insert_source, insert_sources, delete_sources}
+use Rattle.store_sysmods.specs.Vers.{insert_ver, insert_vers, delete_vers}
+use Rattle.store_sysmods.specs.Ifs.{insert_ifreq, insert_ifreqs, delete_ifreqs}
+use Rattle.store_sysmods.specs.Elems.{insert_elem, insert_elems, delete_elems}
+use Rattle.store_sysmods.specs.Heads.{insert_sysmod, insert_sysmods, delete_sysmod}
+use Rattle.store_sysmods.specs.MoreVers.{insert_morever, insert_morevers, delete_morevers}
+use Rattle.store_sysmods.specs.MoreIfs.{insert_moreif, insert_moreifs, delete_moreifs}
 use Rattle.store_sysmods.specs.Sysmods.{sysmod_children}
 
 -- that what the deletion of a row sets off deletes rows of one of these tables
@@ -40,29 +41,57 @@ pub puts_sysmod : PutsIn store_schema 1 sysmod 1 insert_sysmod
 unfolding understood everything
 puts_sysmod = puts_in refl refl refl (refl, refl) refl refl
 
+pub puts_sysmods : PutsIn store_schema 1 sysmod many insert_sysmods
+unfolding understood everything
+puts_sysmods = puts_in refl refl refl (refl, refl) refl refl
+
 pub puts_source : PutsIn store_schema 9 source 1 insert_source
 unfolding understood everything
 puts_source = puts_in refl refl refl (refl, refl) refl refl
+
+pub puts_sources : PutsIn store_schema 9 source many insert_sources
+unfolding understood everything
+puts_sources = puts_in refl refl refl (refl, refl) refl refl
 
 pub puts_ver : PutsIn store_schema 2 ver 1 insert_ver
 unfolding understood everything
 puts_ver = puts_in refl refl refl (refl, refl) refl refl
 
+pub puts_vers : PutsIn store_schema 2 ver many insert_vers
+unfolding understood everything
+puts_vers = puts_in refl refl refl (refl, refl) refl refl
+
 pub puts_ifreq : PutsIn store_schema 3 ifreq 1 insert_ifreq
 unfolding understood everything
 puts_ifreq = puts_in refl refl refl (refl, refl) refl refl
+
+pub puts_ifreqs : PutsIn store_schema 3 ifreq many insert_ifreqs
+unfolding understood everything
+puts_ifreqs = puts_in refl refl refl (refl, refl) refl refl
 
 pub puts_elem : PutsIn store_schema 5 elem 1 insert_elem
 unfolding understood everything
 puts_elem = puts_in refl refl refl (refl, refl) refl refl
 
+pub puts_elems : PutsIn store_schema 5 elem many insert_elems
+unfolding understood everything
+puts_elems = puts_in refl refl refl (refl, refl) refl refl
+
 pub puts_morever : PutsIn store_schema 10 morever 1 insert_morever
 unfolding understood everything
 puts_morever = puts_in refl refl refl (refl, refl) refl refl
 
+pub puts_morevers : PutsIn store_schema 10 morever many insert_morevers
+unfolding understood everything
+puts_morevers = puts_in refl refl refl (refl, refl) refl refl
+
 pub puts_moreif : PutsIn store_schema 11 moreif 1 insert_moreif
 unfolding understood everything
 puts_moreif = puts_in refl refl refl (refl, refl) refl refl
+
+pub puts_moreifs : PutsIn store_schema 11 moreif many insert_moreifs
+unfolding understood everything
+puts_moreifs = puts_in refl refl refl (refl, refl) refl refl
 
 pub takes_vers : TakesOut store_schema 2 ver 1 delete_vers
 unfolding understood everything same_name joined

@@ -10,7 +10,7 @@ use Rattle.terms.specs.Types.{Text, Id, Sysmod, Global}
 use Rattle.terms.specs.Global.{with_sysmod}
 use Rattle.terms.specs.Lookups.{is_received}
 use Rattle.sysmod.specs.Edited.{with_sources, less_sysmod}
-use Rattle.store_rows.specs.Inside.{Leads, Turns}
+use Rattle.store_rows.specs.Inside.{Leads}
 use Rattle.store_rows.specs.Rows.{Contents, HasContents, as_bound, in_table, with_rows, without}
 use Rattle.store_schema.specs.Inventory.{Inventory}
 use Rattle.store_schema.specs.Rows.{sysmod_row, sources_of, vers_of, ifreqs_of, elems_of, morevers_of, moreifs_of}

@@ -10,14 +10,14 @@ ghost use Rattle.sysmod.specs.Views.{action_of};
 ghost use Rattle.terms.specs.declared.kinds.Kind.TheVariants.{Ptf};
 ghost use Rattle.terms.specs.Texts.{IsUpdate};
 ghost use Rattle.terms.specs.Types.{Action as ActionTerm};
-ghost use Rattle.store_rows.specs.Rows.{in_table, without};
+ghost use Rattle.store_rows.specs.Rows.{as_bound, in_table, without};
 ghost use Rattle.store_schema.specs.Forms.{AreRecords, IsTextOf, TakesUpdates, HasActionForms};
 ghost use Rattle.store_schema.specs.Rows.{records, action_cells, elem_row, flag};
 ghost use Rattle.store_schema.specs.Tables.{elem as elem_table};
 ghost use Rattle.store_sysmods.specs.declared.elem.ElemRow.{ElemRow as AElemRow};
-ghost use Rattle.store_sysmods.specs.Elems.{insert_elem as into_elem, delete_elems, is_update, distlib_of, syslib_of};
+ghost use Rattle.store_sysmods.specs.Elems.{delete_elems, is_update, distlib_of, syslib_of};
 ghost use Rattle.store_sysmods.specs.Elems.{lines_of as lines_in};
-ghost use Rattle.store_sysmods.specs.Steps.{Step, Puts};
+ghost use Rattle.store_sysmods.specs.Steps.{Step};
 ghost use Rattle.store_sysmods.specs.Sysmods.{sysmod_key};
 
 use crate::listed::Listed;
@@ -25,9 +25,10 @@ use crate::rows::Rows;
 use fields::spelling::type_text;
 use fields::{Id, Name};
 use sqlite::{Alter, Error, Row, Transaction};
+use sqlite_value::row::Row as Cells;
 use sqlite_value::value::ValueRef;
-use std::alloc::Global;
-use store_rows::{FromRow, ReadError, insert, remove};
+use std::alloc::{AllocError, Global};
+use store_rows::{FromRow, ReadError, cells_of, remove};
 use store_schema::{
     Query, elem_type_in, element_text_in, flag_in, id_in, is_updated, name_in, optional_in,
     records_in,
@@ -42,7 +43,8 @@ pub(crate) const INSERT: &str =
     "INSERT INTO elem (id, type, name, upd, distlib, syslib, text) VALUES (?1, ?2, ?3, ?4, ?5, ?6, ?7)";
 
 // Sixteen rows, as many as one statement puts.
-pub(crate) const INSERT_MANY: &str = "INSERT INTO elem (id, type, name, upd, distlib, syslib, text) VALUES \
+pub(crate) const INSERT_MANY: &str =
+    "INSERT INTO elem (id, type, name, upd, distlib, syslib, text) VALUES \
     (?, ?, ?, ?, ?, ?, ?), (?, ?, ?, ?, ?, ?, ?), (?, ?, ?, ?, ?, ?, ?), (?, ?, ?, ?, ?, ?, ?), \
     (?, ?, ?, ?, ?, ?, ?), (?, ?, ?, ?, ?, ?, ?), (?, ?, ?, ?, ?, ?, ?), (?, ?, ?, ?, ?, ?, ?), \
     (?, ?, ?, ?, ?, ?, ?), (?, ?, ?, ?, ?, ?, ?), (?, ?, ?, ?, ?, ?, ?), (?, ?, ?, ?, ?, ?, ?), \
@@ -255,15 +257,15 @@ fn syslib_value(action: &Action) -> ValueRef<'_>
     }
 }
 
-// Adds the element statement's row, of whose records these are the bytes.
-fn insert_row<'a, S: Alter>(
-    tx: &mut Transaction<'_, S>,
+// The element statement's row, of whose records these are the bytes.
+fn row_of<'a>(
+    alloc: Global,
     id: &'a Id,
     change: &'a ElemChange,
     text: &'a [u8],
-) -> Result<(), Error>
+) -> Result<Cells, AllocError>
     requires { text.now ≡ concat (lines_in change.now.action) }
-    ensures { Puts S.Store into_elem elem_table (elem_row id.now change.now ∷ []) tx.old tx.new result }
+    ensures { IfOk result (λ row. as_bound row ≡ elem_row id.now change.now) }
 {
     let id = ValueRef::Text(id.as_bytes());
     let elem_type = ValueRef::Text(type_text(change.elem_type));
@@ -272,11 +274,7 @@ fn insert_row<'a, S: Alter>(
     let distlib = distlib_value(&change.action);
     let syslib = syslib_value(&change.action);
     let text = ValueRef::Blob(text);
-    insert(
-        tx,
-        INSERT,
-        &[id, elem_type, name, update, distlib, syslib, text],
-    )
+    cells_of(alloc, &[id, elem_type, name, update, distlib, syslib, text])
 }
 
 /// The rows of the SYSMOD's element statements.
@@ -288,26 +286,21 @@ pub(crate) struct Changes {
 
 impl Rows for Changes {
     ghost use Rattle.store_schema.specs.Rows.{elem_row};
-    ghost use Rattle.store_schema.specs.Tables.{elem as elem_table};
     ghost use Rattle.store_sysmods.specs.Behind.{of_each};
-    ghost use Rattle.store_sysmods.specs.Elems.{insert_elem as into_elem};
 
     type Item = ElemChange;
 
-    ghost text = { into_elem };
+    ghost of_item = { λ of. of_each (elem_row of.id) };
 
-    ghost table = { elem_table };
-
-    ghost rows = { λ of. of_each (elem_row of.id) };
-
-    fn insert<S: Alter>(
+    fn push(
         &self,
-        tx: &mut Transaction<'_, S>,
+        rows: &mut Vec<Cells>,
         _front: &[ElemChange],
         change: &ElemChange,
-    ) -> Result<(), Error> {
+    ) -> Result<(), AllocError> {
         let text = bytes_of(self.alloc, lines_of(&change.action))?;
-        insert_row(tx, &self.id, change, text.as_slice())
+        rows.push(row_of(self.alloc, &self.id, change, text.as_slice())?)?;
+        Ok(())
     }
 }
 

@@ -6,15 +6,14 @@ ghost use Rattle.sqlite.specs.Order.{column};
 ghost use Rattle.sqlite.specs.State.{HasCleanDisk};
 ghost use Rattle.store_rows.specs.Calls.{RunsInside};
 ghost use Rattle.store_rows.specs.Inside.{Continues};
-ghost use Rattle.store_rows.specs.Rows.{Contents, HasContents, HaveNone, in_table, without};
+ghost use Rattle.store_rows.specs.Rows.{Contents, HasContents, HaveNone, as_bound, in_table, without};
 ghost use Rattle.store_schema.specs.Forms.{AreSorted};
 ghost use Rattle.store_schema.specs.Rows.{ids, sysmod_row};
 ghost use Rattle.store_schema.specs.Tables.{sysmod as sysmod_table, store_schema};
 ghost use Rattle.terms.specs.Forms.{IsSource};
 ghost use Rattle.store_sysmods.specs.declared.head.HeadRow.{HeadRow as AHeadRow};
 ghost use Rattle.store_sysmods.specs.declared.head.BareHead.{BareHead as ABareHead};
-ghost use Rattle.store_sysmods.specs.Heads.{insert_sysmod as into_sysmod, delete_sysmod, AreShort};
-ghost use Rattle.store_sysmods.specs.Steps.{Puts};
+ghost use Rattle.store_sysmods.specs.Heads.{delete_sysmod, AreShort};
 ghost use Rattle.store_sysmods.specs.Sysmods.{sysmod_key, sysmod_children};
 
 use crate::listed::Listed;
@@ -22,9 +21,10 @@ use fields::spelling::kind_text;
 use fields::{Id, Source, SourceList};
 use sorted::Keyed;
 use sqlite::{Alter, Error, Row, Transaction};
+use sqlite_value::row::Row as Cells;
 use sqlite_value::value::ValueRef;
-use std::alloc::Global;
-use store_rows::{FromRow, ReadError, insert, remove_parent, text};
+use std::alloc::{AllocError, Global};
+use store_rows::{FromRow, ReadError, cells_of, remove_parent, text};
 use store_schema::{Query, id_in, kind_in, sources_in};
 use sysmod::Sysmod;
 use terms::Kind;
@@ -237,17 +237,14 @@ impl Listed for BareHeads {
 
 // ---- as it is written
 
-/// Adds the SYSMOD's own row, whose column of sources stays empty.
-pub(crate) fn insert_row<S: Alter>(
-    tx: &mut Transaction<'_, S>,
-    sysmod: &Sysmod,
-) -> Result<(), Error>
-    ensures { Puts S.Store into_sysmod sysmod_table (sysmod_row sysmod.now ∷ []) tx.old tx.new result }
+/// The SYSMOD's own row, whose column of sources stays empty.
+pub(crate) fn row_of(alloc: Global, sysmod: &Sysmod) -> Result<Cells, AllocError>
+    ensures { IfOk result (λ row. as_bound row ≡ sysmod_row sysmod.now) }
 {
     let id = ValueRef::Text(sysmod.id.as_bytes());
     let kind = ValueRef::Text(kind_text(sysmod.kind));
     let sources = ValueRef::Text(b"");
-    insert(tx, INSERT, &[id, kind, sources])
+    cells_of(alloc, &[id, kind, sources])
 }
 
 /// Takes out the SYSMOD's own row, where the tables that refer to it hold none of the SYSMOD.

@@ -2,29 +2,31 @@
 
 ghost use Rattle.std.specs.Prelude.{◌≡◌, ◌≢◌, ◌<◌, ◌^◌, [], ◌∷◌, IfOk, IsErrOf};
 ghost use Rattle.std.specs.List.{join_with_byte};
-ghost use Rattle.store_rows.specs.Rows.{in_table, without};
+ghost use Rattle.store_rows.specs.Rows.{as_bound, in_table, without};
 ghost use Rattle.store_schema.specs.Rows.{ifreq_row};
 ghost use Rattle.store_schema.specs.Tables.{ifreq as ifreq_table};
 ghost use Rattle.store_sysmods.specs.declared.ifreq.IfRow.{IfRow as AIfRow};
-ghost use Rattle.store_sysmods.specs.Ifs.{insert_ifreq as into_ifreq, delete_ifreqs};
-ghost use Rattle.store_sysmods.specs.Steps.{Step, Puts};
+ghost use Rattle.store_sysmods.specs.Ifs.{delete_ifreqs};
+ghost use Rattle.store_sysmods.specs.Steps.{Step};
 ghost use Rattle.store_sysmods.specs.Sysmods.{sysmod_key};
 
 use crate::cells::{number_in, requisites_in};
 use crate::listed::Listed;
 use crate::numbers::number_behind;
-use crate::rows::{Rows, insert_all};
+use crate::rows::{Rows, push_all};
 use fields::{Id, Srel};
 use sqlite::{Alter, Error, Row, Transaction};
+use sqlite_value::row::Row as Cells;
 use sqlite_value::value::ValueRef;
-use std::alloc::Global;
-use store_rows::{FromRow, ReadError, insert, remove};
+use std::alloc::{AllocError, Global};
+use store_rows::{FromRow, ReadError, cells_of, remove};
 use store_schema::{Query, id_in, joined_ids, srel_in};
 use sysmod::{IfReq, Ver};
 
 const SELECT: &str = "SELECT id, srel, n, fmid, req FROM ifreq";
 
-pub(crate) const INSERT: &str = "INSERT INTO ifreq (id, srel, n, fmid, req) VALUES (?1, ?2, ?3, ?4, ?5)";
+pub(crate) const INSERT: &str =
+    "INSERT INTO ifreq (id, srel, n, fmid, req) VALUES (?1, ?2, ?3, ?4, ?5)";
 
 // Sixteen rows, as many as one statement puts.
 pub(crate) const INSERT_MANY: &str = "INSERT INTO ifreq (id, srel, n, fmid, req) VALUES \
@@ -126,26 +128,25 @@ impl Listed for Ifs {
 
 // ---- as it is written
 
-// Adds the `++IF`'s row, of whose requisites this is the text.
-fn insert_row<'a, S: Alter>(
-    tx: &mut Transaction<'_, S>,
+// The `++IF`'s row, of whose requisites this is the text.
+fn row_of<'a>(
+    alloc: Global,
     id: &'a Id,
     srel: &'a Srel,
     number: usize,
     ifreq: &'a IfReq,
     req: &'a [u8],
-) -> Result<(), Error>
+) -> Result<Cells, AllocError>
     requires number { number < 2 ^ 63 }
     requires req { req.now ≡ join_with_byte 44 ifreq.now.req }
-    ensures { Puts S.Store into_ifreq ifreq_table (ifreq_row id.now srel.now (number, ifreq.now) ∷ [])
-        tx.old tx.new result }
+    ensures { IfOk result (λ row. as_bound row ≡ ifreq_row id.now srel.now (number, ifreq.now)) }
 {
     let id = ValueRef::Text(id.as_bytes());
     let srel = ValueRef::Text(srel.as_bytes());
     let number = ValueRef::Int(number as i64);
     let function = ValueRef::Text(ifreq.function.as_bytes());
     let req = ValueRef::Text(req);
-    insert(tx, INSERT, &[id, srel, number, function, req])
+    cells_of(alloc, &[id, srel, number, function, req])
 }
 
 /// The rows of the `++IF`s of a `++VER` for the SREL, which count from 1.
@@ -158,33 +159,29 @@ struct IfsOf {
 
 impl Rows for IfsOf {
     ghost use Rattle.store_schema.specs.Rows.{ifreq_row};
-    ghost use Rattle.store_schema.specs.Tables.{ifreq as ifreq_table};
     ghost use Rattle.store_sysmods.specs.Behind.{of_counted};
-    ghost use Rattle.store_sysmods.specs.Ifs.{insert_ifreq as into_ifreq};
 
     type Item = IfReq;
 
-    ghost text = { into_ifreq };
+    ghost of_item = { λ of. of_counted (ifreq_row of.id of.srel) };
 
-    ghost table = { ifreq_table };
-
-    ghost rows = { λ of. of_counted (ifreq_row of.id of.srel) };
-
-    fn insert<S: Alter>(
+    fn push(
         &self,
-        tx: &mut Transaction<'_, S>,
+        rows: &mut Vec<Cells>,
         front: &[IfReq],
         ifreq: &IfReq,
-    ) -> Result<(), Error> {
+    ) -> Result<(), AllocError> {
         let req = joined_ids(self.alloc, ifreq.req.as_slice())?;
-        insert_row(
-            tx,
+        let number = front.len() + 1;
+        rows.push(row_of(
+            self.alloc,
             &self.id,
             &self.srel,
-            front.len() + 1,
+            number,
             ifreq,
             req.as_slice(),
-        )
+        )?)?;
+        Ok(())
     }
 }
 
@@ -196,26 +193,15 @@ pub(crate) struct FirstIfs {
 }
 
 impl Rows for FirstIfs {
-    ghost use Rattle.store_schema.specs.Tables.{ifreq as ifreq_table};
     ghost use Rattle.store_sysmods.specs.Behind.{of_numbered};
-    ghost use Rattle.store_sysmods.specs.Ifs.{insert_ifreq as into_ifreq, first_ifs};
+    ghost use Rattle.store_sysmods.specs.Ifs.{first_ifs};
 
     type Item = Ver;
 
-    ghost text = { into_ifreq };
+    ghost of_item = { λ of. of_numbered (first_ifs of.id) };
 
-    ghost table = { ifreq_table };
-
-    ghost rows = { λ of. of_numbered (first_ifs of.id) };
-
-    fn insert<S: Alter>(
-        &self,
-        tx: &mut Transaction<'_, S>,
-        front: &[Ver],
-        ver: &Ver,
-    ) -> Result<(), Error> {
-        let number = number_behind(front, ver);
-        if number != 1 {
+    fn push(&self, rows: &mut Vec<Cells>, front: &[Ver], ver: &Ver) -> Result<(), AllocError> {
+        if number_behind(front, ver) != 1 {
             return Ok(());
         }
         let ifs = IfsOf {
@@ -223,7 +209,7 @@ impl Rows for FirstIfs {
             id: self.id,
             srel: ver.srel,
         };
-        insert_all(tx, &ifs, ver.ifs.as_slice())
+        push_all(rows, &ifs, ver.ifs.as_slice())
     }
 }
 

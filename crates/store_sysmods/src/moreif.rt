@@ -2,23 +2,24 @@
 
 ghost use Rattle.std.specs.Prelude.{◌≡◌, ◌≢◌, ◌<◌, ◌^◌, [], ◌∷◌, IfOk, IsErrOf};
 ghost use Rattle.std.specs.List.{join_with_byte};
-ghost use Rattle.store_rows.specs.Rows.{in_table, without};
+ghost use Rattle.store_rows.specs.Rows.{as_bound, in_table, without};
 ghost use Rattle.store_schema.specs.Rows.{moreif_row};
 ghost use Rattle.store_schema.specs.Tables.{moreif as moreif_table};
 ghost use Rattle.store_sysmods.specs.declared.ifreq.IfRow.{IfRow as AIfRow};
-ghost use Rattle.store_sysmods.specs.MoreIfs.{insert_moreif as into_moreif, delete_moreifs};
-ghost use Rattle.store_sysmods.specs.Steps.{Step, Puts};
+ghost use Rattle.store_sysmods.specs.MoreIfs.{delete_moreifs};
+ghost use Rattle.store_sysmods.specs.Steps.{Step};
 ghost use Rattle.store_sysmods.specs.Sysmods.{sysmod_key};
 
 use crate::cells::{further_in, number_in, requisites_in};
 use crate::ifreq::IfRow;
 use crate::numbers::number_behind;
-use crate::rows::{Rows, insert_all};
+use crate::rows::{Rows, push_all};
 use fields::{Id, Srel};
 use sqlite::{Alter, Error, Row, Transaction};
+use sqlite_value::row::Row as Cells;
 use sqlite_value::value::ValueRef;
-use std::alloc::Global;
-use store_rows::{FromRow, ReadError, insert, remove};
+use std::alloc::{AllocError, Global};
+use store_rows::{FromRow, ReadError, cells_of, remove};
 use store_schema::{Query, id_in, joined_ids, srel_in};
 use sysmod::{IfReq, Ver};
 
@@ -108,19 +109,16 @@ impl Query for MoreIfs {
 
 // ---- as it is written
 
-// Adds the row of an `++IF` of the `++VER` of the place, of whose requisites this is the text.
-fn insert_row<'a, S: Alter>(
-    tx: &mut Transaction<'_, S>,
+// The row of an `++IF` of the `++VER` of the place, of whose requisites this is the text.
+fn row_of<'a>(
     of: &'a FurtherIfsOf,
     number: usize,
     ifreq: &'a IfReq,
     req: &'a [u8],
-) -> Result<(), Error>
+) -> Result<Cells, AllocError>
     requires number { number < 2 ^ 63 }
     requires req { req.now ≡ join_with_byte 44 ifreq.now.req }
-    ensures { Puts S.Store into_moreif moreif_table
-        (moreif_row of.now.id of.now.srel of.now.place (number, ifreq.now) ∷ [])
-        tx.old tx.new result }
+    ensures { IfOk result (λ row. as_bound row ≡ moreif_row of.now.id of.now.srel of.now.place (number, ifreq.now)) }
 {
     let id = ValueRef::Text(of.id.as_bytes());
     let srel = ValueRef::Text(of.srel.as_bytes());
@@ -128,7 +126,7 @@ fn insert_row<'a, S: Alter>(
     let number = ValueRef::Int(number as i64);
     let function = ValueRef::Text(ifreq.function.as_bytes());
     let req = ValueRef::Text(req);
-    insert(tx, INSERT, &[id, srel, place, number, function, req])
+    cells_of(of.alloc, &[id, srel, place, number, function, req])
 }
 
 /// The rows of the `++IF`s of the `++VER` of the place, which count from 1.
@@ -143,26 +141,21 @@ struct FurtherIfsOf {
 
 impl Rows for FurtherIfsOf {
     ghost use Rattle.store_schema.specs.Rows.{moreif_row};
-    ghost use Rattle.store_schema.specs.Tables.{moreif as moreif_table};
     ghost use Rattle.store_sysmods.specs.Behind.{of_counted};
-    ghost use Rattle.store_sysmods.specs.MoreIfs.{insert_moreif as into_moreif};
 
     type Item = IfReq;
 
-    ghost text = { into_moreif };
+    ghost of_item = { λ of. of_counted (moreif_row of.id of.srel of.place) };
 
-    ghost table = { moreif_table };
-
-    ghost rows = { λ of. of_counted (moreif_row of.id of.srel of.place) };
-
-    fn insert<S: Alter>(
+    fn push(
         &self,
-        tx: &mut Transaction<'_, S>,
+        rows: &mut Vec<Cells>,
         front: &[IfReq],
         ifreq: &IfReq,
-    ) -> Result<(), Error> {
+    ) -> Result<(), AllocError> {
         let req = joined_ids(self.alloc, ifreq.req.as_slice())?;
-        insert_row(tx, self, front.len() + 1, ifreq, req.as_slice())
+        rows.push(row_of(self, front.len() + 1, ifreq, req.as_slice())?)?;
+        Ok(())
     }
 }
 
@@ -174,24 +167,14 @@ pub(crate) struct FurtherIfs {
 }
 
 impl Rows for FurtherIfs {
-    ghost use Rattle.store_schema.specs.Tables.{moreif as moreif_table};
     ghost use Rattle.store_sysmods.specs.Behind.{of_numbered};
-    ghost use Rattle.store_sysmods.specs.MoreIfs.{insert_moreif as into_moreif, further_ifs};
+    ghost use Rattle.store_sysmods.specs.MoreIfs.{further_ifs};
 
     type Item = Ver;
 
-    ghost text = { into_moreif };
+    ghost of_item = { λ of. of_numbered (further_ifs of.id) };
 
-    ghost table = { moreif_table };
-
-    ghost rows = { λ of. of_numbered (further_ifs of.id) };
-
-    fn insert<S: Alter>(
-        &self,
-        tx: &mut Transaction<'_, S>,
-        front: &[Ver],
-        ver: &Ver,
-    ) -> Result<(), Error> {
+    fn push(&self, rows: &mut Vec<Cells>, front: &[Ver], ver: &Ver) -> Result<(), AllocError> {
         let place = number_behind(front, ver);
         if place == 1 {
             return Ok(());
@@ -202,7 +185,7 @@ impl Rows for FurtherIfs {
             srel: ver.srel,
             place,
         };
-        insert_all(tx, &ifs, ver.ifs.as_slice())
+        push_all(rows, &ifs, ver.ifs.as_slice())
     }
 }
 

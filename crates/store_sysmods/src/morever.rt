@@ -1,12 +1,12 @@
 //! The table of a SYSMOD's further `++VER`s of one SREL. They have neither NPRE nor DELETE.
 
 ghost use Rattle.std.specs.Prelude.{◌≡◌, ◌≢◌, ◌<◌, ◌^◌, [], ◌∷◌, IfOk, IsErrOf};
-ghost use Rattle.store_rows.specs.Rows.{in_table, without};
+ghost use Rattle.store_rows.specs.Rows.{as_bound, in_table, without};
 ghost use Rattle.store_schema.specs.Rows.{morever_row};
 ghost use Rattle.store_schema.specs.Tables.{morever as morever_table};
 ghost use Rattle.store_sysmods.specs.declared.ver.VerRow.{VerRow as AVerRow};
-ghost use Rattle.store_sysmods.specs.MoreVers.{insert_morever as into_morever, delete_morevers};
-ghost use Rattle.store_sysmods.specs.Steps.{Step, Puts};
+ghost use Rattle.store_sysmods.specs.MoreVers.{delete_morevers};
+ghost use Rattle.store_sysmods.specs.Steps.{Step};
 ghost use Rattle.store_sysmods.specs.Sysmods.{sysmod_key};
 ghost use Rattle.store_sysmods.specs.Vers.{AreLists};
 
@@ -16,9 +16,10 @@ use crate::rows::Rows;
 use crate::ver::{Lists, VerRow, lists_of};
 use fields::{Id, IdList};
 use sqlite::{Alter, Error, Row, Transaction};
+use sqlite_value::row::Row as Cells;
 use sqlite_value::value::ValueRef;
-use std::alloc::Global;
-use store_rows::{FromRow, ReadError, insert, remove};
+use std::alloc::{AllocError, Global};
+use store_rows::{FromRow, ReadError, cells_of, remove};
 use store_schema::{Query, id_in, srel_in, text_or_null};
 use sysmod::Ver;
 
@@ -28,7 +29,8 @@ pub(crate) const INSERT: &str =
     "INSERT INTO morever (id, srel, n, fmid, pre, req, sup) VALUES (?1, ?2, ?3, ?4, ?5, ?6, ?7)";
 
 // Sixteen rows, as many as one statement puts.
-pub(crate) const INSERT_MANY: &str = "INSERT INTO morever (id, srel, n, fmid, pre, req, sup) VALUES \
+pub(crate) const INSERT_MANY: &str =
+    "INSERT INTO morever (id, srel, n, fmid, pre, req, sup) VALUES \
     (?, ?, ?, ?, ?, ?, ?), (?, ?, ?, ?, ?, ?, ?), (?, ?, ?, ?, ?, ?, ?), (?, ?, ?, ?, ?, ?, ?), \
     (?, ?, ?, ?, ?, ?, ?), (?, ?, ?, ?, ?, ?, ?), (?, ?, ?, ?, ?, ?, ?), (?, ?, ?, ?, ?, ?, ?), \
     (?, ?, ?, ?, ?, ?, ?), (?, ?, ?, ?, ?, ?, ?), (?, ?, ?, ?, ?, ?, ?), (?, ?, ?, ?, ?, ?, ?), \
@@ -113,18 +115,17 @@ impl Query for MoreVers {
 
 // ---- as it is written
 
-// Adds the row of the `++VER` of this number, of whose lists these are the texts. It has no others.
-fn insert_row<'a, S: Alter>(
-    tx: &mut Transaction<'_, S>,
+// The row of the `++VER` of this number, of whose lists these are the texts. It has no others.
+fn row_of<'a>(
+    alloc: Global,
     id: &'a Id,
     number: usize,
     ver: &'a Ver,
     lists: &'a Lists,
-) -> Result<(), Error>
+) -> Result<Cells, AllocError>
     requires number { number < 2 ^ 63 }
     requires lists { AreLists lists.now ver.now }
-    ensures { Puts S.Store into_morever morever_table (morever_row id.now (number, ver.now) ∷ [])
-        tx.old tx.new result }
+    ensures { IfOk result (λ row. as_bound row ≡ morever_row id.now (number, ver.now)) }
 {
     let id = ValueRef::Text(id.as_bytes());
     let srel = ValueRef::Text(ver.srel.as_bytes());
@@ -133,7 +134,7 @@ fn insert_row<'a, S: Alter>(
     let pre = ValueRef::Text(lists.pre.as_slice());
     let req = ValueRef::Text(lists.req.as_slice());
     let sup = ValueRef::Text(lists.sup.as_slice());
-    insert(tx, INSERT, &[id, srel, number, fmid, pre, req, sup])
+    cells_of(alloc, &[id, srel, number, fmid, pre, req, sup])
 }
 
 /// The rows of the SYSMOD's further `++VER`s, without those of their `++IF`s.
@@ -144,30 +145,21 @@ pub(crate) struct FurtherVers {
 }
 
 impl Rows for FurtherVers {
-    ghost use Rattle.store_schema.specs.Tables.{morever as morever_table};
     ghost use Rattle.store_sysmods.specs.Behind.{of_numbered};
-    ghost use Rattle.store_sysmods.specs.MoreVers.{insert_morever as into_morever, further_row};
+    ghost use Rattle.store_sysmods.specs.MoreVers.{further_row};
 
     type Item = Ver;
 
-    ghost text = { into_morever };
+    ghost of_item = { λ of. of_numbered (further_row of.id) };
 
-    ghost table = { morever_table };
-
-    ghost rows = { λ of. of_numbered (further_row of.id) };
-
-    fn insert<S: Alter>(
-        &self,
-        tx: &mut Transaction<'_, S>,
-        front: &[Ver],
-        ver: &Ver,
-    ) -> Result<(), Error> {
+    fn push(&self, rows: &mut Vec<Cells>, front: &[Ver], ver: &Ver) -> Result<(), AllocError> {
         let number = number_behind(front, ver);
         if number == 1 {
             return Ok(());
         }
         let lists = lists_of(self.alloc, ver)?;
-        insert_row(tx, &self.id, number, ver, &lists)
+        rows.push(row_of(self.alloc, &self.id, number, ver, &lists)?)?;
+        Ok(())
     }
 }
 

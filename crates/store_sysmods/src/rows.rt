@@ -15,7 +15,7 @@ pub(crate) trait Rows {
 
     type Item;
 
-    ghost rows: { Self → List Self.Item → Self.Item → List Row };
+    ghost of_item: { Self → List Self.Item → Self.Item → List Row };
 
     /// Adds the rows of the item.
     fn push(
@@ -26,7 +26,7 @@ pub(crate) trait Rows {
     ) -> Result<(), AllocError>
         requires { length front.now + 1 < 2 ^ 63 }
         ensures { OnOk result (map as_bound rows.new.items
-            ≡ map as_bound rows.old.items ++ rows self.now front.now item.now) };
+            ≡ map as_bound rows.old.items ++ of_item self.now front.now item.now) };
 }
 
 /// Adds the rows of each item.
@@ -37,7 +37,7 @@ pub(crate) fn push_all<R: Rows>(
 ) -> Result<(), AllocError>
     requires { length items.now < 2 ^ 63 }
     ensures { OnOk result (map as_bound rows.new.items
-        ≡ map as_bound rows.old.items ++ rows_behind (R.rows kind.now) [] items.now) }
+        ≡ map as_bound rows.old.items ++ rows_behind (R.of_item kind.now) [] items.now) }
 {
     for (index, item) in items.iter().enumerate() {
         kind.push(rows, &items[..index], item)?;

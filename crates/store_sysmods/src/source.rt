@@ -3,22 +3,23 @@
 ghost use Rattle.std.specs.Prelude.{◌≡◌, ◌≢◌, ℕ, List, [], ◌∷◌, IfOk, IfSome, IfNone, IsErrOf};
 ghost use Rattle.sqlite.specs.declared.types.Value.TheVariants.{Text};
 ghost use Rattle.sqlite.specs.Order.{column};
-ghost use Rattle.store_rows.specs.Rows.{in_table, without};
+ghost use Rattle.store_rows.specs.Rows.{as_bound, in_table, with_row, without};
 ghost use Rattle.store_schema.specs.Rows.{source_row};
 ghost use Rattle.store_schema.specs.Tables.{source as source_table};
 ghost use Rattle.terms.specs.Forms.{IsSource};
 ghost use Rattle.store_sysmods.specs.declared.source.SourceRow.{SourceRow as ASourceRow};
 ghost use Rattle.store_sysmods.specs.Sources.{insert_source as into_source, delete_sources};
-ghost use Rattle.store_sysmods.specs.Steps.{Step, Puts};
+ghost use Rattle.store_sysmods.specs.Steps.{Step};
 ghost use Rattle.store_sysmods.specs.Sysmods.{sysmod_key};
 
 use crate::listed::Listed;
 use crate::rows::Rows;
 use fields::{Id, Source};
 use sqlite::{Alter, Error, Row, Transaction};
+use sqlite_value::row::Row as Cells;
 use sqlite_value::value::ValueRef;
-use std::alloc::Global;
-use store_rows::{FromRow, ReadError, insert, remove, text};
+use std::alloc::{AllocError, Global};
+use store_rows::{FromRow, ReadError, cells_of, insert, remove, text};
 use store_schema::{Query, id_in};
 
 const SELECT: &str = "SELECT id, name FROM source";
@@ -123,40 +124,46 @@ pub fn insert_source<'a, S: Alter>(
     id: &'a Id,
     source: &'a Source,
 ) -> Result<(), Error>
-    ensures { Puts S.Store into_source source_table (source_row id.now source.now ∷ []) tx.old tx.new result }
+    ensures { Step S.Store ((into_source, source_row id.now source.now) ∷ [])
+        (in_table source_table (with_row (source_row id.now source.now))) tx.old tx.new result }
 {
     let id = ValueRef::Text(id.as_bytes());
     let name = ValueRef::Text(source.as_bytes());
     insert(tx, INSERT, &[id, name])
 }
 
+// The row of a source.
+fn row_of<'a>(alloc: Global, id: &'a Id, source: &'a Source) -> Result<Cells, AllocError>
+    ensures { IfOk result (λ row. as_bound row ≡ source_row id.now source.now) }
+{
+    let id = ValueRef::Text(id.as_bytes());
+    let name = ValueRef::Text(source.as_bytes());
+    cells_of(alloc, &[id, name])
+}
+
 /// The rows of the SYSMOD's sources.
 #[derive(Drop)]
 pub(crate) struct SourcesOf {
+    pub alloc: Global,
     pub id: Id,
 }
 
 impl Rows for SourcesOf {
     ghost use Rattle.store_schema.specs.Rows.{source_row};
-    ghost use Rattle.store_schema.specs.Tables.{source as source_table};
     ghost use Rattle.store_sysmods.specs.Behind.{of_each};
-    ghost use Rattle.store_sysmods.specs.Sources.{insert_source as into_source};
 
     type Item = Source;
 
-    ghost text = { into_source };
+    ghost of_item = { λ of. of_each (source_row of.id) };
 
-    ghost table = { source_table };
-
-    ghost rows = { λ of. of_each (source_row of.id) };
-
-    fn insert<S: Alter>(
+    fn push(
         &self,
-        tx: &mut Transaction<'_, S>,
+        rows: &mut Vec<Cells>,
         _front: &[Source],
         source: &Source,
-    ) -> Result<(), Error> {
-        insert_source(tx, &self.id, source)
+    ) -> Result<(), AllocError> {
+        rows.push(row_of(self.alloc, &self.id, source)?)?;
+        Ok(())
     }
 }
 

@@ -7,7 +7,6 @@ ghost use Rattle.store_rows.specs.Inside.{Continues, Turns};
 ghost use Rattle.store_rows.specs.Rows.{HasContents};
 ghost use Rattle.store_schema.specs.Tables.{store_schema};
 ghost use Rattle.store_sysmods.specs.Calls.{insert_sysmods_calls, remove_sysmod_calls, replace_sources_calls};
-ghost use Rattle.store_sysmods.specs.Steps.{Step};
 ghost use Rattle.store_sysmods.specs.Sysmods.{AddsSysmods, AreRowsOf, ReplacesSources, RemovesSysmod, sourced};
 ghost use Rattle.store_sysmods.specs.Sysmods.{with_source_rows, with_sysmods_rows, without_sysmod_rows};
 
@@ -60,8 +59,8 @@ impl SysmodRows {
         self.sysmods.len()
     }
 
-    /// Adds the rows of the SYSMOD, of these sources in place of its own, of its `++VER`s with their `++IF`s, and of its
-    /// element statements. Its holds have a table of their own.
+    /// Adds the rows of the SYSMOD, of these sources in place of its own, of its `++VER`s with their `++IF`s, and of
+    /// its element statements. Its holds have a table of their own.
     pub fn push(
         &mut self,
         alloc: Global,
@@ -77,7 +76,11 @@ impl SysmodRows {
         push_all(&mut self.sources, &SourcesOf { alloc, id }, sources)?;
         push_all(&mut self.vers, &FirstVers { alloc, id }, vers)?;
         push_all(&mut self.ifreqs, &FirstIfs { alloc, id }, vers)?;
-        push_all(&mut self.elems, &Changes { alloc, id }, sysmod.changes.as_slice())?;
+        push_all(
+            &mut self.elems,
+            &Changes { alloc, id },
+            sysmod.changes.as_slice(),
+        )?;
         push_all(&mut self.morevers, &FurtherVers { alloc, id }, vers)?;
         push_all(&mut self.moreifs, &FurtherIfs { alloc, id }, vers)
     }
@@ -98,13 +101,55 @@ pub fn insert_sysmods<S: Alter>(
     ensures stands { OnOk result ((ss : List ASysmod) → AreRowsOf rows.now ss
         → AddsSysmods S.Store tx.old.conn.now tx.new.conn.now ss) }
 {
-    insert_rows(alloc, tx, head::INSERT_MANY, head::INSERT, rows.sysmods.as_slice())?;
-    insert_rows(alloc, tx, source::INSERT_MANY, source::INSERT, rows.sources.as_slice())?;
-    insert_rows(alloc, tx, ver::INSERT_MANY, ver::INSERT, rows.vers.as_slice())?;
-    insert_rows(alloc, tx, ifreq::INSERT_MANY, ifreq::INSERT, rows.ifreqs.as_slice())?;
-    insert_rows(alloc, tx, elem::INSERT_MANY, elem::INSERT, rows.elems.as_slice())?;
-    insert_rows(alloc, tx, morever::INSERT_MANY, morever::INSERT, rows.morevers.as_slice())?;
-    insert_rows(alloc, tx, moreif::INSERT_MANY, moreif::INSERT, rows.moreifs.as_slice())
+    insert_rows(
+        alloc,
+        tx,
+        head::INSERT_MANY,
+        head::INSERT,
+        rows.sysmods.as_slice(),
+    )?;
+    insert_rows(
+        alloc,
+        tx,
+        source::INSERT_MANY,
+        source::INSERT,
+        rows.sources.as_slice(),
+    )?;
+    insert_rows(
+        alloc,
+        tx,
+        ver::INSERT_MANY,
+        ver::INSERT,
+        rows.vers.as_slice(),
+    )?;
+    insert_rows(
+        alloc,
+        tx,
+        ifreq::INSERT_MANY,
+        ifreq::INSERT,
+        rows.ifreqs.as_slice(),
+    )?;
+    insert_rows(
+        alloc,
+        tx,
+        elem::INSERT_MANY,
+        elem::INSERT,
+        rows.elems.as_slice(),
+    )?;
+    insert_rows(
+        alloc,
+        tx,
+        morever::INSERT_MANY,
+        morever::INSERT,
+        rows.morevers.as_slice(),
+    )?;
+    insert_rows(
+        alloc,
+        tx,
+        moreif::INSERT_MANY,
+        moreif::INSERT,
+        rows.moreifs.as_slice(),
+    )
 }
 
 /// Puts the rows of the SYSMOD's sources in place of those that are there. Where it is not received and has a source,
@@ -123,9 +168,19 @@ pub fn replace_sources<S: Alter>(
 {
     let id = sysmod.id;
     let mut rows = Vec::new(alloc);
-    push_all(&mut rows, &SourcesOf { alloc, id }, sysmod.sources.as_slice())?;
+    push_all(
+        &mut rows,
+        &SourcesOf { alloc, id },
+        sysmod.sources.as_slice(),
+    )?;
     source::remove_rows(tx, id)?;
-    insert_rows(alloc, tx, source::INSERT_MANY, source::INSERT, rows.as_slice())
+    insert_rows(
+        alloc,
+        tx,
+        source::INSERT_MANY,
+        source::INSERT,
+        rows.as_slice(),
+    )
 }
 
 /// Takes out the SYSMOD of the id, if there is one, with all its rows. The holds on it stay. An error comes where the

@@ -1,13 +1,13 @@
 //! The table of `++VER`s, of which a SYSMOD has one for each SREL here: the first.
 
 ghost use Rattle.std.specs.Prelude.{◌≡◌, ◌≢◌, [], ◌∷◌, IfOk, IsErrOf};
-ghost use Rattle.store_rows.specs.Rows.{in_table, without};
+ghost use Rattle.store_rows.specs.Rows.{as_bound, in_table, without};
 ghost use Rattle.store_schema.specs.Rows.{ver_row};
 ghost use Rattle.store_schema.specs.Tables.{ver as ver_table};
 ghost use Rattle.store_sysmods.specs.declared.ver.VerRow.{VerRow as AVerRow};
-ghost use Rattle.store_sysmods.specs.Steps.{Step, Puts};
+ghost use Rattle.store_sysmods.specs.Steps.{Step};
 ghost use Rattle.store_sysmods.specs.Sysmods.{sysmod_key};
-ghost use Rattle.store_sysmods.specs.Vers.{insert_ver as into_ver, delete_vers, AreLists};
+ghost use Rattle.store_sysmods.specs.Vers.{delete_vers, AreLists};
 
 use crate::cells::{other_in, others_in};
 use crate::listed::Listed;
@@ -15,9 +15,10 @@ use crate::numbers::number_behind;
 use crate::rows::Rows;
 use fields::{Id, Srel};
 use sqlite::{Alter, Error, Row, Transaction};
+use sqlite_value::row::Row as Cells;
 use sqlite_value::value::ValueRef;
 use std::alloc::{AllocError, Global};
-use store_rows::{FromRow, ReadError, insert, remove};
+use store_rows::{FromRow, ReadError, cells_of, remove};
 use store_schema::{Query, id_in, joined_ids, srel_in, text_or_null};
 use sysmod::Ver;
 
@@ -27,7 +28,8 @@ pub(crate) const INSERT: &str =
     "INSERT INTO ver (id, srel, fmid, pre, req, sup, npre, del) VALUES (?1, ?2, ?3, ?4, ?5, ?6, ?7, ?8)";
 
 // Sixteen rows, as many as one statement puts.
-pub(crate) const INSERT_MANY: &str = "INSERT INTO ver (id, srel, fmid, pre, req, sup, npre, del) VALUES \
+pub(crate) const INSERT_MANY: &str =
+    "INSERT INTO ver (id, srel, fmid, pre, req, sup, npre, del) VALUES \
     (?, ?, ?, ?, ?, ?, ?, ?), (?, ?, ?, ?, ?, ?, ?, ?), (?, ?, ?, ?, ?, ?, ?, ?), (?, ?, ?, ?, ?, ?, ?, ?), \
     (?, ?, ?, ?, ?, ?, ?, ?), (?, ?, ?, ?, ?, ?, ?, ?), (?, ?, ?, ?, ?, ?, ?, ?), (?, ?, ?, ?, ?, ?, ?, ?), \
     (?, ?, ?, ?, ?, ?, ?, ?), (?, ?, ?, ?, ?, ?, ?, ?), (?, ?, ?, ?, ?, ?, ?, ?), (?, ?, ?, ?, ?, ?, ?, ?), \
@@ -152,10 +154,11 @@ pub(crate) fn lists_of(alloc: Global, ver: &Ver) -> Result<Lists, AllocError>
     })
 }
 
-fn ver_row(alloc: Global, id: Id, ver: &Ver) -> Result<Cells, AllocError>
-    ensures { IfOk result (λ row. as_bound row ≡ ver_row id ver.now) }
+// The `++VER`'s row, of whose lists these are the texts.
+fn row_of(alloc: Global, id: &Id, ver: &Ver, lists: &Lists) -> Result<Cells, AllocError>
+    requires { AreLists lists.now ver.now }
+    ensures { IfOk result (λ row. as_bound row ≡ ver_row id.now ver.now) }
 {
-    let lists = lists_of(alloc, ver)?;
     let id = ValueRef::Text(id.as_bytes());
     let srel = ValueRef::Text(ver.srel.as_bytes());
     let fmid = text_or_null(&ver.fmid);
@@ -180,13 +183,15 @@ impl Rows for FirstVers {
 
     type Item = Ver;
 
-    ghost rows = { λ of. of_numbered (first_row of.id) };
+    ghost of_item = { λ of. of_numbered (first_row of.id) };
 
     fn push(&self, rows: &mut Vec<Cells>, front: &[Ver], ver: &Ver) -> Result<(), AllocError> {
         if number_behind(front, ver) != 1 {
             return Ok(());
         }
-        rows.push(ver_row(self.alloc, self.id, ver)?)
+        let lists = lists_of(self.alloc, ver)?;
+        rows.push(row_of(self.alloc, &self.id, ver, &lists)?)?;
+        Ok(())
     }
 }
 
