@@ -1,16 +1,17 @@
 //! What is committed is loaded again, in memory and over files.
 
 use crate::known::{
-    CHOSEN, FURTHER, again, commit, commit_delta, commit_edits, compare, in_memory, known_with,
-    lines, loaded, new_files, opened, put_lines,
+    CHOSEN, FURTHER, again, commit, commit_delta, commit_edits, compare, doubled, in_memory,
+    known_with, lines, loaded, new_files, opened, put_lines,
 };
 use fields::{Id, ZoneName};
 use sorted::TryClone;
-use sqlite::{Alter, Connection, FileStore};
+use sqlite::{Alter, Connection, FileStore, MemStore};
 use sqlite_disk::Memory;
 use std::alloc::Global;
 use std::test::Fail;
 use store::{Change, GlobalEdit, Store};
+use sysmod::Hold;
 use sysmods::GlobalZone;
 use zones::{Zone, ZoneDelta};
 
@@ -46,13 +47,35 @@ pub(crate) fn all_lines<S: Alter>(alloc: Global, conn: &mut Connection<S>) -> Re
     Ok(all)
 }
 
-fn add_all(alloc: Global, edits: &mut Vec<GlobalEdit>, global: &GlobalZone) -> Result<(), Fail> {
+fn add_hold(alloc: Global, edits: &mut Vec<GlobalEdit>, hold: &Hold) -> Result<(), Fail> {
+    edits.push(GlobalEdit::PutHold(hold.try_clone(alloc)?))?;
+    Ok(())
+}
+
+/// Each SYSMOD, and behind it the holds on it.
+fn add_sysmods(
+    alloc: Global,
+    edits: &mut Vec<GlobalEdit>,
+    global: &GlobalZone,
+) -> Result<(), Fail> {
     for sysmod in global.sysmods() {
         let sources = Vec::from_slice(alloc, sysmod.sources.as_slice())?;
         edits.push(GlobalEdit::InsertSysmod(sysmod.id, sources))?;
+        for hold in global.holds() {
+            if hold.id == sysmod.id {
+                add_hold(alloc, edits, hold)?;
+            }
+        }
     }
+    Ok(())
+}
+
+fn add_all(alloc: Global, edits: &mut Vec<GlobalEdit>, global: &GlobalZone) -> Result<(), Fail> {
+    add_sysmods(alloc, edits, global)?;
     for hold in global.holds() {
-        edits.push(GlobalEdit::PutHold(hold.try_clone(alloc)?))?;
+        if global.get(hold.id).is_none() {
+            add_hold(alloc, edits, hold)?;
+        }
     }
     Ok(())
 }
@@ -144,9 +167,8 @@ fn rows_of_copy<S: Alter + Drop>(alloc: Global, from: Connection<S>) -> Result<S
     all_lines(alloc, &mut conn)
 }
 
-/// The known rows and these besides are copied into files, and from there into memory.
-fn copy_twice(alloc: Global, name: &str, more: &[&str]) -> Result<(), Fail> {
-    let mut conn = known_with(alloc, more)?;
+/// What it holds is copied into files, and from there into memory.
+fn copy_twice(alloc: Global, name: &str, mut conn: Connection<MemStore>) -> Result<(), Fail> {
     let rows = all_lines(alloc, &mut conn)?;
     let copy = rows_of_copy(alloc, in_files(alloc, conn)?)?;
     compare(name, copy.as_str(), rows.as_str())
@@ -154,8 +176,95 @@ fn copy_twice(alloc: Global, name: &str, more: &[&str]) -> Result<(), Fail> {
 
 #[test]
 fn all_is_loaded_again(rt: HostRuntime) -> Result<(), Fail> {
-    copy_twice(rt.alloc(), "with the number of a ++VER", CHOSEN)?;
-    copy_twice(rt.alloc(), "with further ++VERs", FURTHER)
+    let alloc = rt.alloc();
+    copy_twice(
+        alloc,
+        "with the number of a ++VER",
+        known_with(alloc, CHOSEN)?,
+    )?;
+    copy_twice(alloc, "with further ++VERs", known_with(alloc, FURTHER)?)
+}
+
+/// A SYSMOD that has rows in each table.
+const FIRST: &[&str] = &[
+    "INSERT INTO sysmod (id, kind, sources) VALUES ('U100000', 'USERMOD', '')",
+    "INSERT INTO source (id, name) VALUES ('U100000', 'PUT2601'), ('U100000', 'SMCREC02')",
+    "INSERT INTO ver (id, srel, fmid, pre, req, sup, npre, del) VALUES \
+        ('U100000', 'Z038', 'HAA1100', 'UAA0001', '', 'U100999', '', '')",
+    "INSERT INTO ifreq (id, srel, n, fmid, req) VALUES ('U100000', 'Z038', 1, 'HBB1100', 'UBB0001')",
+    "INSERT INTO morever (id, srel, n, fmid, pre, req, sup) VALUES ('U100000', 'Z038', 2, 'HAA1200', '', '', '')",
+    "INSERT INTO moreif (id, srel, v, n, fmid, req) VALUES ('U100000', 'Z038', 2, 1, 'HCC1100', 'UCC0001')",
+    "INSERT INTO elem SELECT 'U100000', type, name, upd, distlib, syslib, text FROM elem WHERE id = 'HAA1100' AND \
+        (type = 'MAC' OR type = 'SRC')",
+    "INSERT INTO hold (id, kind, reason, fmid, class, date, comment, internal) VALUES \
+        ('U100000', 'SYSTEM', 'ACTION', 'HAA1100', NULL, NULL, NULL, 1)",
+];
+
+/// As many again, by numbers that are greater by this one.
+const AGAIN: &[&str] = &[
+    "INSERT INTO sysmod SELECT 'U' || (CAST(substr(id, 2) AS INTEGER) + ?1), kind, sources FROM sysmod \
+        WHERE id >= 'U1' AND id < 'U2'",
+    "INSERT INTO source SELECT 'U' || (CAST(substr(id, 2) AS INTEGER) + ?1), name FROM source \
+        WHERE id >= 'U1' AND id < 'U2'",
+    "INSERT INTO ver SELECT 'U' || (CAST(substr(id, 2) AS INTEGER) + ?1), srel, fmid, pre, req, sup, npre, del \
+        FROM ver WHERE id >= 'U1' AND id < 'U2'",
+    "INSERT INTO ifreq SELECT 'U' || (CAST(substr(id, 2) AS INTEGER) + ?1), srel, n, fmid, req FROM ifreq \
+        WHERE id >= 'U1' AND id < 'U2'",
+    "INSERT INTO morever SELECT 'U' || (CAST(substr(id, 2) AS INTEGER) + ?1), srel, n, fmid, pre, req, sup \
+        FROM morever WHERE id >= 'U1' AND id < 'U2'",
+    "INSERT INTO moreif SELECT 'U' || (CAST(substr(id, 2) AS INTEGER) + ?1), srel, v, n, fmid, req FROM moreif \
+        WHERE id >= 'U1' AND id < 'U2'",
+    "INSERT INTO elem SELECT 'U' || (CAST(substr(id, 2) AS INTEGER) + ?1), type, name, upd, distlib, syslib, text \
+        FROM elem WHERE id >= 'U1' AND id < 'U2'",
+    "INSERT INTO hold SELECT 'U' || (CAST(substr(id, 2) AS INTEGER) + ?1), kind, reason, fmid, class, date, comment, \
+        internal FROM hold WHERE id >= 'U1' AND id < 'U2'",
+];
+
+/// The known rows, and 512 SYSMODs besides.
+fn many_sysmods(alloc: Global) -> Result<Connection<MemStore>, Fail> {
+    let mut conn = known_with(alloc, FIRST)?;
+    for sql in AGAIN {
+        doubled(&mut conn, sql, 9)?;
+    }
+    Ok(conn)
+}
+
+#[test]
+fn many_sysmods_come_in_one_commit(rt: HostRuntime) -> Result<(), Fail> {
+    copy_twice(rt.alloc(), "512 SYSMODs", many_sysmods(rt.alloc())?)
+}
+
+/// How many rows each table has of SYSMODs that have come, and of one of them alone.
+const COUNTS: &str = "SELECT count(*) || ' ' || sum(id = 'U100100') FROM sysmod UNION ALL \
+        SELECT count(*) || ' ' || sum(id = 'U100100') FROM source UNION ALL \
+        SELECT count(*) || ' ' || sum(id = 'U100100') FROM hold";
+
+/// Edits by which all SYSMODs come, and one of them goes again.
+fn come_and_go(alloc: Global, global: &GlobalZone) -> Result<Vec<GlobalEdit>, Fail> {
+    let mut edits = Vec::new(alloc);
+    add_all(alloc, &mut edits, global)?;
+    edits.push(GlobalEdit::RemoveSysmod(Id::read(b"U100100").ok_or("no id")?))?;
+    Ok(edits)
+}
+
+fn counts_behind(alloc: Global) -> Result<String, Fail> {
+    let global = opened(alloc, many_sysmods(alloc)?)?.load_global()?;
+    let mut store = opened(alloc, in_memory(alloc)?)?;
+    commit(
+        &mut store,
+        &Change::Global(&global, come_and_go(alloc, &global)?),
+    )?;
+    lines(alloc, &mut store.close(), COUNTS)
+}
+
+#[test]
+fn a_sysmod_comes_and_goes_in_one_commit(rt: HostRuntime) -> Result<(), Fail> {
+    let counts = counts_behind(rt.alloc())?;
+    compare(
+        "rows, and those of U100100",
+        counts.as_str(),
+        "516 0\n1025 0\n516 1\n",
+    )
 }
 
 /// The rows of further `++VER`s and of their `++IF`s.
