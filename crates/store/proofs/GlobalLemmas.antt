@@ -17,7 +17,7 @@ use Rattle.terms.specs.Types.{Text, Id, Hold, hold_number}
 use Rattle.terms.specs.Rising.{with_item}
 use Rattle.terms.specs.Spelling.{hold_text}
 use Rattle.terms.specs.Global as rule
-use Rattle.terms.specs.Global.{hold_cmp, without_hold, with_sysmod}
+use Rattle.terms.specs.Global.{hold_cmp, without_hold}
 use Rattle.terms.proofs.GlobalKept.{hold_cmp_total}
 use Rattle.terms.proofs.HoldOrder.{has_key_ties}
 use Rattle.store_rows.specs.Inside.{Turns}

@@ -7,8 +7,6 @@ use Rattle.std.proofs.lemmas.List.Sums.{fold-append, fold_more}
 use Rattle.sqlite.specs.Store.{Ghosts}
 use Rattle.sqlite.specs.Held.{Held, state}
 use Rattle.sqlite.specs.declared.error.Error.{Error}
-use Rattle.sqlite.specs.declared.error.Error.TheVariants.{SqliteFailure}
-use Rattle.sqlite.specs.declared.error.ErrorCode.TheVariants.{OutOfMemory}
 use Rattle.terms.specs.Types.{Text, Id, Hold, Sysmod, Global}
 use Rattle.terms.specs.Global.{with_sysmod}
 use Rattle.terms.specs.Lookups.{is_received, sysmod_of}
@@ -19,7 +17,7 @@ use Rattle.sysmods.specs.Edits.{stated_with, Fits, after_edit, EachFits, after_e
 use Rattle.store_rows.specs.Calls.{Call, RunsInside}
 use Rattle.store_rows.specs.Inside.{StaysInside, Leads}
 use Rattle.store_rows.specs.Rows.{HasContents}
-use Rattle.store_rows.proofs.CallLemmas.{follows_err, runs_then, runs_err, runs_short}
+use Rattle.store_rows.proofs.CallLemmas.{follows_err, runs_then, runs_err}
 use Rattle.store_rows.proofs.InsideLemmas.{on_ok, on_ok_of, leads_then}
 use Rattle.store_schema.specs.Inventory.{Inventory}
 use Rattle.store_schema.specs.Stands.{rows_of}
@@ -120,17 +118,6 @@ module _ {S : Type 0} (g : Ghosts S) where
 
   -- ---- calls
 
-  -- nothing was done
-  pub waits_none : (ss : List Sysmod) (make : Global → Global) (Fits : Global → Type 0) (a : Held S)
-      (rows : SysmodRows) → AreRowsOf rows ss → ((x : Global) → x ≡ make x)
-      → Waits g ss ([], ss) Fits make a a rows (Ok tt)
-  waits_none ss make Fits a rows are same = record {
-    runs = λ clean inside. (refl, inside);
-    waits = are;
-    ok = but_as a a ss ss (λ global. Unit {0}) Fits (λ x. x) make (λ x _. tt) same
-        (λ i fits clean was. was);
-  }
-
   -- holds were changed
   pub waits_beside : (ss : List Sysmod) (f : List Hold → List Hold) (calls : List Call) (a b : Held S)
       (rows : SysmodRows) (r : Result (Unit {0}) Error) → AreRowsOf rows ss → RunsInside g calls a b r
@@ -207,16 +194,6 @@ module _ {S : Type 0} (g : Ghosts S) where
   none_of_error : (P : Type 0) (r : Result (Unit {0}) Error) (Q : Error → Type 0) → IsErrAnd r Q → OnOk r P
   none_of_error P (Ok x) Q told = absurd told
   none_of_error P (Err e) Q told = tt
-
-  -- memory was short
-  pub waits_short : {xs : List Sysmod} {one : Course} {F : Global → Type 0} {f : Global → Global} {a b : Held S}
-      {rows : SysmodRows} (r : Result (Unit {0}) Error) → IsErrAnd r (λ e. e ≡ SqliteFailure OutOfMemory)
-      → Waits g xs one F f a b rows r
-  waits_short {one = one} {a = a} {b = b} r short = record {
-    runs = runs_short g one.0 a b r short;
-    waits = none_of_error _ r _ short;
-    ok = none_of_error _ r _ short;
-  }
 
   -- the call failed, and none behind it was begun
   pub waits_stops : {xs : List Sysmod} {one : Course} {F H : Global → Type 0} {f h : Global → Global} {a b : Held S}
@@ -301,8 +278,9 @@ module _ {S : Type 0} (g : Ghosts S) where
         → IsErrAnd r (λ z. z ≡ e) → NextGoes k edit b c more q → RunsInside g (edits_calls stated edits) a c r
     edits_stop k edit {a = a} {c = c} {more = more} {q = q} {e = e} r within at one two first failed told last =
         let rest = calls_behind stated edits (k + 1) in
-        let it : Waits g [] ((course_of stated (take (k + 1) edits)).0 ++ rest.0, []) (λ x. Unit {0}) (λ x. x) a c more r
-        = waits_stops rest.0 [] r failed told (more_go k edit within at one two first last) in
+        let course = course_of stated (take (k + 1) edits) in
+        let it : Waits g [] (course.0 ++ rest.0, []) (λ x. Unit {0}) (λ x. x) a c more r =
+        waits_stops rest.0 [] r failed told (more_go k edit within at one two first last) in
         subst (λ calls. RunsInside g calls a c r) rest.1 it.runs
 
     -- so all of them go
