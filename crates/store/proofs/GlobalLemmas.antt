@@ -1,13 +1,11 @@
--- The edits of the global zone, one after the other, and what they make of the inventory.
-use Rattle.std.proofs.Common.{◌&&◌, ◌≡◌, ℕ, ◌+◌, ◌<◌, ◌==◌, take, length, get_or, Bool, not, List, ◌∷◌, map}
-use Rattle.std.proofs.Common.{IsPermutation, Option, Some, false, refl, sym, ap, ap₂, subst, ◌∙◌}
+-- Edits of holds, and what they make of the inventory.
+use Rattle.std.proofs.Common.{◌&&◌, ◌≡◌, ◌==◌, Bool, not, List, ◌∷◌, map}
+use Rattle.std.proofs.Common.{IsPermutation, refl, sym, ap, ap₂, subst, ◌∙◌}
 use Rattle.std.specs.Prelude.{filter}
 use Rattle.std.specs.declared.cmp.Ordering.{Ordering}
 use Rattle.std.specs.declared.cmp.Ordering.TheVariants.{Less, Equal, Greater}
-use Rattle.std.specs.Option.{option_map_or}
 use Rattle.std.specs.Ordering.{is_eq, ordering_reverse}
 use Rattle.std.specs.Str.{bytes_eq}
-use Rattle.std.proofs.lemmas.List.Sums.{fold_more}
 use Rattle.std.proofs.lemmas.List.Sorted.{IsPermutation-refl, IsPermutation-map}
 use Rattle.terms.proofs.Booleans.{and_assoc}
 use Rattle.sqlite.specs.Store.{Ghosts}
@@ -15,30 +13,24 @@ use Rattle.sqlite.specs.Held.{Held, state}
 use Rattle.sqlite_trees.proofs.ListLemmas.{filter-map}
 use Rattle.terms.specs.declared.kinds.HoldKind.{HoldKind}
 use Rattle.terms.specs.declared.kinds.HoldKind.TheVariants.{Error, System, User}
-use Rattle.terms.specs.Types.{Text, Id, Hold, Sysmod, Global, hold_number}
+use Rattle.terms.specs.Types.{Text, Id, Hold, hold_number}
 use Rattle.terms.specs.Rising.{with_item}
 use Rattle.terms.specs.Spelling.{hold_text}
 use Rattle.terms.specs.Global as rule
-use Rattle.terms.specs.Global.{hold_cmp, without_hold, with_sysmod}
-use Rattle.terms.specs.Lookups.{is_received, sysmod_of}
+use Rattle.terms.specs.Global.{hold_cmp, without_hold}
 use Rattle.terms.proofs.GlobalKept.{hold_cmp_total}
 use Rattle.terms.proofs.HoldOrder.{has_key_ties}
-use Rattle.terms.proofs.Searches.{find_passes}
-use Rattle.terms.proofs.TextOrder.{same_from}
-use Rattle.store_rows.specs.Inside.{StaysInside, Leads, Turns}
+use Rattle.store_rows.specs.Inside.{Turns}
 use Rattle.store_rows.specs.Rows.{HasContents, has_key, in_table, with_put, without}
 use Rattle.store_rows.proofs.ContentsLemmas.{permuted}
-use Rattle.store_rows.proofs.InsideLemmas.{leads_then}
 use Rattle.store_rows.proofs.Keys.{equals, and_true}
 use Rattle.store_rows.proofs.RowLemmas.{filter_same}
-use Rattle.store_schema.specs.Inventory.{Inventory}
 use Rattle.store_schema.specs.Rows.{hold_row}
 use Rattle.store_schema.specs.Stands.{rows_of}
 use Rattle.store_schema.specs.Tables.{hold as hold_table, store_schema}
 use Rattle.store_sysmods.specs.Holds.{hold_key, key_row}
-use Rattle.store_sysmods.specs.Sysmods.{ChangesGlobal, AddsSysmod, sourced}
-use Rattle.sysmods.specs.declared.edit.GlobalEdit.{GlobalEdit}
-use Rattle.sysmods.specs.Edits.{with_hold, stated_with, Fits, after_edit, EachFits, after_edits}
+use Rattle.store_sysmods.specs.Sysmods.{ChangesGlobal}
+use Rattle.sysmods.specs.Edits.{with_hold}
 use Rattle.store.proofs.Parts.{put_parts}
 
 -- ---- the keys of holds
@@ -144,40 +136,3 @@ module _ {S : Type 0} (g : Ghosts S) (old new : Held S) where
         ),
       )
       (turns clean (rows_of i) was)
-
--- ---- a SYSMOD that is stated
-
--- the inventory with it, if it is there
-abbrev with_stated : List Text → Inventory → Option Sysmod → Inventory
-with_stated sources i found =
-    record i { global = option_map_or (λ (s : Sysmod). with_sysmod i.global (sourced s sources)) found i.global }
-
-pub stated_added : {S : Type 0} (g : Ghosts S) (stated : Global) (x : Id) (sources : List Text) (old new : Held S)
-    (s : Sysmod) → sysmod_of stated x ≡ Some s → AddsSysmod g old new (sourced s sources)
-    → ChangesGlobal g old new (λ global. is_received global x ≡ false) (stated_with stated x sources)
-stated_added g stated x sources old new s there adds i none =
-    let passes = find_passes (λ (r : Sysmod). bytes_eq r.id x) stated.sysmods s there in
-    let named : x ≡ s.id = sym (same_from s.id x passes) in
-    subst (λ found. Leads g old new (HasContents store_schema (rows_of i))
-    (HasContents store_schema (rows_of (with_stated sources i found)))) (sym there)
-    (adds i (subst (λ y. is_received i.global y ≡ false) named none))
-
--- ---- the loop, of which the next edit is made
-
-pub edits_go_on : {S : Type 0} (g : Ghosts S) (a b c : Held S) (stated : Global) (edits : List GlobalEdit) (k : ℕ)
-    (edit : GlobalEdit) → k < length edits → edit ≡ get_or edits k edit → StaysInside g b c
-    → ChangesGlobal g a b (EachFits stated edits) (after_edits stated (take k edits))
-    → ChangesGlobal g b c (λ global. Fits global edit) (λ global. after_edit stated global edit)
-    → ChangesGlobal g a c (EachFits stated edits) (after_edits stated (take (k + 1) edits))
-edits_go_on g a b c stated edits k edit within at inside one two i fits =
-    let was : Global = after_edits stated (take k edits) i.global in
-    let mid : Inventory = record i { global = was } in
-    let more : after_edits stated (take (k + 1) edits) i.global ≡ after_edit stated was edit =
-    fold_more (after_edit stated) i.global edits k edit within ∙ ap (after_edit stated was) (sym at) in
-    let next : Inventory = record i { global = after_edit stated was edit } in
-    let last : Inventory = record i { global = after_edits stated (take (k + 1) edits) i.global } in
-    let same : next ≡ last = ap (λ global. record i { global = global }) (sym more) in
-    subst (λ (j : Inventory). Leads g a c (HasContents store_schema (rows_of i)) (HasContents store_schema (rows_of j)))
-    same
-    (leads_then g a b c (HasContents store_schema (rows_of i)) (HasContents store_schema (rows_of mid))
-    (HasContents store_schema (rows_of next)) inside (one i fits) (two mid (fits k edit within at)))

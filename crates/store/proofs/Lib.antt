@@ -1,5 +1,6 @@
 mod Committing
 mod DeltaLemmas
+mod EditCalls
 mod EditLoop
 mod GlobalLemmas
 pub mod Going
@@ -9,3 +10,4 @@ mod Parts
 pub mod Reopening
 mod Standing
 pub mod ViewLemmas
+mod Waiting

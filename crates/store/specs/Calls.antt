@@ -1,5 +1,5 @@
 -- The statements that write a change, and why its commit fails.
-use Rattle.std.specs.Prelude.{◌⊎◌, true, List, [], ◌++◌}
+use Rattle.std.specs.Prelude.{◌⊎◌, ◌==◌, ℕ, true, if◌then◌else◌, List, [], ◌∷◌, ◌++◌, fold, length}
 use Rattle.std.specs.List.{flat_map}
 use Rattle.std.specs.Option.{option_map_or}
 use Rattle.sqlite.specs.Store.{Ghosts}
@@ -9,7 +9,7 @@ use Rattle.sorted.specs.declared.edits.Edit.{Edit}
 use Rattle.sorted.specs.declared.edits.Edit.TheVariants.{Put, Remove}
 use Rattle.terms.specs.declared.kinds.ElemType.{ElemType}
 use Rattle.terms.specs.Lookups.{entry_of, element_of, sysmod_of}
-use Rattle.terms.specs.Types.{Text, Id, Entry, Element, Zone as AZone, Global as AGlobal}
+use Rattle.terms.specs.Types.{Text, Id, Sysmod, Entry, Element, Zone as AZone, Global as AGlobal}
 use Rattle.sysmods.specs.declared.edit.GlobalEdit.{GlobalEdit}
 use Rattle.sysmods.specs.declared.edit.GlobalEdit.TheVariants.{PutHold, RemoveHold, InsertSysmod, ReplaceSources}
 use Rattle.sysmods.specs.declared.edit.GlobalEdit.TheVariants.{RemoveSysmod}
@@ -17,7 +17,7 @@ use Rattle.zones.specs.Delta.{ZoneDelta}
 use Rattle.store_rows.specs.Calls.{Call, Refused}
 use Rattle.store_rows.specs.Reads.{HasFailed}
 use Rattle.store_sysmods.specs.Holds.{put_hold_calls, remove_hold_calls}
-use Rattle.store_sysmods.specs.Calls.{insert_sysmod_calls, replace_sources_calls, remove_sysmod_calls}
+use Rattle.store_sysmods.specs.Calls.{insert_sysmods_calls, replace_sources_calls, remove_sysmod_calls}
 use Rattle.store_sysmods.specs.Sysmods.{sourced}
 use Rattle.store_zones.specs.Calls.{zone_calls, put_entry_calls, remove_entry_calls}
 use Rattle.store_zones.specs.Calls.{put_element_calls, remove_element_calls}
@@ -35,14 +35,48 @@ element_calls name zone (Put element) =
     put_element_calls name (element_of zone element.elem_type element.name) element
 element_calls name zone (Remove key) = remove_element_calls name key.0 key.1
 
+-- Statements that ran, and SYSMODs that came behind them and are not written yet: they wait for others, since one
+-- statement puts rows of several.
+abbrev pub Course : Type 0
+Course = List Call × List Sysmod
+
+-- so many SYSMODs wait at most
+abbrev pub most_wait : ℕ
+most_wait = 256
+
+-- Where so many wait, they are written, so that there is room for one more.
+abbrev pub with_room : Course → Course
+with_room (calls, waiting) =
+    if length waiting == most_wait then (calls ++ insert_sysmods_calls waiting, []) else (calls, waiting)
+
+-- the SYSMOD waits with the others
+abbrev pub with_waiting : Course → Sysmod → Course
+with_waiting course s = let room = with_room course in (room.0, room.1 ++ s ∷ [])
+
+-- Those that wait are written, and then these statements run.
+abbrev pub behind_waiting : Course → List Call → Course
+behind_waiting (calls, waiting) more = (calls ++ (insert_sysmods_calls waiting ++ more), [])
+
+-- Statements of holds, which have a table of their own, run at once.
+abbrev pub with_calls : Course → List Call → Course
+with_calls (calls, waiting) more = (calls ++ more, waiting)
+
 -- an edit of the global zone, where what the SYSMODs state stands in this one
-abbrev pub edit_calls : AGlobal → GlobalEdit → List Call
-edit_calls stated (PutHold hold) = put_hold_calls hold
-edit_calls stated (RemoveHold id kind reason) = remove_hold_calls id kind reason
-edit_calls stated (InsertSysmod id sources) =
-    option_map_or (λ s. insert_sysmod_calls (sourced s sources.items)) (sysmod_of stated id) []
-edit_calls stated (ReplaceSources sysmod) = replace_sources_calls sysmod
-edit_calls stated (RemoveSysmod id) = remove_sysmod_calls id
+abbrev pub with_edit : AGlobal → Course → GlobalEdit → Course
+with_edit stated course (PutHold hold) = with_calls course (put_hold_calls hold)
+with_edit stated course (RemoveHold id kind reason) = with_calls course (remove_hold_calls id kind reason)
+with_edit stated course (InsertSysmod id sources) =
+    option_map_or (λ s. with_waiting course (sourced s sources.items)) (sysmod_of stated id) course
+with_edit stated course (ReplaceSources sysmod) = behind_waiting course (replace_sources_calls sysmod)
+with_edit stated course (RemoveSysmod id) = behind_waiting course (remove_sysmod_calls id)
+
+-- the statements and those that wait after so many edits
+abbrev pub course_of : AGlobal → List GlobalEdit → Course
+course_of stated edits = fold (with_edit stated) ([], []) edits
+
+-- All edits one after the other, and at the end those that wait.
+abbrev pub edits_calls : AGlobal → List GlobalEdit → List Call
+edits_calls stated edits = let course = course_of stated edits in course.0 ++ insert_sysmods_calls course.1
 
 -- the entries first, and then the elements
 abbrev pub delta_calls : Text → AZone → ZoneDelta → List Call
@@ -53,7 +87,7 @@ delta_calls name zone delta =
 abbrev pub calls_of : Change → List Call
 calls_of (NewZone name kind srel related) = zone_calls (empty_zone name kind srel related)
 calls_of (Zone name old delta) = delta_calls name old.now delta
-calls_of (Global stated edits) = flat_map (edit_calls stated.now) edits.items
+calls_of (Global stated edits) = edits_calls stated.now edits.items
 
 -- the database refused one of the statements
 abbrev pub IsRefused : {S : Type 0} → Ghosts S → Change → Held S → Type 0

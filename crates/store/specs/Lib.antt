@@ -7,5 +7,6 @@ pub mod Courses
 pub mod Loads
 pub mod Reopened
 pub mod View
+pub mod Waiting
 pub mod Whole
 pub mod Writes

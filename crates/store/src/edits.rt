@@ -1,38 +1,107 @@
-//! Edits of the global zone, written in a transaction that is open.
+//! Edits of the global zone, written in a transaction that is open. SYSMODs that come wait for others, so that one
+//! statement puts rows of several.
 
-ghost use Rattle.std.specs.Prelude.{OnOk};
-ghost use Rattle.std.specs.List.{flat_map};
+ghost use Rattle.std.specs.Prelude.{◌≡◌, false, List, [], OnOk};
+ghost use Rattle.terms.specs.Global.{with_sysmod};
+ghost use Rattle.terms.specs.Lookups.{is_received};
+ghost use Rattle.terms.specs.Types.{Sysmod as ASysmod};
 ghost use Rattle.store_rows.specs.Calls.{RunsInside};
 ghost use Rattle.store_rows.specs.Inside.{Continues};
-ghost use Rattle.store.specs.Calls.{edit_calls};
-ghost use Rattle.store_sysmods.specs.Sysmods.{ChangesGlobal};
-ghost use Rattle.sysmods.specs.Edits.{Fits, after_edit, EachFits, after_edits};
+ghost use Rattle.store_sysmods.specs.Calls.{insert_sysmods_calls};
+ghost use Rattle.store_sysmods.specs.Sysmods.{AreRowsOf, ChangesGlobal, sourced};
+ghost use Rattle.store.specs.Calls.{edits_calls, with_edit, with_room, with_waiting};
+ghost use Rattle.store.specs.Waiting.{Waits};
+ghost use Rattle.sysmods.specs.Edits.{EachFits, Fits, after_edit, after_edits};
 
+use fields::Source;
 use sqlite::{Alter, Error, Transaction};
 use std::alloc::Global;
-use store_sysmods::{insert_sysmod, put_hold, remove_hold, remove_sysmod, replace_sources};
+use store_sysmods::{
+    SysmodRows, insert_sysmods, put_hold, remove_hold, remove_sysmod, replace_sources,
+};
+use sysmod::Sysmod;
 use sysmods::{GlobalEdit, GlobalZone};
+
+/// How many SYSMODs wait at most.
+const MOST_WAIT: usize = 256;
+
+// Writes those that wait.
+fn write_waiting<S: Alter>(
+    alloc: Global,
+    tx: &mut Transaction<'_, S>,
+    waiting: &mut SysmodRows,
+) -> Result<(), Error>
+    ensures continues { Continues S.Store tx.old tx.new }
+    ensures goes { (ss : List ASysmod) → AreRowsOf waiting.old ss → Waits S.Store ss (insert_sysmods_calls ss, [])
+        (λ g. Unit {0}) (λ g. g) tx.old.conn.now tx.new.conn.now waiting.new result }
+{
+    insert_sysmods(alloc, tx, waiting)?;
+    *waiting = SysmodRows::new(alloc);
+    Ok(())
+}
+
+// Where there are as many as may wait, they are written.
+fn make_room<S: Alter>(
+    alloc: Global,
+    tx: &mut Transaction<'_, S>,
+    waiting: &mut SysmodRows,
+) -> Result<(), Error>
+    ensures continues { Continues S.Store tx.old tx.new }
+    ensures goes { (ss : List ASysmod) → AreRowsOf waiting.old ss → Waits S.Store ss (with_room ([], ss))
+        (λ g. Unit {0}) (λ g. g) tx.old.conn.now tx.new.conn.now waiting.new result }
+{
+    if waiting.len() != MOST_WAIT {
+        return Ok(());
+    }
+    write_waiting(alloc, tx, waiting)
+}
+
+// The SYSMOD waits with the others.
+fn add_waiting<S: Alter>(
+    alloc: Global,
+    tx: &mut Transaction<'_, S>,
+    waiting: &mut SysmodRows,
+    sysmod: &Sysmod,
+    sources: &[Source],
+) -> Result<(), Error>
+    ensures continues { Continues S.Store tx.old tx.new }
+    ensures goes { (ss : List ASysmod) → AreRowsOf waiting.old ss
+        → Waits S.Store ss (with_waiting ([], ss) (sourced sysmod.now sources.now))
+        (λ g. is_received g sysmod.now.id ≡ false) (λ g. with_sysmod g (sourced sysmod.now sources.now))
+        tx.old.conn.now tx.new.conn.now waiting.new result }
+{
+    make_room(alloc, tx, waiting)?;
+    waiting.push(alloc, sysmod, sources)?;
+    Ok(())
+}
 
 fn write_edit<S: Alter>(
     alloc: Global,
     tx: &mut Transaction<'_, S>,
     stated: &GlobalZone,
+    waiting: &mut SysmodRows,
     edit: &GlobalEdit,
 ) -> Result<(), Error>
     ensures continues { Continues S.Store tx.old tx.new }
-    ensures calls { RunsInside S.Store (edit_calls stated.now edit.now) tx.old.conn.now tx.new.conn.now result }
-    ensures ok { OnOk result (ChangesGlobal S.Store tx.old.conn.now tx.new.conn.now (λ g. Fits g edit.now)
-        (λ g. after_edit stated.now g edit.now)) }
+    ensures goes { (ss : List ASysmod) → AreRowsOf waiting.old ss
+        → Waits S.Store ss (with_edit stated.now ([], ss) edit.now) (λ g. Fits g edit.now)
+        (λ g. after_edit stated.now g edit.now) tx.old.conn.now tx.new.conn.now waiting.new result }
 {
     match edit {
         GlobalEdit::PutHold(hold) => put_hold(tx, hold),
         GlobalEdit::RemoveHold(id, kind, reason) => remove_hold(tx, *id, *kind, *reason),
         GlobalEdit::InsertSysmod(id, sources) => match stated.get(*id) {
-            Some(sysmod) => insert_sysmod(alloc, tx, sysmod, sources.as_slice()),
+            Some(sysmod) => add_waiting(alloc, tx, waiting, sysmod, sources.as_slice()),
             None => Ok(()),
         },
-        GlobalEdit::ReplaceSources(sysmod) => replace_sources(tx, sysmod),
-        GlobalEdit::RemoveSysmod(id) => remove_sysmod(tx, *id),
+        GlobalEdit::ReplaceSources(sysmod) => {
+            write_waiting(alloc, tx, waiting)?;
+            replace_sources(alloc, tx, sysmod)
+        }
+        GlobalEdit::RemoveSysmod(id) => {
+            write_waiting(alloc, tx, waiting)?;
+            remove_sysmod(tx, *id)
+        }
     }
 }
 
@@ -43,13 +112,13 @@ pub(crate) fn write_edits<S: Alter>(
     edits: &[GlobalEdit],
 ) -> Result<(), Error>
     ensures continues { Continues S.Store tx.old tx.new }
-    ensures calls { RunsInside S.Store (flat_map (edit_calls stated.now) edits.now) tx.old.conn.now tx.new.conn.now
-        result }
+    ensures calls { RunsInside S.Store (edits_calls stated.now edits.now) tx.old.conn.now tx.new.conn.now result }
     ensures ok { OnOk result (ChangesGlobal S.Store tx.old.conn.now tx.new.conn.now (EachFits stated.now edits.now)
         (after_edits stated.now edits.now)) }
 {
+    let mut waiting = SysmodRows::new(alloc);
     for edit in edits {
-        write_edit(alloc, tx, stated, edit)?;
+        write_edit(alloc, tx, stated, &mut waiting, edit)?;
     }
-    Ok(())
+    insert_sysmods(alloc, tx, &waiting)
 }

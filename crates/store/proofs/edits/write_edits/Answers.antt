@@ -1,44 +1,45 @@
-use Rattle.std.proofs.Common.{rules, arith}
-use Rattle.store.specs.Calls.{edit_calls}
+use Rattle.std.proofs.Common.{take, arith}
 use Rattle.std.proofs.lemmas.List.{take_all}
-use Rattle.store_rows.proofs.CallLemmas.{follows_err}
-use Rattle.store_rows.proofs.InsideLemmas.{continues_then}
-use Rattle.store.proofs.GlobalLemmas.{edits_go_on}
-use Rattle.store.proofs.EditLoop.{one_more, one_failed, all_written}
+use Rattle.store_rows.proofs.InsideLemmas.{on_ok, continues_then}
+use Rattle.store.specs.Calls.{course_of}
+use Rattle.store.proofs.Waiting.{edits_go_on, edits_stop, edits_end, edits_changed}
 use Rattle.store.proofs.edits.write_edits.Goals as goal
 
 pub loop-edit-preserved : goal.loop-edit-preserved
 loop-edit-preserved g c =
-    let old = c.args.tx.now.conn.now in
-    let mid = c.loop-edit.tx.conn.now in
-    let new = c.write_edit.new.tx.conn.now in
+    let stay = c.loop-edit.invariant in
+    let waiting = (course_of c.args.stated.now (take c.loop-edit.edit-index c.args.edits.now)).1 in
     record {
-      continues = continues_then g.S.Store c.args.tx.now c.loop-edit.tx c.write_edit.new.tx
-          c.loop-edit.invariant.continues
+      continues = continues_then g.S.Store c.args.tx.now c.loop-edit.tx c.write_edit.new.tx stay.continues
           c.write_edit.ensures.continues;
-      calls = one_more g.S.Store (edit_calls c.args.stated.now) c.args.edits.now c.loop-edit.edit-index old mid new _
-          (omega arith) c.edit-item.is c.loop-edit.invariant.continues.inside c.write_edit.ensures.continues.inside
-          c.loop-edit.invariant.calls
-          c.in_ok-write_edit.was c.write_edit.ensures.calls;
-      changes = edits_go_on g.S.Store old mid new c.args.stated.now c.args.edits.now c.loop-edit.edit-index _
-          (omega arith) c.edit-item.is c.write_edit.ensures.continues.inside c.loop-edit.invariant.changes
-          c.in_ok-write_edit.ensures.ok;
+      go = edits_go_on g.S.Store c.args.stated.now c.args.edits.now c.loop-edit.edit-index _ (omega arith)
+          c.edit-item.is stay.continues.inside c.write_edit.ensures.continues.inside stay.go c.in_ok-write_edit.was
+          (c.write_edit.ensures.goes waiting stay.go.waits);
     }
 
 pub returns-clause-calls : goal.returns-clause-calls
 returns-clause-calls g c =
-    all_written g.S.Store (edit_calls c.args.stated.now) c.args.edits.now c.loop-edit.edit-index _ _ (omega arith)
-    c.loop-edit.invariant.calls
+    let stay = c.loop-edit.invariant in
+    let edits = c.args.edits.now in
+    let go = rw (take_all c.loop-edit.edit-index edits (omega arith)) at stay.go in
+    edits_end g.S.Store c.args.stated.now edits c.insert_sysmods.result stay.continues.inside
+    c.insert_sysmods.ensures.continues.inside go
+    (c.insert_sysmods.ensures.calls (course_of c.args.stated.now edits).1 go.waits)
 
 pub returns-clause-ok : goal.returns-clause-ok
 returns-clause-ok g c =
-    rw (take_all c.loop-edit.edit-index c.args.edits.now (omega arith)) at c.loop-edit.invariant.changes
+    let stay = c.loop-edit.invariant in
+    let stated = c.args.stated.now in
+    let edits = c.args.edits.now in
+    let go = rw (take_all c.loop-edit.edit-index edits (omega arith)) at stay.go in
+    let waiting = (course_of stated edits).1 in
+    edits_changed g.S.Store stated edits c.insert_sysmods.result c.insert_sysmods.ensures.continues.inside go
+    (on_ok c.insert_sysmods.result _ _ (λ adds. adds waiting go.waits) c.insert_sysmods.ensures.stands)
 
 pub returns-in_err-write_edit-clause-calls : goal.returns-in_err-write_edit-clause-calls
 returns-in_err-write_edit-clause-calls g c =
-    one_failed g.S.Store (edit_calls c.args.stated.now) c.args.edits.now c.loop-edit.edit-index c.args.tx.now.conn.now
-    c.loop-edit.tx.conn.now
-    c.write_edit.new.tx.conn.now c.write_edit.result c.from_residual.result _ (omega arith) c.edit-item.is
-    c.loop-edit.invariant.continues.inside c.write_edit.ensures.continues.inside c.loop-edit.invariant.calls
-    (search rules)
-    (follows_err c.write_edit.result _ _ c.in_err-write_edit.was c.from_residual.ensures.1) c.write_edit.ensures.calls
+    let stay = c.loop-edit.invariant in
+    let waiting = (course_of c.args.stated.now (take c.loop-edit.edit-index c.args.edits.now)).1 in
+    edits_stop g.S.Store c.args.stated.now c.args.edits.now c.loop-edit.edit-index _ c.from_residual.result
+    (omega arith) c.edit-item.is stay.continues.inside c.write_edit.ensures.continues.inside stay.go
+    c.in_err-write_edit.was c.from_residual.ensures.1 (c.write_edit.ensures.goes waiting stay.go.waits)
