@@ -30,6 +30,7 @@ pub use decided::{Decided, decide};
 pub use failure::{Failure, OpenNeed};
 pub use growth::{Rule, Rules, least};
 pub use problem::{NumberedNeed, Problem};
+pub use serving::takes_superseder;
 pub use sets::Kept;
 pub use solver::Solver;
 pub use stated::Need;

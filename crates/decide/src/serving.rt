@@ -72,14 +72,11 @@ pub(crate) fn served(
     Ok(set)
 }
 
-// Whether what supersedes an id serves a need for it.
-fn takes_superseder(kind: NeedKind) -> bool
+/// Whether what supersedes an id serves a need for it.
+pub fn takes_superseder(kind: NeedKind) -> bool
     ensures { result ≡ takes_superseder kind }
 {
-    match kind {
-        NeedKind::Fmid | NeedKind::Elem | NeedKind::Dep => false,
-        _ => true,
-    }
+    !matches!(kind, NeedKind::Fmid | NeedKind::Elem | NeedKind::Dep)
 }
 
 // The places of the candidates that stand for an id.

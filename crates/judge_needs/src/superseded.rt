@@ -1,7 +1,7 @@
 //! Whom each candidate supersedes of the ids that are needed where a superseder serves: mostly these are few among all
 //! that it supersedes. Candidates rise, and mostly supersede lower ones: what these supersede is known then, and is not
 //! searched for again.
-ghost use Rattle.std.specs.Prelude.{◌≡◌, ◌↔◌, ◌∷◌, [], List, All, Contains, IfOk, OnOk, map, filter};
+ghost use Rattle.std.specs.Prelude.{◌≡◌, ◌↔◌, ◌∷◌, [], All, Contains, IfOk, OnOk, map, filter};
 ghost use Rattle.terms.specs.Types.{Id as AnId};
 ghost use Rattle.terms.specs.Lookups.{is_in};
 ghost use Rattle.terms.specs.Choice.{sup_of};
@@ -12,12 +12,11 @@ ghost use Rattle.judge_needs.specs.Closures.{AddsBelow, AreEnough, IsClosure, Su
 ghost use Rattle.judge_needs.specs.Pairs.{AreSuperseded};
 
 use crate::bypassed::add_pairs;
-use decide::Need;
+use decide::{Need, takes_superseder};
 use fields::{Id, IdList};
 use sorted::{Keyed, Table};
 use std::alloc::{AllocError, Global};
 use sysmods::VerChoice;
-use terms::NeedKind;
 
 /// The needed ids that a SYSMOD supersedes.
 #[derive(Drop)]
@@ -44,13 +43,6 @@ fn sup<'a>(vers: &VerChoice<'a>, id: Id) -> &'a [Id]
         Some(ver) => ver.sup.as_slice(),
         None => &[],
     }
-}
-
-// Whether what supersedes an id serves a need of the kind.
-fn takes_superseder(kind: NeedKind) -> bool
-    ensures { result ≡ takes_superseder kind }
-{
-    !matches!(kind, NeedKind::Fmid | NeedKind::Elem | NeedKind::Dep)
 }
 
 // The ids that are needed where a superseder serves.

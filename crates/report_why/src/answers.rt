@@ -3,7 +3,7 @@ ghost use Rattle.std.specs.Prelude.{◌≡◌, ◌↔◌, filter, ◌||◌, [], 
 ghost use Rattle.std.specs.Prelude.{if◌then◌else◌};
 ghost use Rattle.terms.specs.Types.{Id as AnId};
 ghost use Rattle.terms.specs.Lookups.{IsRising, is_in, is_applied, waived_of};
-ghost use Rattle.terms.specs.Needs.{takes_superseder, Serves};
+ghost use Rattle.terms.specs.Needs.{Serves};
 ghost use Rattle.terms.specs.Candidates.{is_installable};
 ghost use Rattle.sysmods.specs.Choices.{choice};
 ghost use Rattle.zones_views.specs.Scopes.{global_of};
@@ -14,6 +14,7 @@ ghost use Rattle.report_why.specs.Views.{answer_view};
 use crate::asking::Asking;
 use crate::fact::{Answer, Requisite};
 use crate::standing::is_deleted;
+use decide::takes_superseder;
 use fields::{Attest, Id, IdList};
 use std::alloc::{AllocError, Global};
 use sysmods::VerChoice;
@@ -81,12 +82,6 @@ fn is_waived(zone: &Zone, id: Id, requisite: Requisite) -> bool
         Some(function) => waives(zone, function, requisite.id),
         None => false,
     }
-}
-
-fn takes_superseder(kind: NeedKind) -> bool
-    ensures { result ≡ takes_superseder kind }
-{
-    !matches!(kind, NeedKind::Fmid | NeedKind::Elem | NeedKind::Dep)
 }
 
 // Whether the SYSMOD serves a need for the id.
