@@ -4,15 +4,16 @@ use crate::known::{
     CHOSEN, FURTHER, again, commit, commit_delta, commit_edits, compare, doubled, in_memory,
     known_with, lines, loaded, new_files, opened, put_lines,
 };
-use fields::{Id, ZoneName};
+use fields::{Id, Source, ZoneName};
 use sorted::TryClone;
 use sqlite::{Alter, Connection, FileStore, MemStore};
 use sqlite_disk::Memory;
 use std::alloc::Global;
 use std::test::Fail;
 use store::{Change, GlobalEdit, Store};
-use sysmod::Hold;
+use sysmod::{Hold, Sysmod};
 use sysmods::GlobalZone;
+use terms::Kind;
 use zones::{Zone, ZoneDelta};
 
 /// All rows of all tables.
@@ -234,36 +235,64 @@ fn many_sysmods_come_in_one_commit(rt: HostRuntime) -> Result<(), Fail> {
     copy_twice(rt.alloc(), "512 SYSMODs", many_sysmods(rt.alloc())?)
 }
 
-/// How many rows each table has of SYSMODs that have come, and of one of them alone.
-const COUNTS: &str = "SELECT count(*) || ' ' || sum(id = 'U100100') FROM sysmod UNION ALL \
-        SELECT count(*) || ' ' || sum(id = 'U100100') FROM source UNION ALL \
-        SELECT count(*) || ' ' || sum(id = 'U100100') FROM hold";
+/// The rows of one SYSMOD and of those beside it.
+const BESIDE: &str =
+    "SELECT id||' '||kind FROM sysmod WHERE id >= 'U100099' AND id <= 'U100101' UNION ALL SELECT id||' '||name FROM \
+        source WHERE id >= 'U100099' AND id <= 'U100101' UNION ALL SELECT id||' '||reason FROM hold WHERE id >= \
+        'U100099' AND id <= 'U100101' ORDER BY 1";
 
-/// Edits by which all SYSMODs come, and one of them goes again.
-fn come_and_go(alloc: Global, global: &GlobalZone) -> Result<Vec<GlobalEdit>, Fail> {
+/// The one goes, or has one source in place of two.
+fn edit_of_one(alloc: Global, goes: bool) -> Result<GlobalEdit, Fail> {
+    let id = Id::read(b"U100100").ok_or("no id")?;
+    if goes {
+        return Ok(GlobalEdit::RemoveSysmod(id));
+    }
+    let mut sysmod = Sysmod::new(alloc, Kind::Usermod, id);
+    sysmod.insert_source(Source::read(b"PUT2602").ok_or("no source")?)?;
+    Ok(GlobalEdit::ReplaceSources(sysmod))
+}
+
+/// Edits by which all SYSMODs come, and behind them that of the one.
+fn come_and_change(
+    alloc: Global,
+    global: &GlobalZone,
+    goes: bool,
+) -> Result<Vec<GlobalEdit>, Fail> {
     let mut edits = Vec::new(alloc);
     add_all(alloc, &mut edits, global)?;
-    edits.push(GlobalEdit::RemoveSysmod(Id::read(b"U100100").ok_or("no id")?))?;
+    edits.push(edit_of_one(alloc, goes)?)?;
     Ok(edits)
 }
 
-fn counts_behind(alloc: Global) -> Result<String, Fail> {
+fn rows_behind(alloc: Global, goes: bool) -> Result<String, Fail> {
     let global = opened(alloc, many_sysmods(alloc)?)?.load_global()?;
     let mut store = opened(alloc, in_memory(alloc)?)?;
     commit(
         &mut store,
-        &Change::Global(&global, come_and_go(alloc, &global)?),
+        &Change::Global(&global, come_and_change(alloc, &global, goes)?),
     )?;
-    lines(alloc, &mut store.close(), COUNTS)
+    lines(alloc, &mut store.close(), BESIDE)
 }
 
 #[test]
 fn a_sysmod_comes_and_goes_in_one_commit(rt: HostRuntime) -> Result<(), Fail> {
-    let counts = counts_behind(rt.alloc())?;
+    let rows = rows_behind(rt.alloc(), true)?;
     compare(
-        "rows, and those of U100100",
-        counts.as_str(),
-        "516 0\n1025 0\n516 1\n",
+        "it goes",
+        rows.as_str(),
+        "U100099 ACTION\nU100099 PUT2601\nU100099 SMCREC02\nU100099 USERMOD\nU100100 ACTION\nU100101 ACTION\n\
+        U100101 PUT2601\nU100101 SMCREC02\nU100101 USERMOD\n",
+    )
+}
+
+#[test]
+fn a_sysmod_comes_and_gets_other_sources_in_one_commit(rt: HostRuntime) -> Result<(), Fail> {
+    let rows = rows_behind(rt.alloc(), false)?;
+    compare(
+        "it gets other sources",
+        rows.as_str(),
+        "U100099 ACTION\nU100099 PUT2601\nU100099 SMCREC02\nU100099 USERMOD\nU100100 ACTION\nU100100 PUT2602\n\
+        U100100 USERMOD\nU100101 ACTION\nU100101 PUT2601\nU100101 SMCREC02\nU100101 USERMOD\n",
     )
 }
 
