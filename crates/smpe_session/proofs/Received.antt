@@ -94,15 +94,12 @@ received date files what s old new source items holds edits printed lines global
     leads_by date files (Receive what) s old new edits lines global taken.fits taken.after
     (take_forms files what items holds (kept s) taken.middle new taken.first taken.more
     (subst (λ o. IfSome o IsSource) (sym sources) form) reads reads_holds is runs taken.runs_holds)
-    record {
-      state = refl;
-      performs = inr (
-        at,
-        subst (λ ls. Takes files s what (record s { global = new }) (Ran (header_of (Receive what) s.boundary) ls))
-            (sym (all ∙ ap or_nothing taken.lines_are))
-            (TakesAll items holds taken.middle new taken.first taken.more reads reads_holds runs taken.runs_holds),
-      );
-    }
+    (inr (
+      at,
+      subst (λ ls. Takes files s what (record s { global = new }) (Ran (header_of (Receive what) s.boundary) ls))
+          (sym (all ∙ ap or_nothing taken.lines_are))
+          (TakesAll items holds taken.middle new taken.first taken.more reads reads_holds runs taken.runs_holds),
+    ))
 
 -- a fault of a file
 pub take_faulty : (date : Text) (files : Files) (what : ReceiveWhat) (s : State) (boundary : Option Text)
