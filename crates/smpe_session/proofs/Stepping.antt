@@ -10,7 +10,7 @@ use Rattle.report.specs.Views.{outcome_view}
 use Rattle.terms.specs.Types.{Text, Command}
 use Rattle.store.specs.declared.change.Change.{Change}
 use Rattle.store.specs.Changes.{Makes}
-use Rattle.smpe_zones.specs.Ends.{Follows, StillKeeps, HasFailed, HasCommitted, ActFailed}
+use Rattle.smpe_zones.specs.Ends.{Follows, StillKeeps, HasFailed, HasCommitted}
 use Rattle.smpe_zones.specs.Kept.{kept, Keeps, IsAfter, LeadsOn}
 use Rattle.smpe_zones.specs.Own.{IsOwnOf}
 use Rattle.smpe_zones.proofs.Keeping.{still_kept, failed_more, failed_since, ended_since}
@@ -51,9 +51,6 @@ module _ {S : Type 0} (g : Ghosts S) (old mid at : Held S) (s : State) (follows 
   pub unmoved_since : (e : StoreError) → HasFailed g mid at s (λ _. ⊥) (λ _. ⊥) e
       → HasFailed g old at s (λ _. ⊥) (λ _. ⊥) e
   unmoved_since e failed = failed_since g old mid at s (is_later g old mid follows) (λ _. ⊥) (λ _. ⊥) e failed
-
-  pub act_since : (a : Act) (e : StoreError) → ActFailed g mid at s a e → ActFailed g old at s a e
-  act_since a e failed = failed_since g old mid at s (is_later g old mid follows) (IsAfter s a) (LeadsOn s a) e failed
 
   pub performs_since : (session : Session) (date : Text) (files : Files) (c : Command) (r : Result Outcome StoreError)
       → HasPerformed g mid at s session date files c r → HasPerformed g old at s session date files c r

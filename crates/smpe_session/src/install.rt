@@ -1,18 +1,12 @@
 //! APPLY and ACCEPT: what is selected comes into the zone of the boundary.
-ghost use Rattle.std.specs.Prelude.{◌≡◌, Some, false, IfOk, option_copied};
-ghost use Rattle.std.specs.Option.{option_and_then};
-ghost use Rattle.std.specs.Str.{bytes_eq};
-ghost use Rattle.indexmap.specs.IndexMap.{get};
+ghost use Rattle.std.specs.Prelude.{◌≡◌, false, IfOk};
 ghost use Rattle.terms.specs.Types.{Install as AnInstall};
-ghost use Rattle.store_schema.specs.Inventory.{IsInventory};
 ghost use Rattle.machine.specs.Outcome.{header_of};
-ghost use Rattle.machine.specs.State.{State};
 ghost use Rattle.machine.specs.Machine.{Files};
 ghost use Rattle.report.specs.Views.{header_view};
-ghost use Rattle.smpe_zones.specs.Kept.{kept};
 ghost use Rattle.smpe_session.specs.Sessions.{IsSessionOf, HasPerformed};
 ghost use Rattle.smpe_zones.specs.Ends.{HasLoaded};
-ghost use Rattle.smpe_session.specs.Places.{install_command, HasRelated, HasPlace};
+ghost use Rattle.smpe_session.specs.Places.{install_command, HasRelated};
 ghost use Rattle.smpe_session.specs.Uses.{UsesStore};
 ghost use Rattle.smpe_session.specs.Writing.{TellsRun};
 ghost use Rattle.smpe_zones.specs.Own.{IsOfZone};
@@ -21,20 +15,12 @@ use crate::lines::or_nothing;
 use crate::session::Session;
 use cntl::Install;
 use fields::{YyDdd, ZoneName};
-use report::{Header, Outcome, Refusal};
+use report::{Header, Outcome};
 use smpe_service::{Applied, apply};
 use sqlite::Alter;
 use std::alloc::Global;
 use store::{Store, StoreError};
 use terms::{CommandWord, ZoneKind};
-use zones::Zone;
-
-/// A zone under its name.
-#[derive(Clone, Copy)]
-pub(crate) struct Place<'a> {
-    pub name: ZoneName,
-    pub zone: &'a Zone,
-}
 
 /// The header of the command that installs into a zone of this kind.
 fn header(kind: ZoneKind, boundary: Option<ZoneName>, check: bool) -> Header
@@ -55,33 +41,6 @@ fn header(kind: ZoneKind, boundary: Option<ZoneName>, check: bool) -> Header
 }
 
 impl Session {
-    /// The zone of the boundary, where it is of this kind.
-    pub(crate) fn place(&self, kind: ZoneKind) -> Result<Place<'_>, Refusal>
-        ensures named { IfOk result (λ v. self.now.boundary ≡ Some v.name) }
-        ensures has { (s : State) → IsSessionOf s self.now → IsInventory (kept s)
-            → HasPlace s self.now kind (λ v. v.name) (λ v. v.zone.now) result }
-    {
-        let Some(name) = self.boundary else {
-            return Err(Refusal::NoBoundary);
-        };
-        let Some(zone) = self.zones.get(&name) else {
-            return Err(Refusal::WrongKind);
-        };
-        if zone.kind() != kind {
-            return Err(Refusal::WrongKind);
-        }
-        Ok(Place { name, zone })
-    }
-
-    pub(crate) fn zone_at(&self, name: Option<ZoneName>) -> Option<&Zone>
-        ensures { option_copied result ≡ option_and_then (get bytes_eq self.now.zones) name }
-    {
-        match name {
-            Some(name) => self.zones.get(&name),
-            None => None,
-        }
-    }
-
     /// The name of the zone that the command looks at besides, if there is one: ACCEPT at the target zone that names
     /// the zone of the boundary as its related one. It is loaded.
     fn seek_related<S: Alter>(

@@ -1,4 +1,4 @@
-use Rattle.std.proofs.Common.{◌≡◌, ◌∙◌, arith, rules, subst}
+use Rattle.std.proofs.Common.{◌∙◌, arith, rules, subst}
 use Rattle.std.proofs.lemmas.List.{take_all}
 use Rattle.smpe_session.specs.Steps.{AreSought}
 use Rattle.smpe_session.proofs.AllZones.{all_zones, sought_more}
