@@ -11,15 +11,16 @@ returns-in_err-global-clause-uses g c = handed_on c.from_residual.ensures.1 (loa
     un)
 
 pub returns-clause-uses : goal.returns-clause-uses
-returns-clause-uses g c = answered (load_uses c.in_ok-global.ensures.loads) (λ own none. absurd none) (λ s inventory found. (
-  record {
-    global = found.0;
-    boundary = refl;
-    zones = λ name zone is. search rules;
-    current = λ name is. absurd (cc is);
-  },
-  found.1,
-))
+returns-clause-uses g c = answered (load_uses c.in_ok-global.ensures.loads) (λ own none. absurd none)
+    (λ s inventory found. (
+      record {
+        global = found.0;
+        boundary = refl;
+        zones = λ name zone is. search rules;
+        current = λ name is. absurd (cc is);
+      },
+      found.1,
+    ))
 
 pub returns-in_err-global-clause-reads : goal.returns-in_err-global-clause-reads
 returns-in_err-global-clause-reads g c =

@@ -43,10 +43,12 @@ returns g c = weaker (after c.in_ok-related.ensures c.carry_out.ensures)
     let there = c.in-Ok.ensures.has s sought.0.session inventory in
     let checks = sym (ap (λ w. w.check) c.install.view_is) ∙ sym c.header-header.ensures.check in
     let changes = install_changes c.args.date kind i s at place.name place.zone.now _ c.install.inside.selection
-    c.install.inside.bypass p.delta (map line_view p.lines.items) (map line_view c.in_ok-lines.lines.items) sought.0.session there
+    c.install.inside.bypass p.delta (map line_view p.lines.items) (map line_view c.in_ok-lines.lines.items)
+    sought.0.session there
     (c.zone_at.ensures ∙ sought.0.is_related place.name there.boundary)
     (sym (ap (λ w. w.selection) c.install.view_is)) (sym (ap (λ w. w.bypass) c.install.view_is))
-    c.apply.ensures.dated c.in_ok-delta.ensures.installs c.in_ok-lines.ensures files c.header-header.result.check (header_view c.header-header.result) checks
+    c.apply.ensures.dated c.in_ok-delta.ensures.installs c.in_ok-lines.ensures files
+    c.header-header.result.check (header_view c.header-header.result) checks
     (c.header-header.ensures.view i (sym (ap (λ w. w.check) c.install.view_is))
     ∙ ap (header_of command) sought.0.session.boundary) in
     performs_since g.S.Store c.args.store.now c.seek_related.new.store c.carry_out.new.store s

@@ -12,7 +12,10 @@ returns-in_err-names g c = handed_on c.from_residual.ensures.1 (load_uses c.in_e
 
 pub loop-name-init : goal.loop-name-init
 loop-name-init g c = answered (load_uses c.in_ok-names.ensures) (λ own none. absurd none)
-    (λ s inventory loaded is. ((c.as_slice-name-items.ensures.value ∙ loaded.0, record { session = is; here = search rules }), loaded.1))
+    (λ s inventory loaded is. (
+      (c.as_slice-name-items.ensures.value ∙ loaded.0, record { session = is; here = search rules }),
+      loaded.1,
+    ))
 
 pub loop-name-preserved : goal.loop-name-preserved
 loop-name-preserved g c = answered (after c.loop-name.invariant c.in_ok-seek.ensures.uses) (λ own none. absurd none)

@@ -40,7 +40,8 @@ returns-in_default-find g c =
     find_from_yields_List (names_head name) _ _ c.find.result c.find.ensures.ran
     (YieldsList-from_slice _ (c.iter.ensures.rest ∙ c.deref.ensures.value)) (λ x b q k. search (rules, tests)) in
     answered (load_uses c.in_ok-heads.ensures) (λ own none. absurd none) (λ s inventory loaded is. (
-      not_target c.args.kind other (related_none s name (sym is.boundary ∙ c.in-Some.is) heads loaded.0 c.args.self.now is
+      not_target c.args.kind other (related_none s name (sym is.boundary ∙ c.in-Some.is) heads loaded.0
+          c.args.self.now is
           (sym (ap (option_map (λ (h : ZoneHead). h.name))
           (sym found ∙ ap (option_map (λ (h : Bor ZoneHead). h.now)) c.in_default-find.is)))),
       loaded.1,
