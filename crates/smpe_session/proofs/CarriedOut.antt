@@ -16,19 +16,19 @@ use Rattle.store_schema.specs.Inventory.{IsInventory, IsZoneNamed}
 use Rattle.store_zones.specs.Zones.{IsZoneChange}
 use Rattle.machine.specs.Outcome.{Outcome}
 use Rattle.machine.specs.State.{State, with_zone}
-use Rattle.machine.specs.Machine.{Files, Perform, Performs}
+use Rattle.machine.specs.Machine.{Files, Performs}
 use Rattle.report.specs.declared.outcome.Outcome.{Outcome as Told}
 use Rattle.report.specs.Views.{outcome_view}
 use Rattle.smpe_zones.specs.Ends.{HasCommitted}
 use Rattle.smpe_zones.specs.Kept.{kept}
+use Rattle.smpe_zones.specs.Own.{IsOwnOf}
 use Rattle.smpe_session.specs.declared.session.Session.{Session}
 use Rattle.smpe_session.specs.Places.{ChangesZone}
 use Rattle.smpe_session.specs.Sessions.{IsSessionOf, HasPerformed}
-use Rattle.smpe_session.specs.Steps.{HasRun}
 use Rattle.smpe_session.specs.Uses.{UsesStore}
 use Rattle.smpe_session.proofs.Installed.{zone_change}
 use Rattle.smpe_session.proofs.StateZones.{each_named}
-use Rattle.smpe_session.proofs.Stepping.{run_committed, performs_ran}
+use Rattle.smpe_session.proofs.Stepping.{performs_committed, performs_failed}
 
 -- the zone that is named by the change which a call commits
 abbrev pub zone_of : {S X : Type 0} {g : Ghosts S} {before after : Held S} {name : Text} {old : Bor Zone} {delta : ZoneDelta}
@@ -51,43 +51,44 @@ module _ (date : Text) (files : Files) (c : Command) (s : State) (at : Session) 
       (planned.performs new (changes is))
 
   module _ (unchecked : check ≡ false) (old : Bor Zone) (stood : old.now ≡ planned.zone) {S : Type 0} (g : Ghosts S)
-      (before after : Held S) where
+      (before after : Held S) (answer : Told) (view : outcome_view answer ≡ outcome) (session : Session) where
     -- the commit of the change has ended so
-    abbrev Commits : {V : Type 0} → V → Result V StoreError → Type 0
-    Commits answer r =
+    abbrev Commits : Result Told StoreError → Type 0
+    Commits r =
         (t : State) → Makes (ZoneChange name old delta) (kept s) (kept t) → IsInventory (kept t)
         → HasCommitted g before after s t (ZoneChange name old delta) answer r
 
-    runs : {V : Type 0} (LeadsTo : V → State → Type 0) (answer : V) (new : Zone) → IsChanged delta planned.zone new
-        → LeadsTo answer (with_zone s name new) → (r : Result V StoreError) → Commits answer r
-        → HasRun g before after s (Perform date files c) LeadsTo r
-    runs LeadsTo answer new changed leads r ended =
-        let t = with_zone s name new in
-        let performs = subst (λ u. Performs date files s c u outcome)
-        (ap (λ b. if b then s else with_zone s name new) unchecked) (planned.performs new changed) in
-        let makes : Makes (ZoneChange name old delta) (kept s) (kept t) = (
-          new,
-          subst (λ z. IsZoneChange name z new (kept s) (kept t)) (sym stood)
-              (zone_change (kept s) name planned.zone new inventory planned.is_there),
-          subst (λ z. IsChanged delta z new) (sym stood) changed,
-        ) in
-        run_committed g before after s date files c t outcome performs (ZoneChange name old delta)
-        (planned.owns unchecked (ZoneChange name old delta) tt) makes LeadsTo answer leads r
-        (ended t makes (planned.inventory new changed inventory))
+    owns : IsOwnOf c (ZoneChange name old delta)
+    owns = planned.owns unchecked (ZoneChange name old delta) tt
+
+    module _ (new : Zone) (changed : IsChanged delta planned.zone new) where
+      performs : Performs date files s c (with_zone s name new) (outcome_view answer)
+      performs = subst (Performs date files s c (with_zone s name new)) (sym view)
+          (subst (λ u. Performs date files s c u outcome) (ap (λ b. if b then s else with_zone s name new) unchecked)
+          (planned.performs new changed))
+
+      makes : Makes (ZoneChange name old delta) (kept s) (kept (with_zone s name new))
+      makes = (
+        new,
+        subst (λ z. IsZoneChange name z new (kept s) (kept (with_zone s name new))) (sym stood)
+            (zone_change (kept s) name planned.zone new inventory planned.is_there),
+        subst (λ z. IsChanged delta z new) (sym stood) changed,
+      )
+
+      -- it is done, and then the session's zone is changed
+      pub carries : IsSessionOf (with_zone s name new) session → (r : Result Told StoreError) → Commits r
+          → HasPerformed g before after s session date files c r
+      carries is r ended =
+          let t = with_zone s name new in
+          performs_committed g before after s date files c t answer performs (ZoneChange name old delta) owns makes
+          session is r (ended t makes (planned.inventory new changed inventory))
 
     -- it failed
-    pub fails : {V : Type 0} (answer : V) (session : Session) → IsDelta delta → (e : StoreError)
-        → Commits answer (Err e) → HasPerformed g before after s session date files c (Err e)
-    fails answer session is e ended =
-        runs (λ v t. Unit {0}) answer (changed_zone delta planned.zone) (changes is) tt (Err e) ended
-
-    -- it is done, and then the session's zone is changed
-    pub carries : (answer : Told) (session : Session) (new : Zone) → IsChanged delta planned.zone new
-        → outcome_view answer ≡ outcome → IsSessionOf (with_zone s name new) session → (r : Result Told StoreError)
-        → Commits answer r → HasPerformed g before after s session date files c r
-    carries answer session new changed view here r ended =
-        let performs = subst (λ u. Performs date files s c u outcome)
-        (ap (λ b. if b then s else with_zone s name new) unchecked) (planned.performs new changed) in
-        performs_ran g before after s date files c session r
-        (runs (λ o u. Performs date files s c u (outcome_view o) × IsSessionOf u session) answer new changed
-        (subst (Performs date files s c (with_zone s name new)) (sym view) performs, here) r ended)
+    pub fails : IsDelta delta → (e : StoreError) → Commits (Err e)
+        → HasPerformed g before after s session date files c (Err e)
+    fails is e ended =
+        let new = changed_zone delta planned.zone in
+        let changed = changes is in
+        let t = with_zone s name new in
+        performs_failed g before after s date files c t answer (performs new changed) (ZoneChange name old delta) owns
+        (makes new changed) session e (ended t (makes new changed) (planned.inventory new changed inventory))

@@ -13,6 +13,7 @@ use Rattle.terms.specs.declared.kinds.ZoneKind.{ZoneKind}
 use Rattle.terms.specs.declared.kinds.ZoneKind.TheVariants.{Target, Distribution}
 use Rattle.terms.specs.Types.{Text, Zone, NamedZone, Bypass, Selection, Install, Command}
 use Rattle.zones.specs.Delta.{ZoneDelta, IsChanged}
+use Rattle.terms.specs.Forms.{IsDottedDate}
 use Rattle.terms.specs.Lookups.{is_before}
 use Rattle.terms.specs.Rising.{Rises, with_item}
 use Rattle.terms.proofs.Pairs.{pairs_unmap, AllPairs_parts}
@@ -31,7 +32,7 @@ use Rattle.machine_laws.proofs.ZonesKept.{stands_among}
 use Rattle.machine_laws.proofs.InstallForms.{apply_kept}
 use Rattle.smpe_session.specs.declared.session.Session.{Session}
 use Rattle.smpe_session.specs.Sessions.{IsSessionOf}
-use Rattle.smpe_session.specs.Places.{install_command, related_for, IsPlace, IsPlan, ChangesZone}
+use Rattle.smpe_session.specs.Places.{install_command, related_for, IsPlace, ChangesZone}
 use Rattle.smpe_session.proofs.Places.{install_at}
 use Rattle.smpe_session.proofs.Seeking.{zones_updated, some_updated}
 
@@ -147,14 +148,17 @@ runs_there date files Distribution i s t outcome there = there
 
 -- what was planned, as the command's own words
 pub install_changes : (date : Text) (kind : ZoneKind) (i : Install) (s : State) (at : Session) (name : Text)
-    (zone : Zone) (related : Option Zone) (sel : Selection) (bypass : Bypass) (delta : ZoneDelta) (lines : List Line)
+    (zone : Zone) (related : Option Zone) (sel : Selection) (bypass : Bypass) (delta : ZoneDelta)
+    (printed lines : List Line)
     → IsSessionOf s at → IsPlace s at kind name zone → related ≡ related_for kind s.zones name
-    → i.selection ≡ sel → i.bypass ≡ bypass → IsPlan at.global zone related sel bypass date delta lines
+    → i.selection ≡ sel → i.bypass ≡ bypass → IsDottedDate date
+    → ((new : Zone) → IsChanged delta zone new → InstallsSelected at.global zone related sel bypass date new printed)
+    → lines ≡ or_nothing printed
     → (files : Files) (check : Bool) (header : Header) → i.check ≡ check
     → header ≡ header_of (install_command kind i) s.boundary
     → ChangesZone date files (install_command kind i) s at name delta check (Ran header lines)
-install_changes date kind i s at name zone related sel bypass delta lines here place looks chosen bypasses plan files
-    check header checks headed = record {
+install_changes date kind i s at name zone related sel bypass delta printed lines here place looks chosen bypasses dated
+    plan all files check header checks headed = record {
       zone = zone;
       has = place.has;
       is_there = place.is_there;
@@ -167,14 +171,14 @@ install_changes date kind i s at name zone related sel bypass delta lines here p
           zone = zone;
           is_there = place.is_there;
           new = new;
-          lines = plan.printed;
+          lines = printed;
           installs = installs new changed;
           state = ap (λ c. if c then s else with_zone s name new) (sym checks);
-          prints = ap (Ran header) plan.lines_are ∙ ap (λ h. Ran h (or_nothing plan.printed)) headed;
+          prints = ap (Ran header) all ∙ ap (λ h. Ran h (or_nothing printed)) headed;
         },
       );
       inventory = λ new changed inventory. apply_kept (kept s) name zone new (related_for kind s.zones name) i.selection
-          i.bypass date plan.printed inventory place.is_there (installs new changed) plan.dated;
+          i.bypass date printed inventory place.is_there (installs new changed) dated;
     }
   where
     owns : (kind : ZoneKind) → i.check ≡ false → (change : Change) → IsOfZone change
@@ -183,13 +187,13 @@ install_changes date kind i s at name zone related sel bypass delta lines here p
     owns Distribution unchecked change is = (is, unchecked)
 
     installs : (new : Zone) → IsChanged delta zone new
-        → InstallsSelected s.global zone (related_for kind s.zones name) i.selection i.bypass date new plan.printed
+        → InstallsSelected s.global zone (related_for kind s.zones name) i.selection i.bypass date new printed
     installs new changed =
-        subst (λ r. InstallsSelected s.global zone r i.selection i.bypass date new plan.printed) looks
-        (subst (λ g. InstallsSelected g zone related i.selection i.bypass date new plan.printed) here.global
-        (subst (λ x. InstallsSelected at.global zone related x i.bypass date new plan.printed) (sym chosen)
-        (subst (λ b. InstallsSelected at.global zone related sel b date new plan.printed) (sym bypasses)
-        (plan.installs new changed))))
+        subst (λ r. InstallsSelected s.global zone r i.selection i.bypass date new printed) looks
+        (subst (λ g. InstallsSelected g zone related i.selection i.bypass date new printed) here.global
+        (subst (λ x. InstallsSelected at.global zone related x i.bypass date new printed) (sym chosen)
+        (subst (λ b. InstallsSelected at.global zone related sel b date new printed) (sym bypasses)
+        (plan new changed))))
 
 -- the command where it can't run
 pub install_refused : (date : Text) (files : Files) (c : Command) (s : State) (header : Header) (why : Refusal)

@@ -1,19 +1,20 @@
 -- What RECEIVE leads to: a state that the edits make, whose tables are an inventory's.
 use Rattle.std.proofs.Common.{◌≡◌, ◌∙◌, Bool, true, false, ℕ, List, [], ◌++◌, All, Option, None, Some, IfSome, IsTrue}
-use Rattle.std.proofs.Common.{refl, sym, ap, subst, inr}
+use Rattle.std.proofs.Common.{Result, Ok, Err, IfOk, IfErr, refl, sym, ap, subst, inr}
 use Rattle.std.proofs.lemmas.List.Elements.{All-append, All-from_recursion}
 use Rattle.std.proofs.lemmas.List.Sums.{fold-append}
 use Rattle.terms.specs.Types.{Text, Global, Item, HoldItem, AHold, ARelease, ReceiveWhat, Receive}
 use Rattle.terms.specs.Forms.{IsSource}
-use Rattle.terms.specs.Ptfin.{McsFault, IsPtfin, IsPtfinFault}
-use Rattle.terms.specs.HoldFile.{IsHoldFile, IsHoldFileFault}
+use Rattle.terms.specs.Ptfin.{IsPtfin}
+use Rattle.terms.specs.HoldFile.{IsHoldFile}
+use Rattle.mcs.specs.declared.error.McsError.{McsError}
 use Rattle.terms.proofs.Each.{recursion_weaker}
 use Rattle.store_schema.specs.Inventory.{IsInventory}
 use Rattle.machine.specs.Runs.{Runs}
 use Rattle.machine.specs.Receiving.{TakesItem, TakesHoldItem}
-use Rattle.machine.specs.Outcome.{Header, Line, BadPtfin, BadHoldFile, Ran, Refused, or_nothing, header_of}
+use Rattle.machine.specs.Outcome.{Header, Line, Ran, Refused, or_nothing, header_of}
 use Rattle.machine.specs.State.{State, global_name, misplaced}
-use Rattle.machine.specs.Machine.{Files, HasItems, Performs, Takes, TakesAll, TakesNone, TakesNoHold}
+use Rattle.machine.specs.Machine.{Files, HasItems, Performs, Takes, TakesAll}
 use Rattle.report.specs.declared.outcome.Refusal.{Refusal}
 use Rattle.report.specs.Views.{refusal_view}
 use Rattle.sysmods.specs.declared.edit.GlobalEdit.{GlobalEdit}
@@ -94,15 +95,12 @@ received date files what s old new source items holds edits printed lines global
     leads_by date files (Receive what) s old new edits lines global taken.fits taken.after
     (take_forms files what items holds (kept s) taken.middle new taken.first taken.more
     (subst (λ o. IfSome o IsSource) (sym sources) form) reads reads_holds is runs taken.runs_holds)
-    record {
-      state = refl;
-      performs = inr (
-        at,
-        subst (λ ls. Takes files s what (record s { global = new }) (Ran (header_of (Receive what) s.boundary) ls))
-            (sym (all ∙ ap or_nothing taken.lines_are))
-            (TakesAll items holds taken.middle new taken.first taken.more reads reads_holds runs taken.runs_holds),
-      );
-    }
+    (inr (
+      at,
+      subst (λ ls. Takes files s what (record s { global = new }) (Ran (header_of (Receive what) s.boundary) ls))
+          (sym (all ∙ ap or_nothing taken.lines_are))
+          (TakesAll items holds taken.middle new taken.first taken.more reads reads_holds runs taken.runs_holds),
+    ))
 
 -- a fault of a file
 pub take_faulty : (date : Text) (files : Files) (what : ReceiveWhat) (s : State) (boundary : Option Text)
@@ -112,24 +110,21 @@ pub take_faulty : (date : Text) (files : Files) (what : ReceiveWhat) (s : State)
 take_faulty date files what s boundary why same at takes = headed date files (Receive what) s s boundary
     (λ h. Refused h (refusal_view why)) same (inr (at, takes s))
 
--- PTFIN has a fault, or the hold file has one where PTFIN has none
-module _ (files : Files) (what : ReceiveWhat) (why : Refusal) (sysmods : Bool) (ptfin : List ℕ)
-    (same_sysmods : what.sysmods ≡ sysmods) (same_ptfin : files.ptfin ≡ ptfin) where
-  pub ptfin_faulty : IsTrue sysmods × ((fault : McsFault) × IsPtfinFault ptfin fault
-      × (refusal_view why ≡ BadPtfin fault.number fault.code))
-      → (s : State) → Takes files s what s (Refused (header_of (Receive what) s.boundary) (refusal_view why))
-  ptfin_faulty (reads, (fault, is, code)) s =
-      subst (λ r. Takes files s what s (Refused (header_of (Receive what) s.boundary) r)) (sym code)
-      (TakesNone fault (same_sysmods ∙ reads) (subst (λ b. IsPtfinFault b fault) (sym same_ptfin) is))
+-- a file that is read where `reads` says so: its items, or its first fault
+abbrev pub HasRead : {X V : Type 0} → (List ℕ → List X → Type 0) → (List ℕ → McsError → Type 0) → (V → List X) → Bool
+    → List ℕ → Result V McsError → Type 0
+HasRead Is IsError items reads bytes (Ok v) = HasItems Is reads bytes (items v)
+HasRead Is IsError items reads bytes (Err e) = IsTrue reads × IsError bytes e
 
-  pub hold_file_faulty : (items : List Item) (holddata : Bool) (holds : List ℕ) → what.holddata ≡ holddata
-      → files.holds ≡ holds → HasItems IsPtfin sysmods ptfin items
-      → IsTrue holddata × ((fault : McsFault) × IsHoldFileFault holds fault
-      × (refusal_view why ≡ BadHoldFile fault.number fault.code))
-      → (s : State) → Takes files s what s (Refused (header_of (Receive what) s.boundary) (refusal_view why))
-  hold_file_faulty items holddata holds same_holddata same_holds has (reads, (fault, is, code)) s =
-      subst (λ r. Takes files s what s (Refused (header_of (Receive what) s.boundary) r)) (sym code)
-      (TakesNoHold items fault
-      (subst (λ b. HasItems IsPtfin b files.ptfin items) (sym same_sysmods)
-      (subst (λ b. HasItems IsPtfin sysmods b items) (sym same_ptfin) has))
-      (same_holddata ∙ reads) (subst (λ b. IsHoldFileFault b fault) (sym same_holds) is))
+module _ {X V : Type 0} (Is : List ℕ → List X → Type 0) (IsError : List ℕ → McsError → Type 0) (items : V → List X)
+    (bytes : List ℕ) where
+  pub read : (reads : Bool) (r : Result V McsError) → IsTrue reads → IfOk r (λ v. Is bytes (items v))
+      → IfErr r (IsError bytes) → HasRead Is IsError items reads bytes r
+  read true (Ok v) is good error = good
+  read true (Err e) is good error = (is, error)
+  read false r is good error = absurd (cc is)
+
+  pub unread : (reads : Bool) (v : V) → reads ≡ false → items v ≡ []
+      → HasRead Is IsError items reads bytes (Ok v)
+  unread true v is none = absurd (cc is)
+  unread false v is none = none

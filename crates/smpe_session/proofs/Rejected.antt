@@ -33,7 +33,4 @@ rejected date files ids s old new edits lines global is at runs_old fits after =
     let runs = subst (λ k. Runs (RejectsId s.zones) k ids new lines) (sym global) runs_old in
     leads_by date files (Reject ids) s old new edits lines global fits after
     (reject_forms ids (kept s) new lines is runs)
-    record {
-      state = refl;
-      performs = inr (at, record { new = new; lines = lines; runs = runs; state = refl; prints = refl });
-    }
+    (inr (at, record { new = new; lines = lines; runs = runs; state = refl; prints = refl }))

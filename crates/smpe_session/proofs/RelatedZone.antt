@@ -1,10 +1,11 @@
 -- The target zone that is related to a distribution zone, found by its head.
-use Rattle.std.proofs.Common.{◌≡◌, ◌∙◌, Bool, true, false, List, [], ◌∷◌, Option, Some, None, map}
+use Rattle.std.proofs.Common.{◌≡◌, ◌≢◌, ◌∙◌, Bool, true, false, List, [], ◌∷◌, Option, Some, None, map}
 use Rattle.std.proofs.Common.{refl, sym, ap, subst}
 use Rattle.std.specs.Prelude.{find, option_map}
 use Rattle.std.specs.Option.{option_map_or}
 use Rattle.std.specs.Str.{bytes_eq}
 use Rattle.indexmap.specs.IndexMap.{get}
+use Rattle.terms.specs.declared.kinds.ZoneKind.{ZoneKind}
 use Rattle.terms.specs.declared.kinds.ZoneKind.TheVariants.{Target, Distribution}
 use Rattle.terms.specs.Types.{Text, NamedZone}
 use Rattle.terms.proofs.Searches.{find_gives}
@@ -33,7 +34,7 @@ find_made p f (x ∷ xs) = by (find_made p f xs) (p (f x)) refl
 abbrev names_it : Text → NamedZone → Bool
 names_it name z = option_map_or (bytes_eq name) z.zone.related false
 
-abbrev names_head : Text → ZoneHead → Bool
+abbrev pub names_head : Text → ZoneHead → Bool
 names_head name h = option_map_or (bytes_eq name) h.related false
 
 abbrev target_in : Text → List NamedZone → Option NamedZone
@@ -63,6 +64,11 @@ related_nowhere s at is none = record {
   session = is;
   is_related = λ name named. absurd (cc (sym named ∙ sym is.boundary ∙ none));
 }
+
+pub not_target : {s : State} {at : Session} {related : Option Text} (kind : ZoneKind) → kind ≢ Target
+    → HasRelated s at Distribution related → HasRelated s at kind related
+not_target Target other has = absurd (other refl)
+not_target Distribution other has = has
 
 pub related_target : (s : State) (at : Session) → IsSessionOf s at → HasRelated s at Target None
 related_target s at is = record { session = is; is_related = λ name named. refl }

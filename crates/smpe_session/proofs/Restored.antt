@@ -19,7 +19,7 @@ use Rattle.smpe_session.specs.declared.session.Session.{Session}
 use Rattle.smpe_session.specs.Sessions.{IsSessionOf}
 use Rattle.smpe_session.specs.Steps.{IsSought}
 use Rattle.smpe_session.specs.Places.{IsPlace, ChangesZone}
-use Rattle.smpe_session.specs.Restored.{HasAccepted, IsTarget}
+use Rattle.smpe_session.specs.Restored.{HasAccepted}
 use Rattle.smpe_session.proofs.Leading.{headed}
 use Rattle.smpe_session.proofs.Places.{none_global, restore_at}
 use Rattle.smpe_session.proofs.StateZones.{each_named, its_own, sought_held}
@@ -92,18 +92,8 @@ module _ (s : State) (inventory : IsInventory (kept s)) where
 
   module _ (at : Session) (accepted : Option Text) (has : HasAccepted s at accepted) (name : Text) (zone : Zone)
       (place : IsPlace s at Target name zone) where
-    beside : option_and_then (get bytes_eq at.zones) accepted ≡ option_and_then (zone_named s.zones) zone.related
+    pub beside : option_and_then (get bytes_eq at.zones) accepted ≡ option_and_then (zone_named s.zones) zone.related
     beside = has.is_related name zone place.boundary place.is_there
-
-    pub is_target : (other : Zone) → option_and_then (get bytes_eq at.zones) accepted ≡ Some other
-        → IsTarget s at name zone other
-    is_target other held = record {
-      boundary = place.boundary;
-      has = place.has;
-      is_there = place.is_there;
-      related = sym beside ∙ held;
-      fits = place.fits;
-    }
 
     pub not_none : option_and_then (get bytes_eq at.zones) accepted ≡ None → ⊥
     not_none none =
@@ -113,26 +103,27 @@ module _ (s : State) (inventory : IsInventory (kept s)) where
 
 -- what was planned, as the command's own words
 pub restore_changes : (s : State) (at : Session) (name : Text) (zone accepted : Zone) (what : RestoreList)
-    (delta : ZoneDelta) (lines : List Line) → IsSessionOf s at → IsTarget s at name zone accepted
+    (delta : ZoneDelta) (lines : List Line) → IsSessionOf s at → IsPlace s at Target name zone
+    → option_and_then (zone_named s.zones) zone.related ≡ Some accepted
     → ((new : Zone) → IsChanged delta zone new → RestoresListed at.global zone accepted what new lines)
     → (date : Text) (files : Files) (check : Bool) (boundary : Option Text) → boundary ≡ s.boundary
     → ChangesZone date files (Restore what check) s at name delta check
     (Ran (header_of (Restore what check) boundary) lines)
-restore_changes s at name zone accepted what delta lines is target plan date files check boundary same = record {
+restore_changes s at name zone accepted what delta lines is place related plan date files check boundary same = record {
   zone = zone;
-  has = target.has;
-  is_there = target.is_there;
+  has = place.has;
+  is_there = place.is_there;
   owns = λ unchecked change is. (is, unchecked);
   performs = λ new changed. headed date files (Restore what check) s (if check then s else with_zone s name new)
       boundary (λ h. Ran h lines) same (inr (
-        restore_at s what check ∙ target.fits,
+        restore_at s what check ∙ place.fits,
         record {
           name = name;
-          at = target.boundary;
+          at = place.boundary;
           zone = zone;
-          is_there = target.is_there;
+          is_there = place.is_there;
           accepted = accepted;
-          related = target.related;
+          related = related;
           new = new;
           lines = lines;
           restores = restores new changed;
@@ -141,7 +132,7 @@ restore_changes s at name zone accepted what delta lines is target plan date fil
         },
       ));
   inventory = λ new changed inventory. restore_kept (kept s) name zone accepted new what lines inventory
-      target.is_there target.related (restores new changed);
+      place.is_there related (restores new changed);
 }
   where
     restores : (new : Zone) → IsChanged delta zone new → RestoresListed s.global zone accepted what new lines

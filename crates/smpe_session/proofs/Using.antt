@@ -85,7 +85,7 @@ module _ {S : Type 0} {g : Ghosts S} {old new : Held S} where
       → ((s : State) → IsInventory (kept s) → P s (Err e) → Q s (Err e)) → UsesStore g old new More Q r
   handed_on is call ends = handed is call (λ change none. absurd none) ends
 
-  short : {X Y : Type 0} {More : Change → Type 0} {P : Ending X} {Q : Ending Y} {x : X}
+  pub short : {X Y : Type 0} {More : Change → Type 0} {P : Ending X} {Q : Ending Y} {x : X}
       → UsesStore g old new (λ _. ⊥) P (Ok x)
       → ((s : State) → IsInventory (kept s) → P s (Ok x) → Q s (Err Memory)) → UsesStore g old new More Q (Err Memory)
   short {Y = Y} {More = More} {Q = Q} {x = x} call ends = record {

@@ -5,12 +5,10 @@ use Rattle.std.specs.Str.{bytes_eq}
 use Rattle.indexmap.specs.IndexMap.{get}
 use Rattle.terms.specs.declared.kinds.ZoneKind.{ZoneKind}
 use Rattle.terms.specs.declared.kinds.ZoneKind.TheVariants.{Target, Distribution}
-use Rattle.terms.specs.Types.{Text, Global, Zone, NamedZone, Bypass, Selection, Install, Command, Apply, Accept}
+use Rattle.terms.specs.Types.{Text, Zone, NamedZone, Install, Command, Apply, Accept}
 use Rattle.zones.specs.Delta.{ZoneDelta, IsChanged}
-use Rattle.terms.specs.Forms.{IsDottedDate}
-use Rattle.machine.specs.Installing.{InstallsSelected}
 use Rattle.machine.specs.Machine.{Files, Performs}
-use Rattle.machine.specs.Outcome.{Line, Outcome, or_nothing}
+use Rattle.machine.specs.Outcome.{Outcome}
 use Rattle.machine.specs.State.{State, zone_named, with_zone, target_of, at_kind, unless_at}
 use Rattle.report.specs.declared.outcome.Refusal.{Refusal}
 use Rattle.report.specs.Views.{refusal_view}
@@ -49,14 +47,6 @@ pub record IsPlace (s : State) (at : Session) (kind : ZoneKind) (name : Text) (z
 abbrev pub HasPlace : State → Session → ZoneKind → {V : Type 0} → (V → Text) → (V → Zone) → Result V Refusal → Type 0
 HasPlace s at kind name zone (Ok v) = IsPlace s at kind (name v) (zone v)
 HasPlace s at kind name zone (Err why) = unless_at (at_kind kind s) s ≡ Some (refusal_view why)
-
--- The change and the lines are those of an APPLY or ACCEPT.
-pub record IsPlan (g : Global) (zone : Zone) (related : Option Zone) (sel : Selection) (bypass : Bypass) (date : Text)
-    (delta : ZoneDelta) (lines : List Line) : Type 0 where
-  pub dated : IsDottedDate date
-  pub printed : List Line
-  pub installs : (new : Zone) → IsChanged delta zone new → InstallsSelected g zone related sel bypass date new printed
-  pub lines_are : lines ≡ or_nothing printed
 
 -- The command changes this zone of the session so and has this outcome. Where it checks alone, the state stays; else a
 -- change of a zone is its own.

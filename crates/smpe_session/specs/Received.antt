@@ -1,10 +1,8 @@
 -- What RECEIVE finds in its files, and what it makes of the global zone.
-use Rattle.std.specs.Prelude.{◌≡◌, ℕ, Bool, All, IsTrue, List, ◌++◌, Option, Result, Ok, Err}
-use Rattle.terms.specs.declared.codes.StatementCode.{StatementCode}
+use Rattle.std.specs.Prelude.{◌≡◌, All, List, ◌++◌, Option, Result, Ok, Err}
 use Rattle.terms.specs.Types.{Text, Global, Item, HoldItem, ReceiveWhat, Receive}
-use Rattle.terms.specs.Ptfin.{McsFault, IsPtfin}
+use Rattle.terms.specs.Ptfin.{IsPtfin}
 use Rattle.terms.specs.HoldFile.{IsHoldFile}
-use Rattle.machine.specs.Outcome as machine
 use Rattle.machine.specs.Outcome.{Line, Refused, header_of}
 use Rattle.machine.specs.State.{State}
 use Rattle.machine.specs.Receiving.{TakesItem, TakesHoldItem}
@@ -15,14 +13,6 @@ use Rattle.report.specs.Views.{refusal_view}
 use Rattle.sysmods.specs.declared.edit.GlobalEdit.{GlobalEdit}
 use Rattle.sysmods.specs.Edits.{EachFits, after_edits}
 use Rattle.smpe_global.specs.Edits.{IsOfReceive}
-
--- A file has these items where it is read, or else it has the first fault that is refused.
-abbrev pub HasRead : {X : Type 0} → (List ℕ → List X → Type 0) → (List ℕ → McsFault → Type 0)
-    → (ℕ → StatementCode → machine.Refusal) → Bool → List ℕ
-    → {V : Type 0} → (V → List X) → Result V Refusal → Type 0
-HasRead Is IsFault refused reads bytes items (Ok v) = HasItems Is reads bytes (items v)
-HasRead Is IsFault refused reads bytes items (Err why) =
-    IsTrue reads × ((fault : McsFault) × IsFault bytes fault × (refusal_view why ≡ refused fault.number fault.code))
 
 -- The files have these items, or else RECEIVE is refused so.
 abbrev pub HasFound : Files → ReceiveWhat → {V : Type 0} → (V → List Item) → (V → List HoldItem) → Result V Refusal

@@ -1,10 +1,20 @@
-//! Commands of the global zone.
-ghost use Rattle.std.specs.Prelude.{◌≡◌, None, Some, option_map};
+//! Where commands run, and why one can't at this boundary.
+ghost use Rattle.std.specs.Prelude.{◌≡◌, None, Some, IfOk, option_copied, option_map};
+ghost use Rattle.std.specs.Option.{option_and_then};
+ghost use Rattle.std.specs.Str.{bytes_eq};
+ghost use Rattle.indexmap.specs.IndexMap.{get};
 ghost use Rattle.machine.specs.State.{State, at_global, global_name, unless_at};
 ghost use Rattle.report.specs.Views.{refusal_view};
+ghost use Rattle.store_schema.specs.Inventory.{IsInventory};
+ghost use Rattle.smpe_zones.specs.Kept.{kept};
+ghost use Rattle.smpe_session.specs.Places.{HasPlace};
+ghost use Rattle.smpe_session.specs.Sessions.{IsSessionOf};
 
+use crate::session::Session;
 use fields::ZoneName;
 use report::Refusal;
+use terms::ZoneKind;
+use zones::Zone;
 
 /// Why a command of the global zone can't run at this boundary.
 pub(crate) fn unless_global(boundary: Option<ZoneName>) -> Option<Refusal>
@@ -19,4 +29,40 @@ pub(crate) fn unless_global(boundary: Option<ZoneName>) -> Option<Refusal>
         return None;
     }
     Some(Refusal::WrongKind)
+}
+
+/// A zone under its name.
+#[derive(Clone, Copy)]
+pub(crate) struct Place<'a> {
+    pub name: ZoneName,
+    pub zone: &'a Zone,
+}
+
+impl Session {
+    /// The zone of the boundary, where it is of this kind.
+    pub(crate) fn place(&self, kind: ZoneKind) -> Result<Place<'_>, Refusal>
+        ensures named { IfOk result (λ v. self.now.boundary ≡ Some v.name) }
+        ensures has { (s : State) → IsSessionOf s self.now → IsInventory (kept s)
+            → HasPlace s self.now kind (λ v. v.name) (λ v. v.zone.now) result }
+    {
+        let Some(name) = self.boundary else {
+            return Err(Refusal::NoBoundary);
+        };
+        let Some(zone) = self.zones.get(&name) else {
+            return Err(Refusal::WrongKind);
+        };
+        if zone.kind() != kind {
+            return Err(Refusal::WrongKind);
+        }
+        Ok(Place { name, zone })
+    }
+
+    pub(crate) fn zone_at(&self, name: Option<ZoneName>) -> Option<&Zone>
+        ensures { option_copied result ≡ option_and_then (get bytes_eq self.now.zones) name }
+    {
+        match name {
+            Some(name) => self.zones.get(&name),
+            None => None,
+        }
+    }
 }

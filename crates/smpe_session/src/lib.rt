@@ -8,17 +8,16 @@
 #![tactic(auto)]
 
 mod boundary;
+mod carry_out;
+mod commit;
 mod errsysmods;
 mod files;
 mod install;
 mod lines;
 mod list;
-mod load;
-mod planned;
 mod read;
 mod receive;
 mod reject;
-mod related;
 mod restore;
 mod session;
 mod set;

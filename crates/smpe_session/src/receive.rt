@@ -1,30 +1,25 @@
 //! RECEIVE: the items of PTFIN and of the hold file come into the global zone.
-ghost use Rattle.std.specs.Prelude.{◌≡◌, All, None, IfOk, IfSome, map};
-ghost use Rattle.terms.specs.Types.{Text, ReceiveWhat as AWhat, Receive};
+ghost use Rattle.std.specs.Prelude.{All, IfOk, IfSome, map};
+ghost use Rattle.terms.specs.Types.{Text, Receive};
 ghost use Rattle.terms.specs.Forms.{IsSource};
-ghost use Rattle.terms.specs.Ptfin.{IsPtfin};
-ghost use Rattle.terms.specs.HoldFile.{IsHoldFile};
-ghost use Rattle.machine.specs.State.{misplaced};
-ghost use Rattle.machine.specs.Machine.{Files as AllFiles, HasItems, Perform};
 ghost use Rattle.mcs.specs.Files.{items};
 ghost use Rattle.mcs.specs.HoldItems.{items as hold_items};
 ghost use Rattle.smpe_global.specs.External.{IsExternal};
 ghost use Rattle.report.specs.Views.{line_view};
 ghost use Rattle.smpe_session.specs.Sessions.{IsSessionOf, HasPerformed};
-ghost use Rattle.smpe_session.specs.Steps.{HasRun, LeadsToGlobal};
 ghost use Rattle.smpe_session.specs.Received.{AreTaken};
 ghost use Rattle.smpe_session.specs.Uses.{UsesStore};
 ghost use Rattle.smpe_session.specs.Writing.{TellsRun};
 ghost use Rattle.smpe_zones.specs.Own.{IsReceived};
 
 use crate::boundary::unless_global;
+use crate::commit::commit_change;
 use crate::files::Files;
 use crate::lines::or_nothing;
-use crate::load::commit_change;
 use crate::read::{Found, read_files};
 use crate::session::Session;
 use fields::{ReceiveWhat, Source};
-use report::{Header, Line, Outcome};
+use report::{Header, Outcome};
 use smpe_global::{Taken, receive, receive_holds};
 use sqlite::Alter;
 use std::alloc::{AllocError, Global};
@@ -54,27 +49,6 @@ fn take_found(
     Ok(Taken { edits, lines })
 }
 
-/// Takes the items in, and commits what they change.
-fn take_items<S: Alter>(
-    alloc: Global,
-    store: &mut Store<S>,
-    global: &mut GlobalZone,
-    found: Found,
-    source: Option<Source>,
-) -> Result<Vec<Line>, StoreError>
-    requires { All IsExternal (hold_items found.holds.items) }
-    ensures { UsesStore S.Store store.old store.new IsReceived (λ s ended. s.global ≡ global.old
-        → (date : Text) (files : AllFiles) (what : AWhat) → misplaced s (Receive what) ≡ None → what.source ≡ source
-        → HasItems IsPtfin what.sysmods files.ptfin (items found.items.items)
-        → HasItems IsHoldFile what.holddata files.holds (hold_items found.holds.items)
-        → HasRun S.Store store.old store.new s (Perform date files (Receive what))
-        (λ v t. LeadsToGlobal date files (Receive what) s global.new t (map line_view v.items)) ended) result }
-{
-    let Taken { edits, lines } = take_found(alloc, global, found, source)?;
-    let lines = or_nothing(lines)?;
-    commit_change(store, &Change::Global(&*global, edits), lines)
-}
-
 impl Session {
     pub(crate) fn receive<S: Alter>(
         &mut self,
@@ -95,12 +69,16 @@ impl Session {
         if let Some(refusal) = unless_global(self.boundary) {
             return Ok(Outcome::Refused { header, refusal });
         }
-        match read_files(alloc, files, what)? {
-            Ok(found) => {
-                let lines = take_items(alloc, store, &mut self.global, found, what.source)?;
-                Ok(Outcome::Ran { header, lines })
-            }
-            Err(refusal) => Ok(Outcome::Refused { header, refusal }),
-        }
+        let found = match read_files(alloc, files, what)? {
+            Ok(found) => found,
+            Err(refusal) => return Ok(Outcome::Refused { header, refusal }),
+        };
+        let Taken { edits, lines } = take_found(alloc, &mut self.global, found, what.source)?;
+        let lines = or_nothing(lines)?;
+        commit_change(
+            store,
+            &Change::Global(&self.global, edits),
+            Outcome::Ran { header, lines },
+        )
     }
 }

@@ -12,7 +12,6 @@ ghost use Rattle.smpe_session.specs.Uses.{UsesStore};
 ghost use Rattle.smpe_session.specs.Writing.{AnswersRun};
 
 use crate::files::Files;
-use crate::load::load_global;
 use cntl::Command;
 use fields::{YyDdd, ZoneName};
 use indexmap::IndexMap;
@@ -59,7 +58,7 @@ impl Session {
             → IfOk result (λ session. ShowsGlobal S.Store store.old session.global) }
         ensures reads { OnlyReads S.Store store_schema StoreError.NoState StoreError.Fault store.old store.new result }
     {
-        let global = load_global(store)?;
+        let global = store.load_global()?;
         Ok(Session {
             global,
             zones: IndexMap::new(alloc),

@@ -21,8 +21,8 @@ use Rattle.smpe_session.proofs.session.Session.carry_out.Goals as goal
 pub returns-then-header : goal.returns-then-header
 returns-then-header g c = answered nothing (λ own none. absurd none) (λ s inventory keeps is date files command planned. (
   s,
-  checks date files command s c.args.self.now c.args.name c.args.planned.delta c.args.header.check
-      (Ran (header_view c.args.header) (map line_view c.args.planned.lines.items)) planned inventory c.attest.ensures
+  checks date files command s c.args.self.now c.args.name c.args.delta c.args.header.check
+      (Ran (header_view c.args.header) (map line_view c.args.lines.items)) planned inventory c.attest.ensures
       c.if-header.true,
   is,
   keeps,
@@ -50,10 +50,10 @@ returns-in_err-outcome g c = handed c.from_residual-in_err-outcome.ensures.1 c.i
     let here : get bytes_eq c.args.self.now.zones c.args.name ≡ Some c.in-Some.zone.now = sym c.in-Some.ensures.value in
     let both : Some c.in-Some.zone.now ≡ Some planned.zone = sym here ∙ planned.has in
     let same : c.in-Some.zone.now ≡ planned.zone = cc both in
-    fails date files command s c.args.self.now c.args.name c.args.planned.delta c.args.header.check
-    (Ran (header_view c.args.header) (map line_view c.args.planned.lines.items)) planned inventory c.if-header.false
+    fails date files command s c.args.self.now c.args.name c.args.delta c.args.header.check
+    (Ran (header_view c.args.header) (map line_view c.args.lines.items)) planned inventory c.if-header.false
     (zone_of c.in_err-outcome.ensures.uses) same g.S.Store c.args.store.now c.commit_change.new.store
-    (report.Ran c.args.header c.args.planned.lines)
+    (report.Ran c.args.header c.args.lines) refl
     (record c.args.self.now { zones = c.get_mut.follows.lender c.in-Some.zone.now }) c.attest.ensures
     c.in_err-outcome.field-0.0 ended)
 
@@ -74,10 +74,10 @@ returns g c = answered c.in_ok-outcome.ensures.uses
     let same : c.in-Some.zone.now ≡ planned.zone = cc both in
     let changed = subst (λ d. IsChanged d planned.zone new) c.in_ok-prepared.ensures.is_delta
     (subst (λ (zone : Zone). IsChanged (delta_of c.in_ok-prepared.prepared) zone new) same c.edit.ensures) in
-    carries date files command s c.args.self.now name c.args.planned.delta c.args.header.check
-    (Ran (header_view c.args.header) (map line_view c.args.planned.lines.items)) planned inventory c.if-header.false
+    carries date files command s c.args.self.now name c.args.delta c.args.header.check
+    (Ran (header_view c.args.header) (map line_view c.args.lines.items)) planned inventory c.if-header.false
     (zone_of c.in_ok-outcome.ensures.uses) same g.S.Store c.args.store.now c.commit_change.new.store
-    (report.Ran c.args.header c.args.planned.lines) session new changed refl
+    (report.Ran c.args.header c.args.lines) refl session new changed
     (install_session s name planned.zone new inventory planned.is_there c.args.self.now session is refl refl
     ((c.get_mut.follows.holds new).3 (subst IsSome (sym here) refl)))
     (Ok c.in_ok-outcome.outcome) ended)

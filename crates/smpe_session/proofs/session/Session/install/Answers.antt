@@ -15,16 +15,21 @@ returns-in_err-related g c = handed_on c.from_residual.ensures.1 c.in_err-relate
     act_unmoved g.S.Store c.args.store.now c.seek_related.new.store s
     (Perform c.args.date files (install_command c.args.kind c.args.install.now)) c.in_err-related.field-0.0 (un is))
 
-pub returns-in_err-planned-in-Ok : goal.returns-in_err-planned-in-Ok
-returns-in_err-planned-in-Ok g c = ran_short c.from_residual-in_err-planned-in-Ok.ensures.1 c.in_ok-related.ensures
+pub returns-in_err-delta : goal.returns-in_err-delta
+returns-in_err-delta g c = ran_short c.from_residual-in_err-delta.ensures.1 c.in_ok-related.ensures
+    (λ s inventory sought is files. stopped g.S.Store c.seek_related.new.store s
+    (Perform c.args.date files (install_command c.args.kind c.args.install.now)) (sought is).1)
+
+pub returns-in_err-lines : goal.returns-in_err-lines
+returns-in_err-lines g c = ran_short c.from_residual-in_err-lines.ensures.1 c.in_ok-related.ensures
     (λ s inventory sought is files. stopped g.S.Store c.seek_related.new.store s
     (Perform c.args.date files (install_command c.args.kind c.args.install.now)) (sought is).1)
 
 pub carry_out-requires : goal.carry_out-requires
 carry_out-requires g c = c.header-header.ensures.boundary ∙ c.in-Ok.ensures.named
 
-pub returns-in_ok-planned-in-Ok : goal.returns-in_ok-planned-in-Ok
-returns-in_ok-planned-in-Ok g c = weaker (after c.in_ok-related.ensures c.carry_out.ensures)
+pub returns : goal.returns
+returns g c = weaker (after c.in_ok-related.ensures c.carry_out.ensures)
     (λ change own.
     (own.0, sym (ap (λ w. w.check) c.install.view_is) ∙ (sym c.header-header.ensures.check ∙ own.1), own.2))
     (λ s inventory both is files.
@@ -33,15 +38,17 @@ returns-in_ok-planned-in-Ok g c = weaker (after c.in_ok-related.ensures c.carry_
     let i = c.args.install.now in
     let command = install_command kind i in
     let place = c.in-Ok.place in
-    let p = c.in_ok-planned-in-Ok.planned in
+    let p = c.in_ok-delta.field-0 in
     let sought = both.0 is in
     let there = c.in-Ok.ensures.has s sought.0.session inventory in
     let checks = sym (ap (λ w. w.check) c.install.view_is) ∙ sym c.header-header.ensures.check in
     let changes = install_changes c.args.date kind i s at place.name place.zone.now _ c.install.inside.selection
-    c.install.inside.bypass p.delta (map line_view p.lines.items) sought.0.session there
+    c.install.inside.bypass p.delta (map line_view p.lines.items) (map line_view c.in_ok-lines.lines.items)
+    sought.0.session there
     (c.zone_at.ensures ∙ sought.0.is_related place.name there.boundary)
     (sym (ap (λ w. w.selection) c.install.view_is)) (sym (ap (λ w. w.bypass) c.install.view_is))
-    c.in_ok-planned-in-Ok.ensures files c.header-header.result.check (header_view c.header-header.result) checks
+    c.apply.ensures.dated c.in_ok-delta.ensures.installs c.in_ok-lines.ensures files
+    c.header-header.result.check (header_view c.header-header.result) checks
     (c.header-header.ensures.view i (sym (ap (λ w. w.check) c.install.view_is))
     ∙ ap (header_of command) sought.0.session.boundary) in
     performs_since g.S.Store c.args.store.now c.seek_related.new.store c.carry_out.new.store s

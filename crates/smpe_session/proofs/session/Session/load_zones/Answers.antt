@@ -1,21 +1,48 @@
-use Rattle.std.proofs.Common.{◌∙◌}
-use Rattle.smpe_session.proofs.AllZones.{all_zones}
+use Rattle.std.proofs.Common.{◌∙◌, arith, rules, subst}
+use Rattle.std.proofs.lemmas.List.{take_all}
+use Rattle.smpe_session.specs.Steps.{AreSought}
+use Rattle.smpe_session.proofs.AllZones.{all_zones, sought_more}
 use Rattle.smpe_session.proofs.Stepping.{unmoved_since}
-use Rattle.smpe_session.proofs.Using.{after, answered, handed_on}
+use Rattle.smpe_session.proofs.Using.{after, answered, handed_on, load_uses}
 use Rattle.smpe_session.proofs.session.Session.load_zones.Goals as goal
 
 pub returns-in_err-names : goal.returns-in_err-names
-returns-in_err-names g c = handed_on c.from_residual.ensures.1 c.in_err-names.ensures (λ s inventory un is. un)
+returns-in_err-names g c = handed_on c.from_residual.ensures.1 (load_uses c.in_err-names.ensures)
+    (λ s inventory un is. un)
 
-pub returns-in_err-seek_each : goal.returns-in_err-seek_each
-returns-in_err-seek_each g c = handed_on c.from_residual-in_err-seek_each.ensures.1
-    (after c.in_ok-names.ensures c.in_err-seek_each.ensures)
-    (λ s inventory both is. unmoved_since g.S.Store c.args.store.now c.load_names.new.store c.seek_each.new.store s
-    c.load_names.ensures.once.follows c.in_err-seek_each.field-0.0 (both.1 both.0.1 is))
+pub loop-name-init : goal.loop-name-init
+loop-name-init g c = answered (load_uses c.in_ok-names.ensures) (λ own none. absurd none)
+    (λ s inventory loaded is. (
+      (c.as_slice-name-items.ensures.value ∙ loaded.0, record { session = is; here = search rules }),
+      loaded.1,
+    ))
+
+pub loop-name-preserved : goal.loop-name-preserved
+loop-name-preserved g c = answered (after c.loop-name.invariant c.in_ok-seek.ensures.uses) (λ own none. absurd none)
+    (λ s inventory both is.
+    let before = both.0 is in
+    let found = both.1 before.1 before.0.1.session in (
+      (
+        before.0.0,
+        sought_more s c.loop-name.self c.seek.new.self c.as_slice-name-items.result.now c.loop-name.name-index
+            c.name-item.result c.in_ok-seek.field-0 c.loop-name-test.true c.name-item.is
+            c.in_ok-seek.ensures.stay before.0.1 found.0,
+      ),
+      found.1,
+    ))
+
+pub returns-in_err-seek : goal.returns-in_err-seek
+returns-in_err-seek g c = handed_on c.from_residual-in_err-seek.ensures.1
+    (after c.loop-name.invariant c.in_err-seek.ensures.uses) (λ s inventory both is.
+    let before = both.0 is in
+    unmoved_since g.S.Store c.args.store.now c.loop-name.store c.seek.new.store s c.loop-name.invariant.once.follows
+    c.in_err-seek.field-0.0 (both.1 before.1 before.0.1.session))
 
 pub returns : goal.returns
-returns g c = answered (after c.in_ok-names.ensures c.in_ok-seek_each.ensures) (λ own none. absurd none) (λ s inventory both is.
-    let sought = both.1 both.0.1 is in (
-      all_zones s c.seek_each.new.self c.as_slice.result.now inventory (c.as_slice.ensures.value ∙ both.0.0) sought.0,
-      sought.1,
+returns g c = answered c.loop-name.invariant (λ own none. absurd none) (λ s inventory found is.
+    let names = c.as_slice-name-items.result.now in
+    let had = found is in (
+      all_zones s c.loop-name.self names inventory had.0.0
+          (subst (AreSought s c.loop-name.self) (take_all c.loop-name.name-index names (omega arith)) had.0.1),
+      had.1,
     ))

@@ -1,13 +1,18 @@
-use Rattle.std.proofs.Common.{◌∙◌, refl, sym, ap}
+use Rattle.std.proofs.Common.{◌≡◌, ◌∙◌, ap, map, refl, rules, subst, sym}
+use Rattle.std.proofs.lemmas.Result.{IfOk-weaker}
 use Rattle.terms.specs.Types.{Receive}
 use Rattle.machine.specs.Machine.{Perform}
+use Rattle.mcs.specs.Files.{items}
 use Rattle.mcs.specs.HoldItems.{items as hold_items}
-use Rattle.smpe_session.proofs.Leading.{led, refused, led_session}
-use Rattle.smpe_session.proofs.Places.{receive_at}
-use Rattle.smpe_session.proofs.Received.{each_external, received_here, take_faulty}
-use Rattle.smpe_session.proofs.Stepping.{stopped}
-use Rattle.smpe_session.proofs.Using.{nothing, answered, handed, no_answer, ran_short}
+use Rattle.report.specs.Views.{line_view}
+use Rattle.store.specs.declared.change.Change.TheVariants as Change
+use Rattle.smpe_zones.specs.Own.{IsReceived}
 use Rattle.smpe_session.specs.Writing.{TellsRun}
+use Rattle.smpe_session.proofs.Leading.{led, refused, stated_in}
+use Rattle.smpe_session.proofs.Places.{receive_at}
+use Rattle.smpe_session.proofs.Received.{each_external, received, received_here, take_faulty}
+use Rattle.smpe_session.proofs.Stepping.{stopped}
+use Rattle.smpe_session.proofs.Using.{nothing, answered, ran_short, weaker}
 use Rattle.smpe_session.proofs.session.Session.receive.Goals as goal
 
 pub returns-in-Some : goal.returns-in-Some
@@ -19,41 +24,9 @@ returns-in-Some g c = answered nothing (λ own none. absurd none) (λ s inventor
   keeps,
 ))
 
-pub take_items-requires : goal.take_items-requires
-take_items-requires g c = each_external c.args.what.now.holddata c.args.files.now.holds
-    (hold_items c.in-Ok.found.holds.items) (rw c.in-Ok.is at c.in_ok-found.ensures).1
-
 pub returns-in_err-found : goal.returns-in_err-found
 returns-in_err-found g c = ran_short c.from_residual.ensures.1 nothing (λ s inventory keeps is date.
     stopped g.S.Store c.args.store.now s (Perform date c.args.files.now (Receive c.args.what.now)) keeps)
-
-pub returns-in_err-lines-in-Ok : goal.returns-in_err-lines-in-Ok
-returns-in_err-lines-in-Ok g c = handed c.from_residual-in_err-lines-in-Ok.ensures.1 c.in_err-lines-in-Ok.ensures
-    (λ change own. (
-      own,
-      no_answer c.from_residual-in_err-lines-in-Ok.result _ (TellsRun change)
-          c.from_residual-in_err-lines-in-Ok.ensures.1,
-    ))
-    (λ s inventory stays is date.
-    let found = rw c.in-Ok.is at c.in_ok-found.ensures in
-    stays (sym is.global) date c.args.files.now c.args.what.now
-    (sym (c.in_default.ensures.refused s (sym is.boundary) ∙ receive_at s c.args.what.now))
-    (sym (ap (λ w. w.source) c.what.view_is)) found.0 found.1)
-
-pub returns-in_ok-lines-in-Ok : goal.returns-in_ok-lines-in-Ok
-returns-in_ok-lines-in-Ok g c = answered c.in_ok-lines-in-Ok.ensures
-    (λ change own. (own, received_here change _ own (c.in_default.ensures.global refl)))
-    (λ s inventory runs is date.
-    let found = rw c.in-Ok.is at c.in_ok-found.ensures in
-    let ran = runs (sym is.global) date c.args.files.now c.args.what.now
-    (sym (c.in_default.ensures.refused s (sym is.boundary) ∙ receive_at s c.args.what.now))
-    (sym (ap (λ w. w.source) c.what.view_is)) found.0 found.1 in (
-      ran.0,
-      led date c.args.files.now (Receive c.args.what.now) s ran.0 c.take_items.new.global c.args.self.now.boundary _
-          is.boundary ran.1,
-      led_session s ran.0 c.args.self.now _ is ran.1.state refl refl,
-      ran.2,
-    ))
 
 pub returns-in-Err : goal.returns-in-Err
 returns-in-Err g c = answered nothing (λ own none. absurd none) (λ s inventory keeps is date. (
@@ -64,3 +37,44 @@ returns-in-Err g c = answered nothing (λ own none. absurd none) (λ s inventory
   is,
   keeps,
 ))
+
+pub take_found-requires : goal.take_found-requires
+take_found-requires g c = each_external c.args.what.now.holddata c.args.files.now.holds
+    (hold_items c.in-Ok.found.holds.items) (rw c.in-Ok.is at c.in_ok-found.ensures).1
+
+pub returns-in_err-edits : goal.returns-in_err-edits
+returns-in_err-edits g c = ran_short c.from_residual-in_err-edits.ensures.1 nothing (λ s inventory keeps is date.
+    stopped g.S.Store c.args.store.now s (Perform date c.args.files.now (Receive c.args.what.now)) keeps)
+
+pub returns-in_err-lines : goal.returns-in_err-lines
+returns-in_err-lines g c = ran_short c.from_residual-in_err-lines.ensures.1 nothing (λ s inventory keeps is date.
+    stopped g.S.Store c.args.store.now s (Perform date c.args.files.now (Receive c.args.what.now)) keeps)
+
+pub returns : goal.returns
+returns g c =
+    let stays : c.match-this.self ≡ record c.args.self.now { global = c.take_found.new.global } = search rules in
+    rw stays (weaker c.commit_change.ensures.uses
+    (λ change is.
+    let own = subst IsReceived (sym is) c.in_ok-edits.ensures.taken.receives in (
+      own,
+      IfOk-weaker c.commit_change.result _ (TellsRun change) (λ told same. subst (TellsRun change) (sym same)
+          (received_here change _ own (c.in_default.ensures.global refl))) c.commit_change.ensures.answer,
+    ))
+    (λ s inventory ended is date.
+    let files = c.args.files.now in
+    let what = c.args.what.now in
+    let at = c.args.self.now in
+    let new = c.take_found.new.global in
+    let found = rw c.in-Ok.is at c.in_ok-found.ensures in
+    let taken = c.in_ok-edits.field-0 in
+    let lines = map line_view c.in_ok-lines.lines.items in
+    let leads = received date files what s at.global new c.what.inside.source (items c.in-Ok.found.items.items)
+    (hold_items c.in-Ok.found.holds.items) taken.edits.items (map line_view taken.lines.items) lines (sym is.global)
+    inventory (sym (c.in_default.ensures.refused s (sym is.boundary) ∙ receive_at s what))
+    (sym (ap (λ w. w.source) c.what.view_is)) c.take_found.ensures.form found.0 found.1 c.in_ok-edits.ensures.taken
+    c.in_ok-lines.ensures in
+    led g.S.Store c.args.store.now c.commit_change.new.store date files (Receive what) s at.boundary at
+    (record at { global = new }) taken.edits.items lines _ is.boundary is refl refl leads
+    (Change.Global (stated_in c.commit_change.ensures.uses) taken.edits) c.in_ok-edits.ensures.taken.receives
+    (leads.fits, leads.makes) c.commit_change.result
+    (ended (record s { global = new }) (leads.fits, leads.makes) leads.inventory) refl))

@@ -1,14 +1,18 @@
-use Rattle.std.proofs.Common.{◌∙◌, refl, sym}
+use Rattle.std.proofs.Common.{◌≡◌, ◌∙◌, map, refl, rules, subst, sym}
+use Rattle.std.proofs.lemmas.Result.{IfOk-weaker}
 use Rattle.terms.specs.Types.{Reject}
 use Rattle.machine.specs.Machine.{Perform}
+use Rattle.report.specs.Views.{line_view}
+use Rattle.store.specs.declared.change.Change.TheVariants as Change
+use Rattle.smpe_zones.specs.Own.{IsRejected}
 use Rattle.smpe_zones.proofs.Keeping.{act_unmoved}
-use Rattle.smpe_session.proofs.AllZones.{alike}
-use Rattle.smpe_session.proofs.Leading.{led, refused, led_session}
-use Rattle.smpe_session.proofs.Rejected.{rejected_here}
-use Rattle.smpe_session.proofs.Places.{reject_at}
-use Rattle.smpe_session.proofs.Stepping.{act_since}
-use Rattle.smpe_session.proofs.Using.{nothing, after, answered, handed, handed_on, no_answer}
 use Rattle.smpe_session.specs.Writing.{TellsRun}
+use Rattle.smpe_session.proofs.AllZones.{alike}
+use Rattle.smpe_session.proofs.Leading.{led, refused, stated_in}
+use Rattle.smpe_session.proofs.Rejected.{rejected, rejected_here}
+use Rattle.smpe_session.proofs.Places.{reject_at}
+use Rattle.smpe_session.proofs.Stepping.{performs_since, stopped}
+use Rattle.smpe_session.proofs.Using.{nothing, after, answered, handed_on, ran_short, weaker}
 use Rattle.smpe_session.proofs.session.Session.reject.Goals as goal
 
 pub returns-in-Some : goal.returns-in-Some
@@ -25,32 +29,36 @@ returns-in_err-load_zones g c = handed_on c.from_residual.ensures.1 c.in_err-loa
     (λ s inventory un is date files. act_unmoved g.S.Store c.args.store.now c.load_zones.new.store s
     (Perform date files (Reject c.args.ids.now)) c.in_err-load_zones.field-0.0 (un is))
 
-pub returns-in_err-lines : goal.returns-in_err-lines
-returns-in_err-lines g c = handed c.from_residual-in_err-lines.ensures.1
-    (after c.in_ok-load_zones.ensures c.in_err-lines.ensures.uses)
-    (λ change own. (
-      own,
-      no_answer c.from_residual-in_err-lines.result _ (TellsRun change) c.from_residual-in_err-lines.ensures.1,
-    ))
-    (λ s inventory both is date files.
-    let had = both.0 is in
-    act_since g.S.Store c.args.store.now c.load_zones.new.store c.reject_ids.new.store s
-    c.load_zones.ensures.once.follows (Perform date files (Reject c.args.ids.now)) c.in_err-lines.field-0.0
-    (both.1 had.1 (sym had.0.session.global)
-    (alike s c.load_zones.new.self inventory c.reject_ids.ensures.names had.0) date files
-    (sym (c.in_default.ensures.refused s (sym is.boundary) ∙ reject_at s c.args.ids.now))))
+pub returns-in_err-edits : goal.returns-in_err-edits
+returns-in_err-edits g c = ran_short c.from_residual-in_err-edits.ensures.1 c.in_ok-load_zones.ensures
+    (λ s inventory had is date files. stopped g.S.Store c.load_zones.new.store s
+    (Perform date files (Reject c.args.ids.now)) (had is).1)
 
 pub returns : goal.returns
-returns g c = answered (after c.in_ok-load_zones.ensures c.in_ok-lines.ensures.uses)
-    (λ change own. (own, rejected_here change _ own (c.in_default.ensures.global refl)))
+returns g c =
+    let stays : c.match-this.self ≡ record c.load_zones.new.self { global = c.reject.new.global } = search rules in
+    rw stays (weaker (after c.in_ok-load_zones.ensures c.commit_change.ensures.uses)
+    (λ change is.
+    let own = subst IsRejected (sym is) c.in_ok-edits.ensures.rejects in (
+      own,
+      IfOk-weaker c.commit_change.result _ (TellsRun change) (λ told same. subst (TellsRun change) (sym same)
+          (rejected_here change _ own (c.in_default.ensures.global refl))) c.commit_change.ensures.answer,
+    ))
     (λ s inventory both is date files.
     let had = both.0 is in
-    let ran = both.1 had.1 (sym had.0.session.global)
-    (alike s c.load_zones.new.self inventory c.reject_ids.ensures.names had.0) date files
-    (sym (c.in_default.ensures.refused s (sym is.boundary) ∙ reject_at s c.args.ids.now)) in (
-      ran.0,
-      led date files (Reject c.args.ids.now) s ran.0 c.reject_ids.new.global c.args.self.now.boundary _ is.boundary
-          ran.1,
-      led_session s ran.0 c.load_zones.new.self _ had.0.session ran.1.state refl refl,
-      ran.2,
-    ))
+    let at = c.load_zones.new.self in
+    let new = c.reject.new.global in
+    let rejects = c.in_ok-edits.field-0 in
+    let lines = map line_view rejects.lines.items in
+    let leads = rejected date files c.args.ids.now s at.global new rejects.edits.items lines
+    (sym had.0.session.global) inventory
+    (sym (c.in_default.ensures.refused s (sym is.boundary) ∙ reject_at s c.args.ids.now))
+    (c.in_ok-edits.ensures.runs s.zones (alike s at inventory c.reject.ensures.names had.0))
+    (c.in_ok-edits.ensures.fits new) (c.in_ok-edits.ensures.edits new) in
+    performs_since g.S.Store c.args.store.now c.load_zones.new.store c.commit_change.new.store s
+    c.load_zones.ensures.once.follows _ date files (Reject c.args.ids.now) c.commit_change.result
+    (led g.S.Store c.load_zones.new.store c.commit_change.new.store date files (Reject c.args.ids.now) s
+    c.args.self.now.boundary at (record at { global = new }) rejects.edits.items lines _ is.boundary had.0.session refl
+    refl leads (Change.Global (stated_in c.commit_change.ensures.uses) rejects.edits) c.in_ok-edits.ensures.rejects
+    (leads.fits, leads.makes) c.commit_change.result
+    (both.1 had.1 (record s { global = new }) (leads.fits, leads.makes) leads.inventory) refl)))

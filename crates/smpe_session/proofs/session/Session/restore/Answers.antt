@@ -1,4 +1,4 @@
-use Rattle.std.proofs.Common.{◌∙◌, map}
+use Rattle.std.proofs.Common.{◌∙◌, map, sym}
 use Rattle.terms.specs.Types.{Restore}
 use Rattle.fields.specs.Choices.{restore_list_of}
 use Rattle.machine.specs.Machine.{Perform}
@@ -6,7 +6,7 @@ use Rattle.report.specs.Views.{line_view, refusal_view}
 use Rattle.smpe_zones.proofs.Keeping.{act_unmoved}
 use Rattle.smpe_session.proofs.Leading.{refused}
 use Rattle.smpe_session.proofs.Places.{restore_at}
-use Rattle.smpe_session.proofs.Restored.{restore_changes}
+use Rattle.smpe_session.proofs.Restored.{beside, not_none, restore_changes}
 use Rattle.smpe_session.proofs.Stepping.{performs_since, stopped}
 use Rattle.smpe_session.proofs.Using.{after, answered, handed_on, ran_short, weaker}
 use Rattle.smpe_session.proofs.session.Session.restore.Goals as goal
@@ -17,31 +17,6 @@ returns-in_err-accepted g c = handed_on c.from_residual.ensures.1 c.in_err-accep
     act_unmoved g.S.Store c.args.store.now c.seek_accepted.new.store s
     (Perform date files (Restore (restore_list_of c.args.list.now) c.args.check)) c.in_err-accepted.field-0.0 (un is))
 
-pub returns-in_err-delta-in-Ok : goal.returns-in_err-delta-in-Ok
-returns-in_err-delta-in-Ok g c = ran_short c.from_residual-in_err-delta-in-Ok.ensures.1 c.in_ok-accepted.ensures
-    (λ s inventory sought is date files. stopped g.S.Store c.seek_accepted.new.store s
-    (Perform date files (Restore (restore_list_of c.args.list.now) c.args.check)) (sought is).1)
-
-pub carry_out-requires : goal.carry_out-requires
-carry_out-requires g c = c.in-Ok.ensures.named
-
-pub returns-in_ok-delta-in-Ok : goal.returns-in_ok-delta-in-Ok
-returns-in_ok-delta-in-Ok g c = weaker (after c.in_ok-accepted.ensures c.carry_out.ensures) (λ change own. own)
-    (λ s inventory both is date files.
-    let at = c.seek_accepted.new.self in
-    let what = restore_list_of c.args.list.now in
-    let command = Restore what c.args.check in
-    let target = c.in-Ok.target in
-    let p = c.in_ok-delta-in-Ok.field-0 in
-    let sought = both.0 is in
-    let there = c.in-Ok.ensures.has s sought.0 inventory in
-    let changes = restore_changes s at target.name target.zone.now target.accepted.now what p.delta
-    (map line_view p.lines.items) sought.0.session there c.in_ok-delta-in-Ok.ensures date files c.args.check
-    at.boundary sought.0.session.boundary in
-    performs_since g.S.Store c.args.store.now c.seek_accepted.new.store c.carry_out.new.store s
-    c.seek_accepted.ensures.once.follows _ date files command c.carry_out.result
-    (both.1 sought.1 sought.0.session date files command changes))
-
 pub returns-in-Err : goal.returns-in-Err
 returns-in-Err g c = answered c.in_ok-accepted.ensures (λ own none. absurd none) (λ s inventory found is date files.
     let command = Restore (restore_list_of c.args.list.now) c.args.check in
@@ -49,7 +24,43 @@ returns-in-Err g c = answered c.in_ok-accepted.ensures (λ own none. absurd none
       s,
       refused date files command s c.seek_accepted.new.self.boundary (refusal_view c.in-Err.refusal)
           sought.0.session.boundary
-          (restore_at s (restore_list_of c.args.list.now) c.args.check ∙ c.in-Err.ensures.has s sought.0 inventory),
+          (restore_at s (restore_list_of c.args.list.now) c.args.check
+          ∙ c.in-Err.ensures.has s sought.0.session inventory),
       sought.0.session,
       sought.1,
     ))
+
+pub returns-in_default : goal.returns-in_default
+returns-in_default g c = answered c.in_ok-accepted.ensures (λ own none. absurd none)
+    (λ s inventory found is date files.
+    let has = (found is).0 in
+    absurd (not_none s inventory c.seek_accepted.new.self c.in_ok-accepted.accepted has c.in-Ok.place.name
+    c.in-Ok.place.zone.now (c.in-Ok.ensures.has s has.session inventory) (sym c.in_default.ensures)))
+
+pub returns-in_err-delta : goal.returns-in_err-delta
+returns-in_err-delta g c = ran_short c.from_residual-in_err-delta.ensures.1 c.in_ok-accepted.ensures
+    (λ s inventory sought is date files. stopped g.S.Store c.seek_accepted.new.store s
+    (Perform date files (Restore (restore_list_of c.args.list.now) c.args.check)) (sought is).1)
+
+pub carry_out-requires : goal.carry_out-requires
+carry_out-requires g c = c.in-Ok.ensures.named
+
+pub returns : goal.returns
+returns g c = weaker (after c.in_ok-accepted.ensures c.carry_out.ensures) (λ change own. own)
+    (λ s inventory both is date files.
+    let at = c.seek_accepted.new.self in
+    let what = restore_list_of c.args.list.now in
+    let command = Restore what c.args.check in
+    let place = c.in-Ok.place in
+    let accepted = c.in-Some.accepted.now in
+    let p = c.in_ok-delta.field-0 in
+    let sought = both.0 is in
+    let there = c.in-Ok.ensures.has s sought.0.session inventory in
+    let related = sym (beside s inventory at c.in_ok-accepted.accepted sought.0 place.name place.zone.now there)
+    ∙ sym c.in-Some.ensures in
+    let changes = restore_changes s at place.name place.zone.now accepted what p.delta (map line_view p.lines.items)
+    sought.0.session there related c.in_ok-delta.ensures date files c.args.check at.boundary
+    sought.0.session.boundary in
+    performs_since g.S.Store c.args.store.now c.seek_accepted.new.store c.carry_out.new.store s
+    c.seek_accepted.ensures.once.follows _ date files command c.carry_out.result
+    (both.1 sought.1 sought.0.session date files command changes))

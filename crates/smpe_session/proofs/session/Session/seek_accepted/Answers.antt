@@ -1,11 +1,11 @@
-use Rattle.std.proofs.Common.{◌∙◌, sym}
+use Rattle.std.proofs.Common.{rules}
 use Rattle.smpe_session.proofs.Restored.{accepted_none, accepted_some}
 use Rattle.smpe_session.proofs.Using.{nothing, answered, handed_on}
 use Rattle.smpe_session.proofs.session.Session.seek_accepted.Goals as goal
 
 pub returns-in_default : goal.returns-in_default
 returns-in_default g c = answered nothing (λ own none. absurd none) (λ s inventory keeps is. (
-  accepted_none s inventory c.args.self.now is (sym c.in_default.is ∙ c.related_name.ensures),
+  accepted_none s inventory c.args.self.now is (search rules),
   keeps,
 ))
 
@@ -15,6 +15,6 @@ returns-in_err-seek g c = handed_on c.from_residual.ensures.1 c.in_err-seek.ensu
 pub returns : goal.returns
 returns g c = answered c.in_ok-seek.ensures.uses (λ own none. absurd none) (λ s inventory sought is. (
   accepted_some s inventory c.args.self.now c.seek.new.self c.in-Some.accepted c.in_ok-seek.field-0 is
-      (sym c.in-Some.is ∙ c.related_name.ensures) (sought is).0,
+      (search rules) (sought is).0,
   (sought is).1,
 ))

@@ -1,4 +1,4 @@
-//! What an APPLY, ACCEPT or RESTORE comes to, and how it is carried out.
+//! How an APPLY, ACCEPT or RESTORE is carried out.
 ghost use Rattle.std.specs.Prelude.{◌≡◌, false, IfOk, Some, map};
 ghost use Rattle.terms.specs.Types.{Text, Command};
 ghost use Rattle.machine.specs.Machine.{Files};
@@ -10,7 +10,7 @@ ghost use Rattle.smpe_session.specs.Uses.{UsesStore};
 ghost use Rattle.smpe_session.specs.Writing.{TellsRun};
 ghost use Rattle.smpe_zones.specs.Own.{IsOfZone};
 
-use crate::load::commit_change;
+use crate::commit::commit_change;
 use crate::session::Session;
 use fields::{Attest, ZoneName};
 use report::{Header, Line, Outcome, Refusal};
@@ -18,13 +18,6 @@ use sqlite::Alter;
 use std::alloc::Global;
 use store::{Change, Store, StoreError};
 use zones::ZoneDelta;
-
-/// The change of a zone, and the lines.
-#[derive(Drop)]
-pub(crate) struct Planned {
-    pub delta: ZoneDelta,
-    pub lines: Vec<Line>,
-}
 
 impl Session {
     /// The header names the zone. Under CHECK nothing changes. Else its change is made ready and committed, and then
@@ -36,17 +29,17 @@ impl Session {
         store: &mut Store<S>,
         header: Header,
         name: ZoneName,
-        planned: Planned,
+        delta: ZoneDelta,
+        lines: Vec<Line>,
     ) -> Result<Outcome<'static>, StoreError>
         requires { header.boundary ≡ Some name }
         ensures { UsesStore S.Store store.old store.new
             (λ own. IsOfZone own × (header.check ≡ false) × IfOk result (TellsRun own))
             (λ s ended. IsSessionOf s self.old → (date : Text) (files : Files) (c : Command)
-            → ChangesZone date files c s self.old name planned.delta header.check
-            (Ran (header_view header) (map line_view planned.lines.items))
+            → ChangesZone date files c s self.old name delta header.check
+            (Ran (header_view header) (map line_view lines.items))
             → HasPerformed S.Store store.old store.new s self.new date files c ended) result }
     {
-        let Planned { delta, lines } = planned;
         delta.attest();
         if header.check {
             return Ok(Outcome::Ran { header, lines });

@@ -1,6 +1,6 @@
 use Rattle.std.proofs.Common.{refl}
 use Rattle.smpe_session.proofs.Using.{answered, commit_uses, handed}
-use Rattle.smpe_session.proofs.load.commit_change.Goals as goal
+use Rattle.smpe_session.proofs.commit.commit_change.Goals as goal
 
 pub returns-in_err-commit-clause-uses : goal.returns-in_err-commit-clause-uses
 returns-in_err-commit-clause-uses g c =

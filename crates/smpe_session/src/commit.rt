@@ -1,0 +1,26 @@
+//! The commit of a change, as a step between states.
+ghost use Rattle.std.specs.Prelude.{◌≡◌, IfOk};
+ghost use Rattle.machine.specs.State.{State};
+ghost use Rattle.store_schema.specs.Inventory.{IsInventory};
+ghost use Rattle.store.specs.Changes.{Makes};
+ghost use Rattle.smpe_zones.specs.Kept.{kept};
+ghost use Rattle.smpe_zones.specs.Ends.{HasCommitted};
+ghost use Rattle.smpe_session.specs.Uses.{UsesStore};
+
+use sqlite::Alter;
+use store::{Change, Store, StoreError};
+
+/// Commits what leads from one state to another, and hands this answer back once that is done.
+pub(crate) fn commit_change<S: Alter, T: Drop>(
+    store: &mut Store<S>,
+    change: &Change<'_>,
+    answer: T,
+) -> Result<T, StoreError>
+    ensures answer { IfOk result (λ given. given ≡ answer) }
+    ensures uses { UsesStore S.Store store.old store.new (λ own. own ≡ change.now)
+        (λ s ended. (t : State) → Makes change.now (kept s) (kept t) → IsInventory (kept t)
+        → HasCommitted S.Store store.old store.new s t change.now answer ended) result }
+{
+    store.commit(change)?;
+    Ok(answer)
+}
