@@ -2,7 +2,7 @@ use Rattle.std.proofs.Common.{[], ◌∷◌, Some, option_map, sym, subst}
 use Rattle.std.specs.String.{string_bytes}
 use Rattle.smpe_zones.specs.Definitions.{definition}
 use Rattle.smpe_command.specs.Serving.{Serves, ServesCheck, ServesList, ServesMigrate, ServesRun, ServesWhy}
-use Rattle.smpe_command.specs.Serving.{ServesZone}
+use Rattle.smpe_command.specs.Serving.{ServesZone, job_told}
 use Rattle.smpe_command.proofs.jobs.served.Goals as goal
 
 pub returns-in-Zone : goal.returns-in-Zone
@@ -33,10 +33,12 @@ returns-in-Run g c =
 pub returns-in-List : goal.returns-in-List
 returns-in-List g c =
     let w = c.in-List in
-    subst (λ asked. Serves g.H.Host g.H.Disk.Store g.O.Sink c.args.host.now asked c.args.out.now c.list.result
+    subst (λ asked. Serves g.H.Host g.H.Disk.Store g.O.Sink c.args.host.now asked c.args.out.now c.told-in-List.result
     c.list.new.host c.list.new.out) (sym w.is)
-    (subst (λ db. ServesList g.H.Host g.H.Disk.Store g.O.Sink c.args.host.now db c.args.out.now w.zone c.list.result
-    c.list.new.host c.list.new.out) c.as_str-in-List.ensures.value c.list.ensures)
+    (subst (λ r. ServesList g.H.Host g.H.Disk.Store g.O.Sink c.args.host.now (string_bytes w.db) c.args.out.now w.zone r
+    c.list.new.host c.list.new.out) (sym c.told-in-List.ensures)
+    (subst (λ db. ServesList g.H.Host g.H.Disk.Store g.O.Sink c.args.host.now db c.args.out.now w.zone
+    (job_told c.list.result) c.list.new.host c.list.new.out) c.as_str-in-List.ensures.value c.list.ensures))
 
 pub returns-in-Why : goal.returns-in-Why
 returns-in-Why g c =

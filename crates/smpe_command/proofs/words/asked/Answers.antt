@@ -13,28 +13,29 @@ returns-in_err-asked-clause-err c =
     let words = map (λ word. word.items) c.args.words.now in
     let fault = c.in_err-asked.field-0.0 in
     let failed = err_from_is_err_and c.from_residual-in_err-asked.result c.from_residual-in_err-asked.ensures.1 in
+    let texts = ap (map (λ view. view.now)) c.as_slice-2.ensures.value ∙ c.in_ok-views.ensures
+    ∙ ap (map string_bytes) c.as_slice.ensures.value ∙ c.in_ok-texts.ensures in
     subst (λ r. IfErr r (IsUnasked words)) (sym (failed.1 ∙ ap (λ e. Err e) failed.2))
-    (unasked_refused words fault
-    (subst (λ texts. IsRefused texts fault) (ap (map string_bytes) c.as_slice.ensures.value ∙ c.in_ok-texts.ensures)
-    c.in_err-asked.ensures.err))
+    (unasked_refused words fault (subst (λ texts. IsRefused texts fault) texts c.in_err-asked.ensures.err))
 
 pub returns-then-are_text-clause-ok : goal.returns-then-are_text-clause-ok
 returns-then-are_text-clause-ok c =
     let words = map (λ word. word.items) c.args.words.now in
+    let texts = ap (map (λ view. view.now)) c.as_slice-2.ensures.value ∙ c.in_ok-views.ensures
+    ∙ ap (map string_bytes) c.as_slice.ensures.value ∙ c.in_ok-texts.ensures in
     let text : AreText words =
     All-map IsUtf8 (λ word. word.items) c.args.words.now (c.are_text.ensures.0 c.if-are_text.true) in (
       text,
-      subst (λ texts. IsRead texts c.in_ok-asked.asked)
-          (ap (map string_bytes) c.as_slice.ensures.value ∙ c.in_ok-texts.ensures ∙ shown_text words text)
-          c.in_ok-asked.ensures.ok,
+      subst (λ texts. IsRead texts c.in_ok-asked.asked) (texts ∙ shown_text words text) c.in_ok-asked.ensures.ok,
     )
 
 pub returns-clause-err : goal.returns-clause-err
-returns-clause-err c = inr (
-  (λ text. let is = c.are_text.ensures.1 (text_each (λ word. word.items) c.args.words.now text) in search rules),
-  (
-    c.in_ok-asked.asked,
-    subst (λ texts. IsRead texts c.in_ok-asked.asked)
-        (ap (map string_bytes) c.as_slice.ensures.value ∙ c.in_ok-texts.ensures) c.in_ok-asked.ensures.ok,
-  ),
-)
+returns-clause-err c =
+    let texts = ap (map (λ view. view.now)) c.as_slice-2.ensures.value ∙ c.in_ok-views.ensures
+    ∙ ap (map string_bytes) c.as_slice.ensures.value ∙ c.in_ok-texts.ensures in
+    inr (
+      (λ text.
+          let is = c.are_text.ensures.1 (text_each (λ word. word.items) c.args.words.now text) in
+          search rules),
+      (c.in_ok-asked.asked, subst (λ texts. IsRead texts c.in_ok-asked.asked) texts c.in_ok-asked.ensures.ok),
+    )
