@@ -38,7 +38,7 @@ pub(crate) fn served<'a, H: Host, O: Sink>(
             kind,
             srel,
             related,
-        } => told(zone(alloc, host, db.as_str(), *name, *kind, *srel, *related, out)),
+        } => job_told(zone(alloc, host, db.as_str(), *name, *kind, *srel, *related, out)),
         Invocation::Run {
             db,
             date,
@@ -55,9 +55,9 @@ pub(crate) fn served<'a, H: Host, O: Sink>(
             hold,
             out,
         ),
-        Invocation::List { db, zone } => told(list(alloc, host, db.as_str(), *zone, out)),
+        Invocation::List { db, zone } => job_told(list(alloc, host, db.as_str(), *zone, out)),
         Invocation::Why { db, zone, ids } => {
-            told(why(alloc, host, db.as_str(), *zone, ids.as_slice(), out))
+            job_told(why(alloc, host, db.as_str(), *zone, ids.as_slice(), out))
         }
         Invocation::Check {
             srel,
@@ -65,11 +65,11 @@ pub(crate) fn served<'a, H: Host, O: Sink>(
             hold,
             commands,
         } => check(alloc, host, *srel, ptfin.as_str(), hold, commands, out),
-        Invocation::Migrate { db } => told(migrate(alloc, host, db.as_str(), out)),
+        Invocation::Migrate { db } => job_told(migrate(alloc, host, db.as_str(), out)),
     }
 }
 
-fn told<'a>(code: Result<u8, JobError>) -> Result<u8, Fault<'a>>
+fn job_told<'a>(code: Result<u8, JobError>) -> Result<u8, Fault<'a>>
     ensures { result ≡ job_told code }
 {
     Ok(code?)
@@ -114,7 +114,7 @@ fn run<'a, H: Host, O: Sink>(
         out.new }
 {
     let files = read_files(alloc, host, Some(cntl), ptfin.as_deref(), hold.as_deref())?;
-    told(run_files(alloc, host, db, date, &files, out))
+    job_told(run_files(alloc, host, db, date, &files, out))
 }
 
 fn list<H: Host, O: Sink>(

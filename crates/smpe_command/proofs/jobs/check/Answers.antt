@@ -1,4 +1,5 @@
-use Rattle.std.proofs.Common.{◌≡◌, ◌∙◌, [], ◌∷◌, List, Option, Some, Ok, Err, map, option_map, ap, ap₂, inl, inr, refl, subst, rules}
+use Rattle.std.proofs.Common.{◌≡◌, ◌∙◌, [], ◌∷◌, List, Option, Some, Ok, Err, map, option_map, ap, ap₂, inl, inr}
+use Rattle.std.proofs.Common.{refl, subst, rules}
 use Rattle.std.specs.Prelude.{option_copied}
 use Rattle.std.specs.String.{string_bytes}
 use Rattle.std.proofs.lemmas.Result.{err_from_is_err_and}

@@ -1,4 +1,5 @@
-use Rattle.std.proofs.Common.{◌≡◌, ◌∙◌, ◌∷◌, [], List, map, Some, None, codes, inl, inr, ap, sym, refl, subst, rules}
+use Rattle.std.proofs.Common.{◌≡◌, ◌∙◌, ◌∷◌, [], List, map, Some, None, codes, inl, inr, ap, sym, refl, subst}
+use Rattle.std.proofs.Common.{rules}
 use Rattle.sqlite.proofs.Callers.{memory_is_clean}
 use Rattle.sqlite.specs.Effect.{Database}
 use Rattle.terms.specs.Types.{Text}
