@@ -33,8 +33,8 @@ returns-in-Run g c =
 pub returns-in-List : goal.returns-in-List
 returns-in-List g c =
     let w = c.in-List in
-    subst (λ asked. Serves g.H.Host g.H.Disk.Store g.O.Sink c.args.host.now asked c.args.out.now c.job_told-in-List.result
-    c.list.new.host c.list.new.out) (sym w.is)
+    subst (λ asked. Serves g.H.Host g.H.Disk.Store g.O.Sink c.args.host.now asked c.args.out.now
+    c.job_told-in-List.result c.list.new.host c.list.new.out) (sym w.is)
     (subst (λ r. ServesList g.H.Host g.H.Disk.Store g.O.Sink c.args.host.now (string_bytes w.db) c.args.out.now w.zone r
     c.list.new.host c.list.new.out) (sym c.job_told-in-List.ensures)
     (subst (λ db. ServesList g.H.Host g.H.Disk.Store g.O.Sink c.args.host.now db c.args.out.now w.zone
@@ -43,8 +43,8 @@ returns-in-List g c =
 pub returns-in-Why : goal.returns-in-Why
 returns-in-Why g c =
     let w = c.in-Why in
-    subst (λ asked. Serves g.H.Host g.H.Disk.Store g.O.Sink c.args.host.now asked c.args.out.now c.job_told-in-Why.result
-    c.why.new.host c.why.new.out) (sym w.is) (
+    subst (λ asked. Serves g.H.Host g.H.Disk.Store g.O.Sink c.args.host.now asked c.args.out.now
+    c.job_told-in-Why.result c.why.new.host c.why.new.out) (sym w.is) (
       c.why.result,
       subst (λ db. ServesWhy g.H.Host g.H.Disk.Store g.O.Sink c.args.host.now db c.args.out.now w.zone w.ids.items
           c.why.result c.why.new.host c.why.new.out) c.as_str-in-Why.ensures.value
