@@ -2,7 +2,7 @@
 ghost use Rattle.std.specs.Prelude.{◌≡◌, map, IfOk, IfErr};
 ghost use Rattle.smpe_invocation.specs.declared.fault.ArgFault.TheVariants.{Memory};
 ghost use Rattle.smpe.specs.declared.messages.Fault.TheVariants.{Arg};
-ghost use Rattle.smpe_command.specs.Answering.{Answers, Prints, Shows, Tells, TellsWords, is_text};
+ghost use Rattle.smpe_command.specs.Answering.{Answers, Tells, TellsWords};
 
 use crate::host::Host;
 use crate::jobs::served;
@@ -26,22 +26,10 @@ pub fn command<H: Host, O: Sink, E: Sink>(
     ensures none { IfErr words.now (λ error. Tells H.Host E.Sink host.old err.old (Arg Memory) result host.new err.new
         × (out.new ≡ out.old)) }
 {
-    match words {
-        Ok(words) => answered(alloc, host, words.as_slice(), out, err),
-        Err(_) => told(host, &Fault::Arg(ArgFault::Memory), err),
-    }
-}
-
-fn answered<H: Host, O: Sink, E: Sink>(
-    alloc: Global,
-    host: &mut H,
-    words: &[Vec<u8>],
-    out: &mut O,
-    err: &mut E,
-) -> u8
-    ensures { Answers H.Host H.Disk.Store O.Sink E.Sink (map (λ word. word.items) words.now) host.old out.old err.old
-        result host.new out.new err.new }
-{
+    let words = match words {
+        Ok(words) => words.as_slice(),
+        Err(_) => return told(host, &Fault::Arg(ArgFault::Memory), err),
+    };
     match asked(alloc, words) {
         Ok(asked) => match served(alloc, host, &asked, out) {
             Ok(status) => status,
@@ -55,49 +43,21 @@ fn answered<H: Host, O: Sink, E: Sink>(
 fn unasked<H: Host, E: Sink>(host: &mut H, fault: ArgFault, err: &mut E) -> u8
     ensures { TellsWords H.Host E.Sink host.old err.old fault result host.new err.new }
 {
-    if is_text(&fault) {
-        print(host, &fault);
-        0
-    } else {
-        told(host, &Fault::Arg(fault), err)
-    }
-}
-
-fn is_text(fault: &ArgFault) -> bool
-    ensures { result ≡ is_text fault.now }
-{
-    match fault {
-        ArgFault::Clap(error) => {
-            matches!(
-                error.kind(),
-                ErrorKind::DisplayHelp | ErrorKind::DisplayVersion
-            )
+    if let ArgFault::Clap(error) = &fault {
+        if matches!(
+            error.kind(),
+            ErrorKind::DisplayHelp | ErrorKind::DisplayVersion
+        ) {
+            host.print(error);
+            return 0;
         }
-        ArgFault::Memory => false,
-        ArgFault::BadOperand => false,
     }
-}
-
-fn print<H: Host>(host: &mut H, fault: &ArgFault)
-    ensures { Prints H.Host host.old fault.now host.new }
-{
-    match fault {
-        ArgFault::Clap(error) => host.print(error),
-        ArgFault::Memory => {}
-        ArgFault::BadOperand => {}
-    }
+    told(host, &Fault::Arg(fault), err)
 }
 
 // Tells a fault on standard error, and answers its status, also where nothing can be written there.
 fn told<H: Host, E: Sink>(host: &mut H, fault: &Fault<'_>, err: &mut E) -> u8
     ensures { Tells H.Host E.Sink host.old err.old fault.now result host.new err.new }
-{
-    show(host, fault);
-    fault_line(fault, err).unwrap_or(FAULT_STATUS)
-}
-
-fn show<H: Host>(host: &mut H, fault: &Fault<'_>)
-    ensures { Shows H.Host host.old fault.now host.new }
 {
     match fault {
         Fault::Arg(ArgFault::Clap(error)) => host.show(error),
@@ -106,4 +66,5 @@ fn show<H: Host>(host: &mut H, fault: &Fault<'_>)
         Fault::Job(_) => {}
         Fault::CannotRead(_) => {}
     }
+    fault_line(fault, err).unwrap_or(FAULT_STATUS)
 }

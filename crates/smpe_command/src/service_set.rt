@@ -1,38 +1,50 @@
 //! What a service set would do in an empty system, which is kept in memory and gone behind the jobs.
-ghost use Rattle.std.specs.Prelude.{◌≡◌, map, max, false, IfOk};
+ghost use Rattle.std.specs.Prelude.{◌≡◌, map, false};
 ghost use Rattle.smpe.specs.Ending.{answer_of, job_of};
-ghost use Rattle.smpe_command.specs.ServiceSet.{JobsInMemory, JobsOverNew, apply_records, receive_records, set_jobs};
-ghost use Rattle.smpe_command.specs.Serving.{greatest};
+ghost use Rattle.smpe_command.specs.ServiceSet.{JobsInMemory, JobsOverNew, receive_records, set_jobs};
+ghost use Rattle.smpe_command.specs.Serving.{TriesSet, greatest};
 
 use crate::files::JobFiles;
 use fields::{Srel, YyDdd, ZoneName};
 use report::Sink;
-use smpe::{Answer, Job, JobError, run_jobs, status_of, two_commands};
+use smpe::{Answer, Commands, Job, JobError, run_jobs, status_of, two_commands};
 use sqlite::{Alter, Connection};
-use std::alloc::{AllocError, Global};
+use std::alloc::Global;
 use store::Store;
 use terms::ZoneKind;
 
-/// The commands that receive a service set.
-pub(crate) fn receive_commands(alloc: Global) -> Result<Vec<u8>, AllocError>
-    ensures { IfOk result (λ file. file.items ≡ receive_records) }
+/// Tries the set with its commands, or with those that apply all of it; answers how each of the jobs ended.
+pub(crate) fn tried<O: Sink>(
+    alloc: Global,
+    srel: Srel,
+    commands: &Option<Commands>,
+    files: &JobFiles,
+    out: &mut O,
+) -> Result<Vec<Answer>, JobError>
+    ensures { TriesSet O.Sink out.old srel commands.now files.now.cntl.items (record {
+      ptfin = files.now.ptfin.items;
+      holds = files.now.hold.items;
+    }) (λ v. map answer_of v.items) result out.new }
 {
-    two_commands(alloc, b"SET BDY(GLOBAL).", b"RECEIVE.")
+    let receive = two_commands(alloc, b"SET BDY(GLOBAL).", b"RECEIVE.")?;
+    let receive = receive.as_slice();
+    match commands {
+        Some(commands) => {
+            let cntl = files.cntl.as_slice();
+            tried_in_memory(alloc, srel, commands.date, receive, cntl, files, out)
+        }
+        None => {
+            let apply = b"APPLY FUNCTIONS PTFS GROUPEXTEND CHECK.";
+            let cntl = two_commands(alloc, b"SET BDY(TGT).", apply)?;
+            // Nothing that an APPLY with CHECK prints has the job's date.
+            let date = YyDdd::new(2000, 1);
+            tried_in_memory(alloc, srel, date, receive, cntl.as_slice(), files, out)
+        }
+    }
 }
 
-/// The commands that try to apply all of it.
-pub(crate) fn apply_commands(alloc: Global) -> Result<Vec<u8>, AllocError>
-    ensures { IfOk result (λ file. file.items ≡ apply_records) }
-{
-    two_commands(
-        alloc,
-        b"SET BDY(TGT).",
-        b"APPLY FUNCTIONS PTFS GROUPEXTEND CHECK.",
-    )
-}
-
-/// Defines the zones, receives the set and runs the commands; answers how each of the jobs ended.
-pub(crate) fn tried<'a, O: Sink>(
+// Defines the zones, receives the set and runs the commands in an empty system.
+fn tried_in_memory<'a, O: Sink>(
     alloc: Global,
     srel: Srel,
     date: YyDdd,
@@ -76,18 +88,8 @@ pub(crate) fn tried<'a, O: Sink>(
             hold,
         },
     ];
-    jobs_in_memory(alloc, &jobs, out)
-}
-
-fn jobs_in_memory<O: Sink>(
-    alloc: Global,
-    jobs: &[Job<'_>],
-    out: &mut O,
-) -> Result<Vec<Answer>, JobError>
-    ensures { JobsInMemory O.Sink (map job_of jobs.now) out.old (λ v. map answer_of v.items) result out.new }
-{
     let conn = Connection::open_in_memory(alloc)?;
-    jobs_over_new(alloc, conn, jobs, out)
+    jobs_over_new(alloc, conn, &jobs, out)
 }
 
 // Over a connection that is let go behind the jobs.
@@ -98,7 +100,8 @@ fn jobs_over_new<S: Alter + Drop, O: Sink>(
     out: &mut O,
 ) -> Result<Vec<Answer>, JobError>
     requires { conn.in_transaction ≡ false }
-    ensures { JobsOverNew S.Store O.Sink conn (map job_of jobs.now) out.old (λ v. map answer_of v.items) result out.new }
+    ensures { JobsOverNew S.Store O.Sink conn (map job_of jobs.now) out.old (λ v. map answer_of v.items) result
+        out.new }
 {
     match Store::open(alloc, conn) {
         Ok(mut store) => {
@@ -117,15 +120,9 @@ fn jobs_over_new<S: Alter + Drop, O: Sink>(
 pub(crate) fn greatest_status(answers: &[Answer]) -> u8
     ensures { result ≡ greatest (map answer_of answers.now) }
 {
-    let mut status = 0;
+    let mut status: u8 = 0;
     for answer in answers {
-        status = greater(status, status_of(answer));
+        status = status.max(status_of(answer));
     }
     status
-}
-
-fn greater(one: u8, other: u8) -> u8
-    ensures { result ≡ max one other }
-{
-    if one < other { other } else { one }
 }

@@ -14,31 +14,14 @@ pub(crate) fn asked(alloc: Global, words: &[Vec<u8>]) -> Result<Invocation, ArgF
     ensures err { IfErr result (IsUnasked (map (λ word. word.items) words.now)) }
 {
     let texts = texts(alloc, words)?;
-    let asked = read(alloc, texts.as_slice())?;
+    let views = views(alloc, texts.as_slice())?;
+    let asked = invocation(alloc, views.as_slice())?;
     if are_text(words) {
         Ok(asked)
     } else {
         drop(asked);
         Err(ArgFault::BadOperand)
     }
-}
-
-fn read(alloc: Global, texts: &[String]) -> Result<Invocation, ArgFault>
-    ensures ok { IfOk result (IsRead (map string_bytes texts.now)) }
-    ensures err { IfErr result (IsRefused (map string_bytes texts.now)) }
-{
-    let words = views(alloc, texts)?;
-    invocation(alloc, words.as_slice())
-}
-
-fn views<'a>(alloc: Global, texts: &'a [String]) -> Result<Vec<&'a str>, AllocError>
-    ensures { IfOk result (λ views. map (λ view. view.now) views.items ≡ map string_bytes texts.entry.now) }
-{
-    let mut views: Vec<&'a str> = Vec::new(alloc);
-    for text in texts {
-        views.push(text.as_str())?;
-    }
-    Ok(views)
 }
 
 fn texts(alloc: Global, words: &[Vec<u8>]) -> Result<Vec<String>, AllocError>
@@ -49,6 +32,16 @@ fn texts(alloc: Global, words: &[Vec<u8>]) -> Result<Vec<String>, AllocError>
         texts.push(String::from_utf8_lossy(alloc, word.as_slice())?)?;
     }
     Ok(texts)
+}
+
+fn views<'a>(alloc: Global, texts: &'a [String]) -> Result<Vec<&'a str>, AllocError>
+    ensures { IfOk result (λ views. map (λ view. view.now) views.items ≡ map string_bytes texts.entry.now) }
+{
+    let mut views: Vec<&'a str> = Vec::new(alloc);
+    for text in texts {
+        views.push(text.as_str())?;
+    }
+    Ok(views)
 }
 
 fn are_text(words: &[Vec<u8>]) -> bool

@@ -1,4 +1,4 @@
-use Rattle.std.proofs.Common.{inl, inr, subst, ◌∙◌, sym, ap, Err}
+use Rattle.std.proofs.Common.{inl, inr, subst, ◌∙◌, ap, Err}
 use Rattle.std.proofs.lemmas.Result.{err_from_is_err_and}
 use Rattle.store.proofs.Going.{loads_alone}
 use Rattle.smpe_zones.specs.Kept.{kept}

@@ -1,25 +1,63 @@
-use Rattle.std.proofs.Common.{◌∷◌, [], ◌∙◌, map, Ok, ap, sym, refl}
+use Rattle.std.proofs.Common.{◌∷◌, [], ◌∙◌, List, map, Ok, ap, inr, sym, subst, refl}
 use Rattle.std.proofs.lemmas.Result.{err_from_is_err_and}
+use Rattle.smpe_zones.specs.Kept.{kept}
 use Rattle.smpe.specs.Ending.{answer_of, job_of}
+use Rattle.smpe.specs.declared.jobs.Job.{Job}
+use Rattle.smpe.proofs.Early.{jobs_since}
+use Rattle.smpe_command.specs.Database.{JobsOver}
 use Rattle.smpe_command.proofs.OneJob.{over_as, alike_ok, alike_err, only_one}
+use Rattle.smpe_command.proofs.database.job_over.Given.{Over}
+use Rattle.smpe_command.proofs.database.job_over.Goals.{After-close-2}
 use Rattle.smpe_command.proofs.database.job_over.Goals as goal
+
+-- how the list of the one job went
+ran : (g : Over) (c : After-close-2 g) → JobsOver g.H.Host g.H.Disk.Store g.O.Sink c.args.host.now c.args.db.now
+    (job_of c.args.job.now ∷ []) c.args.out.now (λ v. map answer_of v.items) c.run_jobs-answers.result
+    c.close-2.new.self c.run_jobs-answers.new.w
+ran g c =
+    let it = c.in_ok-store.ensures.ok in
+    let went = c.run_jobs-answers.ensures in
+    let jobs = map job_of c.from_ref.result.now in
+    subst (λ (jobs : List Job). JobsOver g.H.Host g.H.Disk.Store g.O.Sink c.args.host.now c.args.db.now
+    (map job_of jobs) c.args.out.now (λ v. map answer_of v.items) c.run_jobs-answers.result c.close-2.new.self
+    c.run_jobs-answers.new.w) c.from_ref.ensures.value (inr (
+      record {
+        begun = c.in_ok-store.store;
+        opened = c.opened.new.host;
+        opens = it;
+        store = c.run_jobs-answers.new.store;
+        ends = λ clean s is.
+            jobs_since g.H.Disk.Store it.conn c.in_ok-store.store c.run_jobs-answers.new.store
+            (it.crash.counts, it.crash.limit) s jobs (g.O.Sink.taken c.args.out.now)
+            (g.O.Sink.taken c.run_jobs-answers.new.w) (λ v. map answer_of v.items) c.run_jobs-answers.result
+            (went.ended clean s (it.stands (kept s) is));
+        closed = λ clean s is closed. went.closed clean s (it.stands (kept s) is) closed;
+        goes = went.course;
+        closes = subst (λ conn. g.H.Host.closes c.opened.new.host conn c.close-2.new.self) c.close.ensures.same
+            c.close-2.ensures.closed;
+      },
+      went.fault,
+    ))
 
 pub returns-in_err-answers : goal.returns-in_err-answers
 returns-in_err-answers g c =
-    let p = err_from_is_err_and c.from_residual.result c.from_residual.ensures.1 in
+    let r = c.from_residual-in_err-answers in
+    let p = err_from_is_err_and r.result r.ensures.1 in
     over_as (λ v. map answer_of v.items) (λ answer. answer_of answer ∷ []) g.H.Disk.Store g.O.Sink
-    (map job_of c.args.jobs.now) c.args.out.now c.jobs_over.new.out g.H.Host c.args.host.now c.jobs_over.new.host
-    c.args.db.now c.jobs_over.result c.from_residual.result
-    (alike_err (λ v. map answer_of v.items) (λ answer. answer_of answer ∷ []) c.jobs_over.result
-    c.from_residual.result c.in_err-answers.field-0.0 p.0 c.in_err-answers.was p.1 (sym p.2)) c.jobs_over.ensures.over
+    (job_of c.args.job.now ∷ []) c.args.out.now c.run_jobs-answers.new.w g.H.Host c.args.host.now c.close-2.new.self
+    c.args.db.now c.run_jobs-answers.result r.result
+    (alike_err (λ v. map answer_of v.items) (λ answer. answer_of answer ∷ []) c.run_jobs-answers.result r.result
+    c.in_err-answers.field-0.0 p.0 c.in_err-answers.was p.1 (sym p.2))
+    (ran g (goal.at.returns-in_err-answers g c).After-close-2)
 
 pub returns : goal.returns
 returns g c =
-    let answers = c.in_ok-answers.answers in
+    let answers = c.in_ok-answers.field-0 in
     over_as (λ v. map answer_of v.items) (λ answer. answer_of answer ∷ []) g.H.Disk.Store g.O.Sink
-    (map job_of c.args.jobs.now) c.args.out.now c.jobs_over.new.out g.H.Host c.args.host.now c.jobs_over.new.host
-    c.args.db.now c.jobs_over.result (Ok c.index.result.now)
-    (alike_ok (λ v. map answer_of v.items) (λ answer. answer_of answer ∷ []) c.jobs_over.result
+    (job_of c.args.job.now ∷ []) c.args.out.now c.run_jobs-answers.new.w g.H.Host c.args.host.now c.close-2.new.self
+    c.args.db.now c.run_jobs-answers.result (Ok c.index.result.now)
+    (alike_ok (λ v. map answer_of v.items) (λ answer. answer_of answer ∷ []) c.run_jobs-answers.result
     (Ok c.index.result.now) answers c.index.result.now c.in_ok-answers.was refl
-    (ap (map answer_of) (only_one answers.items c.index.result.now (c.in_ok-answers.ensures.count ∙ c.requires)
-    c.index.ensures))) c.jobs_over.ensures.over
+    (ap (map answer_of) (only_one answers.items c.index.result.now
+    (c.in_ok-answers.ensures.count ∙ c.from_ref.ensures.len) c.index.ensures)))
+    (ran g (goal.at.returns g c).After-close-2)

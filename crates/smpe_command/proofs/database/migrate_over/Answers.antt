@@ -1,23 +1,23 @@
 use Rattle.std.proofs.Common.{inr, subst}
 use Rattle.smpe_command.proofs.database.migrate_over.Goals as goal
 
-pub returns-in-Ok-migrate : goal.returns-in-Ok-migrate
-returns-in-Ok-migrate g c = (
-  c.in-Ok.conn,
-  c.in-Ok-migrate.store,
+pub returns-in-Ok : goal.returns-in-Ok
+returns-in-Ok g c = (
+  c.in_ok-conn.conn,
+  c.in-Ok.store,
   c.open.new.self,
+  c.in_ok-conn.ensures.ok,
   c.in-Ok.ensures.ok,
-  c.in-Ok-migrate.ensures.ok,
-  subst (λ conn. g.H.Host.closes c.open.new.self conn c.close-in-Ok-migrate.new.self) c.close.ensures.same
-      c.close-in-Ok-migrate.ensures.closed,
+  subst (λ conn. g.H.Host.closes c.open.new.self conn c.close-in-Ok.new.self) c.close.ensures.same
+      c.close-in-Ok.ensures.closed,
 )
 
-pub returns-in-Err-migrate : goal.returns-in-Err-migrate
-returns-in-Err-migrate g c = inr (
-  c.in-Ok.conn,
-  c.in-Err-migrate.conn,
+pub returns-in-Err : goal.returns-in-Err
+returns-in-Err g c = inr (
+  c.in_ok-conn.conn,
+  c.in-Err.conn,
   c.open.new.self,
-  c.in-Ok.ensures.ok,
-  c.in-Err-migrate.ensures.err,
-  c.close-in-Err-migrate.ensures.closed,
+  c.in_ok-conn.ensures.ok,
+  c.in-Err.ensures.err,
+  c.close-in-Err.ensures.closed,
 )

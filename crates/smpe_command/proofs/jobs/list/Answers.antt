@@ -1,21 +1,22 @@
-use Rattle.std.proofs.Common.{List, [], inr, subst}
+use Rattle.std.proofs.Common.{◌≡◌, [], inr, refl, subst}
 use Rattle.smpe.specs.ListJob.{list_records}
+use Rattle.machine.specs.Machine as machine
 use Rattle.machine.specs.Machine.{RunFiles}
 use Rattle.smpe_command.specs.Database.{JobOver}
 use Rattle.smpe_command.proofs.jobs.list.Goals as goal
 
 pub returns : goal.returns
 returns g c =
-    let Ran : List _ → List _ → List _ → Type 0 = λ cntl ptfin hold. JobOver g.H.Host g.H.Disk.Store g.O.Sink
-    c.args.host.now c.args.db.now (RunFiles c.new.result cntl (record { ptfin = ptfin; holds = hold })) c.args.out.now
-    c.run_over.result c.run_over.new.host c.run_over.new.out in
-    let files = c.in_ok-files.files in
-    let are = c.in_ok-files.ensures.ok in
+    let ran = c.run_files.ensures in
+    let job : RunFiles c.new-3.result c.in_ok-list_commands.field-0.items (record {
+      ptfin = c.new.result.items;
+      holds = c.new-2.result.items;
+    }) ≡ RunFiles c.new-3.result (list_records c.args.zone) (record { ptfin = []; holds = [] }) =
+    rw (c.in_ok-list_commands.ensures.records, c.new.ensures.items, c.new-2.ensures.items) refl in
     inr (
-      c.new.result,
-      c.run_over.result,
-      subst (λ hold. Ran (list_records c.args.zone) [] hold) are.2
-          (subst (λ ptfin. Ran (list_records c.args.zone) ptfin files.hold.items) are.1
-          (subst (λ cntl. Ran cntl files.ptfin.items files.hold.items) are.0 c.run_over.ensures)),
-      c.answered.ensures,
+      c.new-3.result,
+      ran.0,
+      subst (λ (job : machine.Job). JobOver g.H.Host g.H.Disk.Store g.O.Sink c.args.host.now c.args.db.now job
+          c.args.out.now ran.0 c.run_files.new.host c.run_files.new.out) job ran.1,
+      ran.2,
     )

@@ -1,13 +1,25 @@
-use Rattle.std.proofs.Common.{IfOk, map, sym, subst}
-use Rattle.smpe_command.specs.Answering.{Answers}
+use Rattle.std.proofs.Common.{List, map, inl, Ok, Err, subst, refl}
+use Rattle.smpe_command.specs.Asking.{IsAsked}
 use Rattle.smpe_command.proofs.program.command.Goals as goal
 
-pub returns-in-Ok-clause-words : goal.returns-in-Ok-clause-words
-returns-in-Ok-clause-words g c =
-    let a = c.answered in
-    subst (λ words. IfOk words (λ all. Answers g.H.Host g.H.Disk.Store g.O.Sink g.E.Sink
-    (map (λ word. word.items) all.items) c.args.host.now c.args.out.now c.args.err.now a.result a.new.host a.new.out
-    a.new.err)) (sym c.in-Ok.is)
-    (subst (λ words. Answers g.H.Host g.H.Disk.Store g.O.Sink g.E.Sink (map (λ word. word.items) words)
-    c.args.host.now c.args.out.now c.args.err.now a.result a.new.host a.new.out a.new.err) c.as_slice.ensures.value
-    a.ensures)
+pub returns-in-Ok-served-clause-words : goal.returns-in-Ok-served-clause-words
+returns-in-Ok-served-clause-words g c = rw c.in-Ok.is (inl (
+  c.in-Ok-asked.asked,
+  subst (λ (words : List _). IsAsked (map (λ word. word.items) words) c.in-Ok-asked.asked)
+      c.as_slice-words.ensures.value c.in-Ok-asked.ensures.ok,
+  c.served.new.host,
+  Ok c.in-Ok-served.status,
+  c.in-Ok-served.ensures,
+  (refl, refl, refl),
+))
+
+pub returns-in-Ok-asked-clause-words : goal.returns-in-Ok-asked-clause-words
+returns-in-Ok-asked-clause-words g c = rw c.in-Ok.is (inl (
+  c.in-Ok-asked.asked,
+  subst (λ (words : List _). IsAsked (map (λ word. word.items) words) c.in-Ok-asked.asked)
+      c.as_slice-words.ensures.value c.in-Ok-asked.ensures.ok,
+  c.served.new.host,
+  Err c.in-Err-served.fault,
+  c.in-Err-served.ensures,
+  c.told-in-Err-served.ensures,
+))

@@ -1,30 +1,24 @@
-use Rattle.std.proofs.Common.{◌≡◌, ◌∷◌, [], List, map, Some, None, codes, subst, rules}
-use Rattle.terms.specs.Types.{Text}
-use Rattle.terms.specs.declared.kinds.ZoneKind.TheVariants.{Target, Distribution}
-use Rattle.machine.specs.Machine as machine
-use Rattle.machine.specs.Machine.{NewZone, RunFiles}
-use Rattle.smpe_zones.specs.Definitions.{definition}
+use Rattle.std.proofs.Common.{◌∙◌, List, map, inr, subst, refl}
 use Rattle.smpe.specs.Ending.{answer_of}
-use Rattle.smpe_command.specs.ServiceSet.{JobsInMemory}
+use Rattle.smpe_command.specs.ServiceSet.{JobsInMemory, set_jobs}
 use Rattle.smpe_command.proofs.service_set.tried.Goals as goal
 
+pub returns-in-Some : goal.returns-in-Some
+returns-in-Some g c = rw c.in-Some.is (inr (
+  c.in-Some.commands.date,
+  refl,
+  inr (subst (λ (cntl : List _). JobsInMemory g.O.Sink (set_jobs c.args.srel c.in-Some.commands.date cntl
+      (record { ptfin = c.args.files.now.ptfin.items; holds = c.args.files.now.hold.items })) c.args.out.now
+      (λ v. map answer_of v.items) c.tried_in_memory.result c.tried_in_memory.new.out)
+      c.as_slice-cntl.ensures.value c.tried_in_memory.ensures),
+))
+
 pub returns : goal.returns
-returns g c =
-    let jobs : Text → Text → List _ → List _ → List _ → List machine.Job = λ one other receive ptfin hold.
-    NewZone (definition one Distribution c.args.srel None) ∷ NewZone (definition other Target c.args.srel (Some one))
-    ∷ RunFiles c.args.date receive (record { ptfin = ptfin; holds = hold })
-    ∷ RunFiles c.args.date c.args.cntl.now (record { ptfin = ptfin; holds = hold }) ∷ [] in
-    let Ran : List machine.Job → Type 0 = λ all. JobsInMemory g.O.Sink all c.args.out.now (λ v. map answer_of v.items)
-    c.jobs_in_memory.result c.jobs_in_memory.new.out in
-    let ptfin = c.as_slice-ptfin in
-    let hold = c.as_slice-hold in
-    let one : c.unwrap-distribution.result ≡ codes "DLIB" = search rules in
-    let other : c.unwrap-target.result ≡ codes "TGT" = search rules in
-    subst (λ t. Ran (jobs (codes "DLIB") (codes "TGT") t c.args.files.now.ptfin.items c.args.files.now.hold.items))
-    c.requires
-    (subst (λ t. Ran (jobs (codes "DLIB") (codes "TGT") c.args.receive.now c.args.files.now.ptfin.items t))
-    hold.ensures.value
-    (subst (λ t. Ran (jobs (codes "DLIB") (codes "TGT") c.args.receive.now t hold.result.now)) ptfin.ensures.value
-    (subst (λ t. Ran (jobs (codes "DLIB") t c.args.receive.now ptfin.result.now hold.result.now)) other
-    (subst (λ t. Ran (jobs t c.unwrap-target.result c.args.receive.now ptfin.result.now hold.result.now)) one
-    c.jobs_in_memory.ensures))))
+returns g c = rw c.in-None.is (inr (
+  c.new-date.result,
+  tt,
+  inr (subst (λ (cntl : List _). JobsInMemory g.O.Sink (set_jobs c.args.srel c.new-date.result cntl
+      (record { ptfin = c.args.files.now.ptfin.items; holds = c.args.files.now.hold.items })) c.args.out.now
+      (λ v. map answer_of v.items) c.tried_in_memory-in-None.result c.tried_in_memory-in-None.new.out)
+      (c.as_slice.ensures.value ∙ c.in_ok-cntl-in-None.ensures) c.tried_in_memory-in-None.ensures),
+))
