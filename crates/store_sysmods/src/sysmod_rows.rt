@@ -101,55 +101,20 @@ pub fn insert_sysmods<S: Alter>(
     ensures stands { OnOk result ((ss : List ASysmod) → AreRowsOf rows.now ss
         → AddsSysmods S.Store tx.old.conn.now tx.new.conn.now ss) }
 {
-    insert_rows(
-        alloc,
-        tx,
-        head::INSERT_MANY,
-        head::INSERT,
-        rows.sysmods.as_slice(),
-    )?;
-    insert_rows(
-        alloc,
-        tx,
-        source::INSERT_MANY,
-        source::INSERT,
-        rows.sources.as_slice(),
-    )?;
-    insert_rows(
-        alloc,
-        tx,
-        ver::INSERT_MANY,
-        ver::INSERT,
-        rows.vers.as_slice(),
-    )?;
-    insert_rows(
-        alloc,
-        tx,
-        ifreq::INSERT_MANY,
-        ifreq::INSERT,
-        rows.ifreqs.as_slice(),
-    )?;
-    insert_rows(
-        alloc,
-        tx,
-        elem::INSERT_MANY,
-        elem::INSERT,
-        rows.elems.as_slice(),
-    )?;
-    insert_rows(
-        alloc,
-        tx,
-        morever::INSERT_MANY,
-        morever::INSERT,
-        rows.morevers.as_slice(),
-    )?;
-    insert_rows(
-        alloc,
-        tx,
-        moreif::INSERT_MANY,
-        moreif::INSERT,
-        rows.moreifs.as_slice(),
-    )
+    let sysmods = rows.sysmods.as_slice();
+    let sources = rows.sources.as_slice();
+    let vers = rows.vers.as_slice();
+    let ifreqs = rows.ifreqs.as_slice();
+    let elems = rows.elems.as_slice();
+    let morevers = rows.morevers.as_slice();
+    let moreifs = rows.moreifs.as_slice();
+    insert_rows(alloc, tx, head::INSERT_MANY, head::INSERT, sysmods)?;
+    insert_rows(alloc, tx, source::INSERT_MANY, source::INSERT, sources)?;
+    insert_rows(alloc, tx, ver::INSERT_MANY, ver::INSERT, vers)?;
+    insert_rows(alloc, tx, ifreq::INSERT_MANY, ifreq::INSERT, ifreqs)?;
+    insert_rows(alloc, tx, elem::INSERT_MANY, elem::INSERT, elems)?;
+    insert_rows(alloc, tx, morever::INSERT_MANY, morever::INSERT, morevers)?;
+    insert_rows(alloc, tx, moreif::INSERT_MANY, moreif::INSERT, moreifs)
 }
 
 /// Puts the rows of the SYSMOD's sources in place of those that are there. Where it is not received and has a source,

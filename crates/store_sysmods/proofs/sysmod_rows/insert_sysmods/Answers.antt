@@ -59,7 +59,7 @@ module _ (g : Over) (ss : List Sysmod) where
       c.insert_rows.new.tx c.insert_rows.result
   sysmods c are =
       puts_rows g.S.Store insert_sysmods insert_sysmod sysmod
-      (ap (map as_bound) c.as_slice.ensures.value ∙ are.sysmods) (kept_sysmods ss)
+      (ap (map as_bound) c.as_slice-sysmods.ensures.value ∙ are.sysmods) (kept_sysmods ss)
       c.insert_rows.ensures.continues c.insert_rows.ensures.calls (on_ok c.insert_rows.result _ _
       (λ ran. ran store_schema 1 sysmod puts_sysmods puts_sysmod) c.insert_rows.ensures.ok)
 
@@ -68,7 +68,7 @@ module _ (g : Over) (ss : List Sysmod) where
       c.insert_rows-2.new.tx c.insert_rows-2.result
   sources c are =
       puts_rows g.S.Store insert_sources insert_source source
-      (ap (map as_bound) c.as_slice-2.ensures.value ∙ are.sources) (kept_sources ss)
+      (ap (map as_bound) c.as_slice-sources.ensures.value ∙ are.sources) (kept_sources ss)
       c.insert_rows-2.ensures.continues c.insert_rows-2.ensures.calls (on_ok c.insert_rows-2.result _ _
       (λ ran. ran store_schema 9 source puts_sources puts_source) c.insert_rows-2.ensures.ok)
 
@@ -77,7 +77,7 @@ module _ (g : Over) (ss : List Sysmod) where
       c.insert_rows-3.new.tx c.insert_rows-3.result
   vers c are =
       puts_rows g.S.Store insert_vers insert_ver ver
-      (ap (map as_bound) c.as_slice-3.ensures.value ∙ are.vers) (kept_vers ss)
+      (ap (map as_bound) c.as_slice-vers.ensures.value ∙ are.vers) (kept_vers ss)
       c.insert_rows-3.ensures.continues c.insert_rows-3.ensures.calls (on_ok c.insert_rows-3.result _ _
       (λ ran. ran store_schema 2 ver puts_vers puts_ver) c.insert_rows-3.ensures.ok)
 
@@ -86,7 +86,7 @@ module _ (g : Over) (ss : List Sysmod) where
       c.insert_rows-4.new.tx c.insert_rows-4.result
   ifreqs c are =
       puts_rows g.S.Store insert_ifreqs insert_ifreq ifreq
-      (ap (map as_bound) c.as_slice-4.ensures.value ∙ are.ifreqs) (kept_ifreqs ss)
+      (ap (map as_bound) c.as_slice-ifreqs.ensures.value ∙ are.ifreqs) (kept_ifreqs ss)
       c.insert_rows-4.ensures.continues c.insert_rows-4.ensures.calls (on_ok c.insert_rows-4.result _ _
       (λ ran. ran store_schema 3 ifreq puts_ifreqs puts_ifreq) c.insert_rows-4.ensures.ok)
 
@@ -95,7 +95,7 @@ module _ (g : Over) (ss : List Sysmod) where
       c.insert_rows-5.new.tx c.insert_rows-5.result
   elems c are =
       puts_rows g.S.Store insert_elems insert_elem elem
-      (ap (map as_bound) c.as_slice-5.ensures.value ∙ are.elems) (kept_elems ss)
+      (ap (map as_bound) c.as_slice-elems.ensures.value ∙ are.elems) (kept_elems ss)
       c.insert_rows-5.ensures.continues c.insert_rows-5.ensures.calls (on_ok c.insert_rows-5.result _ _
       (λ ran. ran store_schema 5 elem puts_elems puts_elem) c.insert_rows-5.ensures.ok)
 
@@ -104,7 +104,7 @@ module _ (g : Over) (ss : List Sysmod) where
       c.insert_rows-6.new.tx c.insert_rows-6.result
   morevers c are =
       puts_rows g.S.Store insert_morevers insert_morever morever
-      (ap (map as_bound) c.as_slice-6.ensures.value ∙ are.morevers) (kept_morevers ss)
+      (ap (map as_bound) c.as_slice-morevers.ensures.value ∙ are.morevers) (kept_morevers ss)
       c.insert_rows-6.ensures.continues c.insert_rows-6.ensures.calls (on_ok c.insert_rows-6.result _ _
       (λ ran. ran store_schema 10 morever puts_morevers puts_morever) c.insert_rows-6.ensures.ok)
 
@@ -113,7 +113,7 @@ module _ (g : Over) (ss : List Sysmod) where
       c.insert_rows-7.new.tx c.insert_rows-7.result
   moreifs c are =
       puts_rows g.S.Store insert_moreifs insert_moreif moreif
-      (ap (map as_bound) c.as_slice-7.ensures.value ∙ are.moreifs) (kept_moreifs ss)
+      (ap (map as_bound) c.as_slice-moreifs.ensures.value ∙ are.moreifs) (kept_moreifs ss)
       c.insert_rows-7.ensures.continues c.insert_rows-7.ensures.calls (on_ok c.insert_rows-7.result _ _
       (λ ran. ran store_schema 11 moreif puts_moreifs puts_moreif) c.insert_rows-7.ensures.ok)
 
