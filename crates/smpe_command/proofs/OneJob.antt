@@ -1,5 +1,6 @@
 -- The answers of jobs, seen in two ways.
-use Rattle.std.proofs.Common.{◌≡◌, ◌∙◌, ◌∷◌, [], ℕ, List, Option, length, get_or, Result, Ok, Err, inl, inr, ap, subst, sym, refl, arith}
+use Rattle.std.proofs.Common.{◌≡◌, ◌∙◌, ◌∷◌, [], ℕ, List, Option, length, get_or, Result, Ok, Err, inl, inr}
+use Rattle.std.proofs.Common.{ap, subst, sym, refl, arith}
 use Rattle.std.specs.Prelude.{IfErr}
 use Rattle.sqlite.specs.Store.{Ghosts}
 use Rattle.sqlite.specs.Held.{Held}
@@ -55,7 +56,8 @@ module _ {V W : Type 0} (f : V → List machine.Answer) (k : W → List machine.
         subst (λ x. EndsJobs g a b s jobs (sink.taken out) (sink.taken out') k (Err x)) same ended
 
     goes_as : (a b : Held S) (r : Result V JobError) (q : Result W JobError) → Alike r q
-        → JobsGo g a b jobs (sink.taken out) (sink.taken out') r → JobsGo g a b jobs (sink.taken out) (sink.taken out') q
+        → JobsGo g a b jobs (sink.taken out) (sink.taken out') r
+        → JobsGo g a b jobs (sink.taken out) (sink.taken out') q
     goes_as a b (Ok v) (Ok w) same went = went
     goes_as a b (Ok v) (Err d) same went = absurd same
     goes_as a b (Err e) (Ok w) same went = absurd same

@@ -31,8 +31,8 @@ use Rattle.smpe_session.proofs.StateZones.{each_named}
 use Rattle.smpe_session.proofs.Stepping.{performs_committed, performs_failed}
 
 -- the zone that is named by the change which a call commits
-abbrev pub zone_of : {S X : Type 0} {g : Ghosts S} {before after : Held S} {name : Text} {old : Bor Zone} {delta : ZoneDelta}
-    {Ends : State → Result X StoreError → Type 0} {r : Result X StoreError}
+abbrev pub zone_of : {S X : Type 0} {g : Ghosts S} {before after : Held S} {name : Text} {old : Bor Zone}
+    {delta : ZoneDelta} {Ends : State → Result X StoreError → Type 0} {r : Result X StoreError}
     → UsesStore g before after (λ own. own ≡ ZoneChange name old delta) Ends r → Bor Zone
 zone_of {old = old} uses = old
 

@@ -25,7 +25,8 @@ use Rattle.store_schema.specs.declared.error.StoreError.TheVariants.{Fault, Memo
 use Rattle.smpe_zones.specs.Ends.{HasLoaded, HasCommitted}
 use Rattle.smpe_zones.specs.Kept.{kept, Keeps}
 use Rattle.smpe_zones.proofs.Keeping.{inventory_kept, loaded, committed}
-use Rattle.smpe_zones.proofs.Once.{once_load, once_commit, once_own, once_ok, once_err, once_short, once_none, once_after}
+use Rattle.smpe_zones.proofs.Once.{once_load, once_commit, once_own, once_ok, once_err, once_short, once_none}
+use Rattle.smpe_zones.proofs.Once.{once_after}
 use Rattle.smpe_session.specs.declared.session.Session.{Session}
 use Rattle.smpe_session.specs.declared.session.Performed.{Performed}
 use Rattle.smpe_session.specs.Sessions.{IsSessionOf, HasPerformed, HasDone, told}

@@ -106,7 +106,19 @@ module _ {S : Type 0} (g : Ghosts S) (old new : Held S) where
               IsPermutation-refl _,
               (
                 put_rows h i.global.holds,
-                (IsPermutation-refl _, (IsPermutation-refl _, (IsPermutation-refl _, (IsPermutation-refl _, (IsPermutation-refl _, (IsPermutation-refl _, (IsPermutation-refl _, (IsPermutation-refl _, tt)))))))),
+                (
+                  IsPermutation-refl _,
+                  (
+                    IsPermutation-refl _,
+                    (
+                      IsPermutation-refl _,
+                      (
+                        IsPermutation-refl _,
+                        (IsPermutation-refl _, (IsPermutation-refl _, (IsPermutation-refl _, (IsPermutation-refl _, tt)))),
+                      ),
+                    ),
+                  ),
+                ),
               ),
             ),
           ),
@@ -129,7 +141,19 @@ module _ {S : Type 0} (g : Ghosts S) (old new : Held S) where
               IsPermutation-refl _,
               (
                 left_rows x kind reason i.global.holds,
-                (IsPermutation-refl _, (IsPermutation-refl _, (IsPermutation-refl _, (IsPermutation-refl _, (IsPermutation-refl _, (IsPermutation-refl _, (IsPermutation-refl _, (IsPermutation-refl _, tt)))))))),
+                (
+                  IsPermutation-refl _,
+                  (
+                    IsPermutation-refl _,
+                    (
+                      IsPermutation-refl _,
+                      (
+                        IsPermutation-refl _,
+                        (IsPermutation-refl _, (IsPermutation-refl _, (IsPermutation-refl _, (IsPermutation-refl _, tt)))),
+                      ),
+                    ),
+                  ),
+                ),
               ),
             ),
           ),

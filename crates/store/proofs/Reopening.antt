@@ -142,7 +142,25 @@ lists_same tables schema db keys own other =
 keys_under : (r : Schema) → AllByRecursion HasOneKey (tables_under r)
 keys_under First = (refl, (refl, (refl, (refl, (refl, (refl, (refl, (refl, (refl, tt)))))))))
 keys_under Second = (refl, (refl, (refl, (refl, (refl, (refl, (refl, (refl, (refl, (refl, tt))))))))))
-keys_under Third = (refl, (refl, (refl, (refl, (refl, (refl, (refl, (refl, (refl, (refl, (refl, (refl, (refl, tt)))))))))))))
+keys_under Third = (
+  refl,
+  (
+    refl,
+    (
+      refl,
+      (
+        refl,
+        (
+          refl,
+          (
+            refl,
+            (refl, (refl, (refl, (refl, (refl, (refl, (refl, tt))))))),
+          ),
+        ),
+      ),
+    ),
+  ),
+)
 
 -- what lists the tables of a schema lists those of no other
 pub lists_schema : (r : Schema) (schema : SqliteSchema) (db : Trees) → IsSound (schema_under r) db → IsSound schema db

@@ -1,5 +1,6 @@
 -- Edits that rise are done one after the other: what stood under the key of a later one still stands when it comes.
-use Rattle.std.proofs.Common.{◌≡◌, Bool, true, false, List, [], ◌∷◌, ◌++◌, filter, find, None, get_or, refl, sym, ap, ◌∙◌}
+use Rattle.std.proofs.Common.{◌≡◌, Bool, true, false, List, [], ◌∷◌, ◌++◌, filter, find, None, get_or, refl, sym, ap}
+use Rattle.std.proofs.Common.{◌∙◌}
 use Rattle.std.proofs.Common.{append-nil}
 use Rattle.std.specs.Option.{option_map_or, option_to_list}
 use Rattle.std.specs.declared.cmp.Ordering.{Ordering}

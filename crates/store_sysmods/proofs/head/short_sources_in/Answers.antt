@@ -8,7 +8,8 @@ returns-then-not-are_short-clause-none c bad names sorted short same =
     let read = c.in_ok-names.ensures.some in
     let one : names ≡ c.in_ok-names.names = ids_same names c.in_ok-names.names (sources_are_words names sorted)
     (sources_are_words c.in_ok-names.names read.1) (sym same ∙ read.0) in
-    let told : c.are_short.result ≡ true = c.are_short.ensures.1 (rw c.as_slice.ensures.items (subst AreShort one short))
+    let told : c.are_short.result ≡ true = c.are_short.ensures.1
+    (rw c.as_slice.ensures.items (subst AreShort one short))
     in
     let not_told : c.are_short.result ≡ false = c.if-not-are_short.true in
     absurd cc

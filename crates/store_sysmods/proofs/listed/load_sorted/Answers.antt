@@ -26,7 +26,8 @@ returns-clause-forms g c =
 
 pub returns-clause-only : goal.returns-clause-only
 returns-clause-only g c clean r known contents was xs forms rises same =
-    c.by_keys.ensures.only xs (c.in_ok-items.ensures.only clean (sym g.met.T.Listed.whole) r known contents was xs forms same)
+    c.by_keys.ensures.only xs (c.in_ok-items.ensures.only clean (sym g.met.T.Listed.whole) r known
+    contents was xs forms same)
     rises
 
 pub returns-in_err-items-clause-reads : goal.returns-in_err-items-clause-reads

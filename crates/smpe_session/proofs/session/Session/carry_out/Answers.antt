@@ -19,14 +19,15 @@ use Rattle.smpe_session.proofs.Using.{nothing, answered, handed, ran_short, no_a
 use Rattle.smpe_session.proofs.session.Session.carry_out.Goals as goal
 
 pub returns-then-header : goal.returns-then-header
-returns-then-header g c = answered nothing (λ own none. absurd none) (λ s inventory keeps is date files command planned. (
-  s,
-  checks date files command s c.args.self.now c.args.name c.args.delta c.args.header.check
-      (Ran (header_view c.args.header) (map line_view c.args.lines.items)) planned inventory c.attest.ensures
-      c.if-header.true,
-  is,
-  keeps,
-))
+returns-then-header g c = answered nothing (λ own none. absurd none)
+    (λ s inventory keeps is date files command planned. (
+      s,
+      checks date files command s c.args.self.now c.args.name c.args.delta c.args.header.check
+          (Ran (header_view c.args.header) (map line_view c.args.lines.items)) planned inventory c.attest.ensures
+          c.if-header.true,
+      is,
+      keeps,
+    ))
 
 pub returns-in_default : goal.returns-in_default
 returns-in_default g c =

@@ -12,7 +12,8 @@ returns-in_err-seek g c = handed_on c.from_residual.ensures.1 c.in_err-seek.ensu
     (Perform date files (Set c.args.name)) c.in_err-seek.field-0.0 (un is))
 
 pub returns-then-not-branch : goal.returns-then-not-branch
-returns-then-not-branch g c = answered c.in_ok-seek.ensures.uses (λ own none. absurd none) (λ s inventory found is date files.
+returns-then-not-branch g c = answered c.in_ok-seek.ensures.uses (λ own none. absurd none)
+    (λ s inventory found is date files.
     let sought = found is in (
       s,
       set_refused s c.seek.new.self c.args.name date files c.in_ok-seek.field-0 sought.0 c.if-not-branch.true,

@@ -44,7 +44,8 @@ returns-in_err-commit_change-clause-only g c =
 
 pub returns-in_err-commit_change-clause-before : goal.returns-in_err-commit_change-clause-before
 returns-in_err-commit_change-clause-before g c clean failed =
-    faulted_before g.S.Store c.self.inside.conn c.args.self.now c.commit_change.new.conn c.args.change.now c.self.view_is
+    faulted_before g.S.Store c.self.inside.conn c.args.self.now c.commit_change.new.conn c.args.change.now
+    c.self.view_is
     c.commit_change.ensures.crash (c.if-prove.ensures.settled refl) clean
     (kept_failed c.from_residual.result _ failed ((returns-in_err-commit_change-clause-only g c).kept clean))
     (returns-in_err-commit_change-clause-cause g c clean failed)

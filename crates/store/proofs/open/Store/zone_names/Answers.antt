@@ -6,9 +6,12 @@ use Rattle.store.proofs.open.Store.zone_names.Goals as goal
 pub returns : goal.returns
 returns g c =
     let now = c.zone_names.new.conn in
-    loads_by g.S.Store (λ i names. names.items ≡ map (λ z. z.name) i.zones) c.self.inside.conn c.args.self.now now c.self.view_is
-    (c.if-prove.ensures.settled refl) (g.met.S.Store.settled now.store) c.zone_names.result (c.zone_names.ensures.reads Third)
-    (λ clean. c.zone_names.ensures.found clean Third) (λ clean bad. c.zone_names.ensures.none clean bad Third) c.told.result c.told.ensures
+    loads_by g.S.Store (λ i names. names.items ≡ map (λ z. z.name) i.zones) c.self.inside.conn c.args.self.now now
+    c.self.view_is
+    (c.if-prove.ensures.settled refl) (g.met.S.Store.settled now.store) c.zone_names.result
+    (c.zone_names.ensures.reads Third)
+    (λ clean. c.zone_names.ensures.found clean Third) (λ clean bad. c.zone_names.ensures.none clean bad Third)
+    c.told.result c.told.ensures
 
 pub invariant_of-self : goal.invariant_of-self
 invariant_of-self g c = (c.zone_names.ensures.reads Third).mode c.self.invariant
