@@ -34,7 +34,7 @@ find_made p f (x ∷ xs) = by (find_made p f xs) (p (f x)) refl
 abbrev names_it : Text → NamedZone → Bool
 names_it name z = option_map_or (bytes_eq name) z.zone.related false
 
-abbrev pub names_head : Text → ZoneHead → Bool
+abbrev names_head : Text → ZoneHead → Bool
 names_head name h = option_map_or (bytes_eq name) h.related false
 
 abbrev target_in : Text → List NamedZone → Option NamedZone

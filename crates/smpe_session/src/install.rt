@@ -12,6 +12,7 @@ ghost use Rattle.smpe_session.specs.Writing.{TellsRun};
 ghost use Rattle.smpe_zones.specs.Own.{IsOfZone};
 
 use crate::lines::or_nothing;
+use crate::related::target_name;
 use crate::session::Session;
 use cntl::Install;
 use fields::{YyDdd, ZoneName};
@@ -58,11 +59,11 @@ impl Session {
             return Ok(None);
         };
         let heads = store.zone_heads()?;
-        let Some(target) = heads.iter().find(|head| head.related == Some(name)) else {
+        let Some(target) = target_name(heads.as_slice(), name) else {
             return Ok(None);
         };
-        self.seek(store, target.name)?;
-        Ok(Some(target.name))
+        self.seek(store, target)?;
+        Ok(Some(target))
     }
 
     /// APPLY into a target zone, ACCEPT into a distribution zone.

@@ -18,6 +18,7 @@ mod list;
 mod read;
 mod receive;
 mod reject;
+mod related;
 mod restore;
 mod session;
 mod set;
