@@ -181,7 +181,8 @@ module _ {S : Type 0} (g : Ghosts S) where
       subst (λ q. JobGoes g old new job a b q) (sym (p.1 ∙ ap (λ y. Err y) p.2)) stopped
 
   -- memory was short before the first job
-  pub jobs_unbegun : (at : Held S) (jobs : List Job) (taken : Option (List ℕ)) → JobsStopped at at jobs taken taken Memory
+  pub jobs_unbegun : (at : Held S) (jobs : List Job) (taken : Option (List ℕ))
+      → JobsStopped at at jobs taken taken Memory
   jobs_unbegun at jobs taken = ([], none_begun jobs, early_none at [] taken)
 
   module _ (date : Text) (cntl : List ℕ) (files : Files) where

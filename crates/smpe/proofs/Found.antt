@@ -45,7 +45,8 @@ next_open_finds_holds g h began at again s jobs old new error (acts, first, ends
       acts,
       first,
       early g began at (ShowsOne h again)
-          (λ Among leaves. found_left g h at again Among leaves shows.live left shows.is_open) s acts old new error ends,
+          (λ Among leaves. found_left g h at again Among leaves shows.live left shows.is_open) s acts old new error
+          ends,
     ))
 
 -- A connection shows what a crash may leave of the first, and a store was opened over it.
