@@ -15,7 +15,7 @@ use Rattle.sorted.specs.Edits.{edit_key, edit_put}
 use Rattle.terms.specs.Install.{Installation, TakesEffect, cleared, HasElementAfter}
 use Rattle.terms.proofs.ElementOrder.{element_cmp_total, element_ties}
 use Rattle.terms.proofs.ListMembers.{in_map, map_in}
-use Rattle.zones.specs.Differing.{ElementEdit, element_after}
+use Rattle.zones_maps.specs.Differing.{ElementEdit, element_after}
 use Rattle.change.specs.Elements.{AreElementsAfter}
 use Rattle.change.specs.Puts.{with_element, with_elements}
 use Rattle.sorted.specs.ElementKeys.{Key}

@@ -15,7 +15,7 @@ use Rattle.terms.specs.Lookups.{supby_of, delby_of, waived_of, is_applied, is_su
 use Rattle.terms.specs.Choice.{Choice}
 use Rattle.terms.specs.Over.{Supersedes}
 use Rattle.terms.specs.Global.{IsGlobal}
-use Rattle.zones.specs.Delta.{ZoneDelta}
+use Rattle.zones_maps.specs.Delta.{ZoneDelta}
 use Rattle.terms.specs.Deleted.{zone_less}
 use Rattle.terms.specs.Install.{Installation, TakesEffect, applied_with, cleared, delby_after}
 use Rattle.terms.proofs.Ids.{is_in_from_Contains, Contains_from_is_in, in_or_not}

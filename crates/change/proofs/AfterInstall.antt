@@ -7,7 +7,7 @@ use Rattle.terms.specs.declared.kinds.ElemType.{ElemType}
 use Rattle.terms.specs.Types.{Text, Id, Element, Zone}
 use Rattle.terms.specs.Lookups.{IsRising, IsZone, entry_of, element_of}
 use Rattle.terms.specs.Global.{IsGlobal}
-use Rattle.zones.specs.Delta.{ZoneDelta, IsChanged}
+use Rattle.zones_maps.specs.Delta.{ZoneDelta, IsChanged}
 use Rattle.sorted.specs.Edits.{edit_key, edit_put}
 use Rattle.terms.specs.Install.{Installation, cleared, HasInstalled}
 use Rattle.sysmods.specs.Choices.{number_in}
@@ -16,7 +16,7 @@ use Rattle.change.specs.declared.plan.Plan.{Plan}
 use Rattle.change.specs.Deleting.{AreDeletions, choice_of}
 use Rattle.change.specs.Plans.{installation, IsFresh, IsPlan}
 use Rattle.change.specs.Entries.{entry_after, HasPutEntries}
-use Rattle.zones.specs.Differing.{ElementEdit, HasEditedElements, element_after}
+use Rattle.zones_maps.specs.Differing.{ElementEdit, HasEditedElements, element_after}
 use Rattle.change.specs.Elements.{AreElementsAfter}
 use Rattle.change.specs.Puts.{less_elements, with_elements}
 use Rattle.change.proofs.AfterElements.{element_changed, element_unchanged}

@@ -14,8 +14,8 @@ use Rattle.terms.specs.Types.{Zone}
 use Rattle.terms.specs.Lookups.{element_cmp, element_eq, element_key, element_of}
 use Rattle.terms.specs.Rising.{Rises}
 use Rattle.terms.proofs.ElementOrder.{element_cmp_total, element_ties, same_key}
-use Rattle.zones.specs.Delta.{ZoneDelta}
-use Rattle.zones.specs.Differing.{ElementEdit, AddsElementEdit, HasEditedElements, element_after}
+use Rattle.zones_maps.specs.Delta.{ZoneDelta}
+use Rattle.zones_maps.specs.Differing.{ElementEdit, AddsElementEdit, HasEditedElements, element_after}
 use Rattle.sorted.specs.Turned.{TurnsAt, AreTurned}
 use Rattle.sorted.specs.ElementKeys.{Key}
 use Rattle.sorted.proofs.InTurn.{find_member}

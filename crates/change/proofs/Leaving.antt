@@ -16,9 +16,9 @@ use Rattle.terms.specs.Install.{delby_after}
 use Rattle.terms.proofs.Ids.{Contains_from_is_in}
 use Rattle.terms.proofs.SameZones.{an_entry}
 use Rattle.terms.proofs.NothingDeleted.{is_taken_out_none, zone_less_none}
-use Rattle.zones_views.proofs.Filtered.{passing}
-use Rattle.zones_views.proofs.Entries.{entry_less_waives}
-use Rattle.zones_views.proofs.Lookups.{entry_of_less}
+use Rattle.zones.proofs.Filtered.{passing}
+use Rattle.zones.proofs.Entries.{entry_less_waives}
+use Rattle.zones.proofs.Lookups.{entry_of_less}
 use Rattle.sysmods.specs.Choices.{number_in}
 use Rattle.change.specs.declared.deleting.Deleting.{Deleting}
 use Rattle.change.specs.Deleting.{AreDeletions, choice_of, is_gone, left, is_function_gone, first_naming, first_meeting}

@@ -9,7 +9,7 @@ use Rattle.terms.proofs.TextOrder.{same_from}
 use Rattle.terms.specs.Types.{Id, Entry, Zone}
 use Rattle.terms.specs.Lookups.{IsRising, IsZone, is_nil, is_in, waives_applied, entry_of}
 use Rattle.terms.specs.Deleted.{zone_less}
-use Rattle.zones_views.proofs.Entries.{entries_less_waive}
+use Rattle.zones.proofs.Entries.{entries_less_waive}
 use Rattle.change.specs.declared.deleting.Deleting.{Deleting}
 use Rattle.change.specs.declared.plan.Plan.{Plan}
 use Rattle.change.specs.Deleting.{is_gone, left, delby_left}

@@ -13,13 +13,13 @@ use Rattle.terms.proofs.TextOrder.{same_from, same_itself}
 use Rattle.sorted.specs.declared.edits.Edit.TheVariants.{Put, Remove}
 use Rattle.terms.specs.Types.{Id, Entry, Zone}
 use Rattle.terms.specs.Lookups.{has_content, entry_of}
-use Rattle.zones.specs.Delta.{ZoneDelta}
+use Rattle.zones_maps.specs.Delta.{ZoneDelta}
 use Rattle.sorted.specs.Edits.{edit_key, edit_put}
 use Rattle.terms.proofs.Placing.{All_with_item}
 use Rattle.terms.proofs.Ids.{in_or_not}
 use Rattle.change.specs.declared.deleting.Deleting.{Deleting}
 use Rattle.change.specs.declared.plan.Plan.{Plan}
-use Rattle.zones.specs.Differing.{EntryEdit, ChangesEntry, AddsEntryEdit, with_entry_edit}
+use Rattle.zones_maps.specs.Differing.{EntryEdit, ChangesEntry, AddsEntryEdit, with_entry_edit}
 use Rattle.change.specs.Entries.{IsMadeEntry, PutsEntry, HasPutEntries, entry_after, held_edit, if_held}
 use Rattle.change.proofs.Gathered.{in_more}
 use Rattle.sorted.proofs.InTurn.{find_with_item}

@@ -17,11 +17,11 @@ use Rattle.sorted.specs.Edits.{edit_key, edit_put, after_edits}
 use Rattle.terms.proofs.ElementOrder.{element_cmp_total, element_ties}
 use Rattle.terms.proofs.ListMembers.{in_map, map_in, in_filter, filter_in}
 use Rattle.terms.proofs.Searches.{find_gives}
-use Rattle.zones_views.proofs.Filtered.{passing}
-use Rattle.zones_views.proofs.Lookups.{element_of_less}
+use Rattle.zones.proofs.Filtered.{passing}
+use Rattle.zones.proofs.Lookups.{element_of_less}
 use Rattle.change.specs.declared.deleting.Deleting.{Deleting}
 use Rattle.change.specs.Deleting.{choice_of, is_cut, left}
-use Rattle.zones.specs.Differing.{ElementEdit}
+use Rattle.zones_maps.specs.Differing.{ElementEdit}
 use Rattle.change.specs.Puts.{less_element, less_elements}
 use Rattle.sorted.specs.ElementKeys.{Key}
 use Rattle.sorted.proofs.InTurn.{find_member, in_turn_none, in_turn_some}

@@ -5,12 +5,12 @@ use Rattle.std.specs.Str.{bytes_eq}
 use Rattle.sorted.specs.declared.edits.Edit.TheVariants.{Put, Remove}
 use Rattle.terms.specs.Types.{Id, Entry, Zone, an_applied}
 use Rattle.terms.specs.Lookups.{IsRising, is_in, is_nil, is_supplied, has_content, waives_applied, entry_of}
-use Rattle.zones.specs.Delta.{ZoneDelta}
+use Rattle.zones_maps.specs.Delta.{ZoneDelta}
 use Rattle.sorted.specs.Edits.{after_edits}
 use Rattle.change.specs.declared.deleting.Deleting.{Deleting}
 use Rattle.change.specs.declared.plan.Plan.{Plan}
 use Rattle.change.specs.Deleting.{left, delby_left}
-use Rattle.zones.specs.Differing.{EntryEdit, ChangesEntry, AddsEntryEdit}
+use Rattle.zones_maps.specs.Differing.{EntryEdit, ChangesEntry, AddsEntryEdit}
 use Rattle.change.specs.Pairs.{others_of}
 use Rattle.sysmods.specs.Choices.{number_in}
 

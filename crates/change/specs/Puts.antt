@@ -7,7 +7,7 @@ use Rattle.terms.specs.Rising.{with_item}
 use Rattle.sorted.specs.Edits.{edit_key}
 use Rattle.change.specs.declared.deleting.Deleting.{Deleting}
 use Rattle.change.specs.Deleting.{is_cut}
-use Rattle.zones.specs.Differing.{ElementEdit}
+use Rattle.zones_maps.specs.Differing.{ElementEdit}
 
 -- the edits with an element put
 abbrev pub with_element : List ElementEdit → Element → List ElementEdit

@@ -9,8 +9,7 @@ ghost use Rattle.change.specs.Entries.{old_entry};
 use fields::{Attest, Id, IdList};
 use std::alloc::{AllocError, Global};
 use sysmods::VerChoice;
-use zones::{Entry, Zone};
-use zones_views::{TakesOut, entry_less};
+use zones::{Entry, TakesOut, Zone, entry_less};
 
 /// Kept SYSMODs, what they name in DELETE by the `++VER`s that count, and the zone that this takes from.
 #[derive(Clone, Copy)]

@@ -4,7 +4,7 @@ ghost use Rattle.terms.specs.Lookups.{element_cmp, element_key, has_content, wai
 ghost use Rattle.terms.specs.Rising.{Rises};
 ghost use Rattle.sorted.specs.Edits.{edit_key};
 ghost use Rattle.sorted.specs.declared.edits.Edit.TheVariants.{Put, Remove};
-ghost use Rattle.zones.specs.Differing.{AddsEntryEdit, AddsElementEdit, HasEditedElements};
+ghost use Rattle.zones_maps.specs.Differing.{AddsEntryEdit, AddsElementEdit, HasEditedElements};
 
 use fields::{Id, Name};
 use sorted::Edit;

@@ -17,8 +17,7 @@ use crate::ordering::in_order;
 use fields::Id;
 use std::alloc::{AllocError, Global};
 use sysmods::Overs;
-use zones::{Element, Zone};
-use zones_views::element_left;
+use zones::{Element, Zone, element_left};
 
 /// The elements that these SYSMODs change, rising by type and name, as they are when all of them have taken effect on
 /// the zone less the deletions. Over orders those that change one element, and what they update is there.

@@ -10,8 +10,7 @@ use crate::plan::Plan;
 use fields::{Attest, Id, IdList};
 use sorted::lists::listed;
 use std::alloc::{AllocError, Global};
-use zones::{Applied, Entry, ZoneDelta};
-use zones_views::supplies_left;
+use zones::{Applied, Entry, ZoneDelta, supplies_left};
 
 /// Puts the entries that the install makes of those that it may change. One that stays as it is is not put, and one
 /// that nothing holds goes.

@@ -12,8 +12,8 @@ ghost use Rattle.change.specs.Folding.{AreChangers, IsFolded, IsMadeBy, IsUpdate
 use fields::{Attest, Id, IdList, Name};
 use sorted::TryClone;
 use std::alloc::{AllocError, Global};
-use sysmod::{Action, ElemChange};
 use sysmods::{GlobalZone, VerChoice};
+use sysmods_values::{Action, ElemChange};
 use terms::ElemType;
 use text80::{Numbered, Update, merge};
 use zones::Element;

@@ -4,10 +4,10 @@ ghost use Rattle.terms.specs.Types.{Id as AnId, Zone as AZone};
 ghost use Rattle.sysmods.specs.Choices.{choice};
 ghost use Rattle.terms.specs.Over.{IsOver};
 ghost use Rattle.terms.specs.Tests.{ShareElement};
-ghost use Rattle.zones.specs.Delta.{IsChanged};
+ghost use Rattle.zones_maps.specs.Delta.{IsChanged};
 ghost use Rattle.terms.specs.Install.{HasInstalled, TakesEffect};
 ghost use Rattle.change.specs.Elements.{HasBases};
-ghost use Rattle.zones.specs.Differing.{EachChanges};
+ghost use Rattle.zones_maps.specs.Differing.{EachChanges};
 ghost use Rattle.change.specs.Plans.{installation_of, IsFresh};
 ghost use Rattle.change.specs.Puts.{with_elements, less_elements};
 
@@ -20,8 +20,7 @@ use fields::{Attest, Id, IdList, YyDdd};
 use sorted::{Edit, Table};
 use std::alloc::{AllocError, Global};
 use sysmods::Overs;
-use zones::{Element, Zone, ZoneDelta};
-use zones_views::deletions;
+use zones::{Element, Zone, ZoneDelta, deletions};
 
 /// What is installed into which zone. `bypassed` has SYSMODs with a bypassed requisite of theirs, in any order; what it
 /// says of others does not matter.

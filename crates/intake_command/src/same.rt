@@ -1,11 +1,11 @@
 //! Whether items are the same, as contracts see them.
 ghost use Rattle.std.specs.Prelude.{◌≡◌, ◌↔◌, IsTrue, option_map};
 ghost use Rattle.std.specs.String.{string_bytes};
-ghost use Rattle.sysmod.specs.Views.{action_of};
+ghost use Rattle.sysmods_values.specs.Views.{action_of};
 
 use fields::{Class, HoldDate, Id, IdList, Name, Reason, Source, SourceList, Srel};
 use mcs::{Assign, HoldItem, Item, Release};
-use sysmod::{Action, ElemChange, Hold, IfReq, Sysmod, Ver};
+use sysmods_values::{Action, ElemChange, Hold, IfReq, Sysmod, Ver};
 use text80::{Line, Update};
 
 /// What can be told apart from every other value of its type.

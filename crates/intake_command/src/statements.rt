@@ -6,7 +6,7 @@ use fields::spelling::{hold_text, kind_text, type_text};
 use intake_cards::{PrintedCards, put_comment};
 use mcs::{Assign, HoldItem, Item, Release};
 use std::alloc::{AllocError, Global};
-use sysmod::{Action, ElemChange, Hold, IfReq, Sysmod, Ver};
+use sysmods_values::{Action, ElemChange, Hold, IfReq, Sysmod, Ver};
 use terms::ElemType;
 use text80::Line;
 

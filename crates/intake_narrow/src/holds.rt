@@ -15,7 +15,7 @@ use intake_wide::{
 };
 use mcs::Release;
 use std::alloc::{AllocError, Global};
-use sysmod::Hold;
+use sysmods_values::Hold;
 use terms::HoldKind;
 
 /// Why a hold or a release can't be carried.

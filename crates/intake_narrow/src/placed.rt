@@ -10,7 +10,7 @@ use intake_cards::Remarks;
 use intake_wide::{Place, WideHold, WideRelease};
 use mcs::{HoldItem, Release};
 use std::alloc::{AllocError, Global};
-use sysmod::Hold;
+use sysmods_values::Hold;
 
 /// A hold or a release of the hold file, and where it stood.
 #[derive(Drop)]

@@ -13,7 +13,7 @@ use intake_cards::{Place, Reason, Remarks, Subject};
 use intake_sysmod::{Options, carried_sysmod};
 use intake_wide::{WideHold, WideHoldKind, WideSysmod};
 use std::alloc::{AllocError, Global};
-use sysmod::{Hold, Sysmod};
+use sysmods_values::{Hold, Sysmod};
 
 /// What becomes of a SYSMOD: nothing where it is left out, and the holds in it that stand outside.
 #[derive(Drop)]

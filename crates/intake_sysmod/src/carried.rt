@@ -11,7 +11,7 @@ use fields::spelling::kind_text;
 use intake_cards::{Deed, Reason, Remarks, Subject};
 use intake_wide::{WideSysmod, tell_no_decision, tell_odd};
 use std::alloc::{AllocError, Global};
-use sysmod::{Sysmod, Ver};
+use sysmods_values::{Sysmod, Ver};
 
 /// The most elements that a SYSMOD may have.
 const MOST_ELEMENTS: usize = 999;

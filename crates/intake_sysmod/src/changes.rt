@@ -11,7 +11,7 @@ use fields::Name;
 use intake_cards::{Reason, Remarks, Subject};
 use intake_wide::{WideElement, WideSysmod};
 use std::alloc::{AllocError, Global};
-use sysmod::{Action, ElemChange, Sysmod};
+use sysmods_values::{Action, ElemChange, Sysmod};
 
 /// What an element statement changes, or nothing where it can't be carried, which is told.
 fn change_of(

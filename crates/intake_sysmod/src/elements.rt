@@ -12,7 +12,7 @@ use fields::Name;
 use intake_cards::{Deed, Reason, Remarks, Subject};
 use intake_wide::{Card, WideElement, tell_odd};
 use std::alloc::{AllocError, Global};
-use sysmod::{Action, ElemChange};
+use sysmods_values::{Action, ElemChange};
 use terms::{ElemType, Kind};
 use text80::{Line, TextError, Update};
 

@@ -7,7 +7,7 @@ use crate::ids::{id_of, ids_of};
 use intake_cards::{Deed, Reason, Remarks, Subject};
 use intake_wide::{WideIf, tell_odd};
 use std::alloc::{AllocError, Global};
-use sysmod::IfReq;
+use sysmods_values::IfReq;
 
 /// The most `++IF`s that a `++VER` may have.
 const MOST_IFS: usize = 100;

@@ -12,7 +12,7 @@ use fields::spelling::type_text;
 use intake_cards::{Reason, Remarks, Subject};
 use intake_wide::{Card, Place, WideElement};
 use std::alloc::{AllocError, Global};
-use sysmod::{Action, ElemChange};
+use sysmods_values::{Action, ElemChange};
 use terms::{ElemType, Kind};
 use text80::{Line, TextError, Update};
 

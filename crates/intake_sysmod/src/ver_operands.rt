@@ -9,7 +9,7 @@ use fields::{Id, IdList};
 use intake_cards::{Deed, Reason, Remarks, Subject};
 use intake_wide::{WideSysmod, WideVer, tell_odd};
 use std::alloc::{AllocError, Global};
-use sysmod::IfReq;
+use sysmods_values::IfReq;
 use terms::Kind;
 
 /// The lists of a `++VER`.

@@ -8,7 +8,7 @@ use fields::Srel;
 use intake_cards::{Reason, Remarks, Subject};
 use intake_wide::{WideSysmod, WideVer};
 use std::alloc::{AllocError, Global};
-use sysmod::{IfReq, Ver};
+use sysmods_values::{IfReq, Ver};
 use terms::Kind;
 
 /// The most `++VER`s that a SYSMOD may have.

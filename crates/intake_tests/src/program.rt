@@ -7,7 +7,7 @@ use std::alloc::Global;
 use std::io::{Error, ErrorKind};
 use std::test::Fail;
 use std::{io, str};
-use sysmod::Hold;
+use sysmods_values::Hold;
 use terms::HoldKind;
 
 /// The files that can be read.

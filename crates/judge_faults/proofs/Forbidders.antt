@@ -16,7 +16,7 @@ use Rattle.terms.specs.Choice.{Choice, npre_of}
 use Rattle.terms.specs.Deleted.{is_deleted, zone_less}
 use Rattle.terms.proofs.Applied.{in_applied_ids}
 use Rattle.terms.proofs.ListMembers.{filter_in, map_in}
-use Rattle.zones_views.proofs.Lookups.{is_applied_less}
+use Rattle.zones.proofs.Lookups.{is_applied_less}
 use Rattle.judge_faults.specs.Forbidders.{ForbidsBy, AreForbidders, IsForbidden}
 
 -- the order of ids

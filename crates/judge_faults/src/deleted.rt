@@ -10,7 +10,7 @@ use crate::own::{OwnFaults, own_at};
 use fields::{Id, IdList};
 use std::alloc::{AllocError, Global};
 use sysmods::VerChoice;
-use zones_views::deletions;
+use zones::deletions;
 
 // Whether its chain meets the deletions: mostly there are none.
 fn is_deleted(vers: &VerChoice<'_>, dels: &IdList, id: Id) -> bool

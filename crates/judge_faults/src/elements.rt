@@ -13,8 +13,8 @@ use crate::own::changes_of;
 use crate::view::View;
 use fields::{Id, IdList, Name};
 use std::alloc::{AllocError, Global};
-use sysmod::{Action, ElemChange};
 use sysmods::{GlobalZone, Overs};
+use sysmods_values::{Action, ElemChange};
 use terms::ElemType;
 use zones::Element;
 

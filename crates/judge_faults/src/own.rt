@@ -11,7 +11,7 @@ ghost use Rattle.terms.specs.Deleted.{deletions};
 ghost use Rattle.terms.specs.Tests.{HasSeveralFit, is_bypassed_hold};
 ghost use Rattle.sysmods.specs.Choices.{choice};
 ghost use Rattle.judge_faults.specs.Forbidders.{AreForbidders};
-ghost use Rattle.zones_views.specs.Scopes.{global_of, choice_of, setting_of, setting_with};
+ghost use Rattle.zones.specs.Scopes.{global_of, choice_of, setting_of, setting_with};
 ghost use Rattle.judge_faults.specs.Own.{IsLowerAt, HasFaults, passes_alone, passes};
 ghost use Rattle.terms.specs.Beside.{Beside};
 ghost use Rattle.judge_faults.specs.Views.{seen};
@@ -21,11 +21,10 @@ use crate::forbidden::{Forbidders, forbidders, is_forbidden};
 use crate::view::View;
 use fields::{Bypass, Id, IdList};
 use std::alloc::{AllocError, Global};
-use sysmod::{ElemChange, Ver};
 use sysmods::{GlobalZone, Overs};
+use sysmods_values::{ElemChange, Ver};
 use terms::{HoldKind, ZoneKind};
-use zones::Zone;
-use zones_views::{Scope, deletions, fits, is_bypassed_hold, view_deletions};
+use zones::{Scope, Zone, deletions, fits, is_bypassed_hold, view_deletions};
 
 /// What a candidate fails by itself: a SYSTEM hold or a USER hold stands against it, an NPRE forbids it, it changes an
 /// element that another owns (`foreign`) or that a SYSMOD made which it is not over (`lower`), it updates an element

@@ -1,7 +1,7 @@
 //! The tests of all candidates.
 ghost use Rattle.std.specs.Prelude.{◌≡◌, All, IsTrue, IfOk, map, option_copied};
 ghost use Rattle.terms.specs.Candidates.{is_installable};
-ghost use Rattle.zones_views.specs.Scopes.{global_of, setting_with};
+ghost use Rattle.zones.specs.Scopes.{global_of, setting_with};
 ghost use Rattle.judge_faults.specs.Failed.{AreFailedTests};
 
 use crate::deleted::all_with_deleted;
@@ -12,8 +12,7 @@ use fields::Attest;
 use std::alloc::{AllocError, Global};
 use sysmods::Overs;
 use terms::Test;
-use zones::Zone;
-use zones_views::Scope;
+use zones::{Scope, Zone};
 
 /// For each candidate the tests that it fails, and what was found of who is over whom.
 #[derive(Drop)]

@@ -6,8 +6,7 @@ ghost use Rattle.judge_faults.specs.Views.{seen};
 use fields::{Id, Name};
 use sysmods::VerChoice;
 use terms::ElemType;
-use zones::{Element, Zone};
-use zones_views::{element_left, is_left};
+use zones::{Element, Zone, element_left, is_left};
 
 /// The zone less these deletions.
 #[derive(Clone, Copy)]

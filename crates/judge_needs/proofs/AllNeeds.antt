@@ -18,12 +18,12 @@ use Rattle.terms.proofs.IdPlaces.{before_apart}
 use Rattle.terms.proofs.Lists.{front_more}
 use Rattle.terms.proofs.ListMembers.{here, here_or, there, map_in, in_map, filter_in, in_filter, none_in}
 use Rattle.terms.proofs.Pairs.{AllPairs_front, AllPairs_join, AllPairs_parts, pairs_map}
-use Rattle.decide.specs.declared.stated.Need.{Need}
-use Rattle.decide.specs.Said.{a_need}
+use Rattle.judge_system.specs.declared.stated.RequisiteOf.{RequisiteOf}
+use Rattle.judge_system.specs.Said.{a_need}
 use Rattle.judge_needs.specs.Needed.{is_open, IsOpen, AreAllNeeds, AreNeedsOf, AddsPart, IsOfKind}
 use Rattle.judge_needs.proofs.Growing.{front_in}
 
-pub join : (D E : Id → NeedKind → Id → Type 0) (xs ys : List Need) → AreAllNeeds D xs → AreAllNeeds E ys
+pub join : (D E : Id → NeedKind → Id → Type 0) (xs ys : List RequisiteOf) → AreAllNeeds D xs → AreAllNeeds E ys
     → ((x : Id) (kind : NeedKind) (z : Id) → D x kind z → ¬ E x kind z)
     → AreAllNeeds (λ x kind z. D x kind z ⊎ E x kind z) (xs ++ ys)
 join D E xs ys v w apart = record {
@@ -41,11 +41,11 @@ join D E xs ys v w apart = record {
       differ (get_or xs i a) (get_or ys j b) (Contains-get_or xs i a below) (Contains-get_or ys j b within));
 }
   where
-    differ : (a b : Need) → Contains xs a → Contains ys b → a ≢ b
+    differ : (a b : RequisiteOf) → Contains xs a → Contains ys b → a ≢ b
     differ a b in_xs in_ys same = apart a.of a.kind a.id ((v.members a.of a.kind a.id).0 in_xs)
         ((w.members a.of a.kind a.id).0 (subst (Contains ys) (sym same) in_ys))
 
-pub alike : (D E : Id → NeedKind → Id → Type 0) (xs : List Need)
+pub alike : (D E : Id → NeedKind → Id → Type 0) (xs : List RequisiteOf)
     → ((x : Id) (kind : NeedKind) (z : Id) → D x kind z ↔ E x kind z) → AreAllNeeds D xs → AreAllNeeds E xs
 alike D E xs both w = record {
   members = λ x kind z. (
@@ -60,7 +60,7 @@ module _ (zone : Zone) (b : Bypass) (kind : NeedKind) where
   abbrev is_left : Id → Bool
   is_left = is_open zone b kind
 
-  pub of_kind_holds : (of : Id) (asked : List Id) (old new : List Need) → IsRising asked
+  pub of_kind_holds : (of : Id) (asked : List Id) (old new : List RequisiteOf) → IsRising asked
       → new ≡ old ++ map (a_need of kind) (filter (is_open zone b kind) asked)
       → AddsPart of (IsOfKind zone b kind asked) old new
   of_kind_holds of asked old new rising are = record {
@@ -71,10 +71,10 @@ module _ (zone : Zone) (b : Bypass) (kind : NeedKind) where
         λ h.
             let m = map_in (a_need of kind) (filter is_left asked) (a_need x k z) h in
             let f = filter_in is_left asked m.0 m.1 in
-            let same : m.0 ≡ z = ap (λ (w : Need). w.id) m.2 in (
-              sym (ap (λ (w : Need). w.of) m.2),
+            let same : m.0 ≡ z = ap (λ (w : RequisiteOf). w.id) m.2 in (
+              sym (ap (λ (w : RequisiteOf). w.of) m.2),
               (
-                sym (ap (λ (w : Need). w.kind) m.2),
+                sym (ap (λ (w : RequisiteOf). w.kind) m.2),
                 subst (Contains asked) same f.0,
                 subst (λ y. is_left y ≡ true) same f.1,
               ),
@@ -85,13 +85,13 @@ module _ (zone : Zone) (b : Bypass) (kind : NeedKind) where
             (in_map (a_need of kind) (filter is_left asked) z (in_filter is_left asked z h.1.1 h.1.2))),
       );
       once = pairs_map (λ x y. IsTrue (is_before x y)) (λ v w. v ≢ w) (a_need of kind)
-          (λ x y below same. before_apart x y below (ap (λ (w : Need). w.id) same)) (filter is_left asked)
+          (λ x y below same. before_apart x y below (ap (λ (w : RequisiteOf). w.id) same)) (filter is_left asked)
           (AllPairs-filter (λ x y. IsTrue (is_before x y)) is_left asked rising);
     };
   }
 
 -- two parts, one behind the other
-pub both_parts : (of : Id) (P Q : NeedKind → Id → Type 0) (a b c : List Need) → AddsPart of P a b → AddsPart of Q b c
+pub both_parts : (of : Id) (P Q : NeedKind → Id → Type 0) (a b c : List RequisiteOf) → AddsPart of P a b → AddsPart of Q b c
     → ((kind : NeedKind) (z : Id) → P kind z → ¬ Q kind z)
     → AddsPart of (λ kind z. P kind z ⊎ Q kind z) a c
 both_parts of P Q a b c p q apart = record {
@@ -105,7 +105,7 @@ both_parts of P Q a b c p q apart = record {
       (λ x kind z l r. apart kind z l.1 r.1));
 }
 
-pub same_part : (of : Id) (P Q : NeedKind → Id → Type 0) (a b : List Need)
+pub same_part : (of : Id) (P Q : NeedKind → Id → Type 0) (a b : List RequisiteOf)
     → ((kind : NeedKind) (z : Id) → P kind z ↔ Q kind z) → AddsPart of P a b → AddsPart of Q a b
 same_part of P Q a b both p = record {
   more = p.more;
@@ -145,7 +145,7 @@ module _ (s : Setting) (survivors : List Id) (left : Zone) (x : Id) where
   abbrev Among : List NeedKind → NeedKind → Id → Type 0
   Among kinds kind z = Contains kinds kind × IsOpen s survivors left x kind z
 
-  no_kind : (l : List Need) → AddsPart x (Among []) l l
+  no_kind : (l : List RequisiteOf) → AddsPart x (Among []) l l
   no_kind l = record {
     more = [];
     are = sym (append-nil l);
@@ -155,7 +155,7 @@ module _ (s : Setting) (survivors : List Id) (left : Zone) (x : Id) where
     };
   }
 
-  next_kind : (kinds : List NeedKind) (kind : NeedKind) (a b c : List Need)
+  next_kind : (kinds : List NeedKind) (kind : NeedKind) (a b c : List RequisiteOf)
       → AllByRecursion (λ j. rank j < rank kind) kinds → AddsPart x (Among kinds) a b → AddsPart x (Of kind) b c
       → AddsPart x (Among (kind ∷ kinds)) a c
   next_kind kinds kind a b c lower front next =
@@ -190,7 +190,7 @@ module _ (s : Setting) (survivors : List Id) (left : Zone) (x : Id) where
   asked_among Elem z h = absurd (none_in z h.0)
   asked_among Dep z h = absurd (none_in z h.0)
 
-  pub all_parts : (l0 l1 l2 l3 l4 l5 l6 : List Need) → AddsPart x (Of Fmid) l0 l1 → AddsPart x (Of Pre) l1 l2
+  pub all_parts : (l0 l1 l2 l3 l4 l5 l6 : List RequisiteOf) → AddsPart x (Of Fmid) l0 l1 → AddsPart x (Of Pre) l1 l2
       → AddsPart x (Of Req) l2 l3 → AddsPart x (Of Ifreq) l3 l4 → AddsPart x (Of HoldError) l4 l5
       → AddsPart x (Of Orphan) l5 l6 → AddsPart x (IsOpen s survivors left x) l0 l6
   unfolding rank
@@ -220,7 +220,7 @@ apart xs k x y rising below at in_front =
 
 module _ (s : Setting) (survivors : List Id) (left : Zone) where
   -- the next candidate
-  pub needs_next : (xs : List Id) (k : ℕ) (x : Id) (old new : List Need) → IsRising xs → k < length xs
+  pub needs_next : (xs : List Id) (k : ℕ) (x : Id) (old new : List RequisiteOf) → IsRising xs → k < length xs
       → x ≡ get_or xs k x → AddsPart x (IsOpen s survivors left x) old new
       → AreNeedsOf s survivors left (take k xs) old → AreNeedsOf s survivors left (take (k + 1) xs) new
   needs_next xs k x old new rising below at p w =
@@ -253,7 +253,7 @@ one_rises None = λ i j d less below. absurd (omega (arith, below))
 one_rises (Some x) = λ i j d less below. absurd (omega (arith, less, below))
 
 -- the same ids, in another list
-pub same_asked : (zone : Zone) (b : Bypass) (kind : NeedKind) (of : Id) (xs ys : List Id) (old new : List Need)
+pub same_asked : (zone : Zone) (b : Bypass) (kind : NeedKind) (of : Id) (xs ys : List Id) (old new : List RequisiteOf)
     → ((z : Id) → Contains xs z ↔ Contains ys z) → AddsPart of (IsOfKind zone b kind xs) old new
     → AddsPart of (IsOfKind zone b kind ys) old new
 same_asked zone b kind of xs ys old new same part =

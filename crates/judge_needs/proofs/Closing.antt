@@ -14,7 +14,7 @@ use Rattle.terms.specs.Lookups.{is_in}
 use Rattle.terms.specs.Choice.{Choice, sup_of}
 use Rattle.terms.specs.Over.{Supersedes}
 use Rattle.terms.specs.Needs.{takes_superseder}
-use Rattle.decide.specs.declared.stated.Need.{Need}
+use Rattle.judge_system.specs.declared.stated.RequisiteOf.{RequisiteOf}
 use Rattle.judge_needs.specs.declared.superseded.Closure.{Closure}
 use Rattle.judge_needs.specs.Closures.{AddsBelow, AreEnough, IsClosure, SupersedesOne}
 use Rattle.judge_needs.specs.Pairs.{ArePairs, AreSuperseded, IsNeeded}
@@ -135,21 +135,21 @@ module _ (c : Choice) (needed : List Id) where
         | inr by ↦ inr (by.0, by.1, (need, reaches_first (sup_of c) by.0 y z by.2 (ys, steps.1)))
       ]
 
-module _ (needs : List Need) (needed : List Id)
+module _ (needs : List RequisiteOf) (needed : List Id)
     (same : (z : Id) → Contains needed z
-    ↔ Contains (map (λ (w : Need). w.id) (filter (λ w. takes_superseder w.kind) needs)) z) where
-  abbrev served : List Need
+    ↔ Contains (map (λ (w : RequisiteOf). w.id) (filter (λ w. takes_superseder w.kind) needs)) z) where
+  abbrev served : List RequisiteOf
   served = filter (λ w. takes_superseder w.kind) needs
 
   -- the ids that somebody needs where a superseder serves
   are_needed : (z : Id) → Contains needed z ↔ IsNeeded needs z
   are_needed z = (
     λ h.
-        let m = map_in (λ (w : Need). w.id) served z ((same z).0 h) in
+        let m = map_in (λ (w : RequisiteOf). w.id) served z ((same z).0 h) in
         let f = filter_in (λ w. takes_superseder w.kind) needs m.0 m.1 in
         (m.0, f.0, f.1, m.2),
-    λ w. (same z).1 (subst (Contains (map (λ (w : Need). w.id) served)) w.3
-        (in_map (λ (w : Need). w.id) served w.0 (in_filter (λ w. takes_superseder w.kind) needs w.0 w.1 w.2))),
+    λ w. (same z).1 (subst (Contains (map (λ (w : RequisiteOf). w.id) served)) w.3
+        (in_map (λ (w : RequisiteOf). w.id) served w.0 (in_filter (λ w. takes_superseder w.kind) needs w.0 w.1 w.2))),
   )
 
   pub pairs_needed : (c : Choice) (xs : List Id) (pairs : List (Id × Id)) → ArePairs (SupersedesOne c needed) xs pairs

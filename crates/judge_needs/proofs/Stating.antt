@@ -15,8 +15,8 @@ use Rattle.terms.specs.Choice.{Choice}
 use Rattle.terms.specs.Deleted.{is_deleted, is_taken_out, entry_less, zone_less}
 use Rattle.terms.specs.Conditions.{if_reqs, stated_for}
 use Rattle.terms.proofs.Applied.{found_itself}
-use Rattle.zones_views.proofs.Flats.{filter_weaker}
-use Rattle.zones_views.proofs.Lookups.{is_applied_less}
+use Rattle.zones.proofs.Flats.{filter_weaker}
+use Rattle.zones.proofs.Lookups.{is_applied_less}
 use Rattle.judge_needs.specs.declared.stated.Requisite.{Requisite}
 use Rattle.judge_needs.specs.Conditions.{a_requisite, stated_by}
 

@@ -1,7 +1,7 @@
 -- What deletions leave of the zone, by the values of the code.
 use Rattle.terms.specs.Types.{Zone}
 use Rattle.terms.specs.Deleted.{zone_less}
-use Rattle.zones_views.specs.Scopes.{global_of, choice_of}
+use Rattle.zones.specs.Scopes.{global_of, choice_of}
 use Rattle.judge_needs.specs.declared.left.Left.{Left}
 
 -- the zone less the deletions

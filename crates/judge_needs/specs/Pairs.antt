@@ -5,7 +5,7 @@ use Rattle.terms.specs.Choice.{Choice}
 use Rattle.terms.specs.Over.{Supersedes}
 use Rattle.terms.specs.Tests.{Setting}
 use Rattle.terms.specs.Needs.{bypassed_ids, takes_superseder}
-use Rattle.decide.specs.declared.stated.Need.{Need}
+use Rattle.judge_system.specs.declared.stated.RequisiteOf.{RequisiteOf}
 
 -- the pairs of an id with these come in
 abbrev pub AddsBy : Id → (Id → Type 0) → List (Id × Id) → List (Id × Id) → Type 0
@@ -23,9 +23,9 @@ abbrev pub AreBypassed : Setting → List Id → List (Id × Id) → Type 0
 AreBypassed s xs pairs = ArePairs (λ x. Contains (bypassed_ids s x)) xs pairs
 
 -- somebody needs the id, and a superseder serves that need
-abbrev pub IsNeeded : List Need → Id → Type 0
-IsNeeded needs z = (w : Need) × Contains needs w × IsTrue (takes_superseder w.kind) × (w.id ≡ z)
+abbrev pub IsNeeded : List RequisiteOf → Id → Type 0
+IsNeeded needs z = (w : RequisiteOf) × Contains needs w × IsTrue (takes_superseder w.kind) × (w.id ≡ z)
 
 -- the pairs of these candidates with the ids that they supersede, of those that somebody needs
-abbrev pub AreSuperseded : Choice → List Need → List Id → List (Id × Id) → Type 0
+abbrev pub AreSuperseded : Choice → List RequisiteOf → List Id → List (Id × Id) → Type 0
 AreSuperseded c needs xs pairs = ArePairs (λ x z. IsNeeded needs z × Supersedes c x z) xs pairs

@@ -2,14 +2,14 @@
 ghost use Rattle.std.specs.Prelude.{◌≡◌, ◌↔◌, [], Contains, OnOk, IfOk, if◌then◌else◌};
 ghost use Rattle.terms.specs.Types.{Id as AnId};
 ghost use Rattle.terms.specs.Needs.{bypassed_ids, is_bypassed};
-ghost use Rattle.zones_views.specs.Scopes.{setting_of};
+ghost use Rattle.zones.specs.Scopes.{setting_of};
 ghost use Rattle.judge_needs.specs.Pairs.{AddsPairs, AreBypassed};
 
 use crate::conditions::Conditions;
 use fields::Id;
 use std::alloc::{AllocError, Global};
 use terms::NeedKind;
-use zones_views::Scope;
+use zones::Scope;
 
 /// Adds the pairs of an id with these.
 pub(crate) fn add_pairs(pairs: &mut Vec<(Id, Id)>, id: Id, others: &[Id]) -> Result<(), AllocError>

@@ -7,7 +7,7 @@ ghost use Rattle.terms.specs.Deleted.{deletions};
 ghost use Rattle.terms.specs.Conditions.{if_reqs};
 ghost use Rattle.terms.specs.Needs.{asked};
 ghost use Rattle.judge_needs.specs.Conditions.{AreStated, is_there, requisites_of};
-ghost use Rattle.zones_views.specs.Scopes.{global_of, choice_of, setting_of};
+ghost use Rattle.zones.specs.Scopes.{global_of, choice_of, setting_of};
 ghost use Rattle.judge_needs.specs.Left.{left_of};
 
 use crate::left::Left;
@@ -15,7 +15,7 @@ use crate::stated::{Stated, all_stated};
 use fields::{Attest, Id, IdList};
 use sorted::lists::listed;
 use std::alloc::{AllocError, Global};
-use zones_views::{Scope, deletions, view_deletions};
+use zones::{Scope, deletions, view_deletions};
 
 /// What the requisites by `++IF` are found by: what applied SYSMODs state, and what the candidates name in DELETE.
 #[derive(Drop)]

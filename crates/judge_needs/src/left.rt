@@ -7,7 +7,7 @@ ghost use Rattle.judge_needs.specs.Needed.{is_open};
 
 use fields::Id;
 use terms::NeedKind;
-use zones_views::{Scope, is_left, supplies_left};
+use zones::{Scope, is_left, supplies_left};
 
 /// The zone less these deletions.
 #[derive(Clone, Copy)]

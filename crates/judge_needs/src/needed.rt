@@ -4,18 +4,18 @@ ghost use Rattle.std.specs.Prelude.{◌≡◌, ◌↔◌, Contains, OnOk, IfOk};
 ghost use Rattle.terms.specs.Types.{Id as AnId};
 ghost use Rattle.terms.specs.Lookups.{IsRising};
 ghost use Rattle.terms.specs.Needs.{asked};
-ghost use Rattle.zones_views.specs.Scopes.{setting_of};
+ghost use Rattle.zones.specs.Scopes.{setting_of};
 ghost use Rattle.judge_needs.specs.Left.{left_of};
 ghost use Rattle.judge_needs.specs.Needed.{IsOpen, IsOfKind, AreNeeds, AddsPart};
 
 use crate::conditions::Conditions;
 use crate::left::Left;
 use crate::reasons::open_reasons;
-use decide::Need;
 use fields::{Id, IdList};
+use judge_system::RequisiteOf;
 use std::alloc::{AllocError, Global};
 use terms::NeedKind;
-use zones_views::{Scope, deletions, orphans};
+use zones::{Scope, deletions, orphans};
 
 // Adds what a candidate asks for and is not met.
 fn add_asked(
@@ -23,7 +23,7 @@ fn add_asked(
     of: Id,
     kind: NeedKind,
     asked: &[Id],
-    needs: &mut Vec<Need>,
+    needs: &mut Vec<RequisiteOf>,
 ) -> Result<(), AllocError>
     requires { IsRising asked.now }
     ensures { OnOk result (AddsPart of (IsOfKind (left_of left.now) left.now.scope.bypass.now kind asked.now)
@@ -33,7 +33,7 @@ fn add_asked(
         asked
             .iter()
             .filter(|id| left.is_open(kind, **id))
-            .map(|id| Need { of, kind, id: *id }),
+            .map(|id| RequisiteOf { of, kind, id: *id }),
     )
 }
 
@@ -61,7 +61,7 @@ fn add_open(
     survivors: &IdList,
     conditions: &Conditions<'_, '_>,
     id: Id,
-    needs: &mut Vec<Need>,
+    needs: &mut Vec<RequisiteOf>,
 ) -> Result<(), AllocError>
     requires { conditions.now.scope ≡ left.now.scope }
     ensures { OnOk result (AddsPart id (IsOpen (setting_of left.now.scope) survivors.now (left_of left.now) id)
@@ -85,7 +85,7 @@ pub fn needs_of(
     alloc: Global,
     scope: &Scope<'_, '_>,
     survivors: &IdList,
-) -> Result<Vec<Need>, AllocError>
+) -> Result<Vec<RequisiteOf>, AllocError>
     ensures { IfOk result (λ needs. AreNeeds (setting_of scope.now) survivors.now needs.items) }
 {
     let dels = deletions(alloc, scope.vers, survivors.as_slice())?;

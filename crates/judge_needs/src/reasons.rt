@@ -3,12 +3,12 @@ ghost use Rattle.std.specs.Prelude.{◌↔◌, [], Contains, IfOk};
 ghost use Rattle.terms.specs.declared.codes.NeedKind.TheVariants.{HoldError};
 ghost use Rattle.terms.specs.Types.{Id as AnId};
 ghost use Rattle.terms.specs.Needs.{asked};
-ghost use Rattle.zones_views.specs.Scopes.{setting_of};
+ghost use Rattle.zones.specs.Scopes.{setting_of};
 
 use fields::{Id, IdList};
 use std::alloc::{AllocError, Global};
 use terms::HoldKind;
-use zones_views::{Scope, is_bypassed_hold};
+use zones::{Scope, is_bypassed_hold};
 
 /// The reasons, which are ids, of the ERROR holds on a candidate that BYPASS does not cover.
 pub(crate) fn open_reasons(

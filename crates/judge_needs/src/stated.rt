@@ -3,14 +3,14 @@ ghost use Rattle.std.specs.Prelude.{◌≡◌, [], map, filter, OnOk, IfOk, if�
 ghost use Rattle.std.specs.List.{flat_map};
 ghost use Rattle.std.specs.Str.{bytes_eq};
 ghost use Rattle.judge_needs.specs.Conditions.{AddsMore, AreStated, a_requisite};
-ghost use Rattle.zones_views.specs.Scopes.{choice_of};
+ghost use Rattle.zones.specs.Scopes.{choice_of};
 
 use fields::Id;
 use sorted::lists::{Lists, add};
 use std::alloc::{AllocError, Global};
 use std::collections::BTreeMap;
-use sysmod::IfReq;
-use zones_views::Scope;
+use sysmods_values::IfReq;
+use zones::Scope;
 
 /// A requisite, and the applied SYSMOD that states it.
 #[derive(Clone, Copy)]

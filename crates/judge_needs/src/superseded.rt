@@ -6,14 +6,14 @@ ghost use Rattle.terms.specs.Types.{Id as AnId};
 ghost use Rattle.terms.specs.Lookups.{is_in};
 ghost use Rattle.terms.specs.Choice.{sup_of};
 ghost use Rattle.terms.specs.Needs.{takes_superseder};
-ghost use Rattle.decide.specs.declared.stated.Need.{Need as ANeed};
+ghost use Rattle.judge_system.specs.declared.stated.RequisiteOf.{RequisiteOf as ANeed};
 ghost use Rattle.sysmods.specs.Choices.{choice};
 ghost use Rattle.judge_needs.specs.Closures.{AddsBelow, AreEnough, IsClosure, SupersedesOne};
 ghost use Rattle.judge_needs.specs.Pairs.{AreSuperseded};
 
 use crate::bypassed::add_pairs;
-use decide::{Need, takes_superseder};
 use fields::{Id, IdList};
+use judge_system::{RequisiteOf, takes_superseder};
 use sorted::{Keyed, Table};
 use std::alloc::{AllocError, Global};
 use sysmods::VerChoice;
@@ -46,7 +46,7 @@ fn sup<'a>(vers: &VerChoice<'a>, id: Id) -> &'a [Id]
 }
 
 // The ids that are needed where a superseder serves.
-fn needed_ids(alloc: Global, needs: &[Need]) -> Result<Vec<Id>, AllocError>
+fn needed_ids(alloc: Global, needs: &[RequisiteOf]) -> Result<Vec<Id>, AllocError>
     ensures { IfOk result (λ ids. ids.items
         ≡ map (λ (w : ANeed). w.id) (filter (λ (w : ANeed). takes_superseder w.kind) needs.now)) }
 {
@@ -133,7 +133,7 @@ pub fn superseded_pairs(
     alloc: Global,
     vers: &VerChoice<'_>,
     ids: &IdList,
-    needs: &[Need],
+    needs: &[RequisiteOf],
 ) -> Result<Vec<(Id, Id)>, AllocError>
     ensures { IfOk result (λ pairs. AreSuperseded (choice vers.now) needs.now ids.now pairs.items) }
 {

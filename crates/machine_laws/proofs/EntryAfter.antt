@@ -10,7 +10,7 @@ use Rattle.terms.specs.Lookups.{is_nil, is_in, waives_applied, entry_of}
 use Rattle.terms.specs.Lookups.{applied_of, supby_of, waived_of}
 use Rattle.terms.specs.Deleted.{deletions, is_taken_out, zone_less}
 use Rattle.terms.specs.Install.{Installation, applied_with, cleared, delby_after}
-use Rattle.zones_views.proofs.Entries.{entries_less_waive}
+use Rattle.zones.proofs.Entries.{entries_less_waive}
 use Rattle.machine_laws.proofs.Effective.{IsSoundInstall, effective}
 use Rattle.machine_laws.proofs.Effective.{superseders}
 use Rattle.machine_laws.proofs.JoinedIds.{joined}

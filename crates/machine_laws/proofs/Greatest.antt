@@ -6,8 +6,8 @@ use Rattle.terms.specs.Tests.{Setting, IsEligible}
 use Rattle.terms.specs.Needs.{Needs, Serves}
 use Rattle.terms.specs.Judged.{IsKeptSet}
 use Rattle.terms.specs.Restore.{Restoring, NeedsInRestore, MayBeRestored, IsRestored}
-use Rattle.decide.specs.Greatest.{IsGreatestSet}
-use Rattle.decide.proofs.Greatest.{kept_is_greatest}
+use Rattle.solve.specs.Greatest.{IsGreatestSet}
+use Rattle.solve.proofs.Greatest.{kept_is_greatest}
 
 -- What an APPLY or ACCEPT keeps is the greatest set of its eligible candidates that supports itself.
 pub installs_greatest : (s : Setting) (kept : List Id) (k : IsKeptSet s kept)

@@ -9,7 +9,7 @@ use Rattle.terms.specs.Lookups.{IsZone, is_in, has_change, element_of, element_e
 use Rattle.terms.specs.Deleted.{entries_less}
 use Rattle.terms.specs.Restore.{Restoring, Restores}
 use Rattle.terms.proofs.ElementOrder.{element_cmp_total, element_ties}
-use Rattle.zones_views.proofs.Entries.{entries_less_held, entries_less_waive, entries_less_rise}
+use Rattle.zones.proofs.Entries.{entries_less_held, entries_less_waive, entries_less_rise}
 use Rattle.undo.specs.Restoring.{all_changed, element_at}
 use Rattle.terms.proofs.ElementOrder.{same_key}
 use Rattle.undo.proofs.Reverted.{key_found, by_some}

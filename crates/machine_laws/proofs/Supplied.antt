@@ -14,9 +14,9 @@ use Rattle.terms.specs.Choice.{Choice}
 use Rattle.terms.specs.Over.{chain}
 use Rattle.terms.specs.Deleted.{is_deleted, is_taken_out, zone_less}
 use Rattle.terms.proofs.Ids.{is_in_from_Contains, Contains_from_is_in}
-use Rattle.zones_views.proofs.Filtered.{passing}
+use Rattle.zones.proofs.Filtered.{passing}
 use Rattle.machine_laws.proofs.TakenOff.{waived_left as waived_still}
-use Rattle.zones_views.proofs.Lookups.{is_applied_less, supby_of_less, element_of_less}
+use Rattle.zones.proofs.Lookups.{is_applied_less, supby_of_less, element_of_less}
 use Rattle.terms.proofs.Searches.{passes_some, some_passes}
 
 module _ (zone : Zone) where

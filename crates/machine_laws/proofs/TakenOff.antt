@@ -13,7 +13,7 @@ use Rattle.terms.specs.Types.{Id, Entry, Zone, Applied}
 use Rattle.terms.specs.Lookups.{IsZone, is_nil, is_before, has_content, entry_of, is_applied, applied_of, supby_of}
 use Rattle.terms.specs.Lookups.{delby_of, waived_of}
 use Rattle.terms.specs.Deleted.{entry_less, entries_less}
-use Rattle.zones_views.proofs.Filtered.{passing, find_filter}
+use Rattle.zones.proofs.Filtered.{passing, find_filter}
 use Rattle.terms.proofs.Options.{is_some_unless}
 
 record IsBare (date : Option Applied) (supby : List Id) (delby : Option Id) : Type 0 where

@@ -6,7 +6,7 @@ use Rattle.terms.specs.Tests.{Setting, IsEligible}
 use Rattle.terms.specs.Needs.{Needs, Serves}
 use Rattle.terms.specs.Judged.{IsKeptSet}
 use Rattle.terms.specs.Restore.{Restoring, NeedsInRestore, MayBeRestored, IsRestored}
-use Rattle.decide.specs.Greatest.{IsGreatestSet}
+use Rattle.solve.specs.Greatest.{IsGreatestSet}
 
 -- What an APPLY or ACCEPT keeps is the greatest set of its eligible candidates that supports itself.
 abbrev pub InstallsGreatest : Type 0

@@ -19,7 +19,7 @@ use crate::said::Statement;
 use fields::Name;
 use rec80::{Record, one, required};
 use std::alloc::{AllocError, Global};
-use sysmod::{Action, ElemChange};
+use sysmods_values::{Action, ElemChange};
 use terms::{ElemType, StatementCode};
 use text80::{Line, Numbered, TextError, Update};
 

@@ -10,7 +10,7 @@ use crate::said::Statement;
 use fields::{Id, Source};
 use std::alloc::{AllocError, Global};
 use std::marker::Model;
-use sysmod::{ElemChange, Hold, IfReq, Sysmod, Ver};
+use sysmods_values::{ElemChange, Hold, IfReq, Sysmod, Ver};
 
 /// `++ASSIGN`: the source that the ids get, as the statement has them.
 #[derive(Drop)]

@@ -14,7 +14,7 @@ use crate::fault::{StatementError, no_value};
 use crate::hold_operands::{Release, has_short_comment, hold_of_operands, release_of_operands};
 use rec80::Group;
 use std::alloc::Global;
-use sysmod::Hold;
+use sysmods_values::Hold;
 use terms::{StatementCode, StatementWord};
 
 /// An item of a hold file.

@@ -18,7 +18,7 @@ use fields::{Class, HoldDate, Id, Reason};
 use rec80::{BadOperand, OperandError, Word, one, optional, required};
 use std::alloc::Global;
 use std::marker::Model;
-use sysmod::Hold;
+use sysmods_values::Hold;
 use terms::HoldKind;
 
 /// The operands of `++HOLD`.

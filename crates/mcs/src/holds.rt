@@ -19,7 +19,7 @@ use crate::hold_operands::{has_short_comment, hold_of_operands};
 use crate::said::Statement;
 use rec80::OperandError;
 use std::alloc::Global;
-use sysmod::{Hold, Sysmod};
+use sysmods_values::{Hold, Sysmod};
 use terms::{HoldKind, StatementCode};
 
 /// Whether it is a SYSTEM hold of the SYSMOD.

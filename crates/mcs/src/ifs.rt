@@ -19,7 +19,7 @@ use crate::said::Statement;
 use fields::Id;
 use rec80::{OperandError, Word, ids, one};
 use std::alloc::Global;
-use sysmod::{IfReq, Sysmod, Ver};
+use sysmods_values::{IfReq, Sysmod, Ver};
 use terms::StatementCode;
 
 /// Whether the word is this one.

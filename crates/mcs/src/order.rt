@@ -13,7 +13,7 @@ use crate::begin::Known;
 use crate::file::Begun;
 use fields::{Id, Name, Srel};
 use rec80::{Operands, Record, Word, one};
-use sysmod::{Sysmod, Ver};
+use sysmods_values::{Sysmod, Ver};
 use terms::{ElemType, Kind, StatementWord};
 
 /// The type of the element that a statement of the word changes.

@@ -1,7 +1,7 @@
 //! What one statement of a PTFIN says.
 use crate::file::Assign;
 use fields::Id;
-use sysmod::{ElemChange, Hold, IfReq, Ver};
+use sysmods_values::{ElemChange, Hold, IfReq, Ver};
 use terms::Kind;
 
 /// What one statement says. A `++VER` stands here without its `++IF`s.

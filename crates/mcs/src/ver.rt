@@ -21,7 +21,7 @@ use crate::values::listed_ids;
 use fields::{Id, IdList, Srel};
 use rec80::{OperandError, Word, one, operand, optional};
 use std::alloc::Global;
-use sysmod::{Sysmod, Ver};
+use sysmods_values::{Sysmod, Ver};
 use terms::{Kind, StatementCode};
 
 /// The operands of `++VER`.

@@ -6,7 +6,7 @@ use fields::{Id, Reason};
 use mcs::{HoldItem, McsError, read_hold};
 use std::alloc::Global;
 use std::test::Fail;
-use sysmod::Hold;
+use sysmods_values::Hold;
 use terms::HoldKind;
 
 fn put_key(spelled: &mut Spelled, id: Id, kind: HoldKind, reason: Reason, fmid: Id) {

@@ -7,7 +7,7 @@ use mcs::{Assign, Item, read_ptfin};
 use std::alloc::Global;
 use std::process::Abort;
 use std::test::Fail;
-use sysmod::{Action, ElemChange, Sysmod, Ver};
+use sysmods_values::{Action, ElemChange, Sysmod, Ver};
 
 fn put_ver(spelled: &mut Spelled, ver: &Ver) {
     spelled.put_words(&[ver.srel.as_bytes()]);

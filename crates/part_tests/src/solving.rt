@@ -1,20 +1,20 @@
 //! The greatest set that supports itself, who causes failures, and the least set that grows.
-use decide::{NumberedNeed, Problem, Rule, Rules, Solver, Sweep, Worklist, causers, least};
+use solve::{Need, Rule, Rules, Solver, Sweep, System, Worklist, causers, least};
 use std::alloc::{AllocError, Global};
 use std::process::Abort;
 
 /// A list of candidates with their needs: who needs which of these.
 type Needs<'a> = &'a [(usize, &'a [usize])];
 
-fn add_need(alloc: Global, s: &mut Problem, of: usize, any: &[usize]) -> Result<(), AllocError> {
+fn add_need(alloc: Global, s: &mut System, of: usize, any: &[usize]) -> Result<(), AllocError> {
     if s.admits(of, any) {
         let any = any.to_vec(alloc)?;
-        s.add_need(NumberedNeed { of, any })?;
+        s.add_need(Need { of, any })?;
     }
     Ok(())
 }
 
-fn add_candidates(s: &mut Problem, eligible: &[bool]) -> Result<(), AllocError> {
+fn add_candidates(s: &mut System, eligible: &[bool]) -> Result<(), AllocError> {
     for flag in eligible {
         if s.size() < 100 {
             s.add_candidate(*flag)?;
@@ -23,16 +23,16 @@ fn add_candidates(s: &mut Problem, eligible: &[bool]) -> Result<(), AllocError> 
     Ok(())
 }
 
-fn add_needs(alloc: Global, s: &mut Problem, needs: Needs<'_>) -> Result<(), AllocError> {
+fn add_needs(alloc: Global, s: &mut System, needs: Needs<'_>) -> Result<(), AllocError> {
     for (of, any) in needs {
         add_need(alloc, s, *of, any)?;
     }
     Ok(())
 }
 
-/// A problem of these candidates and needs.
-fn problem(alloc: Global, eligible: &[bool], needs: Needs<'_>) -> Result<Problem, AllocError> {
-    let mut s = Problem::new(alloc, Vec::new(alloc));
+/// A system of these candidates and needs.
+fn system(alloc: Global, eligible: &[bool], needs: Needs<'_>) -> Result<System, AllocError> {
+    let mut s = System::new(alloc, Vec::new(alloc));
     add_candidates(&mut s, eligible)?;
     add_needs(alloc, &mut s, needs)?;
     Ok(s)
@@ -99,7 +99,7 @@ const CASES: [Case<'static>; 6] = [
 ];
 
 fn check(rt: &impl Abort, alloc: Global, case: &Case<'_>) -> Result<(), AllocError> {
-    let s = problem(alloc, case.eligible, case.needs)?;
+    let s = system(alloc, case.eligible, case.needs)?;
     let swept = Sweep.greatest(alloc, &s)?;
     let (kept, count) = Worklist::count(alloc, &s)?;
     assert_eq!(rt; swept.flags(), case.kept);
@@ -122,7 +122,7 @@ fn candidates_stay_or_fail_by_their_causers(rt: HostRuntime) -> Result<(), Alloc
 }
 
 /// Each of so many candidates needs the next one, and the last one `end`.
-fn add_chain(alloc: Global, s: &mut Problem, n: usize, end: &[usize]) -> Result<(), AllocError> {
+fn add_chain(alloc: Global, s: &mut System, n: usize, end: &[usize]) -> Result<(), AllocError> {
     for k in 0..n {
         let next = [k.saturating_add(1)];
         let any = if next[0] < n { &next } else { end };
@@ -134,7 +134,7 @@ fn add_chain(alloc: Global, s: &mut Problem, n: usize, end: &[usize]) -> Result<
 /// How many needs a chain of so many eligible candidates has, how many of them are kept, and how many strikes that
 /// takes.
 fn chained(alloc: Global, n: usize, end: &[usize]) -> Result<(usize, usize, u128), AllocError> {
-    let mut s = Problem::new(alloc, vec![in alloc; true; n]?);
+    let mut s = System::new(alloc, vec![in alloc; true; n]?);
     add_chain(alloc, &mut s, n, end)?;
     let (kept, count) = Worklist::count(alloc, &s)?;
     let members = kept.flags().iter().filter(|flag| **flag).count();

@@ -4,7 +4,7 @@ use crate::cards::{id, name};
 use fields::{Id, IdList, Name, Source, Srel};
 use std::alloc::{AllocError, Global};
 use std::test::Fail;
-use sysmod::{Action, ElemChange, Sysmod, Ver};
+use sysmods_values::{Action, ElemChange, Sysmod, Ver};
 use terms::{ElemType, Kind};
 use text80::Line;
 

@@ -7,8 +7,8 @@ use report_why::{facts_code, facts_of, facts_text};
 use sorted::Table;
 use std::alloc::{AllocError, Global};
 use std::test::Fail;
-use sysmod::Hold;
 use sysmods::GlobalZone;
+use sysmods_values::Hold;
 use terms::{ElemType, ZoneKind};
 use zones::{Applied, Element, Entry, Zone};
 

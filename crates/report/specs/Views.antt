@@ -3,7 +3,7 @@ use Rattle.std.specs.Prelude.{List, ℕ, codes, map}
 use Rattle.terms.specs.declared.kinds.ZoneKind.{ZoneKind}
 use Rattle.terms.specs.declared.kinds.ZoneKind.TheVariants.{Target, Distribution}
 use Rattle.machine.specs.Outcome as machine
-use Rattle.decide.specs.Views.{failure_view}
+use Rattle.judge_system.specs.Views.{failure_view}
 use Rattle.report.specs.declared.outcome.Header.{Header}
 use Rattle.report.specs.declared.outcome.Refusal.{Refusal}
 use Rattle.report.specs.declared.outcome.Refusal.TheVariants as refusal

@@ -6,8 +6,8 @@ ghost use Rattle.report.specs.ErrorHolds.{open_of, open_on};
 
 use fields::Id;
 use std::alloc::{AllocError, Global};
-use sysmod::Hold;
 use sysmods::GlobalZone;
+use sysmods_values::Hold;
 use terms::HoldKind;
 use zones::{Entry, Zone};
 

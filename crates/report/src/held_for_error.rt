@@ -9,8 +9,7 @@ use fields::{Attest, IdList, Reason, ZoneName};
 use std::alloc::{AllocError, Global};
 use sysmods::GlobalZone;
 use terms::CommandWord;
-use zones::Zone;
-use zones_views::choose;
+use zones::{Zone, choose};
 
 // A line for each hold, with what resolves its reason. Where nothing is held, nothing is searched.
 fn lines_of(

@@ -6,18 +6,18 @@ ghost use Rattle.machine.specs.Report.{words_line, header_text, refused_text, pl
 ghost use Rattle.machine.specs.Report.{status_detail, failure_text, line_text, left_in};
 ghost use Rattle.terms.specs.Lookups.{at_most_one};
 ghost use Rattle.report.specs.Paged.{Paged};
-ghost use Rattle.decide.specs.Views.{failure_view};
+ghost use Rattle.judge_system.specs.Views.{failure_view};
 ghost use Rattle.report.specs.Views.{header_view, refusal_view, place_view, status_view, line_view};
 
 use crate::outcome::{Header, Line, Place, Refusal, Status};
 use crate::page::Page;
 use crate::sink::Sink;
 use crate::words::{Word, put_words};
-use decide::Failure;
 use fields::spelling::{
     hold_text, kind_text, need_text, refusal_text, statement_code_text, test_text, word_text,
 };
 use fields::{Id, Reason};
+use judge_system::Failure;
 use terms::StatementCode;
 
 /// A command's word, its boundary or `-`, and CHECK.

@@ -1,7 +1,7 @@
 //! What commands print, before it is text.
 
-use decide::Failure;
 use fields::{Id, Reason, Source, ZoneName};
+use judge_system::Failure;
 use sysmods::GlobalZone;
 use terms::{CommandCode, CommandWord, HoldKind, IdRefusal, Kind, StatementCode};
 use zones::Zone;

@@ -10,8 +10,8 @@ use Rattle.terms.specs.Lookups.{is_in, is_applied}
 use Rattle.terms.specs.Choice.{Choice, counting}
 use Rattle.terms.specs.Restore.{Restoring, NeedsInRestore, restore_candidates}
 use Rattle.terms.specs.Facts.{NeedsIt}
-use Rattle.decide.specs.declared.stated.Need.{Need}
-use Rattle.decide.specs.Said.{a_need}
+use Rattle.judge_system.specs.declared.stated.RequisiteOf.{RequisiteOf}
+use Rattle.judge_system.specs.Said.{a_need}
 use Rattle.report_why.specs.Needed.{dep_in, dep_of, dep_ids}
 
 -- a RESTORE without a distribution zone of its own: no need as DEP looks at that
@@ -53,7 +53,7 @@ only p x z h = elim (here_or x [] z (filter_in p (x ∷ []) z h).0) [
 same_need : (a b y z : Id) (kind other : NeedKind) → a ≡ b → kind ≡ other → y ≡ z → a_need a kind y ≡ a_need b other z
 same_need a b y z kind other e f g = cc
 
-module _ (r : Restoring) (x : Id) (cands : List Id) (needs : List Need)
+module _ (r : Restoring) (x : Id) (cands : List Id) (needs : List RequisiteOf)
     (cands_are : cands ≡ restore_candidates r (x ∷ [])) (of : All (λ w. Contains cands w.of) needs)
     (said : (y z : Id) (kind : NeedKind) → Contains cands y
     → Contains needs (a_need y kind z) ↔ NeedsInRestore r (is_in (x ∷ [])) y kind z) where
@@ -72,7 +72,7 @@ module _ (r : Restoring) (x : Id) (cands : List Id) (needs : List Need)
       (in_filter (is_applied r.zone) (x ∷ []) x (here x []) n.0) in
       in_flat dep_of needs (a_need x Dep y) y ((said x y Dep there).1 n) (here y [])
 
-pub dependents : (g : Global) (zone : Zone) (c : Choice) (x : Id) (ids cands : List Id) (needs : List Need)
+pub dependents : (g : Global) (zone : Zone) (c : Choice) (x : Id) (ids cands : List Id) (needs : List RequisiteOf)
     (found : List Id) → c ≡ counting g zone [] → ids ≡ x ∷ []
     → cands ≡ restore_candidates (alone g c zone zone) ids → All (λ w. Contains cands w.of) needs
     → ((y z : Id) (kind : NeedKind) → Contains cands y

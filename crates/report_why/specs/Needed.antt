@@ -5,7 +5,7 @@ use Rattle.terms.specs.declared.codes.NeedKind.{NeedKind}
 use Rattle.terms.specs.declared.codes.NeedKind.TheVariants.{Dep}
 use Rattle.terms.specs.Types.{Id, Global, Zone}
 use Rattle.terms.specs.Lookups.{IsRising}
-use Rattle.decide.specs.declared.stated.Need.{Need}
+use Rattle.judge_system.specs.declared.stated.RequisiteOf.{RequisiteOf}
 use Rattle.terms.specs.Facts.{Fact, NeededFact, NeedsIt}
 
 -- the id, where it is needed as DEP
@@ -13,11 +13,11 @@ abbrev pub dep_in : NeedKind → Id → List Id
 dep_in Dep z = z ∷ []
 dep_in _ z = []
 
-abbrev pub dep_of : Need → List Id
+abbrev pub dep_of : RequisiteOf → List Id
 dep_of w = dep_in w.kind w.id
 
 -- the ids of these needs that are needed so
-abbrev pub dep_ids : List Need → List Id
+abbrev pub dep_ids : List RequisiteOf → List Id
 dep_ids needs = flat_map dep_of needs
 
 -- the facts of those that need what x supplies

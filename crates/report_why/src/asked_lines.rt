@@ -11,7 +11,7 @@ use crate::words::{answer_word, class_text, date_text};
 use fields::Id;
 use fields::spelling::{hold_text, need_text};
 use std::alloc::AllocError;
-use sysmod::Hold;
+use sysmods_values::Hold;
 
 // An id a line, or one line with `-`.
 fn put_id_lines(word: &[u8], ids: &[Id], text: &mut Vec<u8>) -> Result<(), AllocError>

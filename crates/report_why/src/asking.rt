@@ -4,10 +4,10 @@ ghost use Rattle.terms.specs.Types.{Sysmod as ASysmod};
 ghost use Rattle.terms.specs.Lookups.{is_in, applied_ids};
 ghost use Rattle.terms.specs.Over.{chain};
 ghost use Rattle.terms.specs.Deleted.{deletions};
-ghost use Rattle.zones_views.specs.Scopes.{global_of, choice_of};
+ghost use Rattle.zones.specs.Scopes.{global_of, choice_of};
 
 use fields::Id;
-use zones_views::Scope;
+use zones::Scope;
 
 /// The id, what an install of it alone looks into, and beside that what its view lacks (`seen` are the deletions), what
 /// its own DELETE takes out (`dropped`), and the ids that are applied and received.

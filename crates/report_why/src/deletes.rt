@@ -5,7 +5,7 @@ ghost use Rattle.terms.specs.Choice.{del_of};
 ghost use Rattle.terms.specs.Over.{chain};
 ghost use Rattle.terms.specs.Deleted.{is_taken_out};
 ghost use Rattle.sysmods.specs.Choices.{choice};
-ghost use Rattle.zones_views.specs.Scopes.{global_of, choice_of};
+ghost use Rattle.zones.specs.Scopes.{global_of, choice_of};
 ghost use Rattle.terms.specs.Facts.{delete_facts};
 ghost use Rattle.report_why.specs.Asking.{setting_in};
 ghost use Rattle.report_why.specs.Views.{fact_view};
@@ -16,7 +16,7 @@ use crate::looks::takes_out;
 use fields::Id;
 use std::alloc::{AllocError, Global};
 use sysmods::VerChoice;
-use zones_views::Scope;
+use zones::Scope;
 
 // What it names in DELETE.
 fn dels<'a>(vers: &VerChoice<'a>, id: Id) -> &'a [Id]

@@ -4,7 +4,7 @@ ghost use Rattle.terms.specs.Beside.{Beside};
 ghost use Rattle.terms.specs.Changes.{is_replacement};
 ghost use Rattle.terms.specs.Lookups.{changes_of, element_of};
 ghost use Rattle.sysmods.specs.Choices.{choice};
-ghost use Rattle.zones_views.specs.Scopes.{global_of};
+ghost use Rattle.zones.specs.Scopes.{global_of};
 ghost use Rattle.terms.specs.Facts.{IsFound, HasFound, IsElementFact};
 ghost use Rattle.report_why.specs.Asking.{setting_in, view_in};
 ghost use Rattle.report_why.specs.Views.{found_view, fact_view};
@@ -14,8 +14,8 @@ use crate::asking::Asking;
 use crate::fact::{Fact, Found, Maker, Rank};
 use fields::Id;
 use std::alloc::{AllocError, Global};
-use sysmod::{Action, ElemChange};
 use sysmods::{GlobalZone, VerChoice};
+use sysmods_values::{Action, ElemChange};
 use zones::Element;
 
 // A SYSMOD that made an element, and how the id stands to it.

@@ -2,7 +2,7 @@
 
 use fields::{Id, IdList, Name};
 use std::marker::Model;
-use sysmod::Hold;
+use sysmods_values::Hold;
 use terms::{ElemType, Kind, NeedKind, ZoneKind};
 use zones::Entry;
 

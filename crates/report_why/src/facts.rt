@@ -4,7 +4,7 @@ ghost use Rattle.terms.specs.Types.{Sysmod as ASysmod};
 ghost use Rattle.terms.specs.Lookups.{applied_ids};
 ghost use Rattle.terms.specs.Choice.{place, counting};
 ghost use Rattle.sysmods.specs.Choices.{number_in, choice};
-ghost use Rattle.zones_views.specs.Scopes.{setting_of};
+ghost use Rattle.zones.specs.Scopes.{setting_of};
 ghost use Rattle.terms.specs.Facts.{alone, AreFacts, AreFactsOf};
 ghost use Rattle.report_why.specs.Views.{fact_view};
 
@@ -22,8 +22,7 @@ use fields::{Bypass, Id, IdList};
 use std::alloc::{AllocError, Global};
 use sysmods::{GlobalZone, VerChoice};
 use undo::applied_ids;
-use zones::Zone;
-use zones_views::{Scope, choose, deletions, view_deletions};
+use zones::{Scope, Zone, choose, deletions, view_deletions};
 
 /// The global zone and a zone, and what is found once for all ids: the ids that are applied and received, and the
 /// `++VER`s that count where there are no candidates.

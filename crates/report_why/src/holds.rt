@@ -3,7 +3,7 @@ ghost use Rattle.std.specs.Prelude.{◌≡◌, None, option_map, IfOk};
 ghost use Rattle.terms.specs.Beside.{Beside};
 ghost use Rattle.terms.specs.declared.kinds.HoldKind.TheVariants.{Error};
 ghost use Rattle.terms.specs.Lookups.{holds_of};
-ghost use Rattle.zones_views.specs.Scopes.{global_of};
+ghost use Rattle.zones.specs.Scopes.{global_of};
 ghost use Rattle.terms.specs.Facts.{holds_on, HasResolution, IsHoldFact};
 ghost use Rattle.report_why.specs.Asking.{setting_in};
 ghost use Rattle.report_why.specs.Views.{answer_view, fact_view};
@@ -13,7 +13,7 @@ use crate::asking::Asking;
 use crate::fact::{Answer, Fact, Requisite};
 use fields::Id;
 use std::alloc::{AllocError, Global};
-use sysmod::Hold;
+use sysmods_values::Hold;
 use terms::{HoldKind, NeedKind};
 
 // What becomes of the reason of an ERROR hold, which is an id.

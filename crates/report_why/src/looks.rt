@@ -3,15 +3,14 @@ ghost use Rattle.std.specs.Prelude.{◌≡◌, not, filter, option_copied, IfOk}
 ghost use Rattle.terms.specs.Lookups.{is_applied, element_of, supby_of};
 ghost use Rattle.terms.specs.Needs.{is_met};
 ghost use Rattle.terms.specs.Deleted.{is_taken_out};
-ghost use Rattle.zones_views.specs.Scopes.{global_of, choice_of};
+ghost use Rattle.zones.specs.Scopes.{global_of, choice_of};
 ghost use Rattle.report_why.specs.Asking.{view_in, left_in, is_there, is_dropped};
 
 use crate::asking::Asking;
 use fields::{Attest, Id, Name};
 use std::alloc::{AllocError, Global};
 use terms::{ElemType, NeedKind};
-use zones::Element;
-use zones_views::{Scope, element_left, is_left, supplies_left};
+use zones::{Element, Scope, element_left, is_left, supplies_left};
 
 impl<'a, 'b> Asking<'a, 'b> {
     /// Whether its view has the id applied.

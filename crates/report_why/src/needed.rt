@@ -7,8 +7,8 @@ ghost use Rattle.report_why.specs.Views.{fact_view};
 ghost use Rattle.report_why.specs.Needed.{AreNeeded, dep_of};
 
 use crate::fact::Fact;
-use decide::Need;
 use fields::{Id, IdList};
+use judge_system::RequisiteOf;
 use std::alloc::{AllocError, Global};
 use sysmods::VerChoice;
 use terms::NeedKind;
@@ -16,7 +16,7 @@ use undo::{Scope, judge_restore};
 use zones::Zone;
 
 // Adds the id that is needed as DEP.
-fn push_dep(need: Need, found: &mut Vec<Id>) -> Result<(), AllocError>
+fn push_dep(need: RequisiteOf, found: &mut Vec<Id>) -> Result<(), AllocError>
     ensures { OnOk result (found.new.items ≡ found.old.items ++ dep_of need) }
 {
     if need.kind == NeedKind::Dep {

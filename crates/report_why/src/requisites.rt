@@ -5,7 +5,7 @@ ghost use Rattle.std.specs.Str.{bytes_eq};
 ghost use Rattle.terms.specs.Beside.{Beside};
 ghost use Rattle.terms.specs.Lookups.{is_applied, is_function};
 ghost use Rattle.terms.specs.Needs.{orphans};
-ghost use Rattle.zones_views.specs.Scopes.{choice_of};
+ghost use Rattle.zones.specs.Scopes.{choice_of};
 ghost use Rattle.terms.specs.Facts.{a_requisite, stated_by, conditions_of, conditions, requisites, IsRequisiteFact};
 ghost use Rattle.report_why.specs.Asking.{setting_in, view_in, is_there};
 ghost use Rattle.report_why.specs.Views.{fact_view};
@@ -15,9 +15,9 @@ use crate::asking::Asking;
 use crate::fact::{Fact, Requisite};
 use fields::{Attest, Id};
 use std::alloc::{AllocError, Global};
-use sysmod::IfReq;
+use sysmods_values::IfReq;
 use terms::NeedKind;
-use zones_views::orphans;
+use zones::orphans;
 
 // Adds what it asks for of one kind.
 fn push_all(

@@ -7,16 +7,16 @@ ghost use Rattle.terms.specs.Lookups.{is_in, sysmod_of};
 ghost use Rattle.terms.specs.Choice.{vers_of, fits};
 ghost use Rattle.terms.specs.Facts.{VerFact};
 ghost use Rattle.sysmods.specs.Choices.{number_in};
-ghost use Rattle.zones_views.specs.Scopes.{global_of};
+ghost use Rattle.zones.specs.Scopes.{global_of};
 ghost use Rattle.report_why.specs.Numbered.{numbered};
 ghost use Rattle.report_why.specs.Views.{fact_view};
 
 use crate::fact::Fact;
 use fields::Id;
 use std::alloc::{AllocError, Global};
-use sysmod::Ver;
 use sysmods::GlobalZone;
-use zones_views::{Scope, fits};
+use sysmods_values::Ver;
+use zones::{Scope, fits};
 
 // The `++VER` of this number.
 fn ver_fact(scope: &Scope<'_, '_>, id: Id, ver: &Ver, number: usize) -> Fact<'static>

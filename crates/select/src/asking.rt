@@ -17,7 +17,7 @@ use crate::scope::Scope;
 use fields::{Id, Srel};
 use indexmap::IndexSet;
 use std::alloc::{AllocError, Global};
-use sysmod::{Hold, IfReq, Ver};
+use sysmods_values::{Hold, IfReq, Ver};
 use terms::HoldKind;
 
 // The FMIDs of those for the SREL.

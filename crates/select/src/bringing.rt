@@ -13,7 +13,7 @@ use crate::asking::Asked;
 use crate::scope::Scope;
 use fields::Id;
 use std::alloc::{AllocError, Global};
-use sysmod::Ver;
+use sysmods_values::Ver;
 
 fn has_fmid(ver: &Ver, id: Id) -> bool
     ensures { result ≡ is_in (at_most_one ver.now.fmid) id }

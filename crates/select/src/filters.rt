@@ -7,8 +7,8 @@ ghost use Rattle.terms.specs.Choice.{vers_of};
 ghost use Rattle.terms.specs.Candidates.{takes_kind, forfmid_ids, passes_filters, has_mass_choice};
 
 use fields::{Id, IdList, Selection, SourceList, Srel};
-use sysmod::{Sysmod, Ver};
 use sysmods::GlobalZone;
+use sysmods_values::{Sysmod, Ver};
 use terms::Kind;
 use zones::Zone;
 

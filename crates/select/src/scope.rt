@@ -10,8 +10,8 @@ ghost use Rattle.select.specs.Growing.{kept_ver, namers_in};
 use fields::{Id, Selection, Srel};
 use std::alloc::{AllocError, Global};
 use std::marker::Model;
-use sysmod::Ver;
 use sysmods::{GlobalZone, has_ver, numbered_ver};
+use sysmods_values::Ver;
 use zones::Zone;
 
 /// What an APPLY chooses from and by.

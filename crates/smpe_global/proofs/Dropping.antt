@@ -19,7 +19,7 @@ use Rattle.terms.proofs.TextOrder.{same_itself}
 use Rattle.terms.proofs.GlobalKept.{hold_cmp_total}
 use Rattle.terms.proofs.HoldOrder.{has_key_ties}
 use Rattle.sysmods.specs.declared.edit.GlobalEdit.TheVariants.{RemoveSysmod}
-use Rattle.sysmod.specs.Edited.{less_sysmod}
+use Rattle.sysmods_values.specs.Edited.{less_sysmod}
 use Rattle.sysmods.specs.Edits.{after_edits}
 use Rattle.smpe_global.specs.Edits.{IsOfReject}
 use Rattle.smpe_global.specs.Rejections.{removal, edits_of}

@@ -13,8 +13,8 @@ use fields::{Attest, Id, Source};
 use mcs::Assign;
 use report::{Line, Status, place_of};
 use std::alloc::{AllocError, Global};
-use sysmod::Sysmod;
 use sysmods::{GlobalEdit, GlobalZone};
+use sysmods_values::Sysmod;
 
 /// The SYSMOD with its sources, but without its statements: they stand in rows of their own, which stay.
 fn head_of(alloc: Global, sysmod: &Sysmod) -> Result<Sysmod, AllocError>

@@ -4,8 +4,8 @@ ghost use Rattle.smpe_global.specs.Edits.{AreEditsOf};
 
 use sorted::TryClone;
 use std::alloc::{AllocError, Global};
-use sysmod::Sysmod;
 use sysmods::GlobalEdit;
+use sysmods_values::Sysmod;
 
 /// What writes a SYSMOD that is received and its holds.
 pub(crate) fn edits_of(alloc: Global, sysmod: &Sysmod) -> Result<Vec<GlobalEdit>, AllocError>

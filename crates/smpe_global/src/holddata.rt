@@ -18,8 +18,8 @@ use fields::{Id, Reason};
 use mcs::{HoldItem, Release};
 use report::{Line, Place, Status};
 use std::alloc::{AllocError, Global};
-use sysmod::Hold;
 use sysmods::{GlobalEdit, GlobalZone, Placed, ReleaseError};
+use sysmods_values::Hold;
 use terms::{HoldKind, IdRefusal};
 
 /// A copy of the hold, marked as internal where the one of its key is.

@@ -17,8 +17,8 @@ use fields::{Attest, Source};
 use mcs::Item;
 use report::{Line, Place, Status};
 use std::alloc::{AllocError, Global};
-use sysmod::Sysmod;
 use sysmods::{GlobalZone, ReceiveFault};
+use sysmods_values::Sysmod;
 use terms::IdRefusal;
 
 fn with_source(mut sysmod: Sysmod, source: &Option<Source>) -> Result<Sysmod, AllocError>

@@ -5,14 +5,14 @@ use Rattle.terms.specs.Types.{Id}
 use Rattle.terms.specs.Tests.{Setting, Fails, IsEligible}
 use Rattle.terms.specs.Needs.{Needs, Serves}
 use Rattle.machine.specs.Outcome.{Failure}
-use Rattle.decide.specs.declared.stated.Need.{Need}
-use Rattle.decide.specs.Said.{AreTests}
-use Rattle.decide.specs.Decided.{Decides}
-use Rattle.decide.proofs.Judging.{decided_of}
+use Rattle.judge_system.specs.declared.stated.RequisiteOf.{RequisiteOf}
+use Rattle.judge_system.specs.Said.{AreTests}
+use Rattle.judge_system.specs.Decided.{Decides}
+use Rattle.judge_system.proofs.Judging.{decided_of}
 use Rattle.smpe_service.specs.InstallJudged.{IsInstallJudged}
 use Rattle.smpe_service.specs.Decided.{IsDecided}
 
-pub is_decided : (s : Setting) (tests : List (List Test)) (needs : List Need) (superseded : List (Id × Id))
+pub is_decided : (s : Setting) (tests : List (List Test)) (needs : List RequisiteOf) (superseded : List (Id × Id))
     → IsInstallJudged s tests needs superseded → (kept : List Id) (failed : List (Id × Failure))
     → ((fails : Id → Test → Bool) → AreTests fails s.cands tests → Decides (record {
       cands = s.cands;

@@ -7,8 +7,8 @@ use Rattle.terms.specs.declared.codes.NeedKind.TheVariants.{Fmid, Pre, Req, Ifre
 use Rattle.terms.specs.Types.{Id, Zone}
 use Rattle.terms.specs.Tests.{Setting}
 use Rattle.terms.specs.Needs.{Needs, asked, orphans, is_bypassed, is_met, zone_left}
-use Rattle.zones_views.specs.declared.scope.Scope.{Scope}
-use Rattle.zones_views.specs.Scopes.{setting_with, setting_of}
+use Rattle.zones.specs.declared.scope.Scope.{Scope}
+use Rattle.zones.specs.Scopes.{setting_with, setting_of}
 use Rattle.judge_needs.specs.Needed.{IsOpen}
 
 module _ (scope : Scope) (related : Option Zone) where

@@ -24,9 +24,9 @@ use Rattle.machine.specs.Outcome.{Status, Restored, NotApplied, Failed, Line, St
 use Rattle.machine.specs.Outcome as machine
 use Rattle.machine.specs.Installing.{IsFailure}
 use Rattle.machine.specs.Restoring.{HasRestoreStatus, IsBack, StaysOn, WasNotOn}
-use Rattle.decide.specs.declared.failure.Failure.{Failure}
-use Rattle.decide.specs.Views.{failure_view, why_failed}
-use Rattle.decide.specs.Decided.{AreDecided}
+use Rattle.judge_system.specs.declared.failure.Failure.{Failure}
+use Rattle.judge_system.specs.Views.{failure_view, why_failed}
+use Rattle.judge_system.specs.Decided.{AreDecided}
 use Rattle.smpe_service.specs.Lines.{AreRestoreLines, status_in, line_in}
 
 -- what is not found by its id does not stand there

@@ -14,10 +14,10 @@ use Rattle.terms.specs.declared.codes.Test.TheVariants.{InClash, AlreadyAccepted
 use Rattle.terms.specs.Types.{Id, Zone}
 use Rattle.terms.specs.Tests.{Setting, Fails, FailsAlone, IsEligible, AreSurvivors}
 use Rattle.terms.specs.Failures.{all_tests}
-use Rattle.zones_views.specs.declared.scope.Scope.{Scope}
-use Rattle.zones_views.specs.Scopes.{setting_with, setting_of}
-use Rattle.decide.specs.declared.stated.Need.{Need}
-use Rattle.decide.specs.Said.{AreTests, a_need}
+use Rattle.zones.specs.declared.scope.Scope.{Scope}
+use Rattle.zones.specs.Scopes.{setting_with, setting_of}
+use Rattle.judge_system.specs.declared.stated.RequisiteOf.{RequisiteOf}
+use Rattle.judge_system.specs.Said.{AreTests, a_need}
 use Rattle.judge_faults.specs.Failed.{AreFailedTests}
 use Rattle.judge_needs.specs.Needed.{AreNeeds}
 use Rattle.judge_needs.specs.Pairs.{AreSuperseded}
@@ -81,7 +81,7 @@ module _ (scope : Scope) (related : Option Zone) where
   s = setting_with scope related
 
   pub install_judged : (survivors : List Id) → AreSurvivors s survivors → (rows : List (List Test))
-      → AreFailedTests s rows → (needs : List Need) → AreNeeds (setting_of scope) survivors needs
+      → AreFailedTests s rows → (needs : List RequisiteOf) → AreNeeds (setting_of scope) survivors needs
       → (superseded : List (Id × Id)) → AreSuperseded s.choice needs s.cands superseded
       → IsInstallJudged s rows needs superseded
   install_judged survivors are rows failed needs are_needs superseded over = record {

@@ -4,7 +4,7 @@ use Rattle.terms.specs.Types.{Id}
 use Rattle.terms.specs.Tests.{Setting, Fails, IsEligible, AreSurvivors}
 use Rattle.terms.specs.Needs.{Needs, Serves}
 use Rattle.machine.specs.Outcome.{Failure}
-use Rattle.decide.specs.Decided.{AreDecided}
+use Rattle.judge_system.specs.Decided.{AreDecided}
 
 -- which of them are kept, and why each other one is not; what is needed depends on the survivors
 pub record IsDecided (s : Setting) (kept : List Id) (failed : List (Id × Failure)) : Type 0 where

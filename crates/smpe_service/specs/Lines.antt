@@ -8,8 +8,8 @@ use Rattle.terms.specs.Restore.{Restoring}
 use Rattle.machine.specs.Outcome.{Status, Restored, NotApplied, Failed, Line, StatusLine}
 use Rattle.machine.specs.Receiving.{place_of}
 use Rattle.machine.specs.Restoring.{HasRestoreStatus}
-use Rattle.decide.specs.declared.failure.Failure.{Failure}
-use Rattle.decide.specs.Views.{failure_view}
+use Rattle.judge_system.specs.declared.failure.Failure.{Failure}
+use Rattle.judge_system.specs.Views.{failure_view}
 
 -- what becomes of an id of the list
 abbrev pub status_in : List Id → List (Id × Failure) → Id → Status

@@ -2,7 +2,7 @@
 ghost use Rattle.std.specs.Prelude.{IfOk, map, option_copied};
 ghost use Rattle.terms.specs.Types.{Zone as AZone};
 ghost use Rattle.terms.specs.Forms.{IsDottedDate};
-ghost use Rattle.zones.specs.Delta.{IsChanged};
+ghost use Rattle.zones_maps.specs.Delta.{IsChanged};
 ghost use Rattle.machine.specs.Installing.{InstallsSelected};
 ghost use Rattle.report.specs.Views.{line_view};
 
@@ -15,8 +15,7 @@ use report::Line;
 use select::{candidates, not_chosen};
 use std::alloc::{AllocError, Global};
 use sysmods::GlobalZone;
-use zones::{Zone, ZoneDelta};
-use zones_views::{Scope, choose};
+use zones::{Scope, Zone, ZoneDelta, choose};
 
 /// What an APPLY or ACCEPT changes, and its lines by id.
 #[derive(Drop)]

@@ -3,18 +3,17 @@ ghost use Rattle.std.specs.Prelude.{◌≡◌, ◌↔◌, All, Contains, IsTrue,
 ghost use Rattle.terms.specs.Types.{Id as AnId};
 ghost use Rattle.terms.specs.Candidates.{is_installable};
 ghost use Rattle.terms.specs.Needs.{bypassed_ids};
-ghost use Rattle.zones_views.specs.Scopes.{global_of, setting_with};
+ghost use Rattle.zones.specs.Scopes.{global_of, setting_with};
 ghost use Rattle.smpe_service.specs.Decided.{IsDecided};
-ghost use Rattle.decide.specs.Views.{why_failed};
+ghost use Rattle.judge_system.specs.Views.{why_failed};
 
 use crate::judging::{Judged, judge_install};
 use change::pairs_of;
-use decide::Failure;
 use fields::{Id, IdList};
+use judge_system::Failure;
 use std::alloc::{AllocError, Global};
 use sysmods::Overs;
-use zones::Zone;
-use zones_views::Scope;
+use zones::{Scope, Zone};
 
 /// The kept candidates, each other one with the reason, in their order, and the bypassed requisites of the kept ones;
 /// and, for whoever asks on, what was found of who is over whom.
@@ -47,7 +46,7 @@ pub(crate) fn decide_by<'a, 'b>(
         bypassed,
         overs,
     } = judge_install(alloc, scope, related)?;
-    let decided = decide::decide(
+    let decided = judge_system::decide(
         alloc,
         scope.ids,
         tests,

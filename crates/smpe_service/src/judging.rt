@@ -5,18 +5,17 @@ ghost use Rattle.terms.specs.Candidates.{is_installable};
 ghost use Rattle.terms.specs.Needs.{bypassed_ids};
 ghost use Rattle.judge_needs.specs.Pairs.{AreSuperseded};
 ghost use Rattle.smpe_service.specs.InstallJudged.{IsInstallJudged};
-ghost use Rattle.zones_views.specs.Scopes.{choice_of, global_of, setting_with};
+ghost use Rattle.zones.specs.Scopes.{choice_of, global_of, setting_with};
 
 use crate::surviving::survivors;
-use decide::Need;
 use fields::Id;
 use judge_faults::{Tested, test_all};
 use judge_needs::{bypassed_pairs, needs_of, superseded_pairs};
+use judge_system::RequisiteOf;
 use std::alloc::{AllocError, Global};
 use sysmods::Overs;
 use terms::Test;
-use zones::Zone;
-use zones_views::Scope;
+use zones::{Scope, Zone};
 
 /// What is said of the candidates: for each one the tests that it fails, what each one needs, each candidate with each
 /// id that it supersedes, directly or through others, of those that are needed where a superseder serves, and each
@@ -25,7 +24,7 @@ use zones_views::Scope;
 #[derive(Drop)]
 pub struct Judged<'a, 'b> {
     pub tests: Vec<Vec<Test>>,
-    pub needs: Vec<Need>,
+    pub needs: Vec<RequisiteOf>,
     pub superseded: Vec<(Id, Id)>,
     pub bypassed: Vec<(Id, Id)>,
     pub overs: Overs<'a, 'b>,

@@ -1,20 +1,19 @@
 //! The zone's change and the lines of a RESTORE.
 ghost use Rattle.std.specs.Prelude.{IfOk, map};
 ghost use Rattle.terms.specs.Types.{Zone as AZone};
-ghost use Rattle.zones.specs.Delta.{IsChanged};
+ghost use Rattle.zones_maps.specs.Delta.{IsChanged};
 ghost use Rattle.machine.specs.Restoring.{RestoresListed};
 ghost use Rattle.fields.specs.Choices.{restore_list_of};
 ghost use Rattle.report.specs.Views.{line_view};
 
 use crate::restored_lines::lines_of;
-use decide::{Decided, decide};
 use fields::{Attest, IdList, RestoreList};
+use judge_system::{Decided, decide};
 use report::Line;
 use std::alloc::{AllocError, Global};
 use sysmods::GlobalZone;
 use undo::{Judged, Scope, applied_ids, judge_restore, restore_list};
-use zones::{Zone, ZoneDelta};
-use zones_views::choose;
+use zones::{Zone, ZoneDelta, choose};
 
 /// What a RESTORE changes, and its lines by id.
 #[derive(Drop)]

@@ -4,12 +4,12 @@ ghost use Rattle.std.specs.Ordering.{nat_cmp};
 ghost use Rattle.std.specs.Cmp.Lexicographic.{slice_cmp};
 ghost use Rattle.std.specs.Str.{bytes_eq};
 ghost use Rattle.terms.specs.Rising.{Rises};
-ghost use Rattle.decide.specs.Views.{failure_view};
+ghost use Rattle.judge_system.specs.Views.{failure_view};
 ghost use Rattle.report.specs.Views.{line_view, status_view};
 ghost use Rattle.smpe_service.specs.Lines.{status_in, line_in};
 
-use decide::Failure;
 use fields::{Id, IdList};
+use judge_system::Failure;
 use report::{Line, Status, place_of};
 use std::alloc::{AllocError, Global};
 use sysmods::GlobalZone;

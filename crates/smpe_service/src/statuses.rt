@@ -2,12 +2,12 @@
 ghost use Rattle.std.specs.Prelude.{◌≡◌, ◌++◌, map, IfOk, OnOk};
 ghost use Rattle.machine.specs.Installing.{installed_status, not_chosen_status};
 ghost use Rattle.report.specs.Views.{status_view};
-ghost use Rattle.decide.specs.Views.{why_failed};
+ghost use Rattle.judge_system.specs.Views.{why_failed};
 ghost use Rattle.smpe_service.specs.Statuses.{said, kept_status, kept_statuses, failed_statuses};
 ghost use Rattle.smpe_service.specs.Statuses.{left_out_statuses, all_statuses};
 
-use decide::Failure;
 use fields::{Id, IdList};
+use judge_system::Failure;
 use report::Status;
 use std::alloc::{AllocError, Global};
 use terms::{NotChosen, ZoneKind};

@@ -6,9 +6,9 @@ use Rattle.sqlite.specs.Store.{Ghosts}
 use Rattle.sqlite.specs.Held.{Held}
 use Rattle.terms.specs.Types.{Text, Zone, NamedZone, Command}
 use Rattle.terms.specs.Lookups.{IsZone}
-use Rattle.zones.specs.Delta.{ZoneDelta, IsDelta, IsChanged}
-use Rattle.zones.specs.Changed.{changed_zone}
-use Rattle.zones.proofs.Changing.{zone_changes}
+use Rattle.zones_maps.specs.Delta.{ZoneDelta, IsDelta, IsChanged}
+use Rattle.zones_maps.specs.Changed.{changed_zone}
+use Rattle.zones_maps.proofs.Changing.{zone_changes}
 use Rattle.store.specs.Changes.{Makes}
 use Rattle.store.specs.declared.change.Change.TheVariants.{Zone as ZoneChange}
 use Rattle.store_schema.specs.declared.error.StoreError.{StoreError}

@@ -12,7 +12,7 @@ use Rattle.indexmap.specs.IndexMap.{Updates}
 use Rattle.terms.specs.declared.kinds.ZoneKind.{ZoneKind}
 use Rattle.terms.specs.declared.kinds.ZoneKind.TheVariants.{Target, Distribution}
 use Rattle.terms.specs.Types.{Text, Zone, NamedZone, Bypass, Selection, Install, Command}
-use Rattle.zones.specs.Delta.{ZoneDelta, IsChanged}
+use Rattle.zones_maps.specs.Delta.{ZoneDelta, IsChanged}
 use Rattle.terms.specs.Forms.{IsDottedDate}
 use Rattle.terms.specs.Lookups.{is_before}
 use Rattle.terms.specs.Rising.{Rises, with_item}

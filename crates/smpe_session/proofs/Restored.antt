@@ -7,7 +7,7 @@ use Rattle.indexmap.specs.IndexMap.{get}
 use Rattle.terms.specs.declared.kinds.ZoneKind.{ZoneKind}
 use Rattle.terms.specs.declared.kinds.ZoneKind.TheVariants.{Target}
 use Rattle.terms.specs.Types.{Text, Zone, RestoreList, Restore}
-use Rattle.zones.specs.Delta.{ZoneDelta, IsChanged}
+use Rattle.zones_maps.specs.Delta.{ZoneDelta, IsChanged}
 use Rattle.store_schema.specs.Inventory.{IsInventory, IsRelated}
 use Rattle.machine.specs.Outcome.{Line, Ran, header_of}
 use Rattle.machine.specs.Restoring.{RestoresListed}

@@ -6,7 +6,7 @@ use Rattle.indexmap.specs.IndexMap.{get}
 use Rattle.terms.specs.declared.kinds.ZoneKind.{ZoneKind}
 use Rattle.terms.specs.declared.kinds.ZoneKind.TheVariants.{Target, Distribution}
 use Rattle.terms.specs.Types.{Text, Zone, NamedZone, Install, Command, Apply, Accept}
-use Rattle.zones.specs.Delta.{ZoneDelta, IsChanged}
+use Rattle.zones_maps.specs.Delta.{ZoneDelta, IsChanged}
 use Rattle.machine.specs.Machine.{Files, Performs}
 use Rattle.machine.specs.Outcome.{Outcome}
 use Rattle.machine.specs.State.{State, zone_named, with_zone, target_of, at_kind, unless_at}

@@ -16,7 +16,7 @@ use Rattle.sqlite.proofs.StateLemmas.{survives_then}
 use Rattle.sqlite.proofs.Callers.{survives_begin}
 use Rattle.terms.specs.declared.kinds.ZoneKind.{ZoneKind}
 use Rattle.terms.specs.Types.{Text, Zone as AZone, Global as AGlobal}
-use Rattle.zones.specs.Delta.{ZoneDelta, IsDelta}
+use Rattle.zones_maps.specs.Delta.{ZoneDelta, IsDelta}
 use Rattle.store_rows.specs.Calls.{Call, RunsInside}
 use Rattle.store_rows.specs.Inside.{StaysInside}
 use Rattle.store_rows.proofs.CallLemmas.{failed_then, failed_before}

@@ -19,7 +19,7 @@ use Rattle.sorted.specs.declared.edits.Edit.TheVariants.{Put, Remove}
 use Rattle.terms.specs.Types.{Text, Id, Entry, Element, Zone}
 use Rattle.terms.specs.Lookups.{IsZone, entry_of, element_of, element_cmp, element_key}
 use Rattle.terms.specs.Rising.{Rises}
-use Rattle.zones.specs.Delta.{ZoneDelta, IsDelta, IsChanged}
+use Rattle.zones_maps.specs.Delta.{ZoneDelta, IsDelta, IsChanged}
 use Rattle.terms.specs.Lookups.{element_eq}
 use Rattle.sorted.specs.Edits.{edit_key, after_edit}
 use Rattle.sorted.proofs.Editing.{find_edited, Rises_edited}

@@ -13,7 +13,7 @@ use Rattle.terms.specs.Types.{Text, Id, Sysmod, Entry, Element, Zone as AZone, G
 use Rattle.sysmods.specs.declared.edit.GlobalEdit.{GlobalEdit}
 use Rattle.sysmods.specs.declared.edit.GlobalEdit.TheVariants.{PutHold, RemoveHold, InsertSysmod, ReplaceSources}
 use Rattle.sysmods.specs.declared.edit.GlobalEdit.TheVariants.{RemoveSysmod}
-use Rattle.zones.specs.Delta.{ZoneDelta}
+use Rattle.zones_maps.specs.Delta.{ZoneDelta}
 use Rattle.store_rows.specs.Calls.{Call, Refused}
 use Rattle.store_rows.specs.Reads.{HasFailed}
 use Rattle.store_sysmods.specs.Holds.{put_hold_calls, remove_hold_calls}

@@ -1,7 +1,7 @@
 -- What a change makes of the inventory for which the tables stand.
 use Rattle.std.specs.Prelude.{◌≡◌, List, ◌∷◌, ◌++◌}
 use Rattle.terms.specs.Types.{Zone as AZone, NamedZone}
-use Rattle.zones.specs.Delta.{IsChanged}
+use Rattle.zones_maps.specs.Delta.{IsChanged}
 use Rattle.sysmods.specs.Edits.{EachFits, after_edits}
 use Rattle.store_schema.specs.Inventory.{Inventory}
 use Rattle.store_zones.specs.Zones.{IsZoneChange, empty_zone}

@@ -11,7 +11,7 @@ use Rattle.sorted.specs.declared.edits.Edit.{Edit}
 use Rattle.terms.specs.Types.{Text, Id, Entry, Element, Zone}
 use Rattle.terms.specs.Lookups.{IsZone, entry_of, element_of, element_cmp, element_key}
 use Rattle.terms.specs.Rising.{Rises}
-use Rattle.zones.specs.Delta.{ZoneDelta, IsDelta}
+use Rattle.zones_maps.specs.Delta.{ZoneDelta, IsDelta}
 use Rattle.sorted.specs.Edits.{edit_key, edited}
 use Rattle.store_rows.specs.Inside.{Leads}
 use Rattle.store_rows.specs.Rows.{HasContents}

@@ -3,7 +3,7 @@
 use fields::{Srel, ZoneName};
 use sysmods::{GlobalEdit, GlobalZone};
 use terms::ZoneKind;
-use zones::{Zone, ZoneDelta};
+use zones_maps::{Zone, ZoneDelta};
 
 /// What one transaction changes.
 #[derive(Drop)]

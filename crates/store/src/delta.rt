@@ -14,7 +14,7 @@ use sqlite::{Alter, Error, Transaction};
 use std::alloc::Global;
 use store_zones::{put_element, put_entry, remove_element, remove_entry};
 use terms::ElemType;
-use zones::{Element, Entry, Zone, ZoneDelta};
+use zones_maps::{Element, Entry, Zone, ZoneDelta};
 
 fn edit_entry<S: Alter>(
     alloc: Global,

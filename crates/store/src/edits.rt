@@ -19,8 +19,8 @@ use std::alloc::Global;
 use store_sysmods::{
     SysmodRows, insert_sysmods, put_hold, remove_hold, remove_sysmod, replace_sources,
 };
-use sysmod::Sysmod;
 use sysmods::{GlobalEdit, GlobalZone};
+use sysmods_values::Sysmod;
 
 /// How many SYSMODs wait at most.
 const MOST_WAIT: usize = 256;

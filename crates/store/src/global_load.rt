@@ -19,8 +19,8 @@ use store_rows::ReadError;
 use store_schema::Schema;
 use store_sysmod_loads::load_sysmods;
 use store_sysmods::load_holds;
-use sysmod::{Hold, Sysmod};
 use sysmods::GlobalZone;
+use sysmods_values::{Hold, Sysmod};
 
 /// What the tables of the global zone hold, each list in order.
 #[derive(Drop)]

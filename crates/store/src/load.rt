@@ -15,7 +15,7 @@ use store_rows::ReadError;
 use store_schema::{Schema, StoreError};
 use store_zones::ZoneHead;
 use sysmods::GlobalZone;
-use zones::Zone;
+use zones_maps::Zone;
 
 /// How an error of reading is told: rows that stand for nothing stand for no state.
 fn store_error(error: ReadError) -> StoreError

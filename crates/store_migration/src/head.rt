@@ -7,7 +7,7 @@ ghost use Rattle.store_migration.specs.TakenOver.{moved_heads};
 use fields::{Id, SourceList};
 use std::alloc::{AllocError, Global};
 use store_schema::Schema;
-use sysmod::Sysmod;
+use sysmods_values::Sysmod;
 use terms::Kind;
 
 /// A SYSMOD as its own row of schema 1 has it.

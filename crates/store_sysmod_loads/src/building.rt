@@ -18,7 +18,7 @@ use std::alloc::Global;
 use std::collections::VecDeque;
 use store_rows::ReadError;
 use store_sysmods::{ElemRow, HeadRow, IfRow, VerRow};
-use sysmod::{Action, ElemChange, Sysmod, Ver};
+use sysmods_values::{Action, ElemChange, Sysmod, Ver};
 use terms::Kind;
 
 /// Whether the operands of the `++VER` are those of a SYSMOD of this kind.

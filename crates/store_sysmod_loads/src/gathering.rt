@@ -15,7 +15,7 @@ use std::alloc::{AllocError, Global};
 use std::collections::VecDeque;
 use store_rows::ReadError;
 use store_sysmods::{ElemRow, IfRow, SourceRow, VerRow, number_behind};
-use sysmod::{ElemChange, IfReq, Ver};
+use sysmods_values::{ElemChange, IfReq, Ver};
 
 /// A row that belongs to another.
 pub(crate) trait Child: Drop {

@@ -15,7 +15,7 @@ use sqlite::{Alter, Connection};
 use std::alloc::Global;
 use store_rows::ReadError;
 use store_schema::Schema;
-use sysmod::Sysmod;
+use sysmods_values::Sysmod;
 
 /// All SYSMODs with their sources, `++VER`s, `++IF`s and element statements, by their ids, in the
 /// tables of the schema. A row that belongs to no other is bad, and so is a `++VER` or an `++IF` whose

@@ -21,7 +21,7 @@ use std::collections::VecDeque;
 use store_rows::ReadError;
 use store_schema::Schema;
 use store_sysmods::{ElemRow, Elems, HeadRow, IfRow, VerRow, load_sorted};
-use sysmod::Sysmod;
+use sysmods_values::Sysmod;
 
 /// The rows of SYSMODs and of their statements, each by their keys.
 #[derive(Drop)]

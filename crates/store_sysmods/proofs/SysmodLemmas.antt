@@ -23,7 +23,7 @@ use Rattle.terms.specs.Types.{Text, Id, Ver, Sysmod, Global}
 use Rattle.terms.specs.Global.{with_sysmod}
 use Rattle.terms.specs.Lookups.{is_received}
 use Rattle.terms.proofs.TextOrder.{same_from}
-use Rattle.sysmod.specs.Edited.{with_sources, less_sysmod}
+use Rattle.sysmods_values.specs.Edited.{with_sources, less_sysmod}
 use Rattle.store_rows.specs.Rows.{Contents, has_key, without, HasContents}
 use Rattle.store_rows.proofs.Keys.{equals, and_true}
 use Rattle.store_rows.proofs.ContentsLemmas.{permuted}

@@ -9,7 +9,7 @@ use Rattle.sqlite.specs.Table.{Table}
 use Rattle.terms.specs.Types.{Text, Id, Sysmod, Global}
 use Rattle.terms.specs.Global.{with_sysmod}
 use Rattle.terms.specs.Lookups.{is_received}
-use Rattle.sysmod.specs.Edited.{with_sources, less_sysmod}
+use Rattle.sysmods_values.specs.Edited.{with_sources, less_sysmod}
 use Rattle.store_rows.specs.Inside.{Leads}
 use Rattle.store_rows.specs.Rows.{Contents, HasContents, as_bound, in_table, with_rows, without}
 use Rattle.store_schema.specs.Inventory.{Inventory}

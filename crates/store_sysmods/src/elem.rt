@@ -6,7 +6,7 @@ ghost use Rattle.sqlite.specs.Order.{column};
 ghost use Rattle.sqlite.specs.Values.{or_null};
 ghost use Rattle.sqlite.specs.declared.types.Value.TheVariants.{Int, Text};
 ghost use Rattle.sqlite_value.specs.Value.{owned};
-ghost use Rattle.sysmod.specs.Views.{action_of};
+ghost use Rattle.sysmods_values.specs.Views.{action_of};
 ghost use Rattle.terms.specs.declared.kinds.Kind.TheVariants.{Ptf};
 ghost use Rattle.terms.specs.Texts.{IsUpdate};
 ghost use Rattle.terms.specs.Types.{Action as ActionTerm};
@@ -33,7 +33,7 @@ use store_schema::{
     Query, elem_type_in, element_text_in, flag_in, id_in, is_updated, name_in, optional_in,
     records_in,
 };
-use sysmod::{Action, ElemChange};
+use sysmods_values::{Action, ElemChange};
 use terms::ElemType;
 use text80::{Line, TextError, Update, bytes_of};
 

@@ -26,7 +26,7 @@ use sqlite_value::value::ValueRef;
 use std::alloc::{AllocError, Global};
 use store_rows::{FromRow, ReadError, cells_of, remove_parent, text};
 use store_schema::{Query, id_in, kind_in, sources_in};
-use sysmod::Sysmod;
+use sysmods_values::Sysmod;
 use terms::Kind;
 
 const SELECT: &str = "SELECT id, kind, sources FROM sysmod";

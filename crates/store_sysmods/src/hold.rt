@@ -33,7 +33,7 @@ use sqlite_value::value::ValueRef;
 use std::alloc::Global;
 use store_rows::{FromRow, ReadError, optional_text, put, remove, text};
 use store_schema::{Query, flag_in, hold_kind_in, id_in, optional_in, text_or_null};
-use sysmod::Hold;
+use sysmods_values::Hold;
 use terms::HoldKind;
 
 const SELECT: &str = "SELECT id, kind, reason, fmid, class, date, comment, internal FROM hold";

@@ -21,7 +21,7 @@ use sqlite_value::value::ValueRef;
 use std::alloc::{AllocError, Global};
 use store_rows::{FromRow, ReadError, cells_of, remove};
 use store_schema::{Query, id_in, joined_ids, srel_in};
-use sysmod::{IfReq, Ver};
+use sysmods_values::{IfReq, Ver};
 
 const SELECT: &str = "SELECT id, srel, v, n, fmid, req FROM moreif";
 

@@ -21,7 +21,7 @@ use sqlite_value::value::ValueRef;
 use std::alloc::{AllocError, Global};
 use store_rows::{FromRow, ReadError, cells_of, remove};
 use store_schema::{Query, id_in, srel_in, text_or_null};
-use sysmod::Ver;
+use sysmods_values::Ver;
 
 const SELECT: &str = "SELECT id, srel, n, fmid, pre, req, sup FROM morever";
 

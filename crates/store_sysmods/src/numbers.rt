@@ -5,7 +5,7 @@ ghost use Rattle.std.specs.Str.{bytes_eq};
 ghost use Rattle.store_schema.specs.Rows.{number_behind};
 
 use fields::Srel;
-use sysmod::Ver;
+use sysmods_values::Ver;
 
 fn count_of(vers: &[Ver], srel: Srel) -> usize
     ensures same { result ≡ length (filter (λ ver. bytes_eq ver.srel srel) vers.now) }

@@ -23,7 +23,7 @@ use sqlite::{Alter, Error, Transaction};
 use sqlite_value::row::Row as Cells;
 use std::alloc::{AllocError, Global};
 use store_rows::insert_rows;
-use sysmod::Sysmod;
+use sysmods_values::Sysmod;
 
 /// The rows of SYSMODs that wait to be written, table after table, so that one statement puts those of several.
 #[derive(Drop)]

@@ -20,7 +20,7 @@ use sqlite_value::value::ValueRef;
 use std::alloc::{AllocError, Global};
 use store_rows::{FromRow, ReadError, cells_of, remove};
 use store_schema::{Query, id_in, joined_ids, srel_in, text_or_null};
-use sysmod::Ver;
+use sysmods_values::Ver;
 
 const SELECT: &str = "SELECT id, srel, fmid, pre, req, sup, npre, del FROM ver";
 

@@ -11,9 +11,9 @@ use std::alloc::Global;
 use std::test::Fail;
 use store::{Change, GlobalEdit, Store};
 use store_schema::StoreError;
-use sysmod::Sysmod;
+use sysmods_values::Sysmod;
 use terms::{ElemType, HoldKind, Kind};
-use zones::{Applied, Entry, Zone, ZoneDelta};
+use zones_maps::{Applied, Entry, Zone, ZoneDelta};
 
 fn id(text: &[u8]) -> Result<Id, Fail> {
     Ok(Id::read(text).ok_or("no id")?)

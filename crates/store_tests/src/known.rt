@@ -12,7 +12,7 @@ use std::test::Fail;
 use store::{Change, GlobalEdit, Store};
 use sysmods::GlobalZone;
 use text80::RECORD;
-use zones::{Zone, ZoneDelta};
+use zones_maps::{Zone, ZoneDelta};
 
 /// The sources of the SYSMODs, of which each has a row.
 pub(crate) const SOURCES: &[&str] = &[

@@ -11,10 +11,10 @@ use sqlite_disk::Memory;
 use std::alloc::Global;
 use std::test::Fail;
 use store::{Change, GlobalEdit, Store};
-use sysmod::{Hold, Sysmod};
 use sysmods::GlobalZone;
+use sysmods_values::{Hold, Sysmod};
 use terms::Kind;
-use zones::{Zone, ZoneDelta};
+use zones_maps::{Zone, ZoneDelta};
 
 /// All rows of all tables.
 const TABLES: &[&str] = &[

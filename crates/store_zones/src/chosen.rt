@@ -25,7 +25,7 @@ use sqlite_value::value::ValueRef;
 use std::alloc::Global;
 use store_rows::{FromRow, ReadError, insert, put, remove, whole};
 use store_schema::{Query, id_in, zone_name_in};
-use zones::Entry;
+use zones_maps::Entry;
 
 const SELECT: &str = "SELECT zone, id, n FROM chosen WHERE zone = ?1 ORDER BY id";
 

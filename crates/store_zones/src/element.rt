@@ -26,7 +26,7 @@ use store_schema::{
 };
 use terms::ElemType;
 use text80::bytes_of;
-use zones::Element;
+use zones_maps::Element;
 
 const SELECT: &str = "SELECT zone, type, name, fmid, rmid, umid, distlib, syslib, text FROM zelem \
     WHERE zone = ?1 ORDER BY type, name";

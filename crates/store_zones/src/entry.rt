@@ -29,7 +29,7 @@ use sqlite_value::value::ValueRef;
 use std::alloc::Global;
 use store_rows::{FromRow, ReadError, insert, put, remove};
 use store_schema::{Query, id_in, ids_in, joined_ids, optional_in, text_or_null, zone_name_in};
-use zones::{Applied, Entry};
+use zones_maps::{Applied, Entry};
 
 const SELECT: &str =
     "SELECT zone, id, date, supby, delby, waived FROM entry WHERE zone = ?1 ORDER BY id";

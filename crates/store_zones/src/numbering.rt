@@ -12,7 +12,7 @@ use sorted::Table;
 use std::alloc::{AllocError, Global};
 use std::collections::VecDeque;
 use store_rows::ReadError;
-use zones::{Applied, Entry};
+use zones_maps::{Applied, Entry};
 
 fn applied_by(applied: Option<Applied>, number: VerNumber) -> Option<Applied>
     ensures { result ≡ option_map (λ a. an_applied a.date number) applied }

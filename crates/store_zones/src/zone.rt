@@ -21,7 +21,7 @@ use sqlite::{Alter, Connection};
 use std::alloc::Global;
 use store_rows::ReadError;
 use store_schema::Schema;
-use zones::{Element, Entry, Zone};
+use zones_maps::{Element, Entry, Zone};
 
 /// The zone of these parts, if they may stand in one.
 fn join(head: ZoneHead, entries: Table<Entry>, elements: Table<Element>) -> Result<Zone, ReadError>

@@ -5,7 +5,7 @@ use Rattle.terms.specs.Types.{Text, Id, Hold, Sysmod, Global}
 use Rattle.terms.specs.Global.{hold_cmp, with_sysmod, without_hold}
 use Rattle.terms.specs.Lookups.{is_received, sysmod_of}
 use Rattle.terms.specs.Rising.{with_item}
-use Rattle.sysmod.specs.Edited.{with_sources, less_sysmod}
+use Rattle.sysmods_values.specs.Edited.{with_sources, less_sysmod}
 use Rattle.sysmods.specs.declared.edit.GlobalEdit.{GlobalEdit}
 use Rattle.sysmods.specs.declared.edit.GlobalEdit.TheVariants.{PutHold, RemoveHold, InsertSysmod, ReplaceSources}
 use Rattle.sysmods.specs.declared.edit.GlobalEdit.TheVariants.{RemoveSysmod}

@@ -12,7 +12,7 @@ use crate::zone::GlobalZone;
 use fields::{Id, IdList, Srel, VerNumber};
 use sorted::{Keyed, Table};
 use std::alloc::{AllocError, Global};
-use sysmod::Ver;
+use sysmods_values::Ver;
 
 /// The number of an id's `++VER` among those for an SREL.
 #[derive(Clone, Copy, Debug)]

@@ -1,7 +1,7 @@
 //! Edits of the global zone, by which tables follow it.
 
 use fields::{Id, Reason, Source};
-use sysmod::{Hold, Sysmod};
+use sysmods_values::{Hold, Sysmod};
 use terms::HoldKind;
 
 /// An edit of the global zone. What a SYSMOD states is long and never changes, so no edit carries it: it stands in the

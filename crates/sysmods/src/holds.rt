@@ -17,7 +17,7 @@ use sorted::are_rising;
 use std::alloc::{AllocError, Global};
 use std::collections::BTreeMap;
 use std::marker::Model;
-use sysmod::Hold;
+use sysmods_values::Hold;
 use terms::HoldKind;
 use thiserror::Error;
 

@@ -6,7 +6,7 @@ ghost use Rattle.sysmods.specs.Index.{has, HasAll, Grows, IsIndexed, KeepsOthers
 use fields::Id;
 use std::alloc::{AllocError, Global};
 use std::collections::{BTreeMap, BTreeSet};
-use sysmod::{IfReq, Sysmod, Ver};
+use sysmods_values::{IfReq, Sysmod, Ver};
 
 /// An id that is named may have others beside those that name it: who uses the index asks them.
 #[derive(Drop)]

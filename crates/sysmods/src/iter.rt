@@ -7,7 +7,7 @@ ghost use Rattle.std.specs.Map.Iter.{TakesFirst, deref};
 use crate::key::HoldKey;
 use std::collections::btree_map::Range;
 use std::marker::Model;
-use sysmod::Hold;
+use sysmods_values::Hold;
 
 /// Holds in the order of their keys. A contract sees it as the list of those that are left.
 #[derive(Drop)]

@@ -5,7 +5,7 @@ ghost use Rattle.std.specs.Ordering.{as_partial_cmp, eq_by_cmp};
 
 use fields::{Id, Reason};
 use std::cmp::Ordering;
-use sysmod::Hold;
+use sysmods_values::Hold;
 use terms::HoldKind;
 
 /// A place among the holds of an id and a kind: that of a reason, or an end, where no hold is.

@@ -9,7 +9,7 @@ use crate::received::Received;
 use crate::search::leads_from_both_ends;
 use fields::Srel;
 use std::alloc::{AllocError, Global};
-use sysmod::Sysmod;
+use sysmods_values::Sysmod;
 
 fn leads_back(
     alloc: Global,

@@ -7,7 +7,7 @@ use crate::received::Received;
 use crate::search::Names;
 use fields::{Id, Srel};
 use std::alloc::AllocError;
-use sysmod::Sysmod;
+use sysmods_values::Sysmod;
 
 /// The received SYSMODs, and one more in place of one of its id.
 #[derive(Clone, Copy)]

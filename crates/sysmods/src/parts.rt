@@ -13,7 +13,7 @@ use crate::refused::refusal;
 use fields::Attest;
 use sorted::are_rising;
 use std::alloc::{AllocError, Global};
-use sysmod::{Hold, Sysmod};
+use sysmods_values::{Hold, Sysmod};
 use terms::HoldKind;
 
 /// These SYSMODs, if they are those of a global zone: they rise by id and carry no holds, there is no

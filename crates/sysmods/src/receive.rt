@@ -9,7 +9,7 @@ ghost use Rattle.sysmods.specs.Held.{found};
 use crate::holds::Holds;
 use crate::received::Received;
 use std::alloc::{AllocError, Global};
-use sysmod::Sysmod;
+use sysmods_values::Sysmod;
 
 /// Takes a new SYSMOD in, and its holds among the others. After an error neither came in: the SYSMOD comes first, since
 /// taking it out again takes no memory.

@@ -22,7 +22,7 @@ use std::alloc::{AllocError, Global};
 use std::collections::btree_map::Values;
 use std::collections::{BTreeMap, BTreeSet};
 use std::marker::Model;
-use sysmod::Sysmod;
+use sysmods_values::Sysmod;
 
 /// The received SYSMODs. A contract sees their list, which rises by id.
 #[derive(Drop)]

@@ -9,7 +9,7 @@ use crate::loops::makes_loop;
 use crate::received::Received;
 use crate::roles::roles_fit;
 use std::alloc::{AllocError, Global};
-use sysmod::Sysmod;
+use sysmods_values::Sysmod;
 
 /// How many SYSMODs may be received.
 const MOST: usize = 65_535;

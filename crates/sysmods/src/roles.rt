@@ -8,7 +8,7 @@ ghost use Rattle.sysmods.specs.Held.{found, zone_of};
 
 use crate::received::Received;
 use fields::Id;
-use sysmod::{IfReq, Sysmod, Ver};
+use sysmods_values::{IfReq, Sysmod, Ver};
 use terms::Kind;
 
 fn has_function_kind(sysmod: &Sysmod) -> bool

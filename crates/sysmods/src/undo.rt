@@ -7,7 +7,7 @@ ghost use Rattle.sysmods.specs.Undone.{UndoesAll};
 use crate::holds::Holds;
 use crate::key::HoldKey;
 use std::alloc::AllocError;
-use sysmod::Hold;
+use sysmods_values::Hold;
 
 /// What takes the putting of a hold back: the new one goes, or the old one comes again.
 #[derive(Drop)]

@@ -3,7 +3,7 @@ ghost use Rattle.std.specs.Prelude.{◌≡◌};
 ghost use Rattle.sysmods.specs.Ways.{names_so};
 
 use fields::Id;
-use sysmod::Sysmod;
+use sysmods_values::Sysmod;
 
 /// How one of its `++VER`s names an id: in PRE, SUP or FMID; in SUP; in DELETE, FMID or an `++IF`.
 #[derive(Clone, Copy)]

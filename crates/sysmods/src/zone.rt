@@ -24,7 +24,7 @@ use fields::{Attest, Id, Reason, Source, Srel};
 use std::alloc::{AllocError, Global};
 use std::collections::btree_map::Values;
 use std::marker::Model;
-use sysmod::{Hold, Sysmod};
+use sysmods_values::{Hold, Sysmod};
 use terms::{HoldKind, Kind};
 use thiserror::Error;
 

@@ -10,10 +10,10 @@ use Rattle.terms.specs.Deleted.{entries_less}
 use Rattle.terms.specs.Restore.{Restoring, Restores}
 use Rattle.terms.proofs.SameLists.{rising_same}
 use Rattle.sorted.specs.Edits.{after_edits}
-use Rattle.zones.specs.Delta.{ZoneDelta, IsChanged}
-use Rattle.zones_views.proofs.Entries.{entries_less_rise}
+use Rattle.zones_maps.specs.Delta.{ZoneDelta, IsChanged}
+use Rattle.zones.proofs.Entries.{entries_less_rise}
 use Rattle.undo.specs.Restoring.{IsRestoringOf, take_off, all_changed, ArePutBack}
-use Rattle.zones.specs.Differing.{ChangesEntry, EachChanges}
+use Rattle.zones_maps.specs.Differing.{ChangesEntry, EachChanges}
 use Rattle.undo.proofs.LessEdits.{all_taken_off, entry_left, elements_stay}
 use Rattle.sorted.specs.ElementKeys.{Key}
 use Rattle.undo.proofs.Reverted.{reverted, unchanged}

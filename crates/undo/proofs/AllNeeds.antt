@@ -17,7 +17,7 @@ use Rattle.terms.specs.Lookups.{IsZone, is_in, is_applied, is_supplied, applied_
 use Rattle.terms.specs.Restore.{Restoring, NeedsDep, NeedsInRestore, restore_candidates}
 use Rattle.terms.proofs.Ids.{is_in_from_Contains, Contains_from_is_in}
 use Rattle.terms.proofs.Applied.{applied_are}
-use Rattle.decide.specs.declared.stated.Need.{Need}
+use Rattle.judge_system.specs.declared.stated.RequisiteOf.{RequisiteOf}
 use Rattle.undo.specs.Dependences.{dependents}
 use Rattle.sorted.specs.ElementKeys.{key_cmp}
 use Rattle.sorted.specs.Lists.{listed}
@@ -150,7 +150,7 @@ module _ (r : Restoring) (ids cands : List Id) (are : cands ≡ restore_candidat
         ((have_dep x y n.1.1.other n.0).1 n.1.1, own_whole cands x y n.0 n.1.1.other),
   )
 
-  abbrev both : List Need
+  abbrev both : List RequisiteOf
   both = map (pair_need Elem) own_elem ++ map (pair_need Dep) own_dep
 
   needs_from : (x : Id) (kind : NeedKind) (y : Id) → Contains both (pair_need kind (x, y))
@@ -160,13 +160,13 @@ module _ (r : Restoring) (ids cands : List Id) (are : cands ≡ restore_candidat
       h) [
         | inl front ↦
             let m = map_in (pair_need Elem) own_elem (pair_need kind (x, y)) front in
-            let pair : m.0 ≡ (x, y) = ap (λ (w : Need). (w.of, w.id)) m.2 in
-            subst (λ k. Contains cands x × NeedsInRestore r (is_in ids) x k y) (ap (λ (w : Need). w.kind) m.2)
+            let pair : m.0 ≡ (x, y) = ap (λ (w : RequisiteOf). (w.of, w.id)) m.2 in
+            subst (λ k. Contains cands x × NeedsInRestore r (is_in ids) x k y) (ap (λ (w : RequisiteOf). w.kind) m.2)
             ((elem_is x y).0 (subst (Contains own_elem) pair m.1))
         | inr back ↦
             let m = map_in (pair_need Dep) own_dep (pair_need kind (x, y)) back in
-            let pair : m.0 ≡ (x, y) = ap (λ (w : Need). (w.of, w.id)) m.2 in
-            subst (λ k. Contains cands x × NeedsInRestore r (is_in ids) x k y) (ap (λ (w : Need). w.kind) m.2)
+            let pair : m.0 ≡ (x, y) = ap (λ (w : RequisiteOf). (w.of, w.id)) m.2 in
+            subst (λ k. Contains cands x × NeedsInRestore r (is_in ids) x k y) (ap (λ (w : RequisiteOf). w.kind) m.2)
             ((dep_is x y).0 (subst (Contains own_dep) pair m.1))
       ]
 
@@ -189,9 +189,9 @@ module _ (r : Restoring) (ids cands : List Id) (are : cands ≡ restore_candidat
       → AllPairs (λ v w. v ≢ w) (map (pair_need kind) pairs)
   once_each kind pairs once =
       pairs_map (λ p q. p ≢ q) (λ v w. v ≢ w) (pair_need kind)
-      (λ p q apart same. apart (ap (λ (w : Need). (w.of, w.id)) same)) pairs once
+      (λ p q apart same. apart (ap (λ (w : RequisiteOf). (w.of, w.id)) same)) pairs once
 
-  pub are_needs : (needs : List Need) → needs ≡ both → AreNeeds r ids cands needs
+  pub are_needs : (needs : List RequisiteOf) → needs ≡ both → AreNeeds r ids cands needs
   are_needs needs made = subst (AreNeeds r ids cands) (sym made) (record {
     members = λ x kind y. (needs_from x kind y, λ n. needs_to x kind y n.0 n.1);
     once = AllPairs_join (λ v w. v ≢ w) (map (pair_need Elem) own_elem) (map (pair_need Dep) own_dep)
@@ -206,4 +206,4 @@ module _ (r : Restoring) (ids cands : List Id) (are : cands ≡ restore_candidat
       number _ = false
 
       apart : (p q : Pair) → pair_need Elem p ≢ pair_need Dep q
-      apart p q same = absurd (true≢false (ap (λ (w : Need). number w.kind) same))
+      apart p q same = absurd (true≢false (ap (λ (w : RequisiteOf). number w.kind) same))

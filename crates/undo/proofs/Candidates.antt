@@ -14,9 +14,9 @@ use Rattle.terms.specs.Types.{Id, Zone}
 use Rattle.terms.specs.Lookups.{IsRising, is_applied, is_before, is_in}
 use Rattle.terms.specs.Needs.{Serves, takes_superseder}
 use Rattle.terms.specs.Restore.{Restoring, NeedsInRestore, FailsRestore, MayBeRestored, restore_candidates}
-use Rattle.decide.specs.declared.stated.Need.{Need}
-use Rattle.decide.specs.Said.{AreTests}
-use Rattle.decide.specs.Judged.{AreJudged}
+use Rattle.judge_system.specs.declared.stated.RequisiteOf.{RequisiteOf}
+use Rattle.judge_system.specs.Said.{AreTests}
+use Rattle.judge_system.specs.Judged.{AreJudged}
 use Rattle.undo.specs.Tests.{fails_test}
 use Rattle.undo.specs.Needed.{AreNeeds}
 use Rattle.undo.proofs.Testing.{fails_is}
@@ -43,7 +43,7 @@ alone r listed x HoldError z n = absurd n
 alone r listed x Orphan z n = absurd n
 
 pub are_judged : (r : Restoring) (ids cands : List Id) → cands ≡ restore_candidates r ids → (rows : List (List Test))
-    → AreTests (fails_test r) cands rows → (needs : List Need) → AreNeeds r ids cands needs
+    → AreTests (fails_test r) cands rows → (needs : List RequisiteOf) → AreNeeds r ids cands needs
     → AreJudged (FailsRestore r) (MayBeRestored r ids) (NeedsInRestore r (is_in ids)) (Serves r.choice) cands rows
     needs []
 are_judged r ids cands are rows tested needs w = record {

@@ -26,8 +26,8 @@ use Rattle.terms.specs.Types.{Id, Entry, Zone, Applied}
 use Rattle.terms.specs.Lookups.{IsZone, is_nil, has_content, is_before, waives_applied, entry_of}
 use Rattle.terms.specs.Rising.{with_item}
 use Rattle.terms.specs.Deleted.{entry_less, entries_less}
-use Rattle.zones.specs.Delta.{ZoneDelta}
-use Rattle.zones_views.proofs.Filtered.{passing, find_filter}
+use Rattle.zones_maps.specs.Delta.{ZoneDelta}
+use Rattle.zones.proofs.Filtered.{passing, find_filter}
 use Rattle.sorted.specs.Turned.{Turns, TurnsAt, AreTurned}
 use Rattle.undo.specs.Restoring.{loses, less_edit, take_off}
 use Rattle.sorted.proofs.InTurn.{find_member}

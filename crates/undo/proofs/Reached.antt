@@ -19,8 +19,8 @@ use Rattle.terms.specs.Rising.{Rises}
 use Rattle.terms.proofs.ElementOrder.{cmp_types}
 use Rattle.terms.proofs.Each.{All_from_each}
 use Rattle.terms.proofs.Ids.{Contains_from_is_in}
-use Rattle.decide.specs.Problem.{holds}
-use Rattle.decide.specs.Least.{Rule, Growth, IsClosed, IsLeast}
+use Rattle.solve.specs.System.{holds}
+use Rattle.solve.specs.Least.{Rule, Growth, IsClosed, IsLeast}
 use Rattle.undo.specs.declared.nodes.Node.{Node}
 use Rattle.undo.specs.declared.nodes.Node.TheVariants.{Sysmod, Element}
 use Rattle.undo.specs.contracts.nodes.NodeOrd.TheImpl as node_order

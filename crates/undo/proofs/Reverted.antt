@@ -13,7 +13,7 @@ use Rattle.terms.specs.declared.kinds.ElemType.{ElemType}
 use Rattle.terms.specs.Types.{Text, Id, Change, Global, Element, Zone}
 use Rattle.terms.specs.Lookups.{element_cmp, element_eq, element_key, element_of, has_change, changes_of}
 use Rattle.terms.proofs.ElementOrder.{element_cmp_total, element_ties, same_key}
-use Rattle.zones.specs.Delta.{ZoneDelta}
+use Rattle.zones_maps.specs.Delta.{ZoneDelta}
 use Rattle.sorted.specs.Turned.{AreTurned}
 use Rattle.undo.specs.Restoring.{changed_keys, all_changed, element_at, EditsElement, PutsBack, ArePutBack}
 use Rattle.sorted.proofs.Turning.{turned_none, turned_next}

@@ -18,8 +18,8 @@ use Rattle.terms.proofs.ListMembers.{here, here_or, none_in, in_map, map_in, in_
 use Rattle.terms.specs.Types.{Id}
 use Rattle.terms.specs.Lookups.{IsRising}
 use Rattle.terms.specs.Rising.{Rises}
-use Rattle.decide.specs.Problem.{holds}
-use Rattle.decide.specs.Least.{Rule, Growth, IsRule, IsLeast}
+use Rattle.solve.specs.System.{holds}
+use Rattle.solve.specs.Least.{Rule, Growth, IsRule, IsLeast}
 use Rattle.undo.specs.declared.nodes.Node.{Node}
 use Rattle.undo.specs.declared.nodes.Node.TheVariants.{Sysmod, Element}
 use Rattle.undo.specs.declared.nodes.Step.{Step as RustStep}

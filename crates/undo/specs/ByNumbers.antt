@@ -2,8 +2,8 @@
 use Rattle.std.specs.Prelude.{◌≡◌, ◌↔◌, ◌<◌, ℕ, Bool, List, Some, [], ◌∷◌, ◌++◌, map, slice_get, Contains, IsTrue}
 use Rattle.terms.specs.Types.{Id}
 use Rattle.terms.specs.Lookups.{IsRising}
-use Rattle.decide.specs.Problem.{holds}
-use Rattle.decide.specs.Least.{Rule, Growth}
+use Rattle.solve.specs.System.{holds}
+use Rattle.solve.specs.Least.{Rule, Growth}
 use Rattle.undo.specs.declared.nodes.Node.{Node}
 use Rattle.undo.specs.declared.nodes.Node.TheVariants.{Sysmod, Element}
 use Rattle.undo.specs.declared.nodes.Step.{Step as RustStep}
@@ -33,12 +33,12 @@ pub record Covers (table : List Node) (s : RustStep) : Type 0 where
   pub these : (n : Node) → Contains s.these.items n → Contains table n
   pub that : Contains table s.that
 
--- the numbered problem
+-- the numbered system
 pub record IsGrowth (table : List Node) (ids : List Id) (steps : List Step) (g : Growth) : Type 0 where
   pub start : g.start ≡ map (is_start ids) table
   pub rules : AreNumbered table steps g.rules
 
--- the problem with one more rule
+-- the system with one more rule
 pub record AddsRule (table : List Node) (s : Step) (old new : Growth) : Type 0 where
   pub rule : Rule
   pub numbered : IsNumbered table s rule

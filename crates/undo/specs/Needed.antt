@@ -4,11 +4,11 @@ use Rattle.terms.specs.declared.codes.NeedKind.{NeedKind}
 use Rattle.terms.specs.Types.{Id}
 use Rattle.terms.specs.Lookups.{is_in}
 use Rattle.terms.specs.Restore.{Restoring, NeedsElem, NeedsDep, NeedsInRestore}
-use Rattle.decide.specs.declared.stated.Need.{Need}
-use Rattle.decide.specs.Said.{a_need}
+use Rattle.judge_system.specs.declared.stated.RequisiteOf.{RequisiteOf}
+use Rattle.judge_system.specs.Said.{a_need}
 
 -- the first needs the second
-abbrev pub pair_need : NeedKind → Id × Id → Need
+abbrev pub pair_need : NeedKind → Id × Id → RequisiteOf
 pair_need kind p = a_need p.0 kind p.1
 
 -- the pairs have what candidates share an element with
@@ -22,7 +22,7 @@ HaveDep r ids cands pairs =
     (x y : Id) → y ≢ x → Contains cands x → Contains {X = Id × Id} pairs (x, y) ↔ NeedsDep r (is_in ids) x y
 
 -- the list has the needs of the candidates, each once
-pub record AreNeeds (r : Restoring) (ids cands : List Id) (needs : List Need) : Type 0 where
+pub record AreNeeds (r : Restoring) (ids cands : List Id) (needs : List RequisiteOf) : Type 0 where
   pub members : (x : Id) (kind : NeedKind) (y : Id)
       → Contains needs (a_need x kind y) ↔ (Contains cands x × NeedsInRestore r (is_in ids) x kind y)
   pub once : AllPairs (λ v w. v ≢ w) needs

@@ -12,7 +12,7 @@ use Rattle.terms.specs.Lookups.{has_content, changes_of, element_of, element_cmp
 use Rattle.terms.specs.Rising.{with_item}
 use Rattle.terms.specs.Deleted.{entry_less}
 use Rattle.terms.specs.Restore.{Restoring}
-use Rattle.zones.specs.Delta.{ZoneDelta}
+use Rattle.zones_maps.specs.Delta.{ZoneDelta}
 use Rattle.sorted.specs.Turned.{TurnsAt, AreTurned}
 
 -- a restore of a target zone from a distribution zone

@@ -10,8 +10,7 @@ ghost use Rattle.undo.specs.Needed.{HaveDep};
 use crate::scope::{Scope, applied_among};
 use fields::{Attest, Id, IdList};
 use std::alloc::{AllocError, Global};
-use zones::Zone;
-use zones_views::requisites_held;
+use zones::{Zone, requisites_held};
 
 // The SYSMODs that supersede the id in the zone.
 fn superseders(zone: &Zone, id: Id) -> &[Id]

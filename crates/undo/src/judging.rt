@@ -5,13 +5,13 @@ ghost use Rattle.terms.specs.Needs.{Serves};
 ghost use Rattle.terms.specs.Restore.{FailsRestore, MayBeRestored, NeedsInRestore, restore_candidates};
 ghost use Rattle.sysmods.specs.Choices.{choice};
 ghost use Rattle.undo.specs.Scopes.{restoring_of};
-ghost use Rattle.decide.specs.Judged.{AreJudged};
+ghost use Rattle.judge_system.specs.Judged.{AreJudged};
 
 use crate::needed::needs_of_all;
 use crate::scope::{Scope, applied_among};
 use crate::tests::all_rows;
-use decide::Need;
 use fields::{Attest, IdList};
+use judge_system::RequisiteOf;
 use std::alloc::{AllocError, Global};
 use terms::Test;
 
@@ -20,7 +20,7 @@ use terms::Test;
 pub struct Judged {
     pub cands: IdList,
     pub tests: Vec<Vec<Test>>,
-    pub needs: Vec<Need>,
+    pub needs: Vec<RequisiteOf>,
 }
 
 /// Judges the SYSMODs of RESTORE's list. No superseder serves what they need. An error comes where memory runs out.

@@ -8,17 +8,21 @@ use crate::dependences::dep_pairs;
 use crate::elements::elem_pairs;
 use crate::pairs::own_pairs;
 use crate::scope::Scope;
-use decide::Need;
 use fields::{Id, IdList};
+use judge_system::RequisiteOf;
 use std::alloc::{AllocError, Global};
 use terms::NeedKind;
 
 // Adds what these pairs say.
-fn add_needs(needs: &mut Vec<Need>, kind: NeedKind, pairs: &[(Id, Id)]) -> Result<(), AllocError>
+fn add_needs(
+    needs: &mut Vec<RequisiteOf>,
+    kind: NeedKind,
+    pairs: &[(Id, Id)],
+) -> Result<(), AllocError>
     ensures { OnOk result (needs.new.items ≡ needs.old.items ++ map (pair_need kind) pairs.now) }
 {
     for pair in pairs {
-        needs.push(Need {
+        needs.push(RequisiteOf {
             of: pair.0,
             kind,
             id: pair.1,
@@ -33,7 +37,7 @@ pub(crate) fn needs_of_all(
     scope: &Scope<'_, '_>,
     list: &IdList,
     cands: &IdList,
-) -> Result<Vec<Need>, AllocError>
+) -> Result<Vec<RequisiteOf>, AllocError>
     requires { cands.now ≡ restore_candidates (restoring_of scope.now) list.now }
     ensures { IfOk result (λ needs. AreNeeds (restoring_of scope.now) list.now cands.now needs.items) }
 {

@@ -5,7 +5,7 @@ ghost use Rattle.undo.specs.declared.nodes.Node.TheVariants.{Sysmod};
 
 use fields::{Field, Id, Name};
 use std::alloc::{AllocError, Global};
-use sysmod::ElemChange;
+use sysmods_values::ElemChange;
 use terms::ElemType;
 
 /// A SYSMOD, or an element.

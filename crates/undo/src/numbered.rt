@@ -7,8 +7,8 @@ ghost use Rattle.undo.specs.ByNumbers.{AreFlagged, AreReached, Covers, IsGrowth,
 
 use crate::nodes::{Node, Step, sysmods};
 use crate::numbers::rule_of;
-use decide::{Rules, least};
 use fields::{Attest, Id, IdList, Rising};
+use solve::{Rules, least};
 use std::alloc::{AllocError, Global};
 
 // All that these ids and steps are about.
@@ -39,7 +39,7 @@ fn starts(alloc: Global, ids: &IdList, table: &[Node]) -> Result<Vec<bool>, Allo
     table.iter().map(|node| is_start(ids, node)).collect(alloc)
 }
 
-// The numbered problem.
+// The numbered system.
 fn growth(
     alloc: Global,
     table: &Rising<Node>,

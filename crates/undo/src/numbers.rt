@@ -1,13 +1,13 @@
 //! A step with numbers: the places of what it is about in a table.
 ghost use Rattle.std.specs.Prelude.{◌≡◌, Some, length, slice_get, Contains, IfOk};
-ghost use Rattle.decide.specs.Least.{IsRule};
-ghost use Rattle.decide.specs.Rules.{as_rule};
+ghost use Rattle.solve.specs.Least.{IsRule};
+ghost use Rattle.solve.specs.Rules.{as_rule};
 ghost use Rattle.undo.specs.Steps.{as_step};
 ghost use Rattle.undo.specs.ByNumbers.{Covers, IsNumbered};
 
 use crate::nodes::{Node, Step};
-use decide::Rule;
 use fields::{Field, Rising};
+use solve::Rule;
 use std::alloc::{AllocError, Global};
 
 // The place of an item that stands in the list is its number.

@@ -4,8 +4,8 @@ ghost use Rattle.std.specs.List.{list_any};
 ghost use Rattle.terms.specs.Types.{Zone as AZone};
 ghost use Rattle.terms.specs.Lookups.{is_in, waives_applied};
 ghost use Rattle.terms.specs.Restore.{Restoring, Restores};
-ghost use Rattle.zones.specs.Delta.{IsChanged};
-ghost use Rattle.zones.specs.Differing.{EachChanges};
+ghost use Rattle.zones_maps.specs.Delta.{IsChanged};
+ghost use Rattle.zones_maps.specs.Differing.{EachChanges};
 ghost use Rattle.undo.specs.Restoring.{IsRestoringOf, PutsBack, loses, take_off};
 
 use crate::elements::changed_keys;
@@ -14,8 +14,7 @@ use sorted::TryClone;
 use std::alloc::{AllocError, Global};
 use sysmods::GlobalZone;
 use terms::ElemType;
-use zones::{Entry, Zone, ZoneDelta, are_same};
-use zones_views::entry_less;
+use zones::{Entry, Zone, ZoneDelta, are_same, entry_less};
 
 /// What changes in a target zone when the kept SYSMODs are taken off it. Elements that they change become those of the
 /// distribution zone. Each edit changes something. An error comes where memory runs out.

@@ -4,8 +4,8 @@ ghost use Rattle.terms.specs.Lookups.{is_applied, is_supplied, applied_ids, chan
 
 use fields::Id;
 use std::alloc::{AllocError, Global};
-use sysmod::ElemChange;
 use sysmods::{GlobalZone, VerChoice};
+use sysmods_values::ElemChange;
 use zones::{Entry, Zone};
 
 /// The `++VER`s that count, the target zone, its distribution zone, and the ids that are applied in the target zone,

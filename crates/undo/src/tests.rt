@@ -4,13 +4,13 @@ ghost use Rattle.std.specs.List.{list_any};
 ghost use Rattle.terms.specs.declared.codes.Test.TheVariants.{AlreadyAccepted, HasDelete, OtherLevel};
 ghost use Rattle.terms.specs.Restore.{are_alike, is_alike, may_return};
 ghost use Rattle.undo.specs.Scopes.{restoring_of};
-ghost use Rattle.decide.specs.Said.{AreTests};
+ghost use Rattle.judge_system.specs.Said.{AreTests};
 ghost use Rattle.undo.specs.Tests.{is_behind, fails_test};
 
 use crate::scope::{Scope, changes_of};
 use fields::Id;
 use std::alloc::{AllocError, Global};
-use sysmod::ElemChange;
+use sysmods_values::ElemChange;
 use terms::Test;
 use zones::{Element, Zone};
 

@@ -1,3 +1,3 @@
-pub mod Changed
-pub mod Delta
-pub mod Differing
+pub mod Gone
+pub mod Picks
+pub mod Scopes

@@ -1,14 +1,30 @@
-//! Target and distribution zones: the entries of SYSMODs and of elements, and how a zone changes.
-//! Look-ups are those of the definitions, and a changed zone has at each key what the delta leaves there. Seen in the
-//! code alone: what a delta does not put is moved and never copied.
+//! How a command looks at a zone: which `++VER`s count in it, what is left of it where DELETE takes something out, and
+//! all that an install looks at.
+//! The `++VER` of a SYSMOD that counts is the one that it was installed by, or else the first that fits; one pass over
+//! entries and received SYSMODs finds all. What is left answers as a zone does, without a copy; by it are found the
+//! requisites that SYSMODs that stay lose by a DELETE. An install's `Scope` is the `++VER`s that count, the zone, the
+//! candidates and BYPASS, with the requisites and holds that it covers. One entry is made less some SYSMODs, whatever
+//! test tells these. All is as the definitions have it. Seen in the code alone: no zone is copied.
 #![tactic(auto)]
 
-mod delta;
-mod entries;
-mod equal;
-mod zone;
+mod binding;
+mod bypassing;
+mod choosing;
+mod deleting;
+mod entry;
+mod left;
+mod orphaned;
+mod scope;
+mod taking;
 
-pub use delta::ZoneDelta;
-pub use entries::{Applied, Element, Entry};
-pub use equal::{are_same, is_element, is_same_entry};
-pub use zone::{PreparedZone, Zone};
+pub use binding::requisites_held;
+pub use bypassing::is_bypassed_hold;
+pub use choosing::{choose, fits};
+pub use deleting::{deletions, view_deletions};
+pub use entry::{TakesOut, entry_less};
+pub use left::{element_left, is_left, supplies_left};
+pub use orphaned::orphans;
+pub use scope::Scope;
+pub use zones_maps::{
+    Applied, Element, Entry, PreparedZone, Zone, ZoneDelta, are_same, is_element, is_same_entry,
+};

@@ -6,7 +6,7 @@ use Rattle.terms.proofs.ListMembers.{here}
 use Rattle.terms.specs.Lookups.{element_cmp, element_key}
 use Rattle.terms.specs.Rising.{Rises}
 use Rattle.sorted.specs.Edits.{edit_key}
-use Rattle.zones.specs.Differing.{HasEditedElements}
+use Rattle.zones_maps.specs.Differing.{HasEditedElements}
 use Rattle.change.proofs.ElementEdits.{AreDone, done_none, done_next, done_all, entries_stay}
 use Rattle.change.proofs.Yielded.{one_more, one_less, all_yielded}
 use Rattle.change.proofs.differing.edit_elements.Goals as goal

@@ -2,7 +2,7 @@ use Rattle.std.proofs.Common.{◌∙◌, sym, ap, subst, subst₂, arith}
 use Rattle.std.specs.Prelude.{if◌then◌else◌}
 use Rattle.std.proofs.lemmas.List.{take_all}
 use Rattle.sorted.specs.declared.edits.Edit.TheVariants.{Put, Remove}
-use Rattle.zones.specs.Differing.{AddsEntryEdit}
+use Rattle.zones_maps.specs.Differing.{AddsEntryEdit}
 use Rattle.change.specs.Entries.{IsEntryAfter, IsMadeEntry, HasPutEntries}
 use Rattle.change.proofs.Made.{after_applied, after_other}
 use Rattle.change.proofs.Put.{put_none, put_next}

@@ -7,10 +7,10 @@ use Rattle.terms.specs.Lookups.{element_key, element_of}
 use Rattle.sorted.specs.Edits.{edit_key}
 use Rattle.sysmods.specs.Choices.{number_in, choice}
 use Rattle.terms.specs.Deleted.{deletions, zone_less}
-use Rattle.zones.specs.Delta.{IsChanged}
+use Rattle.zones_maps.specs.Delta.{IsChanged}
 use Rattle.terms.specs.Install.{Installation, HasInstalled}
 use Rattle.change.specs.declared.deleting.Deleting.{Deleting}
-use Rattle.zones.specs.Differing.{ChangesEntry, HasEditedElements}
+use Rattle.zones_maps.specs.Differing.{ChangesEntry, HasEditedElements}
 use Rattle.change.specs.Plans.{installation, installation_of, IsFresh, IsPlan}
 use Rattle.change.proofs.AfterInstall.{installs}
 use Rattle.change.proofs.EffectiveIds.{members_are, effective_ordered, effective_base}

@@ -11,7 +11,7 @@ use Rattle.terms.proofs.ElementOrder.{cmp_keys}
 use Rattle.terms.proofs.Placing.{with_item_agree}
 use Rattle.change.specs.Deleting.{is_cut}
 use Rattle.change.specs.Puts.{less_element}
-use Rattle.zones.specs.Differing.{ElementEdit}
+use Rattle.zones_maps.specs.Differing.{ElementEdit}
 use Rattle.change.proofs.Removed.{removed_none, removed_next}
 use Rattle.change.proofs.installing.remove_elements.Goals.{then-deletes+in_ok-put, else-deletes}
 use Rattle.change.proofs.installing.remove_elements.Goals as goal

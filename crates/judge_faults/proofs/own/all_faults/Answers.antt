@@ -1,7 +1,7 @@
 use Rattle.std.proofs.Common.{◌∙◌, length, ap, arith}
 use Rattle.std.specs.Prelude.{option_copied}
 use Rattle.terms.specs.Deleted.{deletions}
-use Rattle.zones_views.specs.Scopes.{choice_of, setting_with}
+use Rattle.zones.specs.Scopes.{choice_of, setting_with}
 use Rattle.judge_faults.specs.Own.{HasFaults}
 use Rattle.terms.proofs.BesideLists.{beside_next, beside_through}
 use Rattle.judge_faults.proofs.own.all_faults.Goals as goal

@@ -1,6 +1,6 @@
 use Rattle.std.proofs.Common.{◌≡◌, take}
 use Rattle.std.specs.Prelude.{option_copied}
-use Rattle.zones_views.specs.Scopes.{setting_with}
+use Rattle.zones.specs.Scopes.{setting_with}
 use Rattle.judge_faults.specs.Own.{HasFaults}
 use Rattle.terms.specs.Beside.{Beside}
 use Rattle.judge_faults.proofs.own.all_faults.Given as goal

@@ -1,6 +1,6 @@
 use Rattle.std.proofs.Common.{◌∙◌, refl}
 use Rattle.std.specs.Prelude.{option_copied}
-use Rattle.zones_views.specs.Scopes.{choice_of, global_of, setting_with}
+use Rattle.zones.specs.Scopes.{choice_of, global_of, setting_with}
 use Rattle.judge_faults.proofs.Faulted.{faults_from}
 use Rattle.judge_faults.proofs.own.own_faults.Goals as goal
 

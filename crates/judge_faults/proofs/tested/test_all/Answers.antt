@@ -2,7 +2,7 @@ use Rattle.std.proofs.Common.{◌∙◌, All, ap, arith, length, subst, sym}
 use Rattle.terms.specs.Candidates.{is_installable}
 use Rattle.std.specs.Prelude.{IsTrue, option_copied}
 use Rattle.terms.specs.Global.{IsGlobal}
-use Rattle.zones_views.specs.Scopes.{global_of, setting_with}
+use Rattle.zones.specs.Scopes.{global_of, setting_with}
 use Rattle.judge_faults.proofs.Few.{few}
 use Rattle.judge_faults.proofs.Deleting.{own_still, eight}
 use Rattle.judge_faults.proofs.Places.{are_failed}

@@ -4,7 +4,7 @@ use Rattle.terms.specs.declared.codes.NeedKind.TheVariants.{Ifreq}
 use Rattle.terms.specs.Types.{Id}
 use Rattle.terms.specs.Choice.{pre_of, req_of}
 use Rattle.terms.specs.Needs.{asked}
-use Rattle.zones_views.specs.Scopes.{setting_of}
+use Rattle.zones.specs.Scopes.{setting_of}
 use Rattle.judge_needs.proofs.Paired.{same_behind}
 use Rattle.judge_needs.proofs.bypassed.bypassed.Goals.{then-is_bypassed+in_ok-by_ifs+in_ok-extend_from_slice-2}
 use Rattle.judge_needs.proofs.bypassed.bypassed.Goals.{else-is_bypassed}

@@ -3,7 +3,7 @@ use Rattle.std.specs.Prelude.{◌↔◌}
 use Rattle.terms.specs.Types.{Id}
 use Rattle.terms.specs.Needs.{bypassed_ids}
 use Rattle.judge_needs.specs.Pairs.{AreBypassed}
-use Rattle.zones_views.specs.Scopes.{setting_of}
+use Rattle.zones.specs.Scopes.{setting_of}
 use Rattle.judge_needs.proofs.Paired.{pairs_alike, pairs_next}
 use Rattle.judge_needs.proofs.bypassed.bypassed_pairs.Goals as goal
 

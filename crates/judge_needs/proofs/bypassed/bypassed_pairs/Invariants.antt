@@ -1,6 +1,6 @@
 use Rattle.std.proofs.Common.{take}
 use Rattle.judge_needs.specs.Pairs.{AreBypassed}
-use Rattle.zones_views.specs.Scopes.{setting_of}
+use Rattle.zones.specs.Scopes.{setting_of}
 use Rattle.judge_needs.proofs.bypassed.bypassed_pairs.Given as goal
 
 abbrev pub invariant-loop-id : goal.invariant-loop-id

@@ -3,7 +3,7 @@ use Rattle.std.proofs.lemmas.Iterator.{YieldsList-from_map, YieldsList-from_slic
 use Rattle.std.proofs.lemmas.Iterator.Adapters.{items_from_extend}
 use Rattle.std.proofs.lemmas.Iterator.Consumers.{YieldsList-at, YieldsList-from_filter}
 use Rattle.std.proofs.lemmas.Result.{on_ok_weaker}
-use Rattle.decide.specs.Said.{a_need}
+use Rattle.judge_system.specs.Said.{a_need}
 use Rattle.judge_needs.specs.Left.{left_of}
 use Rattle.judge_needs.specs.Needed.{is_open}
 use Rattle.judge_needs.proofs.AllNeeds.{of_kind_holds}

@@ -5,7 +5,7 @@ use Rattle.terms.specs.declared.codes.NeedKind.TheVariants.{Fmid, Pre, Req, Ifre
 use Rattle.terms.specs.Types.{Id}
 use Rattle.terms.specs.Lookups.{IsRising, at_most_one}
 use Rattle.terms.specs.Needs.{asked}
-use Rattle.zones_views.specs.Scopes.{setting_of}
+use Rattle.zones.specs.Scopes.{setting_of}
 use Rattle.judge_needs.specs.Left.{left_of}
 use Rattle.judge_needs.specs.Needed.{AddsPart, IsOfKind}
 use Rattle.judge_needs.proofs.AllNeeds.{all_parts, one_of, one_rises, same_asked}

@@ -1,7 +1,7 @@
 use Rattle.std.proofs.Common.{◌≡◌, ◌≤◌, ◌∙◌, List, arith, length, subst, take_all}
 use Rattle.terms.specs.Types.{Id}
 use Rattle.terms.specs.Deleted.{deletions, zone_less}
-use Rattle.zones_views.specs.Scopes.{global_of, choice_of, setting_of}
+use Rattle.zones.specs.Scopes.{global_of, choice_of, setting_of}
 use Rattle.judge_needs.specs.Needed.{AreNeedsOf}
 use Rattle.judge_needs.proofs.AllNeeds.{needs_next}
 use Rattle.judge_needs.proofs.needed.needs_of.Goals as goal

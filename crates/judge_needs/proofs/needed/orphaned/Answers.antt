@@ -2,7 +2,7 @@ use Rattle.std.proofs.Common.{◌∙◌, [], cond, refl, ap, subst, Contains}
 use Rattle.std.specs.Prelude.{◌↔◌}
 use Rattle.terms.specs.Types.{Id}
 use Rattle.terms.specs.Needs.{orphans}
-use Rattle.zones_views.specs.Scopes.{setting_of}
+use Rattle.zones.specs.Scopes.{setting_of}
 use Rattle.judge_needs.proofs.needed.orphaned.Goals as goal
 
 pub returns-then-contains : goal.returns-then-contains

@@ -1,7 +1,7 @@
 use Rattle.terms.specs.declared.codes.NeedKind.TheVariants.{HoldError}
 use Rattle.terms.specs.Needs.{asked}
 use Rattle.std.proofs.Common.{[]}
-use Rattle.zones_views.specs.Scopes.{setting_of}
+use Rattle.zones.specs.Scopes.{setting_of}
 use Rattle.judge_needs.proofs.Errors.{AreFound}
 use Rattle.judge_needs.proofs.reasons.open_reasons.Given as goal
 

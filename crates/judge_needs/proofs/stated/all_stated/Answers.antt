@@ -4,7 +4,7 @@ use Rattle.std.specs.Str.{bytes_eq}
 use Rattle.std.proofs.lemmas.Grind.{common_steps}
 use Rattle.terms.specs.Types.{Entry}
 use Rattle.terms.specs.Conditions.{reqs_where}
-use Rattle.zones_views.specs.Scopes.{choice_of}
+use Rattle.zones.specs.Scopes.{choice_of}
 use Rattle.judge_needs.specs.Conditions.{a_requisite, requisites_of, stated_by}
 use Rattle.judge_needs.proofs.stated.all_stated.Goals as goal
 

@@ -3,7 +3,7 @@ use Rattle.std.specs.Prelude.{is_some}
 use Rattle.std.specs.List.{flat_map}
 use Rattle.terms.specs.Types.{Id}
 use Rattle.judge_needs.specs.Conditions.{requisites_of, stated_by}
-use Rattle.zones_views.specs.Scopes.{choice_of}
+use Rattle.zones.specs.Scopes.{choice_of}
 use Rattle.judge_needs.proofs.stated.all_stated.Given as goal
 
 abbrev pub invariant-loop-entry : goal.invariant-loop-entry

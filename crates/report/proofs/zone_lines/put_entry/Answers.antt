@@ -1,7 +1,7 @@
 use Rattle.std.proofs.Common.{◌≡◌, ◌∙◌, ap, subst, rules}
 use Rattle.std.specs.Prelude.{option_map}
 use Rattle.terms.specs.Types.{Applied, Entry}
-use Rattle.zones.specs.contracts.entries.Entry.{the_view}
+use Rattle.zones_maps.specs.contracts.entries.Entry.{the_view}
 use Rattle.machine.specs.Outcome.{EntryLine}
 use Rattle.machine.specs.Report.{line_text, optional_text}
 use Rattle.report.specs.Paged.{Paged}

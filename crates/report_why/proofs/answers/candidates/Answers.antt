@@ -5,7 +5,7 @@ use Rattle.terms.specs.Needs.{Serves}
 use Rattle.terms.specs.Candidates.{is_installable}
 use Rattle.terms.proofs.GlobalLookups.{installable_received}
 use Rattle.sysmods.specs.Choices.{choice}
-use Rattle.zones_views.specs.Scopes.{global_of}
+use Rattle.zones.specs.Scopes.{global_of}
 use Rattle.report_why.proofs.Serving.{serving_none, serving_if, serving_next, all_serving}
 use Rattle.report_why.proofs.answers.candidates.Goals.{then-branch+in_ok-push, else-branch}
 use Rattle.report_why.proofs.answers.candidates.Goals as goal

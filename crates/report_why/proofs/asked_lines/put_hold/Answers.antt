@@ -3,7 +3,7 @@ use Rattle.std.specs.Prelude.{OnOk}
 use Rattle.std.proofs.lemmas.Result.{IfOk-equal}
 use Rattle.terms.specs.Types.{Hold}
 use Rattle.terms.specs.Facts.{HoldFact}
-use Rattle.sysmod.specs.contracts.hold.Hold.{the_view}
+use Rattle.sysmods_values.specs.contracts.hold.Hold.{the_view}
 use Rattle.machine.specs.FactText.{fact_text}
 use Rattle.report_why.specs.Views.{answer_view}
 use Rattle.report_why.proofs.TextParts.{hold_answered, hold_unanswered}

@@ -3,7 +3,7 @@ use Rattle.terms.specs.Lookups.{is_in, applied_ids}
 use Rattle.terms.specs.Choice.{vers_of, fits, place, counting}
 use Rattle.terms.specs.Tests.{Setting}
 use Rattle.terms.specs.Facts.{Fact, numbered_facts}
-use Rattle.zones_views.specs.Scopes.{setting_of}
+use Rattle.zones.specs.Scopes.{setting_of}
 use Rattle.report_why.specs.Needed.{AreNeeded}
 use Rattle.report_why.specs.Views.{fact_view}
 use Rattle.report_why.proofs.Together.{AreAsked, are_facts}

@@ -1,5 +1,5 @@
 use Rattle.terms.specs.Lookups.{holds_of}
-use Rattle.zones_views.specs.Scopes.{global_of}
+use Rattle.zones.specs.Scopes.{global_of}
 use Rattle.terms.specs.Facts.{IsHoldFact}
 use Rattle.report_why.specs.Asking.{setting_in}
 use Rattle.report_why.specs.Views.{fact_view}

@@ -2,7 +2,7 @@ use Rattle.std.proofs.Common.{◌∙◌, ◌++◌, ap, subst, sym}
 use Rattle.terms.specs.Beside.{Beside}
 use Rattle.terms.specs.declared.kinds.HoldKind.TheVariants.{Error, System, User}
 use Rattle.terms.specs.Lookups.{holds_of}
-use Rattle.zones_views.specs.Scopes.{global_of}
+use Rattle.zones.specs.Scopes.{global_of}
 use Rattle.terms.specs.Facts.{IsHoldFact, holds_on}
 use Rattle.report_why.specs.Asking.{setting_in}
 use Rattle.report_why.specs.Views.{fact_view}

@@ -5,7 +5,7 @@ use Rattle.std.proofs.lemmas.Result.{IfOk-equal}
 use Rattle.terms.specs.Lookups.{is_in, is_applied, is_function, applied_ids}
 use Rattle.terms.specs.Over.{chain}
 use Rattle.terms.specs.Deleted.{deletions}
-use Rattle.zones_views.specs.Scopes.{global_of, choice_of}
+use Rattle.zones.specs.Scopes.{global_of, choice_of}
 use Rattle.terms.specs.Facts.{stated_by, conditions_of}
 use Rattle.judge_needs.proofs.Stating.{applied_left}
 use Rattle.report_why.specs.Asking.{view_in, is_there}

@@ -2,7 +2,7 @@ use Rattle.std.proofs.Common.{◌∙◌, ◌++◌, ap, arith, filter, refl, sym}
 use Rattle.std.specs.List.{flat_map}
 use Rattle.std.specs.Str.{bytes_eq}
 use Rattle.terms.specs.Lookups.{is_applied}
-use Rattle.zones_views.specs.Scopes.{choice_of}
+use Rattle.zones.specs.Scopes.{choice_of}
 use Rattle.terms.specs.Facts.{stated_by, conditions_of}
 use Rattle.report_why.specs.Asking.{view_in}
 use Rattle.report_why.proofs.Growing.{kept_more, grown_then, grown_else}

@@ -2,7 +2,7 @@ use Rattle.std.proofs.Common.{◌∙◌, [], ap, filter, arith, take_all}
 use Rattle.std.specs.Option.{option_map_or}
 use Rattle.std.specs.Str.{bytes_eq}
 use Rattle.terms.specs.Lookups.{sysmod_of}
-use Rattle.zones_views.specs.Scopes.{global_of}
+use Rattle.zones.specs.Scopes.{global_of}
 use Rattle.report_why.specs.Numbered.{numbered}
 use Rattle.report_why.proofs.Numbering.{passing_next, filtered_vers}
 use Rattle.report_why.proofs.vers.ver_facts.Goals as goal

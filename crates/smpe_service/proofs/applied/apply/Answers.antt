@@ -1,6 +1,6 @@
 use Rattle.std.proofs.Common.{◌≡◌, ◌≢◌, ◌⊎◌, ◌+◌, Option, List, Contains, All, IsTrue, map, sym, ap, ◌∙◌, subst, subst₂}
 use Rattle.std.specs.Prelude.{◌↔◌, option_copied}
-use Rattle.zones.specs.Delta.{IsChanged}
+use Rattle.zones_maps.specs.Delta.{IsChanged}
 use Rattle.terms.specs.Types.{Text, Id, Global, Zone, Bypass}
 use Rattle.terms.specs.Candidates.{is_installable}
 use Rattle.terms.specs.Choice.{Choice, place, counting}
@@ -15,7 +15,7 @@ use Rattle.machine.specs.Outcome.{Failure}
 use Rattle.report.specs.Views.{line_view}
 use Rattle.change.specs.Elements.{HasBases}
 use Rattle.change.specs.Plans.{installation}
-use Rattle.decide.specs.Views.{why_failed}
+use Rattle.judge_system.specs.Views.{why_failed}
 use Rattle.smpe_service.proofs.Chosen.{setting_by, same_setting}
 use Rattle.smpe_service.specs.Decided.{IsDecided}
 use Rattle.smpe_service.specs.Statuses.{said, all_statuses, AreById}

@@ -3,9 +3,9 @@ use Rattle.std.specs.Prelude.{option_copied}
 use Rattle.std.proofs.lemmas.List.{length-map}
 use Rattle.terms.specs.Types.{Id}
 use Rattle.terms.specs.Lookups.{is_in}
-use Rattle.zones_views.specs.Scopes.{setting_with}
-use Rattle.decide.specs.Views.{why_failed}
-use Rattle.decide.proofs.Judging.{rows_of}
+use Rattle.zones.specs.Scopes.{setting_with}
+use Rattle.judge_system.specs.Views.{why_failed}
+use Rattle.judge_system.proofs.Judging.{rows_of}
 use Rattle.smpe_service.proofs.Bypassed.{bypassed_kept}
 use Rattle.smpe_service.proofs.Deciding.{is_decided}
 use Rattle.smpe_service.proofs.decided.decide_by.Goals as goal

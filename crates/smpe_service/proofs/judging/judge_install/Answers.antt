@@ -1,7 +1,7 @@
 use Rattle.std.proofs.Common.{map, subst}
 use Rattle.std.specs.Prelude.{option_copied}
 use Rattle.terms.specs.Tests.{Setting, AreSurvivors}
-use Rattle.zones_views.specs.Scopes.{choice_of, setting_with}
+use Rattle.zones.specs.Scopes.{choice_of, setting_with}
 use Rattle.judge_needs.specs.Pairs.{AreSuperseded}
 use Rattle.smpe_service.proofs.SaidOf.{install_judged}
 use Rattle.smpe_service.proofs.Survivors.{survivors_are}

@@ -8,9 +8,9 @@ use Rattle.terms.specs.Choice.{Choice, counting}
 use Rattle.terms.specs.Rising.{Rises}
 use Rattle.machine.specs.Outcome.{StatusLine}
 use Rattle.machine.specs.Receiving.{place_of}
-use Rattle.decide.specs.declared.failure.Failure.{Failure}
-use Rattle.decide.specs.Views.{why_failed}
-use Rattle.decide.proofs.Judging.{rows_of, decided_of}
+use Rattle.judge_system.specs.declared.failure.Failure.{Failure}
+use Rattle.judge_system.specs.Views.{why_failed}
+use Rattle.judge_system.proofs.Judging.{rows_of, decided_of}
 use Rattle.report.specs.Views.{line_view}
 use Rattle.undo.specs.Scopes.{restoring}
 use Rattle.smpe_service.specs.Lines.{line_in}

@@ -5,7 +5,7 @@ use Rattle.std.proofs.lemmas.Cmp.{nat_list_cmp_total}
 use Rattle.std.proofs.lemmas.List.Sorted.{answers_always}
 use Rattle.terms.specs.Types.{Id}
 use Rattle.terms.proofs.RisingLists.{found_search, missing_search, find_stands, find_parted}
-use Rattle.decide.specs.declared.failure.Failure.{Failure}
+use Rattle.judge_system.specs.declared.failure.Failure.{Failure}
 use Rattle.smpe_service.proofs.restored_lines.found.Goals as goal
 
 abbrev id_of : Id × Failure → Id

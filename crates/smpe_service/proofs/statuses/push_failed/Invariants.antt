@@ -1,6 +1,6 @@
 use Rattle.std.proofs.Common.{◌≡◌, ◌++◌, length, map}
 use Rattle.std.specs.Vec.Iter.{into_iter_items, into_iter_len}
-use Rattle.decide.specs.Views.{why_failed}
+use Rattle.judge_system.specs.Views.{why_failed}
 use Rattle.smpe_service.specs.Statuses.{said, failed_statuses}
 use Rattle.smpe_service.proofs.statuses.push_failed.Given as goal
 

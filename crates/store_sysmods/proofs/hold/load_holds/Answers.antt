@@ -1,6 +1,6 @@
 use Rattle.store_rows.proofs.InsideLemmas.{if_ok}
 use Rattle.store_schema.proofs.UnderEach.{rows_under, stands_rows, stands_inventory}
-use Rattle.sysmod.proofs.KeyOrders.{holds_rise}
+use Rattle.sysmods_values.proofs.KeyOrders.{holds_rise}
 use Rattle.store_sysmods.proofs.HoldLists.{holds_formed, holds_rows}
 use Rattle.store_sysmods.proofs.hold.load_holds.Goals as goal
 

@@ -8,7 +8,7 @@ use Rattle.store_rows.proofs.Bound.{as_put, kept_as}
 use Rattle.store_schema.specs.Rows.{hold_row}
 use Rattle.store_schema.specs.Tables.{store_schema, hold}
 use Rattle.store_sysmods.specs.Holds.{put_hold, put_hold_calls, hold_key}
-use Rattle.sysmod.specs.contracts.hold.Hold.{the_view}
+use Rattle.sysmods_values.specs.contracts.hold.Hold.{the_view}
 use Rattle.store_sysmods.proofs.HoldLemmas.{kept_hold, hold_bound}
 use Rattle.store_sysmods.proofs.HoldTexts.{puts_hold}
 use Rattle.store_sysmods.proofs.hold.put_hold.Given.{Over}

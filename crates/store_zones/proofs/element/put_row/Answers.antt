@@ -5,7 +5,7 @@ use Rattle.terms.specs.Types.{Element}
 use Rattle.store_schema.specs.Rows.{zelem_row}
 use Rattle.store_schema.specs.Tables.{store_schema, zelem}
 use Rattle.store_zones.specs.Elements.{insert_element, put_element, element_key}
-use Rattle.zones.specs.contracts.entries.Element.{the_view}
+use Rattle.zones_maps.specs.contracts.entries.Element.{the_view}
 use Rattle.store_zones.proofs.Texts.{adds_element, puts_element}
 use Rattle.store_rows.proofs.Pieces.{flat_concat}
 use Rattle.store_zones.proofs.RowForms.{kept_element, element_bound}

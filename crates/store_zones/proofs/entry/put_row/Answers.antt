@@ -5,7 +5,7 @@ use Rattle.store_rows.proofs.InsideLemmas.{on_ok}
 use Rattle.store_schema.specs.Rows.{entry_row}
 use Rattle.store_schema.specs.Tables.{store_schema, entry}
 use Rattle.store_zones.specs.Entries.{insert_entry, put_entry, entry_key}
-use Rattle.zones.specs.contracts.entries.Entry.{the_view}
+use Rattle.zones_maps.specs.contracts.entries.Entry.{the_view}
 use Rattle.store_zones.proofs.Texts.{adds_entry, puts_entry}
 use Rattle.store_zones.proofs.RowForms.{kept_entry, entry_bound}
 use Rattle.store_zones.proofs.Putting.{WritesRow, inserts_row, puts_row, entry_rows_with}

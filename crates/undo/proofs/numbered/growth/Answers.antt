@@ -1,7 +1,7 @@
 use Rattle.std.proofs.Common.{◌∙◌, length, ap, sym, subst}
 use Rattle.std.proofs.lemmas.List.{length-map}
-use Rattle.decide.specs.Least.{IsRule}
-use Rattle.decide.specs.Rules.{as_rule}
+use Rattle.solve.specs.Least.{IsRule}
+use Rattle.solve.specs.Rules.{as_rule}
 use Rattle.undo.specs.ByNumbers.{Covers}
 use Rattle.undo.specs.Steps.{is_start}
 use Rattle.undo.proofs.RulesOfSteps.{one_more}

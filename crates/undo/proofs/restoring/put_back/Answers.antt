@@ -4,7 +4,7 @@ use Rattle.std.proofs.lemmas.Result.{on_ok_weaker}
 use Rattle.sorted.specs.declared.edits.Edit.TheVariants.{Put, Remove}
 use Rattle.terms.specs.Types.{Element}
 use Rattle.terms.specs.Lookups.{element_key}
-use Rattle.zones.specs.Delta.{ZoneDelta}
+use Rattle.zones_maps.specs.Delta.{ZoneDelta}
 use Rattle.undo.proofs.Reverted.{key_found, puts_none, puts_one}
 use Rattle.undo.proofs.restoring.put_back.Goals as goal
 

@@ -7,7 +7,7 @@ use Rattle.terms.specs.Deleted.{deletions, zone_less}
 use Rattle.terms.specs.Conditions.{if_needed, if_reqs}
 use Rattle.judge_needs.specs.declared.stated.Requisite.{Requisite}
 use Rattle.judge_needs.specs.Conditions.{is_there}
-use Rattle.zones_views.specs.Scopes.{choice_of}
+use Rattle.zones.specs.Scopes.{choice_of}
 use Rattle.judge_needs.proofs.Stating.{stated_left}
 use Rattle.judge_needs.proofs.conditions.Conditions.requisites.Goals as goal
 

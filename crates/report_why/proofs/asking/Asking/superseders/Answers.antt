@@ -4,8 +4,8 @@ use Rattle.std.proofs.lemmas.Result.{IfOk-weaker}
 use Rattle.terms.specs.Types.{Id, Entry}
 use Rattle.terms.specs.Lookups.{supby_of}
 use Rattle.terms.specs.Deleted.{deletions, is_taken_out}
-use Rattle.zones_views.specs.Scopes.{global_of, choice_of}
-use Rattle.zones_views.proofs.Lookups.{supby_of_less}
+use Rattle.zones.specs.Scopes.{global_of, choice_of}
+use Rattle.zones.proofs.Lookups.{supby_of_less}
 use Rattle.report_why.specs.Asking.{is_dropped}
 use Rattle.report_why.proofs.asking.Asking.superseders.Goals as goal
 

@@ -8,8 +8,8 @@ use Rattle.report.specs.declared.outcome.Outcome.TheVariants as report
 use Rattle.report.specs.Views.{line_view, header_view}
 use Rattle.store.specs.declared.change.Change.{Change}
 use Rattle.terms.specs.Types.{Zone}
-use Rattle.zones.specs.Changed.{delta_of}
-use Rattle.zones.specs.Delta.{IsChanged}
+use Rattle.zones_maps.specs.Changed.{delta_of}
+use Rattle.zones_maps.specs.Delta.{IsChanged}
 use Rattle.smpe_zones.specs.Own.{IsOfZone}
 use Rattle.smpe_session.specs.Writing.{IsAtBoundary, TellsRun}
 use Rattle.smpe_session.proofs.CarriedOut.{checks, fails, carries, zone_of}

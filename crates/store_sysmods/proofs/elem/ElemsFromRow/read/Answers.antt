@@ -1,5 +1,5 @@
 use Rattle.std.proofs.Common.{◌≡◌, length, sym, ◌∙◌}
-use Rattle.sysmod.specs.Views.{action_of}
+use Rattle.sysmods_values.specs.Views.{action_of}
 use Rattle.store_sysmods.proofs.CellLemmas.{whole_elem, fits_action}
 use Rattle.store_sysmods.proofs.elem.ElemsFromRow.read.Goals as goal
 

@@ -1,5 +1,5 @@
 use Rattle.std.proofs.Common.{◌∙◌, ap, [], refl, true≢false, sym}
-use Rattle.sysmod.proofs.KeyOrders.{holds_rise}
+use Rattle.sysmods_values.proofs.KeyOrders.{holds_rise}
 use Rattle.sysmods.specs.Lists.{with_holds}
 use Rattle.sysmods.proofs.Listed.{with_holds_rising}
 use Rattle.sysmods.proofs.holds.Holds.from_vec.Goals as goal

@@ -1,6 +1,0 @@
-use Rattle.std.proofs.Common.{take}
-use Rattle.decide.specs.Marks.{IsMarked}
-use Rattle.decide.proofs.causes.mark_row.Given as goal
-
-abbrev pub invariant-loop-x : goal.invariant-loop-x
-invariant-loop-x l = IsMarked (take l.x-index l.row) l.initial.marks l.marks l.initial.list.items l.list.items

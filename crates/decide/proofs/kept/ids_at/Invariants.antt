@@ -1,5 +1,0 @@
-use Rattle.std.proofs.Common.{◌≡◌, [], map, take, slice_index_or}
-use Rattle.decide.proofs.kept.ids_at.Given as goal
-
-abbrev pub invariant-loop-place : goal.invariant-loop-place
-invariant-loop-place l = l.found.items ≡ map (λ m. slice_index_or l.ids m []) (take l.place-index l.places)

@@ -1,8 +1,0 @@
-use Rattle.std.proofs.Common.{take}
-use Rattle.decide.specs.Serving.{AddsSuperseded}
-use Rattle.decide.proofs.serving.add_superseded.Given as goal
-
--- what is superseded so far
-abbrev pub invariant-loop-pair : goal.invariant-loop-pair
-invariant-loop-pair l =
-    AddsSuperseded l.ids (take l.pair-index l.superseded) l.initial.pairs.items l.pairs.items

@@ -1,6 +1,0 @@
-use Rattle.decide.specs.declared.growth.Rule.{Rule as RustRule}
-use Rattle.decide.specs.Least.{Rule}
-
--- a rule without where its list lies in memory
-abbrev pub as_rule : RustRule → Rule
-as_rule r = record { these = r.these.items; that = r.that }

@@ -1,0 +1,53 @@
+-- What is known of candidates by their places, and the failures that are made of it.
+use Rattle.std.specs.Prelude.{◌≡◌, ◌<◌, ℕ, not, List, [], ◌∷◌, ◌++◌, Some, All, length, map, filter, take, slice_get}
+use Rattle.std.specs.Prelude.{slice_index_or}
+use Rattle.terms.specs.declared.codes.NeedKind.{NeedKind}
+use Rattle.terms.specs.declared.codes.Test.{Test}
+use Rattle.terms.specs.Types.{Id}
+use Rattle.terms.specs.Lookups.{is_in}
+use Rattle.solve.specs.Rows.{row_at}
+use Rattle.machine.specs.Outcome as machine
+use Rattle.judge_system.specs.declared.failure.Failure.{Failure}
+use Rattle.judge_system.specs.Views.{failure_view}
+use Rattle.judge_system.specs.declared.failures.Findings.{Findings}
+use Rattle.judge_system.specs.Open.{AreNeedsOf}
+
+-- there is a row for each of so many candidates, and causers are candidates
+pub record AreFindings (size : ℕ) (f : Findings) : Type 0 where
+  pub tests : length f.tests.items ≡ size
+  pub unserved : length f.unserved.items ≡ size
+  pub causers : length f.causers.items ≡ size
+  pub within : (n : ℕ) → All (λ m. m < size) (row_at f.causers.items n)
+
+-- the failure with these tests and needs, and with the ids at these places as causers
+pub record IsFailureOf (ids : List Id) (tests : List Test) (unserved : List (NeedKind × Id)) (causers : List ℕ)
+    (f : machine.Failure) : Type 0 where
+  pub tests_are : f.tests ≡ tests
+  pub needs : AreNeedsOf unserved f.needs
+  pub causers_are : f.causers ≡ map (λ m. slice_index_or ids m []) causers
+
+-- the failure of the candidate at a place
+abbrev pub IsFailureAt : List Id → Findings → ℕ → machine.Failure → Type 0
+IsFailureAt ids found n f = IsFailureOf ids (row_at found.tests.items n) (row_at found.unserved.items n)
+    (row_at found.causers.items n) f
+
+-- an id with the failure of the candidate at its place
+abbrev pub IsFailed : List Id → Findings → Id × Failure → Type 0
+IsFailed ids found p = (n : ℕ) × (slice_get ids n ≡ Some p.0) × IsFailureAt ids found n (failure_view p.1)
+
+-- the ids that are not kept
+abbrev pub not_kept : List Id → List Id → List Id
+not_kept kept ids = filter (λ x. not (is_in kept x)) ids
+
+-- the candidate at a place is added with its failure, unless it is kept
+pub record AddsFailure (ids kept : List Id) (found : Findings) (place : ℕ) (old new : List (Id × Failure)) :
+    Type 0 where
+  pub more : List (Id × Failure)
+  pub added : new ≡ old ++ more
+  pub ids_are : (x : Id) → slice_get ids place ≡ Some x → map (λ p. p.0) more ≡ not_kept kept (x ∷ [])
+  pub failed : All (IsFailed ids found) more
+
+-- the candidates in front of a place that are not kept, each with its failure
+pub record AreFailures (ids kept : List Id) (found : Findings) (end : ℕ) (failed : List (Id × Failure)) : Type 0 where
+  pub ids_are : map (λ p. p.0) failed ≡ not_kept kept (take end ids)
+  pub each : All (IsFailed ids found) failed

@@ -1,0 +1,10 @@
+pub mod Said
+pub mod Judged
+pub mod Views
+pub mod Decided
+pub mod Serving
+pub mod Numbered
+pub mod Findings
+pub mod Open
+pub mod ByNumber
+pub mod NumberedIds

@@ -1,0 +1,76 @@
+//! The needs that nothing kept serves.
+ghost use Rattle.std.specs.Prelude.{◌≡◌, ◌↔◌, ◌⊎◌, ◌<◌, ◌++◌, ℕ, All, Contains, IfOk, OnOk, length, map};
+ghost use Rattle.solve.specs.NeedView.{numbered};
+ghost use Rattle.solve.specs.Rows.{row_at};
+ghost use Rattle.judge_system.specs.Views.{need_view};
+ghost use Rattle.judge_system.specs.Numbered.{need_of};
+ghost use Rattle.judge_system.specs.Open.{open_of, AreEachOnce, HaveOpen, AreNeedsOf};
+
+use crate::failure::OpenNeed;
+use crate::stated::{RequisiteOf, need_at};
+use fields::Id;
+use solve::{Need, System, empty_rows, serves};
+use std::alloc::{AllocError, Global};
+use terms::NeedKind;
+
+// Adds the need to the row of its candidate, unless it is served.
+fn add_open(
+    rows: &mut [Vec<(NeedKind, Id)>],
+    kept: &[bool],
+    need: &Need,
+    meant: (NeedKind, Id),
+) -> Result<(), AllocError>
+    requires of { need.now.of < length rows.old }
+    requires any { All (λ y. y < length kept.now) need.now.any.items }
+    ensures { OnOk result ((x : ℕ) → row_at rows.new x
+        ≡ row_at rows.old x ++ open_of kept.now (numbered need.now) (meant.0, meant.1) x) }
+{
+    if !serves(kept, &need.any) {
+        rows[need.of].push(meant)?;
+    }
+    Ok(())
+}
+
+/// For each candidate the kinds and ids of its needs that no kept one serves.
+pub(crate) fn open_needs(
+    alloc: Global,
+    system: &System,
+    stated: &[RequisiteOf],
+    kept: &[bool],
+) -> Result<Vec<Vec<(NeedKind, Id)>>, AllocError>
+    requires kept { length kept.now ≡ system.now.size }
+    requires stated { length stated.now ≡ length system.now.needs }
+    ensures size { IfOk result (λ rows. length rows.items ≡ system.now.size) }
+    ensures unserved { IfOk result (λ rows. HaveOpen kept.now system.now.needs (map need_of stated.now)
+        (length stated.now) rows.items) }
+{
+    let mut rows = empty_rows(alloc, system.size())?;
+    let needs = system.needs();
+    for i in 0..needs.len() {
+        let need = need_at(stated, i);
+        add_open(&mut rows, kept, &needs[i], (need.kind, need.id))?;
+    }
+    Ok(rows)
+}
+
+// The needs in the order of kinds and ids, each once.
+fn each_once(mut needs: Vec<(NeedKind, Id)>) -> Vec<(NeedKind, Id)>
+    ensures { AreEachOnce needs.items result.items }
+{
+    needs.sort_unstable();
+    needs.dedup();
+    needs
+}
+
+/// The needs by kind and id, each once.
+pub(crate) fn needs_of(
+    alloc: Global,
+    unserved: &[(NeedKind, Id)],
+) -> Result<Vec<OpenNeed>, AllocError>
+    ensures { IfOk result (λ needs. AreNeedsOf unserved.now (map need_view needs.items)) }
+{
+    each_once(Vec::from_slice(alloc, unserved)?)
+        .into_iter()
+        .map(|(kind, id)| OpenNeed { kind, id })
+        .collect(alloc)
+}

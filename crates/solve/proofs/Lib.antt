@@ -1,0 +1,15 @@
+pub mod Choosing
+pub mod Greatest
+pub mod PassingElements
+pub mod Drops
+pub mod Added
+pub mod Times
+pub mod Marked
+pub mod Spread
+pub mod Bare
+pub mod Leads
+pub mod CauserRows
+pub mod Sums
+pub mod Searches
+pub mod GreatestKept
+pub mod LeastSets

@@ -1,0 +1,57 @@
+use Rattle.std.proofs.Common.{◌≡◌, ◌++◌, arith, length, take, drop}
+use Rattle.std.proofs.lemmas.Grind.{common_steps}
+use Rattle.solve.proofs.GreatestKept.{greatest_from_kept}
+use Rattle.solve.specs.Marks.{AreLeads}
+use Rattle.solve.proofs.Leads.{leads_small}
+use Rattle.solve.proofs.CauserRows.{causers_add, causers_skip, causers_all, has_causer}
+use Rattle.solve.proofs.causes.causers.Goals as goal
+use Rattle.solve.proofs.causes.causers.Goals.{then-is_root+in_ok-list+in_ok-add_under, else-is_root}
+
+pub reaching-requires-clause-rows : goal.reaching-requires-clause-rows
+reaching-requires-clause-rows c =
+    rw (c.deref-then-is_root.ensures.value) (leads_small c.args.s.now c.args.kept.now c.in_ok-leads.leads.items
+    (rw c.flags-flags.ensures at c.in_ok-leads.ensures))
+
+pub loop-y-preserved : goal.loop-y-preserved
+loop-y-preserved c =
+    let p = c.args.s.now in
+    let kept = c.args.kept.now in
+    let rows = c.loop-y.rows.items in
+    let marks = c.loop-y.marks.items in
+    let leads : AreLeads p kept c.in_ok-leads.leads.items = rw c.flags-flags.ensures at c.in_ok-leads.ensures in
+    let root_iff = rw c.flags-flags.ensures at c.is_root.ensures in
+    elim c.if-is_root.branch [
+      | then-is_root+in_ok-list+in_ok-add_under w ↦
+          let list = w.in_ok-list.list.items in
+          let new = w.add_under.new.rows in
+          let cleared = w.reaching.new.marks in
+          let whole_rows : take c.loop-y.rows.len (new ++ drop (length new) rows) ≡ new = grind (arith, common_steps) in
+          let whole_marks : take c.loop-y.marks.len (cleared ++ drop (length cleared) marks) ≡ cleared =
+          grind (arith, common_steps) in
+          let added = rw (w.deref_mut-then-is_root.ensures.value, w.deref-then-is_root-2.ensures.value) at
+          w.in_ok-add_under.ensures in
+          let reached = rw w.deref-then-is_root.ensures.value at w.in_ok-list.ensures.exact in
+          rw (w.rows-is, w.marks-is, whole_rows, whole_marks) (record {
+            rows = causers_add p kept rows new list c.loop-y.y (root_iff.0 w.if-is_root.true)
+                (omega (arith, w.add_under.auto.rows, w.deref_mut-then-is_root.ensures.len))
+                w.in_ok-list.ensures.once (reached p kept leads) added c.loop-y.invariant.rows;
+            size = omega (arith, w.reaching.auto.marks, w.deref_mut.ensures.len, c.loop-y.invariant.size);
+            clear = w.in_ok-list.ensures.clear;
+          })
+      | else-is_root w ↦ rw (w.rows-is, w.marks-is) (record {
+        rows = causers_skip p kept rows c.loop-y.y (λ root. cc (root_iff.1 root, w.if-is_root.false))
+            c.loop-y.invariant.rows;
+        size = c.loop-y.invariant.size;
+        clear = c.loop-y.invariant.clear;
+      })
+    ]
+
+pub returns-clause-exact : goal.returns-clause-exact
+returns-clause-exact c =
+    let at_end : c.loop-y.y ≡ c.args.s.now.size = omega arith in
+    causers_all c.args.s.now c.args.kept.now c.loop-y.rows.items (rw at_end at c.loop-y.invariant.rows)
+
+pub returns-clause-some : goal.returns-clause-some
+returns-clause-some c kept =
+    has_causer c.args.s.now c.args.kept.now c.loop-y.rows.items c.size.ensures.valid (returns-clause-exact c)
+    (greatest_from_kept c.args.s.now c.args.kept.now kept)

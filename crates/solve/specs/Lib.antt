@@ -1,0 +1,11 @@
+pub mod Greatest
+pub mod NeedView
+pub mod Viewed
+pub mod Parts
+pub mod Rows
+pub mod Marks
+pub mod Board
+pub mod Rules
+pub mod System
+pub mod Causes
+pub mod Least

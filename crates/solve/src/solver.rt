@@ -1,0 +1,14 @@
+//! Who gives the kept set of a system.
+ghost use Rattle.std.specs.Prelude.{IfOk};
+ghost use Rattle.solve.specs.System.{AreKept};
+
+use crate::sets::Kept;
+use crate::system::System;
+use std::alloc::{AllocError, Global};
+
+/// Gives the kept set of a system.
+pub trait Solver {
+    /// The union of all self-supporting sets. The error comes where memory runs out.
+    fn greatest(&self, alloc: Global, s: &System) -> Result<Kept, AllocError>
+        ensures { IfOk result (λ kept. AreKept s.now kept) };
+}

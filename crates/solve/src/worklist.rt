@@ -1,0 +1,184 @@
+//! The kept set by following each candidate that falls, with a count of the work.
+ghost use Rattle.std.specs.Prelude.{◌≡◌, ◌<◌, ◌≤◌, ◌+◌, ◌*◌, ◌^◌, ◌∷◌, [], ℕ, List, IfOk, length, All};
+ghost use Rattle.std.specs.Prelude.{count_by};
+ghost use Rattle.solve.specs.System.{AreKept, holds, pairs_of, strikes_of, most_turns};
+ghost use Rattle.solve.specs.Board.{AreServed, AtRest, SettledBelow, IsDrop, open_in};
+
+use crate::rows::{add_under, empty_rows};
+use crate::sets::Kept;
+use crate::solver::Solver;
+use crate::system::System;
+use std::alloc::{AllocError, Global};
+
+/// How much work a search did.
+#[derive(Clone, Copy, Debug, PartialEq, Eq)]
+pub struct Count {
+    /// How often the count of a need's living members was lowered.
+    pub strikes: u128,
+    /// How often a loop went through its body; each item that an iterator gives is such a pass.
+    pub turns: u128,
+}
+
+/// Counts for each need its living members, and follows each drop to the needs that it strikes.
+#[derive(Clone, Copy, Debug)]
+pub struct Worklist;
+
+/// The candidates that stand, how many living members each need has, and the candidates that fell and are yet to be
+/// struck off the needs that they serve.
+#[derive(Drop)]
+struct Board {
+    standing: Vec<bool>,
+    living: Vec<usize>,
+    dropped: Vec<usize>,
+    count: Count,
+}
+
+/// How many numbers of the list are eligible.
+fn count_living(eligible: &[bool], any: &[usize]) -> usize
+    requires { All (λ y. y < length eligible.now) any.now }
+    ensures { result ≡ count_by (holds eligible.now) any.now }
+{
+    any.iter().filter(|y| eligible[**y]).count()
+}
+
+impl Board {
+    /// Drops a candidate, if it stands. There is room for all that may be dropped.
+    fn drop_candidate(&mut self, x: usize)
+        requires x { x < length self.old.standing.items }
+        requires room { open_in self.old ≤ self.old.dropped.cap }
+        ensures drop { IsDrop x self.old.standing.items self.old.dropped.items self.new.standing.items
+            self.new.dropped.items }
+        ensures room { self.new.dropped.cap ≡ self.old.dropped.cap }
+        ensures living { self.new.living ≡ self.old.living }
+        ensures count { self.new.count ≡ self.old.count }
+    {
+        if self.standing[x] {
+            self.standing[x] = false;
+            self.dropped.push_reserved(x);
+        }
+    }
+
+    /// Takes a living member from a need, and drops the need's candidate with the last one.
+    fn strike(&mut self, s: &System, need: usize)
+        requires need { need < length s.now.needs }
+        requires due { (rest : List ℕ) × AtRest s.now (need ∷ rest) self.old }
+        requires strikes { self.old.count.strikes + 1 < 2 ^ 128 }
+        ensures board { (rest : List ℕ) → AtRest s.now (need ∷ rest) self.old → AtRest s.now rest self.new }
+        ensures open { open_in self.new ≡ open_in self.old }
+        ensures strikes { self.new.count.strikes ≡ self.old.count.strikes + 1 }
+        ensures turns { self.new.count.turns ≡ self.old.count.turns }
+    {
+        let left = self.living[need] - 1;
+        self.living[need] = left;
+        self.count.strikes += 1;
+        if left == 0 {
+            self.drop_candidate(s.needs()[need].of);
+        }
+    }
+
+    /// Makes the strikes of one dropped candidate: `row` names the needs that it serves.
+    fn strike_row(&mut self, s: &System, row: &[usize])
+        requires row { All (λ k. k < length s.now.needs) row.now }
+        requires board { AtRest s.now row.now self.old }
+        requires few { pairs_of s.now.needs < 2 ^ 123 }
+        requires turns { self.old.count.turns + length row.now < 2 ^ 128 }
+        ensures board { AtRest s.now [] self.new }
+        ensures open { open_in self.new ≡ open_in self.old }
+        ensures strikes { self.new.count.strikes ≡ self.old.count.strikes + length row.now }
+        ensures turns { self.new.count.turns ≡ self.old.count.turns + length row.now }
+    {
+        for need in row {
+            self.count.turns += 1;
+            self.strike(s, *need);
+        }
+    }
+
+    /// Drops the candidates whose needs no eligible one serves.
+    fn drop_unserved(&mut self, s: &System)
+        requires board { SettledBelow s.now 0 self.old }
+        requires turns { self.old.count.turns + length s.now.needs < 2 ^ 128 }
+        ensures board { AtRest s.now [] self.new }
+        ensures open { open_in self.new ≡ open_in self.old }
+        ensures strikes { self.new.count.strikes ≡ self.old.count.strikes }
+        ensures turns { self.new.count.turns ≡ self.old.count.turns + length s.now.needs }
+    {
+        for (k, need) in s.needs().iter().enumerate() {
+            self.count.turns += 1;
+            if self.living[k] == 0 {
+                self.drop_candidate(need.of);
+            }
+        }
+    }
+
+    /// Makes the strikes of all dropped candidates, and of those that are dropped by them.
+    fn run(&mut self, s: &System, served: &[Vec<usize>])
+        requires served { AreServed s.now.needs served.now }
+        requires size { length served.now ≡ s.now.size }
+        requires board { AtRest s.now [] self.old }
+        requires few { pairs_of s.now.needs < 2 ^ 123 }
+        requires turns { self.old.count.turns + s.now.size < 2 ^ 127 }
+        ensures board { AtRest s.now [] self.new }
+        ensures done { self.new.dropped.items ≡ [] }
+        ensures turns { self.new.count.turns + open_in self.new + self.old.count.strikes
+            ≡ self.old.count.turns + open_in self.old + self.new.count.strikes }
+    {
+        while let Some(x) = self.dropped.pop() {
+            self.count.turns += 1;
+            self.strike_row(s, &served[x]);
+        }
+    }
+}
+
+/// The board at the start, and for each candidate the needs that it serves.
+fn prepare(alloc: Global, s: &System) -> Result<(Board, Vec<Vec<usize>>), AllocError>
+    ensures board { IfOk result (λ r. SettledBelow s.now 0 r.0) }
+    ensures strikes { IfOk result (λ r. r.0.count.strikes ≡ 0) }
+    ensures turns { IfOk result (λ r. r.0.count.turns ≡ s.now.size + length s.now.needs + 2 * pairs_of
+        s.now.needs) }
+    ensures served { IfOk result (λ r. AreServed s.now.needs r.1.items) }
+    ensures size { IfOk result (λ r. length r.1.items ≡ s.now.size) }
+    ensures few { IfOk result (λ r. pairs_of s.now.needs < 2 ^ 123) }
+    ensures needs { IfOk result (λ r. length s.now.needs < 2 ^ 64) }
+{
+    let needs = s.needs();
+    let standing = s.eligible().to_vec(alloc)?;
+    let mut living = Vec::with_capacity(alloc, needs.len())?;
+    let mut served = empty_rows(alloc, s.size())?;
+    let mut turns = s.size() as u128;
+    for (k, need) in needs.iter().enumerate() {
+        living.push(count_living(s.eligible(), &need.any))?;
+        add_under(&mut served, &need.any, k)?;
+        turns += 1 + 2 * need.any.len() as u128;
+    }
+    let board = Board {
+        standing,
+        living,
+        dropped: Vec::with_capacity(alloc, s.size())?,
+        count: Count { strikes: 0, turns },
+    };
+    Ok((board, served))
+}
+
+impl Worklist {
+    /// The kept set, and how much work it took. The error comes where memory runs out.
+    pub fn count(alloc: Global, s: &System) -> Result<(Kept, Count), AllocError>
+        ensures kept { IfOk result (λ r. AreKept s.now r.0) }
+        ensures strikes { IfOk result (λ r. r.1.strikes ≡ strikes_of s.now r.0) }
+        ensures turns { IfOk result (λ r. r.1.turns ≤ most_turns s.now) }
+
+        // Each strike is made in a turn of its own.
+        ensures made { IfOk result (λ r. r.1.strikes ≤ r.1.turns) }
+    {
+        let (mut board, served) = prepare(alloc, s)?;
+        board.drop_unserved(s);
+        board.run(s, &served);
+        Ok((Kept::new(board.standing), board.count))
+    }
+}
+
+impl Solver for Worklist {
+    fn greatest(&self, alloc: Global, s: &System) -> Result<Kept, AllocError> {
+        let (kept, _count) = Worklist::count(alloc, s)?;
+        Ok(kept)
+    }
+}

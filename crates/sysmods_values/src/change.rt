@@ -1,0 +1,54 @@
+//! Element statements.
+ghost use Rattle.std.specs.Prelude.{◌≡◌};
+ghost use Rattle.terms.specs.Global.{change_cmp};
+
+use fields::Name;
+use std::cmp::Ordering;
+use std::marker::Model;
+use terms::ElemType;
+use text80::{Line, Update};
+
+/// What an element statement does. An update has all records behind `++MACUPD` or `++SRCUPD`, `./` records too.
+#[derive(Drop)]
+pub enum Action {
+    Replaces {
+        distlib: Name,
+        syslib: Name,
+        lines: Vec<Line>,
+    },
+    Updates {
+        update: Update,
+    },
+}
+
+/// An element statement of a SYSMOD.
+#[derive(Drop)]
+pub struct ElemChange {
+    pub elem_type: ElemType,
+    pub name: Name,
+    pub action: Action,
+}
+
+impl Model for ElemChange {
+    ghost use Rattle.terms.specs.Types as terms;
+
+    ghost Value = { terms.Change };
+
+    ghost use Rattle.sysmods_values.specs.Views.{action_of};
+    ghost use Rattle.terms.specs.Texts.{IsActionOf};
+
+    ghost view = { λ a. record { elem_type = a.elem_type; name = a.name; action = action_of a.action } };
+
+    ghost invariant = { λ a. IsActionOf a.elem_type a.name (action_of a.action) };
+}
+
+impl ElemChange {
+    /// How their elements are ordered, by type and name.
+    pub fn order(&self, other: &ElemChange) -> Ordering
+        ensures { result ≡ change_cmp self.now other.now }
+    {
+        self.elem_type
+            .cmp(&other.elem_type)
+            .then(self.name.cmp(&other.name))
+    }
+}

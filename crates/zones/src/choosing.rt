@@ -1,0 +1,144 @@
+//! Which `++VER`s count.
+ghost use Rattle.std.specs.Prelude.{◌≡◌, ◌+◌, ◌++◌, [], ◌∷◌, IfOk, OnOk, filter, map, position, unwrap_or};
+ghost use Rattle.std.specs.Str.{bytes_eq};
+ghost use Rattle.terms.specs.Rising.{Rises};
+ghost use Rattle.terms.specs.Lookups.{is_in, is_applied};
+ghost use Rattle.terms.specs.Choice.{fits, place, counting};
+ghost use Rattle.sysmods.specs.Choices.{number_in, choice};
+ghost use Rattle.zones.specs.Picks.{kept_pick, fitting_pick, is_further};
+
+use fields::{Attest, IdList, VerNumber};
+use sorted::{Keyed, Table};
+use std::alloc::{AllocError, Global};
+use sysmods::{GlobalZone, Pick, VerChoice};
+use sysmods_values::{Sysmod, Ver};
+use zones_maps::{Entry, Zone};
+
+/// The `++VER`s that count in the zone for a command with these candidates. It goes over the entries and over the
+/// received SYSMODs once. The error comes where memory runs out.
+pub fn choose<'a>(
+    alloc: Global,
+    global: &'a GlobalZone,
+    zone: &Zone,
+    cands: &IdList,
+) -> Result<VerChoice<'a>, AllocError>
+    ensures global { IfOk result (λ vers. vers.global.now ≡ global.now) }
+    ensures srel { IfOk result (λ vers. vers.srel ≡ zone.now.srel) }
+    ensures counting { IfOk result (λ vers. choice vers ≡ counting global.now zone.now cands.now) }
+    ensures numbers { IfOk result (λ vers. number_in vers ≡ (λ x. place global.now zone.now cands.now x + 1)) }
+{
+    global.attest();
+    zone.attest();
+    let kept = table_of(kept_picks(alloc, zone)?);
+    let fitting = table_of(fitting_picks(alloc, global, zone, cands)?);
+    Ok(VerChoice::new(global, zone.srel(), kept, fitting))
+}
+
+// The table of items that rise.
+fn table_of<T: Keyed + Drop>(items: Vec<T>) -> Table<T>
+    requires { Rises T.Key.cmp T.key_of items.items }
+    ensures { result ≡ items.items }
+{
+    Table::from_vec(items).unwrap()
+}
+
+/// Whether the `++VER` has no FMID, or one that is applied in the zone or a candidate.
+pub fn fits(zone: &Zone, cands: &IdList, ver: &Ver) -> bool
+    ensures { result ≡ fits zone.now (is_in cands.now) ver.now }
+{
+    match ver.fmid {
+        Some(fmid) => zone.is_applied(fmid) || cands.contains(fmid),
+        None => true,
+    }
+}
+
+// Adds the number if it is not that of the first.
+fn push_further(pick: Pick, picks: &mut Vec<Pick>) -> Result<(), AllocError>
+    ensures { OnOk result (picks.new.items ≡ picks.old.items ++ filter is_further (pick ∷ [])) }
+{
+    if pick.number.get() > 1 {
+        picks.push(pick)?;
+    }
+    Ok(())
+}
+
+// The number by which it was installed, if it was.
+fn kept_pick(entry: &Entry) -> Pick
+    ensures { result ≡ kept_pick entry.now }
+{
+    Pick {
+        id: entry.id,
+        number: match entry.applied {
+            Some(applied) => applied.number,
+            None => VerNumber::FIRST,
+        },
+    }
+}
+
+// Those of the applied SYSMODs.
+fn kept_picks(alloc: Global, zone: &Zone) -> Result<Vec<Pick>, AllocError>
+    ensures { IfOk result (λ picks. picks.items ≡ filter is_further (map kept_pick zone.now.entries)) }
+{
+    let mut picks = Vec::new(alloc);
+    for entry in zone.entries() {
+        push_further(kept_pick(entry), &mut picks)?;
+    }
+    Ok(picks)
+}
+
+// The place of the first that fits, among those for the zone's SREL.
+fn first_fitting(zone: &Zone, cands: &IdList, vers: &[Ver]) -> Option<usize>
+    ensures { result ≡ position (fits zone.now (is_in cands.now))
+        (filter (λ v. bytes_eq v.srel zone.now.srel) vers.now) }
+{
+    let srel = zone.srel();
+    vers.iter()
+        .filter(|ver| ver.srel == srel)
+        .position(|ver| fits(zone, cands, ver))
+}
+
+// The number of that one, else of the first.
+fn fitting_number(zone: &Zone, cands: &IdList, vers: &[Ver]) -> VerNumber
+    ensures { result ≡ unwrap_or (position (fits zone.now (is_in cands.now))
+        (filter (λ v. bytes_eq v.srel zone.now.srel) vers.now)) 0 + 1 }
+{
+    if vers.len() < 2 {
+        return VerNumber::FIRST;
+    }
+    match first_fitting(zone, cands, vers) {
+        Some(place) => VerNumber::behind(place),
+        None => VerNumber::FIRST,
+    }
+}
+
+// The number of what is not applied.
+fn fitting_pick(zone: &Zone, cands: &IdList, sysmod: &Sysmod) -> Pick
+    ensures { result ≡ fitting_pick zone.now cands.now sysmod.now }
+{
+    let number = if zone.is_applied(sysmod.id) {
+        VerNumber::FIRST
+    } else {
+        fitting_number(zone, cands, sysmod.vers.as_slice())
+    };
+    Pick {
+        id: sysmod.id,
+        number,
+    }
+}
+
+// Those of the received SYSMODs that are not applied.
+fn fitting_picks(
+    alloc: Global,
+    global: &GlobalZone,
+    zone: &Zone,
+    cands: &IdList,
+) -> Result<Vec<Pick>, AllocError>
+    ensures { IfOk result
+        (λ picks. picks.items ≡ filter is_further (map (fitting_pick zone.now cands.now) global.now.sysmods)) }
+{
+    let mut picks = Vec::new(alloc);
+    for sysmod in global.sysmods() {
+        push_further(fitting_pick(zone, cands, sysmod), &mut picks)?;
+    }
+    Ok(picks)
+}

@@ -1,0 +1,82 @@
+//! ORPHAN: what SYSMODs that stay applied lose by a DELETE.
+ghost use Rattle.std.specs.Prelude.{◌≡◌, ◌++◌, ◌&&◌, [], ◌∷◌, not, is_some, IfOk, OnOk, filter, if◌then◌else◌};
+ghost use Rattle.terms.specs.Needs.{orphans};
+ghost use Rattle.terms.specs.Tests.{Setting};
+ghost use Rattle.sysmods.specs.Choices.{choice};
+ghost use Rattle.zones.specs.Gone.{is_gone, loses, binding_of, lost_by};
+
+use crate::binding::binding_ids;
+use crate::deleting::append_deletions;
+use crate::entry::TakesOut;
+use crate::taking::Taking;
+use fields::Id;
+use std::alloc::{AllocError, Global};
+use sysmods::VerChoice;
+use zones_maps::{Entry, Zone};
+
+/// The requisites of SYSMODs that stay applied, as far as this one's own DELETE takes their suppliers. The error comes
+/// where memory runs out.
+pub fn orphans(
+    alloc: Global,
+    vers: &VerChoice<'_>,
+    zone: &Zone,
+    id: Id,
+) -> Result<Vec<Id>, AllocError>
+    ensures { IfOk result (λ found. (s : Setting) → s.global ≡ vers.now.global.now → s.choice ≡ choice vers.now
+        → s.zone ≡ zone.now → found.items ≡ orphans s id) }
+{
+    let mut named = Vec::new(alloc);
+    append_deletions(vers, id, &mut named)?;
+    let dels = named.as_slice();
+    if dels.is_empty() {
+        return Ok(Vec::new(alloc));
+    }
+    lost_ids(alloc, &Taking { vers, dels, zone })
+}
+
+fn lost_ids(alloc: Global, taking: &Taking) -> Result<Vec<Id>, AllocError>
+    ensures { IfOk result (λ found. found.items ≡ lost_by taking.now taking.now.zone.now.entries) }
+{
+    let mut found = Vec::new(alloc);
+    for entry in taking.zone.entries() {
+        push_lost_of(alloc, taking, entry, &mut found)?;
+    }
+    Ok(found)
+}
+
+// Adds what the entry's SYSMOD loses, if it stays applied.
+fn push_lost_of(
+    alloc: Global,
+    taking: &Taking,
+    entry: &Entry,
+    found: &mut Vec<Id>,
+) -> Result<(), AllocError>
+    ensures { OnOk result (found.new.items ≡ found.old.items
+        ++ (if is_some entry.now.applied && not (is_gone taking.now entry.now.id)
+        then filter (loses taking.now) (binding_of taking.now entry.now.id) else [])) }
+{
+    if entry.applied.is_some() && !taking.takes_out(entry.id) {
+        let ids = binding_ids(alloc, taking, entry.id)?;
+        push_lost(taking, ids.as_slice(), found)?;
+    }
+    Ok(())
+}
+
+// Adds those that are lost.
+fn push_lost(taking: &Taking, ids: &[Id], found: &mut Vec<Id>) -> Result<(), AllocError>
+    ensures { OnOk result (found.new.items ≡ found.old.items ++ filter (loses taking.now) ids.now) }
+{
+    for id in ids {
+        push_if_lost(taking, *id, found)?;
+    }
+    Ok(())
+}
+
+fn push_if_lost(taking: &Taking, id: Id, found: &mut Vec<Id>) -> Result<(), AllocError>
+    ensures { OnOk result (found.new.items ≡ found.old.items ++ filter (loses taking.now) (id ∷ [])) }
+{
+    if taking.loses(id) {
+        found.push(id)?;
+    }
+    Ok(())
+}

@@ -1,0 +1,234 @@
+//! A zone: a map from ids to entries, and one from types and names to elements.
+ghost use Rattle.std.specs.Prelude.{◌≡◌, ◌↔◌, [], All, IsTrue, IsSome, IfSome, IfOk, is_some, option_copied};
+ghost use Rattle.zones_maps.specs.Changed.{HasRoom, IsReady, delta_of};
+ghost use Rattle.zones_maps.specs.Delta.{IsChanged};
+ghost use Rattle.terms.specs.Types.{a_zone, is_target};
+ghost use Rattle.terms.specs.Lookups.{IsRising, entry_of, element_of, applied_of, is_applied, is_supplied};
+ghost use Rattle.terms.specs.Lookups.{has_content, waives_applied};
+
+use crate::delta::ZoneDelta;
+use crate::entries::{Applied, Element, Entry};
+use fields::{Attest, Id, Name, Srel, ZoneName};
+use sorted::{Prepared, Table};
+use std::alloc::{AllocError, Global};
+use std::marker::Model;
+use terms::{ElemType, ZoneKind};
+
+/// A target zone, with its related distribution zone, or a distribution zone.
+#[derive(Drop)]
+pub struct Zone {
+    kind: ZoneKind,
+    srel: Srel,
+    related: Option<ZoneName>,
+    entries: Table<Entry>,
+    elements: Table<Element>,
+}
+
+impl Model for Zone {
+    ghost use Rattle.std.specs.Prelude.{◌≡◌, All, IsTrue, is_some};
+    ghost use Rattle.terms.specs.Types.{Zone as AZone, is_target};
+    ghost use Rattle.terms.specs.Lookups.{has_content, waives_applied};
+
+    ghost Value = { AZone };
+
+    ghost view = { λ z. record {
+      kind = z.kind;
+      srel = z.srel;
+      related = z.related;
+      entries = z.entries;
+      elements = z.elements;
+    } };
+
+    ghost invariant = { λ z. All (λ e. IsTrue (has_content e)) z.entries
+        × All (λ e. IsTrue (waives_applied e)) z.entries
+        × (is_some z.related ≡ is_target z.kind) };
+}
+
+/// A change of a zone that can be made without memory.
+#[derive(Drop)]
+pub struct PreparedZone {
+    entries: Prepared<Entry>,
+    elements: Prepared<Element>,
+}
+
+impl Model for PreparedZone {
+    ghost use Rattle.zones_maps.specs.Changed.{PreparedDelta, delta_of};
+    ghost use Rattle.zones_maps.specs.Delta.{IsDelta};
+
+    ghost Value = { PreparedDelta };
+
+    ghost view = { λ p. record { entries = p.entries; elements = p.elements } };
+
+    ghost invariant = { λ p. IsDelta (delta_of (record { entries = p.entries; elements = p.elements })) };
+}
+
+impl Attest for Zone {
+    ghost use Rattle.terms.specs.Lookups.{IsZone};
+
+    ghost form = { IsZone };
+
+    fn attest(&self) {
+        let _ = self.entries.as_slice();
+        let _ = self.elements.as_slice();
+    }
+}
+
+impl Zone {
+    /// An empty zone. A target zone alone names a related zone.
+    pub fn new(alloc: Global, kind: ZoneKind, srel: Srel, related: Option<ZoneName>) -> Self
+        requires { is_some related ≡ is_target kind }
+        ensures { result ≡ a_zone kind srel related [] [] }
+    {
+        Zone {
+            kind,
+            srel,
+            related,
+            entries: Table::new(alloc),
+            elements: Table::new(alloc),
+        }
+    }
+
+    /// The zone of these entries and elements, if they may stand in one.
+    pub fn from_tables(
+        kind: ZoneKind,
+        srel: Srel,
+        related: Option<ZoneName>,
+        entries: Table<Entry>,
+        elements: Table<Element>,
+    ) -> Option<Self>
+        ensures form { IsSome result
+            ↔ (All (λ e. IsTrue (has_content e)) entries × All (λ e. IsTrue (waives_applied e)) entries
+            × (is_some related ≡ is_target kind)) }
+        ensures same { IfSome result (λ zone. zone ≡ a_zone kind srel related entries elements) }
+    {
+        if related.is_some() != (kind == ZoneKind::Target) || !may_stand(entries.as_slice()) {
+            return None;
+        }
+        Some(Zone {
+            kind,
+            srel,
+            related,
+            entries,
+            elements,
+        })
+    }
+
+    /// Whether it is a target or a distribution zone.
+    pub fn kind(&self) -> ZoneKind
+        ensures { result ≡ self.now.kind }
+    {
+        self.kind
+    }
+
+    /// Its SREL.
+    pub fn srel(&self) -> Srel
+        ensures { result ≡ self.now.srel }
+    {
+        self.srel
+    }
+
+    /// The name of the distribution zone that a target zone is related to.
+    pub fn related(&self) -> Option<ZoneName>
+        ensures { result ≡ self.now.related }
+    {
+        self.related
+    }
+
+    /// What holds of each entry's lists. The call only goes over the entries.
+    pub fn known_lists(&self)
+        ensures { All (λ e. IsRising e.supby × IsRising e.waived) self.now.entries }
+    {
+        for entry in self.entries() {
+            entry.attest();
+        }
+    }
+
+    /// Its entries, rising by id.
+    pub fn entries(&self) -> &[Entry]
+        ensures { result.now ≡ self.now.entries }
+    {
+        self.entries.as_slice()
+    }
+
+    /// Its elements, rising by type and name.
+    pub fn elements(&self) -> &[Element]
+        ensures { result.now ≡ self.now.elements }
+    {
+        self.elements.as_slice()
+    }
+
+    /// The entry of this id.
+    pub fn entry(&self, id: Id) -> Option<&Entry>
+        ensures { option_copied result ≡ entry_of self.now id }
+    {
+        self.entries.get(id)
+    }
+
+    /// The element of this type and name.
+    pub fn element(&self, elem_type: ElemType, name: Name) -> Option<&Element>
+        ensures { option_copied result ≡ element_of self.now elem_type name }
+    {
+        self.elements.get((elem_type, name))
+    }
+
+    /// When the id was applied, and by which `++VER`.
+    pub fn applied(&self, id: Id) -> Option<Applied>
+        ensures { result ≡ applied_of self.now id }
+    {
+        self.entry(id)?.applied
+    }
+
+    /// Whether the id is applied, in a distribution zone accepted. Nothing else supplies an FMID.
+    pub fn is_applied(&self, id: Id) -> bool
+        ensures { result ≡ is_applied self.now id }
+    {
+        match self.entry(id) {
+            Some(entry) => entry.applied.is_some(),
+            None => false,
+        }
+    }
+
+    /// Whether the id is applied or superseded.
+    pub fn supplies(&self, id: Id) -> bool
+        ensures { result ≡ is_supplied self.now id }
+    {
+        match self.entry(id) {
+            Some(entry) => entry.applied.is_some() || !entry.supby.is_empty(),
+            None => false,
+        }
+    }
+
+    /// Memory for this change of the zone: `edit` takes none then. Only what the delta puts is copied. The error comes
+    /// where memory runs out.
+    pub fn prepare(&self, alloc: Global, delta: &ZoneDelta) -> Result<PreparedZone, AllocError>
+        ensures { IfOk result (IsReady self.now delta.now) }
+    {
+        delta.attest();
+        Ok(PreparedZone {
+            entries: self.entries.prepare(alloc, delta.entry_edits())?,
+            elements: self.elements.prepare(alloc, delta.element_edits())?,
+        })
+    }
+
+    /// Changes the zone: what the delta puts comes in, and what it removes goes, in time that goes with the size of
+    /// both.
+    pub fn edit(&mut self, prepared: PreparedZone)
+        requires { HasRoom self.old prepared }
+        ensures { IsChanged (delta_of prepared) self.old self.new }
+    {
+        self.attest();
+        let PreparedZone { entries, elements } = prepared;
+        self.entries.edit(entries);
+        self.elements.edit(elements);
+    }
+}
+
+// Whether each entry is there for something, and requisites are waived only of what is applied.
+fn may_stand(entries: &[Entry]) -> bool
+    ensures { IsTrue result
+        ↔ (All (λ e. IsTrue (has_content e)) entries.now
+        × All (λ e. IsTrue (waives_applied e)) entries.now) }
+{
+    entries.iter().all(|entry| entry.has_content())
+        && entries.iter().all(|entry| entry.waives_applied())
+}

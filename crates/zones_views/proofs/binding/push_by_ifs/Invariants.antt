@@ -1,6 +1,0 @@
-use Rattle.std.proofs.Common.{◌≡◌, ◌++◌, take}
-use Rattle.zones_views.specs.Gone.{by_ifs}
-use Rattle.zones_views.proofs.binding.push_by_ifs.Given as goal
-
-abbrev pub invariant-loop-condition : goal.invariant-loop-condition
-invariant-loop-condition l = l.asked.items ≡ l.initial.asked.items ++ by_ifs l.taking (take l.condition-index l.ifs)

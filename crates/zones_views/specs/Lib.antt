@@ -1,3 +1,0 @@
-pub mod Gone
-pub mod Picks
-pub mod Scopes
