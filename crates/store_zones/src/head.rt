@@ -22,7 +22,7 @@ ghost use Rattle.store_zones.specs.Related.{AreRelated};
 ghost use Rattle.store_zones.specs.Zones.{AddsZone, empty_zone};
 
 use crate::related::only_related;
-use crate::rows::table_of;
+use crate::zone_rows::table_of;
 use fields::spelling::zone_kind_text;
 use fields::{Srel, ZoneName};
 use sorted::{Keyed, TryClone};
@@ -79,9 +79,9 @@ fn is_target(kind: ZoneKind) -> bool
 }
 
 /// Reads the rows of zones.
-struct Heads;
+struct ZoneHeads;
 
-impl FromRow for Heads {
+impl FromRow for ZoneHeads {
     ghost use Rattle.store_zones.specs.Heads.{head_row, HasHeadForms};
 
     type Item = ZoneHead;
@@ -133,7 +133,7 @@ impl Query for AllHeads {
     ghost use Rattle.std.specs.Prelude.{⊤};
     ghost use Rattle.store_schema.specs.Tables.{zone};
 
-    type Rows = Heads;
+    type Rows = ZoneHeads;
 
     ghost table = { zone };
 
@@ -155,7 +155,7 @@ impl Query for NamedHeads {
     ghost use Rattle.std.specs.Prelude.{⊤};
     ghost use Rattle.store_schema.specs.Tables.{zone};
 
-    type Rows = Heads;
+    type Rows = ZoneHeads;
 
     ghost table = { zone };
 
