@@ -8,8 +8,8 @@ ghost use Rattle.terms.specs.declared.kinds.HoldKind.TheVariants.{System};
 ghost use Rattle.terms.specs.Lookups.{is_received};
 ghost use Rattle.terms.proofs.GlobalKept.{IsOwned};
 
-use crate::received::Received;
 use crate::receive::receivable;
+use crate::received::Received;
 use crate::refused::Refused;
 use fields::Attest;
 use sorted::are_rising;

@@ -21,11 +21,7 @@ const MOST: usize = 65_535;
 
 /// Whether the SYSMOD may be received. The error is the first fault by which RECEIVE refuses it. The caller keeps that
 /// the received SYSMODs have no loop and that their roles fit: a SYSMOD without a fault keeps both.
-pub(crate) fn receivable(
-    alloc: Global,
-    received: &Received,
-    sysmod: &Sysmod,
-) -> Result<(), Refused>
+pub(crate) fn receivable(alloc: Global, received: &Received, sysmod: &Sysmod) -> Result<(), Refused>
     requires no_loop { ¬ HasLoop (zone_of received.now) }
     requires roles { RolesFit (zone_of received.now) }
     ensures ok { OnOk result (HasNoFault (zone_of received.now) sysmod.now) }
