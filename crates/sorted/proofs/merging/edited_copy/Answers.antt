@@ -1,4 +1,4 @@
-use Rattle.std.proofs.Common.{◌≡◌, ◌∙◌, ◌++◌, ◌+◌, ap, ap₂, subst₂, arith, sym}
+use Rattle.std.proofs.Common.{◌≡◌, ◌∙◌, ◌++◌, ◌+◌, ap, subst₂, sym}
 use Rattle.std.specs.Option.{option_to_list}
 use Rattle.terms.specs.Rising.{before, behind}
 use Rattle.sorted.specs.Edits.{edit_key, edit_put}

@@ -1,4 +1,4 @@
-use Rattle.std.proofs.Common.{◌∙◌, ap, ap₂, subst, sym}
+use Rattle.std.proofs.Common.{◌∙◌, ap₂, subst, sym}
 use Rattle.terms.specs.Rising.{Rises}
 use Rattle.sorted.specs.Edits.{edited}
 use Rattle.sorted.proofs.Editing.{Rises_edited}
