@@ -29,7 +29,7 @@ use Rattle.terms.proofs.Searches.{find_over}
 use Rattle.sysmods.specs.Held.{found, zone_of}
 use Rattle.sysmods.specs.declared.refused.Refused.{Refused}
 use Rattle.sysmods.specs.declared.refused.Refused.TheVariants as why
-use Rattle.sysmods.specs.Refused.{HasNoFault, IsRefused}
+use Rattle.sysmods.specs.Refused.{HasNoFault, IsRefused, fault_of}
 use Rattle.sysmods.proofs.Receiving.{kept}
 use Rattle.terms.proofs.Pairs.{AllPairs_front}
 
@@ -174,11 +174,11 @@ module _ (xs : List Sysmod) (hs : List Hold) where
     size = g.size;
   }
 
--- A refusal that is not want of memory is a fault.
+-- A refusal that stands for a fault has that fault.
 module _ (g : Global) (s : Sysmod) where
-  pub some_fault : (e : Refused) → IsRefused g s e → e ≢ why.Memory → (f : ReceiveFault) × HasFault g s f
-  some_fault why.AlreadyReceived fault other = (AlreadyReceived, fault)
-  some_fault why.MakesLoop (first, fault) other = (MakesLoop, fault)
-  some_fault why.WrongRole (first, second, fault) other = (WrongRole, fault)
-  some_fault why.NoRoom (first, second, third, fault) other = (NoRoom, fault)
-  some_fault why.Memory fault other = absurd (other refl)
+  pub some_fault : (e : Refused) → IsRefused g s e → IsTrue (is_some (fault_of e)) → (f : ReceiveFault) × HasFault g s f
+  some_fault why.AlreadyReceived fault is = (AlreadyReceived, fault)
+  some_fault why.MakesLoop (first, fault) is = (MakesLoop, fault)
+  some_fault why.WrongRole (first, second, fault) is = (WrongRole, fault)
+  some_fault why.NoRoom (first, second, third, fault) is = (NoRoom, fault)
+  some_fault why.Memory fault is = absurd (true≢false (sym is))

@@ -1,4 +1,4 @@
-use Rattle.std.proofs.Common.{◌∙◌, sym, ap, subst}
+use Rattle.std.proofs.Common.{◌∙◌, sym, ap, subst, rules}
 use Rattle.terms.specs.Types.{a_global}
 use Rattle.terms.specs.Global.{IsGlobal, received}
 use Rattle.sysmods.specs.Refused.{HasNoFault, IsRefused}
@@ -33,3 +33,13 @@ returns-clause-ok c =
       taken (a_global xs hs) s c.take_in.new.sysmods c.take_in.new.holds c.in_ok-take_in.ensures.sysmods
           c.in_ok-take_in.ensures.holds ∙ ap (λ g. received g s) c.self.view_is,
     )
+
+pub returns-in_err-receivable-clause-refused : goal.returns-in_err-receivable-clause-refused
+returns-in_err-receivable-clause-refused c =
+    let xs = c.self.inside.sysmods in
+    let hs = c.self.inside.holds in
+    let s = c.args.sysmod in
+    let why = c.in_err-receivable.field-0.0 in
+    let refused : IsRefused c.args.self.now s why = subst (λ g. IsRefused g s why) c.self.view_is
+    (same_refusal xs hs s why c.in_err-receivable.ensures.refused) in
+    search rules
