@@ -72,7 +72,7 @@ impl<'a, 'b> Overs<'a, 'b> {
 
     /// The pairs that it has found: `resume` goes on with them.
     pub fn into_known(self) -> KnownOvers
-        ensures { AreOver (choice self) result }
+        ensures { AreOver (choice self.entry) result }
     {
         KnownOvers { pairs: self.known }
     }
