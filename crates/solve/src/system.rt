@@ -36,6 +36,13 @@ fn is_need(size: u32, of: u32, any: &[u32]) -> bool
     of < size && any.iter().all(|y| *y < size) && rises(any)
 }
 
+/// Whether a system of so many candidates admits all the needs.
+fn are_needs(size: u32, needs: &[Need]) -> bool
+    ensures { IsTrue result ↔ All (λ need. IsNeed size (numbered need)) needs.now }
+{
+    needs.iter().all(|need| is_need(size, need.of, &need.any))
+}
+
 /// Candidates below a number, which of them are eligible, and what they need.
 #[derive(Drop)]
 pub struct System {
@@ -81,7 +88,7 @@ impl System {
         let Ok(size) = u32::try_from(eligible.len()) else {
             return Err(SystemError::TooMany);
         };
-        if !needs.iter().all(|need| is_need(size, need.of, &need.any)) {
+        if !are_needs(size, &needs) {
             return Err(SystemError::BadNeed);
         }
         Ok(System {

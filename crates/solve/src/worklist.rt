@@ -156,23 +156,25 @@ fn prepare(alloc: Global, s: &System) -> Result<(Board, Vec<Vec<usize>>), AllocE
     ensures few { IfOk result (λ r. pairs_of s.now.needs < 2 ^ 123) }
     ensures needs { IfOk result (λ r. length s.now.needs < 2 ^ 64) }
 {
+    let size = s.size();
     let needs = s.needs();
     let standing = s.eligible().to_vec(alloc)?;
     let mut turns = 0;
     let mut served = Vec::new(alloc);
-    for _candidate in 0..s.size() {
+    for _candidate in 0..size {
         turns += 1;
         served.push(Vec::new(alloc))?;
     }
     let mut living = Vec::with_capacity(alloc, needs.len())?;
     for (k, need) in needs.iter().enumerate() {
         turns += 1;
-        living.push(add_served(s.eligible(), &need.any, k, &mut served, &mut turns)?)?;
+        let alive = add_served(s.eligible(), &need.any, k, &mut served, &mut turns)?;
+        living.push(alive)?;
     }
     let board = Board {
         standing,
         living,
-        dropped: Vec::with_capacity(alloc, s.size() as usize)?,
+        dropped: Vec::with_capacity(alloc, size as usize)?,
         count: Count { strikes: 0, turns },
     };
     Ok((board, served))
@@ -191,7 +193,7 @@ impl Worklist {
         let (mut board, served) = prepare(alloc, s)?;
         board.drop_unserved(s);
         board.run(s, &served);
-        Ok((Kept::new(board.standing), board.count))
+        Ok((Kept::new(s.size(), board.standing), board.count))
     }
 }
 
