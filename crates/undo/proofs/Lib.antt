@@ -8,6 +8,3 @@ pub mod Needing
 pub mod AllNeeds
 pub mod Candidates
 pub mod Testing
-pub mod LessEdits
-pub mod Reverted
-pub mod AfterRestore

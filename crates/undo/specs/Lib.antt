@@ -7,4 +7,3 @@ pub mod Elements
 pub mod Tests
 pub mod Pairs
 pub mod Needed
-pub mod Restoring
