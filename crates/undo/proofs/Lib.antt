@@ -1,4 +1,5 @@
 pub mod Supplying
+pub mod Settings
 pub mod ListedBySteps
 pub mod Reached
 pub mod RulesOfSteps

@@ -1,4 +1,5 @@
 pub mod Scopes
+pub mod Candidates
 pub mod Steps
 pub mod NodeOrder
 pub mod ByNumbers
