@@ -8,10 +8,10 @@
 //! changed.
 #![tactic(auto)]
 
+mod changed_elements;
 mod deleting;
 mod differing;
 mod effective;
-mod elements;
 mod entries;
 mod folding;
 mod grouping;

@@ -12,7 +12,7 @@ use judge_system::RequisiteOf;
 use std::alloc::{AllocError, Global};
 use sysmods::VerChoice;
 use terms::NeedKind;
-use undo::{Scope, needs_in_restore};
+use undo::{RestoreScope, needs_in_restore};
 use zones::Zone;
 
 // Adds the id that is needed as DEP.
@@ -43,7 +43,7 @@ pub(crate) fn needed_facts(
     if !zone.is_applied(id) {
         return Ok(Vec::new(alloc));
     }
-    let scope = Scope {
+    let scope = RestoreScope {
         vers,
         zone,
         accepted: zone,

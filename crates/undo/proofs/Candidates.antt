@@ -59,14 +59,17 @@ needs_by : (r : Restoring) (a b : Id → Bool)
     → ((z : Id) → is_supplied_outside r a z ≡ is_supplied_outside r b z)
     → (x : Id) (kind : NeedKind) (y : Id) → NeedsInRestore r a x kind y → NeedsInRestore r b x kind y
 needs_by r a b alike x Elem y n = n
-needs_by r a b alike x Dep y n = (n.0, record {
-  other = n.1.other;
-  applied = n.1.applied;
-  depends = elim n.1.depends [
-    | inl function ↦ inl function
-    | inr some ↦ inr (some.0, some.1, some.2, some.3, (some.4.0, sym (alike some.1) ∙ some.4.1))
-  ];
-})
+needs_by r a b alike x Dep y n = (
+  n.0,
+  record {
+    other = n.1.other;
+    applied = n.1.applied;
+    depends = elim n.1.depends [
+      | inl function ↦ inl function
+      | inr some ↦ inr (some.0, some.1, some.2, some.3, (some.4.0, sym (alike some.1) ∙ some.4.1))
+    ];
+  },
+)
 needs_by r a b alike x Fmid y n = n
 needs_by r a b alike x Pre y n = n
 needs_by r a b alike x Req y n = n

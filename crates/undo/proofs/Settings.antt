@@ -3,7 +3,7 @@ use Rattle.std.proofs.Common.{◌≡◌, [], ap₂}
 use Rattle.terms.specs.Types.{Global, Zone}
 use Rattle.terms.specs.Choice.{Choice, counting}
 use Rattle.terms.specs.Restore.{Restoring}
-use Rattle.sysmods.specs.declared.choice.VerChoice.{VerChoice}
+use Rattle.sysmods.specs.declared.ver_choice.VerChoice.{VerChoice}
 use Rattle.sysmods.specs.Choices.{choice}
 use Rattle.undo.specs.Scopes.{restoring, restoring_from}
 

@@ -4,9 +4,9 @@ use Rattle.terms.specs.Types.{Id, Global, Zone}
 use Rattle.terms.specs.Choice.{counting}
 use Rattle.terms.specs.Lookups.{is_supplied, applied_ids}
 use Rattle.terms.specs.Restore.{Restoring}
-use Rattle.sysmods.specs.declared.choice.VerChoice.{VerChoice}
+use Rattle.sysmods.specs.declared.ver_choice.VerChoice.{VerChoice}
 use Rattle.sysmods.specs.Choices.{choice}
-use Rattle.undo.specs.declared.scope.Scope.{Scope}
+use Rattle.undo.specs.declared.scope.RestoreScope.{RestoreScope}
 
 -- a restore of the target zone from its distribution zone: no candidate can be installed, so none has a say in which
 -- ++VERs count
@@ -19,7 +19,7 @@ abbrev pub restoring : VerChoice → Zone → Zone → Restoring
 restoring vers zone accepted =
     record { global = vers.global.now; choice = choice vers; zone = zone; accepted = accepted }
 
-abbrev pub restoring_of : Scope → Restoring
+abbrev pub restoring_of : RestoreScope → Restoring
 restoring_of scope = restoring scope.vers.now scope.zone.now scope.accepted.now
 
 -- the applied SYSMODs that the distribution zone does not supply

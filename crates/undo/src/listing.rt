@@ -6,7 +6,7 @@ ghost use Rattle.fields.specs.Choices.{restore_list_of};
 ghost use Rattle.undo.specs.Scopes.{restoring_from};
 
 use crate::numbered::reached;
-use crate::scope::{Scope, applied_ids};
+use crate::scope::{RestoreScope, applied_ids};
 use crate::steps::all_steps;
 use fields::{Attest, IdList, RestoreList};
 use std::alloc::{AllocError, Global};
@@ -47,7 +47,7 @@ fn group_list(
     let none = IdList::new(alloc);
     let vers = choose(alloc, global, zone, &none)?;
     let applied = applied_ids(alloc, zone)?;
-    let scope = Scope {
+    let scope = RestoreScope {
         vers: &vers,
         zone,
         accepted,

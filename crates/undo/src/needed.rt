@@ -5,9 +5,9 @@ ghost use Rattle.undo.specs.Scopes.{restoring_of};
 ghost use Rattle.undo.specs.Needed.{pair_need, AreNeeds};
 
 use crate::dependences::dep_pairs;
-use crate::elements::elem_pairs;
+use crate::element_changers::elem_pairs;
 use crate::pairs::own_pairs;
-use crate::scope::Scope;
+use crate::scope::RestoreScope;
 use fields::{Id, IdList};
 use judge_system::RequisiteOf;
 use std::alloc::{AllocError, Global};
@@ -35,7 +35,7 @@ fn add_needs(
 /// runs out.
 pub fn needs_in_restore(
     alloc: Global,
-    scope: &Scope<'_, '_>,
+    scope: &RestoreScope<'_, '_>,
     ids: &IdList,
 ) -> Result<Vec<RequisiteOf>, AllocError>
     requires { All (λ x. IsTrue (is_applied scope.now.zone.now x)) ids.now }
