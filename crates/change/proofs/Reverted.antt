@@ -57,7 +57,7 @@ module _ (zone accepted : Zone) where
   }
 
   pub puts_one : (k : Key) (old new : ZoneDelta) (here there : Option Element) → here ≡ element_at zone k
-      → there ≡ element_at accepted k → here ≢ there → EditsElement k there old new → PutsBack zone accepted k old new
+      → there ≡ element_at accepted k → here ≢ there → LeavesElement k there old new → PutsBack zone accepted k old new
   puts_one k old new here there at_here at_there other edits = record {
     entries = edits.entries;
     elements = inr (
