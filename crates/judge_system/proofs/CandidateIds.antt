@@ -20,7 +20,7 @@ use Rattle.terms.specs.Types.{Id}
 use Rattle.terms.specs.Kept.{StaysKept}
 use Rattle.terms.specs.Lookups.{IsRising, is_before, is_in}
 use Rattle.solve.specs.System.{Need, System, IsNeed, holds}
-use Rattle.judge_system.specs.NumberedIds.{IsSystemOf}
+use Rattle.judge_system.specs.NumberedForm.{IsNumberedForm}
 use Rattle.solve.specs.Causes as numbered
 use Rattle.terms.specs.Failures.{IsOpenNeed, IsCauser, all_tests}
 use Rattle.terms.proofs.ListMembers.{in_map, map_in}
@@ -75,7 +75,7 @@ rising_at ids places rising up within =
     (λ i j d less below. (up i j d less below, within j d below))
 
 module _ (ids kept : List Id) (E : Id → Type 0) (N : Id → NeedKind → Id → Type 0) (S : NeedKind → Id → Id → Type 0)
-    (p : System) (needed : List (NeedKind × Id)) (h : IsSystemOf E N S ids p needed) (rising : IsRising ids)
+    (p : System) (needed : List (NeedKind × Id)) (h : IsNumberedForm E N S ids p needed) (rising : IsRising ids)
     (flags : List Bool)
     (members : (x : Id) → Contains kept x ↔ ((n : ℕ) × (slice_get ids n ≡ Some x) × IsTrue (holds flags n))) where
   same : (n : ℕ) (x : Id) → slice_get ids n ≡ Some x → Contains kept x ↔ IsTrue (holds flags n)
@@ -179,7 +179,7 @@ causers_within p flags rows exact n k d below = ((exact n (get_or (row_at rows n
 
 -- What is found of the candidates by their places decides all that is said of them.
 module _ (s : Said) (rising : IsRising s.cands) (p : System)
-    (h : IsSystemOf (IsEligible s) (Needs s) (Serves s.superseded) s.cands p (map need_of s.needs))
+    (h : IsNumberedForm (IsEligible s) (Needs s) (Serves s.superseded) s.cands p (map need_of s.needs))
     (tests : List (List Test)) (tested : AreTests s.fails s.cands tests) (kept : List Id)
     (failed : List (Id × Failure)) (by : IsDecidedBy s.cands p (map need_of s.needs) tests kept failed) where
   abbrev ids : List Id
