@@ -5,7 +5,7 @@ use Rattle.terms.specs.Lookups.{is_supplied, delby_of}
 use Rattle.terms.specs.Choice.{Choice}
 use Rattle.terms.specs.Over.{Supersedes}
 use Rattle.terms.specs.Install.{Installation, TakesEffect}
-use Rattle.sysmods.specs.declared.choice.VerChoice.{VerChoice}
+use Rattle.sysmods.specs.declared.ver_choice.VerChoice.{VerChoice}
 use Rattle.sysmods.specs.Choices.{number_in, choice}
 use Rattle.change.specs.declared.installing.Installing.{Installing}
 use Rattle.change.specs.declared.plan.Plan.{Plan}

@@ -11,9 +11,9 @@ ghost use Rattle.zones_maps.specs.Differing.{EachChanges};
 ghost use Rattle.change.specs.Plans.{installation_of, IsFresh};
 ghost use Rattle.change.specs.Puts.{with_elements, less_elements};
 
+use crate::changed_elements::elements_after;
 use crate::deleting::Deleting;
 use crate::differing::{ElementEdit, edit_elements};
-use crate::elements::elements_after;
 use crate::entries::put_entries;
 use crate::plan::planned;
 use fields::{Attest, Id, IdList, YyDdd};

@@ -6,10 +6,10 @@
 //! and where something is deleted one over the zone's entries and elements.
 #![tactic(auto)]
 
+mod changed_elements;
 mod deleting;
 mod differing;
 mod effective;
-mod elements;
 mod entries;
 mod folding;
 mod grouping;

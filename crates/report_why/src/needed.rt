@@ -12,7 +12,7 @@ use judge_system::RequisiteOf;
 use std::alloc::{AllocError, Global};
 use sysmods::VerChoice;
 use terms::NeedKind;
-use undo::{Scope, judge_restore};
+use undo::{RestoreScope, judge_restore};
 use zones::Zone;
 
 // Adds the id that is needed as DEP.
@@ -40,7 +40,7 @@ pub(crate) fn needed_facts(
     requires counting { choice vers.now ≡ counting vers.now.global.now zone.now [] }
     ensures { IfOk result (λ facts. AreNeeded vers.now.global.now zone.now id (map fact_view facts.items)) }
 {
-    let scope = Scope {
+    let scope = RestoreScope {
         vers,
         zone,
         accepted: zone,

@@ -9,7 +9,7 @@ ghost use Rattle.terms.specs.Candidates.{not_chosen};
 ghost use Rattle.select.specs.Scopes.{is_open_in, named_ids};
 ghost use Rattle.select.specs.Reasons.{reason_in, with_reason};
 
-use crate::scope::Scope;
+use crate::scope::Selecting;
 use crate::start::{is_named, named_ids};
 use fields::{Id, IdList, Selection};
 use std::alloc::{AllocError, Global};
@@ -18,7 +18,7 @@ use terms::NotChosen;
 use zones::Zone;
 
 // Whether it is not named, or excluded, or open.
-fn needs_no_reason(scope: &Scope, id: Id) -> bool
+fn needs_no_reason(scope: &Selecting, id: Id) -> bool
     ensures { result ≡ (not (is_in (named_ids scope.now.selection) id) || is_in scope.now.selection.exclude id
         || is_open_in scope.now id) }
 {
@@ -27,7 +27,7 @@ fn needs_no_reason(scope: &Scope, id: Id) -> bool
 }
 
 #[tactic(auto, unfolding(terms::specs::Candidates::not_chosen))]
-fn why_not(scope: &Scope, id: Id) -> Option<NotChosen>
+fn why_not(scope: &Selecting, id: Id) -> Option<NotChosen>
     ensures { result ≡ reason_in scope.now id }
 {
     if needs_no_reason(scope, id) {
@@ -44,7 +44,7 @@ fn why_not(scope: &Scope, id: Id) -> Option<NotChosen>
 }
 
 fn push_with_reason(
-    scope: &Scope,
+    scope: &Selecting,
     id: Id,
     found: &mut Vec<(Id, NotChosen)>,
 ) -> Result<(), AllocError>
@@ -59,7 +59,7 @@ fn push_with_reason(
 // The ids that have a reason, each with it.
 fn with_reasons(
     alloc: Global,
-    scope: &Scope,
+    scope: &Selecting,
     ids: &[Id],
 ) -> Result<Vec<(Id, NotChosen)>, AllocError>
     ensures { IfOk result (λ found. found.items ≡ filter_map (with_reason scope.now) ids.now) }
@@ -85,7 +85,7 @@ pub fn not_chosen(
         ↔ (not_chosen global.now zone.now selection.now x ≡ Some why)) }
 {
     let named = IdList::from_vec(named_ids(alloc, selection)?);
-    let scope = Scope {
+    let scope = Selecting {
         global,
         zone,
         selection,

@@ -9,12 +9,12 @@
 
 mod asking;
 mod bringing;
-mod chosen;
+mod candidates;
 mod filters;
 mod growing;
 mod left_out;
 mod scope;
 mod start;
 
-pub use chosen::candidates;
+pub use candidates::candidates;
 pub use left_out::not_chosen;

@@ -11,7 +11,7 @@ use Rattle.machine.specs.Receiving.{TakesItem, sourced, receive_status}
 use Rattle.sysmods.specs.declared.faults.ReceiveFault.{ReceiveFault}
 use Rattle.sysmods.specs.Refused.{fault_of}
 use Rattle.sysmods.specs.Faults.{IsReceived}
-use Rattle.report.specs.declared.outcome.Line.{Line}
+use Rattle.report.specs.declared.outcome.ReportLine.{ReportLine}
 use Rattle.report.specs.Views.{line_view}
 use Rattle.smpe_global.specs.declared.taken.Taken.{Taken}
 use Rattle.sysmods.specs.declared.edit.GlobalEdit.{GlobalEdit}
@@ -29,7 +29,7 @@ writes_receive s edits (sources, names, are) = subst (All IsOfReceive) (sym are)
     (All-map IsOfReceive (λ h. PutHold h) s.holds (λ i d below. tt)))
 
 -- whose line is told
-module _ (source : Option Text) (g new : Global) (s : Sysmod) (line : Line) (was is : Taken)
+module _ (source : Option Text) (g new : Global) (s : Sysmod) (line : ReportLine) (was is : Taken)
     (told : is.lines.items ≡ was.lines.items ++ line ∷ []) (refused : Option ReceiveFault)
     (printed : line_view line ≡ StatusLine s.id (OfKind s.kind) (receive_status (answer_of new refused)))
     (received : IsReceived g (sourced source s) new refused) where

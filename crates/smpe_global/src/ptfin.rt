@@ -15,7 +15,7 @@ use crate::edits::edits_of;
 use crate::taken::Taken;
 use fields::{Attest, Source};
 use mcs::Item;
-use report::{Line, Place, Status};
+use report::{Place, ReportLine, Status};
 use std::alloc::{AllocError, Global};
 use sysmods::{GlobalZone, ReceiveFault};
 use sysmods_values::Sysmod;
@@ -59,7 +59,7 @@ fn take_sysmod(
     sysmod.attest();
     let mut edits = edits_of(alloc, &sysmod)?;
     let refused = global.receive(alloc, sysmod)?;
-    taken.lines.push(Line::Status {
+    taken.lines.push(ReportLine::Status {
         id,
         place: Place::Kind(kind),
         status: status_of(refused),

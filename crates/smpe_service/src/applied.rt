@@ -11,7 +11,7 @@ use crate::lines::lines;
 use crate::statuses::statuses;
 use change::{Installed, Installing, install};
 use fields::{Attest, Bypass, Selection, YyDdd};
-use report::Line;
+use report::ReportLine;
 use select::{candidates, not_chosen};
 use std::alloc::{AllocError, Global};
 use sysmods::GlobalZone;
@@ -19,9 +19,9 @@ use zones::{Scope, Zone, ZoneDelta, choose};
 
 /// What an APPLY or ACCEPT changes, and its lines by id.
 #[derive(Drop)]
-pub struct Applied {
+pub struct InstallChange {
     pub delta: ZoneDelta,
-    pub lines: Vec<Line>,
+    pub lines: Vec<ReportLine>,
 }
 
 /// Installs what is selected into the zone, less what BYPASS leaves out of account: APPLY in a target zone, ACCEPT in a
@@ -35,7 +35,7 @@ pub fn apply(
     selection: &Selection,
     bypass: &Bypass,
     date: YyDdd,
-) -> Result<Applied, AllocError>
+) -> Result<InstallChange, AllocError>
     ensures installs { IfOk result (λ a. (new : AZone) → IsChanged a.delta zone.now new →
         InstallsSelected global.now zone.now (option_copied related.entry) selection.now bypass.now date new
         (map line_view a.lines.items)) }
@@ -74,7 +74,7 @@ pub fn apply(
         failed,
         left_out.as_slice(),
     )?;
-    Ok(Applied {
+    Ok(InstallChange {
         delta,
         lines: lines(alloc, global, found)?,
     })

@@ -16,5 +16,5 @@ mod restored_lines;
 mod statuses;
 mod surviving;
 
-pub use applied::{Applied, apply};
+pub use applied::{InstallChange, apply};
 pub use restored::{Restored, restore};

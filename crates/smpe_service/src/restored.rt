@@ -9,17 +9,17 @@ ghost use Rattle.report.specs.Views.{line_view};
 use crate::restored_lines::lines_of;
 use fields::{Attest, IdList, RestoreList};
 use judge_system::{Decided, decide};
-use report::Line;
+use report::ReportLine;
 use std::alloc::{AllocError, Global};
 use sysmods::GlobalZone;
-use undo::{Judged, Scope, applied_ids, judge_restore, restore_list};
+use undo::{Judged, RestoreScope, applied_ids, judge_restore, restore_list};
 use zones::{Zone, ZoneDelta, choose};
 
 /// What a RESTORE changes, and its lines by id.
 #[derive(Drop)]
 pub struct Restored {
     pub delta: ZoneDelta,
-    pub lines: Vec<Line>,
+    pub lines: Vec<ReportLine>,
 }
 
 /// Takes SYSMODs of the list off the target zone, back to what its distribution zone holds. Whether the command checks
@@ -38,7 +38,7 @@ pub fn restore(
     let none = IdList::new(alloc);
     let vers = choose(alloc, global, zone, &none)?;
     let applied = applied_ids(alloc, zone)?;
-    let scope = Scope {
+    let scope = RestoreScope {
         vers: &vers,
         zone,
         accepted,

@@ -17,11 +17,11 @@ ghost use Rattle.store_schema.specs.Tables.{elem as elem_table};
 ghost use Rattle.store_sysmods.specs.declared.elem.ElemRow.{ElemRow as AElemRow};
 ghost use Rattle.store_sysmods.specs.Elems.{delete_elems, is_update, distlib_of, syslib_of};
 ghost use Rattle.store_sysmods.specs.Elems.{lines_of as lines_in};
-ghost use Rattle.store_sysmods.specs.Steps.{Step};
+ghost use Rattle.store_sysmods.specs.Steps.{RunsCalls};
 ghost use Rattle.store_sysmods.specs.Sysmods.{sysmod_key};
 
+use crate::item_rows::Rows;
 use crate::listed::Listed;
-use crate::rows::Rows;
 use fields::spelling::type_text;
 use fields::{Id, Name};
 use sqlite::{Alter, Error, Row, Transaction};
@@ -306,7 +306,7 @@ impl Rows for Changes {
 
 /// Takes out the SYSMOD's rows.
 pub(crate) fn remove_rows<S: Alter>(tx: &mut Transaction<'_, S>, id: Id) -> Result<(), Error>
-    ensures { Step S.Store ((delete_elems, sysmod_key id) ∷ [])
+    ensures { RunsCalls S.Store ((delete_elems, sysmod_key id) ∷ [])
         (in_table elem_table (without (sysmod_key id))) tx.old tx.new result }
 {
     let key = [ValueRef::Text(id.as_bytes())];

@@ -90,9 +90,9 @@ fn comment_in(alloc: Global, row: &Row, at: usize) -> Result<Option<String>, Rea
 }
 
 /// Reads holds.
-struct Holds;
+struct HoldReader;
 
-impl FromRow for Holds {
+impl FromRow for HoldReader {
     ghost use Rattle.store_schema.specs.Rows.{hold_row};
     ghost use Rattle.store_schema.specs.Forms.{HasHoldForms};
 
@@ -146,11 +146,11 @@ impl FromRow for Holds {
     }
 }
 
-impl Query for Holds {
+impl Query for HoldReader {
     ghost use Rattle.std.specs.Prelude.{⊤};
     ghost use Rattle.store_schema.specs.Tables.{hold};
 
-    type Rows = Holds;
+    type Rows = HoldReader;
 
     ghost table = { hold };
 
@@ -165,7 +165,7 @@ impl Query for Holds {
     }
 }
 
-impl Listed for Holds {
+impl Listed for HoldReader {
     ghost use Rattle.std.specs.Prelude.{refl};
 
     type Key = (Id, (HoldKind, Reason));
@@ -197,7 +197,7 @@ pub fn load_holds<S: Alter>(alloc: Global, conn: &mut Connection<S>) -> Result<V
     ensures reads { (r : Schema) → OnlyReads S.Store (schema_under r) ReadError.BadRow ReadError.Fault conn.old
         conn.new result }
 {
-    load_sorted::<S, Holds>(alloc, conn)
+    load_sorted::<S, HoldReader>(alloc, conn)
 }
 
 // ---- as it is written

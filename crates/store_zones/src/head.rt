@@ -22,7 +22,7 @@ ghost use Rattle.store_zones.specs.Related.{AreRelated};
 ghost use Rattle.store_zones.specs.Zones.{AddsZone, empty_zone};
 
 use crate::related::only_related;
-use crate::rows::table_of;
+use crate::zone_rows::table_of;
 use fields::spelling::zone_kind_text;
 use fields::{Srel, ZoneName};
 use sorted::{Keyed, TryClone};
@@ -78,9 +78,9 @@ fn is_target(kind: ZoneKind) -> bool
 }
 
 /// Reads the rows of zones.
-struct Heads;
+struct ZoneHeads;
 
-impl FromRow for Heads {
+impl FromRow for ZoneHeads {
     ghost use Rattle.store_zones.specs.Heads.{head_row, HasHeadForms};
 
     type Item = ZoneHead;
@@ -132,7 +132,7 @@ impl Query for AllHeads {
     ghost use Rattle.std.specs.Prelude.{⊤};
     ghost use Rattle.store_schema.specs.Tables.{zone};
 
-    type Rows = Heads;
+    type Rows = ZoneHeads;
 
     ghost table = { zone };
 
@@ -154,7 +154,7 @@ impl Query for NamedHeads {
     ghost use Rattle.std.specs.Prelude.{⊤};
     ghost use Rattle.store_schema.specs.Tables.{zone};
 
-    type Rows = Heads;
+    type Rows = ZoneHeads;
 
     ghost table = { zone };
 

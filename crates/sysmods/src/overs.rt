@@ -5,7 +5,7 @@ ghost use Rattle.terms.specs.Over.{IsOver};
 ghost use Rattle.sysmods.specs.Choices.{choice};
 ghost use Rattle.sysmods.specs.Overs.{AreOver, is_known, is_one_known};
 
-use crate::choice::VerChoice;
+use crate::ver_choice::VerChoice;
 use fields::Id;
 use indexmap::IndexSet;
 use std::alloc::{AllocError, Global};
@@ -20,7 +20,7 @@ pub struct Overs<'a, 'b> {
 }
 
 impl<'a, 'b> Model for Overs<'a, 'b> {
-    ghost use Rattle.sysmods.specs.declared.choice.VerChoice as choices;
+    ghost use Rattle.sysmods.specs.declared.ver_choice.VerChoice as choices;
 
     ghost Value = { choices.VerChoice };
 

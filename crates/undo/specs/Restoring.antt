@@ -47,7 +47,7 @@ abbrev pub element_at : Zone → ElemType × Text → Option Element
 element_at zone k = element_of zone k.0 k.1
 
 -- an edit comes in that leaves this at the key
-pub record EditsElement (k : ElemType × Text) (wanted : Option Element) (old new : ZoneDelta) : Type 0 where
+pub record LeavesElement (k : ElemType × Text) (wanted : Option Element) (old new : ZoneDelta) : Type 0 where
   pub edit : Edit Element (ElemType × Text)
   pub entries : new.entries ≡ old.entries
   pub elements : new.elements ≡ with_item element_cmp (edit_key element_key) old.elements edit

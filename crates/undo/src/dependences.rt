@@ -7,7 +7,7 @@ ghost use Rattle.undo.specs.Scopes.{restoring_of};
 ghost use Rattle.undo.specs.Dependences.{suppliers, dependences_of};
 ghost use Rattle.undo.specs.Needed.{HaveDep};
 
-use crate::scope::{Scope, applied_among};
+use crate::scope::{RestoreScope, applied_among};
 use fields::{Attest, Id, IdList};
 use std::alloc::{AllocError, Global};
 use zones::{Zone, requisites_held};
@@ -34,7 +34,7 @@ fn suppliers(alloc: Global, zone: &Zone, id: Id) -> Result<Vec<Id>, AllocError>
 /// The groups of applied SYSMODs on which it depends: it is to go as soon as all of one group go, if that has any.
 pub(crate) fn dependences_of(
     alloc: Global,
-    scope: &Scope<'_, '_>,
+    scope: &RestoreScope<'_, '_>,
     id: Id,
 ) -> Result<Vec<Vec<Id>>, AllocError>
     ensures { IfOk result (λ groups. map (λ group. group.items) groups.items
@@ -73,7 +73,7 @@ fn all_within(alloc: Global, list: &IdList, groups: &[Vec<Id>]) -> Result<Vec<Id
 /// The candidates with those that depend on them: on a group which is in the list as a whole.
 pub(crate) fn dep_pairs(
     alloc: Global,
-    scope: &Scope<'_, '_>,
+    scope: &RestoreScope<'_, '_>,
     list: &IdList,
     cands: &IdList,
 ) -> Result<Vec<(Id, Id)>, AllocError>

@@ -8,7 +8,7 @@ ghost use Rattle.undo.specs.Scopes.{restoring_of};
 ghost use Rattle.judge_system.specs.Judged.{AreJudged};
 
 use crate::needed::needs_of_all;
-use crate::scope::{Scope, applied_among};
+use crate::scope::{RestoreScope, applied_among};
 use crate::tests::all_rows;
 use fields::{Attest, IdList};
 use judge_system::RequisiteOf;
@@ -26,7 +26,7 @@ pub struct Judged {
 /// Judges the SYSMODs of RESTORE's list. No superseder serves what they need. An error comes where memory runs out.
 pub fn judge_restore(
     alloc: Global,
-    scope: &Scope<'_, '_>,
+    scope: &RestoreScope<'_, '_>,
     ids: &IdList,
 ) -> Result<Judged, AllocError>
     ensures cands { IfOk result (λ j. j.cands ≡ restore_candidates (restoring_of scope.now) ids.now) }

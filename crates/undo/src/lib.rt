@@ -8,7 +8,7 @@
 #![tactic(auto)]
 
 mod dependences;
-mod elements;
+mod element_changers;
 mod judging;
 mod listing;
 mod needed;
@@ -24,4 +24,4 @@ mod tests;
 pub use judging::{Judged, judge_restore};
 pub use listing::restore_list;
 pub use restoring::restore;
-pub use scope::{Scope, applied_ids};
+pub use scope::{RestoreScope, applied_ids};

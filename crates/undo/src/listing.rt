@@ -5,7 +5,7 @@ ghost use Rattle.fields.specs.Choices.{restore_list_of};
 ghost use Rattle.undo.specs.Scopes.{restoring_of};
 
 use crate::numbered::reached;
-use crate::scope::Scope;
+use crate::scope::RestoreScope;
 use crate::steps::all_steps;
 use fields::{Attest, IdList, RestoreList};
 use std::alloc::{AllocError, Global};
@@ -13,7 +13,7 @@ use std::alloc::{AllocError, Global};
 /// SELECT's ids, or GROUP's and all which they need, and what those need. The error comes where memory runs out.
 pub fn restore_list(
     alloc: Global,
-    scope: &Scope<'_, '_>,
+    scope: &RestoreScope<'_, '_>,
     list: &RestoreList,
 ) -> Result<IdList, AllocError>
     ensures { IfOk result (AreListed (restoring_of scope.now) (restore_list_of list.now)) }

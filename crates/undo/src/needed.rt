@@ -5,9 +5,9 @@ ghost use Rattle.undo.specs.Scopes.{restoring_of};
 ghost use Rattle.undo.specs.Needed.{pair_need, AreNeeds};
 
 use crate::dependences::dep_pairs;
-use crate::elements::elem_pairs;
+use crate::element_changers::elem_pairs;
 use crate::pairs::own_pairs;
-use crate::scope::Scope;
+use crate::scope::RestoreScope;
 use fields::{Id, IdList};
 use judge_system::RequisiteOf;
 use std::alloc::{AllocError, Global};
@@ -34,7 +34,7 @@ fn add_needs(
 /// The needs of all candidates.
 pub(crate) fn needs_of_all(
     alloc: Global,
-    scope: &Scope<'_, '_>,
+    scope: &RestoreScope<'_, '_>,
     list: &IdList,
     cands: &IdList,
 ) -> Result<Vec<RequisiteOf>, AllocError>

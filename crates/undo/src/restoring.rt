@@ -8,7 +8,7 @@ ghost use Rattle.zones_maps.specs.Delta.{IsChanged};
 ghost use Rattle.zones_maps.specs.Differing.{EachChanges};
 ghost use Rattle.undo.specs.Restoring.{IsRestoringOf, PutsBack, loses, take_off};
 
-use crate::elements::changed_keys;
+use crate::element_changers::changed_keys;
 use fields::{Attest, Id, IdList, Name};
 use sorted::TryClone;
 use std::alloc::{AllocError, Global};

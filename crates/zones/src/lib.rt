@@ -9,7 +9,7 @@
 
 mod binding;
 mod bypassing;
-mod choosing;
+mod counting_vers;
 mod deleting;
 mod entry;
 mod left;
@@ -19,7 +19,7 @@ mod taking;
 
 pub use binding::requisites_held;
 pub use bypassing::is_bypassed_hold;
-pub use choosing::{choose, fits};
+pub use counting_vers::{choose, fits};
 pub use deleting::{deletions, view_deletions};
 pub use entry::{TakesOut, entry_less};
 pub use left::{element_left, is_left, supplies_left};

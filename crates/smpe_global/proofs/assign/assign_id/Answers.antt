@@ -3,7 +3,7 @@ use Rattle.terms.specs.Lookups.{sysmod_of}
 use Rattle.terms.specs.Global.{assign}
 use Rattle.machine.specs.Outcome.{StatusLine, Assigned, Unknown}
 use Rattle.machine.specs.Receiving.{place_of}
-use Rattle.report.specs.declared.outcome.Line.TheVariants.{Status}
+use Rattle.report.specs.declared.outcome.ReportLine.TheVariants.{Status}
 use Rattle.report.specs.Views.{status_view}
 use Rattle.smpe_global.specs.Edits.{source_edits}
 use Rattle.sysmods.specs.Edits.{StatesThose}

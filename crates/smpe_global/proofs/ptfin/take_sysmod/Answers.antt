@@ -5,8 +5,8 @@ use Rattle.terms.specs.Types.{Sysmod}
 use Rattle.terms.specs.Global.{IsSysmod}
 use Rattle.machine.specs.Outcome.{OfKind, StatusLine}
 use Rattle.machine.specs.Receiving.{sourced, receive_status}
-use Rattle.report.specs.declared.outcome.Line.{Line}
-use Rattle.report.specs.declared.outcome.Line.TheVariants.{Status}
+use Rattle.report.specs.declared.outcome.ReportLine.{ReportLine}
+use Rattle.report.specs.declared.outcome.ReportLine.TheVariants.{Status}
 use Rattle.report.specs.declared.outcome.Place.TheVariants.{Kind}
 use Rattle.report.specs.Views.{line_view}
 use Rattle.sysmods.specs.Faults.{IsReceived}
@@ -21,7 +21,7 @@ appended : {T E X : Type 0} (r : Result T E) (new old more : List X) → new ≡
 appended (Ok x) new old more is = is
 appended (Err e) new old more is = tt
 
-abbrev line : In_ok-push → Line
+abbrev line : In_ok-push → ReportLine
 line c = Status c.sysmod.inside.id (Kind c.sysmod.inside.kind) c.status_of.result
 
 printed : (c : In_ok-push) → line_view (line c) ≡ StatusLine c.args.sysmod.id (OfKind c.args.sysmod.kind)

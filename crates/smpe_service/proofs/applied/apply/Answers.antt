@@ -9,7 +9,7 @@ use Rattle.terms.specs.Needs.{bypassed_ids}
 use Rattle.terms.specs.Over.{IsOver}
 use Rattle.terms.specs.Tests.{Setting, ShareElement}
 use Rattle.terms.specs.Install.{HasInstalled, TakesEffect}
-use Rattle.sysmods.specs.declared.choice.VerChoice.{VerChoice}
+use Rattle.sysmods.specs.declared.ver_choice.VerChoice.{VerChoice}
 use Rattle.sysmods.specs.Choices.{number_in, choice}
 use Rattle.machine.specs.Outcome.{Failure}
 use Rattle.report.specs.Views.{line_view}
