@@ -8,8 +8,9 @@ ghost use Rattle.terms.specs.declared.kinds.HoldKind.TheVariants.{System};
 ghost use Rattle.terms.specs.Lookups.{is_received};
 ghost use Rattle.terms.proofs.GlobalKept.{IsOwned};
 
+use crate::receive::receivable;
 use crate::received::Received;
-use crate::refused::refusal;
+use crate::refused::Refused;
 use fields::Attest;
 use sorted::are_rising;
 use std::alloc::{AllocError, Global};
@@ -47,8 +48,10 @@ fn push_last(alloc: Global, received: &mut Received, sysmod: Sysmod) -> Result<b
     if !carries_none(&sysmod) {
         return Ok(false);
     }
-    if refusal(alloc, received, &sysmod)?.is_some() {
-        return Ok(false);
+    match receivable(alloc, received, &sysmod) {
+        Ok(()) => {}
+        Err(Refused::Memory) => return Err(AllocError),
+        Err(_) => return Ok(false),
     }
     sysmod.attest();
     drop(received.insert(sysmod)?);

@@ -9,6 +9,7 @@
 
 mod binding;
 mod bypassing;
+mod candidates;
 mod counting_vers;
 mod deleting;
 mod entry;
@@ -19,6 +20,7 @@ mod taking;
 
 pub use binding::requisites_held;
 pub use bypassing::is_bypassed_hold;
+pub use candidates::Candidates;
 pub use counting_vers::{choose, fits};
 pub use deleting::{deletions, view_deletions};
 pub use entry::{TakesOut, entry_less};
