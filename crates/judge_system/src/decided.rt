@@ -20,7 +20,7 @@ pub struct Decided {
     pub failed: Vec<(Id, Failure)>,
 }
 
-impl Judged {
+impl Judged<'_> {
     /// Turns numbers back into ids: who is kept, and why each other candidate is not, with the causers of each number.
     /// An error comes where memory runs out.
     pub fn decided(

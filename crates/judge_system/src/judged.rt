@@ -8,12 +8,13 @@ use fields::{Id, IdList};
 use indexmap::IndexSet;
 use solve::System;
 use std::alloc::{AllocError, Global};
+use sysmods::{KnownOvers, VerChoice};
 use terms::Test;
 
 /// The candidates of an APPLY, ACCEPT or RESTORE, judged. They are numbered in the order in which they are first seen;
 /// a number is a place in each list that has an item for each candidate.
 #[derive(Drop)]
-pub struct Judged {
+pub struct Judged<'a> {
     /// Which candidates are eligible, and what each one needs, by their numbers.
     pub system: System,
     /// The id of each number.
@@ -24,19 +25,27 @@ pub struct Judged {
     pub needs: Vec<RequisiteOf>,
     /// The candidates with each of their requisites that BYPASS covers.
     pub bypassed: Vec<(Id, Id)>,
+    /// The `++VER`s that count.
+    pub vers: VerChoice<'a>,
+    /// What is known of which id is over which.
+    pub overs: KnownOvers,
 }
 
-impl Judged {
+impl<'a> Judged<'a> {
     /// Numbers the candidates and what is said of them. An error comes where memory runs out.
     pub fn new(
         alloc: Global,
         ids: &IdList,
         said: Assessment,
+        vers: VerChoice<'a>,
+        overs: KnownOvers,
     ) -> Result<Self, AllocError>
         requires rows { length said.tests.items ≡ length ids.now }
         requires of { All (λ w. Contains ids.now w.of) said.needs.items }
         requires by { All (λ p. Contains ids.now p.0) said.superseded.items }
         ensures numbered { IfOk result (λ j. IsNumberedAs ids.now said j) }
+        ensures vers { IfOk result (λ j. j.vers ≡ vers) }
+        ensures overs { IfOk result (λ j. j.overs ≡ overs) }
     {
         let eligible = all_eligible(alloc, said.tests.as_slice())?;
         let ids = with_numbers(alloc, ids)?;
@@ -53,6 +62,8 @@ impl Judged {
             tests: said.tests,
             needs: said.needs,
             bypassed: said.bypassed,
+            vers,
+            overs,
         })
     }
 }
