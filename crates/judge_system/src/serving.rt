@@ -2,30 +2,28 @@
 ghost use Rattle.std.specs.Prelude.{◌≡◌, ◌<◌, ℕ, List, Some, length, map, filter, slice_get, All, AllPairs};
 ghost use Rattle.std.specs.Prelude.{Contains, IsTrue, IsFalse, IsNone, IfSome, OnOk, IfOk};
 ghost use Rattle.terms.specs.Types.{Id as AnId};
-ghost use Rattle.terms.specs.Lookups.{is_in};
+ghost use Rattle.terms.specs.Lookups.{IsRising, is_in};
 ghost use Rattle.terms.specs.Needs.{takes_superseder};
 ghost use Rattle.judge_system.specs.Serving.{AreOwn, AddsSuperseded, AreServed, AreOwnPlaces, IsServedIn, is_between};
 
-use fields::{Attest, Id, IdList};
+use fields::Id;
+use indexmap::IndexSet;
 use std::alloc::{AllocError, Global};
 use std::collections::BTreeSet;
 use terms::NeedKind;
 
-// Where the id stands in the list.
-fn place_of(ids: &IdList, id: Id) -> Option<usize>
-    ensures at { IfSome result (λ n. slice_get ids.now n ≡ Some id) }
-    ensures none { IsNone result → IsFalse (is_in ids.now id) }
+// Where the id stands among the numbered ones: its number.
+fn place_of(ids: &IndexSet<Id>, id: Id) -> Option<usize>
+    ensures at { IfSome result (λ n. slice_get ids.now.keys n ≡ Some id) }
+    ensures none { IsNone result → IsFalse (is_in ids.now.keys id) }
 {
-    match ids.as_slice().binary_search(&id) {
-        Ok(place) => Some(place),
-        Err(_) => None,
-    }
+    ids.get_index_of(&id)
 }
 
-/// The place of one that is in the list.
-pub(crate) fn own_place(ids: &IdList, id: Id) -> usize
-    requires { Contains ids.now id }
-    ensures { slice_get ids.now result ≡ Some id }
+/// The place of one that is numbered.
+pub(crate) fn own_place(ids: &IndexSet<Id>, id: Id) -> usize
+    requires { Contains ids.now.keys id }
+    ensures { slice_get ids.now.keys result ≡ Some id }
 {
     place_of(ids, id).unwrap()
 }
@@ -43,14 +41,14 @@ fn own_pairs(alloc: Global, ids: &[Id]) -> Result<Vec<(Id, usize)>, AllocError>
 
 // Adds what candidates supersede, each with the place of the candidate.
 fn add_superseded(
-    ids: &IdList,
+    ids: &IndexSet<Id>,
     superseded: &[(Id, Id)],
     pairs: &mut Vec<(Id, usize)>,
 ) -> Result<(), AllocError>
-    requires within { All (λ p. Contains ids.now p.0) superseded.now }
-    ensures { OnOk result (AddsSuperseded ids.now superseded.now pairs.old.items pairs.new.items) }
+    requires rising { IsRising ids.now.keys }
+    requires within { All (λ p. Contains ids.now.keys p.0) superseded.now }
+    ensures { OnOk result (AddsSuperseded ids.now.keys superseded.now pairs.old.items pairs.new.items) }
 {
-    ids.attest();
     for pair in superseded {
         pairs.push((pair.1, own_place(ids, pair.0)))?;
     }
@@ -60,11 +58,12 @@ fn add_superseded(
 /// The ids that candidates stand for, each with the place of the candidate, in order.
 pub(crate) fn served(
     alloc: Global,
-    ids: &IdList,
+    ids: &IndexSet<Id>,
     superseded: &[(Id, Id)],
 ) -> Result<BTreeSet<(Id, usize)>, AllocError>
-    requires within { All (λ p. Contains ids.now p.0) superseded.now }
-    ensures { IfOk result (λ set. AreServed ids.now superseded.now set.keys) }
+    requires rising { IsRising ids.now.keys }
+    requires within { All (λ p. Contains ids.now.keys p.0) superseded.now }
+    ensures { IfOk result (λ set. AreServed ids.now.keys superseded.now set.keys) }
 {
     let mut pairs = own_pairs(alloc, ids.as_slice())?;
     add_superseded(ids, superseded, &mut pairs)?;
@@ -82,11 +81,11 @@ pub fn takes_superseder(kind: NeedKind) -> bool
 // The places of the candidates that stand for an id.
 fn places_in(
     alloc: Global,
-    ids: &IdList,
+    ids: &IndexSet<Id>,
     served: &BTreeSet<(Id, usize)>,
     id: Id,
 ) -> Result<Vec<usize>, AllocError>
-    ensures { IfOk result (λ any. any.items ≡ map (λ p. p.1) (filter (is_between id (length ids.now))
+    ensures { IfOk result (λ any. any.items ≡ map (λ p. p.1) (filter (is_between id (length ids.now.keys))
         served.now.keys)) }
 {
     let mut places = Vec::new(alloc);
@@ -99,14 +98,14 @@ fn places_in(
 // They serve a need where a superseder does.
 fn served_places(
     alloc: Global,
-    ids: &IdList,
+    ids: &IndexSet<Id>,
     served: &BTreeSet<(Id, usize)>,
     kind: NeedKind,
     id: Id,
 ) -> Result<Vec<usize>, AllocError>
     requires takes { IsTrue (takes_superseder kind) }
-    ensures places { IfOk result (λ any. IsServedIn ids.now kind id served.now.keys any.items) }
-    ensures below { IfOk result (λ any. All (λ n. n < length ids.now) any.items) }
+    ensures places { IfOk result (λ any. IsServedIn ids.now.keys kind id served.now.keys any.items) }
+    ensures below { IfOk result (λ any. All (λ n. n < length ids.now.keys) any.items) }
     ensures rising { IfOk result (λ any. AllPairs (λ a b. a < b) any.items) }
 {
     let _ = served.len();
@@ -115,12 +114,12 @@ fn served_places(
 }
 
 // Else the id alone does, if it is a candidate.
-fn own_places(alloc: Global, ids: &IdList, id: Id) -> Result<Vec<usize>, AllocError>
-    ensures places { IfOk result (λ any. AreOwnPlaces ids.now id any.items) }
-    ensures below { IfOk result (λ any. All (λ n. n < length ids.now) any.items) }
+fn own_places(alloc: Global, ids: &IndexSet<Id>, id: Id) -> Result<Vec<usize>, AllocError>
+    requires { IsRising ids.now.keys }
+    ensures places { IfOk result (λ any. AreOwnPlaces ids.now.keys id any.items) }
+    ensures below { IfOk result (λ any. All (λ n. n < length ids.now.keys) any.items) }
     ensures rising { IfOk result (λ any. AllPairs (λ a b. a < b) any.items) }
 {
-    ids.attest();
     let mut places = Vec::new(alloc);
     let Some(place) = place_of(ids, id) else {
         return Ok(places);
@@ -132,13 +131,14 @@ fn own_places(alloc: Global, ids: &IdList, id: Id) -> Result<Vec<usize>, AllocEr
 /// The places of the candidates that serve a need.
 pub(crate) fn places_of(
     alloc: Global,
-    ids: &IdList,
+    ids: &IndexSet<Id>,
     served: &BTreeSet<(Id, usize)>,
     kind: NeedKind,
     id: Id,
 ) -> Result<Vec<usize>, AllocError>
-    ensures places { IfOk result (λ any. IsServedIn ids.now kind id served.now.keys any.items) }
-    ensures below { IfOk result (λ any. All (λ n. n < length ids.now) any.items) }
+    requires { IsRising ids.now.keys }
+    ensures places { IfOk result (λ any. IsServedIn ids.now.keys kind id served.now.keys any.items) }
+    ensures below { IfOk result (λ any. All (λ n. n < length ids.now.keys) any.items) }
     ensures rising { IfOk result (λ any. AllPairs (λ a b. a < b) any.items) }
 {
     if takes_superseder(kind) {

@@ -1,26 +1,13 @@
-use Rattle.std.proofs.Common.{◌∙◌, sym, ap}
-use Rattle.std.specs.Prelude.{is_ok}
+use Rattle.std.proofs.Common.{◌≡◌, ℕ, Option, None, Some, sym}
+use Rattle.std.specs.Prelude.{IfSome, position, slice_get}
 use Rattle.std.specs.Str.{bytes_eq}
-use Rattle.std.specs.Cmp.Lexicographic.{texts_ties}
-use Rattle.std.proofs.lemmas.Cmp.{nat_list_cmp_total}
-use Rattle.terms.proofs.RisingLists.{is_ok_search, found_search}
-use Rattle.judge_system.proofs.OwnPlaces.{stands_at}
+use Rattle.judge_system.proofs.OwnPlaces.{place_stands}
 use Rattle.judge_system.proofs.serving.place_of.Goals as goal
 
-pub returns-in-Ok-clause-at : goal.returns-in-Ok-clause-at
-returns-in-Ok-clause-at c =
-    let rising = rw c.as_slice.ensures.items at c.as_slice.ensures.rising in
-    let within = rw c.as_slice.ensures.items at c.binary_search.ensures.bound in
-    let position = rw c.as_slice.ensures.items at c.binary_search.ensures.position in
-    let found = rw c.in-Ok.is at (found_search nat_list_cmp_total (λ x. x) c.args.id c.args.ids.now rising
-    c.binary_search.result within position) in
-    stands_at c.args.ids.now c.args.id c.in-Ok.place found.0 found.1.0 found.1.1
-
-pub returns-in-Err-clause-none : goal.returns-in-Err-clause-none
-returns-in-Err-clause-none c none =
-    let rising = rw c.as_slice.ensures.items at c.as_slice.ensures.rising in
-    let within = rw c.as_slice.ensures.items at c.binary_search.ensures.bound in
-    let position = rw c.as_slice.ensures.items at c.binary_search.ensures.position in
-    let told = is_ok_search nat_list_cmp_total (λ x. x) bytes_eq texts_ties c.args.id c.args.ids.now rising
-    c.binary_search.result within position in
-    sym told ∙ ap is_ok c.in-Err.is
+pub returns-clause-at : goal.returns-clause-at
+returns-clause-at c = by c.get_index_of.result c.get_index_of.ensures.index
+  where
+    by : (r : Option ℕ) → r ≡ position (bytes_eq c.args.id) c.args.ids.now.keys
+        → IfSome r (λ n. slice_get c.args.ids.now.keys n ≡ Some c.args.id)
+    by None is = tt
+    by (Some n) is = place_stands c.args.ids.now.keys c.args.id n (sym is)

@@ -1,7 +1,7 @@
 use Rattle.std.specs.Prelude.{◌↔◌, Contains, map}
 use Rattle.terms.specs.Types.{Id}
-use Rattle.smpe_service.specs.Surviving.{SurvivesIn}
-use Rattle.smpe_service.proofs.surviving.survivors.Given as goal
+use Rattle.judge.specs.Surviving.{SurvivesIn}
+use Rattle.judge.proofs.surviving.survivors.Given as goal
 
 abbrev pub invariant-loop-i : goal.invariant-loop-i
 invariant-loop-i l =

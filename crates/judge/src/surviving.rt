@@ -4,7 +4,7 @@ ghost use Rattle.std.specs.Prelude.{if◌then◌else◌};
 ghost use Rattle.std.specs.List.{list_all};
 ghost use Rattle.terms.specs.Types.{Id as AnId};
 ghost use Rattle.terms.specs.Lookups.{IsRising};
-ghost use Rattle.smpe_service.specs.Surviving.{is_clash, SurvivesIn};
+ghost use Rattle.judge.specs.Surviving.{is_clash, SurvivesIn};
 
 use fields::{Attest, Id, IdList};
 use std::alloc::{AllocError, Global};

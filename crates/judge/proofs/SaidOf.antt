@@ -12,17 +12,23 @@ use Rattle.terms.specs.declared.codes.Test.TheVariants.{HeldBySystem, HeldByUser
 use Rattle.terms.specs.declared.codes.Test.TheVariants.{Regression, NothingToUpdate, NotInTarget, ChainDeleted}
 use Rattle.terms.specs.declared.codes.Test.TheVariants.{InClash, AlreadyAccepted, HasDelete, OtherLevel, SeveralFit}
 use Rattle.terms.specs.Types.{Id, Zone}
-use Rattle.terms.specs.Tests.{Setting, Fails, FailsAlone, IsEligible, AreSurvivors}
+use Rattle.terms.specs.Lookups.{IsRising}
+use Rattle.terms.specs.Tests.{Setting, Fails, FailsAlone, IsEligible}
+use Rattle.terms.specs.Needs.{Needs, Serves}
 use Rattle.terms.specs.Failures.{all_tests}
 use Rattle.zones.specs.declared.scope.Scope.{Scope}
 use Rattle.zones.specs.Scopes.{setting_with, setting_of}
 use Rattle.judge_system.specs.declared.stated.RequisiteOf.{RequisiteOf}
+use Rattle.judge_system.specs.declared.judged.Judged.{Judged}
+use Rattle.judge_system.specs.declared.stated.Assessment.{Assessment}
+use Rattle.judge_system.specs.Judged.{AreJudged, IsNumberedAs}
+use Rattle.judge_system.proofs.Judging.{judged_of}
 use Rattle.judge_system.specs.Said.{AreTests, a_need}
 use Rattle.judge_faults.specs.Failed.{AreFailedTests}
 use Rattle.judge_needs.specs.Needed.{AreNeeds}
-use Rattle.judge_needs.specs.Pairs.{AreSuperseded}
-use Rattle.smpe_service.specs.InstallJudged.{IsInstallJudged}
-use Rattle.smpe_service.proofs.Needed.{needs_open}
+use Rattle.judge_needs.specs.Pairs.{AreBypassed, AreSuperseded}
+use Rattle.judge.specs.Installs.{IsInstallAssessed, IsInstallJudged}
+use Rattle.judge.proofs.Needed.{needs_open}
 
 -- rows of tests beside the candidates
 tests_are : (s : Setting) (rows : List (List Test)) (failed : AreFailedTests s rows)
@@ -80,43 +86,50 @@ module _ (scope : Scope) (related : Option Zone) where
   abbrev s : Setting
   s = setting_with scope related
 
-  pub install_judged : (survivors : List Id) → AreSurvivors s survivors → (rows : List (List Test))
+  pub install_judged : (survivors : List Id) → (rows : List (List Test))
       → AreFailedTests s rows → (needs : List RequisiteOf) → AreNeeds (setting_of scope) survivors needs
       → (superseded : List (Id × Id)) → AreSuperseded s.choice needs s.cands superseded
-      → IsInstallJudged s rows needs superseded
-  install_judged survivors are rows failed needs are_needs superseded over = record {
-    survivors = survivors;
-    are_survivors = are;
-    are_judged = record {
-      fails = failed.fails;
-      tests_are = tests_are s rows failed;
-      of = λ k d below.
-          let v = get_or needs k d in
-          ((are_needs.members v.of v.kind v.id).0 (Contains-get_or needs k d below)).0;
-      once = are_needs.once;
-      by = λ k d below.
-          let p = get_or superseded k d in
-          ((over p.0 p.1).0 (Contains-get_or superseded k d below)).0;
-      said = record {
-        fails = λ x t own. let at = found_at s.cands x own in failed.failed at.0 x at.1 t;
-        eligible = eligible_is s;
-        needs = λ x z kind own.
-            let open_is = needs_open scope related survivors x kind z own in
-            let member = are_needs.members x kind z in (
-              λ there. open_is.1 (member.0 there).1,
-              λ need. member.1 (own, open_is.0 need),
-            );
-        serves = λ x y z kind own need there.
-            let asked = (are_needs.members x kind z).1 (
-              own,
-              (needs_open scope related survivors x kind z own).0 need,
-            ) in (
-              λ by. elim by [ inl same ↦ inl same | inr pair ↦ inr (pair.0, ((over y z).0 pair.1).1.1) ],
-              λ by. elim by [
-                | inl same ↦ inl same
-                | inr pair ↦ inr (pair.0, (over y z).1 (there, ((a_need x kind z, asked, pair.0, refl), pair.1)))
-              ],
-            );
-      };
+      → AreJudged (Fails s) (IsEligible s) (Needs s survivors) (Serves s.choice) s.cands rows needs superseded
+  install_judged survivors rows failed needs are_needs superseded over = record {
+    fails = failed.fails;
+    tests_are = tests_are s rows failed;
+    of = λ k d below.
+        let v = get_or needs k d in
+        ((are_needs.members v.of v.kind v.id).0 (Contains-get_or needs k d below)).0;
+    once = are_needs.once;
+    by = λ k d below.
+        let p = get_or superseded k d in
+        ((over p.0 p.1).0 (Contains-get_or superseded k d below)).0;
+    said = record {
+      fails = λ x t own. let at = found_at s.cands x own in failed.failed at.0 x at.1 t;
+      eligible = eligible_is s;
+      needs = λ x z kind own.
+          let open_is = needs_open scope related survivors x kind z own in
+          let member = are_needs.members x kind z in (
+            λ there. open_is.1 (member.0 there).1,
+            λ need. member.1 (own, open_is.0 need),
+          );
+      serves = λ x y z kind own need there.
+          let asked = (are_needs.members x kind z).1 (
+            own,
+            (needs_open scope related survivors x kind z own).0 need,
+          ) in (
+            λ by. elim by [ inl same ↦ inl same | inr pair ↦ inr (pair.0, ((over y z).0 pair.1).1.1) ],
+            λ by. elim by [
+              | inl same ↦ inl same
+              | inr pair ↦ inr (pair.0, (over y z).1 (there, ((a_need x kind z, asked, pair.0, refl), pair.1)))
+            ],
+          );
     };
   }
+
+-- the candidates, numbered
+pub install_numbered : (s : Setting) (said : Assessment) → IsInstallAssessed s said → IsRising s.cands → (j : Judged)
+    → IsNumberedAs s.cands said j → IsInstallJudged s j
+install_numbered s said is rising j numbered = record {
+  survivors = is.survivors;
+  are_survivors = is.are_survivors;
+  judged = judged_of (Fails s) (IsEligible s) (Needs s is.survivors) (Serves s.choice) s.cands said is.are_judged rising
+      j numbered;
+  bypassed = subst (λ pairs. AreBypassed s s.cands pairs.items) (sym numbered.bypassed_are) is.bypassed;
+}

@@ -19,7 +19,7 @@ use Rattle.terms.specs.Lookups.{IsRising}
 use Rattle.terms.specs.Tests.{Setting, AreSurvivors, Survives, FailsAlone, Fails}
 use Rattle.terms.specs.Failures.{all_tests}
 use Rattle.judge_faults.specs.Failed.{AreFailedTests}
-use Rattle.smpe_service.specs.Surviving.{is_clash, SurvivesIn}
+use Rattle.judge.specs.Surviving.{is_clash, SurvivesIn}
 
 module _ (ids : List Id) (rows : List (List Test)) where
   abbrev Are : ℕ → List Id → Type 0

@@ -13,7 +13,7 @@ module _ (Eligible : Id → Type 0) (Needs : Id → NeedKind → Id → Type 0) 
 
   -- The ids are numbered by their places in the list. The system has their needs, each once, and no others; `needed`
   -- gives the kind and the id of each.
-  pub record IsSystemOf (ids : List Id) (p : System) (needed : List (NeedKind × Id)) : Type 0 where
+  pub record IsNumberedForm (ids : List Id) (p : System) (needed : List (NeedKind × Id)) : Type 0 where
     pub numbers : IsSystem p
     pub size : p.size ≡ length ids
     pub eligible : (n : ℕ) (x : Id) → slice_get ids n ≡ Some x → IsTrue (holds p.eligible n) ↔ Eligible x

@@ -2,9 +2,9 @@ use Rattle.std.proofs.Common.{◌≡◌, length, map, refl, arith, subst, sym, C
 use Rattle.std.specs.Prelude.{◌↔◌}
 use Rattle.std.proofs.lemmas.Option.{slice_get_read}
 use Rattle.terms.specs.Types.{Id}
-use Rattle.smpe_service.specs.Surviving.{SurvivesIn}
-use Rattle.smpe_service.proofs.Survivors.{survivors_next, survivors_none}
-use Rattle.smpe_service.proofs.surviving.survivors.Goals as goal
+use Rattle.judge.specs.Surviving.{SurvivesIn}
+use Rattle.judge.proofs.Survivors.{survivors_next, survivors_none}
+use Rattle.judge.proofs.surviving.survivors.Goals as goal
 
 pub loop-i-preserved : goal.loop-i-preserved
 loop-i-preserved c =
