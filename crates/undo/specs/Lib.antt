@@ -8,3 +8,4 @@ pub mod Elements
 pub mod Tests
 pub mod Pairs
 pub mod Needed
+pub mod Judged
