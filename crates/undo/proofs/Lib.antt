@@ -1,4 +1,5 @@
 pub mod Supplying
+pub mod Settings
 pub mod ListedBySteps
 pub mod Reached
 pub mod RulesOfSteps
@@ -8,6 +9,3 @@ pub mod Needing
 pub mod AllNeeds
 pub mod Candidates
 pub mod Testing
-pub mod LessEdits
-pub mod Reverted
-pub mod AfterRestore

@@ -16,12 +16,10 @@ mod nodes;
 mod numbered;
 mod numbers;
 mod pairs;
-mod restoring;
 mod scope;
 mod steps;
 mod tests;
 
 pub use judging::{Judged, judge_restore};
 pub use listing::restore_list;
-pub use restoring::restore;
 pub use scope::{RestoreScope, applied_ids};

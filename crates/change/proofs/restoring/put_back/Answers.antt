@@ -5,8 +5,8 @@ use Rattle.sorted.specs.declared.edits.Edit.TheVariants.{Put, Remove}
 use Rattle.terms.specs.Types.{Element}
 use Rattle.terms.specs.Lookups.{element_key}
 use Rattle.zones_maps.specs.Delta.{ZoneDelta}
-use Rattle.undo.proofs.Reverted.{key_found, puts_none, puts_one}
-use Rattle.undo.proofs.restoring.put_back.Goals as goal
+use Rattle.change.proofs.Reverted.{key_found, puts_none, puts_one}
+use Rattle.change.proofs.restoring.put_back.Goals as goal
 
 pub returns-then-are_same : goal.returns-then-are_same
 returns-then-are_same c =

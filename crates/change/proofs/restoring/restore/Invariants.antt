@@ -1,7 +1,7 @@
 use Rattle.std.proofs.Common.{◌≡◌, fold, take}
 use Rattle.terms.specs.Lookups.{is_in}
-use Rattle.undo.specs.Restoring.{all_changed, take_off, ArePutBack}
-use Rattle.undo.proofs.restoring.restore.Given as goal
+use Rattle.change.specs.Restoring.{all_changed, take_off, ArePutBack}
+use Rattle.change.proofs.restoring.restore.Given as goal
 
 -- the entries so far, less the kept SYSMODs
 abbrev pub invariant-loop-entry : goal.invariant-loop-entry

@@ -8,7 +8,8 @@ use Rattle.sorted.specs.declared.edits.Edit.TheVariants.{Put, Remove}
 use Rattle.sorted.specs.Edits.{edit_key, edit_put}
 use Rattle.terms.specs.declared.kinds.ElemType.{ElemType}
 use Rattle.terms.specs.Types.{Text, Id, Global, Entry, Element, Zone}
-use Rattle.terms.specs.Lookups.{has_content, changes_of, element_of, element_cmp, element_eq, element_key}
+use Rattle.terms.specs.Lookups.{has_content, change_key, changes_of, element_of, element_cmp, element_eq}
+use Rattle.terms.specs.Lookups.{element_key}
 use Rattle.terms.specs.Rising.{with_item}
 use Rattle.terms.specs.Deleted.{entry_less}
 use Rattle.terms.specs.Restore.{Restoring}
@@ -37,7 +38,7 @@ take_off is_gone delta e = if loses is_gone e then record delta {
 
 -- the elements that a SYSMOD changes, and those that some change
 abbrev pub changed_keys : Global → Id → List (ElemType × Text)
-changed_keys g x = map (λ h. (h.elem_type, h.name)) (changes_of g x)
+changed_keys g x = map change_key (changes_of g x)
 
 abbrev pub all_changed : Global → List Id → List (ElemType × Text)
 all_changed g xs = flat_map (changed_keys g) xs

@@ -29,7 +29,7 @@ use Rattle.terms.specs.Deleted.{entry_less, entries_less}
 use Rattle.zones_maps.specs.Delta.{ZoneDelta}
 use Rattle.zones.proofs.Filtered.{passing, find_filter}
 use Rattle.sorted.specs.Turned.{Turns, TurnsAt, AreTurned}
-use Rattle.undo.specs.Restoring.{loses, less_edit, take_off}
+use Rattle.change.specs.Restoring.{loses, less_edit, take_off}
 use Rattle.sorted.proofs.InTurn.{find_member}
 use Rattle.sorted.proofs.Turning.{turned_none, turned_next}
 

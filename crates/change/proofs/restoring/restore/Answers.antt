@@ -3,11 +3,11 @@ use Rattle.std.proofs.Common.{take_all}
 use Rattle.std.specs.Prelude.{fold}
 use Rattle.std.proofs.lemmas.List.{take_more}
 use Rattle.terms.specs.Lookups.{is_in, waives_applied}
-use Rattle.undo.specs.Restoring.{all_changed, take_off, ArePutBack}
-use Rattle.undo.proofs.AfterRestore.{elements_none, each_changes, restored}
-use Rattle.undo.proofs.LessEdits.{one_more}
-use Rattle.undo.proofs.Reverted.{put_back_none, put_back_next}
-use Rattle.undo.proofs.restoring.restore.Goals as goal
+use Rattle.change.specs.Restoring.{all_changed, take_off, ArePutBack}
+use Rattle.change.proofs.AfterRestore.{elements_none, each_changes, restored}
+use Rattle.change.proofs.LessEdits.{one_more}
+use Rattle.change.proofs.Reverted.{put_back_none, put_back_next}
+use Rattle.change.proofs.restoring.restore.Goals as goal
 
 pub take_off-requires : goal.take_off-requires
 take_off-requires c =

@@ -1,14 +1,13 @@
 //! What RESTORE makes of a target zone.
-ghost use Rattle.std.specs.Prelude.{◌≡◌, IsTrue, IfOk, OnOk};
+ghost use Rattle.std.specs.Prelude.{◌≡◌, ◌++◌, IsTrue, IfOk, OnOk};
 ghost use Rattle.std.specs.List.{list_any};
 ghost use Rattle.terms.specs.Types.{Zone as AZone};
 ghost use Rattle.terms.specs.Lookups.{is_in, waives_applied};
 ghost use Rattle.terms.specs.Restore.{Restoring, Restores};
 ghost use Rattle.zones_maps.specs.Delta.{IsChanged};
 ghost use Rattle.zones_maps.specs.Differing.{EachChanges};
-ghost use Rattle.undo.specs.Restoring.{IsRestoringOf, PutsBack, loses, take_off};
+ghost use Rattle.change.specs.Restoring.{IsRestoringOf, PutsBack, changed_keys, loses, take_off};
 
-use crate::element_changers::changed_keys;
 use fields::{Attest, Id, IdList, Name};
 use sorted::TryClone;
 use std::alloc::{AllocError, Global};
@@ -36,14 +35,30 @@ pub fn restore(
     }
     let mut changed = Vec::new(alloc);
     for id in kept.as_slice() {
-        let keys = changed_keys(alloc, global, *id)?;
-        changed.extend_from_slice(keys.as_slice())?;
+        push_keys(global, *id, &mut changed)?;
     }
     changed.sort_unstable();
     for key in changed.as_slice() {
         put_back(alloc, zone, accepted, *key, &mut delta)?;
     }
     Ok(delta)
+}
+
+// Adds the types and names of the elements that the SYSMOD changes.
+fn push_keys(
+    global: &GlobalZone,
+    id: Id,
+    keys: &mut Vec<(ElemType, Name)>,
+) -> Result<(), AllocError>
+    ensures { OnOk result (keys.new.items ≡ keys.old.items ++ changed_keys global.now id) }
+{
+    let Some(sysmod) = global.get(id) else {
+        return Ok(());
+    };
+    for change in sysmod.changes.as_slice() {
+        keys.push((change.elem_type, change.name))?;
+    }
+    Ok(())
 }
 
 // Whether the entry's SYSMOD is kept and applied, or a kept one supersedes it.

@@ -12,11 +12,11 @@ use Rattle.terms.proofs.SameLists.{rising_same}
 use Rattle.sorted.specs.Edits.{after_edits}
 use Rattle.zones_maps.specs.Delta.{ZoneDelta, IsChanged}
 use Rattle.zones.proofs.Entries.{entries_less_rise}
-use Rattle.undo.specs.Restoring.{IsRestoringOf, take_off, all_changed, ArePutBack}
+use Rattle.change.specs.Restoring.{IsRestoringOf, take_off, all_changed, ArePutBack}
 use Rattle.zones_maps.specs.Differing.{ChangesEntry, EachChanges}
-use Rattle.undo.proofs.LessEdits.{all_taken_off, entry_left, elements_stay}
+use Rattle.change.proofs.LessEdits.{all_taken_off, entry_left, elements_stay}
 use Rattle.sorted.specs.ElementKeys.{Key}
-use Rattle.undo.proofs.Reverted.{reverted, unchanged}
+use Rattle.change.proofs.Reverted.{reverted, unchanged}
 
 -- the entries' edits touch no element
 pub elements_none : (kept : List Id) (es : List Entry) (start between : ZoneDelta) → start.elements ≡ []
