@@ -27,7 +27,7 @@ impl Judged<'_> {
         &self,
         alloc: Global,
         kept: &Kept,
-        causers: &[Vec<usize>],
+        causers: &[Vec<u32>],
     ) -> Result<Decided, AllocError>
         requires parts { HasParts self.now }
         requires kept { AreKept self.now.system kept.now }
@@ -35,7 +35,7 @@ impl Judged<'_> {
         ensures { IfOk result (λ d. IsDecidedBy self.now kept.now d.kept d.failed.items) }
     {
         let ids = self.ids.as_slice();
-        let unserved = open_needs(alloc, &self.system, self.needs.as_slice(), kept.flags())?;
+        let unserved = open_needs(alloc, &self.system, self.needs.as_slice(), kept)?;
         let kept = kept_ids(alloc, ids, kept.flags())?;
         let found = Findings {
             tests: self.tests.as_slice(),

@@ -15,7 +15,7 @@ use terms::{NeedKind, Test};
 pub(crate) struct Findings<'a> {
     pub(crate) tests: &'a [Vec<Test>],
     pub(crate) unserved: &'a [Vec<(NeedKind, Id)>],
-    pub(crate) causers: &'a [Vec<usize>],
+    pub(crate) causers: &'a [Vec<u32>],
 }
 
 // Why a candidate with these failed.
@@ -24,7 +24,7 @@ fn failure_of(
     ids: &[Id],
     tests: &[Test],
     unserved: &[(NeedKind, Id)],
-    causers: &[usize],
+    causers: &[u32],
 ) -> Result<Failure, AllocError>
     requires { All (λ m. m < length ids.now) causers.now }
     ensures { IfOk result (λ f. IsFailureOf ids.now tests.now unserved.now causers.now (failure_view f)) }

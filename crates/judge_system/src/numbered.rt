@@ -1,24 +1,27 @@
 //! The numbered system of who is eligible and needs whom.
-ghost use Rattle.std.specs.Prelude.{◌≡◌, length, map, All, Contains, OnOk, IfOk};
+ghost use Rattle.std.specs.Prelude.{◌≡◌, ◌<◌, ◌^◌, length, map, All, Contains, OnOk, IfOk};
 ghost use Rattle.terms.specs.Lookups.{IsRising, is_nil};
 ghost use Rattle.solve.specs.System.{IsSystem};
 ghost use Rattle.judge_system.specs.Numbered.{AddsNeed, HasNeeds, HasSystem};
 
 use crate::serving::{own_place, places_of, served};
 use crate::stated::{RequisiteOf, need_at};
-use fields::{Attest, Id, IdList};
+use fields::{Id, IdList};
 use indexmap::IndexSet;
 use solve::{Need, System};
 use std::alloc::{AllocError, Global};
 use std::collections::BTreeSet;
 use terms::Test;
 
-/// The ids, numbered in their order.
+/// The ids, numbered in their order. There are no more than numbers of 32 bits.
 pub(crate) fn with_numbers(alloc: Global, ids: &IdList) -> Result<IndexSet<Id>, AllocError>
     ensures ids { IfOk result (λ numbered. numbered.keys ≡ ids.now) }
     ensures rising { IfOk result (λ numbered. IsRising numbered.keys) }
+    ensures few { IfOk result (λ numbered. length numbered.keys < 2 ^ 32) }
 {
-    ids.attest();
+    if ids.len() > u32::MAX as usize {
+        return Err(AllocError);
+    }
     let mut numbered = IndexSet::new(alloc);
     for id in ids.as_slice() {
         numbered.insert(*id)?;
@@ -41,10 +44,11 @@ pub(crate) fn all_eligible(alloc: Global, rows: &[Vec<Test>]) -> Result<Vec<bool
 fn number_need(
     alloc: Global,
     ids: &IndexSet<Id>,
-    served: &BTreeSet<(Id, usize)>,
+    served: &BTreeSet<(Id, u32)>,
     need: RequisiteOf,
     system: &mut System,
 ) -> Result<(), AllocError>
+    requires few { length ids.now.keys < 2 ^ 32 }
     requires rising { IsRising ids.now.keys }
     requires size { system.old.size ≡ length ids.now.keys }
     requires of { Contains ids.now.keys need.of }
@@ -60,10 +64,11 @@ fn number_need(
 fn with_needs(
     alloc: Global,
     ids: &IndexSet<Id>,
-    served: &BTreeSet<(Id, usize)>,
+    served: &BTreeSet<(Id, u32)>,
     stated: &[RequisiteOf],
     eligible: Vec<bool>,
 ) -> Result<System, AllocError>
+    requires few { length ids.now.keys < 2 ^ 32 }
     requires rising { IsRising ids.now.keys }
     requires within { All (λ w. Contains ids.now.keys w.of) stated.now }
     requires flags { length eligible.items ≡ length ids.now.keys }
@@ -71,7 +76,7 @@ fn with_needs(
     ensures needs { IfOk result (λ system. HasNeeds ids.now.keys served.now.keys eligible.items stated.now
         system) }
 {
-    let mut system = System::new(alloc, eligible);
+    let mut system = System::new(alloc, eligible)?;
     for i in 0..stated.len() {
         let need = need_at(stated, i);
         number_need(alloc, ids, served, need, &mut system)?;
@@ -88,6 +93,7 @@ pub(crate) fn numbered(
     stated: &[RequisiteOf],
     eligible: Vec<bool>,
 ) -> Result<System, AllocError>
+    requires few { length ids.now.keys < 2 ^ 32 }
     requires rising { IsRising ids.now.keys }
     requires by { All (λ p. Contains ids.now.keys p.0) superseded.now }
     requires within { All (λ w. Contains ids.now.keys w.of) stated.now }

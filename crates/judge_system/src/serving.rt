@@ -1,5 +1,5 @@
 //! Who serves a need: the id itself, and a candidate that supersedes it where that serves.
-ghost use Rattle.std.specs.Prelude.{◌≡◌, ◌<◌, ℕ, List, Some, length, map, filter, slice_get, All, AllPairs};
+ghost use Rattle.std.specs.Prelude.{◌≡◌, ◌<◌, ◌^◌, ℕ, List, Some, length, map, filter, slice_get, All, AllPairs};
 ghost use Rattle.std.specs.Prelude.{Contains, IsTrue, IsFalse, IsNone, IfSome, OnOk, IfOk};
 ghost use Rattle.terms.specs.Types.{Id as AnId};
 ghost use Rattle.terms.specs.Lookups.{IsRising, is_in};
@@ -13,28 +13,34 @@ use std::collections::BTreeSet;
 use terms::NeedKind;
 
 // Where the id stands among the numbered ones: its number.
-fn place_of(ids: &IndexSet<Id>, id: Id) -> Option<usize>
+fn place_of(ids: &IndexSet<Id>, id: Id) -> Option<u32>
+    requires { length ids.now.keys < 2 ^ 32 }
     ensures at { IfSome result (λ n. slice_get ids.now.keys n ≡ Some id) }
     ensures none { IsNone result → IsFalse (is_in ids.now.keys id) }
 {
-    ids.get_index_of(&id)
+    match ids.get_index_of(&id) {
+        Some(place) => Some(place as u32),
+        None => None,
+    }
 }
 
 /// The place of one that is numbered.
-pub(crate) fn own_place(ids: &IndexSet<Id>, id: Id) -> usize
-    requires { Contains ids.now.keys id }
+pub(crate) fn own_place(ids: &IndexSet<Id>, id: Id) -> u32
+    requires few { length ids.now.keys < 2 ^ 32 }
+    requires within { Contains ids.now.keys id }
     ensures { slice_get ids.now.keys result ≡ Some id }
 {
     place_of(ids, id).unwrap()
 }
 
 // The candidates with their places.
-fn own_pairs(alloc: Global, ids: &[Id]) -> Result<Vec<(Id, usize)>, AllocError>
+fn own_pairs(alloc: Global, ids: &[Id]) -> Result<Vec<(Id, u32)>, AllocError>
+    requires { length ids.now < 2 ^ 32 }
     ensures { IfOk result (λ pairs. AreOwn ids.now (length ids.now) pairs.items) }
 {
     let mut pairs = Vec::new(alloc);
     for i in 0..ids.len() {
-        pairs.push((ids[i], i))?;
+        pairs.push((ids[i], i as u32))?;
     }
     Ok(pairs)
 }
@@ -43,8 +49,9 @@ fn own_pairs(alloc: Global, ids: &[Id]) -> Result<Vec<(Id, usize)>, AllocError>
 fn add_superseded(
     ids: &IndexSet<Id>,
     superseded: &[(Id, Id)],
-    pairs: &mut Vec<(Id, usize)>,
+    pairs: &mut Vec<(Id, u32)>,
 ) -> Result<(), AllocError>
+    requires few { length ids.now.keys < 2 ^ 32 }
     requires rising { IsRising ids.now.keys }
     requires within { All (λ p. Contains ids.now.keys p.0) superseded.now }
     ensures { OnOk result (AddsSuperseded ids.now.keys superseded.now pairs.old.items pairs.new.items) }
@@ -60,14 +67,15 @@ pub(crate) fn served(
     alloc: Global,
     ids: &IndexSet<Id>,
     superseded: &[(Id, Id)],
-) -> Result<BTreeSet<(Id, usize)>, AllocError>
+) -> Result<BTreeSet<(Id, u32)>, AllocError>
+    requires few { length ids.now.keys < 2 ^ 32 }
     requires rising { IsRising ids.now.keys }
     requires within { All (λ p. Contains ids.now.keys p.0) superseded.now }
     ensures { IfOk result (λ set. AreServed ids.now.keys superseded.now set.keys) }
 {
     let mut pairs = own_pairs(alloc, ids.as_slice())?;
     add_superseded(ids, superseded, &mut pairs)?;
-    let set: BTreeSet<(Id, usize)> = pairs.into_iter().collect(alloc)?;
+    let set: BTreeSet<(Id, u32)> = pairs.into_iter().collect(alloc)?;
     Ok(set)
 }
 
@@ -82,14 +90,15 @@ pub fn takes_superseder(kind: NeedKind) -> bool
 fn places_in(
     alloc: Global,
     ids: &IndexSet<Id>,
-    served: &BTreeSet<(Id, usize)>,
+    served: &BTreeSet<(Id, u32)>,
     id: Id,
-) -> Result<Vec<usize>, AllocError>
+) -> Result<Vec<u32>, AllocError>
+    requires { length ids.now.keys < 2 ^ 32 }
     ensures { IfOk result (λ any. any.items ≡ map (λ p. p.1) (filter (is_between id (length ids.now.keys))
         served.now.keys)) }
 {
     let mut places = Vec::new(alloc);
-    for pair in served.range((id, 0)..(id, ids.len())) {
+    for pair in served.range((id, 0)..(id, ids.len() as u32)) {
         places.push(pair.1)?;
     }
     Ok(places)
@@ -99,10 +108,11 @@ fn places_in(
 fn served_places(
     alloc: Global,
     ids: &IndexSet<Id>,
-    served: &BTreeSet<(Id, usize)>,
+    served: &BTreeSet<(Id, u32)>,
     kind: NeedKind,
     id: Id,
-) -> Result<Vec<usize>, AllocError>
+) -> Result<Vec<u32>, AllocError>
+    requires few { length ids.now.keys < 2 ^ 32 }
     requires takes { IsTrue (takes_superseder kind) }
     ensures places { IfOk result (λ any. IsServedIn ids.now.keys kind id served.now.keys any.items) }
     ensures below { IfOk result (λ any. All (λ n. n < length ids.now.keys) any.items) }
@@ -114,8 +124,9 @@ fn served_places(
 }
 
 // Else the id alone does, if it is a candidate.
-fn own_places(alloc: Global, ids: &IndexSet<Id>, id: Id) -> Result<Vec<usize>, AllocError>
-    requires { IsRising ids.now.keys }
+fn own_places(alloc: Global, ids: &IndexSet<Id>, id: Id) -> Result<Vec<u32>, AllocError>
+    requires few { length ids.now.keys < 2 ^ 32 }
+    requires rising { IsRising ids.now.keys }
     ensures places { IfOk result (λ any. AreOwnPlaces ids.now.keys id any.items) }
     ensures below { IfOk result (λ any. All (λ n. n < length ids.now.keys) any.items) }
     ensures rising { IfOk result (λ any. AllPairs (λ a b. a < b) any.items) }
@@ -132,11 +143,12 @@ fn own_places(alloc: Global, ids: &IndexSet<Id>, id: Id) -> Result<Vec<usize>, A
 pub(crate) fn places_of(
     alloc: Global,
     ids: &IndexSet<Id>,
-    served: &BTreeSet<(Id, usize)>,
+    served: &BTreeSet<(Id, u32)>,
     kind: NeedKind,
     id: Id,
-) -> Result<Vec<usize>, AllocError>
-    requires { IsRising ids.now.keys }
+) -> Result<Vec<u32>, AllocError>
+    requires few { length ids.now.keys < 2 ^ 32 }
+    requires rising { IsRising ids.now.keys }
     ensures places { IfOk result (λ any. IsServedIn ids.now.keys kind id served.now.keys any.items) }
     ensures below { IfOk result (λ any. All (λ n. n < length ids.now.keys) any.items) }
     ensures rising { IfOk result (λ any. AllPairs (λ a b. a < b) any.items) }

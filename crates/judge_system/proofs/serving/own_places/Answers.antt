@@ -11,7 +11,7 @@ returns-in_default-clause-places c =
 pub returns-clause-places : goal.returns-clause-places
 returns-clause-places c =
     rw (c.in_ok-push.ensures.items, c.new-places.ensures.items)
-    (one_place c.args.ids.now.keys c.requires c.in-Some.place c.args.id
+    (one_place c.args.ids.now.keys c.requires.rising c.in-Some.place c.args.id
     c.in-Some.ensures.at)
 
 pub returns-clause-below : goal.returns-clause-below

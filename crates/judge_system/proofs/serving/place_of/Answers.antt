@@ -1,13 +1,10 @@
-use Rattle.std.proofs.Common.{◌≡◌, ℕ, Option, None, Some, sym}
-use Rattle.std.specs.Prelude.{IfSome, position, slice_get}
-use Rattle.std.specs.Str.{bytes_eq}
+use Rattle.std.proofs.Common.{◌∙◌, sym, ap, is_some}
 use Rattle.judge_system.proofs.OwnPlaces.{place_stands}
 use Rattle.judge_system.proofs.serving.place_of.Goals as goal
 
-pub returns-clause-at : goal.returns-clause-at
-returns-clause-at c = by c.get_index_of.result c.get_index_of.ensures.index
-  where
-    by : (r : Option ℕ) → r ≡ position (bytes_eq c.args.id) c.args.ids.now.keys
-        → IfSome r (λ n. slice_get c.args.ids.now.keys n ≡ Some c.args.id)
-    by None is = tt
-    by (Some n) is = place_stands c.args.ids.now.keys c.args.id n (sym is)
+pub returns-in-Some-clause-at : goal.returns-in-Some-clause-at
+returns-in-Some-clause-at c =
+    place_stands c.args.ids.now.keys c.args.id c.in-Some.place (sym c.get_index_of.ensures.index ∙ c.in-Some.is)
+
+pub returns-in-None-clause-none : goal.returns-in-None-clause-none
+returns-in-None-clause-none c none = sym c.get_index_of.ensures.found ∙ ap is_some c.in-None.is

@@ -26,12 +26,12 @@ returns c =
     let j = c.args.self.now in
     record {
       rising = subst IsRising c.kept.view_is c.kept.invariant;
-      members = rw (c.as_slice-ids.ensures.keys, c.flags-2.ensures) at c.in_ok-kept.ensures;
+      members = rw (c.as_slice-ids.ensures.keys, c.flags.ensures) at c.in_ok-kept.ensures;
       found = _;
       tests_are = c.as_slice-2.ensures.value;
       opened = subst (HaveOpen c.args.kept.now j.system.needs (map need_of j.needs.items) (length j.needs.items))
           (sym c.as_slice-3.ensures.value)
-          (rw (c.flags.ensures, c.as_slice.ensures.value) at c.in_ok-unserved.ensures.unserved);
+          (rw c.as_slice.ensures.value at c.in_ok-unserved.ensures.unserved);
       causers = c.requires.causers;
       failures = rw c.as_slice-ids.ensures.keys at c.in_ok-failed.ensures;
     }
