@@ -27,6 +27,8 @@ pub use entry::{TakesOut, entry_less};
 pub use left::{element_left, is_left, supplies_left};
 pub use orphaned::orphans;
 pub use scope::Scope;
+pub use sysmods::{Chain, VerChoice};
+pub use terms::ZoneKind;
 pub use zones_maps::{
     Applied, Element, Entry, PreparedZone, Zone, ZoneDelta, are_same, is_element, is_same_entry,
 };
