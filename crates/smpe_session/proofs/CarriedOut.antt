@@ -92,4 +92,5 @@ module _ (date : Text) (files : Files) (c : Command) (s : State) (at : Session) 
         let changed = changes is in
         let t = with_zone s name new in
         performs_failed g before after s date files c t answer (performs new changed is)
-        (ZoneChange name old delta) owns (makes new changed is) session e (ended t (makes new changed is) (planned.inventory new changed inventory))
+        (ZoneChange name old delta) owns (makes new changed is) session e
+        (ended t (makes new changed is) (planned.inventory new changed inventory))
