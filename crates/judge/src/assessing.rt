@@ -21,7 +21,7 @@ pub(crate) struct Assessed {
 }
 
 /// Tests the candidates of an APPLY or ACCEPT by the `++VER`s that count, for ACCEPT with the related target zone, and
-/// finds what they need, whom they supersede, and what BYPASS covers.
+/// finds what they need, which ids they supersede, and which requisites BYPASS covers.
 pub(crate) fn assess(
     alloc: Global,
     scope: &Scope<'_, '_>,

@@ -14,8 +14,8 @@ use std::alloc::{AllocError, Global};
 use sysmods::GlobalZone;
 use zones::{Candidates, Scope, Zone, choose};
 
-/// Judges the candidates of an APPLY or ACCEPT in the zone, for ACCEPT with the related target zone, less what BYPASS
-/// leaves out of account: whom a `Solver` keeps of the system is installed.
+/// Judges the candidates of an APPLY or ACCEPT in the zone, for ACCEPT with the related target zone, except for what
+/// BYPASS leaves out. The command installs the candidates that a `Solver` keeps of the system.
 pub fn install_system<'a>(
     alloc: Global,
     global: &'a GlobalZone,

@@ -21,8 +21,8 @@ pub struct Decided {
 }
 
 impl Judged<'_> {
-    /// Turns numbers back into ids: who is kept, and why each other candidate is not, with the causers of each number.
-    /// An error comes where memory runs out.
+    /// Turns numbers back into ids: the kept candidates, and why each other one is not kept. Given are the kept numbers
+    /// and the causers of each number.
     pub fn decided(
         &self,
         alloc: Global,

@@ -32,7 +32,8 @@ pub struct Judged<'a> {
 }
 
 impl<'a> Judged<'a> {
-    /// Numbers the candidates and what is said of them. An error comes where memory runs out.
+    /// Numbers the candidates, and what is said of them. It returns an error too if there are more of them than numbers
+    /// of 32 bits.
     pub fn new(
         alloc: Global,
         ids: &IdList,

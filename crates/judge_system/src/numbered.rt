@@ -13,13 +13,16 @@ use std::alloc::{AllocError, Global};
 use std::collections::BTreeSet;
 use terms::Test;
 
-/// The ids, numbered in their order. There are no more than numbers of 32 bits.
+/// As many candidates as there are numbers of 32 bits for their count.
+const MOST: usize = u32::MAX as usize;
+
+/// The ids, numbered in their order.
 pub(crate) fn with_numbers(alloc: Global, ids: &IdList) -> Result<IndexSet<Id>, AllocError>
     ensures ids { IfOk result (λ numbered. numbered.keys ≡ ids.now) }
     ensures rising { IfOk result (λ numbered. IsRising numbered.keys) }
     ensures few { IfOk result (λ numbered. length numbered.keys < 2 ^ 32) }
 {
-    if ids.len() > u32::MAX as usize {
+    if ids.len() > MOST {
         return Err(AllocError);
     }
     let mut numbered = IndexSet::new(alloc);

@@ -24,4 +24,4 @@ returns-clause-rising c =
     subst IsRising (c.as_slice-id-items.ensures.items ∙ sym (returns-clause-ids c)) c.as_slice-id-items.ensures.rising
 
 pub returns-clause-few : goal.returns-clause-few
-returns-clause-few c = omega (arith, ap length (returns-clause-ids c), c.len.ensures, c.if-len.false)
+returns-clause-few c = omega (arith, ap length (returns-clause-ids c), c.len.ensures, c.if-len-gt-MOST.false)
