@@ -4,3 +4,4 @@ pub mod Deciding
 pub mod Decisions
 pub mod InstallLines
 pub mod RestoredStatuses
+pub mod Listed
