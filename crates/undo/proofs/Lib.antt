@@ -7,5 +7,5 @@ pub mod PairOrder
 pub mod Changed
 pub mod Needing
 pub mod AllNeeds
-pub mod Candidates
+pub mod RestoreJudged
 pub mod Testing

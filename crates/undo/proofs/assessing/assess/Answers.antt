@@ -1,7 +1,7 @@
 use Rattle.std.proofs.Common.{map, subst}
 use Rattle.undo.specs.Scopes.{restoring}
 use Rattle.undo.specs.Judged.{IsRestoreAssessed}
-use Rattle.undo.proofs.Candidates.{are_judged}
+use Rattle.undo.proofs.RestoreJudged.{are_judged}
 use Rattle.undo.proofs.assessing.assess.Goals as goal
 
 pub returns : goal.returns

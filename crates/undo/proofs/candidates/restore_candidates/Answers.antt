@@ -1,6 +1,6 @@
 use Rattle.std.proofs.Common.{subst}
 use Rattle.terms.specs.Lookups.{IsRising}
-use Rattle.undo.proofs.Candidates.{applied_are_cands}
+use Rattle.undo.proofs.RestoreJudged.{applied_are_cands}
 use Rattle.undo.proofs.candidates.restore_candidates.Goals as goal
 
 pub returns : goal.returns
