@@ -1,4 +1,3 @@
-use Rattle.std.proofs.Common.{◌≡◌}
 use Rattle.terms.specs.Lookups.{element_cmp, element_key}
 use Rattle.terms.proofs.ElementOrder.{cmp_keys}
 use Rattle.sorted.proofs.Editing.{edited_agree}
