@@ -1,5 +1,5 @@
 //! The date of a job, as the command line has it.
-ghost use Rattle.std.specs.Prelude.{◌≡◌, ◌↔◌, IsSome, IfSome, IsTrue, ◌<◌, ◌≤◌, length, pos};
+ghost use Rattle.std.specs.Prelude.{◌≡◌, ◌↔◌, IsSome, IfSome, IsTrue, ◌≤◌, ℕ, length, pos};
 ghost use Rattle.jiff_core.specs.Date.{IsYmd, ordinal};
 ghost use Rattle.smpe_invocation.specs.Dates.{AreDigits, HasDateDigits, HasDateForm, IsCalendarDay, day_of, dotted};
 ghost use Rattle.smpe_invocation.specs.Dates.{month_of, year_of};
@@ -43,6 +43,7 @@ fn calendar_day(text: &str) -> Option<Date>
 {
     text.parse().ok()
 }
+
 fn has_date_form(text: &[u8]) -> bool
     ensures { IsTrue result ↔ HasDateForm text.now }
 {
@@ -61,4 +62,3 @@ fn are_digits(text: &[u8]) -> bool
 {
     text.iter().all(|b| b.is_ascii_digit())
 }
-
