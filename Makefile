@@ -15,7 +15,7 @@ completions = $(root)/share/bash-completion/completions
 man = $(root)/share/man
 doc = $(root)/share/doc/smpe
 # Those of tools/NAME are installed as smpe-NAME.
-tools = cards query job failures
+tools = cards query job failures shadow
 commands = smpe smpe-intake $(tools:%=smpe-%)
 
 .PHONY: all check install uninstall
