@@ -141,8 +141,8 @@ LEFT JOIN standing AS t ON t.zone = target AND t.id = keys.id
 LEFT JOIN standing AS d ON d.zone = related AND d.id = keys.id
 WHERE replace(coalesce(t.stands, ''), 'APPLIED', 'ACCEPTED') <> coalesce(d.stands, '');
 
--- What is applied in a target zone and neither accepted nor superseded in its distribution zone: since when, and how many
--- open holds and unmet needs it has in the distribution zone.
+-- What is applied in a target zone and neither accepted nor superseded in its distribution zone: since when, and how
+-- many open holds and unmet needs it has in the distribution zone.
 CREATE TEMP VIEW unaccepted AS
 SELECT zone.name AS zone, related, entry.id, sysmod.kind, entry.date, n.holds, n.unmet
 FROM zone JOIN entry ON entry.zone = zone.name AND entry.date IS NOT NULL
