@@ -18,4 +18,5 @@ mod tables;
 
 pub use command::{Command, Install};
 pub use error::CntlError;
+pub use fields::{Bypass, RestoreList, Selection};
 pub use file::read_cntl;

@@ -1,15 +1,19 @@
 //! The candidates.
-ghost use Rattle.std.specs.Prelude.{◌≡◌, filter, All, IsTrue, IfOk};
-ghost use Rattle.terms.specs.Candidates.{AreCandidates, is_installable};
+ghost use Rattle.std.specs.Prelude.{◌≡◌, ◌↔◌, filter, map, All, Contains, IsTrue, IfOk, Some};
+ghost use Rattle.terms.specs.declared.not_chosen.NotChosen.{NotChosen as Reason};
+ghost use Rattle.terms.specs.Types.{Id as AnId};
+ghost use Rattle.terms.specs.Lookups.{IsRising};
+ghost use Rattle.terms.specs.Candidates.{AreCandidates, is_installable, not_chosen};
 ghost use Rattle.select.specs.Scopes.{is_installable_in, is_open_in};
 
 use crate::growing::asked;
+use crate::left_out::not_chosen;
 use crate::scope::Selecting;
 use crate::start::start;
 use fields::{Attest, Id, IdList, Selection};
 use std::alloc::{AllocError, Global};
 use sysmods::GlobalZone;
-use zones::Zone;
+use zones::{Candidates, Zone};
 
 fn open_among(alloc: Global, scope: &Selecting, ids: &[Id]) -> Result<Vec<Id>, AllocError>
     ensures { IfOk result (λ found. found.items ≡ filter (is_open_in scope.now) ids.now) }
@@ -35,20 +39,27 @@ fn start_and_growing(alloc: Global, scope: &Selecting) -> Result<IdList, AllocEr
     Ok(candidates)
 }
 
-/// The candidates, rising. The error comes where memory runs out.
+/// The candidates, and the ids of SELECT and GROUP that are neither excluded nor open, each with the reason.
 pub fn candidates(
     alloc: Global,
     global: &GlobalZone,
     zone: &Zone,
     selection: &Selection,
-) -> Result<IdList, AllocError>
-    ensures members { IfOk result (λ ids. AreCandidates global.now zone.now selection.now ids) }
-    ensures installable { IfOk result (λ ids. All (λ x. IsTrue (is_installable global.now zone.now x)) ids) }
+) -> Result<Candidates, AllocError>
+    ensures members { IfOk result (λ c. AreCandidates global.now zone.now selection.now c.ids) }
+    ensures installable { IfOk result (λ c. All (λ x. IsTrue (is_installable global.now zone.now x)) c.ids) }
+    ensures rising { IfOk result (λ c. IsRising (map (λ f. f.0) c.left_out.items)) }
+    ensures left_out { IfOk result (λ c. (x : AnId) (why : Reason)
+        → Contains {X = AnId × Reason} c.left_out.items (x, why)
+        ↔ (not_chosen global.now zone.now selection.now x ≡ Some why)) }
 {
     let scope = Selecting {
         global,
         zone,
         selection,
     };
-    start_and_growing(alloc, &scope)
+    Ok(Candidates {
+        ids: start_and_growing(alloc, &scope)?,
+        left_out: not_chosen(alloc, &scope)?,
+    })
 }

@@ -5,17 +5,14 @@ ghost use Rattle.std.specs.Option.{option_to_list};
 ghost use Rattle.terms.specs.declared.not_chosen.NotChosen.{NotChosen as Reason};
 ghost use Rattle.terms.specs.Types.{Id as AnId};
 ghost use Rattle.terms.specs.Lookups.{IsRising, is_in};
-ghost use Rattle.terms.specs.Candidates.{not_chosen};
 ghost use Rattle.select.specs.Scopes.{is_open_in, named_ids};
 ghost use Rattle.select.specs.Reasons.{reason_in, with_reason};
 
 use crate::scope::Selecting;
 use crate::start::{is_named, named_ids};
-use fields::{Id, IdList, Selection};
+use fields::{Id, IdList};
 use std::alloc::{AllocError, Global};
-use sysmods::GlobalZone;
 use terms::NotChosen;
-use zones::Zone;
 
 // Whether it is not named, or excluded, or open.
 fn needs_no_reason(scope: &Selecting, id: Id) -> bool
@@ -71,24 +68,15 @@ fn with_reasons(
     Ok(found)
 }
 
-/// The ids of SELECT and GROUP that are neither excluded nor open, rising, each with the reason. The error comes where
-/// memory runs out.
-pub fn not_chosen(
+/// The ids of SELECT and GROUP that are neither excluded nor open, rising, each with the reason.
+pub(crate) fn not_chosen(
     alloc: Global,
-    global: &GlobalZone,
-    zone: &Zone,
-    selection: &Selection,
+    scope: &Selecting,
 ) -> Result<Vec<(Id, NotChosen)>, AllocError>
     ensures rising { IfOk result (λ found. IsRising (map (λ f. f.0) found.items)) }
     ensures members { IfOk result (λ found. (x : AnId) (why : Reason)
-        → Contains {X = AnId × Reason} found.items (x, why)
-        ↔ (not_chosen global.now zone.now selection.now x ≡ Some why)) }
+        → Contains {X = AnId × Reason} found.items (x, why) ↔ (reason_in scope.now x ≡ Some why)) }
 {
-    let named = IdList::from_vec(named_ids(alloc, selection)?);
-    let scope = Selecting {
-        global,
-        zone,
-        selection,
-    };
-    with_reasons(alloc, &scope, named.as_slice())
+    let named = IdList::from_vec(named_ids(alloc, scope.selection)?);
+    with_reasons(alloc, scope, named.as_slice())
 }

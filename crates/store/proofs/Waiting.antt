@@ -13,7 +13,7 @@ use Rattle.terms.specs.Lookups.{is_received, sysmod_of}
 use Rattle.terms.proofs.Searches.{find_passes}
 use Rattle.terms.proofs.TextOrder.{same_from}
 use Rattle.sysmods.specs.declared.edit.GlobalEdit.{GlobalEdit}
-use Rattle.sysmods.specs.Edits.{stated_with, Fits, after_edit, EachFits, after_edits}
+use Rattle.sysmods.specs.Edits.{AreSources, stated_with, Fits, after_edit, EachFits, after_edits}
 use Rattle.store_rows.specs.Calls.{Call, RunsInside}
 use Rattle.store_rows.specs.Inside.{StaysInside, Leads}
 use Rattle.store_rows.specs.Rows.{HasContents}
@@ -227,13 +227,13 @@ module _ {S : Type 0} (g : Ghosts S) where
       (λ global. with_sysmod global (sourced s sources)) a b rows r
       → Waits g ss
       (option_map_or (λ t. with_waiting ([], ss) (sourced t sources)) (sysmod_of stated x) ([], ss))
-      (λ global. is_received global x ≡ false) (stated_with stated x sources) a b rows r
+      (λ global. (is_received global x ≡ false) × AreSources sources) (stated_with stated x sources) a b rows r
   waits_found {ss = ss} stated x sources s there waits =
       let passes = find_passes (λ (t : Sysmod). bytes_eq t.id x) stated.sysmods s there in
       let named : x ≡ s.id = sym (same_from s.id x passes) in
       waits_as
       (ap (λ (found : Option Sysmod). option_map_or (λ t. with_waiting ([], ss) (sourced t sources)) found ([], ss))
-      (sym there)) (λ global none. subst (λ y. is_received global y ≡ false) named none)
+      (sym there)) (λ global fits. subst (λ y. is_received global y ≡ false) named fits.0)
       (λ global. ap (λ (found : Option Sysmod). option_map_or (λ (t : Sysmod). with_sysmod global (sourced t sources))
       found global) (sym there)) waits
 

@@ -37,7 +37,8 @@ use sysmods_values::{Action, ElemChange};
 use terms::ElemType;
 use text80::{Line, TextError, Update, bytes_of};
 
-const SELECT: &str = "SELECT id, type, name, upd, distlib, syslib, text FROM elem";
+const SELECT: &str =
+    "SELECT id, type, name, upd, distlib, syslib, text FROM elem ORDER BY id, type, name";
 
 pub(crate) const INSERT: &str =
     "INSERT INTO elem (id, type, name, upd, distlib, syslib, text) VALUES (?1, ?2, ?3, ?4, ?5, ?6, ?7)";

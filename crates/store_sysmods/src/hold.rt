@@ -36,7 +36,8 @@ use store_schema::{Query, flag_in, hold_kind_in, id_in, optional_in, text_or_nul
 use sysmods_values::Hold;
 use terms::HoldKind;
 
-const SELECT: &str = "SELECT id, kind, reason, fmid, class, date, comment, internal FROM hold";
+const SELECT: &str =
+    "SELECT id, kind, reason, fmid, class, date, comment, internal FROM hold ORDER BY id, kind, reason";
 
 const PUT: &str = "INSERT INTO hold (id, kind, reason, fmid, class, date, comment, internal) \
     VALUES (?1, ?2, ?3, ?4, ?5, ?6, ?7, ?8) \

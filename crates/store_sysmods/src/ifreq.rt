@@ -23,7 +23,7 @@ use store_rows::{FromRow, ReadError, cells_of, remove};
 use store_schema::{Query, id_in, joined_ids, srel_in};
 use sysmods_values::{IfReq, Ver};
 
-const SELECT: &str = "SELECT id, srel, n, fmid, req FROM ifreq";
+const SELECT: &str = "SELECT id, srel, n, fmid, req FROM ifreq ORDER BY id, srel, n";
 
 pub(crate) const INSERT: &str =
     "INSERT INTO ifreq (id, srel, n, fmid, req) VALUES (?1, ?2, ?3, ?4, ?5)";

@@ -23,7 +23,7 @@ use store_rows::{FromRow, ReadError, cells_of, remove};
 use store_schema::{Query, id_in, srel_in, text_or_null};
 use sysmods_values::Ver;
 
-const SELECT: &str = "SELECT id, srel, n, fmid, pre, req, sup FROM morever";
+const SELECT: &str = "SELECT id, srel, n, fmid, pre, req, sup FROM morever ORDER BY id, srel, n";
 
 pub(crate) const INSERT: &str =
     "INSERT INTO morever (id, srel, n, fmid, pre, req, sup) VALUES (?1, ?2, ?3, ?4, ?5, ?6, ?7)";

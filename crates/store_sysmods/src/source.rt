@@ -22,7 +22,7 @@ use std::alloc::{AllocError, Global};
 use store_rows::{FromRow, ReadError, cells_of, insert, remove, text};
 use store_schema::{Query, id_in};
 
-const SELECT: &str = "SELECT id, name FROM source";
+const SELECT: &str = "SELECT id, name FROM source ORDER BY id, name";
 
 pub(crate) const INSERT: &str = "INSERT INTO source (id, name) VALUES (?1, ?2)";
 

@@ -22,7 +22,7 @@ use store_rows::{FromRow, ReadError, cells_of, remove};
 use store_schema::{Query, id_in, joined_ids, srel_in, text_or_null};
 use sysmods_values::Ver;
 
-const SELECT: &str = "SELECT id, srel, fmid, pre, req, sup, npre, del FROM ver";
+const SELECT: &str = "SELECT id, srel, fmid, pre, req, sup, npre, del FROM ver ORDER BY id, srel";
 
 pub(crate) const INSERT: &str =
     "INSERT INTO ver (id, srel, fmid, pre, req, sup, npre, del) VALUES (?1, ?2, ?3, ?4, ?5, ?6, ?7, ?8)";

@@ -37,7 +37,8 @@ use terms::ZoneKind;
 
 const SELECT: &str = "SELECT name, kind, srel, related FROM zone ORDER BY name";
 
-const SELECT_NAMED: &str = "SELECT name, kind, srel, related FROM zone WHERE name = ?1";
+const SELECT_NAMED: &str =
+    "SELECT name, kind, srel, related FROM zone WHERE name = ?1 ORDER BY name";
 
 const INSERT: &str = "INSERT INTO zone (name, kind, srel, related) VALUES (?1, ?2, ?3, ?4)";
 

@@ -7,19 +7,19 @@ ghost use Rattle.terms.specs.declared.kinds.HoldKind.TheVariants.{System};
 ghost use Rattle.terms.specs.Types.{Id as AnId};
 ghost use Rattle.terms.specs.Lookups.{sysmod_of, is_received, is_function, holds_of};
 ghost use Rattle.terms.specs.Global.{IsGlobal, hold_of, is_replacing, hold as with_hold, release as released};
-ghost use Rattle.terms.specs.Global.{assign as assigned, without_sysmod};
+ghost use Rattle.terms.specs.Global.{Receives, assign as assigned, without_sysmod};
 ghost use Rattle.terms.specs.Types.{a_global};
 ghost use Rattle.sysmods.specs.Namers.{namers_for, function_namers};
-ghost use Rattle.sysmods.specs.Faults.{IsReceived, a_release, release_fault};
+ghost use Rattle.sysmods.specs.Faults.{a_release, release_fault};
+ghost use Rattle.sysmods.specs.Refused.{IsRefused};
 ghost use Rattle.sysmods.specs.Parts.{IsMadeOf};
 
-use crate::faults::ReceiveFault;
 use crate::holds::{Holds, Placed, ReleaseError};
 use crate::iter::Iter;
 use crate::parts::{are_owned, received_from};
-use crate::receive::take_in;
+use crate::receive::{receivable, take_in};
 use crate::received::Received;
-use crate::refused::refusal;
+use crate::refused::Refused;
 use fields::{Attest, Id, Reason, Source, Srel};
 use std::alloc::{AllocError, Global};
 use std::collections::btree_map::Values;
@@ -182,24 +182,17 @@ impl GlobalZone {
         self.holds.of(id, kind)
     }
 
-    /// RECEIVE of a SYSMOD: it comes in, and its holds among the others, unless a fault refuses it. It answers the
-    /// first fault that does, and then nothing changes. The error comes where memory runs out, and changes nothing.
-    pub fn receive(
-        &mut self,
-        alloc: Global,
-        sysmod: Sysmod,
-    ) -> Result<Option<ReceiveFault>, AllocError>
-        ensures ok { IfOk result (λ refused. IsReceived self.old sysmod self.new refused) }
+    /// RECEIVE of a SYSMOD: it comes in, and its holds among the others, unless a fault refuses it. The error is the
+    /// first fault, or that memory ran out, and then nothing changes.
+    pub fn receive(&mut self, alloc: Global, sysmod: Sysmod) -> Result<(), Refused>
+        ensures ok { OnOk result (Receives self.old sysmod (Ok self.new)) }
+        ensures refused { IfErr result (IsRefused self.old sysmod) }
         ensures err { OnErr result (self.new ≡ self.old) }
     {
-        match refusal(alloc, &self.sysmods, &sysmod)? {
-            Some(fault) => Ok(Some(fault)),
-            None => {
-                sysmod.attest();
-                take_in(&mut self.sysmods, &mut self.holds, alloc, sysmod)?;
-                Ok(None)
-            }
-        }
+        receivable(alloc, &self.sysmods, &sysmod)?;
+        sysmod.attest();
+        take_in(&mut self.sysmods, &mut self.holds, alloc, sysmod)?;
+        Ok(())
     }
 
     /// Puts a hold in place of the one of its key, whose mark as internal stays. The error comes where memory runs out,

@@ -9,7 +9,6 @@
 
 mod chain;
 mod edit;
-mod faults;
 mod global_zone;
 mod holds;
 mod index;
@@ -30,11 +29,11 @@ mod ways;
 
 pub use chain::Chain;
 pub use edit::GlobalEdit;
-pub use faults::ReceiveFault;
 pub use fields::{Class, Id, Name, Reason, Source, Srel, ZoneName};
 pub use global_zone::{GlobalZone, RejectError};
 pub use holds::{Placed, ReleaseError};
-pub use overs::Overs;
+pub use overs::{KnownOvers, Overs};
+pub use refused::Refused;
 pub use sysmods_values::{ElemChange, Hold, IfReq, Sysmod, Ver};
 pub use terms::Kind;
 pub use ver_choice::{Pick, VerChoice, has_ver, numbered_ver};

@@ -1,9 +1,8 @@
 //! Who changes which element.
 ghost use Rattle.std.specs.Prelude.{◌≡◌, IfOk};
 ghost use Rattle.sorted.specs.ElementKeys.{key_cmp};
-ghost use Rattle.undo.specs.Elements.{AreChangers, sharers};
+ghost use Rattle.undo.specs.Elements.{AreChangers, changed_keys, sharers};
 ghost use Rattle.undo.specs.Needed.{HaveElem};
-ghost use Rattle.undo.specs.Restoring.{changed_keys};
 ghost use Rattle.undo.specs.Scopes.{restoring_of};
 
 use crate::scope::{RestoreScope, changes_of, unaccepted};
@@ -17,8 +16,8 @@ use terms::ElemType;
 /// For each element some SYSMODs that change it.
 type Changers = Lists<(ElemType, Name), Id>;
 
-/// The types and names of the elements that the SYSMOD changes.
-pub(crate) fn changed_keys(
+// The types and names of the elements that the SYSMOD changes.
+fn changed_keys(
     alloc: Global,
     global: &GlobalZone,
     id: Id,

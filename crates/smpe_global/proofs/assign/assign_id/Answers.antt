@@ -19,7 +19,7 @@ returns c =
     let is = c.in_ok-received.ensures.ok in
     let o = sysmod_of c.assign.new.self x in
     let at : sysmod_of (assign g source x) x ≡ o = ap (λ n. sysmod_of n x) (sym is) in
-    let written = assigned_written source g x c.attest.ensures.sysmods in
+    let written = assigned_written source g x c.attest.ensures in
     let status = c.status_of.result in
     record {
       own = source_edits o;
