@@ -24,12 +24,11 @@ use Rattle.change.specs.declared.deleting.Deleting.{Deleting}
 use Rattle.change.specs.declared.plan.Plan.{Plan}
 use Rattle.change.specs.Deleting.{AreDeletions, choice_of, left, at_stake}
 use Rattle.change.specs.Pairs.{others_of}
-use Rattle.change.specs.Plans.{installation, IsFresh, IsPlan}
+use Rattle.change.specs.Plans.{installation, IsPlan}
 use Rattle.change.specs.Entries.{is_open, bare_entry, old_entry, if_held, entry_after, IsAppliedEntry, IsOtherEntry}
 use Rattle.change.specs.Entries.{IsMadeEntry, HasPutEntries}
 use Rattle.change.proofs.ChosenVers.{looked_up, never_itself}
-use Rattle.change.proofs.Installable.{no_entry}
-use Rattle.change.proofs.Leaving.{left_none, old_held, delby_is, entry_stays, delby_stays}
+use Rattle.change.proofs.Leaving.{old_held, delby_is, entry_stays, delby_stays}
 use Rattle.change.proofs.Made.{old_id, old_waives}
 
 none_rise : IsRising []
@@ -101,7 +100,7 @@ module _ (e : Entry) (waives : IsTrue (waives_applied e)) where
 
 module _ (d : Deleting) (bypassed : List (Id × Id)) (date : Text) (is_global : IsGlobal d.vers.now.global.now)
     (is_zone : IsZone d.zone.now) (lists : All (λ e. IsRising e.supby × IsRising e.waived) d.zone.now.entries)
-    (dels : AreDeletions d) (fresh : All (IsFresh d.zone.now) d.kept.now) where
+    (dels : AreDeletions d) where
   abbrev choice : Choice
   choice = choice_of d
 
@@ -113,11 +112,6 @@ module _ (d : Deleting) (bypassed : List (Id × Id)) (date : Text) (is_global : 
 
   pub cleared_is : cleared i ≡ left d
   cleared_is = ap (λ ds. zone_less d.vers.now.global.now choice ds zone) (sym dels)
-
-  -- what takes effect has no entry in what is left
-  none_left : (x : Id) → TakesEffect i x → entry_of (left d) x ≡ None
-  none_left x t = left_none d.vers.now.global.now choice d.dels.now zone is_zone x
-      (no_entry zone x (subst (IsFresh zone) t.kept.2 (fresh t.kept.0 x t.kept.1)) is_zone)
 
   itself : (x : Id) → ¬ Supersedes choice x x
   itself = never_itself d.vers.now.global.now d.vers.now.srel choice (looked_up d.vers.now) is_global.no_loop
@@ -273,14 +267,14 @@ module _ (d : Deleting) (bypassed : List (Id × Id)) (date : Text) (is_global : 
         ↔ (Contains (supby_of (left d) x) y ⊎ (TakesEffect i y × Supersedes choice y x))
     supby_left x y =
         elim (takes_or_not x) [
-          | inl t ↦ (
-            λ h. absurd (none_in y (subst (λ ys. Contains ys y)
-                (supby_reads x ∙ ap (λ v. v.supby) (effect x t).rest) h)),
-            λ h. elim h [
-              | inl old ↦ absurd (none_in y (subst (λ ys. Contains ys y) (ap supby_in (none_left x t)) old))
-              | inr by ↦ absurd (not_superseded x y t by.0 by.1)
-            ],
-          )
+          | inl t ↦
+              let reads = supby_reads x ∙ ap (λ v. v.supby) (effect x t).rest ∙ left_supby x in (
+                λ h. inl (subst (λ ys. Contains ys y) reads h),
+                λ h. elim h [
+                  | inl old ↦ subst (λ ys. Contains ys y) (sym reads) old
+                  | inr by ↦ absurd (not_superseded x y t by.0 by.1)
+                ],
+              )
           | inr out ↦
               let olds : List Id = (old_entry (left d) x).supby in
               let more : List Id = others_of p.superseders x in (

@@ -14,7 +14,7 @@ use Rattle.sysmods.specs.Choices.{number_in}
 use Rattle.change.specs.declared.deleting.Deleting.{Deleting}
 use Rattle.change.specs.declared.plan.Plan.{Plan}
 use Rattle.change.specs.Deleting.{AreDeletions, choice_of}
-use Rattle.change.specs.Plans.{installation, IsFresh, IsPlan}
+use Rattle.change.specs.Plans.{installation, IsPlan}
 use Rattle.change.specs.Entries.{entry_after, HasPutEntries}
 use Rattle.zones_maps.specs.Differing.{ElementEdit, HasEditedElements, element_after}
 use Rattle.change.specs.Elements.{AreElementsAfter}
@@ -25,7 +25,7 @@ use Rattle.change.proofs.Removed.{removed_at}
 
 module _ (d : Deleting) (bypassed : List (Id × Id)) (date : Text) (is_global : IsGlobal d.vers.now.global.now)
     (is_zone : IsZone d.zone.now) (lists : All (λ e. IsRising e.supby × IsRising e.waived) d.zone.now.entries)
-    (dels : AreDeletions d) (fresh : All (IsFresh d.zone.now) d.kept.now) where
+    (dels : AreDeletions d) where
   abbrev i : Installation
   i = installation d.vers.now.global.now (choice_of d) (number_in d.vers.now) d.zone.now d.kept.now bypassed date
 
@@ -45,7 +45,7 @@ module _ (d : Deleting) (bypassed : List (Id × Id)) (date : Text) (is_global : 
       λ type name. ap (λ v. element_after v zone (type, name)) cut
       ∙ removed_at d is_zone type name none empty
       ∙ ap (λ z. element_of z type name)
-      (sym (entries.cleared_is d bypassed date is_global is_zone lists dels fresh)) in
+      (sym (entries.cleared_is d bypassed date is_global is_zone lists dels)) in
       let at_key : (type : ElemType) (name : Text)
       → element_of new type name ≡ element_after (with_elements less es) zone (type, name) =
       λ type name. changed.elements type name ∙ done.leaves (type, name)
@@ -53,21 +53,21 @@ module _ (d : Deleting) (bypassed : List (Id × Id)) (date : Text) (is_global : 
       record {
         rest = changed.rest;
         is_zone = changed.is_zone;
-        applied = entries.applied d bypassed date is_global is_zone lists dels fresh p plan start between
+        applied = entries.applied d bypassed date is_global is_zone lists dels p plan start between
             put new at_entry;
-        not_applied = entries.not_applied d bypassed date is_global is_zone lists dels fresh p plan start between
+        not_applied = entries.not_applied d bypassed date is_global is_zone lists dels p plan start between
             put new at_entry;
-        supby_rising = entries.supby_rising d bypassed date is_global is_zone lists dels fresh p plan start between
+        supby_rising = entries.supby_rising d bypassed date is_global is_zone lists dels p plan start between
             put new at_entry;
-        supby = entries.supby d bypassed date is_global is_zone lists dels fresh p plan start between
+        supby = entries.supby d bypassed date is_global is_zone lists dels p plan start between
             put new at_entry;
-        delby = entries.delby d bypassed date is_global is_zone lists dels fresh p plan start between
+        delby = entries.delby d bypassed date is_global is_zone lists dels p plan start between
             put new at_entry;
-        waived_rising = entries.waived_rising d bypassed date is_global is_zone lists dels fresh p plan start between
+        waived_rising = entries.waived_rising d bypassed date is_global is_zone lists dels p plan start between
             put new at_entry;
-        waived = entries.waived d bypassed date is_global is_zone lists dels fresh p plan start between
+        waived = entries.waived d bypassed date is_global is_zone lists dels p plan start between
             put new at_entry;
-        not_waived = entries.not_waived d bypassed date is_global is_zone lists dels fresh p plan start between
+        not_waived = entries.not_waived d bypassed date is_global is_zone lists dels p plan start between
             put new at_entry;
         changed = element_changed i zone es after less at_element new at_key;
         unchanged = element_unchanged i zone es after less at_element new at_key;

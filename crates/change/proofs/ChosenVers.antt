@@ -16,7 +16,7 @@ use Rattle.terms.specs.Types.{Text, Id, IfReq, Ver, Sysmod, Global, Zone}
 use Rattle.terms.specs.Lookups.{at_most_one, sysmod_of, is_received, is_function}
 use Rattle.terms.specs.Choice.{Choice, vers_of, place, counting, fmid_of, sup_of, del_of}
 use Rattle.terms.specs.Choice.{ifs_of}
-use Rattle.sysmods.specs.declared.choice.VerChoice.{VerChoice}
+use Rattle.sysmods.specs.declared.ver_choice.VerChoice.{VerChoice}
 use Rattle.sysmods.specs.Choices.{number_in, choice}
 use Rattle.terms.specs.Over.{IsOver, Reaches, Supersedes, names}
 use Rattle.terms.specs.Global.{IsGlobal, named, names_for, HasLoop, is_service, named_functions, fits_roles, RolesFit}

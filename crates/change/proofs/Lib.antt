@@ -6,7 +6,6 @@ pub mod ChosenVers
 pub mod EffectiveIds
 pub mod FmidChains
 pub mod Gathered
-pub mod Installable
 pub mod KeptTogether
 pub mod LessLookups
 pub mod Made
@@ -21,4 +20,7 @@ pub mod FoldEnd
 pub mod Grouped
 pub mod AllElements
 pub mod Removed
+pub mod LessEdits
+pub mod Reverted
+pub mod AfterRestore
 pub mod Yielded

@@ -6,10 +6,11 @@ use Rattle.std.specs.Str.{bytes_eq}
 use Rattle.terms.proofs.ListMembers.{in_filter, filter_in}
 use Rattle.terms.proofs.Searches.{find_gives, All_find}
 use Rattle.terms.proofs.TextOrder.{same_from}
-use Rattle.terms.specs.Types.{Id, Entry, Zone}
+use Rattle.terms.specs.Types.{Id, Entry, Zone, Applied, an_applied}
 use Rattle.terms.specs.Lookups.{IsRising, IsZone, is_nil, is_in, waives_applied, entry_of}
 use Rattle.terms.specs.Deleted.{zone_less}
 use Rattle.zones.proofs.Entries.{entries_less_waive}
+use Rattle.sysmods.specs.Choices.{number_in}
 use Rattle.change.specs.declared.deleting.Deleting.{Deleting}
 use Rattle.change.specs.declared.plan.Plan.{Plan}
 use Rattle.change.specs.Deleting.{is_gone, left, delby_left}
@@ -27,6 +28,16 @@ waived_from d p x others left waived filtered are same rising = record {
     λ h. (same z).1 (subst (λ zs. Contains zs z) (sym (filtered ∙ ap (filter (is_open d p)) are))
         (in_filter (is_open d p) (others_of p.bypassed x) z h.0 h.1)),
   );
+}
+
+pub applied_from : (d : Deleting) (p : Plan) (x : Id) (old : Entry) (applied : Option Applied) (delby : Option Id)
+    (waived : List Id) → old ≡ old_entry (left d) x → applied ≡ Some (an_applied p.date (number_in d.vers.now x))
+    → delby ≡ delby_left d x → IsWaived d p x waived
+    → IsAppliedEntry d p x (record old { applied = applied; delby = delby; waived = waived })
+applied_from d p x old applied delby waived is on deleted waives = record {
+  rest = ap₂ {A = Entry} {B = Option Applied × Option Id} {C = Entry}
+      (λ e m. record e { applied = m.0; delby = m.1; waived = waived }) is (ap₂ (λ a k. (a, k)) on deleted);
+  waived = waives;
 }
 
 pub other_from : (d : Deleting) (p : Plan) (x : Id) (old : Entry) (more supby : List Id) (delby : Option Id)
@@ -57,7 +68,7 @@ old_waives d is_zone x = by (entry_of (left d) x) refl
 module _ (d : Deleting) (p : Plan) (x : Id) (e : Entry) where
   pub after_applied : is_in p.effective x ≡ true → IsAppliedEntry d p x e → IsEntryAfter d p x e
   after_applied takes made = record {
-    id = ap (λ v. v.id) made.rest;
+    id = ap (λ v. v.id) made.rest ∙ old_id (left d) x;
     applied = λ h. made;
     other = λ not_it. absurd (true≢false (sym takes ∙ not_it));
     waives = ap (λ v. is_some v.applied || is_nil v.waived) made.rest;

@@ -30,9 +30,9 @@ pub record IsWaived (d : Deleting) (p : Plan) (x : Id) (waived : List Id) : Type
   pub rising : IsRising waived
   pub members : (z : Id) → Contains waived z ↔ (Contains (others_of p.bypassed x) z × IsTrue (is_open d p z))
 
--- the entry of a SYSMOD that takes effect
+-- the entry of a SYSMOD that takes effect: what is left of it, applied
 pub record IsAppliedEntry (d : Deleting) (p : Plan) (x : Id) (e : Entry) : Type 0 where
-  pub rest : e ≡ record (bare_entry x) {
+  pub rest : e ≡ record (old_entry (left d) x) {
     applied = Some (an_applied p.date (number_in d.vers.now x));
     delby = delby_left d x;
     waived = e.waived;

@@ -2,6 +2,7 @@ pub mod Entries
 pub mod Pairs
 pub mod Plans
 pub mod Puts
+pub mod Restoring
 pub mod Superseded
 pub mod Folding
 pub mod Grouping

@@ -1,11 +1,10 @@
 -- What an install does to entries, as lists.
-use Rattle.std.specs.Prelude.{◌≡◌, ◌↔◌, ◌⊎◌, ℕ, List, Contains, IsFalse, is_some}
+use Rattle.std.specs.Prelude.{◌≡◌, ◌↔◌, ◌⊎◌, ℕ, List, Contains}
 use Rattle.terms.specs.Types.{Text, Id, Global, Zone}
-use Rattle.terms.specs.Lookups.{is_supplied, delby_of}
 use Rattle.terms.specs.Choice.{Choice}
 use Rattle.terms.specs.Over.{Supersedes}
 use Rattle.terms.specs.Install.{Installation, TakesEffect}
-use Rattle.sysmods.specs.declared.choice.VerChoice.{VerChoice}
+use Rattle.sysmods.specs.declared.ver_choice.VerChoice.{VerChoice}
 use Rattle.sysmods.specs.Choices.{number_in, choice}
 use Rattle.change.specs.declared.installing.Installing.{Installing}
 use Rattle.change.specs.declared.plan.Plan.{Plan}
@@ -24,15 +23,13 @@ installation g choice number zone kept bypassed date = record {
   date = date;
 }
 
--- what is installed, by these ++VERs
-abbrev pub installation_of : VerChoice → Installing → Installation
-installation_of vers i =
+-- what is installed, by these ++VERs, and by its own
+abbrev pub installation_by : VerChoice → Installing → Installation
+installation_by vers i =
     installation vers.global.now (choice vers) (number_in vers) i.zone.now i.kept.now i.bypassed.now i.date
 
--- The zone neither supplies it nor has it deleted, so that it may be installed.
-pub record IsFresh (zone : Zone) (x : Id) : Type 0 where
-  pub not_supplied : IsFalse (is_supplied zone x)
-  pub not_deleted : IsFalse (is_some (delby_of zone x))
+abbrev pub installation_of : Installing → Installation
+installation_of i = installation_by i.overs i
 
 -- It takes effect or is superseded, so that its entry changes.
 abbrev pub IsTouched : Plan → Id → Type 0

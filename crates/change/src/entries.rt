@@ -41,7 +41,8 @@ pub(crate) fn put_entries(
     Ok(())
 }
 
-/// The entry of a SYSMOD that takes effect. What is waived are its bypassed requisites that nothing supplies.
+/// The entry of a SYSMOD that takes effect: what is left of it, applied on this date. What is waived are its bypassed
+/// requisites that nothing supplies.
 fn applied_entry(
     alloc: Global,
     deleting: &Deleting,
@@ -51,18 +52,20 @@ fn applied_entry(
     requires { AreDeletions deleting.now }
     ensures { IfOk result (IsAppliedEntry deleting.now plan.now id) }
 {
+    let old = left_entry(alloc, deleting, id)?;
     let bypassed = listed(&plan.bypassed, id);
     let waived = IdList::from_vec(unsupplied(alloc, deleting, plan, bypassed)?);
     waived.attest();
+    let delby = deleting.delby(id);
+    let applied = Some(Applied {
+        date: plan.date,
+        number: deleting.vers.number(id),
+    });
     Ok(Entry {
-        id,
-        applied: Some(Applied {
-            date: plan.date,
-            number: deleting.vers.number(id),
-        }),
-        supby: IdList::new(alloc),
-        delby: deleting.delby(id),
+        applied,
+        delby,
         waived,
+        ..old
     })
 }
 

@@ -1,5 +1,5 @@
 //! What kept SYSMODs put into a zone.
-ghost use Rattle.std.specs.Prelude.{◌≡◌, ◌≢◌, ◌↔◌, ◌⊎◌, All, Contains, IfOk, OnOk};
+ghost use Rattle.std.specs.Prelude.{◌≡◌, ◌≢◌, ◌↔◌, ◌⊎◌, Contains, IfOk, OnOk};
 ghost use Rattle.terms.specs.Types.{Id as AnId, Zone as AZone};
 ghost use Rattle.sysmods.specs.Choices.{choice};
 ghost use Rattle.terms.specs.Over.{IsOver};
@@ -8,12 +8,12 @@ ghost use Rattle.zones_maps.specs.Delta.{IsChanged};
 ghost use Rattle.terms.specs.Install.{HasInstalled, TakesEffect};
 ghost use Rattle.change.specs.Elements.{HasBases};
 ghost use Rattle.zones_maps.specs.Differing.{EachChanges};
-ghost use Rattle.change.specs.Plans.{installation_of, IsFresh};
+ghost use Rattle.change.specs.Plans.{installation_of};
 ghost use Rattle.change.specs.Puts.{with_elements, less_elements};
 
+use crate::changed_elements::elements_after;
 use crate::deleting::Deleting;
 use crate::differing::{ElementEdit, edit_elements};
-use crate::elements::elements_after;
 use crate::entries::put_entries;
 use crate::plan::planned;
 use fields::{Attest, Id, IdList, YyDdd};
@@ -22,10 +22,11 @@ use std::alloc::{AllocError, Global};
 use sysmods::Overs;
 use zones::{Element, Zone, ZoneDelta, deletions};
 
-/// What is installed into which zone. `bypassed` has SYSMODs with a bypassed requisite of theirs, in any order; what it
-/// says of others does not matter.
-#[derive(Clone, Copy)]
-pub struct Installing<'a> {
+/// What is installed into which zone, by the `++VER`s that count and with what is found of who is over whom. `bypassed`
+/// has SYSMODs with a bypassed requisite of theirs, in any order; what it says of others does not matter.
+#[derive(Drop)]
+pub struct Installing<'a, 'b> {
+    pub overs: Overs<'a, 'b>,
     pub zone: &'a Zone,
     pub kept: &'a IdList,
     pub bypassed: &'a [(Id, Id)],
@@ -39,30 +40,27 @@ pub struct Installed {
     pub effective: IdList,
 }
 
-/// What the kept SYSMODs put into the zone and take out of it on this date, by the `++VER`s that count. Over orders
-/// those that change one element, and what they update is there. The error comes where memory runs out, and no other.
-pub fn install(
-    alloc: Global,
-    installing: &Installing<'_>,
-    mut overs: Overs<'_, '_>,
-) -> Result<Installed, AllocError>
-    requires fresh { All (IsFresh installing.now.zone.now) installing.now.kept.now }
-    requires order { (x y : AnId) → Contains installing.now.kept.now x → Contains installing.now.kept.now y → x ≢ y
-        → ShareElement overs.global.now x y → IsOver (choice overs) x y ⊎ IsOver (choice overs) y x }
-    requires base { HasBases (installation_of overs installing.now) }
-    ensures installs { IfOk result (λ i. (new : AZone) → IsChanged i.delta installing.now.zone.now new →
-        HasInstalled (installation_of overs.entry installing.now) new) }
-    ensures differs { IfOk result (λ i. EachChanges installing.now.zone.now i.delta) }
+/// What the kept SYSMODs put into the zone and take out of it on this date. Any SYSMODs may be kept, if over orders
+/// those that change one element, and what they update is there or comes along. The error comes where memory runs out,
+/// and no other.
+pub fn install(alloc: Global, installing: Installing<'_, '_>) -> Result<Installed, AllocError>
+    requires order { (x y : AnId) → Contains installing.kept.now x → Contains installing.kept.now y → x ≢ y
+        → ShareElement installing.overs.global.now x y
+        → IsOver (choice installing.overs) x y ⊎ IsOver (choice installing.overs) y x }
+    requires base { HasBases (installation_of installing) }
+    ensures installs { IfOk result (λ i. (new : AZone) → IsChanged i.delta installing.entry.zone.now new →
+        HasInstalled (installation_of installing.entry) new) }
+    ensures differs { IfOk result (λ i. EachChanges installing.entry.zone.now i.delta) }
     ensures effective { IfOk result (λ i. (x : AnId) → Contains i.effective x
-        ↔ TakesEffect (installation_of overs.entry installing.now) x) }
+        ↔ TakesEffect (installation_of installing.entry) x) }
 {
     let zone = installing.zone;
     zone.attest();
     zone.known_lists();
-    let vers = overs.vers();
+    let vers = installing.overs.vers();
     vers.global().attest();
     let dels = deletions(alloc, vers, installing.kept.as_slice())?;
-    let plan = planned(alloc, vers, installing, dels.as_slice())?;
+    let plan = planned(alloc, &installing, dels.as_slice())?;
     let deleting = Deleting {
         vers,
         zone,
@@ -73,6 +71,7 @@ pub fn install(
     put_entries(alloc, &deleting, &plan, &mut delta)?;
     let mut edits = Table::new(alloc);
     remove_elements(&deleting, &mut edits)?;
+    let mut overs = installing.overs;
     let elements = elements_after(
         alloc,
         &mut overs,

@@ -10,7 +10,6 @@ use crate::pairs::grouped;
 use fields::{Attest, Id, IdList, YyDdd};
 use sorted::lists::Lists;
 use std::alloc::{AllocError, Global};
-use sysmods::VerChoice;
 use zones::Zone;
 
 /// Who takes effect, who supersedes an id, what was bypassed of an id, and whose entries change.
@@ -23,15 +22,15 @@ pub(crate) struct Plan {
     pub(crate) date: YyDdd,
 }
 
-/// The plan of an install by these `++VER`s.
+/// The plan of an install with these deletions.
 pub(crate) fn planned(
     alloc: Global,
-    vers: &VerChoice<'_>,
-    installing: &Installing<'_>,
+    installing: &Installing<'_, '_>,
     dels: &[Id],
 ) -> Result<Plan, AllocError>
-    ensures { IfOk result (IsPlan (installation_of vers.now installing.now) dels.now) }
+    ensures { IfOk result (IsPlan (installation_of installing.now) dels.now) }
 {
+    let vers = installing.overs.vers();
     vers.global().attest();
     let Effective { ids, superseded } = taking_effect(alloc, vers, installing.kept)?;
     let touched = touched(

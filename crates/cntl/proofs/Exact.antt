@@ -4,8 +4,8 @@ use Rattle.std.specs.Prelude.{Result, Ok, Err, IfErr}
 use Rattle.terms.specs.Types as terms
 use Rattle.terms.specs.Commands.{IsCommandFile}
 use Rattle.terms.proofs.ExactCommandFiles.{fault_no_file}
-use Rattle.cntl.specs.declared.errors.CntlError.{CntlError}
-use Rattle.cntl.specs.declared.errors.CntlError.TheVariants.{Memory, Fault}
+use Rattle.cntl.specs.declared.error.CntlError.{CntlError}
+use Rattle.cntl.specs.declared.error.CntlError.TheVariants.{Memory, Fault}
 use Rattle.cntl.specs.Faults.{FailsFile}
 
 pub good_file : {T : Type 0} (bytes : List ℕ) (r : Result T CntlError) → IfErr r (λ e. FailsFile bytes e)

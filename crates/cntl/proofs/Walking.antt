@@ -9,11 +9,11 @@ use Rattle.terms.specs.Commands.{runs_from}
 use Rattle.terms.proofs.OperandWords.{count, count_other}
 use Rattle.terms.proofs.BypassMembers.{run_goes_on, run_ends}
 use Rattle.cntl.specs.declared.at.At.{At}
-use Rattle.cntl.specs.Walks.{IsAt, is_inner, GoesOn}
+use Rattle.cntl.specs.Walks.{IsAt, is_inner, WalksOn}
 
 -- A character of a word comes to the run.
 pub run_more : (name : Text) (at next : At) (run : Text) (byte : ℕ) → is_inner at ≡ false → is_inner next ≡ false
-    → is_word_byte byte ≡ true → IsAt name next (run ++ byte ∷ []) → GoesOn name at run byte next
+    → is_word_byte byte ≡ true → IsAt name next (run ++ byte ∷ []) → WalksOn name at run byte next
 run_more name at next run byte outer outer' part is = record {
   goes_on = run ++ byte ∷ [];
   is_at = is;

@@ -2,13 +2,13 @@
 use Rattle.std.specs.Prelude.{ℕ, List}
 use Rattle.terms.specs.Statement.{Piece}
 use Rattle.terms.specs.Commands.{IsCommandFault, IsNextFault, IsCommandFileFault}
-use Rattle.cntl.specs.declared.errors.CommandError.{CommandError}
-use Rattle.cntl.specs.declared.errors.CommandError.TheVariants.{Memory, Fault}
-use Rattle.cntl.specs.declared.errors.CntlError.{CntlError}
-use Rattle.cntl.specs.declared.errors.CntlError.TheVariants as file
+use Rattle.cntl.specs.declared.error.CommandReadError.{CommandReadError}
+use Rattle.cntl.specs.declared.error.CommandReadError.TheVariants.{Memory, Fault}
+use Rattle.cntl.specs.declared.error.CntlError.{CntlError}
+use Rattle.cntl.specs.declared.error.CntlError.TheVariants as file
 
 -- the fault of a command of these pieces
-abbrev pub FailsCommand : List Piece → CommandError → Type 0
+abbrev pub FailsCommand : List Piece → CommandReadError → Type 0
 FailsCommand pieces Memory = Unit {0}
 FailsCommand pieces (Fault code) = IsCommandFault pieces code
 

@@ -17,7 +17,7 @@ is_inner Inner = true
 is_inner _ = false
 
 -- Behind the byte the name stands as often among the runs, from the run up to there on.
-pub record GoesOn (name : Text) (at : At) (run : Text) (byte : ℕ) (next : At) : Type 0 where
+pub record WalksOn (name : Text) (at : At) (run : Text) (byte : ℕ) (next : At) : Type 0 where
   pub goes_on : Text
   pub is_at : IsAt name next goes_on
   pub same : (rest : Text) → count name (runs_from (is_inner at) run (byte ∷ rest)) ≡ count name

@@ -1,7 +1,7 @@
 //! A walk over a list, byte by byte, that looks for a name among the runs of word characters outside inner lists.
 ghost use Rattle.std.specs.Prelude.{◌≡◌, ◌≢◌, ◌==◌, ◌<◌, ◌++◌, ◌∷◌, [], ℕ, List, true, false, length};
 ghost use Rattle.terms.specs.Forms.{is_word_byte};
-ghost use Rattle.cntl.specs.Walks.{IsAt, is_inner, GoesOn};
+ghost use Rattle.cntl.specs.Walks.{IsAt, is_inner, WalksOn};
 
 /// Where the walk stands.
 #[derive(Clone, Copy)]
@@ -55,7 +55,7 @@ fn behind_run<'n>(byte: u8, name: &'n [u8]) -> At<'n>
 /// Behind the byte, where the run up to here is not the name, or goes on.
 pub fn behind<'n>(at: &At<'n>, byte: u8, name: &'n [u8]) -> At<'n>
     ensures { (run : List ℕ) → 0 < length name.now → IsAt name.now at.now run
-        → (run ≡ name.now → is_word_byte byte ≡ true) → GoesOn name.now at.now run byte result }
+        → (run ≡ name.now → is_word_byte byte ≡ true) → WalksOn name.now at.now run byte result }
 {
     match at {
         At::Inner => {

@@ -12,8 +12,8 @@ ghost use Rattle.rec80.specs.Failing.{Excludes};
 ghost use Rattle.fields.specs.Choices.{reasons_in};
 ghost use Rattle.cntl.specs.Singles.{AreSingle};
 
+use crate::operand_values::short_list;
 use crate::tables::members_of;
-use crate::values::short_list;
 use fields::{Bypass, Class, ClassList, Reason, ReasonList, Reasons};
 use rec80::{BadOperand, OperandError, Text, Word, are_members, flag, named_member, operand};
 use std::alloc::Global;

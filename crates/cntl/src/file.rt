@@ -9,8 +9,8 @@ ghost use Rattle.cntl.specs.Views.{command_of};
 ghost use Rattle.cntl.specs.Faults.{FailsNext, FailsFile};
 
 use crate::command::Command;
-use crate::errors::{CntlError, CommandError};
-use crate::read::read_command;
+use crate::command_reading::read_command;
+use crate::error::{CntlError, CommandReadError};
 use rec80::{Commands, records};
 use std::alloc::Global;
 use terms::CommandCode;
@@ -38,8 +38,8 @@ fn read_next(alloc: Global, left: &mut Commands<'_>) -> Result<Option<Command>, 
     };
     match read_command(alloc, &command.words) {
         Ok(read) => Ok(Some(read)),
-        Err(CommandError::Memory) => Err(CntlError::Memory),
-        Err(CommandError::Fault(code)) => Err(CntlError::Fault {
+        Err(CommandReadError::Memory) => Err(CntlError::Memory),
+        Err(CommandReadError::Fault(code)) => Err(CntlError::Fault {
             number: command.number,
             code,
         }),

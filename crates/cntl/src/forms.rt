@@ -12,7 +12,7 @@ ghost use Rattle.cntl.specs.Singles.{AreSingle};
 
 use crate::bypassed::bypass;
 use crate::command::{Command, Install};
-use crate::values::{flag_of, optional_list, short_list, some_ids};
+use crate::operand_values::{flag_of, optional_list, short_list, some_ids};
 use fields::{Id, ReceiveWhat, RestoreList, Selection, Source, ZoneName};
 use rec80::{BadOperand, OperandError, Word, operand, optional, required};
 use std::alloc::Global;

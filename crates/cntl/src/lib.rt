@@ -6,16 +6,17 @@
 mod at;
 mod bypassed;
 mod command;
+mod command_reading;
 mod doubles;
-mod errors;
+mod error;
 mod file;
 mod forms;
-mod read;
+mod operand_values;
+mod restore_choice;
 mod runs;
 mod tables;
-mod unchosen;
-mod values;
 
 pub use command::{Command, Install};
-pub use errors::CntlError;
+pub use error::CntlError;
+pub use fields::{Bypass, RestoreList, Selection};
 pub use file::read_cntl;

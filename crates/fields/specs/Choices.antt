@@ -2,8 +2,8 @@
 use Rattle.terms.specs.Types as terms
 use Rattle.fields.specs.declared.bypass.Reasons.{Reasons}
 use Rattle.fields.specs.declared.bypass.Reasons.TheVariants.{None, Any, These}
-use Rattle.fields.specs.declared.choices.RestoreList.{RestoreList}
-use Rattle.fields.specs.declared.choices.RestoreList.TheVariants.{Select, Group}
+use Rattle.fields.specs.declared.selections.RestoreList.{RestoreList}
+use Rattle.fields.specs.declared.selections.RestoreList.TheVariants.{Select, Group}
 
 abbrev pub reasons_in : Reasons → terms.Reasons
 reasons_in None = terms.NoReason

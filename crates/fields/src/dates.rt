@@ -4,8 +4,8 @@ ghost use Rattle.terms.specs.Forms.{IsDottedDate, dotted_date, last_digit};
 
 use crate::attest::Attest;
 use crate::forms::{are_digits, is_day};
-use crate::lists::Field;
 use crate::padded::Short;
+use crate::rising_lists::Field;
 use std::marker::Model;
 
 /// The date of APPLY or ACCEPT, `yy.ddd`. A contract sees it as its six bytes.

@@ -3,8 +3,8 @@ ghost use Rattle.std.specs.Prelude.{◌≡◌, ◌↔◌, IsSome, IfSome};
 ghost use Rattle.terms.specs.Forms.{IsId, IsSource, IsClass};
 
 use crate::forms::is_run;
-use crate::lists::Field;
 use crate::padded::Short;
+use crate::rising_lists::Field;
 use std::marker::Model;
 
 /// A SYSMOD's id. A contract sees it as its seven bytes.

@@ -8,25 +8,25 @@
 
 mod attest;
 mod bypass;
-mod choices;
 mod dates;
 mod forms;
-mod holds;
+mod hold_parts;
 mod ids;
-mod lists;
 mod names;
 mod padded;
+mod rising_lists;
+mod selections;
 pub mod spelling;
 mod ver_number;
 
 pub use attest::Attest;
 pub use bypass::{Bypass, Reasons};
-pub use choices::{ReceiveWhat, RestoreList, Selection};
 pub use dates::YyDdd;
-pub use holds::{HoldDate, Reason};
+pub use hold_parts::{HoldDate, Reason};
 pub use ids::{Class, Id, Source};
-pub use lists::{Field, Rising};
 pub use names::{Name, Srel, ZoneName};
+pub use rising_lists::{Field, Rising};
+pub use selections::{ReceiveWhat, RestoreList, Selection};
 pub use ver_number::VerNumber;
 
 /// Ids in rising order.

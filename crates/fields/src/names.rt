@@ -4,8 +4,8 @@ ghost use Rattle.terms.specs.Forms.{IsName, IsZoneName, IsSrel};
 
 use crate::attest::Attest;
 use crate::forms::{are_digits, is_digit, is_letter, is_run};
-use crate::lists::Field;
 use crate::padded::Short;
+use crate::rising_lists::Field;
 use std::marker::Model;
 
 /// The name of an element or a library. A contract sees it as its bytes.

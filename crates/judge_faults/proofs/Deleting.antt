@@ -20,7 +20,7 @@ use Rattle.terms.proofs.Places.{contains_at, found_at}
 use Rattle.judge_faults.specs.declared.own.OwnFaults.{OwnFaults}
 use Rattle.judge_faults.specs.Own.{HasFaults, passes_alone}
 use Rattle.terms.specs.Beside.{Beside}
-use Rattle.judge_faults.specs.Deletes.{PassesAloneAt, ArePassing, AreDeletions, with_deleted, IsMarked}
+use Rattle.judge_faults.specs.Deletes.{PassesAloneAt, ArePassing, AreDeletions, with_deleted, IsMarkedDeleted}
 use Rattle.judge_faults.proofs.Alone.{alone_if}
 use Rattle.terms.proofs.BesideLists.{beside_there}
 
@@ -105,7 +105,7 @@ module _ (ids : List Id) (faults : List OwnFaults) where
 module _ (s : Setting) (is_global : IsGlobal s.global) (alone faults : List OwnFaults)
     (own : Beside (λ n x a. HasFaults s x a) s.cands alone) (dels : List Id)
     (are : AreDeletions s.choice s.cands alone dels)
-    (marked : Beside (λ n x a. IsMarked s.global s.choice dels alone n x a) s.cands faults) where
+    (marked : Beside (λ n x a. IsMarkedDeleted s.global s.choice dels alone n x a) s.cands faults) where
   keeps : (x : Id) (b : Bool) (a : OwnFaults) → HasFaults s x a → HasFaults s x (with_deleted b a)
   keeps x b a h = record {
     system_held = h.system_held;

@@ -28,7 +28,7 @@ abbrev pub with_deleted : Bool → OwnFaults → OwnFaults
 with_deleted is_deleted own = record own { deleted = passes_alone own && is_deleted }
 
 -- the faults of x, at a place, with ChainDeleted
-pub record IsMarked (g : Global) (c : Choice) (dels : List Id) (faults : List OwnFaults) (n : ℕ) (x : Id)
+pub record IsMarkedDeleted (g : Global) (c : Choice) (dels : List Id) (faults : List OwnFaults) (n : ℕ) (x : Id)
     (marked : OwnFaults) : Type 0 where
   pub own : OwnFaults
   pub own_at : slice_get faults n ≡ Some own

@@ -3,7 +3,7 @@ ghost use Rattle.std.specs.Prelude.{◌≡◌, List, length, IfOk};
 ghost use Rattle.terms.specs.Types.{Id as AnId};
 ghost use Rattle.terms.specs.Deleted.{deletions, is_deleted};
 ghost use Rattle.sysmods.specs.Choices.{choice};
-ghost use Rattle.judge_faults.specs.Deletes.{AreDeletions, with_deleted, IsMarked};
+ghost use Rattle.judge_faults.specs.Deletes.{AreDeletions, with_deleted, IsMarkedDeleted};
 ghost use Rattle.terms.specs.Beside.{Beside};
 
 use crate::own::{OwnFaults, own_at};
@@ -41,7 +41,8 @@ fn all_with(
     faults: &[OwnFaults],
 ) -> Result<Vec<OwnFaults>, AllocError>
     requires { length faults.now ≡ length ids.now }
-    ensures { IfOk result (λ all. Beside (λ n x own. IsMarked vers.now.global.now (choice vers.now) dels.now faults.now
+    ensures { IfOk result (λ all. Beside
+        (λ n x own. IsMarkedDeleted vers.now.global.now (choice vers.now) dels.now faults.now
         n x own) ids.now all.items) }
 {
     let mut all = Vec::new(alloc);
@@ -61,7 +62,7 @@ pub(crate) fn all_with_deleted(
 ) -> Result<Vec<OwnFaults>, AllocError>
     requires { length faults.now ≡ length ids.now }
     ensures { IfOk result (λ all. (dels : List AnId) × AreDeletions (choice vers.now) ids.now faults.now dels
-        × Beside (λ n x own. IsMarked vers.now.global.now (choice vers.now) dels faults.now n x own) ids.now
+        × Beside (λ n x own. IsMarkedDeleted vers.now.global.now (choice vers.now) dels faults.now n x own) ids.now
         all.items) }
 {
     let mut passing = Vec::new(alloc);

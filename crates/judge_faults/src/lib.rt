@@ -8,11 +8,11 @@
 mod chains;
 mod claims;
 mod deleted;
-mod elements;
+mod element_tests;
+mod failed_tests;
 mod forbidden;
 mod forbidding;
 mod own;
-mod rows;
 mod sharing;
 mod tested;
 mod view;

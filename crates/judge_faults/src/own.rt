@@ -16,7 +16,7 @@ ghost use Rattle.judge_faults.specs.Own.{IsLowerAt, HasFaults, passes_alone, pas
 ghost use Rattle.terms.specs.Beside.{Beside};
 ghost use Rattle.judge_faults.specs.Views.{seen};
 
-use crate::elements::{has_bare_update, is_foreign, is_lower_somewhere};
+use crate::element_tests::{has_bare_update, is_foreign, is_lower_somewhere};
 use crate::forbidden::{Forbidders, forbidders, is_forbidden};
 use crate::view::View;
 use fields::{Bypass, Id, IdList};

@@ -5,9 +5,9 @@ ghost use Rattle.zones.specs.Scopes.{global_of, setting_with};
 ghost use Rattle.judge_faults.specs.Failed.{AreFailedTests};
 
 use crate::deleted::all_with_deleted;
+use crate::failed_tests::all_rows;
 use crate::forbidding::clashing_places;
 use crate::own::all_faults;
-use crate::rows::all_rows;
 use fields::Attest;
 use std::alloc::{AllocError, Global};
 use sysmods::Overs;

@@ -14,7 +14,7 @@ use Rattle.terms.proofs.ListMembers.{here, here_or, none_in}
 use Rattle.terms.proofs.TextOrder.{same_back}
 use Rattle.terms.proofs.Lists.{front_more}
 use Rattle.sorted.specs.Lists.{Adds}
-use Rattle.judge_needs.specs.declared.stated.Requisite.{Requisite}
+use Rattle.judge_needs.specs.declared.stated.StatedRequisite.{StatedRequisite}
 use Rattle.judge_needs.specs.Conditions.{Stated, requisites_of, AddsMore}
 
 -- what holds once a call has gone well that is the last one
@@ -47,7 +47,7 @@ front_in xs k x y below at =
         Contains-append_right (take k xs) (x ∷ []) y (subst (Contains (x ∷ [])) (sym same) (here x []))
 
 -- one requisite more for a function
-pub adds_one : (k : Id) (x : Requisite) (base old new : Stated) (part whole : List Requisite)
+pub adds_one : (k : Id) (x : StatedRequisite) (base old new : Stated) (part whole : List StatedRequisite)
     → AddsMore base old (λ f. cond (bytes_eq f k) part []) → Adds (slice_cmp nat_cmp) k x old new
     → whole ≡ part ++ x ∷ [] → AddsMore base new (λ f. cond (bytes_eq f k) whole [])
 adds_one k x base old new part whole was adds both f =

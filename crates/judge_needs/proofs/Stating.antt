@@ -17,7 +17,7 @@ use Rattle.terms.specs.Conditions.{if_reqs, stated_for}
 use Rattle.terms.proofs.Applied.{found_itself}
 use Rattle.zones.proofs.Flats.{filter_weaker}
 use Rattle.zones.proofs.Lookups.{is_applied_less}
-use Rattle.judge_needs.specs.declared.stated.Requisite.{Requisite}
+use Rattle.judge_needs.specs.declared.stated.StatedRequisite.{StatedRequisite}
 use Rattle.judge_needs.specs.Conditions.{a_requisite, stated_by}
 
 module _ (g : Global) (c : Choice) (dels : List Id) (zone : Zone) (z : IsZone zone) where
@@ -87,27 +87,30 @@ module _ (g : Global) (c : Choice) (dels : List Id) (zone : Zone) (z : IsZone zo
 -- what those state that pass
 module _ (c : Choice) (f : Id) (p : Id → Bool) where
   of_one : (y : Id) (b : Bool) → p y ≡ b → (zs : List Id)
-      → map (λ (r : Requisite). r.id) (filter (λ r. p r.by) (map (a_requisite y) zs)) ≡ cond b zs []
+      → map (λ (r : StatedRequisite). r.id) (filter (λ r. p r.by) (map (a_requisite y) zs)) ≡ cond b zs []
   of_one y true on [] = refl
   of_one y true on (z ∷ zs) =
-      ap (λ b. map (λ (r : Requisite). r.id) (cond b (a_requisite y z ∷ filter (λ r. p r.by) (map (a_requisite y) zs))
+      ap (λ b. map (λ (r : StatedRequisite). r.id)
+      (cond b (a_requisite y z ∷ filter (λ r. p r.by) (map (a_requisite y) zs))
       (filter (λ r. p r.by) (map (a_requisite y) zs)))) on
       ∙ ap (λ l. z ∷ l) (of_one y true on zs)
   of_one y false off [] = refl
   of_one y false off (z ∷ zs) =
-      ap (λ b. map (λ (r : Requisite). r.id) (cond b (a_requisite y z ∷ filter (λ r. p r.by) (map (a_requisite y) zs))
+      ap (λ b. map (λ (r : StatedRequisite). r.id)
+      (cond b (a_requisite y z ∷ filter (λ r. p r.by) (map (a_requisite y) zs))
       (filter (λ r. p r.by) (map (a_requisite y) zs)))) off
       ∙ of_one y false off zs
 
   pub stated_passing : (xs : List Id)
-      → map (λ (r : Requisite). r.id) (filter (λ r. p r.by) (flat_map (stated_by c f) xs))
+      → map (λ (r : StatedRequisite). r.id) (filter (λ r. p r.by) (flat_map (stated_by c f) xs))
       ≡ stated_for c (filter p xs) f
   stated_passing [] = refl
   stated_passing (y ∷ ys) =
-      ap (map (λ (r : Requisite). r.id)) (filter-append (λ r. p r.by) (stated_by c f y) (flat_map (stated_by c f) ys))
-      ∙ map-append (λ (r : Requisite). r.id) (filter (λ r. p r.by) (stated_by c f y))
+      ap (map (λ (r : StatedRequisite). r.id))
+      (filter-append (λ r. p r.by) (stated_by c f y) (flat_map (stated_by c f) ys))
+      ∙ map-append (λ (r : StatedRequisite). r.id) (filter (λ r. p r.by) (stated_by c f y))
       (filter (λ r. p r.by) (flat_map (stated_by c f) ys))
-      ∙ ap (λ l. l ++ map (λ (r : Requisite). r.id) (filter (λ r. p r.by) (flat_map (stated_by c f) ys)))
+      ∙ ap (λ l. l ++ map (λ (r : StatedRequisite). r.id) (filter (λ r. p r.by) (flat_map (stated_by c f) ys)))
       (of_one y (p y) refl (if_reqs c (bytes_eq f) y))
       ∙ ap (λ l. cond (p y) (if_reqs c (bytes_eq f) y) [] ++ l) (stated_passing ys)
       ∙ by (p y)
@@ -119,7 +122,7 @@ module _ (c : Choice) (f : Id) (p : Id → Bool) where
 
 -- what is stated by those that are left
 pub stated_left : (g : Global) (c : Choice) (dels : List Id) (zone : Zone) → IsZone zone → (f : Id)
-    → map (λ (r : Requisite). r.id) (filter (λ r. is_applied (zone_less g c dels zone) r.by)
+    → map (λ (r : StatedRequisite). r.id) (filter (λ r. is_applied (zone_less g c dels zone) r.by)
     (flat_map (stated_by c f) (applied_ids zone)))
     ≡ stated_for c (applied_ids (zone_less g c dels zone)) f
 stated_left g c dels zone z f =

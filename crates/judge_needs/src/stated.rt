@@ -14,13 +14,13 @@ use zones::Scope;
 
 /// A requisite, and the applied SYSMOD that states it.
 #[derive(Clone, Copy)]
-pub(crate) struct Requisite {
+pub(crate) struct StatedRequisite {
     pub(crate) by: Id,
     pub(crate) id: Id,
 }
 
 /// For each function the requisites that are stated for it.
-pub(crate) type Stated = Lists<Id, Requisite>;
+pub(crate) type Stated = Lists<Id, StatedRequisite>;
 
 fn add_each(
     alloc: Global,
@@ -33,7 +33,7 @@ fn add_each(
         (λ f. if bytes_eq f function then map (a_requisite by) ids.now else [])) }
 {
     for id in ids {
-        add(alloc, stated, function, Requisite { by, id: *id })?;
+        add(alloc, stated, function, StatedRequisite { by, id: *id })?;
     }
     Ok(())
 }

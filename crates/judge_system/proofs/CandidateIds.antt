@@ -12,6 +12,7 @@ use Rattle.std.proofs.lemmas.Cmp.{nat_list_cmp_total, tied_itself}
 use Rattle.std.proofs.lemmas.Bool.{cases_order, and_parts, and_from, eqb-true, eq-eqb, false_from_ne_true, not-true}
 use Rattle.std.proofs.lemmas.Option.{slice_get_within, slice_get-get_or, get_or_from_slice_get, same_Some}
 use Rattle.std.proofs.lemmas.Option.{slice_get-map}
+use Rattle.std.proofs.lemmas.List.{length-map}
 use Rattle.std.proofs.lemmas.List.Folds.{list_any_none}
 use Rattle.std.proofs.lemmas.List.Elements.{All-map, All-weaker, Contains-get_or}
 use Rattle.terms.specs.declared.codes.NeedKind.{NeedKind}
@@ -19,8 +20,8 @@ use Rattle.terms.specs.declared.codes.Test.{Test}
 use Rattle.terms.specs.Types.{Id}
 use Rattle.terms.specs.Kept.{StaysKept}
 use Rattle.terms.specs.Lookups.{IsRising, is_before, is_in}
-use Rattle.solve.specs.System.{Need, System, IsNeed, holds}
-use Rattle.judge_system.specs.NumberedIds.{IsSystemOf}
+use Rattle.solve.specs.System.{Need, System, IsNeed, AreKept, holds}
+use Rattle.judge_system.specs.NumberedForm.{IsNumberedForm}
 use Rattle.solve.specs.Causes as numbered
 use Rattle.terms.specs.Failures.{IsOpenNeed, IsCauser, all_tests}
 use Rattle.terms.proofs.ListMembers.{in_map, map_in}
@@ -34,10 +35,11 @@ use Rattle.machine.specs.Outcome as machine
 use Rattle.machine.specs.Installing.{IsFailure}
 use Rattle.judge_system.specs.declared.failure.Failure.{Failure}
 use Rattle.judge_system.specs.Views.{failure_view, why_failed}
-use Rattle.judge_system.specs.Said.{Said, FailsTest, IsEligible, Needs, Serves, AreTests}
+use Rattle.judge_system.specs.declared.judged.Judged.{Judged}
 use Rattle.judge_system.specs.Numbered.{need_of}
-use Rattle.judge_system.specs.Decided.{Decides}
+use Rattle.judge_system.specs.Decided.{AreDecided}
 use Rattle.judge_system.specs.ByNumber.{IsDecidedBy}
+use Rattle.judge_system.specs.Judged.{IsJudged}
 use Rattle.judge_system.specs.Open.{HaveOpen}
 use Rattle.judge_system.specs.Findings.{IsFailureAt, IsFailed}
 
@@ -75,7 +77,7 @@ rising_at ids places rising up within =
     (λ i j d less below. (up i j d less below, within j d below))
 
 module _ (ids kept : List Id) (E : Id → Type 0) (N : Id → NeedKind → Id → Type 0) (S : NeedKind → Id → Id → Type 0)
-    (p : System) (needed : List (NeedKind × Id)) (h : IsSystemOf E N S ids p needed) (rising : IsRising ids)
+    (p : System) (needed : List (NeedKind × Id)) (h : IsNumberedForm E N S ids p needed) (rising : IsRising ids)
     (flags : List Bool)
     (members : (x : Id) → Contains kept x ↔ ((n : ℕ) × (slice_get ids n ≡ Some x) × IsTrue (holds flags n))) where
   same : (n : ℕ) (x : Id) → slice_get ids n ≡ Some x → Contains kept x ↔ IsTrue (holds flags n)
@@ -177,68 +179,68 @@ pub causers_within : (p : System) (flags : List Bool) (rows : List (Vec ℕ Heap
 causers_within p flags rows exact n k d below = ((exact n (get_or (row_at rows n) k d)).0
     (Contains-get_or (row_at rows n) k d below)).0.0.0
 
--- What is found of the candidates by their places decides all that is said of them.
-module _ (s : Said) (rising : IsRising s.cands) (p : System)
-    (h : IsSystemOf (IsEligible s) (Needs s) (Serves s.superseded) s.cands p (map need_of s.needs))
-    (tests : List (List Test)) (tested : AreTests s.fails s.cands tests) (kept : List Id)
-    (failed : List (Id × Failure)) (by : IsDecidedBy s.cands p (map need_of s.needs) tests kept failed) where
+-- What is found of the candidates by their numbers is so by the command's own tests, needs, and what serves a need.
+module _ (F : Id → Test → Type 0) (E : Id → Type 0) (N : Id → NeedKind → Id → Type 0)
+    (S : NeedKind → Id → Id → Type 0) (j : Judged) (is : IsJudged F E N S j.ids.keys j) (flags : List Bool)
+    (are_kept : AreKept j.system flags) (kept : List Id) (failed : List (Id × Failure))
+    (by : IsDecidedBy j flags kept failed) where
   abbrev ids : List Id
-  ids = s.cands
+  ids = j.ids.keys
 
-  abbrev E : Id → Type 0
-  E = IsEligible s
-
-  abbrev N : Id → NeedKind → Id → Type 0
-  N = Needs s
-
-  abbrev S : NeedKind → Id → Id → Type 0
-  S = Serves s.superseded
+  abbrev p : System
+  p = j.system
 
   abbrev needed : List (NeedKind × Id)
-  needed = map need_of s.needs
+  needed = map need_of j.needs.items
+
+  h : IsNumberedForm E N S ids p needed
+  h = is.numbered
 
   stays : (x : Id) → Contains kept x ↔ StaysKept E N S x
   stays x = (
     λ there.
         let w = (by.members x).0 there in
-        stays_from_kept ids E N S p needed h w.0 x w.1 ((by.are_kept.members w.0).0 w.2),
+        stays_from_kept ids E N S p needed h w.0 x w.1 ((are_kept.members w.0).0 w.2),
     λ stays.
-        let place = found_at ids x (stays.1.eligible x stays.2).0 in
-        let on = (by.are_kept.members place.0).1 (kept_from_stays ids E N S p needed h (λ y e. e.0)
-        place.0 x place.1 stays) in
+        let place = found_at ids x (is.within x (stays.1.eligible x stays.2)) in
+        let on = (are_kept.members place.0).1 (kept_from_stays ids E N S p needed h is.within place.0 x place.1 stays) in
         (by.members x).1 (place.0, place.1, on),
   )
 
+  opened : HaveOpen flags p.needs needed (length needed) by.found.unserved.now
+  opened = subst (λ e. HaveOpen flags p.needs needed e by.found.unserved.now) (sym (length-map j.needs.items need_of))
+      by.opened
+
   failure : (n : ℕ) (x : Id) (f : machine.Failure) → slice_get ids n ≡ Some x → IsFailureAt ids by.found n f
-      → IsFailure ids kept (FailsTest s) E N S x f
-  failure n x f at is = record {
-    fails = s.fails x;
-    tests = is.tests_are
-        ∙ get_or_from_slice_get (map (λ row. row.items) by.found.tests.items) n (filter (s.fails x) all_tests) []
-        (ap (λ rows. slice_get rows n) (by.tests_are ∙ tested)
-        ∙ slice_get-map (λ y. filter (s.fails y) all_tests) ids n
-        ∙ ap (option_map (λ y. filter (s.fails y) all_tests)) at);
-    failed = λ t. (λ on. on, λ on. on);
-    ids_of = is.needs.ids_of;
-    needs = is.needs.needs_are;
-    ids_rising = λ kind. (is.needs.are_ids kind).rising;
+      → IsFailure ids kept F E N S x f
+  failure n x f at told = record {
+    fails = is.fails x;
+    tests = told.tests_are
+        ∙ get_or_from_slice_get (map (λ row. row.items) by.found.tests.now) n (filter (is.fails x) all_tests) []
+        (ap (λ rows. slice_get rows n) (ap (map (λ row. row.items)) by.tests_are ∙ is.tests_are)
+        ∙ slice_get-map (λ y. filter (is.fails y) all_tests) ids n
+        ∙ ap (option_map (λ y. filter (is.fails y) all_tests)) at);
+    failed = λ t. is.failed x t (contains_at ids n x at);
+    ids_of = told.needs.ids_of;
+    needs = told.needs.needs_are;
+    ids_rising = λ kind. (told.needs.are_ids kind).rising;
     are_open = λ kind z.
-        let own = (is.needs.are_ids kind).members z in
-        let same = open_needs ids kept E N S p needed h rising by.flags by.members by.found.unserved.items by.opened n
-        x at kind z in
+        let own = (told.needs.are_ids kind).members z in
+        let same = open_needs ids kept E N S p needed h is.rising flags by.members by.found.unserved.now opened n x at
+        kind z in
         (λ there. same.0 (own.0 there), λ need. own.1 (same.1 need));
-    causers_rising = subst IsRising (sym is.causers_are) (rising_at ids (row_at by.found.causers.items n) rising
-        (by.causers_rise n) (subst (λ size. All (λ m. m < size) (row_at by.found.causers.items n)) h.size
-        (causers_within p by.flags by.found.causers.items by.causers n)));
-    causers = λ y. subst (λ l. Contains l y ↔ IsCauser ids kept E N S x y) (sym is.causers_are)
-        (causers_are_holds ids kept E N S p needed h rising by.flags by.members by.found.causers.items by.causers n x
-        at y);
+    causers_rising = subst IsRising (sym told.causers_are) (rising_at ids (row_at by.found.causers.now n) is.rising
+        (by.causers.rising n) (subst (λ size. All (λ m. m < size) (row_at by.found.causers.now n)) h.size
+        (causers_within p flags by.found.causers.now by.causers.exact n)));
+    causers = λ y. subst (λ l. Contains l y ↔ IsCauser ids kept E N S x y) (sym told.causers_are)
+        (causers_are_holds ids kept E N S p needed h is.rising flags by.members by.found.causers.now by.causers.exact n
+        x at y);
   }
 
   abbrev Fits : Id × machine.Failure → Type 0
-  Fits q = IsFailure ids kept (FailsTest s) E N S q.0 q.1
+  Fits q = IsFailure ids kept F E N S q.0 q.1
 
-  pub decided : Decides s kept (map why_failed failed)
+  pub decided : AreDecided F E N S ids kept (map why_failed failed)
   decided = record {
     rising = by.rising;
     members = stays;
@@ -246,7 +248,7 @@ module _ (s : Said) (rising : IsRising s.cands) (p : System)
         (take_all (length ids) ids (omega arith));
     failures = All-map Fits (λ f. (f.0, failure_view f.1)) failed
         (All-weaker (IsFailed ids by.found) (λ f. Fits (f.0, failure_view f.1))
-        (λ f is. failure is.0 f.0 (failure_view f.1) is.1 is.2) failed by.failures.each);
+        (λ f told. failure told.0 f.0 (failure_view f.1) told.1 told.2) failed by.failures.each);
   }
     where
       ids_of_holds : (fs : List (Id × Failure)) → map (λ (q : Id × machine.Failure). q.0)

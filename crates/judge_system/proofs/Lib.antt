@@ -1,6 +1,7 @@
 pub mod Alike
 pub mod CandidateIds
 pub mod NumberedNeeds
+pub mod Numbering
 pub mod EachKind
 pub mod Failing
 pub mod Judging

@@ -9,7 +9,7 @@ use Rattle.terms.specs.Types.{Id}
 use Rattle.terms.specs.declared.codes.NeedKind.{NeedKind}
 use Rattle.terms.specs.declared.codes.NeedKind.TheVariants.{Fmid}
 use Rattle.solve.specs.System.{Need, IsNeed, System, holds}
-use Rattle.judge_system.specs.NumberedIds.{IsSystemOf}
+use Rattle.judge_system.specs.NumberedForm.{IsNumberedForm}
 use Rattle.solve.specs.Causes as numbered
 use Rattle.terms.specs.Failures.{HasFailed, LeadsTo, LeadsThrough, HasBareNeed, IsRoot, IsCauser}
 
@@ -21,7 +21,7 @@ not_both : {A : Type 0} (b : Bool) → IsTrue b → b ≡ false → A
 not_both b t f = absurd (true≢false (sym t ∙ f))
 
 module _ (ids kept : List Id) (E : Id → Type 0) (N : Id → NeedKind → Id → Type 0) (S : NeedKind → Id → Id → Type 0)
-    (p : System) (needed : List (NeedKind × Id)) (h : IsSystemOf E N S ids p needed) (flags : List Bool)
+    (p : System) (needed : List (NeedKind × Id)) (h : IsNumberedForm E N S ids p needed) (flags : List Bool)
     (same : (n : ℕ) (x : Id) → slice_get ids n ≡ Some x → Contains kept x ↔ IsTrue (holds flags n)) where
   failed_number : (n : ℕ) (x : Id) → slice_get ids n ≡ Some x → HasFailed ids kept E N S x
       → numbered.HasFailed p flags n

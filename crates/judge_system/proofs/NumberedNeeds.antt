@@ -12,7 +12,7 @@ use Rattle.terms.specs.declared.codes.NeedKind.{NeedKind}
 use Rattle.terms.specs.Types.{Id}
 use Rattle.terms.specs.Lookups.{IsRising}
 use Rattle.solve.specs.System.{Need, System, IsSystem, holds}
-use Rattle.judge_system.specs.NumberedIds.{IsSystemOf}
+use Rattle.judge_system.specs.NumberedForm.{IsNumberedForm}
 use Rattle.judge_system.specs.declared.stated.RequisiteOf.{RequisiteOf}
 use Rattle.judge_system.specs.Said.{Said, a_need, IsEligible, Needs, Serves}
 use Rattle.judge_system.specs.Numbered.{need_of, IsNeedFor, HasNeeds, AddsNeed, HasSystem}
@@ -89,7 +89,7 @@ module _ (ids : List Id) (pairs : List (Id × ℕ)) (flags : List Bool) where
 pub said_problem : (s : Said) (flags : List Bool) (p : System) → IsRising s.cands → AllPairs (λ v w. v ≢ w) s.needs
     → ((n : ℕ) (x : Id) → slice_get s.cands n ≡ Some x → IsTrue (holds flags n) ↔ IsEligible s x) → IsSystem p
     → HasSystem s.cands s.superseded flags s.needs p
-    → IsSystemOf (IsEligible s) (Needs s) (Serves s.superseded) s.cands p (map need_of s.needs)
+    → IsNumberedForm (IsEligible s) (Needs s) (Serves s.superseded) s.cands p (map need_of s.needs)
 said_problem s flags p rising once eligible numbers has =
     let ids = s.cands in
     let h = has.needs in

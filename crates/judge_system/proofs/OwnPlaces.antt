@@ -2,13 +2,13 @@
 use Rattle.std.proofs.Common.{◌≡◌, inl, inr, ℕ, ◌<◌, false, List, [], ◌∷◌, length, Some, sym, ap, ◌∙◌, subst}
 use Rattle.std.proofs.Common.{true≢false}
 use Rattle.std.proofs.Common.{Contains, arith, slice_get}
-use Rattle.std.specs.Ordering.{nat_cmp}
-use Rattle.std.specs.Cmp.Lexicographic.{slice_cmp}
-use Rattle.std.proofs.lemmas.Map.Lookups.{exact_bytes}
+use Rattle.std.specs.Prelude.{get_or, position}
+use Rattle.std.specs.Str.{bytes_eq}
+use Rattle.std.proofs.lemmas.List.Quantifiers.{position-Some}
+use Rattle.std.proofs.lemmas.Slice.Eq.{bytes_eq-Decides}
 use Rattle.std.proofs.lemmas.Option.{slice_get-get_or, same_Some}
 use Rattle.terms.proofs.ListMembers.{here_or, none_in}
 use Rattle.terms.proofs.Places.{contains_at}
-use Rattle.terms.specs.Rising.{StandsAt}
 use Rattle.terms.specs.Types.{Id}
 use Rattle.terms.specs.Lookups.{IsRising, is_in}
 use Rattle.terms.proofs.Ids.{is_in_from_Contains}
@@ -34,8 +34,8 @@ no_place ids z none n y at_y = (
   λ e. absurd (true≢false (sym (is_in_from_Contains ids z (subst (Contains ids) e (contains_at ids n y at_y))) ∙ none)),
 )
 
--- what a search finds
-pub stands_at : (ids : List Id) (z : Id) (i : ℕ) → i < length ids → (x : Id)
-    → StandsAt (slice_cmp nat_cmp) (λ y. y) z ids i x → slice_get ids i ≡ Some z
-stands_at ids z i below x s =
-    slice_get-get_or ids i x below ∙ ap (λ v. Some v) (s.at x) ∙ ap (λ v. Some v) (exact_bytes x z s.tie)
+-- what a look-up finds
+pub place_stands : (ids : List Id) (z : Id) (n : ℕ) → position (bytes_eq z) ids ≡ Some n → slice_get ids n ≡ Some z
+place_stands ids z n is =
+    let at = position-Some (bytes_eq z) ids n [] is in
+    slice_get-get_or ids n [] at.0 ∙ ap (λ v. Some v) (sym ((bytes_eq-Decides z (get_or ids n [])).0 at.1))

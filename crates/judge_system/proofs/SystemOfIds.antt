@@ -14,7 +14,7 @@ use Rattle.terms.specs.declared.codes.NeedKind.{NeedKind}
 use Rattle.terms.specs.declared.codes.NeedKind.TheVariants.{Fmid}
 use Rattle.solve.specs.System.{Need, IsNeed, System, IsKept}
 use Rattle.terms.specs.Kept.{StaysKept}
-use Rattle.judge_system.specs.NumberedIds.{IsSystemOf}
+use Rattle.judge_system.specs.NumberedForm.{IsNumberedForm}
 
 -- the ids of a set of numbers
 abbrev pub ids_in : List Id → (ℕ → Bool) → Id → Bool
@@ -46,7 +46,7 @@ ids_in_gives (y ∷ ys) set x m = elim (or_cases (bytes_eq x y && set zero) (ids
 -- a kept number's id stays kept
 pub stays_from_kept : (ids : List Id) (E : Id → Type 0) (N : Id → NeedKind → Id → Type 0)
     (S : NeedKind → Id → Id → Type 0)
-    (p : System) (needed : List (NeedKind × Id)) → IsSystemOf E N S ids p needed →
+    (p : System) (needed : List (NeedKind × Id)) → IsNumberedForm E N S ids p needed →
     (n : ℕ) (x : Id) → slice_get ids n ≡ Some x → IsKept p n → StaysKept E N S x
 stays_from_kept ids E N S p needed h n x is u = (
   ids_in ids u.0,
@@ -83,7 +83,7 @@ option_gives set (Some x) m = (x, refl, m)
 -- an id that stays kept has a kept number
 pub kept_from_stays : (ids : List Id) (E : Id → Type 0) (N : Id → NeedKind → Id → Type 0)
     (S : NeedKind → Id → Id → Type 0)
-    (p : System) (needed : List (NeedKind × Id)) → IsSystemOf E N S ids p needed → ((x : Id) → E x → Contains ids x) →
+    (p : System) (needed : List (NeedKind × Id)) → IsNumberedForm E N S ids p needed → ((x : Id) → E x → Contains ids x) →
     (n : ℕ) (x : Id) → slice_get ids n ≡ Some x → StaysKept E N S x → IsKept p n
 kept_from_stays ids E N S p needed h within n x is u = (
   numbers_in ids u.0,

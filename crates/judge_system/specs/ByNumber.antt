@@ -1,28 +1,33 @@
 -- Which candidates are kept and why each other one is not, by their numbers.
-use Rattle.std.specs.Prelude.{◌≡◌, ◌↔◌, ◌<◌, ℕ, Bool, List, Some, AllPairs, Contains, IsTrue, length, map, slice_get}
-use Rattle.terms.specs.declared.codes.NeedKind.{NeedKind}
-use Rattle.terms.specs.declared.codes.Test.{Test}
+use Rattle.std.specs.Prelude.{◌≡◌, ◌↔◌, ◌<◌, ℕ, Bool, List, Some, AllPairs, Contains, IsTrue, Vec, length, map, slice_get}
+use Rattle.std.specs.declared.alloc.Global.{Global}
 use Rattle.terms.specs.Types.{Id}
 use Rattle.terms.specs.Lookups.{IsRising}
-use Rattle.solve.specs.System.{System, holds, AreKept}
+use Rattle.solve.specs.System.{System, holds}
 use Rattle.solve.specs.Causes as numbered
 use Rattle.solve.specs.Rows.{row_at}
 use Rattle.judge_system.specs.declared.failure.Failure.{Failure}
 use Rattle.judge_system.specs.declared.failures.Findings.{Findings}
+use Rattle.judge_system.specs.declared.judged.Judged.{Judged}
 use Rattle.judge_system.specs.Findings.{AreFailures}
+use Rattle.judge_system.specs.Numbered.{need_of}
 use Rattle.judge_system.specs.Open.{HaveOpen}
 
--- The ids are numbered by their places. Flags tell who is kept; each other id has its failure by what is found at its
--- place: the tests, the needs that no kept one serves, and the causers.
-pub record IsDecidedBy (ids : List Id) (p : System) (needed : List (NeedKind × Id)) (tests : List (List Test))
-    (kept : List Id) (failed : List (Id × Failure)) : Type 0 where
-  pub flags : List Bool
-  pub are_kept : AreKept p flags
+-- each number has its row, with its causers in their order
+pub record AreCausers (p : System) (flags : List Bool) (rows : List (Vec ℕ Global)) : Type 0 where
+  pub size : length rows ≡ p.size
+  pub exact : (x y : ℕ) → Contains (row_at rows x) y ↔ numbered.IsCauser p flags x y
+  pub rising : (x : ℕ) → AllPairs (λ a b. a < b) (row_at rows x)
+
+-- The flags tell who is kept. Each other id has its failure by what is found at its number: the tests, the needs that
+-- no kept one serves, and the causers.
+pub record IsDecidedBy (j : Judged) (flags : List Bool) (kept : List Id) (failed : List (Id × Failure)) :
+    Type 0 where
   pub rising : IsRising kept
-  pub members : (x : Id) → Contains kept x ↔ ((n : ℕ) × (slice_get ids n ≡ Some x) × IsTrue (holds flags n))
+  pub members : (x : Id) → Contains kept x
+      ↔ ((n : ℕ) × (slice_get j.ids.keys n ≡ Some x) × IsTrue (holds flags n))
   pub found : Findings
-  pub tests_are : map (λ row. row.items) found.tests.items ≡ tests
-  pub opened : HaveOpen flags p.needs needed (length needed) found.unserved.items
-  pub causers : (x y : ℕ) → Contains (row_at found.causers.items x) y ↔ numbered.IsCauser p flags x y
-  pub causers_rise : (x : ℕ) → AllPairs (λ a b. a < b) (row_at found.causers.items x)
-  pub failures : AreFailures ids kept found (length ids) failed
+  pub tests_are : found.tests.now ≡ j.tests.items
+  pub opened : HaveOpen flags j.system.needs (map need_of j.needs.items) (length j.needs.items) found.unserved.now
+  pub causers : AreCausers j.system flags found.causers.now
+  pub failures : AreFailures j.ids.keys kept found (length j.ids.keys) failed

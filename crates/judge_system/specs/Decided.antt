@@ -7,7 +7,6 @@ use Rattle.terms.specs.Lookups.{IsRising, is_in}
 use Rattle.terms.specs.Kept.{StaysKept}
 use Rattle.machine.specs.Outcome.{Failure}
 use Rattle.machine.specs.Installing.{IsFailure}
-use Rattle.judge_system.specs.Said as said
 
 -- which candidates are kept, rising, and why each other one is not, in the order of the candidates
 pub record AreDecided (Fails : Id → Test → Type 0) (Eligible : Id → Type 0) (Needs : Id → NeedKind → Id → Type 0)
@@ -16,8 +15,3 @@ pub record AreDecided (Fails : Id → Test → Type 0) (Eligible : Id → Type 0
   pub members : (x : Id) → Contains kept x ↔ StaysKept Eligible Needs Serves x
   pub ids : map (λ p. p.0) failed ≡ filter (λ x. not (is_in kept x)) cands
   pub failures : All (λ p. IsFailure cands kept Fails Eligible Needs Serves p.0 p.1) failed
-
--- by what is said of them
-abbrev pub Decides : said.Said → List Id → List (Id × Failure) → Type 0
-Decides s kept failed = AreDecided (said.FailsTest s) (said.IsEligible s) (said.Needs s) (said.Serves s.superseded)
-    s.cands kept failed

@@ -14,10 +14,10 @@ use Rattle.judge_system.specs.Open.{AreNeedsOf}
 
 -- there is a row for each of so many candidates, and causers are candidates
 pub record AreFindings (size : ℕ) (f : Findings) : Type 0 where
-  pub tests : length f.tests.items ≡ size
-  pub unserved : length f.unserved.items ≡ size
-  pub causers : length f.causers.items ≡ size
-  pub within : (n : ℕ) → All (λ m. m < size) (row_at f.causers.items n)
+  pub tests : length f.tests.now ≡ size
+  pub unserved : length f.unserved.now ≡ size
+  pub causers : length f.causers.now ≡ size
+  pub within : (n : ℕ) → All (λ m. m < size) (row_at f.causers.now n)
 
 -- the failure with these tests and needs, and with the ids at these places as causers
 pub record IsFailureOf (ids : List Id) (tests : List Test) (unserved : List (NeedKind × Id)) (causers : List ℕ)
@@ -28,8 +28,8 @@ pub record IsFailureOf (ids : List Id) (tests : List Test) (unserved : List (Nee
 
 -- the failure of the candidate at a place
 abbrev pub IsFailureAt : List Id → Findings → ℕ → machine.Failure → Type 0
-IsFailureAt ids found n f = IsFailureOf ids (row_at found.tests.items n) (row_at found.unserved.items n)
-    (row_at found.causers.items n) f
+IsFailureAt ids found n f = IsFailureOf ids (row_at found.tests.now n) (row_at found.unserved.now n)
+    (row_at found.causers.now n) f
 
 -- an id with the failure of the candidate at its place
 abbrev pub IsFailed : List Id → Findings → Id × Failure → Type 0

@@ -1,23 +1,57 @@
--- Candidates about whom a command has said all.
-use Rattle.std.specs.Prelude.{◌≢◌, Bool, List, All, AllPairs, Contains}
+-- Candidates about whom a command has said all, by their ids and by their numbers.
+use Rattle.std.specs.Prelude.{◌≡◌, ◌≢◌, ◌↔◌, Bool, List, All, AllPairs, Contains, IsTrue, length, map}
 use Rattle.terms.specs.declared.codes.NeedKind.{NeedKind}
 use Rattle.terms.specs.declared.codes.Test.{Test}
 use Rattle.terms.specs.Types.{Id}
+use Rattle.terms.specs.Lookups.{IsRising, is_nil}
+use Rattle.solve.specs.System.{IsSystem}
+use Rattle.judge_system.specs.declared.judged.Judged.{Judged}
+use Rattle.judge_system.specs.declared.stated.Assessment.{Assessment}
 use Rattle.judge_system.specs.declared.stated.RequisiteOf.{RequisiteOf}
+use Rattle.judge_system.specs.Numbered.{HasSystem, need_of}
+use Rattle.judge_system.specs.NumberedForm.{IsNumberedForm}
 use Rattle.judge_system.specs.Said.{AreTests, IsSaid}
 
--- Beside them stand the tests that each one fails. Needs are of candidates, each once, and candidates supersede.
-pub record AreJudged (Fails : Id → Test → Type 0) (Eligible : Id → Type 0) (Requires : Id → NeedKind → Id → Type 0)
-    (ServedBy : NeedKind → Id → Id → Type 0) (cands : List Id) (tests : List (List Test)) (needs : List RequisiteOf)
-    (superseded : List (Id × Id)) : Type 0 where
-  pub fails : Id → Test → Bool
-  pub tests_are : AreTests fails cands tests
-  pub of : All (λ w. Contains cands w.of) needs
-  pub once : AllPairs (λ v w. v ≢ w) needs
-  pub by : All (λ p. Contains cands p.0) superseded
-  pub said : IsSaid Fails Eligible Requires ServedBy (record {
-    cands = cands;
-    fails = fails;
-    needs = needs;
-    superseded = superseded;
-  })
+module _ (Fails : Id → Test → Type 0) (Eligible : Id → Type 0) (Requires : Id → NeedKind → Id → Type 0)
+    (ServedBy : NeedKind → Id → Id → Type 0) (cands : List Id) where
+  -- Beside them stand the tests that each one fails. Needs are of candidates, each once, and candidates supersede.
+  pub record AreJudged (tests : List (List Test)) (needs : List RequisiteOf) (superseded : List (Id × Id)) :
+      Type 0 where
+    pub fails : Id → Test → Bool
+    pub tests_are : AreTests fails cands tests
+    pub of : All (λ w. Contains cands w.of) needs
+    pub once : AllPairs (λ v w. v ≢ w) needs
+    pub by : All (λ p. Contains cands p.0) superseded
+    pub said : IsSaid Fails Eligible Requires ServedBy (record {
+      cands = cands;
+      fails = fails;
+      needs = needs;
+      superseded = superseded;
+    })
+
+  -- The numbers are those of the candidates, in their order. Beside each one stand the tests that it fails, and the
+  -- system is the numbered form of who is eligible, who needs what, and who serves a need.
+  pub record IsJudged (j : Judged) : Type 0 where
+    pub ids_are : j.ids.keys ≡ cands
+    pub rising : IsRising cands
+    pub fails : Id → Test → Bool
+    pub tests_are : AreTests fails cands (map (λ row. row.items) j.tests.items)
+    pub failed : (x : Id) (test : Test) → Contains cands x → IsTrue (fails x test) ↔ Fails x test
+    pub within : (x : Id) → Eligible x → Contains cands x
+    pub numbered : IsNumberedForm Eligible Requires ServedBy cands j.system (map need_of j.needs.items)
+
+-- the candidates with what is said of them, and the system of that
+pub record IsNumberedAs (cands : List Id) (said : Assessment) (j : Judged) : Type 0 where
+  pub ids_are : j.ids.keys ≡ cands
+  pub tests_are : j.tests ≡ said.tests
+  pub needs_are : j.needs ≡ said.needs
+  pub bypassed_are : j.bypassed ≡ said.bypassed
+  pub valid : IsSystem j.system
+  pub system : HasSystem cands said.superseded.items (map (λ row. is_nil row.items) said.tests.items)
+      said.needs.items j.system
+
+-- there is a row of tests for each number, and a need by ids for each need of the system
+pub record HasParts (j : Judged) : Type 0 where
+  pub size : j.system.size ≡ length j.ids.keys
+  pub tests : length j.tests.items ≡ length j.ids.keys
+  pub needs : length j.needs.items ≡ length j.system.needs

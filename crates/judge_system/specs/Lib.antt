@@ -7,4 +7,4 @@ pub mod Numbered
 pub mod Findings
 pub mod Open
 pub mod ByNumber
-pub mod NumberedIds
+pub mod NumberedForm

@@ -11,11 +11,11 @@ use std::alloc::{AllocError, Global};
 use terms::{NeedKind, Test};
 
 /// What is known of each candidate, by its place: the tests that it fails, its open needs, and its causers.
-#[derive(Drop)]
-pub(crate) struct Findings {
-    pub(crate) tests: Vec<Vec<Test>>,
-    pub(crate) unserved: Vec<Vec<(NeedKind, Id)>>,
-    pub(crate) causers: Vec<Vec<usize>>,
+#[derive(Clone, Copy)]
+pub(crate) struct Findings<'a> {
+    pub(crate) tests: &'a [Vec<Test>],
+    pub(crate) unserved: &'a [Vec<(NeedKind, Id)>],
+    pub(crate) causers: &'a [Vec<u32>],
 }
 
 // Why a candidate with these failed.
@@ -24,7 +24,7 @@ fn failure_of(
     ids: &[Id],
     tests: &[Test],
     unserved: &[(NeedKind, Id)],
-    causers: &[usize],
+    causers: &[u32],
 ) -> Result<Failure, AllocError>
     requires { All (λ m. m < length ids.now) causers.now }
     ensures { IfOk result (λ f. IsFailureOf ids.now tests.now unserved.now causers.now (failure_view f)) }
@@ -43,7 +43,7 @@ fn failure_of(
 fn failure_at(
     alloc: Global,
     ids: &[Id],
-    found: &Findings,
+    found: &Findings<'_>,
     place: usize,
 ) -> Result<Failure, AllocError>
     requires found { AreFindings (length ids.now) found.now }
@@ -64,7 +64,7 @@ fn add_failure(
     alloc: Global,
     ids: &[Id],
     kept: &IdList,
-    found: &Findings,
+    found: &Findings<'_>,
     place: usize,
     failed: &mut Vec<(Id, Failure)>,
 ) -> Result<(), AllocError>
@@ -85,7 +85,7 @@ pub(crate) fn failures(
     alloc: Global,
     ids: &[Id],
     kept: &IdList,
-    found: &Findings,
+    found: &Findings<'_>,
 ) -> Result<Vec<(Id, Failure)>, AllocError>
     requires { AreFindings (length ids.now) found.now }
     ensures { IfOk result (λ failed. AreFailures ids.now kept.now found.now (length ids.now) failed.items) }

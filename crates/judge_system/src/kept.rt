@@ -30,13 +30,13 @@ pub(crate) fn kept_ids(alloc: Global, ids: &[Id], flags: &[bool]) -> Result<IdLi
 }
 
 /// The ids at the places, in their order.
-pub(crate) fn ids_at(alloc: Global, ids: &[Id], places: &[usize]) -> Result<Vec<Id>, AllocError>
+pub(crate) fn ids_at(alloc: Global, ids: &[Id], places: &[u32]) -> Result<Vec<Id>, AllocError>
     requires { All (λ m. m < length ids.now) places.now }
     ensures { IfOk result (λ found. found.items ≡ map (λ m. slice_index_or ids.now m []) places.now) }
 {
     let mut found = Vec::new(alloc);
     for place in places {
-        found.push(ids[*place])?;
+        found.push(ids[*place as usize])?;
     }
     Ok(found)
 }

@@ -1,20 +1,25 @@
-//! Which candidates of a command are kept, and why each other one is not: one engine for APPLY, ACCEPT and RESTORE.
-//! A caller says of its candidates, by their ids, which tests each one fails, what each one needs, and whom each one
-//! supersedes. `decide` answers the greatest set of those that fail no test and that supports itself, and for each
-//! other one its tests, the needs that nobody kept serves, and the causers. Seen in the code alone: needs are numbered
-//! one by one, and who serves one is found in an index.
+//! The candidates of a command by their numbers, and what is decided of them by their ids: one engine for APPLY, ACCEPT
+//! and RESTORE.
+//! An `Assessment` says of the candidates, by their ids, which tests each one fails, what it needs, and which ids it
+//! supersedes. `Judged` is its numbered form: a `solve::System`, the id of each number, and what the command needs
+//! again. For the set that a `solve::Solver` keeps, `Judged::decided` returns the kept ids, and for each other candidate
+//! its failed tests, the needs that no kept candidate serves, and the causers. Seen in the code alone: needs are
+//! numbered one by one, and an index finds the candidates that serve a need. Every call that allocates returns
+//! `AllocError` if memory runs out.
 #![tactic(auto)]
 
 mod decided;
 mod failure;
 mod failures;
+mod judged;
 mod kept;
 mod needs;
 mod numbered;
 mod serving;
 mod stated;
 
-pub use decided::{Decided, decide};
+pub use decided::Decided;
 pub use failure::{Failure, OpenNeed};
+pub use judged::Judged;
 pub use serving::takes_superseder;
-pub use stated::RequisiteOf;
+pub use stated::{Assessment, RequisiteOf};

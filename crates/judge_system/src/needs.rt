@@ -1,5 +1,5 @@
 //! The needs that nothing kept serves.
-ghost use Rattle.std.specs.Prelude.{◌≡◌, ◌↔◌, ◌⊎◌, ◌<◌, ◌++◌, ℕ, All, Contains, IfOk, OnOk, length, map};
+ghost use Rattle.std.specs.Prelude.{◌≡◌, ◌↔◌, ◌<◌, ◌++◌, ℕ, Contains, IfOk, OnOk, length, map};
 ghost use Rattle.solve.specs.NeedView.{numbered};
 ghost use Rattle.solve.specs.Rows.{row_at};
 ghost use Rattle.judge_system.specs.Views.{need_view};
@@ -9,24 +9,23 @@ ghost use Rattle.judge_system.specs.Open.{open_of, AreEachOnce, HaveOpen, AreNee
 use crate::failure::OpenNeed;
 use crate::stated::{RequisiteOf, need_at};
 use fields::Id;
-use solve::{Need, System, empty_rows, serves};
+use solve::{Kept, Need, System, empty_rows};
 use std::alloc::{AllocError, Global};
 use terms::NeedKind;
 
 // Adds the need to the row of its candidate, unless it is served.
 fn add_open(
     rows: &mut [Vec<(NeedKind, Id)>],
-    kept: &[bool],
+    kept: &Kept,
     need: &Need,
     meant: (NeedKind, Id),
 ) -> Result<(), AllocError>
-    requires of { need.now.of < length rows.old }
-    requires any { All (λ y. y < length kept.now) need.now.any.items }
+    requires { need.now.of < length rows.old }
     ensures { OnOk result ((x : ℕ) → row_at rows.new x
         ≡ row_at rows.old x ++ open_of kept.now (numbered need.now) (meant.0, meant.1) x) }
 {
-    if !serves(kept, &need.any) {
-        rows[need.of].push(meant)?;
+    if !kept.serves(need) {
+        rows[need.of as usize].push(meant)?;
     }
     Ok(())
 }
@@ -36,7 +35,7 @@ pub(crate) fn open_needs(
     alloc: Global,
     system: &System,
     stated: &[RequisiteOf],
-    kept: &[bool],
+    kept: &Kept,
 ) -> Result<Vec<Vec<(NeedKind, Id)>>, AllocError>
     requires kept { length kept.now ≡ system.now.size }
     requires stated { length stated.now ≡ length system.now.needs }

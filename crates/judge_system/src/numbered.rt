@@ -1,16 +1,36 @@
 //! The numbered system of who is eligible and needs whom.
-ghost use Rattle.std.specs.Prelude.{◌≡◌, length, map, All, Contains, OnOk, IfOk};
-ghost use Rattle.terms.specs.Lookups.{is_nil};
+ghost use Rattle.std.specs.Prelude.{◌≡◌, ◌<◌, ◌^◌, length, map, All, Contains, OnOk, IfOk};
+ghost use Rattle.terms.specs.Lookups.{IsRising, is_nil};
 ghost use Rattle.solve.specs.System.{IsSystem};
 ghost use Rattle.judge_system.specs.Numbered.{AddsNeed, HasNeeds, HasSystem};
 
 use crate::serving::{own_place, places_of, served};
 use crate::stated::{RequisiteOf, need_at};
 use fields::{Id, IdList};
+use indexmap::IndexSet;
 use solve::{Need, System};
 use std::alloc::{AllocError, Global};
 use std::collections::BTreeSet;
 use terms::Test;
+
+/// As many candidates as there are numbers of 32 bits for their count.
+const MOST: usize = u32::MAX as usize;
+
+/// The ids, numbered in their order.
+pub(crate) fn with_numbers(alloc: Global, ids: &IdList) -> Result<IndexSet<Id>, AllocError>
+    ensures ids { IfOk result (λ numbered. numbered.keys ≡ ids.now) }
+    ensures rising { IfOk result (λ numbered. IsRising numbered.keys) }
+    ensures few { IfOk result (λ numbered. length numbered.keys < 2 ^ 32) }
+{
+    if ids.len() > MOST {
+        return Err(AllocError);
+    }
+    let mut numbered = IndexSet::new(alloc);
+    for id in ids.as_slice() {
+        numbered.insert(*id)?;
+    }
+    Ok(numbered)
+}
 
 /// Whether each candidate fails no test.
 pub(crate) fn all_eligible(alloc: Global, rows: &[Vec<Test>]) -> Result<Vec<bool>, AllocError>
@@ -26,14 +46,16 @@ pub(crate) fn all_eligible(alloc: Global, rows: &[Vec<Test>]) -> Result<Vec<bool
 // Adds one need.
 fn number_need(
     alloc: Global,
-    ids: &IdList,
-    served: &BTreeSet<(Id, usize)>,
+    ids: &IndexSet<Id>,
+    served: &BTreeSet<(Id, u32)>,
     need: RequisiteOf,
     system: &mut System,
 ) -> Result<(), AllocError>
-    requires size { system.old.size ≡ length ids.now }
-    requires of { Contains ids.now need.of }
-    ensures { OnOk result (AddsNeed ids.now served.now.keys need system.old system.new) }
+    requires few { length ids.now.keys < 2 ^ 32 }
+    requires rising { IsRising ids.now.keys }
+    requires size { system.old.size ≡ length ids.now.keys }
+    requires of { Contains ids.now.keys need.of }
+    ensures { OnOk result (AddsNeed ids.now.keys served.now.keys need system.old system.new) }
 {
     let any = places_of(alloc, ids, served, need.kind, need.id)?;
     let of = own_place(ids, need.of);
@@ -44,18 +66,20 @@ fn number_need(
 // The system of candidates with these flags and these needs.
 fn with_needs(
     alloc: Global,
-    ids: &IdList,
-    served: &BTreeSet<(Id, usize)>,
+    ids: &IndexSet<Id>,
+    served: &BTreeSet<(Id, u32)>,
     stated: &[RequisiteOf],
     eligible: Vec<bool>,
 ) -> Result<System, AllocError>
-    requires within { All (λ w. Contains ids.now w.of) stated.now }
-    requires flags { length eligible.items ≡ length ids.now }
+    requires few { length ids.now.keys < 2 ^ 32 }
+    requires rising { IsRising ids.now.keys }
+    requires within { All (λ w. Contains ids.now.keys w.of) stated.now }
+    requires flags { length eligible.items ≡ length ids.now.keys }
     ensures valid { IfOk result (λ system. IsSystem system) }
-    ensures needs { IfOk result (λ system. HasNeeds ids.now served.now.keys eligible.items stated.now
+    ensures needs { IfOk result (λ system. HasNeeds ids.now.keys served.now.keys eligible.items stated.now
         system) }
 {
-    let mut system = System::new(alloc, eligible);
+    let mut system = System::new(alloc, eligible)?;
     for i in 0..stated.len() {
         let need = need_at(stated, i);
         number_need(alloc, ids, served, need, &mut system)?;
@@ -67,16 +91,18 @@ fn with_needs(
 /// The system of candidates with these flags and these needs, of which some supersede what is needed.
 pub(crate) fn numbered(
     alloc: Global,
-    ids: &IdList,
+    ids: &IndexSet<Id>,
     superseded: &[(Id, Id)],
     stated: &[RequisiteOf],
     eligible: Vec<bool>,
 ) -> Result<System, AllocError>
-    requires by { All (λ p. Contains ids.now p.0) superseded.now }
-    requires within { All (λ w. Contains ids.now w.of) stated.now }
-    requires flags { length eligible.items ≡ length ids.now }
+    requires few { length ids.now.keys < 2 ^ 32 }
+    requires rising { IsRising ids.now.keys }
+    requires by { All (λ p. Contains ids.now.keys p.0) superseded.now }
+    requires within { All (λ w. Contains ids.now.keys w.of) stated.now }
+    requires flags { length eligible.items ≡ length ids.now.keys }
     ensures valid { IfOk result (λ system. IsSystem system) }
-    ensures system { IfOk result (λ system. HasSystem ids.now superseded.now eligible.items stated.now system) }
+    ensures system { IfOk result (λ system. HasSystem ids.now.keys superseded.now eligible.items stated.now system) }
 {
     let served = served(alloc, ids, superseded)?;
     let system = with_needs(alloc, ids, &served, stated, eligible)?;

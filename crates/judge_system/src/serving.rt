@@ -1,56 +1,61 @@
 //! Who serves a need: the id itself, and a candidate that supersedes it where that serves.
-ghost use Rattle.std.specs.Prelude.{◌≡◌, ◌<◌, ℕ, List, Some, length, map, filter, slice_get, All, AllPairs};
+ghost use Rattle.std.specs.Prelude.{◌≡◌, ◌<◌, ◌^◌, ℕ, List, Some, length, map, filter, slice_get, All, AllPairs};
 ghost use Rattle.std.specs.Prelude.{Contains, IsTrue, IsFalse, IsNone, IfSome, OnOk, IfOk};
 ghost use Rattle.terms.specs.Types.{Id as AnId};
-ghost use Rattle.terms.specs.Lookups.{is_in};
+ghost use Rattle.terms.specs.Lookups.{IsRising, is_in};
 ghost use Rattle.terms.specs.Needs.{takes_superseder};
 ghost use Rattle.judge_system.specs.Serving.{AreOwn, AddsSuperseded, AreServed, AreOwnPlaces, IsServedIn, is_between};
 
-use fields::{Attest, Id, IdList};
+use fields::Id;
+use indexmap::IndexSet;
 use std::alloc::{AllocError, Global};
 use std::collections::BTreeSet;
 use terms::NeedKind;
 
-// Where the id stands in the list.
-fn place_of(ids: &IdList, id: Id) -> Option<usize>
-    ensures at { IfSome result (λ n. slice_get ids.now n ≡ Some id) }
-    ensures none { IsNone result → IsFalse (is_in ids.now id) }
+// Where the id stands among the numbered ones: its number.
+fn place_of(ids: &IndexSet<Id>, id: Id) -> Option<u32>
+    requires { length ids.now.keys < 2 ^ 32 }
+    ensures at { IfSome result (λ n. slice_get ids.now.keys n ≡ Some id) }
+    ensures none { IsNone result → IsFalse (is_in ids.now.keys id) }
 {
-    match ids.as_slice().binary_search(&id) {
-        Ok(place) => Some(place),
-        Err(_) => None,
+    match ids.get_index_of(&id) {
+        Some(place) => Some(place as u32),
+        None => None,
     }
 }
 
-/// The place of one that is in the list.
-pub(crate) fn own_place(ids: &IdList, id: Id) -> usize
-    requires { Contains ids.now id }
-    ensures { slice_get ids.now result ≡ Some id }
+/// The place of one that is numbered.
+pub(crate) fn own_place(ids: &IndexSet<Id>, id: Id) -> u32
+    requires few { length ids.now.keys < 2 ^ 32 }
+    requires within { Contains ids.now.keys id }
+    ensures { slice_get ids.now.keys result ≡ Some id }
 {
     place_of(ids, id).unwrap()
 }
 
 // The candidates with their places.
-fn own_pairs(alloc: Global, ids: &[Id]) -> Result<Vec<(Id, usize)>, AllocError>
+fn own_pairs(alloc: Global, ids: &[Id]) -> Result<Vec<(Id, u32)>, AllocError>
+    requires { length ids.now < 2 ^ 32 }
     ensures { IfOk result (λ pairs. AreOwn ids.now (length ids.now) pairs.items) }
 {
     let mut pairs = Vec::new(alloc);
     for i in 0..ids.len() {
-        pairs.push((ids[i], i))?;
+        pairs.push((ids[i], i as u32))?;
     }
     Ok(pairs)
 }
 
 // Adds what candidates supersede, each with the place of the candidate.
 fn add_superseded(
-    ids: &IdList,
+    ids: &IndexSet<Id>,
     superseded: &[(Id, Id)],
-    pairs: &mut Vec<(Id, usize)>,
+    pairs: &mut Vec<(Id, u32)>,
 ) -> Result<(), AllocError>
-    requires within { All (λ p. Contains ids.now p.0) superseded.now }
-    ensures { OnOk result (AddsSuperseded ids.now superseded.now pairs.old.items pairs.new.items) }
+    requires few { length ids.now.keys < 2 ^ 32 }
+    requires rising { IsRising ids.now.keys }
+    requires within { All (λ p. Contains ids.now.keys p.0) superseded.now }
+    ensures { OnOk result (AddsSuperseded ids.now.keys superseded.now pairs.old.items pairs.new.items) }
 {
-    ids.attest();
     for pair in superseded {
         pairs.push((pair.1, own_place(ids, pair.0)))?;
     }
@@ -60,15 +65,17 @@ fn add_superseded(
 /// The ids that candidates stand for, each with the place of the candidate, in order.
 pub(crate) fn served(
     alloc: Global,
-    ids: &IdList,
+    ids: &IndexSet<Id>,
     superseded: &[(Id, Id)],
-) -> Result<BTreeSet<(Id, usize)>, AllocError>
-    requires within { All (λ p. Contains ids.now p.0) superseded.now }
-    ensures { IfOk result (λ set. AreServed ids.now superseded.now set.keys) }
+) -> Result<BTreeSet<(Id, u32)>, AllocError>
+    requires few { length ids.now.keys < 2 ^ 32 }
+    requires rising { IsRising ids.now.keys }
+    requires within { All (λ p. Contains ids.now.keys p.0) superseded.now }
+    ensures { IfOk result (λ set. AreServed ids.now.keys superseded.now set.keys) }
 {
     let mut pairs = own_pairs(alloc, ids.as_slice())?;
     add_superseded(ids, superseded, &mut pairs)?;
-    let set: BTreeSet<(Id, usize)> = pairs.into_iter().collect(alloc)?;
+    let set: BTreeSet<(Id, u32)> = pairs.into_iter().collect(alloc)?;
     Ok(set)
 }
 
@@ -82,15 +89,16 @@ pub fn takes_superseder(kind: NeedKind) -> bool
 // The places of the candidates that stand for an id.
 fn places_in(
     alloc: Global,
-    ids: &IdList,
-    served: &BTreeSet<(Id, usize)>,
+    ids: &IndexSet<Id>,
+    served: &BTreeSet<(Id, u32)>,
     id: Id,
-) -> Result<Vec<usize>, AllocError>
-    ensures { IfOk result (λ any. any.items ≡ map (λ p. p.1) (filter (is_between id (length ids.now))
+) -> Result<Vec<u32>, AllocError>
+    requires { length ids.now.keys < 2 ^ 32 }
+    ensures { IfOk result (λ any. any.items ≡ map (λ p. p.1) (filter (is_between id (length ids.now.keys))
         served.now.keys)) }
 {
     let mut places = Vec::new(alloc);
-    for pair in served.range((id, 0)..(id, ids.len())) {
+    for pair in served.range((id, 0)..(id, ids.len() as u32)) {
         places.push(pair.1)?;
     }
     Ok(places)
@@ -99,14 +107,15 @@ fn places_in(
 // They serve a need where a superseder does.
 fn served_places(
     alloc: Global,
-    ids: &IdList,
-    served: &BTreeSet<(Id, usize)>,
+    ids: &IndexSet<Id>,
+    served: &BTreeSet<(Id, u32)>,
     kind: NeedKind,
     id: Id,
-) -> Result<Vec<usize>, AllocError>
+) -> Result<Vec<u32>, AllocError>
+    requires few { length ids.now.keys < 2 ^ 32 }
     requires takes { IsTrue (takes_superseder kind) }
-    ensures places { IfOk result (λ any. IsServedIn ids.now kind id served.now.keys any.items) }
-    ensures below { IfOk result (λ any. All (λ n. n < length ids.now) any.items) }
+    ensures places { IfOk result (λ any. IsServedIn ids.now.keys kind id served.now.keys any.items) }
+    ensures below { IfOk result (λ any. All (λ n. n < length ids.now.keys) any.items) }
     ensures rising { IfOk result (λ any. AllPairs (λ a b. a < b) any.items) }
 {
     let _ = served.len();
@@ -115,12 +124,13 @@ fn served_places(
 }
 
 // Else the id alone does, if it is a candidate.
-fn own_places(alloc: Global, ids: &IdList, id: Id) -> Result<Vec<usize>, AllocError>
-    ensures places { IfOk result (λ any. AreOwnPlaces ids.now id any.items) }
-    ensures below { IfOk result (λ any. All (λ n. n < length ids.now) any.items) }
+fn own_places(alloc: Global, ids: &IndexSet<Id>, id: Id) -> Result<Vec<u32>, AllocError>
+    requires few { length ids.now.keys < 2 ^ 32 }
+    requires rising { IsRising ids.now.keys }
+    ensures places { IfOk result (λ any. AreOwnPlaces ids.now.keys id any.items) }
+    ensures below { IfOk result (λ any. All (λ n. n < length ids.now.keys) any.items) }
     ensures rising { IfOk result (λ any. AllPairs (λ a b. a < b) any.items) }
 {
-    ids.attest();
     let mut places = Vec::new(alloc);
     let Some(place) = place_of(ids, id) else {
         return Ok(places);
@@ -132,13 +142,15 @@ fn own_places(alloc: Global, ids: &IdList, id: Id) -> Result<Vec<usize>, AllocEr
 /// The places of the candidates that serve a need.
 pub(crate) fn places_of(
     alloc: Global,
-    ids: &IdList,
-    served: &BTreeSet<(Id, usize)>,
+    ids: &IndexSet<Id>,
+    served: &BTreeSet<(Id, u32)>,
     kind: NeedKind,
     id: Id,
-) -> Result<Vec<usize>, AllocError>
-    ensures places { IfOk result (λ any. IsServedIn ids.now kind id served.now.keys any.items) }
-    ensures below { IfOk result (λ any. All (λ n. n < length ids.now) any.items) }
+) -> Result<Vec<u32>, AllocError>
+    requires few { length ids.now.keys < 2 ^ 32 }
+    requires rising { IsRising ids.now.keys }
+    ensures places { IfOk result (λ any. IsServedIn ids.now.keys kind id served.now.keys any.items) }
+    ensures below { IfOk result (λ any. All (λ n. n < length ids.now.keys) any.items) }
     ensures rising { IfOk result (λ any. AllPairs (λ a b. a < b) any.items) }
 {
     if takes_superseder(kind) {

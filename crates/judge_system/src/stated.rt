@@ -2,7 +2,7 @@
 ghost use Rattle.std.specs.Prelude.{◌≡◌, ◌<◌, Some, length, slice_get};
 
 use fields::Id;
-use terms::NeedKind;
+use terms::{NeedKind, Test};
 
 /// A candidate needs this id.
 #[derive(Clone, Copy)]
@@ -10,6 +10,19 @@ pub struct RequisiteOf {
     pub of: Id,
     pub kind: NeedKind,
     pub id: Id,
+}
+
+/// What a command says of its candidates, by their ids.
+#[derive(Drop)]
+pub struct Assessment {
+    /// The tests that each candidate fails, in the order of the candidates.
+    pub tests: Vec<Vec<Test>>,
+    /// What each one needs, each need once.
+    pub needs: Vec<RequisiteOf>,
+    /// The candidates with each id that they supersede, of those that are needed where a superseder serves.
+    pub superseded: Vec<(Id, Id)>,
+    /// The candidates with each of their requisites that BYPASS covers.
+    pub bypassed: Vec<(Id, Id)>,
 }
 
 /// The need at a place.

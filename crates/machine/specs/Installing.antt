@@ -18,7 +18,7 @@ use Rattle.terms.specs.Judged.{setting, IsKeptSet}
 use Rattle.terms.specs.Failures.{all_tests, all_needs, IsOpenNeed, IsCauser}
 use Rattle.terms.specs.Install.{Installation, TakesEffect, HasInstalled}
 use Rattle.machine.specs.Outcome.{Status, Already, Applied, Accepted, Superseded, Failed, Failure, Deleted, Missing}
-use Rattle.machine.specs.Outcome.{NoVer, Line, StatusLine}
+use Rattle.machine.specs.Outcome.{NoVer, NotApplied, Line, StatusLine}
 use Rattle.machine.specs.Receiving.{place_of}
 
 -- Why a candidate is not kept: its failed tests, its open needs by kind and id, and its causers.
@@ -74,6 +74,7 @@ not_chosen_status out.Already = Already
 not_chosen_status out.Deleted = Deleted
 not_chosen_status out.Missing = Missing
 not_chosen_status out.NoVer = NoVer
+not_chosen_status out.NotApplied = NotApplied
 
 -- The status of an id: installed, kept and superseded, failed, or named by the command and no candidate.
 pub data HasStatus (d : Decision) (sel : Selection) (x : Id) : Status → Type 0 where

@@ -78,6 +78,7 @@ module _ (d : Decision) (sel : Selection) where
   unchosen_not out.Deleted f same = cc same
   unchosen_not out.Missing f same = cc same
   unchosen_not out.NoVer f same = cc same
+  unchosen_not out.NotApplied f same = cc same
 
   failed_by : (x : Id) (s : Status) (f : Failure) → HasStatus d sel x s → s ≡ Failed f → FailedBy x f
   failed_by x s f (IsInstalled e) same = absurd (installed_not d.setting.zone.kind f same)

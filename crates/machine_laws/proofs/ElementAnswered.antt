@@ -15,7 +15,7 @@ use Rattle.change.specs.Folding.{IsFolded}
 use Rattle.change.proofs.ChosenVers.{names_no_loop}
 use Rattle.change.proofs.FoldEnd.{folded_after, folded_none, folded_some}
 use Rattle.terms.proofs.ChangedElements.{replaces_changes}
-use Rattle.undo.proofs.Reverted.{key_found}
+use Rattle.change.proofs.Reverted.{key_found}
 use Rattle.machine_laws.proofs.LessForms.{zone_less_forms, element_forms}
 use Rattle.machine_laws.proofs.Effective.{IsSoundInstall}
 use Rattle.machine_laws.proofs.InOver.{AreInOver, in_over}

@@ -18,13 +18,13 @@ use Rattle.terms.specs.Install.{Installation, HasInstalled}
 use Rattle.terms.specs.Closed.{IsClosedZone}
 use Rattle.machine.specs.Installing.{Decision}
 use Rattle.change.proofs.ChosenVers.{AreFor, counting_for}
-use Rattle.change.proofs.Installable.{is_fresh}
 use Rattle.change.proofs.KeptTogether.{unsupplied}
 use Rattle.machine_laws.proofs.Decisions.{candidate_open}
 use Rattle.machine_laws.proofs.AlikeSysmods.{closed_by}
 use Rattle.machine_laws.proofs.AppliedIds.{applied_in_ids}
 use Rattle.machine_laws.proofs.Installs.{IsInstall}
 use Rattle.machine_laws.proofs.KeptChoice.{undated, counts_whatever, install_keeps_choice}
+use Rattle.machine_laws.proofs.Installable.{not_supplied}
 
 -- A kept set in a setting whose zone is closed.
 pub record Keeps (s : Setting) (survivors kept : List Id) : Type 0 where
@@ -80,7 +80,7 @@ module _ (s : Setting) (survivors kept : List Id) (k : Keeps s survivors kept) w
 
   -- a candidate is not applied
   pub unapplied : (x : Id) → Contains s.cands x → is_applied s.zone x ≡ false
-  unapplied x is = unsupplied s.zone x (is_fresh s.global s.zone x (k.installable x is)).not_supplied
+  unapplied x is = unsupplied s.zone x (not_supplied s.global s.zone x (k.installable x is))
 
   -- and has a ++VER that counts
   pub candidate_ver : (x : Id) → Contains s.cands x → IsSome (s.choice x)

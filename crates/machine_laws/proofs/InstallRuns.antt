@@ -19,7 +19,6 @@ use Rattle.machine.specs.Installing.{Decision, IsDecision, InstallsSelected}
 use Rattle.machine.specs.State.{State, zone_named, with_zone, unless_at, at_kind}
 use Rattle.machine.specs.Machine.{InstallsThere}
 use Rattle.change.proofs.ChosenVers.{counting_for}
-use Rattle.change.proofs.Installable.{is_fresh}
 use Rattle.change.proofs.KeptTogether.{unsupplied, InstallsKept, install_over, changed_base}
 use Rattle.machine_laws.proofs.Decisions.{candidate_open}
 use Rattle.machine_laws.specs.Storable.{IsStorable}
@@ -27,6 +26,7 @@ use Rattle.machine_laws.proofs.DecisionLines.{decided_lines}
 use Rattle.machine_laws.proofs.Effective.{IsSoundInstall}
 use Rattle.machine_laws.proofs.RestoreRuns.{of_named, fits_from}
 use Rattle.machine_laws.proofs.ZoneAnswered.{zone_answered}
+use Rattle.machine_laws.proofs.Installable.{not_supplied}
 
 module _ (g : Global) (is_global : IsGlobal g) (sysmods : All HasSysmodForms g.sysmods) (zone : Zone)
     (is_zone : IsZone zone) (forms : HasZoneForms zone) (related : Option Zone) (sel : Selection) (bypass : Bypass)
@@ -65,8 +65,8 @@ module _ (g : Global) (is_global : IsGlobal g) (sysmods : All HasSysmodForms g.s
 
       not_applied : (x : Id) → Contains s.cands x → is_applied s.zone x ≡ false
       not_applied x cand =
-          unsupplied zone x (is_fresh g zone x
-          (and_parts _ _ (candidate_open g zone sel x ((decides.candidates.members x).0 cand))).0).not_supplied
+          unsupplied zone x (not_supplied g zone x
+          (and_parts _ _ (candidate_open g zone sel x ((decides.candidates.members x).0 cand))).0)
 
   -- So each decision leads to a zone.
   pub decision_installed : (d : Decision) → IsDecision g zone related sel bypass date d

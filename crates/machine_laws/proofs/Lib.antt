@@ -23,6 +23,7 @@ pub mod StepForms
 pub mod Topmost
 pub mod ZonesKept
 pub mod TextForms
+pub mod Installable
 pub mod Installs
 pub mod Supplied
 pub mod Given

@@ -23,7 +23,6 @@ use Rattle.terms.specs.Install.{Installation, cleared, HasInstalled, deleters, d
 use Rattle.terms.specs.Closed.{IsAtPeace}
 use Rattle.store_schema.specs.Forms.{HasSysmodForms}
 use Rattle.machine.specs.Installing.{Decision}
-use Rattle.change.proofs.Installable.{is_fresh}
 use Rattle.machine_laws.proofs.Lists.{find_itself}
 use Rattle.machine_laws.proofs.OperandForms.{HasVers, ver_forms}
 use Rattle.machine_laws.proofs.AppliedIds.{applied_in_ids}
@@ -33,6 +32,7 @@ use Rattle.machine_laws.proofs.Given.{Keeps, installing, eligible, kept_candidat
 use Rattle.machine_laws.proofs.Chains.{was_supby, view_applied}
 use Rattle.machine_laws.proofs.Effect.{applied_either, effect_applied}
 use Rattle.machine_laws.proofs.Undeleted.{in_chain, undeleted_by, applied_undeleted, undeleted_applied, chain_applied}
+use Rattle.machine_laws.proofs.Installable.{not_deleted}
 use Rattle.terms.proofs.Applied.{in_applied_ids}
 use Rattle.terms.proofs.Searches.{passes_some}
 
@@ -89,8 +89,8 @@ module _ (s : Setting) (survivors kept : List Id) (k : Keeps s survivors kept) (
   -- what is applied was not deleted before
   was_undeleted : (x : Id) → is_applied new x ≡ true → is_some (delby_of s.zone x) ≡ false
   was_undeleted x on = elim (applied_either s survivors kept k bypassed date new installed x on) [
-    | inl effect ↦ (is_fresh s.global s.zone x
-        (k.installable x (kept_candidate s survivors kept k x effect.kept))).not_deleted
+    | inl effect ↦ not_deleted s.global s.zone x
+        (k.installable x (kept_candidate s survivors kept k x effect.kept))
     | inr left ↦
         let peace : IsAtPeace s.global s.choice s.zone x =
         All-contains (IsAtPeace s.global s.choice s.zone) (applied_ids s.zone) x k.closed.at_peace

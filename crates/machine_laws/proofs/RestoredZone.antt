@@ -10,9 +10,9 @@ use Rattle.terms.specs.Deleted.{entries_less}
 use Rattle.terms.specs.Restore.{Restoring, Restores}
 use Rattle.terms.proofs.ElementOrder.{element_cmp_total, element_ties}
 use Rattle.zones.proofs.Entries.{entries_less_held, entries_less_waive, entries_less_rise}
-use Rattle.undo.specs.Restoring.{all_changed, element_at}
+use Rattle.change.specs.Restoring.{all_changed, element_at}
 use Rattle.terms.proofs.ElementOrder.{same_key}
-use Rattle.undo.proofs.Reverted.{key_found, by_some}
+use Rattle.change.proofs.Reverted.{key_found, by_some}
 use Rattle.machine_laws.proofs.Wanted.{with_wanted, with_wanted_rises, found_wanted}
 
 module _ (r : Restoring) (kept : List Id) (is : IsZone r.zone) where

@@ -23,11 +23,11 @@ use Rattle.terms.specs.Closed.{IsClosedZone, IsOwned}
 use Rattle.store_schema.specs.Inventory.{Inventory}
 use Rattle.store_schema.specs.Earlier.{IsOfEarlier}
 use Rattle.sysmods.proofs.OneVer.{HasSingleVers, one_ver, first_place}
-use Rattle.change.proofs.Installable.{is_fresh}
 use Rattle.change.proofs.KeptTogether.{unsupplied}
 use Rattle.machine_laws.proofs.Decisions.{candidate_open}
 use Rattle.machine_laws.specs.Singles.{OneCounts, NeverSeveralFit, FirstInstalls, LevelAsksApplied}
 use Rattle.machine_laws.proofs.KeptChoice.{undated}
+use Rattle.machine_laws.proofs.Installable.{not_supplied}
 use Rattle.terms.proofs.Applied.{applied_dated}
 
 single_vers : (i : Inventory) → IsOfEarlier i → HasSingleVers i.global
@@ -93,8 +93,8 @@ first_installs i is zone related sel bypass date d decides x kept =
         subst (λ (s : Setting). Contains s.cands x) decides.setting (stays.1.eligible x stays.2).0.0.0
 
     off : is_applied zone x ≡ false
-    off = unsupplied zone x (is_fresh i.global zone x (and_parts _ _ (candidate_open i.global zone sel x
-        ((decides.candidates.members x).0 cand))).0).not_supplied
+    off = unsupplied zone x (not_supplied i.global zone x (and_parts _ _ (candidate_open i.global zone sel x
+        ((decides.candidates.members x).0 cand))).0)
 
 -- ---- OtherLevel
 

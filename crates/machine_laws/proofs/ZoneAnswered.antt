@@ -15,10 +15,10 @@ use Rattle.terms.specs.Rising.{Rises}
 use Rattle.terms.specs.Deleted.{deletions, is_deleted, zone_less}
 use Rattle.terms.specs.Install.{Installation, TakesEffect, cleared, HasElementAfter, HasInstalled}
 use Rattle.terms.proofs.ElementOrder.{element_cmp_total, element_ties}
-use Rattle.undo.specs.Restoring.{all_changed}
+use Rattle.change.specs.Restoring.{all_changed}
 use Rattle.terms.proofs.ElementOrder.{same_key}
 use Rattle.sorted.specs.ElementKeys.{Key}
-use Rattle.undo.proofs.Reverted.{by_some}
+use Rattle.change.proofs.Reverted.{by_some}
 use Rattle.machine_laws.proofs.Effective.{IsSoundInstall, effective, in_effective}
 use Rattle.machine_laws.proofs.ElementAnswered.{element_answered}
 use Rattle.machine_laws.proofs.EntriesAnswered as after

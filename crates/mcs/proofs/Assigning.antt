@@ -11,7 +11,7 @@ use Rattle.rec80.specs.declared.operand_errors.OperandError.{OperandError}
 use Rattle.rec80.specs.declared.operand_errors.OperandError.TheVariants.{Memory, Bad}
 use Rattle.rec80.specs.Failing.{Excludes}
 use Rattle.mcs.specs.Faults.{value_error}
-use Rattle.mcs.specs.Said.{IsSaid, IsSaidError}
+use Rattle.mcs.specs.Said.{IsStatementSaid, IsSaidError}
 use Rattle.mcs.proofs.Saying.{assign_excludes}
 
 abbrev pub AssignOf : Option Text → List Piece → Assign → Type 0
@@ -30,7 +30,7 @@ assign_error current w own rest inline Bad is x = assign_excludes (sysmod_in cur
 
 pub assign_said : (current : Option Begun) (w : StatementWord) (own : Option Text) (rest : List Piece) (inline : Lines)
     (a : Assign) → w ≡ word.Assign → AssignOf own rest a → IsShort a.to
-    → IsSaid current w own rest inline (SaysAssign a)
+    → IsStatementSaid current w own rest inline (SaysAssign a)
 assign_said current w own rest inline a is h within = record {
   value = assign_value current w own rest inline a is h;
   within = within;

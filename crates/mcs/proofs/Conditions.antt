@@ -16,7 +16,7 @@ use Rattle.rec80.specs.declared.operand_errors.OperandError.{OperandError}
 use Rattle.rec80.specs.declared.operand_errors.OperandError.TheVariants.{Memory, Bad}
 use Rattle.rec80.specs.Failing.{Excludes}
 use Rattle.mcs.specs.Faults.{value_error}
-use Rattle.mcs.specs.Said.{IsSaid, IsSaidError}
+use Rattle.mcs.specs.Said.{IsStatementSaid, IsSaidError}
 use Rattle.mcs.proofs.Saying.{if_excludes}
 
 -- The words of an ++IF are FMID, THEN and REQ, so they are those that were read.
@@ -100,7 +100,7 @@ if_within current b i inline at h = (
 
 pub if_said : (current : Option Begun) (b : Begun) (w : StatementWord) (own : Option Text) (rest : List Piece)
     (inline : Lines) (i : IfReq) → current ≡ Some b → w ≡ word.If → IfOf b.sysmod own rest i → HasPlace b i
-    → IsSaid current w own rest inline (SaysIf i)
+    → IsStatementSaid current w own rest inline (SaysIf i)
 if_said current b w own rest inline i at is h within = record {
   value = if_value current b w own rest inline i at is h;
   within = (

@@ -21,7 +21,7 @@ use Rattle.mcs.specs.declared.fault.StatementError.TheVariants.{Memory, Fault}
 use Rattle.mcs.specs.Faults.{value_error}
 use Rattle.mcs.specs.Forms.{IsFormError}
 use Rattle.mcs.specs.declared.hold_item.HoldItem.{HoldItem}
-use Rattle.mcs.specs.HoldItems.{item_of, IsSaid, IsSaidError, IsItemError}
+use Rattle.mcs.specs.HoldItems.{item_of, IsItemSaid, IsSaidError, IsItemError}
 
 -- a hold as its statement's words have it
 abbrev pub SaysHold : Option Text → List Piece → terms.Hold → Type 0
@@ -79,7 +79,7 @@ text_behind word.UpdateSrc inline some m = m
 
 pub good_item : (records : Lines) (w : StatementWord) (own : Option Text) (rest : List Piece) (inline : Lines)
     (r : Result HoldItem StatementError) → IsKnown records w own rest inline → StandsInHoldFile w inline
-    → IfOk r (λ i. IsSaid w own rest (item_of i)) → IfOk r (λ i. IsGoodItem records (item_of i))
+    → IfOk r (λ i. IsItemSaid w own rest (item_of i)) → IfOk r (λ i. IsGoodItem records (item_of i))
 good_item records w own rest inline (Ok i) known may said = (w, own, rest, inline, known, may, said.value, said.within)
 good_item records w own rest inline (Err e) known may said = tt
 

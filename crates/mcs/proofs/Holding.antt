@@ -18,7 +18,7 @@ use Rattle.rec80.specs.declared.operand_errors.OperandError.{OperandError}
 use Rattle.rec80.specs.declared.operand_errors.OperandError.TheVariants.{Memory, Bad}
 use Rattle.rec80.specs.Failing.{Excludes}
 use Rattle.mcs.specs.Faults.{value_error}
-use Rattle.mcs.specs.Said.{IsSaid, IsSaidError}
+use Rattle.mcs.specs.Said.{IsStatementSaid, IsSaidError}
 use Rattle.mcs.proofs.Saying.{hold_excludes}
 
 abbrev pub OwnHoldOf : Sysmod → Option Text → List Piece → Hold → Type 0
@@ -66,7 +66,7 @@ hold_error current b w own rest inline Bad at is x =
 
 pub hold_said : (current : Option Begun) (b : Begun) (w : StatementWord) (own : Option Text) (rest : List Piece)
     (inline : Lines) (h : Hold) → current ≡ Some b → w ≡ word.Hold → OwnHoldOf b.sysmod own rest h → HasShortComment h
-    → IsSaid current w own rest inline (SaysHold h)
+    → IsStatementSaid current w own rest inline (SaysHold h)
 hold_said current b w own rest inline h at is o within = record {
   value =
       hold_value current b w own rest inline h at is o;

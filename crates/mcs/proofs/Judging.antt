@@ -15,7 +15,7 @@ use Rattle.mcs.specs.declared.said.Statement.{Statement as Read}
 use Rattle.mcs.specs.declared.fault.StatementError.{StatementError}
 use Rattle.mcs.specs.declared.fault.StatementError.TheVariants.{Memory, Fault}
 use Rattle.mcs.specs.Forms.{IsFormError}
-use Rattle.mcs.specs.Said.{IsSaid, IsSaidError, IsStatementError}
+use Rattle.mcs.specs.Said.{IsStatementSaid, IsSaidError, IsStatementError}
 use Rattle.mcs.specs.Statements.{statement_of}
 
 -- a statement of a known word in order
@@ -33,7 +33,8 @@ stands current later records w own rest inline b known test in_order =
 
 pub good_statement : (current : Option Begun) (later records : Lines) (w : StatementWord) (own : Option Text)
     (rest : List Piece) (inline : Lines) (r : Result Read StatementError)
-    → Stands current later records w own rest inline → IfOk r (λ s. IsSaid current w own rest inline (statement_of s))
+    → Stands current later records w own rest inline
+    → IfOk r (λ s. IsStatementSaid current w own rest inline (statement_of s))
     → IfOk r (λ s. IsGoodStatement current later records (statement_of s))
 good_statement current later records w own rest inline (Ok s) at said = (
   w,

@@ -14,7 +14,7 @@ use Rattle.terms.specs.Operands.{HasOwn}
 use Rattle.terms.specs.Statements.{changed_type, Statement, SaysHeader, SaysVer, SaysIf, SaysHold, SaysAssign}
 use Rattle.terms.specs.Statements.{SaysChange, IsVerOf, IsIfOf, IsOwnHoldOf, IsAssignOf, IsChangeOf}
 use Rattle.terms.specs.Ptfin.{Begun, HasValue}
-use Rattle.mcs.specs.Said.{IsSaid}
+use Rattle.mcs.specs.Said.{IsStatementSaid}
 
 no_change : (w : StatementWord) (own : Option Text) (ws : List Word) (inline : Lines) (c : Change)
     → changed_type w ≡ None → IsChangeOf w own ws inline c → ⊥
@@ -22,7 +22,7 @@ no_change w own ws inline c none h = cc (none, h.type_is)
 
 pub header_said : (current : Option Begun) (w : StatementWord) (own : Option Text) (rest : List Piece) (inline : Lines)
     (kind : Kind) (id : Id) → w ≡ word.Header kind → HasOwn IsId own id → rest ≡ []
-    → IsSaid current w own rest inline (SaysHeader kind id)
+    → IsStatementSaid current w own rest inline (SaysHeader kind id)
 header_said current w own rest inline kind id is h none = record {
   value = ([], none, (is, (h, refl)));
   within = tt;

@@ -9,10 +9,10 @@ use Rattle.terms.specs.Types.{Text}
 use Rattle.terms.specs.Records.{IsPrintable}
 use Rattle.terms.specs.Forms.{AreBlanks, BeginsDark, IsTrimmed}
 use Rattle.terms.proofs.Each.{All_front, All_back}
-use Rattle.mcs.specs.Trimmed.{SkipsBlanks, DropsBlanks}
+use Rattle.mcs.specs.Trimmed.{SkipsSomeBlanks, DropsBlanks}
 
-pub skips_more : (text rest next : Text) (b : ℕ) → SkipsBlanks text rest → rest ≡ b ∷ next → b ≡ 32
-    → SkipsBlanks text next
+pub skips_more : (text rest next : Text) (b : ℕ) → SkipsSomeBlanks text rest → rest ≡ b ∷ next → b ≡ 32
+    → SkipsSomeBlanks text next
 skips_more text rest next b s e blank = record {
   left = s.left ++ b ∷ [];
   text_is = s.text_is ∙ ap (λ r. s.left ++ r) e ∙ sym (append_assoc s.left (b ∷ []) next);
@@ -33,7 +33,7 @@ no_dark [] h d = d
 no_dark (b ∷ cut) h d = d (All-head (λ c. c ≡ 32) b cut h)
 
 -- A text of blanks alone has no cut.
-pub no_cut : (text inner cut other : Text) → SkipsBlanks text inner → DropsBlanks inner cut → cut ≡ []
+pub no_cut : (text inner cut other : Text) → SkipsSomeBlanks text inner → DropsBlanks inner cut → cut ≡ []
     → IsTrimmed text other → ⊥
 no_cut text inner cut other s d none t =
     let inner_is : inner ≡ d.right = d.text_is ∙ ap (λ c. c ++ d.right) none in

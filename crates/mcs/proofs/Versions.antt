@@ -16,7 +16,7 @@ use Rattle.rec80.specs.declared.operand_errors.OperandError.{OperandError}
 use Rattle.rec80.specs.declared.operand_errors.OperandError.TheVariants.{Memory, Bad}
 use Rattle.rec80.specs.Failing.{Excludes}
 use Rattle.mcs.specs.VerOperands.{HasLists}
-use Rattle.mcs.specs.Said.{IsSaid, IsSaidError}
+use Rattle.mcs.specs.Said.{IsStatementSaid, IsSaidError}
 use Rattle.mcs.specs.Faults.{value_error}
 use Rattle.mcs.proofs.Saying.{ver_excludes}
 
@@ -85,7 +85,7 @@ ver_error current b w own rest inline ws Bad at is h x =
 pub ver_said : (current : Option Begun) (b : Begun) (w : StatementWord) (own : Option Text) (rest : List Piece)
     (inline : Lines) (ws : List Word) (v : Ver) → current ≡ Some b → w ≡ word.Ver → HasWords rest ws
     → IsVerOf b.sysmod own ws v → (length b.sysmod.vers < 8) × All IsShort (lists_of v)
-    → IsSaid current w own rest inline (SaysVer v)
+    → IsStatementSaid current w own rest inline (SaysVer v)
 ver_said current b w own rest inline ws v at is h i within = record {
   value = ver_value current b w own rest inline ws v at is h i;
   within = (subst (λ c. IfSome c (λ x. length x.sysmod.vers < 8)) (sym at) within.0, within.1);

@@ -22,7 +22,7 @@ abbrev pub items : List HoldItem → List terms.HoldItem
 items xs = map item_of xs
 
 -- The statement says this item, within its limits.
-pub record IsSaid (w : StatementWord) (own : Option Text) (rest : List Piece) (item : terms.HoldItem) : Type 0 where
+pub record IsItemSaid (w : StatementWord) (own : Option Text) (rest : List Piece) (item : terms.HoldItem) : Type 0 where
   pub value : HasItem w own rest item
   pub within : IsWithin item
 

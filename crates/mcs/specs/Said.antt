@@ -19,7 +19,8 @@ use Rattle.mcs.specs.declared.fault.StatementError.{StatementError}
 use Rattle.mcs.specs.declared.fault.StatementError.TheVariants.{Memory, Fault}
 
 -- The statement says so, within its limits and with a good text.
-pub record IsSaid (current : Option Begun) (w : StatementWord) (own : Option Text) (rest : List Piece) (inline : Lines)
+pub record IsStatementSaid (current : Option Begun) (w : StatementWord) (own : Option Text) (rest : List Piece)
+    (inline : Lines)
     (s : Statement) : Type 0 where
   pub value : HasValue (sysmod_in current) w own rest inline s
   pub within : IsWithin current s inline
@@ -48,7 +49,7 @@ IsStatementError current later records (Fault code) = IsStatementFault current l
 abbrev pub Says : Option file.Begun → Known → Result Said StatementError → Type 0
 Says current known result =
     (rest : List Piece) → IsRead rest known.operands
-    → IfOk result (λ s. IsSaid (begun_in current) known.word (own_list known) rest known.inline.now
+    → IfOk result (λ s. IsStatementSaid (begun_in current) known.word (own_list known) rest known.inline.now
     (statement_of s))
 
 -- It says nothing, and the error is its first fault, or want of memory.

@@ -3,7 +3,7 @@ use Rattle.std.specs.Prelude.{◌≡◌, ◌≢◌, [], ◌∷◌, ◌++◌}
 use Rattle.terms.specs.Types.{Text}
 use Rattle.terms.specs.Forms.{AreBlanks}
 
-pub record SkipsBlanks (text rest : Text) : Type 0 where
+pub record SkipsSomeBlanks (text rest : Text) : Type 0 where
   pub left : Text
   pub text_is : text ≡ left ++ rest
   pub blanks : AreBlanks left

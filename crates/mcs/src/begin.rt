@@ -7,7 +7,7 @@ ghost use Rattle.mcs.specs.Forms.{IsFormError};
 ghost use Rattle.mcs.specs.KnownWords.{own_list};
 
 use crate::fault::StatementError;
-use crate::words::statement_word;
+use crate::statement_kinds::statement_word;
 use rec80::{Group, Operands, Record, Word, statement};
 use std::alloc::Global;
 use terms::{StatementCode, StatementWord};

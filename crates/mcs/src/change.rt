@@ -28,13 +28,13 @@ const OPERANDS: &[&[u8]] = &[b"DISTLIB", b"SYSLIB"];
 
 /// The names of an element and its libraries.
 #[derive(Clone, Copy, Debug)]
-struct Names {
+struct ElementNames {
     name: Name,
     distlib: Name,
     syslib: Name,
 }
 
-fn read_names(known: &Known<'_>) -> Option<Names>
+fn read_names(known: &Known<'_>) -> Option<ElementNames>
     ensures some { (rest : List Piece) → IsRead rest known.now.operands
         → IfSome result (λ n. (ws : List grammar.Word) × grammar.HasWords rest ws
         × HasNames (own_list known.now) ws n.name n.distlib n.syslib) }
@@ -54,7 +54,7 @@ fn read_names(known: &Known<'_>) -> Option<Names>
     let Some(syslib) = required::<Name>(words, b"SYSLIB") else {
         return None;
     };
-    Some(Names {
+    Some(ElementNames {
         name,
         distlib,
         syslib,
@@ -121,7 +121,7 @@ pub fn change_statement(
         Ok(lines) => lines,
         Err(error) => return Err(error),
     };
-    let Names {
+    let ElementNames {
         name,
         distlib,
         syslib,

@@ -8,7 +8,7 @@ ghost use Rattle.terms.specs.HoldStatements.{HasComment};
 ghost use Rattle.rec80.specs.Cursors.{text_of};
 ghost use Rattle.rec80.specs.Views.{words_of};
 ghost use Rattle.rec80.specs.Failing.{Excludes};
-ghost use Rattle.mcs.specs.Trimmed.{SkipsBlanks, DropsBlanks, BeginsNoBlank};
+ghost use Rattle.mcs.specs.Trimmed.{SkipsSomeBlanks, DropsBlanks, BeginsNoBlank};
 
 use rec80::{OperandError, Text, Word, operand};
 use std::alloc::{AllocError, Global};
@@ -29,7 +29,7 @@ fn bytes_of(alloc: Global, text: &Text<'_>) -> Result<Vec<u8>, AllocError>
 /// What follows the blanks.
 #[tactic(auto, using(crate::proofs::Trimming::skips_more))]
 fn behind_blanks(text: &[u8]) -> &[u8]
-    ensures skips { SkipsBlanks text.now result.now }
+    ensures skips { SkipsSomeBlanks text.now result.now }
     ensures dark { BeginsNoBlank result.now }
 {
     let mut rest = text;

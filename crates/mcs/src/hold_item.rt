@@ -7,7 +7,7 @@ ghost use Rattle.terms.specs.HoldFile.{IsGoodItem};
 ghost use Rattle.rec80.specs.Read.{IsRead};
 ghost use Rattle.mcs.specs.KnownWords.{own_list};
 ghost use Rattle.mcs.specs.Holds.{ArePrintable};
-ghost use Rattle.mcs.specs.HoldItems.{item_of, IsSaid, IsSaidError, IsItemError};
+ghost use Rattle.mcs.specs.HoldItems.{item_of, IsItemSaid, IsSaidError, IsItemError};
 
 use crate::begin::{Known, begun};
 use crate::fault::{StatementError, no_value};
@@ -28,7 +28,7 @@ pub enum HoldItem {
 fn hold_item(alloc: Global, known: &Known<'_>) -> Result<HoldItem, StatementError>
     requires { known.now.word ≡ word.Hold }
     ensures said { (rest : List Piece) → IsRead rest known.now.operands
-        → IfOk result (λ item. IsSaid known.now.word (own_list known.now) rest (item_of item)) }
+        → IfOk result (λ item. IsItemSaid known.now.word (own_list known.now) rest (item_of item)) }
     ensures fault { (rest : List Piece) → IsRead rest known.now.operands → ArePrintable rest
         → IfErr result (IsSaidError known.now.word (own_list known.now) rest) }
 {
@@ -46,7 +46,7 @@ fn hold_item(alloc: Global, known: &Known<'_>) -> Result<HoldItem, StatementErro
 fn release_item(known: &Known<'_>) -> Result<HoldItem, StatementError>
     requires { known.now.word ≡ word.Release }
     ensures said { (rest : List Piece) → IsRead rest known.now.operands
-        → IfOk result (λ item. IsSaid known.now.word (own_list known.now) rest (item_of item)) }
+        → IfOk result (λ item. IsItemSaid known.now.word (own_list known.now) rest (item_of item)) }
     ensures fault { (rest : List Piece) → IsRead rest known.now.operands
         → IfErr result (IsSaidError known.now.word (own_list known.now) rest) }
 {

@@ -13,7 +13,7 @@ ghost use Rattle.mcs.specs.Holds.{HasKey, ArePrintable};
 use crate::begin::Known;
 use crate::comment::optional_comment;
 use crate::kind::kind_word;
-use crate::values::required_reason;
+use crate::listed_values::required_reason;
 use fields::{Class, HoldDate, Id, Reason};
 use rec80::{BadOperand, OperandError, Word, one, optional, required};
 use std::alloc::Global;

@@ -31,13 +31,13 @@ fn is_named(word: &Word<'_>, name: &[u8]) -> bool
 
 /// The words of an `++IF` that have a list.
 #[derive(Clone, Copy, Debug)]
-struct Lists<'a> {
+struct IfLists<'a> {
     fmid: Word<'a>,
     req: Word<'a>,
 }
 
 /// FMID, THEN and REQ, in this order, and nothing else.
-fn read_lists<'a>(words: &[Word<'a>]) -> Option<Lists<'a>>
+fn read_lists<'a>(words: &[Word<'a>]) -> Option<IfLists<'a>>
     ensures some { IfSome result (λ l. (words_of words.now
         ≡ word_of l.fmid ∷ grammar.plain (codes "THEN") ∷ word_of l.req ∷ [])
         × ((word_of l.fmid).word ≡ codes "FMID") × ((word_of l.req).word ≡ codes "REQ")) }
@@ -53,7 +53,7 @@ fn read_lists<'a>(words: &[Word<'a>]) -> Option<Lists<'a>>
     if then.list.is_some() {
         return None;
     }
-    Some(Lists {
+    Some(IfLists {
         fmid: *fmid,
         req: *req,
     })

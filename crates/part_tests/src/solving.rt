@@ -1,12 +1,12 @@
 //! The greatest set that supports itself, who causes failures, and the least set that grows.
-use solve::{Need, Rule, Rules, Solver, Sweep, System, Worklist, causers, least};
+use solve::{Need, Rule, Rules, Solver, Sweep, System, SystemError, Worklist, causers, least};
 use std::alloc::{AllocError, Global};
 use std::process::Abort;
 
 /// A list of candidates with their needs: who needs which of these.
-type Needs<'a> = &'a [(usize, &'a [usize])];
+type Needs<'a> = &'a [(u32, &'a [u32])];
 
-fn add_need(alloc: Global, s: &mut System, of: usize, any: &[usize]) -> Result<(), AllocError> {
+fn add_need(alloc: Global, s: &mut System, of: u32, any: &[u32]) -> Result<(), SystemError> {
     if s.admits(of, any) {
         let any = any.to_vec(alloc)?;
         s.add_need(Need { of, any })?;
@@ -14,25 +14,23 @@ fn add_need(alloc: Global, s: &mut System, of: usize, any: &[usize]) -> Result<(
     Ok(())
 }
 
-fn add_candidates(s: &mut System, eligible: &[bool]) -> Result<(), AllocError> {
+fn add_candidates(s: &mut System, eligible: &[bool]) -> Result<(), SystemError> {
     for flag in eligible {
-        if s.size() < 100 {
-            s.add_candidate(*flag)?;
-        }
+        s.add_candidate(*flag)?;
     }
     Ok(())
 }
 
-fn add_needs(alloc: Global, s: &mut System, needs: Needs<'_>) -> Result<(), AllocError> {
+fn add_needs(alloc: Global, s: &mut System, needs: Needs<'_>) -> Result<(), SystemError> {
     for (of, any) in needs {
         add_need(alloc, s, *of, any)?;
     }
     Ok(())
 }
 
-/// A system of these candidates and needs.
-fn system(alloc: Global, eligible: &[bool], needs: Needs<'_>) -> Result<System, AllocError> {
-    let mut s = System::new(alloc, Vec::new(alloc));
+/// A system of these candidates and needs, one by one.
+fn system(alloc: Global, eligible: &[bool], needs: Needs<'_>) -> Result<System, SystemError> {
+    let mut s = System::new(alloc, Vec::new(alloc))?;
     add_candidates(&mut s, eligible)?;
     add_needs(alloc, &mut s, needs)?;
     Ok(s)
@@ -44,7 +42,7 @@ struct Case<'a> {
     needs: Needs<'a>,
     kept: &'a [bool],
     strikes: u128,
-    causers: &'a [&'a [usize]],
+    causers: &'a [&'a [u32]],
 }
 
 const CASES: [Case<'static>; 6] = [
@@ -98,7 +96,7 @@ const CASES: [Case<'static>; 6] = [
     },
 ];
 
-fn check(rt: &impl Abort, alloc: Global, case: &Case<'_>) -> Result<(), AllocError> {
+fn check(rt: &impl Abort, alloc: Global, case: &Case<'_>) -> Result<(), SystemError> {
     let s = system(alloc, case.eligible, case.needs)?;
     let swept = Sweep.greatest(alloc, &s)?;
     let (kept, count) = Worklist::count(alloc, &s)?;
@@ -114,42 +112,84 @@ fn check(rt: &impl Abort, alloc: Global, case: &Case<'_>) -> Result<(), AllocErr
 }
 
 #[test]
-fn candidates_stay_or_fail_by_their_causers(rt: HostRuntime) -> Result<(), AllocError> {
+fn candidates_stay_or_fail_by_their_causers(rt: HostRuntime) -> Result<(), SystemError> {
     for case in &CASES {
         check(&rt, rt.alloc(), case)?;
     }
     Ok(())
 }
 
-/// Each of so many candidates needs the next one, and the last one `end`.
-fn add_chain(alloc: Global, s: &mut System, n: usize, end: &[usize]) -> Result<(), AllocError> {
-    for k in 0..n {
-        let next = [k.saturating_add(1)];
-        let any = if next[0] < n { &next } else { end };
-        add_need(alloc, s, k, any)?;
+/// The needs of a chain: each of so many candidates needs the one before it, and the first one `start`.
+fn chain(alloc: Global, n: u32, start: &[u32]) -> Result<Vec<Need>, AllocError> {
+    let mut needs = Vec::new(alloc);
+    for of in 0..n {
+        let before = [of.saturating_sub(1)];
+        let any = if of > 0 { &before } else { start };
+        let any = any.to_vec(alloc)?;
+        needs.push(Need { of, any })?;
+    }
+    Ok(needs)
+}
+
+/// How many of so many eligible candidates stay in a chain with this start, how many strikes that takes, and whether both
+/// solvers agree.
+fn chained(alloc: Global, n: u32, start: &[u32]) -> Result<(usize, u128, bool), SystemError> {
+    let eligible = vec![in alloc; true; n as usize]?;
+    let s = System::from_needs(eligible, chain(alloc, n, start)?)?;
+    let (kept, count) = Worklist::count(alloc, &s)?;
+    let swept = Sweep.greatest(alloc, &s)?;
+    let members = kept.flags().iter().filter(|flag| **flag).count();
+    Ok((members, count.strikes, swept.flags() == kept.flags()))
+}
+
+#[test]
+fn a_chain_of_thousands_falls_or_stays(rt: HostRuntime) -> Result<(), SystemError> {
+    // one falls from its start, and one is a ring
+    assert_eq!(rt; chained(rt.alloc(), 5000, &[])?, (0, 4999, true));
+    assert_eq!(rt; chained(rt.alloc(), 5000, &[4999])?, (5000, 0, true));
+    Ok(())
+}
+
+/// A system of so many eligible candidates with one need.
+fn with_need(alloc: Global, n: usize, of: u32, any: &[u32]) -> Result<System, SystemError> {
+    let mut needs = Vec::new(alloc);
+    let any = any.to_vec(alloc)?;
+    needs.push(Need { of, any })?;
+    System::from_needs(vec![in alloc; true; n]?, needs)
+}
+
+#[test]
+fn a_need_is_about_candidates_and_rises(rt: HostRuntime) -> Result<(), SystemError> {
+    let alloc = rt.alloc();
+    assert_eq!(rt; with_need(alloc, 3, 0, &[1, 2])?.needs().len(), 1);
+    for (of, any) in [(3, [1, 2]), (0, [1, 3]), (0, [2, 1]), (0, [1, 1])] {
+        let refused = with_need(alloc, 3, of, &any).err();
+        assert_eq!(rt; refused, Some(SystemError::BadNeed));
     }
     Ok(())
 }
 
-/// How many needs a chain of so many eligible candidates has, how many of them are kept, and how many strikes that
-/// takes.
-fn chained(alloc: Global, n: usize, end: &[usize]) -> Result<(usize, usize, u128), AllocError> {
-    let mut s = System::new(alloc, vec![in alloc; true; n]?);
-    add_chain(alloc, &mut s, n, end)?;
-    let (kept, count) = Worklist::count(alloc, &s)?;
-    let members = kept.flags().iter().filter(|flag| **flag).count();
-    Ok((s.needs().len(), members, count.strikes))
-}
-
 #[test]
-fn a_chain_of_thousands_falls_or_stays(rt: HostRuntime) -> Result<(), AllocError> {
-    // one falls from its end, and one ends in its begin
-    assert_eq!(rt; chained(rt.alloc(), 5000, &[])?, (5000, 0, 4999));
-    assert_eq!(rt; chained(rt.alloc(), 5000, &[0])?, (5000, 5000, 0));
+fn the_kept_of_another_size_have_no_causers(rt: HostRuntime) -> Result<(), SystemError> {
+    let alloc = rt.alloc();
+    let s = with_need(alloc, 2, 0, &[])?;
+    let kept = Sweep.greatest(alloc, &with_need(alloc, 3, 0, &[])?)?;
+    assert_eq!(rt;
+        (
+            kept.size(),
+            kept.contains(0),
+            kept.contains(1),
+            kept.contains(3)
+        ),
+        (3, false, true, false)
+    );
+    let rows = causers(alloc, &s, &kept)?;
+    assert_eq!(rt; rows.len(), 2);
+    assert!(rt; rows.iter().all(|row| row.is_empty()));
     Ok(())
 }
 
-fn add_rule(alloc: Global, s: &mut Rules, these: &[usize], that: usize) -> Result<(), AllocError> {
+fn add_rule(alloc: Global, s: &mut Rules, these: &[u32], that: u32) -> Result<(), SystemError> {
     if s.admits(these, that) {
         let these = these.to_vec(alloc)?;
         s.add_rule(Rule { these, that })?;
@@ -158,7 +198,7 @@ fn add_rule(alloc: Global, s: &mut Rules, these: &[usize], that: usize) -> Resul
 }
 
 /// Four numbers, of which the first is there, and rules for the others.
-fn rules(alloc: Global) -> Result<Rules, AllocError> {
+fn rules(alloc: Global) -> Result<Rules, SystemError> {
     let mut rules = Rules::new(alloc, &[true, false, false])?;
     rules.add_number(false)?;
     add_rule(alloc, &mut rules, &[0], 1)?;
@@ -168,7 +208,7 @@ fn rules(alloc: Global) -> Result<Rules, AllocError> {
 }
 
 #[test]
-fn a_set_grows_by_its_rules(rt: HostRuntime) -> Result<(), AllocError> {
+fn a_set_grows_by_its_rules(rt: HostRuntime) -> Result<(), SystemError> {
     let rules = rules(rt.alloc())?;
     let set = least(rt.alloc(), &rules)?;
     assert_eq!(rt; rules.size(), 4);

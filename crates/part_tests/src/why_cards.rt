@@ -16,10 +16,7 @@ use zones::{Applied, Element, Entry, Zone};
 fn receive(alloc: Global, global: &mut GlobalZone, cards: &[u8]) -> Result<(), Fail> {
     for item in read_ptfin(alloc, cards)? {
         if let Item::Sysmod(sysmod) = item {
-            let refused = global.receive(alloc, sysmod)?;
-            if refused.is_some() {
-                return Err(Fail::from("a SYSMOD is refused"));
-            }
+            global.receive(alloc, sysmod)?;
         }
     }
     Ok(())

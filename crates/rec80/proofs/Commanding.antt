@@ -6,8 +6,8 @@ use Rattle.terms.specs.Statement.{Piece, HasPieces, followed, joined, solid, Has
 use Rattle.terms.specs.CommandCuts.{BeginsBehind, TakesCommand, IsCutFault}
 use Rattle.terms.proofs.Pieces.{pieces_append}
 use Rattle.rec80.specs.declared.cursor.Cursor.{Cursor}
-use Rattle.rec80.specs.declared.errors.StmtError.{StmtError}
-use Rattle.rec80.specs.declared.errors.StmtError.TheVariants.{NoPeriod, OpenComment, BadParens, TextAfterPeriod}
+use Rattle.rec80.specs.declared.error.StmtError.{StmtError}
+use Rattle.rec80.specs.declared.error.StmtError.TheVariants.{NoPeriod, OpenComment, BadParens, TextAfterPeriod}
 use Rattle.rec80.specs.Cursors.{rest_of, IsIn, IsAhead}
 use Rattle.rec80.specs.Walks.{SkipsGaps, EndsFrom, BreaksFrom, st_fault}
 use Rattle.rec80.proofs.Walking.{some_line}

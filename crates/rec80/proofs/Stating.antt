@@ -5,8 +5,8 @@ use Rattle.terms.specs.Statement.{Piece, HasPieces, followed, joined, solid, Has
 use Rattle.terms.specs.Statement.{IsStFault}
 use Rattle.terms.proofs.Exact.{fault_no_statement}
 use Rattle.rec80.specs.declared.cursor.Cursor.{Cursor}
-use Rattle.rec80.specs.declared.errors.StmtError.{StmtError}
-use Rattle.rec80.specs.declared.errors.StmtError.TheVariants.{NoPeriod, OpenComment, BadParens, TextAfterPeriod}
+use Rattle.rec80.specs.declared.error.StmtError.{StmtError}
+use Rattle.rec80.specs.declared.error.StmtError.TheVariants.{NoPeriod, OpenComment, BadParens, TextAfterPeriod}
 use Rattle.rec80.specs.Cursors.{rest_of, IsIn}
 use Rattle.rec80.specs.Walks.{EndsFrom, BreaksFrom, st_fault}
 

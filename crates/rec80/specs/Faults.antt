@@ -1,8 +1,8 @@
 -- The errors of this crate as the faults that the rules name.
 use Rattle.terms.specs.Records.{RecFault}
 use Rattle.terms.specs.Records as faults
-use Rattle.rec80.specs.declared.errors.RecError.{RecError}
-use Rattle.rec80.specs.declared.errors.RecError.TheVariants.{ShortRecord, BadByte}
+use Rattle.rec80.specs.declared.error.RecError.{RecError}
+use Rattle.rec80.specs.declared.error.RecError.TheVariants.{ShortRecord, BadByte}
 
 abbrev pub rec_fault : RecError → RecFault
 rec_fault (ShortRecord n) = faults.ShortRecord n

@@ -5,8 +5,8 @@ use Rattle.terms.specs.Statement as statement
 use Rattle.terms.specs.Statement.{StFault}
 use Rattle.terms.specs.CommandCuts.{BeginsNoGap}
 use Rattle.rec80.specs.declared.cursor.Cursor.{Cursor}
-use Rattle.rec80.specs.declared.errors.StmtError.{StmtError}
-use Rattle.rec80.specs.declared.errors.StmtError.TheVariants.{NoPeriod, OpenComment, BadParens, TextAfterPeriod}
+use Rattle.rec80.specs.declared.error.StmtError.{StmtError}
+use Rattle.rec80.specs.declared.error.StmtError.TheVariants.{NoPeriod, OpenComment, BadParens, TextAfterPeriod}
 use Rattle.rec80.specs.Cursors.{rest_of, IsIn}
 
 -- all the gaps that the text begins with

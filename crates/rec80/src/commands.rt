@@ -4,8 +4,8 @@ ghost use Rattle.terms.specs.Statement.{Piece, HasSolid, IsIdle, joined};
 ghost use Rattle.terms.specs.CommandCuts.{TakesCommand, IsCutFault};
 ghost use Rattle.rec80.specs.Walks.{st_fault};
 
-use crate::errors::StmtError;
-use crate::files::{Record, Records};
+use crate::error::StmtError;
+use crate::record_files::{Record, Records};
 use crate::statements::start;
 use crate::walk::{behind_gaps, inline_behind};
 use crate::words::Words;
@@ -13,7 +13,7 @@ use thiserror::Error;
 
 /// The words of one command. Its number is that of the record where it begins, and counts from 1 in the file.
 #[derive(Clone, Copy, Debug)]
-pub struct Command<'a> {
+pub struct CommandWords<'a> {
     pub number: usize,
     pub words: Words<'a>,
 }
@@ -52,7 +52,7 @@ impl<'a> Commands<'a> {
 
     /// Takes the next command. Behind the last one there is none. The error comes where the form of the command is at
     /// fault, or where a comment between commands is not closed, and changes nothing.
-    pub fn next_command(&mut self) -> Result<Option<Command<'a>>, CommandError>
+    pub fn next_command(&mut self) -> Result<Option<CommandWords<'a>>, CommandError>
         ensures command { IfOk result (λ found. IfSome found (λ x. (pieces : List Piece)
             × TakesCommand self.old.number self.old.rest.now pieces x.number self.new.number self.new.rest.now
             × HasSolid (left_of x.words) pieces)) }
@@ -79,6 +79,6 @@ impl<'a> Commands<'a> {
             rest: from,
             inline: &[],
         };
-        Ok(Some(Command { number, words }))
+        Ok(Some(CommandWords { number, words }))
     }
 }

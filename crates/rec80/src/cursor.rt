@@ -3,7 +3,7 @@ ghost use Rattle.std.specs.Prelude.{◌≡◌, [], ◌∷◌, true, false, take,
 ghost use Rattle.terms.specs.Records.{front};
 ghost use Rattle.rec80.specs.Cursors.{rest_of, IsAhead, text_of};
 
-use crate::files::Record;
+use crate::record_files::Record;
 use crate::text::Text;
 
 /// A place in columns 1 to 72 of records, between which one blank stands: what is left of a line, and the later

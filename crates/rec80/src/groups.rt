@@ -4,7 +4,7 @@ ghost use Rattle.std.specs.Prelude.{IsTrue, ◌↔◌};
 ghost use Rattle.std.specs.List.{prefix_len};
 ghost use Rattle.terms.specs.Groups.{begins_statement, starts_outside, IsGroup, TakesGroup};
 
-use crate::files::{Record, Records};
+use crate::record_files::{Record, Records};
 use thiserror::Error;
 
 /// The first record of a file begins no statement.

@@ -3,8 +3,8 @@ ghost use Rattle.std.specs.Prelude.{ℕ, List, IfOk, IfErr, IsOk, IsTrue, ◌↔
 ghost use Rattle.terms.specs.Records.{HasRecords, IsPrintable, IsRecFault};
 ghost use Rattle.rec80.specs.Faults.{rec_fault};
 
-use crate::errors::RecError;
-use crate::files::Records;
+use crate::error::RecError;
+use crate::record_files::Records;
 
 fn is_printable(byte: u8) -> bool
     ensures { IsTrue result ↔ IsPrintable byte }

@@ -6,9 +6,9 @@ ghost use Rattle.rec80.specs.Walks.{st_fault};
 ghost use Rattle.rec80.specs.Views.{left_of};
 
 use crate::cursor::{Cursor, columns};
-use crate::errors::StmtError;
-use crate::files::Record;
+use crate::error::StmtError;
 use crate::groups::Group;
+use crate::record_files::Record;
 use crate::walk::inline_behind;
 use crate::words::Words;
 

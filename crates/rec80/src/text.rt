@@ -3,7 +3,7 @@ ghost use Rattle.std.specs.Prelude.{◌≡◌, ◌≤◌, [], ◌∷◌, ◌++�
 ghost use Rattle.rec80.specs.Cursors.{text_of, line_of};
 
 use crate::cursor::{Cursor, columns};
-use crate::files::Record;
+use crate::record_files::Record;
 
 /// The text in a pair of parentheses. It may run over several records, between which one blank stands.
 #[derive(Clone, Copy, Debug)]

@@ -6,9 +6,9 @@ ghost use Rattle.rec80.specs.Pieces.{StopsAt};
 ghost use Rattle.rec80.specs.Walks.{SkipsGaps, Walks, EndsFrom, BreaksFrom};
 
 use crate::cursor::Cursor;
-use crate::errors::StmtError;
-use crate::files::Record;
+use crate::error::StmtError;
 use crate::piece::{Stop, behind_gap, solid_piece};
+use crate::record_files::Record;
 
 /// The place behind the gaps that begin here.
 pub fn behind_gaps<'a>(at: &Cursor<'a>) -> Cursor<'a>

@@ -8,8 +8,8 @@ ghost use Rattle.rec80.specs.Pieces.{piece_of};
 ghost use Rattle.rec80.specs.Views.{left_of, word_of};
 
 use crate::cursor::Cursor;
-use crate::files::Record;
 use crate::piece::{Piece, solid_piece};
+use crate::record_files::Record;
 use crate::scan::behind_parens;
 use crate::text::Text;
 use crate::walk::behind_gaps;

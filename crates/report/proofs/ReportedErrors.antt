@@ -22,7 +22,7 @@ use Rattle.terms.proofs.Walks.{reaches_or_not}
 use Rattle.machine.specs.Outcome as machine
 use Rattle.machine.specs.Errsysmods.{AreErrsysmods, Resolves, is_current, open_errors}
 use Rattle.report.specs.Views.{line_view}
-use Rattle.report.specs.declared.outcome.Line.{Line}
+use Rattle.report.specs.declared.outcome.ReportLine.{ReportLine}
 use Rattle.report.specs.declared.error_holds.OpenError.{OpenError}
 use Rattle.report.specs.ErrorHolds.{an_open, open_on}
 use Rattle.report.specs.ErrsysmodLines.{AreLinesOf}
@@ -114,7 +114,7 @@ module _ (g : Global) (zone : Zone) (is_global : IsGlobal g) where
       (open_errors g zone e)) es)
       (map-map printed (λ h. an_open e.id h.reason) (open_errors g zone e))
 
-  pub are_errsysmods : (errors : List OpenError) (lines : List Line)
+  pub are_errsysmods : (errors : List OpenError) (lines : List ReportLine)
       → errors ≡ flat_map (λ e. open_on g zone e.id) (filter is_current zone.entries)
       → AreLinesOf g zone errors lines → AreErrsysmods g zone (map line_view lines)
   are_errsysmods errors lines errors_are lines_are = record {

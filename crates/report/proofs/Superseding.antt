@@ -22,7 +22,7 @@ use Rattle.terms.specs.Choice.{Choice, vers_of, counting, sup_of}
 use Rattle.terms.specs.Over.{Supersedes}
 use Rattle.sorted.specs.Lists.{Lists, listed, AddsToAll, Gains, Holds, OneOf}
 use Rattle.sorted.proofs.Gaining.{gains_more, gains_none, gains_to_all, holds_gained}
-use Rattle.sysmods.specs.declared.choice.VerChoice.{VerChoice}
+use Rattle.sysmods.specs.declared.ver_choice.VerChoice.{VerChoice}
 use Rattle.sysmods.specs.Choices.{has_ver, choice}
 use Rattle.sysmods.specs.Seen.{AddsAll, IsGoing}
 use Rattle.sysmods.proofs.Going.{going_start, going_next, going_end}

@@ -6,10 +6,10 @@ use Rattle.std.specs.List.{flat_map}
 use Rattle.std.proofs.lemmas.List.Folds.{flat_map-map}
 use Rattle.terms.proofs.Lists.{joined}
 use Rattle.machine.specs.Outcome.{line_code, lines_code}
-use Rattle.report.specs.declared.outcome.Line.{Line}
+use Rattle.report.specs.declared.outcome.ReportLine.{ReportLine}
 use Rattle.report.specs.Views.{line_view}
 use Rattle.machine.specs.Report.{words_line}
-use Rattle.report.specs.declared.words.Word.{Word}
+use Rattle.report.specs.declared.line_words.LineWord.{LineWord}
 use Rattle.report.specs.WordTexts.{word_text}
 use Rattle.std.proofs.lemmas.List.{get_or_default}
 use Rattle.terms.proofs.Lists.{flat_next}
@@ -21,7 +21,7 @@ flat_map_more f xs i d below =
     sym (flat_next f xs i (get_or xs i d) below (get_or_default xs i d (get_or xs i d) below))
 
 -- the first word, the others, each behind a blank, and the newline
-pub words_put : (start : List ℕ) (words : List Word)
+pub words_put : (start : List ℕ) (words : List LineWord)
     → start ++ (flat_map (λ w. 32 ∷ word_text w) words ++ 10 ∷ []) ≡ words_line (start ∷ map word_text words)
 words_put start words =
     sym (append_assoc start (flat_map (λ w. 32 ∷ word_text w) words) (10 ∷ []))
@@ -32,7 +32,7 @@ max_parts : (a b c : ℕ) → max (max a b) c ≡ max a (max b c)
 max_parts a b c = omega arith
 
 -- the codes of one line more
-pub codes_more : (lines : List Line) (i : ℕ) (d : Line) (code : ℕ) → i < length lines
+pub codes_more : (lines : List ReportLine) (i : ℕ) (d : ReportLine) (code : ℕ) → i < length lines
     → max (max code (line_code (line_view (get_or lines i d)))) (lines_code (map line_view (drop (i + 1) lines)))
     ≡ max code (lines_code (map line_view (drop i lines)))
 codes_more lines i d code below =

@@ -6,7 +6,7 @@ use Rattle.terms.specs.Lookups.{IsRising}
 use Rattle.machine.specs.Outcome as machine
 use Rattle.machine.specs.Errsysmods.{AreErrsysmods, Resolves}
 use Rattle.report.specs.declared.outcome.Outcome.{Outcome}
-use Rattle.report.specs.declared.outcome.Line.{Line}
+use Rattle.report.specs.declared.outcome.ReportLine.{ReportLine}
 use Rattle.report.specs.Views.{line_view, outcome_view}
 use Rattle.report.specs.declared.error_holds.OpenError.{OpenError}
 
@@ -15,7 +15,7 @@ abbrev pub AreResolvers : Global → Zone → Id → List Id → Type 0
 AreResolvers g zone reason ids = IsRising ids × ((y : Id) → Contains ids y ↔ Resolves g zone reason y)
 
 -- a line for each hold
-abbrev pub AreLinesOf : Global → Zone → List OpenError → List Line → Type 0
+abbrev pub AreLinesOf : Global → Zone → List OpenError → List ReportLine → Type 0
 AreLinesOf g zone errors lines =
     (resolvers : Id → List Id) → ((reason : Id) → AreResolvers g zone reason (resolvers reason))
     → map line_view lines ≡ map (λ o. machine.ErrsysmodLine o.id o.reason (resolvers o.reason)) errors

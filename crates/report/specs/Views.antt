@@ -11,8 +11,8 @@ use Rattle.report.specs.declared.outcome.Place.{Place}
 use Rattle.report.specs.declared.outcome.Place.TheVariants as place
 use Rattle.report.specs.declared.outcome.Status.{Status}
 use Rattle.report.specs.declared.outcome.Status.TheVariants as status
-use Rattle.report.specs.declared.outcome.Line.{Line}
-use Rattle.report.specs.declared.outcome.Line.TheVariants as line
+use Rattle.report.specs.declared.outcome.ReportLine.{ReportLine}
+use Rattle.report.specs.declared.outcome.ReportLine.TheVariants as line
 use Rattle.report.specs.declared.outcome.Outcome.{Outcome}
 use Rattle.report.specs.declared.outcome.Outcome.TheVariants as outcome
 
@@ -51,7 +51,7 @@ status_view status.NoVer = machine.NoVer
 status_view status.Restored = machine.Restored
 status_view status.NotApplied = machine.NotApplied
 
-abbrev pub line_view : Line → machine.Line
+abbrev pub line_view : ReportLine → machine.Line
 line_view (line.Status id place status) = machine.StatusLine id (place_view place) (status_view status)
 line_view line.Nothing = machine.NothingLine
 line_view (line.Errsysmod id reason resolvers) = machine.ErrsysmodLine id reason resolvers.items

@@ -2,10 +2,10 @@
 use Rattle.std.specs.Prelude.{decimal, option_map, if◌then◌else◌}
 use Rattle.terms.specs.Types.{Text}
 use Rattle.machine.specs.Report.{left_in, list_text, optional_text}
-use Rattle.report.specs.declared.words.Word.{Word}
-use Rattle.report.specs.declared.words.Word.TheVariants as word
+use Rattle.report.specs.declared.line_words.LineWord.{LineWord}
+use Rattle.report.specs.declared.line_words.LineWord.TheVariants as word
 
-abbrev pub word_text : Word → Text
+abbrev pub word_text : LineWord → Text
 word_text (word.Of text) = text.now
 word_text (word.Optional text) = optional_text (option_map (λ t. t.now) text)
 word_text (word.If holds first second) = if holds then first.now else second.now

@@ -4,9 +4,9 @@ ghost use Rattle.machine.specs.Outcome.{list_global};
 ghost use Rattle.machine.specs.Report.{line_text};
 ghost use Rattle.report.specs.Paged.{Paged};
 
+use crate::line_words::{LineWord, put_words};
 use crate::page::Page;
 use crate::sink::Sink;
-use crate::words::{Word, put_words};
 use fields::spelling::{hold_text, kind_text};
 use sysmods::GlobalZone;
 
@@ -16,19 +16,19 @@ pub(crate) fn put_global<W: Sink>(global: &GlobalZone, page: &mut Page<'_, W>)
 {
     for sysmod in global.sysmods() {
         let words = [
-            Word::Of(sysmod.id.as_bytes()),
-            Word::Left(8, kind_text(sysmod.kind)),
-            Word::Of(b"SOURCEID"),
-            Word::Sources(sysmod.sources.as_slice()),
+            LineWord::Of(sysmod.id.as_bytes()),
+            LineWord::Left(8, kind_text(sysmod.kind)),
+            LineWord::Of(b"SOURCEID"),
+            LineWord::Sources(sysmod.sources.as_slice()),
         ];
         put_words(b"SYSMOD", &words, page);
     }
     for hold in global.holds() {
         let words = [
-            Word::Of(hold.id.as_bytes()),
-            Word::Left(6, hold_text(hold.kind)),
-            Word::Of(hold.reason.as_bytes()),
-            Word::If(hold.internal, b"INTERNAL", b"EXTERNAL"),
+            LineWord::Of(hold.id.as_bytes()),
+            LineWord::Left(6, hold_text(hold.kind)),
+            LineWord::Of(hold.reason.as_bytes()),
+            LineWord::If(hold.internal, b"INTERNAL", b"EXTERNAL"),
         ];
         put_words(b"HOLD", &words, page);
     }

@@ -3,7 +3,7 @@ ghost use Rattle.std.specs.Prelude.{IfOk};
 ghost use Rattle.report.specs.ErrsysmodLines.{AreLinesOf, IsReportOf};
 
 use crate::error_holds::{OpenError, open_errors};
-use crate::outcome::{Header, Line, Outcome};
+use crate::outcome::{Header, Outcome, ReportLine};
 use crate::resolvers::{all_superseders, resolvers};
 use fields::{Attest, IdList, Reason, ZoneName};
 use std::alloc::{AllocError, Global};
@@ -17,7 +17,7 @@ fn lines_of(
     global: &GlobalZone,
     zone: &Zone,
     errors: &[OpenError],
-) -> Result<Vec<Line>, AllocError>
+) -> Result<Vec<ReportLine>, AllocError>
     ensures { IfOk result (λ lines. AreLinesOf global.now zone.now errors.now lines.items) }
 {
     if errors.is_empty() {
@@ -29,7 +29,7 @@ fn lines_of(
     let mut lines = Vec::new(alloc);
     for error in errors {
         let ids = resolvers(alloc, &vers, &superseders, error.reason)?;
-        lines.push(Line::Errsysmod {
+        lines.push(ReportLine::Errsysmod {
             id: error.id,
             reason: Reason::read(error.reason.as_bytes()).unwrap(),
             resolvers: Vec::from_slice(alloc, ids.as_slice())?,

@@ -9,6 +9,7 @@
 mod error_holds;
 mod global_lines;
 mod held_for_error;
+mod line_words;
 mod lines;
 mod outcome;
 mod page;
@@ -16,12 +17,11 @@ mod pieces;
 mod places;
 mod resolvers;
 mod sink;
-mod words;
 mod write;
 mod zone_lines;
 
 pub use held_for_error::errsysmods;
-pub use outcome::{Header, Line, Outcome, Place, Refusal, Status};
+pub use outcome::{Header, Outcome, Place, Refusal, ReportLine, Status};
 pub use pieces::{put, write_all};
 pub use places::place_of;
 pub use sink::{Out, Sink, WriteFault};

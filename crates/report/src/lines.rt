@@ -9,10 +9,10 @@ ghost use Rattle.report.specs.Paged.{Paged};
 ghost use Rattle.judge_system.specs.Views.{failure_view};
 ghost use Rattle.report.specs.Views.{header_view, refusal_view, place_view, status_view, line_view};
 
-use crate::outcome::{Header, Line, Place, Refusal, Status};
+use crate::line_words::{LineWord, put_words};
+use crate::outcome::{Header, Place, Refusal, ReportLine, Status};
 use crate::page::Page;
 use crate::sink::Sink;
-use crate::words::{Word, put_words};
 use fields::spelling::{
     hold_text, kind_text, need_text, refusal_text, statement_code_text, test_text, word_text,
 };
@@ -25,9 +25,9 @@ pub(crate) fn put_header<W: Sink>(header: &Header, page: &mut Page<'_, W>)
     ensures { Paged W.Sink page.old page.new (header_text (header_view header.now)) }
 {
     let word = word_text(header.word);
-    let zone = Word::Optional(header.boundary.as_ref().map(|name| name.as_bytes()));
+    let zone = LineWord::Optional(header.boundary.as_ref().map(|name| name.as_bytes()));
     if header.check {
-        put_words(word, &[zone, Word::Of(b"CHECK")], page);
+        put_words(word, &[zone, LineWord::Of(b"CHECK")], page);
         return;
     }
     put_words(word, &[zone], page);
@@ -39,10 +39,10 @@ fn put_fault<W: Sink>(word: &[u8], number: usize, code: StatementCode, page: &mu
         (words_line (codes "REFUSED" ∷ word.now ∷ codes "RECORD" ∷ decimal number ∷ statement_code_text code ∷ [])) }
 {
     let words = [
-        Word::Of(word),
-        Word::Of(b"RECORD"),
-        Word::Number(number),
-        Word::Of(statement_code_text(code)),
+        LineWord::Of(word),
+        LineWord::Of(b"RECORD"),
+        LineWord::Number(number),
+        LineWord::Of(statement_code_text(code)),
     ];
     put_words(b"REFUSED", &words, page);
 }
@@ -113,14 +113,17 @@ fn put_failure<W: Sink>(failure: &Failure, page: &mut Page<'_, W>)
     ensures { Paged W.Sink page.old page.new (failure_text (failure_view failure.now)) }
 {
     for test in failure.tests.as_slice() {
-        put_words(b"  TEST", &[Word::Of(test_text(*test))], page);
+        put_words(b"  TEST", &[LineWord::Of(test_text(*test))], page);
     }
     for need in failure.needs.as_slice() {
-        let words = [Word::Of(need_text(need.kind)), Word::Of(need.id.as_bytes())];
+        let words = [
+            LineWord::Of(need_text(need.kind)),
+            LineWord::Of(need.id.as_bytes()),
+        ];
         put_words(b"  NEED", &words, page);
     }
     for causer in failure.causers.as_slice() {
-        put_words(b"  CAUSER", &[Word::Of(causer.as_bytes())], page);
+        put_words(b"  CAUSER", &[LineWord::Of(causer.as_bytes())], page);
     }
 }
 
@@ -129,10 +132,10 @@ fn put_status<'a, W: Sink>(id: Id, place: &'a Place, status: &'a Status, page: &
     ensures { Paged W.Sink page.old page.new (words_line (id ∷ left_in 8 (place_text (place_view place.now))
         ∷ status_word (status_view status.now) ∷ status_detail (status_view status.now))) }
 {
-    let place = Word::Left(8, place_text(place));
-    let word = Word::Of(status_word(status));
+    let place = LineWord::Left(8, place_text(place));
+    let word = LineWord::Of(status_word(status));
     match status_detail(status) {
-        Some(detail) => put_words(id.as_bytes(), &[place, word, Word::Of(detail)], page),
+        Some(detail) => put_words(id.as_bytes(), &[place, word, LineWord::Of(detail)], page),
         None => put_words(id.as_bytes(), &[place, word], page),
     }
 }
@@ -146,30 +149,30 @@ fn put_errsysmod<'a, W: Sink>(
 )
     ensures { Paged W.Sink page.old page.new (line_text (ErrsysmodLine id.now reason.now resolvers.now)) }
 {
-    let words = [Word::Of(id.as_bytes()), Word::Of(reason.as_bytes())];
+    let words = [LineWord::Of(id.as_bytes()), LineWord::Of(reason.as_bytes())];
     put_words(b"ERRSYSMOD", &words, page);
     if resolvers.is_empty() {
-        put_words(b"  RESOLVER", &[Word::Of(b"-")], page);
+        put_words(b"  RESOLVER", &[LineWord::Of(b"-")], page);
         return;
     }
     for resolver in resolvers {
-        put_words(b"  RESOLVER", &[Word::Of(resolver.as_bytes())], page);
+        put_words(b"  RESOLVER", &[LineWord::Of(resolver.as_bytes())], page);
     }
 }
 
 /// A line, with the lines that belong to it.
-pub(crate) fn put_line<W: Sink>(line: &Line, page: &mut Page<'_, W>)
+pub(crate) fn put_line<W: Sink>(line: &ReportLine, page: &mut Page<'_, W>)
     ensures { Paged W.Sink page.old page.new (line_text (line_view line.now)) }
 {
     match line {
-        Line::Status { id, place, status } => {
+        ReportLine::Status { id, place, status } => {
             put_status(*id, place, status, page);
             if let Status::Failed(failure) = status {
                 put_failure(failure, page);
             }
         }
-        Line::Nothing => page.put(b"NOTHING\n"),
-        Line::Errsysmod {
+        ReportLine::Nothing => page.put(b"NOTHING\n"),
+        ReportLine::Errsysmod {
             id,
             reason,
             resolvers,

@@ -62,7 +62,7 @@ pub enum Status {
 
 /// A line of a report, with the lines that belong to it.
 #[derive(Drop)]
-pub enum Line {
+pub enum ReportLine {
     Status {
         id: Id,
         place: Place,
@@ -83,7 +83,7 @@ pub enum Line {
 pub enum Outcome<'a> {
     Ran {
         header: Header,
-        lines: Vec<Line>,
+        lines: Vec<ReportLine>,
     },
     ListedGlobal {
         header: Header,

@@ -19,11 +19,10 @@ pub trait Sink {
     /// Whether a write has failed.
     ghost has_failed: { Self → Bool };
 
-    /// Takes the first bytes of a piece, one at least, and answers how many. The error comes where the write fails, and
+    /// Takes the first bytes of a piece, at least one if it has any, and answers how many. Fails if the write does, and
     /// at each call from then on.
     fn write(&mut self, piece: &[u8]) -> Result<usize, WriteFault>
-        requires { 0 < length piece.now }
-        ensures some { IfOk result (λ n. 0 < n) }
+        ensures some { 0 < length piece.now → IfOk result (λ n. 0 < n) }
         ensures within { IfOk result (λ n. n ≤ length piece.now) }
         ensures bytes { IfOk result (λ n. Appends (taken self.old) (taken self.new) (take n piece.now)) }
         ensures none { OnErr result (Keeps (taken self.old) (taken self.new)) }
@@ -63,8 +62,7 @@ impl<W: Write> Sink for Out<W> {
     ghost has_failed = { λ o. o.failed };
 
     fn write(&mut self, piece: &[u8]) -> Result<usize, WriteFault>
-        requires { 0 < length piece.now }
-        ensures some { IfOk result (λ n. 0 < n) }
+        ensures some { 0 < length piece.now → IfOk result (λ n. 0 < n) }
         ensures within { IfOk result (λ n. n ≤ length piece.now) }
         ensures bytes { IfOk result (λ n. Appends (W.contents self.old.writer) (W.contents self.new.writer)
             (take n piece.now)) }
@@ -75,6 +73,9 @@ impl<W: Write> Sink for Out<W> {
     {
         if self.failed {
             return Err(WriteFault);
+        }
+        if piece.is_empty() {
+            return Ok(0);
         }
         match self.writer.write(piece) {
             Ok(n) if n > 0 => Ok(n),

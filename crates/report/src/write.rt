@@ -8,22 +8,22 @@ ghost use Rattle.report.specs.Sent.{Sent};
 ghost use Rattle.report.specs.Views.{line_view, outcome_view};
 
 use crate::global_lines::put_global;
+use crate::line_words::{LineWord, put_words};
 use crate::lines::{put_header, put_line, put_refusal};
-use crate::outcome::{Line, Outcome, Status};
+use crate::outcome::{Outcome, ReportLine, Status};
 use crate::page::Page;
 use crate::sink::{Sink, WriteFault};
-use crate::words::{Word, put_words};
 use crate::zone_lines::put_zone;
 use fields::spelling::command_code_text;
 use terms::IdRefusal;
 
-fn line_code(line: &Line) -> u8
+fn line_code(line: &ReportLine) -> u8
     ensures code { result ≡ line_code (line_view line.now) }
     ensures most { result ≤ 12 }
 {
     match line {
-        Line::Nothing | Line::Errsysmod { .. } => 4,
-        Line::Status { status, .. } => match status {
+        ReportLine::Nothing | ReportLine::Errsysmod { .. } => 4,
+        ReportLine::Status { status, .. } => match status {
             Status::Already | Status::Unknown => 4,
             Status::Refused(IdRefusal::NoHold | IdRefusal::Internal) => 4,
             Status::Refused(_) => 8,
@@ -35,7 +35,7 @@ fn line_code(line: &Line) -> u8
 }
 
 /// Puts lines on the page, and answers the greatest of their codes, 0 where there are none.
-fn put_lines<W: Sink>(lines: &[Line], page: &mut Page<'_, W>) -> u8
+fn put_lines<W: Sink>(lines: &[ReportLine], page: &mut Page<'_, W>) -> u8
     ensures paged { Paged W.Sink page.old page.new (flat_map line_text (map line_view lines.now)) }
     ensures code { result ≡ lines_code (map line_view lines.now) }
     ensures most { result ≤ 12 }
@@ -90,9 +90,9 @@ fn put_outcome<W: Sink>(outcome: &Outcome<'_>, page: &mut Page<'_, W>) -> u8
         }
         Outcome::Control { number, code } => {
             let words = [
-                Word::Of(b"RECORD"),
-                Word::Number(*number),
-                Word::Of(command_code_text(*code)),
+                LineWord::Of(b"RECORD"),
+                LineWord::Number(*number),
+                LineWord::Of(command_code_text(*code)),
             ];
             put_words(b"CONTROL", &words, page);
             12

@@ -6,9 +6,9 @@ ghost use Rattle.machine.specs.Report.{line_text};
 ghost use Rattle.report.specs.Paged.{Paged};
 ghost use Rattle.report.specs.Views.{applied_word};
 
+use crate::line_words::{LineWord, put_words};
 use crate::page::Page;
 use crate::sink::Sink;
-use crate::words::{Word, put_words};
 use fields::spelling::type_text;
 use terms::ZoneKind;
 use zones::{Element, Entry, Zone};
@@ -25,24 +25,30 @@ fn applied_word(kind: ZoneKind) -> &'static [u8]
 fn put_entry<W: Sink>(kind: ZoneKind, entry: &Entry, page: &mut Page<'_, W>)
     ensures { Paged W.Sink page.old page.new (line_text (EntryLine kind entry.now)) }
 {
-    let id = Word::Of(entry.id.as_bytes());
-    let (of_supby, supby) = (Word::Of(b"SUPBY"), Word::Ids(entry.supby.as_slice()));
-    let (of_delby, delby) = (
-        Word::Of(b"DELBY"),
-        Word::Optional(entry.delby.as_ref().map(|id| id.as_bytes())),
+    let id = LineWord::Of(entry.id.as_bytes());
+    let (of_supby, supby) = (
+        LineWord::Of(b"SUPBY"),
+        LineWord::Ids(entry.supby.as_slice()),
     );
-    let (of_waived, waived) = (Word::Of(b"WAIVED"), Word::Ids(entry.waived.as_slice()));
+    let (of_delby, delby) = (
+        LineWord::Of(b"DELBY"),
+        LineWord::Optional(entry.delby.as_ref().map(|id| id.as_bytes())),
+    );
+    let (of_waived, waived) = (
+        LineWord::Of(b"WAIVED"),
+        LineWord::Ids(entry.waived.as_slice()),
+    );
     match &entry.applied {
         Some(applied) => {
-            let word = Word::Of(applied_word(kind));
-            let date = Word::Of(applied.date.as_bytes());
+            let word = LineWord::Of(applied_word(kind));
+            let date = LineWord::Of(applied.date.as_bytes());
             let words = [
                 id, word, date, of_supby, supby, of_delby, delby, of_waived, waived,
             ];
             put_words(b"ENTRY", &words, page);
         }
         None => {
-            let none = Word::Of(b"-");
+            let none = LineWord::Of(b"-");
             let words = [
                 id, none, of_supby, supby, of_delby, delby, of_waived, waived,
             ];
@@ -56,23 +62,23 @@ fn put_element<W: Sink>(element: &Element, text: bool, page: &mut Page<'_, W>)
     ensures { Paged W.Sink page.old page.new (flat_map line_text (element_lines text element.now)) }
 {
     let words = [
-        Word::Left(5, type_text(element.elem_type)),
-        Word::Left(8, element.name.as_bytes()),
-        Word::Of(b"FMID"),
-        Word::Of(element.fmid.as_bytes()),
-        Word::Of(b"RMID"),
-        Word::Of(element.rmid.as_bytes()),
-        Word::Of(b"UMID"),
-        Word::Ids(element.umids.as_slice()),
-        Word::Of(b"DISTLIB"),
-        Word::Of(element.distlib.as_bytes()),
-        Word::Of(b"SYSLIB"),
-        Word::Of(element.syslib.as_bytes()),
+        LineWord::Left(5, type_text(element.elem_type)),
+        LineWord::Left(8, element.name.as_bytes()),
+        LineWord::Of(b"FMID"),
+        LineWord::Of(element.fmid.as_bytes()),
+        LineWord::Of(b"RMID"),
+        LineWord::Of(element.rmid.as_bytes()),
+        LineWord::Of(b"UMID"),
+        LineWord::Ids(element.umids.as_slice()),
+        LineWord::Of(b"DISTLIB"),
+        LineWord::Of(element.distlib.as_bytes()),
+        LineWord::Of(b"SYSLIB"),
+        LineWord::Of(element.syslib.as_bytes()),
     ];
     put_words(b"ELEM", &words, page);
     if text {
         for record in element.text.as_slice() {
-            put_words(b" ", &[Word::Of(record.bytes())], page);
+            put_words(b" ", &[LineWord::Of(record.bytes())], page);
         }
     }
 }

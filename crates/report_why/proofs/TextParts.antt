@@ -16,7 +16,7 @@ use Rattle.terms.specs.Facts.{Requisite, Answer, Found, RequisiteFact, HoldFact,
 use Rattle.machine.specs.Report.{words_line, left_in, list_text, mark_text, optional_text}
 use Rattle.machine.specs.FactText.{inner_line, id_lines, answer_word, answer_lines, owned_text, change_text, word_if}
 use Rattle.machine.specs.FactText.{maker_line, standing_text, comment_line, fact_text, fact_code, facts_code}
-use Rattle.report_why.specs.declared.line.Word.{Word}
+use Rattle.report_why.specs.declared.line.FactWord.{FactWord}
 use Rattle.report_why.specs.declared.fact.Fact.{Fact}
 use Rattle.report_why.specs.LineWords.{word_text}
 use Rattle.report_why.specs.Views.{fact_view}
@@ -30,7 +30,7 @@ flat_more f xs i x old mid new below at before more =
     ∙ ap (λ l. old ++ l) (sym (flat_next f xs i x below at))
 
 -- the first word, the others, each behind a blank, and the newline
-pub words_put : (words : List Word) (start old : List ℕ) {t1 t2 : List ℕ} → t1 ≡ old ++ start
+pub words_put : (words : List FactWord) (start old : List ℕ) {t1 t2 : List ℕ} → t1 ≡ old ++ start
     → t2 ≡ t1 ++ flat_map (λ w. 32 ∷ word_text w) words
     → t2 ++ 10 ∷ [] ≡ old ++ words_line (start ∷ map word_text words)
 words_put words start old e1 e2 =

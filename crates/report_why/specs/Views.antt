@@ -3,8 +3,8 @@ use Rattle.std.specs.Prelude.{List, map, option_map}
 use Rattle.terms.specs.Facts as terms
 use Rattle.report_why.specs.declared.fact.Standing.{Standing}
 use Rattle.report_why.specs.declared.fact.Standing.TheVariants as standing
-use Rattle.report_why.specs.declared.fact.Answer.{Answer}
-use Rattle.report_why.specs.declared.fact.Answer.TheVariants as answer
+use Rattle.report_why.specs.declared.fact.Resolution.{Resolution}
+use Rattle.report_why.specs.declared.fact.Resolution.TheVariants as answer
 use Rattle.report_why.specs.declared.fact.Rank.{Rank}
 use Rattle.report_why.specs.declared.fact.Rank.TheVariants as rank
 use Rattle.report_why.specs.declared.fact.Maker.{Maker}
@@ -19,7 +19,7 @@ standing_view standing.Deleted = terms.StandsDeleted
 standing_view standing.Received = terms.StandsReceived
 standing_view standing.Missing = terms.StandsMissing
 
-abbrev pub answer_view : Answer → terms.Answer
+abbrev pub answer_view : Resolution → terms.Answer
 answer_view (answer.Supplied ids) = terms.Supplied ids.items
 answer_view answer.Waived = terms.Waived
 answer_view (answer.Open ids) = terms.Open ids

@@ -12,7 +12,7 @@ ghost use Rattle.report_why.specs.Asking.{setting_in, left_in};
 ghost use Rattle.report_why.specs.Views.{answer_view};
 
 use crate::asking::Asking;
-use crate::fact::{Answer, Requisite};
+use crate::fact::{Requisite, Resolution};
 use crate::standing::is_deleted;
 use fields::{Attest, Id, IdList};
 use judge_system::takes_superseder;
@@ -151,15 +151,15 @@ pub(crate) fn answer(
     alloc: Global,
     asking: &Asking<'_, '_>,
     requisite: Requisite,
-) -> Result<Answer, AllocError>
+) -> Result<Resolution, AllocError>
     ensures { IfOk result (λ a. IsAnswer (setting_in asking.now) asking.now.id requisite (answer_view a)) }
 {
     let Requisite { kind, id, .. } = requisite;
     if asking.meets(kind, id) {
-        return Ok(Answer::Supplied(suppliers(alloc, asking, kind, id)?));
+        return Ok(Resolution::Supplied(suppliers(alloc, asking, kind, id)?));
     }
     if is_waived(asking.scope.zone, asking.id, requisite) {
-        return Ok(Answer::Waived);
+        return Ok(Resolution::Waived);
     }
-    Ok(Answer::Open(candidates(alloc, asking, kind, id)?))
+    Ok(Resolution::Open(candidates(alloc, asking, kind, id)?))
 }

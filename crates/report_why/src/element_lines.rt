@@ -5,8 +5,8 @@ ghost use Rattle.machine.specs.FactText.{maker_line, fact_text};
 ghost use Rattle.report_why.specs.Views.{maker_view, found_view};
 
 use crate::fact::{Found, Maker};
-use crate::line::{Word, put_words};
-use crate::words::rank_text;
+use crate::fact_words::rank_text;
+use crate::line::{FactWord, put_words};
 use fields::Name;
 use fields::spelling::type_text;
 use std::alloc::AllocError;
@@ -15,10 +15,10 @@ use terms::ElemType;
 fn put_maker(word: &[u8], maker: Maker, text: &mut Vec<u8>) -> Result<(), AllocError>
     ensures { OnOk result (text.new.items ≡ text.old.items ++ maker_line word.now (maker_view maker)) }
 {
-    let id = Word::Of(maker.id.as_bytes());
+    let id = FactWord::Of(maker.id.as_bytes());
     put_words(
         b"   ",
-        &[Word::Of(word), id, Word::Of(rank_text(maker.rank))],
+        &[FactWord::Of(word), id, FactWord::Of(rank_text(maker.rank))],
         text,
     )
 }
@@ -34,19 +34,19 @@ pub(crate) fn put_element<'a>(
     ensures { OnOk result (text.new.items ≡ text.old.items
         ++ fact_text (ElementFact elem_type name.now replaces (option_map found_view found.now))) }
 {
-    let elem_type = Word::Left(5, type_text(elem_type));
-    let name = Word::Left(8, name.as_bytes());
-    let change = Word::If(replaces, b"REPLACES", b"UPDATES");
-    let fmid = Word::Of(b"FMID");
+    let elem_type = FactWord::Left(5, type_text(elem_type));
+    let name = FactWord::Left(8, name.as_bytes());
+    let change = FactWord::If(replaces, b"REPLACES", b"UPDATES");
+    let fmid = FactWord::Of(b"FMID");
     let Some(found) = found else {
         return put_words(
             b"  ELEM",
-            &[elem_type, name, change, fmid, Word::Of(b"-")],
+            &[elem_type, name, change, fmid, FactWord::Of(b"-")],
             text,
         );
     };
-    let owner = Word::Of(found.fmid.as_bytes());
-    let owned = Word::If(found.owned, b"OWNED", b"NOTOWNED");
+    let owner = FactWord::Of(found.fmid.as_bytes());
+    let owned = FactWord::If(found.owned, b"OWNED", b"NOTOWNED");
     put_words(
         b"  ELEM",
         &[elem_type, name, change, fmid, owner, owned],

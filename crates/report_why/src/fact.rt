@@ -38,7 +38,7 @@ impl Model for Requisite {
 
 /// What becomes of something that is asked for.
 #[derive(Drop)]
-pub enum Answer {
+pub enum Resolution {
     /// These supply it.
     Supplied(Vec<Id>),
     Waived,
@@ -92,12 +92,12 @@ pub enum Fact<'a> {
     },
     Requisite {
         requisite: Requisite,
-        answer: Answer,
+        answer: Resolution,
     },
     /// Of an ERROR hold, with what becomes of its reason.
     Hold {
         hold: &'a Hold,
-        resolution: Option<Answer>,
+        resolution: Option<Resolution>,
     },
     /// An element that is replaced, or else updated.
     Element {

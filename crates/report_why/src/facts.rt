@@ -10,10 +10,10 @@ ghost use Rattle.report_why.specs.Views.{fact_view};
 
 use crate::asking::Asking;
 use crate::deletes::delete_facts;
-use crate::elements::element_facts;
+use crate::element_facts::element_facts;
 use crate::fact::Fact;
 use crate::forbids::npre_facts;
-use crate::holds::hold_facts;
+use crate::hold_facts::hold_facts;
 use crate::needed::needed_facts;
 use crate::requisites::requisite_facts;
 use crate::standing::standing_facts;

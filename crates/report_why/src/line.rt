@@ -9,7 +9,7 @@ use std::alloc::AllocError;
 
 /// A word of a line.
 #[derive(Clone, Copy)]
-pub(crate) enum Word<'a> {
+pub(crate) enum FactWord<'a> {
     Of(&'a [u8]),
     /// The first word where it is so, else the second.
     If(bool, &'static [u8], &'static [u8]),
@@ -53,26 +53,26 @@ fn put_ids(ids: &[Id], text: &mut Vec<u8>) -> Result<(), AllocError>
     Ok(())
 }
 
-fn put_word(word: Word<'_>, text: &mut Vec<u8>) -> Result<(), AllocError>
+fn put_word(word: FactWord<'_>, text: &mut Vec<u8>) -> Result<(), AllocError>
     ensures { OnOk result (text.new.items ≡ text.old.items ++ word_text word.entry) }
 {
     match word {
-        Word::Of(bytes) => put(bytes, text),
-        Word::If(true, bytes, _) => put(bytes, text),
-        Word::If(false, _, bytes) => put(bytes, text),
-        Word::Left(places, bytes) => put_left(places, bytes, text),
-        Word::Number(number) => {
+        FactWord::Of(bytes) => put(bytes, text),
+        FactWord::If(true, bytes, _) => put(bytes, text),
+        FactWord::If(false, _, bytes) => put(bytes, text),
+        FactWord::Left(places, bytes) => put_left(places, bytes, text),
+        FactWord::Number(number) => {
             let mut buffer = Buffer::new();
             put(buffer.format(number).as_bytes(), text)
         }
-        Word::Ids(ids) => put_ids(ids, text),
+        FactWord::Ids(ids) => put_ids(ids, text),
     }
 }
 
 /// Appends a line that begins with these bytes. A line that begins with blanks and then a word has one blank less here.
 pub(crate) fn put_words(
     start: &[u8],
-    words: &[Word<'_>],
+    words: &[FactWord<'_>],
     text: &mut Vec<u8>,
 ) -> Result<(), AllocError>
     ensures { OnOk result (text.new.items

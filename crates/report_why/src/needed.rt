@@ -12,7 +12,7 @@ use judge_system::RequisiteOf;
 use std::alloc::{AllocError, Global};
 use sysmods::VerChoice;
 use terms::NeedKind;
-use undo::{Scope, judge_restore};
+use undo::{RestoreScope, needs_in_restore};
 use zones::Zone;
 
 // Adds the id that is needed as DEP.
@@ -40,15 +40,18 @@ pub(crate) fn needed_facts(
     requires counting { choice vers.now ≡ counting vers.now.global.now zone.now [] }
     ensures { IfOk result (λ facts. AreNeeded vers.now.global.now zone.now id (map fact_view facts.items)) }
 {
-    let scope = Scope {
+    if !zone.is_applied(id) {
+        return Ok(Vec::new(alloc));
+    }
+    let scope = RestoreScope {
         vers,
         zone,
         accepted: zone,
         applied,
     };
-    let judged = judge_restore(alloc, &scope, ids)?;
+    let needs = needs_in_restore(alloc, &scope, ids)?;
     let mut found = Vec::new(alloc);
-    for need in judged.needs.as_slice() {
+    for need in needs.as_slice() {
         push_dep(*need, &mut found)?;
     }
     let needing = IdList::from_vec(found);

@@ -7,8 +7,8 @@ ghost use Rattle.report_why.specs.Views.{fact_view};
 use crate::asked_lines::{put_hold, put_requisite};
 use crate::element_lines::put_element;
 use crate::fact::{Fact, Standing};
-use crate::line::{Word, put_words};
-use crate::words::{applied_word, id_text, standing_text, type_word};
+use crate::fact_words::{applied_word, id_text, standing_text, type_word};
+use crate::line::{FactWord, put_words};
 use fields::Id;
 use std::alloc::{AllocError, Global};
 use terms::ZoneKind;
@@ -18,21 +18,27 @@ use zones::Entry;
 fn put_entry(kind: ZoneKind, entry: &Entry, text: &mut Vec<u8>) -> Result<(), AllocError>
     ensures { OnOk result (text.new.items ≡ text.old.items ++ fact_text (EntryFact kind entry.now)) }
 {
-    let id = Word::Of(entry.id.as_bytes());
-    let (of_supby, supby) = (Word::Of(b"SUPBY"), Word::Ids(entry.supby.as_slice()));
-    let (of_delby, delby) = (Word::Of(b"DELBY"), Word::Of(id_text(&entry.delby)));
-    let (of_waived, waived) = (Word::Of(b"WAIVED"), Word::Ids(entry.waived.as_slice()));
+    let id = FactWord::Of(entry.id.as_bytes());
+    let (of_supby, supby) = (
+        FactWord::Of(b"SUPBY"),
+        FactWord::Ids(entry.supby.as_slice()),
+    );
+    let (of_delby, delby) = (FactWord::Of(b"DELBY"), FactWord::Of(id_text(&entry.delby)));
+    let (of_waived, waived) = (
+        FactWord::Of(b"WAIVED"),
+        FactWord::Ids(entry.waived.as_slice()),
+    );
     match &entry.applied {
         Some(applied) => {
-            let word = Word::Of(applied_word(kind));
-            let date = Word::Of(applied.date.as_bytes());
+            let word = FactWord::Of(applied_word(kind));
+            let date = FactWord::Of(applied.date.as_bytes());
             let words = [
                 id, word, date, of_supby, supby, of_delby, delby, of_waived, waived,
             ];
             put_words(b"  ENTRY", &words, text)
         }
         None => {
-            let none = Word::Of(b"-");
+            let none = FactWord::Of(b"-");
             let words = [
                 id, none, of_supby, supby, of_delby, delby, of_waived, waived,
             ];
@@ -51,11 +57,11 @@ fn put_ver(
     ensures { OnOk result (text.new.items ≡ text.old.items ++ fact_text (VerFact number fmid.now fits counts)) }
 {
     let words = [
-        Word::Number(number),
-        Word::Of(b"FMID"),
-        Word::Of(id_text(fmid)),
-        Word::If(fits, b"FITS", b"-"),
-        Word::If(counts, b"COUNTS", b"-"),
+        FactWord::Number(number),
+        FactWord::Of(b"FMID"),
+        FactWord::Of(id_text(fmid)),
+        FactWord::If(fits, b"FITS", b"-"),
+        FactWord::If(counts, b"COUNTS", b"-"),
     ];
     put_words(b"  VER", &words, text)
 }
@@ -65,8 +71,8 @@ fn put_fact(fact: &Fact<'_>, text: &mut Vec<u8>) -> Result<(), AllocError>
 {
     match fact {
         Fact::Standing { id, kind, standing } => {
-            let kind = Word::Left(8, type_word(*kind));
-            let standing = Word::Of(standing_text(*standing));
+            let kind = FactWord::Left(8, type_word(*kind));
+            let standing = FactWord::Of(standing_text(*standing));
             put_words(id.as_bytes(), &[kind, standing], text)
         }
         Fact::Entry { kind, entry } => put_entry(*kind, entry, text),
@@ -85,16 +91,16 @@ fn put_fact(fact: &Fact<'_>, text: &mut Vec<u8>) -> Result<(), AllocError>
             found,
         } => put_element(*elem_type, name, *replaces, found, text),
         Fact::Delete { id, own } => {
-            let chain = Word::If(*own, b"CHAIN", b"-");
-            put_words(b"  DELETE", &[Word::Of(id.as_bytes()), chain], text)
+            let chain = FactWord::If(*own, b"CHAIN", b"-");
+            put_words(b"  DELETE", &[FactWord::Of(id.as_bytes()), chain], text)
         }
-        Fact::Takes(id) => put_words(b"  TAKES", &[Word::Of(id.as_bytes())], text),
+        Fact::Takes(id) => put_words(b"  TAKES", &[FactWord::Of(id.as_bytes())], text),
         Fact::Npre { id, applied } => {
-            let applied = Word::If(*applied, b"APPLIED", b"-");
-            put_words(b"  NPRE", &[Word::Of(id.as_bytes()), applied], text)
+            let applied = FactWord::If(*applied, b"APPLIED", b"-");
+            put_words(b"  NPRE", &[FactWord::Of(id.as_bytes()), applied], text)
         }
-        Fact::Forbidden(id) => put_words(b"  FORBIDDEN", &[Word::Of(id.as_bytes())], text),
-        Fact::Needed(id) => put_words(b"  NEEDED", &[Word::Of(id.as_bytes())], text),
+        Fact::Forbidden(id) => put_words(b"  FORBIDDEN", &[FactWord::Of(id.as_bytes())], text),
+        Fact::Needed(id) => put_words(b"  NEEDED", &[FactWord::Of(id.as_bytes())], text),
     }
 }
 

@@ -17,7 +17,7 @@ use Rattle.terms.proofs.ListMembers.{here, here_or, none_in, filter_in, in_filte
 use Rattle.terms.proofs.Places.{contains_at}
 use Rattle.terms.proofs.TextOrder.{same_from}
 use Rattle.terms.proofs.Applied.{AppliedAre, applied_dated}
-use Rattle.select.specs.Scopes.{Scope, vers_in}
+use Rattle.select.specs.Scopes.{Selecting, vers_in}
 use Rattle.select.specs.Growing.{taken_up, has_grown, open_fmids, fitting, required_of, required_for, kept_ver}
 use Rattle.select.specs.Growing.{namers_in, stated, reasons, own_asked, fitting_namers, asked_by_namers}
 use Rattle.select.proofs.Vers.{reqs_flat, reqs_from, in_reqs, required_from, in_required, fitting_from, in_fitting}
@@ -36,7 +36,7 @@ by_number : (vs : List Ver) (o : Option Applied) (a : Applied) (other : ℕ) →
 by_number vs None a other at = absurd (cc at)
 by_number vs (Some b) a other at = refl
 
-module _ (scope : Scope) where
+module _ (scope : Selecting) where
   abbrev zone : Zone
   zone = scope.zone
 
@@ -118,7 +118,7 @@ module _ (scope : Scope) where
             (states x from.0 z within).names within),
       )
 
-module _ (scope : Scope) (seen : List Id) where
+module _ (scope : Selecting) (seen : List Id) where
   abbrev free : Id → Bool
   free z = not (is_supplied scope.zone z)
 

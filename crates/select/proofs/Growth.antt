@@ -18,7 +18,7 @@ use Rattle.terms.proofs.Applied.{AppliedAre}
 use Rattle.sysmods.specs.Seen.{AddsAll}
 use Rattle.sysmods.proofs.Growth.{adds_keeps, adds_cases, take_adds}
 use Rattle.sysmods.specs.Namers.{namers_for}
-use Rattle.select.specs.Scopes.{Scope, is_installable_in, is_open_in, is_start_in, is_growing_start_in, IsClosed}
+use Rattle.select.specs.Scopes.{Selecting, is_installable_in, is_open_in, is_start_in, is_growing_start_in, IsClosed}
 use Rattle.select.specs.Scopes.{needed_in, open_reasons_in, sups_in}
 use Rattle.select.specs.Growing.{WillDo, IsAsked, is_open_among, taken_up, has_grown, asked_by, HasAsked, AreAsked}
 use Rattle.select.specs.Growing.{own_asked, asked_by_namers, brought_by, superseders, next_asked, brings_others}
@@ -67,11 +67,11 @@ with_one p q xs d z h = elim (or_cases (p z) (is_in (xs ++ d ∷ []) z && q z) h
     by passes (inr same) = inr (same, subst (λ w. IsTrue (q w)) (sym same) passes)
 
 -- the search has seen these ids and gone through the first n of them
-pub record IsGrowth (scope : Scope) (seen : List Id) (n : ℕ) : Type 0 where
+pub record IsGrowth (scope : Selecting) (seen : List Id) (n : ℕ) : Type 0 where
   pub within : n ≤ length seen
   pub has : HasAsked scope (take n seen) seen
 
-module _ (scope : Scope) where
+module _ (scope : Selecting) where
   abbrev sups : Id → List Id
   sups = sups_in scope
 

@@ -15,7 +15,7 @@ use Rattle.terms.specs.Global.{named_functions}
 use Rattle.terms.proofs.Ids.{is_in_from_Contains}
 use Rattle.terms.proofs.ListMembers.{none_in, here, filter_in, in_filter, flat_in, in_flat}
 use Rattle.terms.proofs.TextOrder.{same_from, same_itself}
-use Rattle.select.specs.Scopes.{Scope, needed_in, open_reasons_in, vers_in}
+use Rattle.select.specs.Scopes.{Selecting, needed_in, open_reasons_in, vers_in}
 use Rattle.select.specs.Growing.{asked_by, open_fmids, namers_in}
 use Rattle.select.proofs.Listed.{function_listed, fmid_named, if_named}
 use Rattle.std.proofs.lemmas.Bool.{cases_Bool}
@@ -125,7 +125,7 @@ module _ (zone : Zone) where
         (or_right (is_applied zone from.0.function) (cands from.0.function)
         (subst (λ w. IsTrue (cands w)) (same_from f from.0.function kept.1) is))) from.2)
 
-module _ (scope : Scope) where
+module _ (scope : Selecting) where
   abbrev zone : Zone
   zone = scope.zone
 

@@ -4,14 +4,14 @@ use Rattle.std.proofs.lemmas.Bool.{and_parts}
 use Rattle.terms.specs.Types.{Id}
 use Rattle.terms.specs.Lookups.{is_in, is_supplied, delby_of}
 use Rattle.sysmods.specs.Choices.{has_ver}
-use Rattle.select.specs.Scopes.{Scope, is_installable_in, is_open_in}
+use Rattle.select.specs.Scopes.{Selecting, is_installable_in, is_open_in}
 
 -- it has a ++VER, and is installable
-pub record OpenParts (scope : Scope) (x : Id) : Type 0 where
+pub record OpenParts (scope : Selecting) (x : Id) : Type 0 where
   pub ver : has_ver scope.global scope.zone.srel x ≡ true
   pub installable : is_installable_in scope x ≡ true
 
-pub open_parts : (scope : Scope) (x : Id) → is_open_in scope x ≡ true → OpenParts scope x
+pub open_parts : (scope : Selecting) (x : Id) → is_open_in scope x ≡ true → OpenParts scope x
 open_parts scope x opened =
     let has : Bool = has_ver scope.global scope.zone.srel x in
     let whole = and_parts (is_installable_in scope x) (not (is_in scope.selection.exclude x)) opened in

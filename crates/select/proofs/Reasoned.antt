@@ -13,10 +13,10 @@ use Rattle.std.specs.Option.{option_to_list}
 use Rattle.std.proofs.lemmas.List.{take_more}
 use Rattle.std.proofs.lemmas.List.Elements.{filter_map-append}
 use Rattle.std.proofs.lemmas.List.Kept.{AllPairs-filter}
-use Rattle.select.specs.Scopes.{Scope, named_ids}
+use Rattle.select.specs.Scopes.{Selecting, named_ids}
 use Rattle.select.specs.Reasons.{beside, reason_in, with_reason}
 
-module _ (scope : Scope) where
+module _ (scope : Selecting) where
   abbrev found : List Id → List (Id × NotChosen)
   found xs = filter_map (with_reason scope) xs
 

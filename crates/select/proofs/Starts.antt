@@ -9,7 +9,7 @@ use Rattle.terms.specs.Candidates.{has_mass_choice}
 use Rattle.terms.proofs.Ids.{Contains_from_is_in}
 use Rattle.terms.proofs.GlobalLookups.{ver_received}
 use Rattle.terms.proofs.ListMembers.{filter_in, in_filter}
-use Rattle.select.specs.Scopes.{Scope, is_open_in, is_mass_chosen_in, is_start_in, named_ids}
+use Rattle.select.specs.Scopes.{Selecting, is_open_in, is_mass_chosen_in, is_start_in, named_ids}
 use Rattle.select.proofs.Opened.{open_parts}
 
 named_of : (sel : Selection) (x : Id) → IsTrue (is_in sel.select x || is_in sel.group x) → Contains (named_ids sel) x
@@ -18,7 +18,7 @@ named_of sel x h = elim (or_cases (is_in sel.select x) (is_in sel.group x) h) [
   | inr r ↦ Contains-append_right sel.select sel.group x (Contains_from_is_in sel.group x r)
 ]
 
-module _ (scope : Scope) (x : Id) (start : IsTrue (is_start_in scope x)) where
+module _ (scope : Selecting) (x : Id) (start : IsTrue (is_start_in scope x)) where
   abbrev is_named : Bool
   is_named = is_in scope.selection.select x || is_in scope.selection.group x
 
@@ -37,7 +37,8 @@ module _ (scope : Scope) (x : Id) (start : IsTrue (is_start_in scope x)) where
   ]
 
 -- The start is what is kept of ids among which it is.
-pub start_members : (scope : Scope) (ids start : List Id) → ((x : Id) → IsTrue (is_start_in scope x) → Contains ids x)
+pub start_members : (scope : Selecting) (ids start : List Id)
+    → ((x : Id) → IsTrue (is_start_in scope x) → Contains ids x)
     → start ≡ filter (is_start_in scope) ids → (x : Id) → Contains start x ↔ IsTrue (is_start_in scope x)
 start_members scope ids start among same x = (
   λ h. (filter_in (is_start_in scope) ids x (subst (λ xs. Contains xs x) same h)).1,

@@ -14,7 +14,7 @@ use Rattle.terms.specs.Choice.{fits}
 use Rattle.terms.specs.Candidates.{required_by}
 use Rattle.terms.specs.Conditions.{reqs_where}
 use Rattle.terms.proofs.ListMembers.{filter_in, in_filter, flat_in, in_flat}
-use Rattle.select.specs.Scopes.{Scope, received_vers, vers_in, is_for_and_fits}
+use Rattle.select.specs.Scopes.{Selecting, received_vers, vers_in, is_for_and_fits}
 use Rattle.select.specs.Growing.{fitting, required_of}
 use Rattle.select.proofs.Kept.{flat_mapped}
 
@@ -100,7 +100,7 @@ module _ (zone : Zone) (cands : Id → Bool) where
       ∙ ap (λ is. pres (map ver xs) ++ reqs (map ver xs) ++ reqs_where there is)
       (sym (flat_mapped (λ (v : Ver). v.ifs) ver xs))
 
-module _ (scope : Scope) where
+module _ (scope : Selecting) where
   abbrev is_for : Ver → Bool
   is_for v = bytes_eq v.srel scope.zone.srel
 

@@ -9,45 +9,45 @@ use Rattle.terms.specs.Candidates.{is_installable, is_open, is_mass_chosen, is_s
 use Rattle.terms.specs.Candidates.{needed_ids, open_reasons, sups_for}
 
 -- the global zone, the zone that the SYSMODs go to, and the operands that choose among them
-pub record Scope : Type 0 where
+pub record Selecting : Type 0 where
   pub global : Global
   pub zone : Zone
   pub selection : Selection
 
-abbrev pub is_installable_in : Scope → Id → Bool
+abbrev pub is_installable_in : Selecting → Id → Bool
 is_installable_in scope x = is_installable scope.global scope.zone x
 
-abbrev pub is_open_in : Scope → Id → Bool
+abbrev pub is_open_in : Selecting → Id → Bool
 is_open_in scope x = is_open scope.global scope.zone scope.selection x
 
-abbrev pub is_mass_chosen_in : Scope → Id → Bool
+abbrev pub is_mass_chosen_in : Selecting → Id → Bool
 is_mass_chosen_in scope x = is_mass_chosen scope.global scope.zone scope.selection x
 
-abbrev pub is_start_in : Scope → Id → Bool
+abbrev pub is_start_in : Selecting → Id → Bool
 is_start_in scope x = is_start scope.global scope.zone scope.selection x
 
-abbrev pub is_growing_start_in : Scope → Id → Bool
+abbrev pub is_growing_start_in : Selecting → Id → Bool
 is_growing_start_in scope x = is_growing_start scope.global scope.zone scope.selection x
 
-abbrev pub IsClosed : Scope → (Id → Bool) → (Id → Bool) → Type 0
+abbrev pub IsClosed : Selecting → (Id → Bool) → (Id → Bool) → Type 0
 IsClosed scope cands growing = IsClosedPair scope.global scope.zone scope.selection cands growing
 
-abbrev pub needed_in : Scope → (Id → Bool) → Id → List Id
+abbrev pub needed_in : Selecting → (Id → Bool) → Id → List Id
 needed_in scope cands x = needed_ids scope.global scope.zone cands x
 
-abbrev pub open_reasons_in : Scope → Id → List Id
+abbrev pub open_reasons_in : Selecting → Id → List Id
 open_reasons_in scope x = open_reasons scope.global scope.zone x
 
 -- its ++VERs, if it is received
-abbrev pub received_vers : Scope → Id → List Ver
+abbrev pub received_vers : Selecting → Id → List Ver
 received_vers scope x = option_map_or (λ s. s.vers) (sysmod_of scope.global x) []
 
 -- its ++VERs for the zone's SREL
-abbrev pub vers_in : Scope → Id → List Ver
+abbrev pub vers_in : Selecting → Id → List Ver
 vers_in scope x = vers_of scope.global scope.zone.srel x
 
 -- what it supersedes directly by those
-abbrev pub sups_in : Scope → Id → List Id
+abbrev pub sups_in : Selecting → Id → List Id
 sups_in scope x = sups_for scope.global scope.zone.srel x
 
 -- whether a ++VER is for the zone's SREL and fits

@@ -13,7 +13,7 @@ ghost use Rattle.select.specs.Scopes.{is_for_and_fits};
 ghost use Rattle.select.specs.Growing.{is_open_among, taken_up, has_grown, is_there, open_fmids, fitting, required_of};
 ghost use Rattle.select.specs.Growing.{kept_ver, stated, reasons, own_asked};
 
-use crate::scope::Scope;
+use crate::scope::Selecting;
 use fields::{Id, Srel};
 use indexmap::IndexSet;
 use std::alloc::{AllocError, Global};
@@ -30,7 +30,7 @@ fn fmids_among(alloc: Global, srel: Srel, vers: &[Ver]) -> Result<Vec<Id>, Alloc
         .collect(alloc)
 }
 
-impl<'a> Scope<'a> {
+impl<'a> Selecting<'a> {
     // The FMIDs of its `++VER`s for the zone's SREL.
     fn fmids(&self, alloc: Global, id: Id) -> Result<Vec<Id>, AllocError>
         ensures { IfOk result (λ ids. ids.items ≡ fmids_for self.now.global self.now.zone.srel id) }
@@ -141,7 +141,7 @@ fn required_always(alloc: Global, vers: &[&Ver]) -> Result<Vec<Id>, AllocError>
 /// What is asked for so far.
 #[derive(Drop)]
 pub(crate) struct Asked<'a> {
-    pub(crate) scope: &'a Scope<'a>,
+    pub(crate) scope: &'a Selecting<'a>,
     pub(crate) seen: &'a IndexSet<Id>,
 }
 

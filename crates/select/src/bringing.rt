@@ -10,7 +10,7 @@ ghost use Rattle.select.specs.Growing.{has_grown, fitting_namers, asked_by_namer
 ghost use Rattle.select.specs.Growing.{superseders, next_asked};
 
 use crate::asking::Asked;
-use crate::scope::Scope;
+use crate::scope::Selecting;
 use fields::Id;
 use std::alloc::{AllocError, Global};
 use sysmods_values::Ver;
@@ -45,7 +45,7 @@ fn required_for(alloc: Global, function: Id, vers: &[&Ver]) -> Result<Vec<Id>, A
         .collect(alloc)
 }
 
-impl<'a> Scope<'a> {
+impl<'a> Selecting<'a> {
     // Those of the namers that supersede the id directly.
     fn over(&self, alloc: Global, id: Id, namers: &[Id]) -> Result<Vec<Id>, AllocError>
         ensures { IfOk result (λ found. found.items ≡ filter (λ y. is_in (sups_in self.now y) id) namers.now) }

@@ -11,7 +11,7 @@ ghost use Rattle.select.specs.Scopes.{is_start_in};
 ghost use Rattle.select.specs.Growing.{AreAsked, asked_first, next_asked};
 
 use crate::asking::Asked;
-use crate::scope::Scope;
+use crate::scope::Selecting;
 use crate::start::brings_others;
 use fields::{Attest, Id};
 use indexmap::IndexSet;
@@ -27,7 +27,12 @@ fn see_all(ids: &[Id], seen: &mut IndexSet<Id>) -> Result<(), AllocError>
 }
 
 // What comes to be asked for once the id is comes in.
-fn see_next(alloc: Global, scope: &Scope, id: Id, seen: &mut IndexSet<Id>) -> Result<(), AllocError>
+fn see_next(
+    alloc: Global,
+    scope: &Selecting,
+    id: Id,
+    seen: &mut IndexSet<Id>,
+) -> Result<(), AllocError>
     ensures { OnOk result (AddsAll seen.old.keys (next_asked scope.now seen.old.keys id) seen.new.keys) }
 {
     let found = Asked { scope, seen }.next(alloc, id)?;
@@ -36,7 +41,7 @@ fn see_next(alloc: Global, scope: &Scope, id: Id, seen: &mut IndexSet<Id>) -> Re
 }
 
 // What one of the start asks for, if it brings others in.
-fn asked_first(alloc: Global, scope: &Scope, id: Id) -> Result<Vec<Id>, AllocError>
+fn asked_first(alloc: Global, scope: &Selecting, id: Id) -> Result<Vec<Id>, AllocError>
     ensures { IfOk result (λ found. found.items ≡ asked_first scope.now id) }
 {
     if !brings_others(scope.selection, id) {
@@ -48,7 +53,7 @@ fn asked_first(alloc: Global, scope: &Scope, id: Id) -> Result<Vec<Id>, AllocErr
 
 fn see_first(
     alloc: Global,
-    scope: &Scope,
+    scope: &Selecting,
     id: Id,
     seen: &mut IndexSet<Id>,
 ) -> Result<(), AllocError>
@@ -60,7 +65,11 @@ fn see_first(
 }
 
 // What those of the start bring that bring others in.
-fn asked_by_start(alloc: Global, scope: &Scope, start: &[Id]) -> Result<IndexSet<Id>, AllocError>
+fn asked_by_start(
+    alloc: Global,
+    scope: &Selecting,
+    start: &[Id],
+) -> Result<IndexSet<Id>, AllocError>
     ensures { IfOk result (λ seen. AddsAll [] (flat_map (asked_first scope.now) start.now) seen.keys) }
 {
     let mut seen = IndexSet::new(alloc);
@@ -71,7 +80,11 @@ fn asked_by_start(alloc: Global, scope: &Scope, start: &[Id]) -> Result<IndexSet
 }
 
 /// The ids that are asked for, open or not.
-pub(crate) fn asked(alloc: Global, scope: &Scope, start: &[Id]) -> Result<IndexSet<Id>, AllocError>
+pub(crate) fn asked(
+    alloc: Global,
+    scope: &Selecting,
+    start: &[Id],
+) -> Result<IndexSet<Id>, AllocError>
     requires { (x : AnId) → Contains start.now x ↔ IsTrue (is_start_in scope.now x) }
     ensures { IfOk result (λ seen. AreAsked scope.now seen.keys) }
 {

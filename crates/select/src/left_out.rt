@@ -5,20 +5,17 @@ ghost use Rattle.std.specs.Option.{option_to_list};
 ghost use Rattle.terms.specs.declared.not_chosen.NotChosen.{NotChosen as Reason};
 ghost use Rattle.terms.specs.Types.{Id as AnId};
 ghost use Rattle.terms.specs.Lookups.{IsRising, is_in};
-ghost use Rattle.terms.specs.Candidates.{not_chosen};
 ghost use Rattle.select.specs.Scopes.{is_open_in, named_ids};
 ghost use Rattle.select.specs.Reasons.{reason_in, with_reason};
 
-use crate::scope::Scope;
+use crate::scope::Selecting;
 use crate::start::{is_named, named_ids};
-use fields::{Id, IdList, Selection};
+use fields::{Id, IdList};
 use std::alloc::{AllocError, Global};
-use sysmods::GlobalZone;
 use terms::NotChosen;
-use zones::Zone;
 
 // Whether it is not named, or excluded, or open.
-fn needs_no_reason(scope: &Scope, id: Id) -> bool
+fn needs_no_reason(scope: &Selecting, id: Id) -> bool
     ensures { result ≡ (not (is_in (named_ids scope.now.selection) id) || is_in scope.now.selection.exclude id
         || is_open_in scope.now id) }
 {
@@ -27,7 +24,7 @@ fn needs_no_reason(scope: &Scope, id: Id) -> bool
 }
 
 #[tactic(auto, unfolding(terms::specs::Candidates::not_chosen))]
-fn why_not(scope: &Scope, id: Id) -> Option<NotChosen>
+fn why_not(scope: &Selecting, id: Id) -> Option<NotChosen>
     ensures { result ≡ reason_in scope.now id }
 {
     if needs_no_reason(scope, id) {
@@ -44,7 +41,7 @@ fn why_not(scope: &Scope, id: Id) -> Option<NotChosen>
 }
 
 fn push_with_reason(
-    scope: &Scope,
+    scope: &Selecting,
     id: Id,
     found: &mut Vec<(Id, NotChosen)>,
 ) -> Result<(), AllocError>
@@ -59,7 +56,7 @@ fn push_with_reason(
 // The ids that have a reason, each with it.
 fn with_reasons(
     alloc: Global,
-    scope: &Scope,
+    scope: &Selecting,
     ids: &[Id],
 ) -> Result<Vec<(Id, NotChosen)>, AllocError>
     ensures { IfOk result (λ found. found.items ≡ filter_map (with_reason scope.now) ids.now) }
@@ -71,24 +68,15 @@ fn with_reasons(
     Ok(found)
 }
 
-/// The ids of SELECT and GROUP that are neither excluded nor open, rising, each with the reason. The error comes where
-/// memory runs out.
-pub fn not_chosen(
+/// The ids of SELECT and GROUP that are neither excluded nor open, rising, each with the reason.
+pub(crate) fn not_chosen(
     alloc: Global,
-    global: &GlobalZone,
-    zone: &Zone,
-    selection: &Selection,
+    scope: &Selecting,
 ) -> Result<Vec<(Id, NotChosen)>, AllocError>
     ensures rising { IfOk result (λ found. IsRising (map (λ f. f.0) found.items)) }
     ensures members { IfOk result (λ found. (x : AnId) (why : Reason)
-        → Contains {X = AnId × Reason} found.items (x, why)
-        ↔ (not_chosen global.now zone.now selection.now x ≡ Some why)) }
+        → Contains {X = AnId × Reason} found.items (x, why) ↔ (reason_in scope.now x ≡ Some why)) }
 {
-    let named = IdList::from_vec(named_ids(alloc, selection)?);
-    let scope = Scope {
-        global,
-        zone,
-        selection,
-    };
-    with_reasons(alloc, &scope, named.as_slice())
+    let named = IdList::from_vec(named_ids(alloc, scope.selection)?);
+    with_reasons(alloc, scope, named.as_slice())
 }

@@ -16,21 +16,21 @@ use zones::Zone;
 
 /// What an APPLY chooses from and by.
 #[derive(Drop)]
-pub(crate) struct Scope<'a> {
+pub(crate) struct Selecting<'a> {
     pub(crate) global: &'a GlobalZone,
     pub(crate) zone: &'a Zone,
     pub(crate) selection: &'a Selection,
 }
 
-impl<'a> Model for Scope<'a> {
+impl<'a> Model for Selecting<'a> {
     ghost use Rattle.select.specs.Scopes as scopes;
 
-    ghost Value = { scopes.Scope };
+    ghost Value = { scopes.Selecting };
 
     ghost view = { λ a. record { global = a.global.now; zone = a.zone.now; selection = a.selection.now } };
 }
 
-impl<'a> Scope<'a> {
+impl<'a> Selecting<'a> {
     /// Its `++VER`s, if it is received.
     pub(crate) fn vers(&self, id: Id) -> &'a [Ver]
         ensures { result.now ≡ received_vers self.now id }

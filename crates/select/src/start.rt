@@ -8,7 +8,7 @@ ghost use Rattle.select.specs.Scopes.{is_mass_chosen_in, is_start_in, is_growing
 ghost use Rattle.select.specs.Growing.{brings_others};
 
 use crate::filters::{has_mass_choice, passes_filters};
-use crate::scope::Scope;
+use crate::scope::Selecting;
 use fields::{Id, Selection};
 use std::alloc::{AllocError, Global};
 use sysmods::GlobalZone;
@@ -27,7 +27,7 @@ pub(crate) fn brings_others(selection: &Selection, id: Id) -> bool
     selection.groupextend || selection.group.contains(id)
 }
 
-impl<'a> Scope<'a> {
+impl<'a> Selecting<'a> {
     fn passes_filters(&self, id: Id) -> bool
         ensures { result ≡ option_map_or (passes_filters self.now.global self.now.zone self.now.selection)
             (sysmod_of self.now.global id) false }
@@ -79,7 +79,7 @@ fn received_ids(alloc: Global, global: &GlobalZone) -> Result<Vec<Id>, AllocErro
 }
 
 // The ids that may be in the start: those named, or all received ones where the mass choice is made.
-fn ids_in_question(alloc: Global, scope: &Scope) -> Result<Vec<Id>, AllocError>
+fn ids_in_question(alloc: Global, scope: &Selecting) -> Result<Vec<Id>, AllocError>
     ensures { IfOk result (λ ids. (x : AnId) → IsTrue (is_start_in scope.now x) → Contains ids.items x) }
 {
     if has_mass_choice(scope.selection) {
@@ -89,7 +89,7 @@ fn ids_in_question(alloc: Global, scope: &Scope) -> Result<Vec<Id>, AllocError>
     }
 }
 
-fn among(alloc: Global, scope: &Scope, ids: &[Id]) -> Result<Vec<Id>, AllocError>
+fn among(alloc: Global, scope: &Selecting, ids: &[Id]) -> Result<Vec<Id>, AllocError>
     ensures { IfOk result (λ start. start.items ≡ filter (is_start_in scope.now) ids.now) }
 {
     ids.iter()
@@ -99,7 +99,7 @@ fn among(alloc: Global, scope: &Scope, ids: &[Id]) -> Result<Vec<Id>, AllocError
 }
 
 /// The open ids that the mass choice, SELECT or GROUP names. Some may stand twice.
-pub(crate) fn start(alloc: Global, scope: &Scope) -> Result<Vec<Id>, AllocError>
+pub(crate) fn start(alloc: Global, scope: &Selecting) -> Result<Vec<Id>, AllocError>
     ensures { IfOk result (λ start. (x : AnId) → Contains start.items x ↔ IsTrue (is_start_in scope.now x)) }
 {
     let ids = ids_in_question(alloc, scope)?;

@@ -12,7 +12,7 @@ ghost use Rattle.smpe.specs.Ending.{EndsJob, EndsJobs, KeepsClosed, TellsOfSink,
 
 use crate::error::JobError;
 use crate::job::run_job;
-use crate::zone::define_zone;
+use crate::zone_definition::define_zone;
 use fields::{Srel, YyDdd, ZoneName};
 use report::Sink;
 use smpe_zones::{ZoneError, ZoneFault};

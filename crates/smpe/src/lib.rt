@@ -15,7 +15,7 @@ mod jobs;
 mod law;
 mod list_job;
 mod messages;
-mod zone;
+mod zone_definition;
 
 pub use again::reopened;
 pub use error::JobError;
@@ -24,6 +24,6 @@ pub use jobs::{Answer, Job, run_jobs};
 pub use law::next_open_finds;
 pub use list_job::{list_commands, two_commands};
 pub use messages::{FAULT_STATUS, Fault, fault_line, migrated_line, status_of, zone_line};
-pub use smpe_invocation::{ArgFault, Commands, Invocation, invocation};
+pub use smpe_invocation::{ArgFault, CommandJob, Invocation, invocation};
 pub use smpe_zones::{ZoneError, ZoneFault};
-pub use zone::define_zone;
+pub use zone_definition::define_zone;

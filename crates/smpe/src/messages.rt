@@ -89,12 +89,15 @@ pub fn migrated_line<W: Sink>(w: &mut W) -> Result<u8, WriteFault>
 pub const FAULT_STATUS: u8 = 16;
 
 /// The faults of the program.
-#[derive(Drop)]
+#[derive(Debug, Drop, Error)]
 pub enum Fault<'a> {
     /// A job's, also where its store was not opened.
+    #[error("{0}")]
     Job(JobError),
+    #[error("{0}")]
     Arg(ArgFault),
     /// The name of a file that cannot be read.
+    #[error("cannot read {0}")]
     CannotRead(&'a str),
 }
 

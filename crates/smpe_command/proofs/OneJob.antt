@@ -11,7 +11,7 @@ use Rattle.machine.specs.Machine.{Files, RunsJobs}
 use Rattle.report.specs.declared.sink.Sink.{Ghosts as SinkGhosts}
 use Rattle.smpe.specs.declared.error.JobError.{JobError}
 use Rattle.smpe.specs.declared.error.JobError.TheVariants.{Memory}
-use Rattle.smpe_invocation.specs.declared.asked.Commands.{Commands}
+use Rattle.smpe_invocation.specs.declared.asked.CommandJob.{CommandJob}
 use Rattle.sqlite.specs.Steps.{over_memory}
 use Rattle.smpe.specs.Commands.{job_error}
 use Rattle.smpe.specs.Ending.{EndsJobs, is_write}
@@ -113,7 +113,7 @@ module _ {V W : Type 0} (f : V → List machine.Answer) (k : W → List machine.
     with_as srel date cntl files (inr ran) = inr (memory_as (set_jobs srel date cntl files) ran)
 
     -- as a service set was tried with the one result, it was tried with the other
-    pub tries_as : (srel : Text) (commands : Option Commands) (cntl : List ℕ) (files : Files)
+    pub tries_as : (srel : Text) (commands : Option CommandJob) (cntl : List ℕ) (files : Files)
         → TriesSet sink out srel commands cntl files f r out' → TriesSet sink out srel commands cntl files k q out'
     tries_as srel commands cntl files (inl short) = inl (short_as short)
     tries_as srel commands cntl files (inr (date, on, tried)) =

@@ -23,7 +23,7 @@ use Rattle.smpe_zones.specs.Kept.{kept}
 use Rattle.store_migration.specs.Migrated.{Migrated, Unmigrated}
 use Rattle.store.specs.View.{Tables, Leaves, LeavesFound, IsFound}
 use Rattle.smpe_why.specs.Telling.{IsFoundIn}
-use Rattle.smpe_why.specs.declared.found.Found.{Found}
+use Rattle.smpe_why.specs.declared.found.LoadedZones.{LoadedZones}
 use Rattle.smpe.specs.declared.error.JobError.{JobError}
 use Rattle.smpe.specs.declared.jobs.Answer.{Answer}
 use Rattle.smpe.specs.Commands.{job_error}
@@ -95,7 +95,7 @@ module _ {H D : Type 0} (host : HostGhosts H D) (g : Ghosts D) where
   -- The database of this name was opened, and the global zone and the zone of that name were found so over each state
   -- that it was found to stand for. Whatever the tables are, the call has loaded, and nothing else; and where it tells
   -- of no state, there is none. Or it was not opened.
-  abbrev pub FoundOver : H → Text → Text → Result Found StoreError → H → Type 0
+  abbrev pub FoundOver : H → Text → Text → Result LoadedZones StoreError → H → Type 0
   FoundOver h db name r after = ((why : StoreError) × FailsToOpen h db why after × (r ≡ Err why))
       ⊎ Works h db (λ conn store s. HasLoaded g conn store s (IsFoundIn name (kept s)) r)
       (λ begun store. LoadsAlone g begun store r × TellsNoState g begun store r) after

@@ -10,7 +10,7 @@ use Rattle.machine.specs.Machine.{Files, NewZone, RunFiles}
 use Rattle.report.specs.declared.sink.Sink.{Ghosts as SinkGhosts}
 use Rattle.report.specs.Sent.{Sent}
 use Rattle.smpe_zones.specs.Definitions.{definition}
-use Rattle.smpe_invocation.specs.declared.asked.Commands.{Commands}
+use Rattle.smpe_invocation.specs.declared.asked.CommandJob.{CommandJob}
 use Rattle.smpe_invocation.specs.declared.asked.Invocation.{Invocation}
 use Rattle.smpe_invocation.specs.declared.asked.Invocation.TheVariants.{Zone, Run, List as ListOf, Why, Check, Migrate}
 use Rattle.smpe.specs.declared.error.JobError.{JobError}
@@ -27,7 +27,7 @@ use Rattle.smpe_command.specs.Reading.{ReadsAll}
 use Rattle.smpe_command.specs.ServiceSet.{JobsInMemory, apply_records, set_jobs}
 use Rattle.store_schema.specs.declared.error.StoreError.{StoreError}
 use Rattle.smpe_why.specs.Telling.{IsTold}
-use Rattle.smpe_why.specs.declared.found.Found.{Found}
+use Rattle.smpe_why.specs.declared.found.LoadedZones.{LoadedZones}
 use Rattle.smpe_why.specs.declared.told.Told.{Told}
 use Rattle.smpe_command.specs.Database.{FoundOver, JobOver, MigratesOver}
 
@@ -51,12 +51,12 @@ greatest_told (Ok answers) = Ok (greatest answers)
 greatest_told (Err error) = Err error
 
 -- the commands that a service set is tried with: those of the file, or those that try to apply all of it
-abbrev pub tried_with : Option Commands → List ℕ → List ℕ
+abbrev pub tried_with : Option CommandJob → List ℕ → List ℕ
 tried_with None cntl = apply_records
 tried_with (Some commands) cntl = cntl
 
 -- and on which date: where no file was given, nothing that is printed has it
-abbrev pub IsTriedOn : Option Commands → Text → Type 0
+abbrev pub IsTriedOn : Option CommandJob → Text → Type 0
 IsTriedOn None date = Unit {0}
 IsTriedOn (Some commands) date = date ≡ commands.date
 
@@ -76,7 +76,7 @@ module _ {O : Type 0} (sink : SinkGhosts O) (out out' : O) where
 
   -- What is told of these ids where this was found goes to the sink, and the status is that of what is told, or a fault
   -- as above; or memory was wanting for it, and nothing went out.
-  abbrev pub TellsFound : List Text → Result Found StoreError → Result ℕ JobError → Type 0
+  abbrev pub TellsFound : List Text → Result LoadedZones StoreError → Result ℕ JobError → Type 0
   TellsFound ids (Ok found) r = ((r ≡ Err Memory) × (out' ≡ out))
       ⊎ ((told : Told) × IsTold found.global found.zone ids told × Sent sink out out' told.text.items
       × (0 < length told.text.items → sink.has_failed out' ≡ is_err r)
@@ -108,7 +108,7 @@ module _ {H D O : Type 0} (host : HostGhosts H D) (g : Ghosts D) (sink : SinkGho
 
     -- The zone is looked for, and what is so of the ids is told.
     abbrev pub ServesWhy : Text → List Text → Result ℕ JobError → H → O → Type 0
-    ServesWhy zone ids r after out' = (found : Result Found StoreError) × FoundOver host g h db zone found after
+    ServesWhy zone ids r after out' = (found : Result LoadedZones StoreError) × FoundOver host g h db zone found after
         × TellsFound sink out out' ids found r
 
     abbrev pub ServesMigrate : Result ℕ JobError → H → O → Type 0
@@ -125,19 +125,19 @@ module _ {O : Type 0} (sink : SinkGhosts O) (out : O) (srel : Text) where
 
   -- So a service set is tried with the commands that were given, on their date, or with those that apply all of it, on
   -- whatever date.
-  abbrev pub TriesSet : Option Commands → List ℕ → Files → {V : Type 0} → (V → List machine.Answer)
+  abbrev pub TriesSet : Option CommandJob → List ℕ → Files → {V : Type 0} → (V → List machine.Answer)
       → Result V JobError → O → Type 0
   TriesSet commands cntl files answers r out' = ((r ≡ Err Memory) × (out' ≡ out))
       ⊎ ((date : Text) × IsTriedOn commands date × TriesWith date (tried_with commands cntl) files answers r out')
 
   -- It is tried, and the status is the greatest one.
-  abbrev pub ChecksSet : Option Commands → List ℕ → Files → Result ℕ JobError → O → Type 0
+  abbrev pub ChecksSet : Option CommandJob → List ℕ → Files → Result ℕ JobError → O → Type 0
   ChecksSet commands cntl files r out' = (answers : Result (List machine.Answer) JobError)
       × TriesSet commands cntl files (λ all. all) answers out' × (r ≡ greatest_told answers)
 
 -- The set's files are read, or the first that can't be read is told and nothing else done.
 abbrev pub ServesCheck : {H D O : Type 0} → HostGhosts H D → SinkGhosts O → H → O → Text → Option Text → Option Text
-    → Option Commands → Result ℕ Fault → H → O → Type 0
+    → Option CommandJob → Result ℕ Fault → H → O → Type 0
 ServesCheck host sink h out srel ptfin hold commands r after out' =
     let names = option_map (λ c. string_bytes c.cntl) commands ∷ ptfin ∷ hold ∷ [] in
     ((fault : Fault) × ReadsAll host h names (Err fault) after × (r ≡ Err fault) × (out' ≡ out))

@@ -7,7 +7,7 @@ use crate::host::Host;
 use fields::ZoneName;
 use report::Sink;
 use smpe::{Answer, Job, JobError, run_jobs};
-use smpe_why::{Found, find};
+use smpe_why::{LoadedZones, find};
 use std::alloc::Global;
 use std::slice;
 use store::{Store, StoreError};
@@ -35,7 +35,7 @@ pub(crate) fn found_over<H: Host>(
     host: &mut H,
     db: &str,
     name: ZoneName,
-) -> Result<Found, StoreError>
+) -> Result<LoadedZones, StoreError>
     ensures { FoundOver H.Host H.Disk.Store host.old db.now name result host.new }
 {
     let mut store = opened(alloc, host, db)?;

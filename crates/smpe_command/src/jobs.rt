@@ -10,13 +10,14 @@ ghost use Rattle.smpe_command.specs.Serving.{Serves, ServesCheck, ServesList, Se
 ghost use Rattle.smpe_command.specs.Serving.{ServesZone, job_told, status_told};
 
 use crate::database::{found_over, job_over, migrate_over};
-use crate::files::{JobFiles, read_files};
 use crate::host::Host;
+use crate::job_files::{JobFiles, read_files};
 use crate::service_set::{greatest_status, tried};
 use fields::{Id, Srel, YyDdd, ZoneName};
 use report::{Sink, write_all};
 use smpe::{
-    Commands, Fault, Invocation, Job, JobError, list_commands, migrated_line, status_of, zone_line,
+    CommandJob, Fault, Invocation, Job, JobError, list_commands, migrated_line, status_of,
+    zone_line,
 };
 use smpe_why::tell;
 use std::alloc::Global;
@@ -181,7 +182,7 @@ fn check<'a, H: Host, O: Sink>(
     srel: Srel,
     ptfin: &'a str,
     hold: &'a Option<String>,
-    commands: &'a Option<Commands>,
+    commands: &'a Option<CommandJob>,
     out: &mut O,
 ) -> Result<u8, Fault<'a>>
     ensures { ServesCheck H.Host O.Sink host.old out.old srel (Some ptfin.entry.now)

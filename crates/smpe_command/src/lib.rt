@@ -6,13 +6,13 @@
 //! of `clap`'s texts, nor of when memory is wanting or a database that was opened is not made the store's.
 #![tactic(auto)]
 
+mod asked_words;
 mod database;
-mod files;
 mod host;
+mod job_files;
 mod jobs;
 mod program;
 mod service_set;
-mod words;
 
 pub use host::Host;
 pub use program::command;

@@ -4,9 +4,9 @@ ghost use Rattle.smpe_invocation.specs.declared.fault.ArgFault.TheVariants.{Memo
 ghost use Rattle.smpe.specs.declared.messages.Fault.TheVariants.{Arg};
 ghost use Rattle.smpe_command.specs.Answering.{Answers, Tells, TellsWords};
 
+use crate::asked_words::asked;
 use crate::host::Host;
 use crate::jobs::served;
-use crate::words::asked;
 use clap::error::ErrorKind;
 use report::Sink;
 use smpe::{ArgFault, FAULT_STATUS, Fault, fault_line};

@@ -4,10 +4,10 @@ ghost use Rattle.smpe.specs.Ending.{answer_of, job_of};
 ghost use Rattle.smpe_command.specs.ServiceSet.{JobsInMemory, JobsOverNew, receive_records, set_jobs};
 ghost use Rattle.smpe_command.specs.Serving.{TriesSet, greatest};
 
-use crate::files::JobFiles;
+use crate::job_files::JobFiles;
 use fields::{Srel, YyDdd, ZoneName};
 use report::Sink;
-use smpe::{Answer, Commands, Job, JobError, run_jobs, status_of, two_commands};
+use smpe::{Answer, CommandJob, Job, JobError, run_jobs, status_of, two_commands};
 use sqlite::{Alter, Connection};
 use std::alloc::Global;
 use store::Store;
@@ -17,7 +17,7 @@ use terms::ZoneKind;
 pub(crate) fn tried<O: Sink>(
     alloc: Global,
     srel: Srel,
-    commands: &Option<Commands>,
+    commands: &Option<CommandJob>,
     files: &JobFiles,
     out: &mut O,
 ) -> Result<Vec<Answer>, JobError>

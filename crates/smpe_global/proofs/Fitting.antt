@@ -12,7 +12,7 @@ use Rattle.terms.specs.Rising.{with_item}
 use Rattle.terms.specs.Lookups.{is_received}
 use Rattle.sysmods.specs.declared.edit.GlobalEdit.{GlobalEdit}
 use Rattle.sysmods.specs.declared.edit.GlobalEdit.TheVariants.{PutHold, InsertSysmod}
-use Rattle.sysmods.specs.Edits.{with_hold, stated_with, Fits, after_edit, EachFits, after_edits, StatesThose}
+use Rattle.sysmods.specs.Edits.{AreSources, with_hold, stated_with, Fits, after_edit, EachFits, after_edits, StatesThose}
 use Rattle.smpe_global.proofs.Stating.{received_there}
 
 -- the mark of an internal hold stays as it is
@@ -67,8 +67,8 @@ module _ (stated : Global) where
     abbrev edits : List GlobalEdit
     edits = InsertSysmod s.id sources ∷ map (λ h. PutHold h) s.holds
 
-    pub sysmod_fits : is_received g s.id ≡ false → EachFits stated edits g
-    sysmod_fits new = fits_first g (InsertSysmod s.id sources) (map (λ h. PutHold h) s.holds) new
+    pub sysmod_fits : is_received g s.id ≡ false → AreSources sources.items → EachFits stated edits g
+    sysmod_fits new rise = fits_first g (InsertSysmod s.id sources) (map (λ h. PutHold h) s.holds) (new, rise)
         (puts_fit (stated_with stated s.id sources.items g) s.holds)
 
     -- which is stated as it came

@@ -16,7 +16,7 @@ use Rattle.machine.proofs.Joined.{runs_append}
 use Rattle.machine.specs.Rejecting.{reject_status, RejectsId}
 use Rattle.report.specs.declared.outcome.Status.{Status}
 use Rattle.report.specs.declared.outcome.Status.TheVariants.{Rejected}
-use Rattle.report.specs.declared.outcome.Line.{Line}
+use Rattle.report.specs.declared.outcome.ReportLine.{ReportLine}
 use Rattle.report.specs.Views.{line_view, status_view}
 use Rattle.sysmods.specs.declared.edit.GlobalEdit.{GlobalEdit}
 use Rattle.sysmods.specs.declared.edit.GlobalEdit.TheVariants.{RemoveHold, RemoveSysmod, PutHold, InsertSysmod}
@@ -86,7 +86,7 @@ on_ok P (Err e) is done = absurd (true≢false (sym is))
 module _ {S : Type 0} (zones : IndexMap Text Zone S) (g : Global) where
   -- one id more
   pub more_rejected : (m new : Global) (ids : List Id) (x : Id) (edits later : List GlobalEdit)
-      (lines printed : List Line)
+      (lines printed : List ReportLine)
       → AreRejected zones g ids m edits lines → IsRejected zones m x new edits later lines printed
       → AreRejected zones g (ids ++ x ∷ []) new later printed
   more_rejected m new ids x edits later lines printed front back =

@@ -1,10 +1,10 @@
 -- By which edits the tables follow, and what the calls of the global zone answer.
-use Rattle.std.specs.Prelude.{◌≡◌, List, [], ◌∷◌, map, Option, None, Some, Result, Ok, Err, Vec}
+use Rattle.std.specs.Prelude.{◌≡◌, List, [], ◌∷◌, map, Option, None, Some, option_map, Result, Ok, Err, Vec}
 use Rattle.std.specs.declared.alloc.Global.{Global as AnyGlobal}
 use Rattle.terms.specs.declared.kinds.HoldKind.{HoldKind}
 use Rattle.terms.specs.Types.{Text, Id, Global, Sysmod}
 use Rattle.terms.specs.Global as rule
-use Rattle.sysmods.specs.declared.faults.ReceiveFault.{ReceiveFault}
+use Rattle.sysmods.specs.declared.refused.Refused.{Refused}
 use Rattle.sysmods.specs.Refused.{fault_of}
 use Rattle.sysmods.specs.declared.holds.ReleaseError.{ReleaseError}
 use Rattle.sysmods.specs.Faults.{release_fault}
@@ -23,10 +23,10 @@ IsOfReject (RemoveSysmod x) = Unit {0}
 IsOfReject (RemoveHold x kind reason) = Unit {0}
 IsOfReject _ = ⊥
 
--- what RECEIVE answers of a SYSMOD
-abbrev pub answer_of : Global → Option ReceiveFault → Result Global rule.ReceiveFault
-answer_of new None = Ok new
-answer_of new (Some fault) = Err (fault_of fault)
+-- what RECEIVE answers of a SYSMOD, unless memory runs out
+abbrev pub answer_of : Global → Result (Unit {0}) Refused → Option (Result Global rule.ReceiveFault)
+answer_of new (Ok done) = Some (Ok new)
+answer_of new (Err why) = option_map (λ fault. Err fault) (fault_of why)
 
 -- the SYSMOD, and then its holds
 abbrev pub AreEditsOf : Sysmod → List GlobalEdit → Type 0

@@ -10,7 +10,7 @@ use Rattle.machine.specs.Runs.{Runs}
 use Rattle.machine.specs.Receiving.{global_after}
 use Rattle.machine.specs.Rejecting.{reject_status, RejectsId}
 use Rattle.report.specs.declared.outcome.Status.{Status}
-use Rattle.report.specs.declared.outcome.Line.{Line}
+use Rattle.report.specs.declared.outcome.ReportLine.{ReportLine}
 use Rattle.report.specs.Views.{line_view, status_view}
 use Rattle.sysmods.specs.declared.edit.GlobalEdit.{GlobalEdit}
 use Rattle.sysmods.specs.declared.edit.GlobalEdit.TheVariants.{RemoveHold, RemoveSysmod}
@@ -42,7 +42,7 @@ pub record IsAnswered {S : Type 0} (zones : IndexMap Text Zone S) (g : Global) (
 
 -- The ids lead from g to new, and print these lines. The edits are REJECT's, and lead there too.
 pub record AreRejected {S : Type 0} (zones : IndexMap Text Zone S) (g : Global) (ids : List Id) (new : Global)
-    (edits : List GlobalEdit) (lines : List Line) : Type 0 where
+    (edits : List GlobalEdit) (lines : List ReportLine) : Type 0 where
   pub runs : (named : List NamedZone) → AppliesAlike zones named
       → Runs (RejectsId named) g ids new (map line_view lines)
   pub rejects : All IsOfReject edits
@@ -50,9 +50,9 @@ pub record AreRejected {S : Type 0} (zones : IndexMap Text Zone S) (g : Global) 
 
 -- One id, behind what was written and printed before.
 pub record IsRejected {S : Type 0} (zones : IndexMap Text Zone S) (g : Global) (x : Id) (new : Global)
-    (edits later : List GlobalEdit) (lines printed : List Line) : Type 0 where
+    (edits later : List GlobalEdit) (lines printed : List ReportLine) : Type 0 where
   pub own : List GlobalEdit
   pub edits_are : later ≡ edits ++ own
-  pub line : Line
+  pub line : ReportLine
   pub lines_are : printed ≡ lines ++ line ∷ []
   pub rejected : AreRejected zones g (x ∷ []) new own (line ∷ [])

@@ -2,7 +2,7 @@
 use Rattle.std.specs.Prelude.{◌≡◌, List, ◌++◌, map, All}
 use Rattle.terms.specs.Types.{Global}
 use Rattle.machine.specs.Outcome as machine
-use Rattle.report.specs.declared.outcome.Line.{Line}
+use Rattle.report.specs.declared.outcome.ReportLine.{ReportLine}
 use Rattle.report.specs.Views.{line_view}
 use Rattle.sysmods.specs.declared.edit.GlobalEdit.{GlobalEdit}
 use Rattle.sysmods.specs.Edits.{StatesThose, EachFits, after_edits}
@@ -15,7 +15,7 @@ use Rattle.smpe_global.specs.Edits.{IsOfReceive}
 pub record IsTaken (Prints : Global → List machine.Line → Type 0) (g new : Global) (was is : Taken) : Type 0 where
   pub own : List GlobalEdit
   pub edits_are : is.edits.items ≡ was.edits.items ++ own
-  pub lines : List Line
+  pub lines : List ReportLine
   pub lines_are : is.lines.items ≡ was.lines.items ++ lines
   pub prints : Prints new (map line_view lines)
   pub receives : All IsOfReceive own

@@ -11,7 +11,7 @@ ghost use Rattle.smpe_global.specs.Taken.{IsTaken};
 use crate::taken::Taken;
 use fields::{Attest, Id, Source};
 use mcs::Assign;
-use report::{Line, Status, place_of};
+use report::{ReportLine, Status, place_of};
 use std::alloc::{AllocError, Global};
 use sysmods::{GlobalEdit, GlobalZone};
 use sysmods_values::Sysmod;
@@ -68,7 +68,7 @@ fn assign_id(
     let place = place_of(global, id);
     let received = global.assign(source, id)?;
     write_sources(alloc, &mut taken.edits, global, id)?;
-    taken.lines.push(Line::Status {
+    taken.lines.push(ReportLine::Status {
         id,
         place,
         status: status_of(source, received),

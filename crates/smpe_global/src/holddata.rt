@@ -16,7 +16,7 @@ ghost use Rattle.smpe_global.specs.Taken.{IsTaken};
 use crate::taken::Taken;
 use fields::{Id, Reason};
 use mcs::{HoldItem, Release};
-use report::{Line, Place, Status};
+use report::{Place, ReportLine, Status};
 use std::alloc::{AllocError, Global};
 use sysmods::{GlobalEdit, GlobalZone, Placed, ReleaseError};
 use sysmods_values::Hold;
@@ -64,7 +64,7 @@ fn take_hold(global: &mut GlobalZone, hold: Hold, taken: &mut Taken) -> Result<(
     let copy = marked_copy(global, &hold)?;
     let placed = global.hold(hold)?;
     taken.edits.push(GlobalEdit::PutHold(copy))?;
-    taken.lines.push(Line::Status {
+    taken.lines.push(ReportLine::Status {
         id,
         place: Place::Hold(kind),
         status: hold_status(placed, reason),
@@ -112,7 +112,7 @@ fn take_release(
     let reason = release.reason;
     let answer = global.release(id, kind, reason);
     write_release(&mut taken.edits, answer, id, kind, reason)?;
-    taken.lines.push(Line::Status {
+    taken.lines.push(ReportLine::Status {
         id,
         place: Place::Hold(kind),
         status: release_status(answer, reason),

@@ -1,5 +1,5 @@
 //! The items of a PTFIN.
-ghost use Rattle.std.specs.Prelude.{◌≡◌, All, IfOk, IfSome, OnOk, map};
+ghost use Rattle.std.specs.Prelude.{◌≡◌, All, Some, IfOk, IfSome, OnOk, map, option_map};
 ghost use Rattle.terms.specs.Types.{Global as AGlobal, ASysmod};
 ghost use Rattle.terms.specs.Forms.{IsSource};
 ghost use Rattle.machine.specs.Runs.{Runs};
@@ -15,9 +15,9 @@ use crate::edits::edits_of;
 use crate::taken::Taken;
 use fields::{Attest, Source};
 use mcs::Item;
-use report::{Line, Place, Status};
+use report::{Place, ReportLine, Status};
 use std::alloc::{AllocError, Global};
-use sysmods::{GlobalZone, ReceiveFault};
+use sysmods::{GlobalZone, Refused};
 use sysmods_values::Sysmod;
 use terms::IdRefusal;
 
@@ -30,15 +30,18 @@ fn with_source(mut sysmod: Sysmod, source: &Option<Source>) -> Result<Sysmod, Al
     Ok(sysmod)
 }
 
-fn status_of(refused: Option<ReceiveFault>) -> Status
-    ensures { (new : AGlobal) → status_view result ≡ receive_status (answer_of new refused) }
+/// The status of a SYSMOD that RECEIVE has taken in or refused.
+fn status_of(answer: Result<(), Refused>) -> Result<Status, AllocError>
+    ensures { IfOk result (λ status. (new : AGlobal)
+        → option_map receive_status (answer_of new answer) ≡ Some (status_view status)) }
 {
-    match refused {
-        None => Status::Received,
-        Some(ReceiveFault::AlreadyReceived) => Status::Already,
-        Some(ReceiveFault::MakesLoop) => Status::Refused(IdRefusal::MakesLoop),
-        Some(ReceiveFault::WrongRole) => Status::Refused(IdRefusal::WrongRole),
-        Some(ReceiveFault::NoRoom) => Status::Refused(IdRefusal::NoRoom),
+    match answer {
+        Ok(()) => Ok(Status::Received),
+        Err(Refused::AlreadyReceived) => Ok(Status::Already),
+        Err(Refused::MakesLoop) => Ok(Status::Refused(IdRefusal::MakesLoop)),
+        Err(Refused::WrongRole) => Ok(Status::Refused(IdRefusal::WrongRole)),
+        Err(Refused::NoRoom) => Ok(Status::Refused(IdRefusal::NoRoom)),
+        Err(Refused::Memory) => Err(AllocError),
     }
 }
 
@@ -58,15 +61,15 @@ fn take_sysmod(
     let sysmod = with_source(sysmod, source)?;
     sysmod.attest();
     let mut edits = edits_of(alloc, &sysmod)?;
-    let refused = global.receive(alloc, sysmod)?;
-    taken.lines.push(Line::Status {
+    let answer = global.receive(alloc, sysmod);
+    taken.lines.push(ReportLine::Status {
         id,
         place: Place::Kind(kind),
-        status: status_of(refused),
+        status: status_of(answer)?,
     })?;
-    match refused {
-        None => taken.edits.append(&mut edits),
-        Some(_) => Ok(()),
+    match answer {
+        Ok(()) => taken.edits.append(&mut edits),
+        Err(_) => Ok(()),
     }
 }
 

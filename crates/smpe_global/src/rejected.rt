@@ -15,7 +15,7 @@ ghost use Rattle.smpe_global.specs.Rejections.{AppliesAlike, IsAnswered, IsRejec
 use crate::removals::write_rejected;
 use fields::{Attest, Id, IdList, ZoneName};
 use indexmap::IndexMap;
-use report::{Line, Status, place_of};
+use report::{ReportLine, Status, place_of};
 use std::alloc::{AllocError, Global};
 use sysmods::{GlobalEdit, GlobalZone};
 use terms::IdRefusal;
@@ -25,7 +25,7 @@ use zones::Zone;
 #[derive(Drop)]
 pub struct Rejected {
     pub edits: Vec<GlobalEdit>,
-    pub lines: Vec<Line>,
+    pub lines: Vec<ReportLine>,
 }
 
 /// Whether some zone has it applied.
@@ -67,7 +67,9 @@ fn reject_one(
 {
     let place = place_of(global, id);
     let status = take_out(global, zones, id, &mut rejected.edits)?;
-    rejected.lines.push(Line::Status { id, place, status })?;
+    rejected
+        .lines
+        .push(ReportLine::Status { id, place, status })?;
     Ok(())
 }
 

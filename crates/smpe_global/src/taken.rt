@@ -1,7 +1,7 @@
 //! What a RECEIVE writes and prints.
 ghost use Rattle.std.specs.Prelude.{◌≡◌, []};
 
-use report::Line;
+use report::ReportLine;
 use std::alloc::Global;
 use sysmods::GlobalEdit;
 
@@ -9,7 +9,7 @@ use sysmods::GlobalEdit;
 #[derive(Drop)]
 pub struct Taken {
     pub edits: Vec<GlobalEdit>,
-    pub lines: Vec<Line>,
+    pub lines: Vec<ReportLine>,
 }
 
 impl Taken {

@@ -11,7 +11,7 @@ use Rattle.smpe_invocation.specs.Values.{HasList, HasMigrate, HasRelated}
 use Rattle.smpe_invocation.specs.Values.{HasRun, HasSrel, HasText, HasValues, HasWhy, HasZone, HasZoneName}
 use Rattle.smpe_invocation.specs.declared.fault.ArgFault.{ArgFault}
 use Rattle.smpe_invocation.specs.declared.fault.ArgFault.TheVariants.{Memory, Clap, BadOperand}
-use Rattle.smpe_invocation.specs.declared.asked.Commands.{Commands}
+use Rattle.smpe_invocation.specs.declared.asked.CommandJob.{CommandJob}
 use Rattle.smpe_invocation.specs.declared.asked.Invocation.{Invocation}
 use Rattle.smpe_invocation.specs.declared.asked.Invocation.TheVariants as asked
 use Rattle.std.specs.String.{string_bytes}
@@ -142,7 +142,7 @@ module _ (rows : List Row) where
   check_ptfin_in (asked.Check srel ptfin hold commands, h) = (string_bytes ptfin, h.1)
   check_ptfin_in (asked.Migrate db, h) = absurd h
 
-  pub commands_in : (i : Invocation) × HasCheck rows i → (commands : Option Commands) × HasCommands rows commands
+  pub commands_in : (i : Invocation) × HasCheck rows i → (commands : Option CommandJob) × HasCommands rows commands
   commands_in (asked.Zone db name kind srel related, h) = absurd h
   commands_in (asked.Run db date cntl ptfin hold, h) = absurd h
   commands_in (asked.List db zone, h) = absurd h
@@ -265,6 +265,6 @@ module _ (rows : List Row) where
 
   -- where there is a file of commands, they have a date
   pub dated_in : (text : Text) → first_of (codes "cntl") rows ≡ Some text
-      → (commands : Option Commands) × HasCommands rows commands → (date : Text) × HasDate rows date
+      → (commands : Option CommandJob) × HasCommands rows commands → (date : Text) × HasDate rows date
   dated_in text is (None, h) = absurd (none-some text (sym h ∙ is))
   dated_in text is (Some commands, h) = (commands.date, h.1)

@@ -7,7 +7,7 @@ use Rattle.terms.specs.Spelling.{zone_kind_text}
 use Rattle.terms.specs.declared.kinds.ZoneKind.{ZoneKind}
 use Rattle.clap.specs.Words.{Row, all_of, first_of}
 use Rattle.smpe_invocation.specs.Dates.{HasDateForm, IsCalendarDay, dotted}
-use Rattle.smpe_invocation.specs.declared.asked.Commands.{Commands}
+use Rattle.smpe_invocation.specs.declared.asked.CommandJob.{CommandJob}
 use Rattle.smpe_invocation.specs.declared.asked.Invocation.{Invocation}
 use Rattle.smpe_invocation.specs.declared.asked.Invocation.TheVariants as asked
 
@@ -58,7 +58,7 @@ HasWhy rows (asked.Why db zone ids) = HasText (codes "db") rows (string_bytes db
 HasWhy rows _ = ⊥
 
 -- The commands, if the words have a file of them; then they have a date.
-abbrev pub HasCommands : List Row → Option Commands → Type 0
+abbrev pub HasCommands : List Row → Option CommandJob → Type 0
 HasCommands rows None = first_of (codes "cntl") rows ≡ None
 HasCommands rows (Some commands) =
     HasText (codes "cntl") rows (string_bytes commands.cntl) × HasDate rows commands.date

@@ -4,7 +4,7 @@ use terms::ZoneKind;
 
 /// A file of commands, by its name, and the date of the job that they make.
 #[derive(Drop)]
-pub struct Commands {
+pub struct CommandJob {
     pub cntl: String,
     pub date: YyDdd,
 }
@@ -44,7 +44,7 @@ pub enum Invocation {
         srel: Srel,
         ptfin: String,
         hold: Option<String>,
-        commands: Option<Commands>,
+        commands: Option<CommandJob>,
     },
     /// Take a database of an earlier schema over to the program's own.
     Migrate {

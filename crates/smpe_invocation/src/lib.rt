@@ -8,10 +8,10 @@ mod asked;
 mod command;
 mod date;
 mod fault;
-mod read;
-mod values;
+mod invocation_reading;
+mod option_values;
 
-pub use asked::{Commands, Invocation};
+pub use asked::{CommandJob, Invocation};
 pub use date::read_date;
 pub use fault::ArgFault;
-pub use read::invocation;
+pub use invocation_reading::invocation;

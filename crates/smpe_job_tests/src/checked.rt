@@ -1,7 +1,7 @@
 //! A job that commits twice, and after how many of the two the zones are as they are found.
 
 use smpe::JobError;
-use smpe_play::{FIX, JOB, Step, compare, opened, run_step};
+use smpe_play::{FIX, JOB, JobStep, compare, opened, run_step};
 use sqlite::{Alter, Connection};
 use std::alloc::Global;
 use std::test::Fail;
@@ -9,7 +9,7 @@ use store::Store;
 use store_schema::StoreError;
 
 /// A fix is received, looked at with CHECK, applied, and then both once more.
-pub(crate) const CHECKED: Step = Step {
+pub(crate) const CHECKED: JobStep = JobStep {
     name: "a fix comes in, is looked at and applied, and both once more",
     cntl: "SET BDY(GLOBAL).\nRECEIVE SYSMODS.\nSET BDY(TGT1).\nAPPLY SELECT(UA00024) CHECK.\n\
         APPLY SELECT(UA00024).\nAPPLY SELECT(UA00024).\nSET BDY(GLOBAL).\nRECEIVE SYSMODS.",
@@ -37,7 +37,7 @@ pub(crate) const AGAIN: &str =
     APPLY TGT1\nUA00024 PTF      ALREADY\nRC 04\nAPPLY TGT1\nUA00024 PTF      ALREADY\nRC 04\n\
     SET GLOBAL\nRC 00\nRECEIVE GLOBAL\nUA00024 PTF      ALREADY\nRC 04\n";
 
-const LISTED: Step = Step {
+const LISTED: JobStep = JobStep {
     name: "the global and the target zone are listed",
     cntl: "SET BDY(GLOBAL).\nLIST.\nSET BDY(TGT1).\nLIST.",
     ..JOB

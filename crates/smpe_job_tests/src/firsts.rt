@@ -2,8 +2,8 @@
 
 use crate::checked::CHECKED;
 use smpe_play::{
-    Case, FAILING, FIX, FUNCTION, FUNCTION_INSTALLED, FUNCTION_RECEIVED, JOB, RECEIVE, REFUSED,
-    Step, play_cases, play_installed,
+    Case, FAILING, FIX, FUNCTION, FUNCTION_INSTALLED, FUNCTION_RECEIVED, JOB, JobStep, RECEIVE,
+    REFUSED, play_cases, play_installed,
 };
 use std::test::Fail;
 
@@ -11,7 +11,7 @@ use std::test::Fail;
 const OTHER_FUNCTION: &str =
     "++FUNCTION(HBB2200).\n++VER(Z038).\n++MAC(M1) DISTLIB(AMACLIB) SYSLIB(MACLIB).\n         MACRO\t00000010";
 
-pub(crate) const CUT_PTFIN: Step = Step {
+pub(crate) const CUT_PTFIN: JobStep = JobStep {
     name: "PTFIN whose length is no multiple of 80 comes in",
     cntl: RECEIVE,
     ptfin: &[" "],
@@ -23,7 +23,7 @@ pub(crate) const CUT_PTFIN: Step = Step {
 const FIRST_JOBS: &[Case] = &[
     Case {
         shows: "a function and its fix are received and applied in one job",
-        steps: &[Step {
+        steps: &[JobStep {
             name: "both come in and are applied",
             cntl: "SET BDY(GLOBAL).\nRECEIVE SYSMODS.\nSET BDY(TGT1).\nAPPLY SELECT(HAA1100,UA00024).",
             ptfin: &[FUNCTION, FIX],
@@ -34,7 +34,7 @@ const FIRST_JOBS: &[Case] = &[
     },
     Case {
         shows: "the fix alone fails for want of its function",
-        steps: &[Step {
+        steps: &[JobStep {
             name: "both come in, and the fix is applied",
             cntl: "SET BDY(GLOBAL).\nRECEIVE SYSMODS.\nSET BDY(TGT1).\nAPPLY SELECT(UA00024).",
             ptfin: &[FUNCTION, FIX],
@@ -46,7 +46,7 @@ const FIRST_JOBS: &[Case] = &[
     },
     Case {
         shows: "two functions with one macro fail together",
-        steps: &[Step {
+        steps: &[JobStep {
             name: "both come in and are applied",
             cntl: "SET BDY(GLOBAL).\nRECEIVE SYSMODS.\nSET BDY(TGT1).\nAPPLY SELECT(HAA1100,HBB2200).",
             ptfin: &[FUNCTION, OTHER_FUNCTION],
@@ -60,7 +60,7 @@ const FIRST_JOBS: &[Case] = &[
         shows: "a command file of 0 bytes does nothing and prints nothing",
         steps: &[
             FUNCTION_RECEIVED,
-            Step {
+            JobStep {
                 name: "no command",
                 cntl: "",
                 report: "",
@@ -73,7 +73,7 @@ const FIRST_JOBS: &[Case] = &[
         steps: &[
             FUNCTION_RECEIVED,
             CUT_PTFIN,
-            Step {
+            JobStep {
                 name: "PTFIN without a period comes in",
                 cntl: RECEIVE,
                 ptfin: &["++PTF(UA00001)"],
@@ -92,7 +92,7 @@ fn a_first_job_receives_and_applies(rt: HostRuntime) -> Result<(), Fail> {
 const AGAIN: &[Case] = &[Case {
     shows: "what is there already is told, and no boundary lives on into the next job",
     steps: &[
-        Step {
+        JobStep {
             name: "a fix comes in and is applied, with CHECK and without, twice",
             report: "SET GLOBAL\nRC 00\nRECEIVE GLOBAL\nUA00024 PTF      RECEIVED\nRC 00\nSET TGT1\nRC 00\n\
                 APPLY TGT1 CHECK\nUA00024 PTF      APPLIED\nRC 00\nAPPLY TGT1\nUA00024 PTF      APPLIED\nRC 00\n\
@@ -100,7 +100,7 @@ const AGAIN: &[Case] = &[Case {
                 UA00024 PTF      ALREADY\nRC 04\n",
             ..CHECKED
         },
-        Step {
+        JobStep {
             name: "a job without a boundary",
             cntl: "APPLY SELECT(UA00099).",
             report: "APPLY -\nREFUSED Cm1\nRC 12\n",
@@ -118,7 +118,7 @@ const REFUSALS: &[Case] = &[
     Case {
         shows: "commands that can not run are refused, and others find nothing to do",
         steps: &[
-            Step {
+            JobStep {
                 name: "commands at wrong boundaries",
                 cntl: "SET BDY(TGT2).\nSET BDY(TGT1).\nRECEIVE SYSMODS.\nAPPLY.\nAPPLY SELECT(UA00099).\n\
                     SET BDY(DLB1).\nAPPLY.",
@@ -127,7 +127,7 @@ const REFUSALS: &[Case] = &[
                     APPLY DLB1\nREFUSED Cm3\nRC 12\n",
                 ..REFUSED
             },
-            Step {
+            JobStep {
                 name: "an operand twice",
                 cntl: "SET BDY(TGT1).\nAPPLY CHECK CHECK.",
                 report: "CONTROL RECORD 2 Cn3\n",
@@ -138,13 +138,13 @@ const REFUSALS: &[Case] = &[
     Case {
         shows: "a store is used again after jobs that were refused",
         steps: &[
-            Step {
+            JobStep {
                 name: "a command without a period",
                 cntl: "SET BDY(TGT1).\nSET BDY(TGT1)",
                 report: "CONTROL RECORD 2 Cn5\n",
                 ..REFUSED
             },
-            Step {
+            JobStep {
                 name: "commands without their boundaries",
                 cntl: "LIST.\nSET BDY(TGT9).\nSET BDY(DLB1).\nREJECT SELECT(HAA1100).",
                 report: "LIST -\nREFUSED Cm1\nRC 12\nSET TGT9\nREFUSED Cm2\nRC 12\nSET DLB1\nRC 00\nREJECT DLB1\n\

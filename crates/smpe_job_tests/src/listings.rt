@@ -2,8 +2,8 @@
 
 use crate::firsts::CUT_PTFIN;
 use smpe_play::{
-    Case, DELETER_INSTALLED, FAILING, FUNCTION_LISTED, JOB, LISTING, LISTING_TEXTS, RECEIVING,
-    Step, UPDATE_INSTALLED, play_installed,
+    Case, DELETER_INSTALLED, FAILING, FUNCTION_LISTED, JOB, JobStep, LISTING, LISTING_TEXTS,
+    RECEIVING, UPDATE_INSTALLED, play_installed,
 };
 use std::test::Fail;
 
@@ -12,7 +12,7 @@ const LISTINGS: &[Case] = &[
         shows: "of a broken PTFIN nothing is received",
         steps: &[
             CUT_PTFIN,
-            Step {
+            JobStep {
                 name: "the global zone is listed",
                 cntl: "SET BDY(GLOBAL).\nLIST.",
                 report: "SET GLOBAL\nRC 00\nLIST GLOBAL\nSYSMOD HAA1100 FUNCTION SOURCEID -\nRC 00\n",
@@ -23,7 +23,7 @@ const LISTINGS: &[Case] = &[
     Case {
         shows: "after CHECK the zone is as before",
         steps: &[
-            Step {
+            JobStep {
                 name: "a fix comes in and is applied with CHECK",
                 cntl: "SET BDY(GLOBAL).\nRECEIVE SYSMODS.\nSET BDY(TGT1).\nAPPLY SELECT(UA00024) CHECK.",
                 ptfin: &["++PTF(UA00024).\n++VER(Z038) FMID(HAA1100)."],
@@ -37,7 +37,7 @@ const LISTINGS: &[Case] = &[
     Case {
         shows: "an update gives and deletes records",
         steps: &[
-            Step {
+            JobStep {
                 name: "the update comes in",
                 ptfin: &[
                     "++PTF(UA00025).\n++VER(Z038) FMID(HAA1100).\n++MACUPD(M1).\n./ CHANGE NAME=M1\n\
@@ -48,7 +48,7 @@ const LISTINGS: &[Case] = &[
                 ..RECEIVING
             },
             UPDATE_INSTALLED,
-            Step {
+            JobStep {
                 report: "SET TGT1\nRC 00\nLIST TGT1\nENTRY HAA1100 APPLIED 24.138 SUPBY - DELBY - WAIVED -\n\
                     ENTRY UA00025 APPLIED 24.138 SUPBY - DELBY - WAIVED -\n\
                     ELEM MAC   M1       FMID HAA1100 RMID HAA1100 UMID UA00025 DISTLIB AMACLIB SYSLIB MACLIB\n\
@@ -71,7 +71,7 @@ const COLUMNS: &[Case] = &[
     Case {
         shows: "a listing has a column for all that a zone knows",
         steps: &[
-            Step {
+            JobStep {
                 name: "a PTF with a hold, an update and a CLIST comes in, and a function that deletes another one",
                 cntl: "SET BDY(GLOBAL).\nRECEIVE SOURCEID(SRC1).",
                 ptfin: &[
@@ -86,14 +86,14 @@ const COLUMNS: &[Case] = &[
                     UA00061 PTF      RECEIVED\nUA00099 USER     HELD WAIT\nRC 00\n",
                 ..JOB
             },
-            Step {
+            JobStep {
                 name: "both functions and the PTF are applied with BYPASS",
                 cntl: "SET BDY(TGT1).\nAPPLY SELECT(HDD1100).\nAPPLY SELECT(HCC1200,UA00061) BYPASS(PRE,HOLDSYSTEM).",
                 report: "SET TGT1\nRC 00\nAPPLY TGT1\nHDD1100 FUNCTION APPLIED\nRC 00\nAPPLY TGT1\n\
                     HCC1200 FUNCTION APPLIED\nUA00061 PTF      APPLIED\nRC 00\n",
                 ..JOB
             },
-            Step {
+            JobStep {
                 name: "both zones are listed",
                 cntl: "SET BDY(TGT1).\nLIST TEXT.\nSET BDY(GLOBAL).\nLIST.",
                 report: "SET TGT1\nRC 00\nLIST TGT1\nENTRY AA00001 - SUPBY UA00061 DELBY - WAIVED -\n\
@@ -118,7 +118,7 @@ const COLUMNS: &[Case] = &[
     Case {
         shows: "the entry of a deleted fix stays while an applied one supersedes it",
         steps: &[
-            Step {
+            JobStep {
                 name: "two functions and their service come in",
                 ptfin: &[
                     "++FUNCTION(HDD1100).\n++VER(Z038).",
@@ -130,26 +130,26 @@ const COLUMNS: &[Case] = &[
                     UA00053 PTF      RECEIVED\nHCC1200 FUNCTION RECEIVED\nRC 00\n",
                 ..RECEIVING
             },
-            Step {
+            JobStep {
                 name: "the other function is applied",
                 cntl: "SET BDY(TGT1).\nAPPLY SELECT(HDD1100).",
                 report: "SET TGT1\nRC 00\nAPPLY TGT1\nHDD1100 FUNCTION APPLIED\nRC 00\n",
                 ..JOB
             },
-            Step {
+            JobStep {
                 name: "the fix is applied",
                 cntl: "SET BDY(TGT1).\nAPPLY SELECT(UA00052).",
                 report: "SET TGT1\nRC 00\nAPPLY TGT1\nUA00052 PTF      APPLIED\nRC 00\n",
                 ..JOB
             },
-            Step {
+            JobStep {
                 name: "the fix that supersedes it is applied",
                 cntl: "SET BDY(TGT1).\nAPPLY SELECT(UA00053).",
                 report: "SET TGT1\nRC 00\nAPPLY TGT1\nUA00053 PTF      APPLIED\nRC 00\n",
                 ..JOB
             },
             DELETER_INSTALLED,
-            Step {
+            JobStep {
                 report: "SET TGT1\nRC 00\nLIST TGT1\nENTRY HAA1100 - SUPBY - DELBY HCC1200 WAIVED -\n\
                     ENTRY HCC1200 APPLIED 24.138 SUPBY - DELBY - WAIVED -\n\
                     ENTRY HDD1100 APPLIED 24.138 SUPBY - DELBY - WAIVED -\n\
@@ -170,19 +170,19 @@ const REPORTS: &[Case] = &[
     Case {
         shows: "what is applied and held for error is reported with what resolves it",
         steps: &[
-            Step {
+            JobStep {
                 name: "a fix comes in",
                 ptfin: &["++PTF(UA00005).\n++VER(Z038) FMID(HAA1100)."],
                 report: "SET GLOBAL\nRC 00\nRECEIVE GLOBAL\nUA00005 PTF      RECEIVED\nRC 00\n",
                 ..RECEIVING
             },
-            Step {
+            JobStep {
                 name: "it is applied",
                 cntl: "SET BDY(TGT1).\nAPPLY SELECT(UA00005).",
                 report: "SET TGT1\nRC 00\nAPPLY TGT1\nUA00005 PTF      APPLIED\nRC 00\n",
                 ..JOB
             },
-            Step {
+            JobStep {
                 name: "its resolver and the hold come in",
                 cntl: "SET BDY(GLOBAL).\nRECEIVE SYSMODS HOLDDATA.",
                 ptfin: &["++PTF(UA00006).\n++VER(Z038) FMID(HAA1100) SUP(AA00009)."],
@@ -191,7 +191,7 @@ const REPORTS: &[Case] = &[
                     UA00005 ERROR    HELD AA00009\nRC 00\n",
                 ..JOB
             },
-            Step {
+            JobStep {
                 name: "errors are reported",
                 cntl: "SET BDY(TGT1).\nREPORT ERRSYSMODS.",
                 report: "SET TGT1\nRC 00\nREPORT TGT1\nERRSYSMOD UA00005 AA00009\n  RESOLVER UA00006\nRC 04\n",
@@ -203,7 +203,7 @@ const REPORTS: &[Case] = &[
     Case {
         shows: "a failed SYSMOD names each causer that it reaches",
         steps: &[
-            Step {
+            JobStep {
                 name: "four fixes and two holds come in",
                 cntl: "SET BDY(GLOBAL).\nRECEIVE SYSMODS HOLDDATA.",
                 ptfin: &[
@@ -219,7 +219,7 @@ const REPORTS: &[Case] = &[
                     UA00047 USER     HELD WAIT\nRC 00\n",
                 ..JOB
             },
-            Step {
+            JobStep {
                 name: "all are applied",
                 cntl: "SET BDY(TGT1).\nAPPLY SELECT(UA00044,UA00045,UA00046,UA00047).",
                 report: "SET TGT1\nRC 00\nAPPLY TGT1\nUA00044 PTF      FAILED\n  NEED PRE UA00045\n\
@@ -233,7 +233,7 @@ const REPORTS: &[Case] = &[
     Case {
         shows: "what resolves an error may supersede its reason by several steps",
         steps: &[
-            Step {
+            JobStep {
                 name: "three fixes come in, and the first is applied",
                 cntl: "SET BDY(GLOBAL).\nRECEIVE SYSMODS.\nSET BDY(TGT1).\nAPPLY SELECT(UA00071).",
                 ptfin: &[
@@ -246,7 +246,7 @@ const REPORTS: &[Case] = &[
                     RC 00\n",
                 ..JOB
             },
-            Step {
+            JobStep {
                 name: "two holds come in, and errors are reported",
                 cntl: "SET BDY(GLOBAL).\nRECEIVE HOLDDATA.\nSET BDY(TGT1).\nREPORT ERRSYSMODS.",
                 hold: "++HOLD(UA00071) ERROR FMID(HAA1100) REASON(AA00070).\n\

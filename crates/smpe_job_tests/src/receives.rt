@@ -1,7 +1,7 @@
 //! Sources, holds and rejected SYSMODs.
 
 use smpe_play::{
-    Case, FAILING, FIX, FUNCTION, FUNCTION_RECEIVED, JOB, RECEIVE, RECEIVING, REFUSED, Step,
+    Case, FAILING, FIX, FUNCTION, FUNCTION_RECEIVED, JOB, JobStep, RECEIVE, RECEIVING, REFUSED,
     play_cases, play_installed,
 };
 use std::test::Fail;
@@ -12,13 +12,13 @@ const RECEIVES: &[Case] = &[
     Case {
         shows: "RECEIVE gives its source to what it receives, and APPLY chooses by it",
         steps: &[
-            Step {
+            JobStep {
                 name: "a fix comes in without a source",
                 ptfin: &[FIX],
                 report: "SET GLOBAL\nRC 00\nRECEIVE GLOBAL\nUA00024 PTF      RECEIVED\nRC 00\n",
                 ..RECEIVING
             },
-            Step {
+            JobStep {
                 name: "a function and service come in with a source, and are applied by it",
                 cntl: "SET BDY(GLOBAL).\nRECEIVE SYSMODS SOURCEID(PUT2401).\nSET BDY(TGT1).\n\
                     APPLY FUNCTIONS PTFS SOURCEID(PUT2401).",
@@ -38,7 +38,7 @@ const RECEIVES: &[Case] = &[
         shows: "a hold given twice is held and replaced, a release given twice releases and is refused",
         steps: &[
             FUNCTION_RECEIVED,
-            Step {
+            JobStep {
                 name: "a hold twice, and its release twice",
                 cntl: "SET BDY(GLOBAL).\nRECEIVE HOLDDATA.",
                 hold: "++HOLD(UA00001) ERROR FMID(HAA1100) REASON(AA00009).\n\
@@ -56,7 +56,7 @@ const RECEIVES: &[Case] = &[
     Case {
         shows: "the hold inside a SYSMOD can not be released, and goes when it is rejected; the other hold on it stays",
         steps: &[
-            Step {
+            JobStep {
                 name: "a SYSMOD with a hold comes in, and another hold on it",
                 cntl: RECEIVE_BOTH,
                 ptfin: &[FIX, "++HOLD(UA00024) SYSTEM FMID(HAA1100) REASON(ACTION)."],
@@ -67,7 +67,7 @@ const RECEIVES: &[Case] = &[
                 code: 4,
                 ..JOB
             },
-            Step {
+            JobStep {
                 name: "it is rejected, and both holds come again",
                 cntl: "SET BDY(GLOBAL).\nREJECT SELECT(UA00024).\nRECEIVE HOLDDATA.",
                 hold: "++HOLD(UA00024) SYSTEM FMID(HAA1100) REASON(ACTION).\n\
@@ -81,13 +81,13 @@ const RECEIVES: &[Case] = &[
     Case {
         shows: "a SYSMOD that would close a loop of prerequisites is refused",
         steps: &[
-            Step {
+            JobStep {
                 name: "the first comes in",
                 ptfin: &["++PTF(UA00031).\n++VER(Z038) FMID(HAA1100) PRE(UA00032)."],
                 report: "SET GLOBAL\nRC 00\nRECEIVE GLOBAL\nUA00031 PTF      RECEIVED\nRC 00\n",
                 ..RECEIVING
             },
-            Step {
+            JobStep {
                 name: "the second comes in",
                 cntl: RECEIVE,
                 ptfin: &["++PTF(UA00032).\n++VER(Z038) FMID(HAA1100) PRE(UA00031)."],
@@ -99,7 +99,7 @@ const RECEIVES: &[Case] = &[
     Case {
         shows: "where the hold file is at fault nothing is taken in, and a fault of PTFIN comes first",
         steps: &[
-            Step {
+            JobStep {
                 name: "a good PTFIN and a bad hold file come in",
                 cntl: RECEIVE_BOTH,
                 ptfin: &[FIX],
@@ -107,7 +107,7 @@ const RECEIVES: &[Case] = &[
                 report: "SET GLOBAL\nRC 00\nRECEIVE GLOBAL\nREFUSED Cm5 RECORD 2 Mc3\nRC 12\n",
                 ..REFUSED
             },
-            Step {
+            JobStep {
                 name: "both bad",
                 cntl: RECEIVE_BOTH,
                 ptfin: &["++PTF(UA00024)"],
@@ -115,7 +115,7 @@ const RECEIVES: &[Case] = &[
                 report: "SET GLOBAL\nRC 00\nRECEIVE GLOBAL\nREFUSED Cm4 RECORD 1 Mc1\nRC 12\n",
                 ..REFUSED
             },
-            Step {
+            JobStep {
                 name: "both good",
                 cntl: RECEIVE_BOTH,
                 ptfin: &[FIX],
@@ -135,7 +135,7 @@ fn a_receive_takes_in_sysmods_sources_and_holds(rt: HostRuntime) -> Result<(), F
 
 const REJECTS: &[Case] = &[Case {
     shows: "a source of 64 characters is assigned to received ids alone, and an applied SYSMOD is not rejected",
-    steps: &[Step {
+    steps: &[JobStep {
         name: "a fix and an assignment come in, and three ids are rejected",
         cntl: "SET BDY(GLOBAL).\nRECEIVE SYSMODS.\nREJECT SELECT(HAA1100,UA00024,UA00099).",
         ptfin: &[

@@ -2,7 +2,7 @@
 
 /// A job, with a card in each line of its files, and what it prints and answers.
 #[derive(Clone, Copy)]
-pub struct Step {
+pub struct JobStep {
     /// What is done, as a failure says it.
     pub name: &'static str,
     pub cntl: &'static str,
@@ -16,7 +16,7 @@ pub struct Step {
 }
 
 /// A job without cards that prints nothing and answers 0.
-pub const JOB: Step = Step {
+pub const JOB: JobStep = JobStep {
     name: "a job without a name",
     cntl: "",
     ptfin: &[],
@@ -31,7 +31,7 @@ pub const JOB: Step = Step {
 pub struct Case {
     /// What is so, as a failure says it.
     pub shows: &'static str,
-    pub steps: &'static [Step],
+    pub steps: &'static [JobStep],
 }
 
 /// A function with one macro.
@@ -43,26 +43,26 @@ pub const FUNCTION: &str =
 pub const FIX: &str = "++PTF(UA00024).\n++VER(Z038) FMID(HAA1100).";
 
 /// A job of which something fails.
-pub const FAILING: Step = Step { code: 8, ..JOB };
+pub const FAILING: JobStep = JobStep { code: 8, ..JOB };
 
 /// A job of which a command is refused.
-pub const REFUSED: Step = Step { code: 12, ..JOB };
+pub const REFUSED: JobStep = JobStep { code: 12, ..JOB };
 
 /// A job that receives SYSMODs.
-pub const RECEIVING: Step = Step {
+pub const RECEIVING: JobStep = JobStep {
     cntl: RECEIVE,
     ..JOB
 };
 
 /// A job that lists the target zone.
-pub const LISTING: Step = Step {
+pub const LISTING: JobStep = JobStep {
     name: "the zone is listed",
     cntl: "SET BDY(TGT1).\nLIST.",
     ..JOB
 };
 
 /// A job that lists it with its texts.
-pub const LISTING_TEXTS: Step = Step {
+pub const LISTING_TEXTS: JobStep = JobStep {
     name: "the zone is listed with its texts",
     cntl: "SET BDY(TGT1).\nLIST TEXT.",
     ..JOB
@@ -70,14 +70,14 @@ pub const LISTING_TEXTS: Step = Step {
 
 pub const RECEIVE: &str = "SET BDY(GLOBAL).\nRECEIVE SYSMODS.";
 
-pub const FUNCTION_RECEIVED: Step = Step {
+pub const FUNCTION_RECEIVED: JobStep = JobStep {
     name: "the function comes in",
     ptfin: &[FUNCTION],
     report: "SET GLOBAL\nRC 00\nRECEIVE GLOBAL\nHAA1100 FUNCTION RECEIVED\nRC 00\n",
     ..RECEIVING
 };
 
-pub const FUNCTION_INSTALLED: Step = Step {
+pub const FUNCTION_INSTALLED: JobStep = JobStep {
     name: "the function is applied",
     cntl: "SET BDY(TGT1).\nAPPLY SELECT(HAA1100).",
     report: "SET TGT1\nRC 00\nAPPLY TGT1\nHAA1100 FUNCTION APPLIED\nRC 00\n",
@@ -85,9 +85,9 @@ pub const FUNCTION_INSTALLED: Step = Step {
 };
 
 /// The function comes in and is applied.
-pub(crate) const BEGINNING: &[Step] = &[FUNCTION_RECEIVED, FUNCTION_INSTALLED];
+pub(crate) const BEGINNING: &[JobStep] = &[FUNCTION_RECEIVED, FUNCTION_INSTALLED];
 
-pub const RIVAL_RECEIVED: Step = Step {
+pub const RIVAL_RECEIVED: JobStep = JobStep {
     name: "another fix that replaces the macro comes in",
     ptfin: &[
         "++PTF(UA00020).\n++VER(Z038) FMID(HAA1100).\n++MAC(M1) DISTLIB(AMACLIB) SYSLIB(MACLIB).\n\
@@ -97,21 +97,21 @@ pub const RIVAL_RECEIVED: Step = Step {
     ..RECEIVING
 };
 
-pub const UPDATE_INSTALLED: Step = Step {
+pub const UPDATE_INSTALLED: JobStep = JobStep {
     name: "the update is applied",
     cntl: "SET BDY(TGT1).\nAPPLY SELECT(UA00025).",
     report: "SET TGT1\nRC 00\nAPPLY TGT1\nUA00025 PTF      APPLIED\nRC 00\n",
     ..JOB
 };
 
-pub const DELETER_INSTALLED: Step = Step {
+pub const DELETER_INSTALLED: JobStep = JobStep {
     name: "the function that deletes the other one is applied",
     cntl: "SET BDY(TGT1).\nAPPLY SELECT(HCC1200).",
     report: "SET TGT1\nRC 00\nAPPLY TGT1\nHCC1200 FUNCTION APPLIED\nRC 00\n",
     ..JOB
 };
 
-pub const FUNCTION_LISTED: Step = Step {
+pub const FUNCTION_LISTED: JobStep = JobStep {
     name: "the target zone has the function and its macro",
     cntl: "SET BDY(TGT1).\nLIST.",
     report: "SET TGT1\nRC 00\nLIST TGT1\nENTRY HAA1100 APPLIED 24.138 SUPBY - DELBY - WAIVED -\n\

@@ -9,8 +9,8 @@ mod steps;
 
 pub use cards::{
     Case, DELETER_INSTALLED, FAILING, FIX, FUNCTION, FUNCTION_INSTALLED, FUNCTION_LISTED,
-    FUNCTION_RECEIVED, JOB, LISTING, LISTING_TEXTS, RECEIVE, RECEIVING, REFUSED, RIVAL_RECEIVED,
-    Step, UPDATE_INSTALLED,
+    FUNCTION_RECEIVED, JOB, JobStep, LISTING, LISTING_TEXTS, RECEIVE, RECEIVING, REFUSED,
+    RIVAL_RECEIVED, UPDATE_INSTALLED,
 };
 pub use disks::{connected, in_memory, new_files, opened};
 pub use jobs::{card_file, compare, define_both, job_over, put_cards, run_printing, zone_name};

@@ -1,6 +1,6 @@
 //! How cases are played, step by step.
 
-use crate::cards::{BEGINNING, Case, Step};
+use crate::cards::{BEGINNING, Case, JobStep};
 use crate::disks::{in_memory, new_files, opened, reopened};
 use crate::jobs::{card_file, define_both, first_difference, job_over, put_cards, run_printing};
 use smpe::{Answer, JobError};
@@ -12,13 +12,13 @@ use store::Store;
 
 /// Where a step is played, as a failure says it.
 #[derive(Clone, Copy)]
-struct Place {
+struct StepPlace {
     /// What the step's case shows.
     shows: &'static str,
     disk: &'static str,
 }
 
-fn ptfin_of(alloc: Global, step: &Step) -> Result<Vec<u8>, Fail> {
+fn ptfin_of(alloc: Global, step: &JobStep) -> Result<Vec<u8>, Fail> {
     let mut bytes = Vec::new(alloc);
     for sysmod in step.ptfin {
         put_cards(&mut bytes, sysmod)?;
@@ -31,7 +31,7 @@ fn ptfin_of(alloc: Global, step: &Step) -> Result<Vec<u8>, Fail> {
 pub fn run_step<S: Alter>(
     alloc: Global,
     store: &mut Store<S>,
-    step: &Step,
+    step: &JobStep,
     report: &mut Vec<u8>,
 ) -> Result<Result<Vec<Answer>, JobError>, Fail> {
     let cntl = card_file(alloc, step.cntl)?;
@@ -42,7 +42,7 @@ pub fn run_step<S: Alter>(
 }
 
 /// A failure, unless the step printed and answered what it must.
-fn check(step: &Step, place: Place, report: &[u8], answers: &[Answer]) -> Result<(), Fail> {
+fn check(step: &JobStep, place: StepPlace, report: &[u8], answers: &[Answer]) -> Result<(), Fail> {
     let code = match answers {
         [Answer::Code(code)] => Some(*code),
         _ => None,
@@ -62,8 +62,8 @@ fn check(step: &Step, place: Place, report: &[u8], answers: &[Answer]) -> Result
 fn play_at<S: Alter>(
     alloc: Global,
     store: &mut Store<S>,
-    step: &Step,
-    place: Place,
+    step: &JobStep,
+    place: StepPlace,
 ) -> Result<(), Fail> {
     let mut report = Vec::new(alloc);
     match run_step(alloc, store, step, &mut report)? {
@@ -79,8 +79,8 @@ fn play_at<S: Alter>(
 fn play_all<S: Alter>(
     alloc: Global,
     store: &mut Store<S>,
-    steps: &[Step],
-    place: Place,
+    steps: &[JobStep],
+    place: StepPlace,
 ) -> Result<(), Fail> {
     for step in steps {
         play_at(alloc, store, step, place)?;
@@ -89,17 +89,17 @@ fn play_all<S: Alter>(
 }
 
 /// Plays a step that stands in no case.
-pub fn play<S: Alter>(alloc: Global, store: &mut Store<S>, step: &Step) -> Result<(), Fail> {
+pub fn play<S: Alter>(alloc: Global, store: &mut Store<S>, step: &JobStep) -> Result<(), Fail> {
     let shows = "a step alone";
-    play_at(alloc, store, step, Place { shows, disk: "" })
+    play_at(alloc, store, step, StepPlace { shows, disk: "" })
 }
 
 /// A store over a new database with both zones, in which these steps were played.
 fn begun<S: Alter + Drop>(
     alloc: Global,
     conn: Connection<S>,
-    before: &[Step],
-    place: Place,
+    before: &[JobStep],
+    place: StepPlace,
 ) -> Result<Store<S>, Fail> {
     let mut store = opened(alloc, conn, place.shows)?;
     define_both(alloc, &mut store)?;
@@ -110,19 +110,19 @@ fn begun<S: Alter + Drop>(
 /// A store over a new database with both zones, in which the function is applied.
 pub fn installed<S: Alter + Drop>(alloc: Global, conn: Connection<S>) -> Result<Store<S>, Fail> {
     let shows = "the function is applied";
-    begun(alloc, conn, BEGINNING, Place { shows, disk: "" })
+    begun(alloc, conn, BEGINNING, StepPlace { shows, disk: "" })
 }
 
 /// Plays a case over one store.
 fn play_over<S: Alter + Drop>(
     alloc: Global,
     conn: Connection<S>,
-    before: &[Step],
+    before: &[JobStep],
     case: &Case,
     disk: &'static str,
 ) -> Result<(), Fail> {
     let shows = case.shows;
-    let place = Place { shows, disk };
+    let place = StepPlace { shows, disk };
     let mut store = begun(alloc, conn, before, place)?;
     play_all(alloc, &mut store, case.steps, place)
 }
@@ -131,8 +131,8 @@ fn play_over<S: Alter + Drop>(
 fn play_anew<S: Alter + Drop>(
     alloc: Global,
     conn: Connection<S>,
-    step: &Step,
-    place: Place,
+    step: &JobStep,
+    place: StepPlace,
 ) -> Result<Connection<S>, Fail> {
     let mut store = opened(alloc, conn, place.shows)?;
     play_at(alloc, &mut store, step, place)?;
@@ -140,9 +140,9 @@ fn play_anew<S: Alter + Drop>(
 }
 
 /// Plays a case in memory, each step over a store that is opened for it.
-fn play_each(alloc: Global, before: &[Step], case: &Case) -> Result<(), Fail> {
+fn play_each(alloc: Global, before: &[JobStep], case: &Case) -> Result<(), Fail> {
     let (shows, disk) = (case.shows, "in memory, opened for each");
-    let place = Place { shows, disk };
+    let place = StepPlace { shows, disk };
     let mut conn = begun(alloc, in_memory(alloc)?, before, place)?.close();
     for step in case.steps {
         conn = play_anew(alloc, conn, step, place)?;
@@ -153,12 +153,12 @@ fn play_each(alloc: Global, before: &[Step], case: &Case) -> Result<(), Fail> {
 /// Plays steps over files, which are closed and opened again before each.
 fn play_closed(
     alloc: Global,
-    before: &[Step],
-    steps: &[Step],
+    before: &[JobStep],
+    steps: &[JobStep],
     shows: &'static str,
 ) -> Result<Connection<FileStore<Memory>>, Fail> {
     let disk = "on disks that are closed and opened before it";
-    let place = Place { shows, disk };
+    let place = StepPlace { shows, disk };
     let mut conn = begun(alloc, new_files(alloc)?, before, place)?.close();
     for step in steps {
         conn = play_anew(alloc, reopened(alloc, conn)?, step, place)?;
@@ -171,7 +171,7 @@ pub fn installed_files(alloc: Global) -> Result<Connection<FileStore<Memory>>, F
     play_closed(alloc, &[], BEGINNING, "the function is applied")
 }
 
-fn play_case(alloc: Global, before: &[Step], case: &Case) -> Result<(), Fail> {
+fn play_case(alloc: Global, before: &[JobStep], case: &Case) -> Result<(), Fail> {
     play_over(alloc, in_memory(alloc)?, before, case, "in memory")?;
     play_each(alloc, before, case)?;
     play_over(alloc, new_files(alloc)?, before, case, "on disks")?;
@@ -179,7 +179,7 @@ fn play_case(alloc: Global, before: &[Step], case: &Case) -> Result<(), Fail> {
     Ok(())
 }
 
-fn play_after(alloc: Global, before: &[Step], cases: &[Case]) -> Result<(), Fail> {
+fn play_after(alloc: Global, before: &[JobStep], cases: &[Case]) -> Result<(), Fail> {
     for case in cases {
         play_case(alloc, before, case)?;
     }

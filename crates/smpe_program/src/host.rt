@@ -16,15 +16,15 @@ const RECORD: usize = 80;
 
 /// The system, by what the program was started with.
 #[derive(Drop)]
-pub(crate) struct System<'a> {
+pub(crate) struct ProgramHost<'a> {
     rt: &'a HostRuntime,
     /// Why a database was not opened.
     cause: Option<Error>,
 }
 
-impl System<'_> {
-    pub(crate) fn new<'a>(rt: &'a HostRuntime) -> System<'a> {
-        System { rt, cause: None }
+impl ProgramHost<'_> {
+    pub(crate) fn new<'a>(rt: &'a HostRuntime) -> ProgramHost<'a> {
+        ProgramHost { rt, cause: None }
     }
 
     /// Says on standard error why a database was not opened, where the library has named a cause that a user can end.
@@ -50,7 +50,7 @@ fn cause_text(code: ErrorCode) -> Option<&'static str> {
 
 // Of a database, what `sqlite` promises where it opens one, and that commits suppose nothing of the bytes that a torn
 // write leaves. No more is said of the system: the other relations hold of all.
-impl Host for System<'_> {
+impl Host for ProgramHost<'_> {
     type Disk = FileStore<FileFrom<Wary>>;
 
     ghost gives = { λ _ _ _ _. Unit {0} };

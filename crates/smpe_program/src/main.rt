@@ -3,18 +3,18 @@
 //! What it does is `smpe_command::command`; here is the input and output that it asks for, which is proved safe.
 #![tactic(auto)]
 
+mod command_line;
 mod host;
-mod words;
 
-use host::System;
+use command_line::words;
+use host::ProgramHost;
 use report::Out;
 use smpe_command::command;
 use std::process::ExitCode;
-use words::words;
 
 fn main(rt: HostRuntime) -> ExitCode {
     let words = words(&rt);
-    let mut host = System::new(&rt);
+    let mut host = ProgramHost::new(&rt);
     let mut out = Out::new(rt.stdout());
     let mut err = Out::new(rt.stderr());
     let status = command(rt.alloc(), &mut host, &words, &mut out, &mut err);

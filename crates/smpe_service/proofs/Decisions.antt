@@ -29,8 +29,6 @@ use Rattle.machine.specs.Installing.{IsFailed, IsNotChosen}
 use Rattle.machine.specs.Installing.{AreInstallLines, installed_status, not_chosen_status}
 use Rattle.terms.specs.Install.{TakesEffect}
 use Rattle.change.specs.Elements.{HasBases}
-use Rattle.change.specs.Plans.{IsFresh}
-use Rattle.change.proofs.Installable.{is_fresh}
 use Rattle.change.proofs.KeptTogether.{install_over, changed_base, unsupplied}
 use Rattle.smpe_service.specs.Decided.{IsDecided}
 use Rattle.smpe_service.specs.Statuses.{kept_status, kept_statuses, failed_statuses, left_out_statuses}
@@ -99,9 +97,6 @@ module _ (g : Global) (zone : Zone) (related : Option Zone) (sel : Selection) (b
       date = date;
     };
   }
-
-  pub kept_fresh : All (IsFresh zone) kept
-  kept_fresh = λ i d below. is_fresh g zone _ (kept_installable i d below)
 
   unapplied : (x : Id) → Contains cands x → is_applied zone x ≡ false
   unapplied x h = unsupplied zone x (not-true (is_supplied zone x)

@@ -3,8 +3,5 @@ pub mod Bypassed
 pub mod Deciding
 pub mod Decisions
 pub mod InstallLines
-pub mod Survivors
-pub mod Needed
-pub mod SaidOf
-pub mod Chosen
 pub mod RestoredStatuses
+pub mod Listed

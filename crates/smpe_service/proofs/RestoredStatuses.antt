@@ -48,7 +48,7 @@ ids_of : (fs : List (Id × Failure)) → map (λ (q : Id × machine.Failure). q.
 ids_of [] = refl
 ids_of (f ∷ fs) = ap (λ l. f.0 ∷ l) (ids_of fs)
 
-abbrev IsDecided : Restoring → List Id → List Id → List Id → List (Id × Failure) → Type 0
+abbrev pub IsDecided : Restoring → List Id → List Id → List Id → List (Id × Failure) → Type 0
 IsDecided r ids cands kept failed = AreDecided (FailsRestore r) (MayBeRestored r ids) (NeedsInRestore r (is_in ids))
     (Serves r.choice) cands kept (map why_failed failed)
 

@@ -6,22 +6,24 @@ ghost use Rattle.zones_maps.specs.Delta.{IsChanged};
 ghost use Rattle.machine.specs.Installing.{InstallsSelected};
 ghost use Rattle.report.specs.Views.{line_view};
 
-use crate::decided::{Deciding, decide_by};
 use crate::lines::lines;
 use crate::statuses::statuses;
-use change::{Installed, Installing, install};
+use change::{Installed, Installing, install, pairs_of};
 use fields::{Attest, Bypass, Selection, YyDdd};
-use report::Line;
-use select::{candidates, not_chosen};
+use judge::{Judged, install_system};
+use judge_system::Decided;
+use report::ReportLine;
+use select::candidates;
+use solve::{Solver, Worklist, causers};
 use std::alloc::{AllocError, Global};
-use sysmods::GlobalZone;
-use zones::{Scope, Zone, ZoneDelta, choose};
+use sysmods::{GlobalZone, Overs};
+use zones::{Zone, ZoneDelta};
 
 /// What an APPLY or ACCEPT changes, and its lines by id.
 #[derive(Drop)]
-pub struct Applied {
+pub struct InstallChange {
     pub delta: ZoneDelta,
-    pub lines: Vec<Line>,
+    pub lines: Vec<ReportLine>,
 }
 
 /// Installs what is selected into the zone, less what BYPASS leaves out of account: APPLY in a target zone, ACCEPT in a
@@ -35,7 +37,7 @@ pub fn apply(
     selection: &Selection,
     bypass: &Bypass,
     date: YyDdd,
-) -> Result<Applied, AllocError>
+) -> Result<InstallChange, AllocError>
     ensures installs { IfOk result (λ a. (new : AZone) → IsChanged a.delta zone.now new →
         InstallsSelected global.now zone.now (option_copied related.entry) selection.now bypass.now date new
         (map line_view a.lines.items)) }
@@ -44,37 +46,35 @@ pub fn apply(
     prove!(date.as_bytes().len() == 6);
     global.attest();
     zone.attest();
-    let ids = candidates(alloc, global, zone, selection)?;
-    let vers = choose(alloc, global, zone, &ids)?;
-    let scope = Scope {
-        vers: &vers,
-        zone,
-        ids: &ids,
-        bypass,
-    };
-    let Deciding {
-        kept,
-        failed,
+    let candidates = candidates(alloc, global, zone, selection)?;
+    let judged = install_system(alloc, global, zone, related, &candidates, bypass)?;
+    let set = Worklist.greatest(alloc, &judged.system)?;
+    let causers = causers(alloc, &judged.system, &set)?;
+    let Decided { kept, failed } = judged.decided(alloc, &set, causers.as_slice())?;
+    let Judged {
         bypassed,
+        vers,
         overs,
-    } = decide_by(alloc, &scope, related)?;
+        ..
+    } = judged;
+    let bypassed = pairs_of(alloc, &kept, bypassed.as_slice())?;
     let installing = Installing {
+        overs: Overs::resume(&vers, overs),
         zone,
         kept: &kept,
         bypassed: bypassed.as_slice(),
         date,
     };
-    let Installed { delta, effective } = install(alloc, &installing, overs)?;
-    let left_out = not_chosen(alloc, global, zone, selection)?;
+    let Installed { delta, effective } = install(alloc, installing)?;
     let found = statuses(
         alloc,
         zone.kind(),
         &effective,
         kept.as_slice(),
         failed,
-        left_out.as_slice(),
+        candidates.left_out.as_slice(),
     )?;
-    Ok(Applied {
+    Ok(InstallChange {
         delta,
         lines: lines(alloc, global, found)?,
     })

@@ -6,7 +6,7 @@ ghost use Rattle.report.specs.Views.{line_view, status_view};
 ghost use Rattle.smpe_service.specs.Statuses.{said, status_line, IsById, AreById};
 
 use fields::Id;
-use report::{Line, Status, place_of};
+use report::{ReportLine, Status, place_of};
 use std::alloc::{AllocError, Global};
 use sysmods::GlobalZone;
 
@@ -17,10 +17,10 @@ fn sorted(mut statuses: Vec<(Id, Status)>) -> Vec<(Id, Status)>
     statuses
 }
 
-fn line(global: &GlobalZone, id: Id, status: Status) -> Line
+fn line(global: &GlobalZone, id: Id, status: Status) -> ReportLine
     ensures { line_view result ≡ StatusLine id (place_of global.now id) (status_view status) }
 {
-    Line::Status {
+    ReportLine::Status {
         id,
         place: place_of(global, id),
         status,
@@ -31,7 +31,7 @@ fn lines_of(
     alloc: Global,
     global: &GlobalZone,
     statuses: Vec<(Id, Status)>,
-) -> Result<Vec<Line>, AllocError>
+) -> Result<Vec<ReportLine>, AllocError>
     ensures { IfOk result (λ lines. map line_view lines.items ≡ map (status_line global.now)
         (map said statuses.items)) }
 {
@@ -47,7 +47,7 @@ pub(crate) fn lines(
     alloc: Global,
     global: &GlobalZone,
     statuses: Vec<(Id, Status)>,
-) -> Result<Vec<Line>, AllocError>
+) -> Result<Vec<ReportLine>, AllocError>
     ensures { IfOk result (λ lines. AreById global.now (map said statuses.items) (map line_view lines.items)) }
 {
     lines_of(alloc, global, sorted(statuses))

@@ -10,7 +10,7 @@ ghost use Rattle.smpe_service.specs.Lines.{status_in, line_in};
 
 use fields::{Id, IdList};
 use judge_system::Failure;
-use report::{Line, Status, place_of};
+use report::{ReportLine, Status, place_of};
 use std::alloc::{AllocError, Global};
 use sysmods::GlobalZone;
 
@@ -21,7 +21,7 @@ pub(crate) fn lines_of(
     ids: &[Id],
     kept: &IdList,
     failed: &[(Id, Failure)],
-) -> Result<Vec<Line>, AllocError>
+) -> Result<Vec<ReportLine>, AllocError>
     requires { Rises (slice_cmp nat_cmp) (λ f. f.0) failed.now }
     ensures { IfOk result (λ lines. map line_view lines.items
         ≡ map (line_in global.now kept.now failed.now) ids.now) }
@@ -39,12 +39,12 @@ fn line(
     id: Id,
     kept: &IdList,
     failed: &[(Id, Failure)],
-) -> Result<Line, AllocError>
+) -> Result<ReportLine, AllocError>
     requires { Rises (slice_cmp nat_cmp) (λ f. f.0) failed.now }
     ensures { IfOk result (λ line. line_view line ≡ line_in global.now kept.now failed.now id) }
 {
     let status = status_of(alloc, id, kept, failed)?;
-    Ok(Line::Status {
+    Ok(ReportLine::Status {
         id,
         place: place_of(global, id),
         status,

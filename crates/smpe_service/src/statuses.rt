@@ -40,6 +40,7 @@ fn left_out_status(why: NotChosen) -> Status
         NotChosen::Deleted => Status::Deleted,
         NotChosen::Missing => Status::Missing,
         NotChosen::NoVer => Status::NoVer,
+        NotChosen::NotApplied => Status::NotApplied,
     }
 }
 

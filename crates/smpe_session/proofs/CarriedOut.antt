@@ -61,7 +61,7 @@ module _ (date : Text) (files : Files) (c : Command) (s : State) (at : Session) 
     owns : IsOwnOf c (ZoneChange name old delta)
     owns = planned.owns unchecked (ZoneChange name old delta) tt
 
-    module _ (new : Zone) (changed : IsChanged delta planned.zone new) where
+    module _ (new : Zone) (changed : IsChanged delta planned.zone new) (is_delta : IsDelta delta) where
       performs : Performs date files s c (with_zone s name new) (outcome_view answer)
       performs = subst (Performs date files s c (with_zone s name new)) (sym view)
           (subst (λ u. Performs date files s c u outcome) (ap (λ b. if b then s else with_zone s name new) unchecked)
@@ -73,6 +73,7 @@ module _ (date : Text) (files : Files) (c : Command) (s : State) (at : Session) 
         subst (λ z. IsZoneChange name z new (kept s) (kept (with_zone s name new))) (sym stood)
             (zone_change (kept s) name planned.zone new inventory planned.is_there),
         subst (λ z. IsChanged delta z new) (sym stood) changed,
+        is_delta,
       )
 
       -- it is done, and then the session's zone is changed
@@ -90,5 +91,6 @@ module _ (date : Text) (files : Files) (c : Command) (s : State) (at : Session) 
         let new = changed_zone delta planned.zone in
         let changed = changes is in
         let t = with_zone s name new in
-        performs_failed g before after s date files c t answer (performs new changed) (ZoneChange name old delta) owns
-        (makes new changed) session e (ended t (makes new changed) (planned.inventory new changed inventory))
+        performs_failed g before after s date files c t answer (performs new changed is)
+        (ZoneChange name old delta) owns (makes new changed is) session e
+        (ended t (makes new changed is) (planned.inventory new changed inventory))

@@ -33,14 +33,14 @@ pub(crate) fn unless_global(boundary: Option<ZoneName>) -> Option<Refusal>
 
 /// A zone under its name.
 #[derive(Clone, Copy)]
-pub(crate) struct Place<'a> {
+pub(crate) struct BoundaryZone<'a> {
     pub name: ZoneName,
     pub zone: &'a Zone,
 }
 
 impl Session {
     /// The zone of the boundary, where it is of this kind.
-    pub(crate) fn place(&self, kind: ZoneKind) -> Result<Place<'_>, Refusal>
+    pub(crate) fn place(&self, kind: ZoneKind) -> Result<BoundaryZone<'_>, Refusal>
         ensures named { IfOk result (λ v. self.now.boundary ≡ Some v.name) }
         ensures has { (s : State) → IsSessionOf s self.now → IsInventory (kept s)
             → HasPlace s self.now kind (λ v. v.name) (λ v. v.zone.now) result }
@@ -54,7 +54,7 @@ impl Session {
         if zone.kind() != kind {
             return Err(Refusal::WrongKind);
         }
-        Ok(Place { name, zone })
+        Ok(BoundaryZone { name, zone })
     }
 
     pub(crate) fn zone_at(&self, name: Option<ZoneName>) -> Option<&Zone>

@@ -13,7 +13,7 @@ ghost use Rattle.smpe_zones.specs.Own.{IsOfZone};
 use crate::commit::commit_change;
 use crate::session::Session;
 use fields::{Attest, ZoneName};
-use report::{Header, Line, Outcome, Refusal};
+use report::{Header, Outcome, Refusal, ReportLine};
 use sqlite::Alter;
 use std::alloc::Global;
 use store::{Change, Store, StoreError};
@@ -30,7 +30,7 @@ impl Session {
         header: Header,
         name: ZoneName,
         delta: ZoneDelta,
-        lines: Vec<Line>,
+        lines: Vec<ReportLine>,
     ) -> Result<Outcome<'static>, StoreError>
         requires { header.boundary ≡ Some name }
         ensures { UsesStore S.Store store.old store.new

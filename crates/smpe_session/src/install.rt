@@ -17,7 +17,7 @@ use crate::session::Session;
 use cntl::Install;
 use fields::{YyDdd, ZoneName};
 use report::{Header, Outcome};
-use smpe_service::{Applied, apply};
+use smpe_service::{InstallChange, apply};
 use sqlite::Alter;
 use std::alloc::Global;
 use store::{Store, StoreError};
@@ -88,7 +88,7 @@ impl Session {
             Err(refusal) => return Ok(Outcome::Refused { header, refusal }),
         };
         let name = place.name;
-        let Applied { delta, lines } = apply(
+        let InstallChange { delta, lines } = apply(
             alloc,
             &self.global,
             place.zone,

@@ -3,15 +3,15 @@ ghost use Rattle.std.specs.Prelude.{◌≡◌, IfOk, map};
 ghost use Rattle.machine.specs.Outcome.{or_nothing};
 ghost use Rattle.report.specs.Views.{line_view};
 
-use report::Line;
+use report::ReportLine;
 use std::alloc::AllocError;
 
 /// Where there is no line, one that says so.
-pub(crate) fn or_nothing(mut lines: Vec<Line>) -> Result<Vec<Line>, AllocError>
+pub(crate) fn or_nothing(mut lines: Vec<ReportLine>) -> Result<Vec<ReportLine>, AllocError>
     ensures { IfOk result (λ all. map line_view all.items ≡ or_nothing (map line_view lines.items)) }
 {
     if lines.is_empty() {
-        lines.push(Line::Nothing)?;
+        lines.push(ReportLine::Nothing)?;
     }
     Ok(lines)
 }

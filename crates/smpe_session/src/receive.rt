@@ -16,7 +16,7 @@ use crate::boundary::unless_global;
 use crate::commit::commit_change;
 use crate::files::Files;
 use crate::lines::or_nothing;
-use crate::read::{Found, read_files};
+use crate::receive_files::{ReceiveItems, read_files};
 use crate::session::Session;
 use fields::{ReceiveWhat, Source};
 use report::{Header, Outcome};
@@ -31,7 +31,7 @@ use terms::CommandWord;
 fn take_found(
     alloc: Global,
     global: &mut GlobalZone,
-    found: Found,
+    found: ReceiveItems,
     source: Option<Source>,
 ) -> Result<Taken, AllocError>
     requires { All IsExternal (hold_items found.holds.items) }

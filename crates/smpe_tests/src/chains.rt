@@ -2,7 +2,7 @@
 
 use crate::generated::run_job;
 use smpe_play::{
-    FAILING, FUNCTION_RECEIVED, RECEIVE, Step, card_file, define_both, in_memory, installed,
+    FAILING, FUNCTION_RECEIVED, JobStep, RECEIVE, card_file, define_both, in_memory, installed,
     new_files, opened, play, put_cards,
 };
 use sqlite::{Alter, Connection};
@@ -179,7 +179,7 @@ fn chains_of_thousands_are_applied_or_fail_as_a_whole(rt: HostRuntime) -> Result
     Ok(())
 }
 
-const CLOSING: Step = Step {
+const CLOSING: JobStep = JobStep {
     name: "the first PTF of a chain comes in and would close it",
     cntl: RECEIVE,
     ptfin: &["++PTF(UB00001).\n++VER(Z038) FMID(HAA1100) PRE(UB05000)."],

@@ -1,8 +1,8 @@
 //! Macros that several SYSMODs replace, and updates.
 
 use smpe_play::{
-    Case, FAILING, JOB, LISTING, LISTING_TEXTS, RECEIVING, RIVAL_RECEIVED, Step, UPDATE_INSTALLED,
-    play_installed,
+    Case, FAILING, JOB, JobStep, LISTING, LISTING_TEXTS, RECEIVING, RIVAL_RECEIVED,
+    UPDATE_INSTALLED, play_installed,
 };
 use std::test::Fail;
 
@@ -10,7 +10,7 @@ const REPLACEMENTS: &[Case] = &[
     Case {
         shows: "two that replace one macro, neither over the other, fail together",
         steps: &[
-            Step {
+            JobStep {
                 name: "two that replace the macro come in",
                 ptfin: &[
                     "++PTF(UA00015).\n++VER(Z038) FMID(HAA1100).\n++MAC(M1) DISTLIB(AMACLIB) SYSLIB(MACLIB).\n\
@@ -22,7 +22,7 @@ const REPLACEMENTS: &[Case] = &[
                     RC 00\n",
                 ..RECEIVING
             },
-            Step {
+            JobStep {
                 name: "both are applied",
                 cntl: "SET BDY(TGT1).\nAPPLY SELECT(UA00015,UA00016).",
                 report: "SET TGT1\nRC 00\nAPPLY TGT1\nUA00015 PTF      FAILED\n  TEST J9\n  CAUSER UA00015\n\
@@ -35,7 +35,7 @@ const REPLACEMENTS: &[Case] = &[
         shows: "three that replace one macro, each over the one before, go on together, and one \
             that is over none of them fails",
         steps: &[
-            Step {
+            JobStep {
                 name: "three that replace the macro come in",
                 ptfin: &[
                     "++PTF(UA00017).\n++VER(Z038) FMID(HAA1100).\n++MAC(M1) DISTLIB(AMACLIB) SYSLIB(MACLIB).\n\
@@ -49,14 +49,14 @@ const REPLACEMENTS: &[Case] = &[
                     UA00019 PTF      RECEIVED\nRC 00\n",
                 ..RECEIVING
             },
-            Step {
+            JobStep {
                 name: "all are applied",
                 cntl: "SET BDY(TGT1).\nAPPLY.",
                 report: "SET TGT1\nRC 00\nAPPLY TGT1\nUA00017 PTF      APPLIED\nUA00018 PTF      APPLIED\n\
                     UA00019 PTF      APPLIED\nRC 00\n",
                 ..JOB
             },
-            Step {
+            JobStep {
                 report: "SET TGT1\nRC 00\nLIST TGT1\nENTRY HAA1100 APPLIED 24.138 SUPBY - DELBY - WAIVED -\n\
                     ENTRY UA00017 APPLIED 24.138 SUPBY - DELBY - WAIVED -\n\
                     ENTRY UA00018 APPLIED 24.138 SUPBY - DELBY - WAIVED -\n\
@@ -65,7 +65,7 @@ const REPLACEMENTS: &[Case] = &[
                 ..LISTING
             },
             RIVAL_RECEIVED,
-            Step {
+            JobStep {
                 name: "the rival is applied",
                 cntl: "SET BDY(TGT1).\nAPPLY SELECT(UA00020).",
                 report: "SET TGT1\nRC 00\nAPPLY TGT1\nUA00020 PTF      FAILED\n  TEST J5\n  CAUSER UA00020\nRC 08\n",
@@ -84,7 +84,7 @@ const UPDATES: &[Case] = &[
     Case {
         shows: "an update gives a record in a range that it deletes",
         steps: &[
-            Step {
+            JobStep {
                 name: "the update comes in",
                 ptfin: &[
                     "++PTF(UA00025).\n++VER(Z038) FMID(HAA1100).\n++MACUPD(M1).\n./ CHANGE NAME=M1\n\
@@ -95,7 +95,7 @@ const UPDATES: &[Case] = &[
                 ..RECEIVING
             },
             UPDATE_INSTALLED,
-            Step {
+            JobStep {
                 report: "SET TGT1\nRC 00\nLIST TGT1\nENTRY HAA1100 APPLIED 24.138 SUPBY - DELBY - WAIVED -\n\
                     ENTRY UA00025 APPLIED 24.138 SUPBY - DELBY - WAIVED -\n\
                     ELEM MAC   M1       FMID HAA1100 RMID HAA1100 UMID UA00025 DISTLIB AMACLIB SYSLIB MACLIB\n\
@@ -109,7 +109,7 @@ const UPDATES: &[Case] = &[
     Case {
         shows: "an update may delete each record",
         steps: &[
-            Step {
+            JobStep {
                 name: "the update comes in",
                 ptfin: &[
                     "++PTF(UA00026).\n++VER(Z038) FMID(HAA1100).\n++MACUPD(M1).\n./ CHANGE NAME=M1\n\
@@ -118,13 +118,13 @@ const UPDATES: &[Case] = &[
                 report: "SET GLOBAL\nRC 00\nRECEIVE GLOBAL\nUA00026 PTF      RECEIVED\nRC 00\n",
                 ..RECEIVING
             },
-            Step {
+            JobStep {
                 name: "it is applied",
                 cntl: "SET BDY(TGT1).\nAPPLY SELECT(UA00026).",
                 report: "SET TGT1\nRC 00\nAPPLY TGT1\nUA00026 PTF      APPLIED\nRC 00\n",
                 ..JOB
             },
-            Step {
+            JobStep {
                 report: "SET TGT1\nRC 00\nLIST TGT1\nENTRY HAA1100 APPLIED 24.138 SUPBY - DELBY - WAIVED -\n\
                     ENTRY UA00026 APPLIED 24.138 SUPBY - DELBY - WAIVED -\n\
                     ELEM MAC   M1       FMID HAA1100 RMID HAA1100 UMID UA00026 DISTLIB AMACLIB SYSLIB MACLIB\n\
@@ -136,7 +136,7 @@ const UPDATES: &[Case] = &[
     Case {
         shows: "an update of a macro that is not there fails",
         steps: &[
-            Step {
+            JobStep {
                 name: "the update comes in",
                 ptfin: &[
                     "++PTF(UA00038).\n++VER(Z038) FMID(HAA1100).\n++MACUPD(M9).\n./ CHANGE NAME=M9\n\
@@ -145,7 +145,7 @@ const UPDATES: &[Case] = &[
                 report: "SET GLOBAL\nRC 00\nRECEIVE GLOBAL\nUA00038 PTF      RECEIVED\nRC 00\n",
                 ..RECEIVING
             },
-            Step {
+            JobStep {
                 name: "it is applied",
                 cntl: "SET BDY(TGT1).\nAPPLY SELECT(UA00038).",
                 report: "SET TGT1\nRC 00\nAPPLY TGT1\nUA00038 PTF      FAILED\n  TEST J6\n  CAUSER UA00038\nRC 08\n",

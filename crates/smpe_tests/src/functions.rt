@@ -1,9 +1,11 @@
 //! Functions that delete others.
 
-use smpe_play::{Case, DELETER_INSTALLED, FAILING, JOB, LISTING, RECEIVING, Step, play_installed};
+use smpe_play::{
+    Case, DELETER_INSTALLED, FAILING, JOB, JobStep, LISTING, RECEIVING, play_installed,
+};
 use std::test::Fail;
 
-const REQUIRERS_INSTALLED: Step = Step {
+const REQUIRERS_INSTALLED: JobStep = JobStep {
     name: "another function is applied, whose service requires service of the first",
     cntl: "SET BDY(TGT1).\nAPPLY SELECT(HDD1100,UA00021,UA00023).",
     report: "SET TGT1\nRC 00\nAPPLY TGT1\nHDD1100 FUNCTION APPLIED\nUA00021 PTF      APPLIED\n\
@@ -15,7 +17,7 @@ const DELETIONS: &[Case] = &[
     Case {
         shows: "service for a function that another candidate deletes fails, and the deletion goes on",
         steps: &[
-            Step {
+            JobStep {
                 name: "the service and the deleting function come in",
                 ptfin: &[
                     "++PTF(UA00039).\n++VER(Z038) FMID(HAA1100).",
@@ -25,7 +27,7 @@ const DELETIONS: &[Case] = &[
                     RC 00\n",
                 ..RECEIVING
             },
-            Step {
+            JobStep {
                 name: "both are applied",
                 cntl: "SET BDY(TGT1).\nAPPLY SELECT(HCC1200,UA00039).",
                 report: "SET TGT1\nRC 00\nAPPLY TGT1\nHCC1200 FUNCTION APPLIED\nUA00039 PTF      FAILED\n  TEST J8\n\
@@ -37,7 +39,7 @@ const DELETIONS: &[Case] = &[
     Case {
         shows: "a function may not delete what service of another function requires",
         steps: &[
-            Step {
+            JobStep {
                 name: "two functions and their service come in",
                 ptfin: &[
                     "++FUNCTION(HDD1100).\n++VER(Z038).",
@@ -50,7 +52,7 @@ const DELETIONS: &[Case] = &[
                 ..RECEIVING
             },
             REQUIRERS_INSTALLED,
-            Step {
+            JobStep {
                 name: "the deleting function is applied",
                 cntl: "SET BDY(TGT1).\nAPPLY SELECT(HCC1200).",
                 report: "SET TGT1\nRC 00\nAPPLY TGT1\nHCC1200 FUNCTION FAILED\n  NEED ORPHAN UA00021\n\
@@ -62,7 +64,7 @@ const DELETIONS: &[Case] = &[
     Case {
         shows: "with that superseded it may, and what it deleted can not come back",
         steps: &[
-            Step {
+            JobStep {
                 name: "two functions and their service come in",
                 ptfin: &[
                     "++FUNCTION(HDD1100).\n++VER(Z038).",
@@ -76,13 +78,13 @@ const DELETIONS: &[Case] = &[
             },
             REQUIRERS_INSTALLED,
             DELETER_INSTALLED,
-            Step {
+            JobStep {
                 name: "the deleted function is applied",
                 cntl: "SET BDY(TGT1).\nAPPLY SELECT(HAA1100).",
                 report: "SET TGT1\nRC 00\nAPPLY TGT1\nHAA1100 FUNCTION DELETED\nRC 08\n",
                 ..FAILING
             },
-            Step {
+            JobStep {
                 report: "SET TGT1\nRC 00\nLIST TGT1\nENTRY HAA1100 - SUPBY - DELBY HCC1200 WAIVED -\n\
                     ENTRY HCC1200 APPLIED 24.138 SUPBY - DELBY - WAIVED -\n\
                     ENTRY HDD1100 APPLIED 24.138 SUPBY - DELBY - WAIVED -\n\

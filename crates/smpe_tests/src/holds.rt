@@ -1,9 +1,9 @@
 //! Fixes held for error, and superseders that are held.
 
-use smpe_play::{Case, FAILING, JOB, LISTING, RECEIVING, Step, play_installed};
+use smpe_play::{Case, FAILING, JOB, JobStep, LISTING, RECEIVING, play_installed};
 use std::test::Fail;
 
-const ERROR_RECEIVED: Step = Step {
+const ERROR_RECEIVED: JobStep = JobStep {
     name: "a fix that is held for error comes in, and one that resolves it",
     cntl: "SET BDY(GLOBAL).\nRECEIVE SYSMODS HOLDDATA.",
     ptfin: &[
@@ -21,13 +21,13 @@ const ERROR_HOLDS: &[Case] = &[
         shows: "an ERROR hold is met by who supersedes its reason",
         steps: &[
             ERROR_RECEIVED,
-            Step {
+            JobStep {
                 name: "the fix and its resolver are applied",
                 cntl: "SET BDY(TGT1).\nAPPLY SELECT(UA00005,UA00006).",
                 report: "SET TGT1\nRC 00\nAPPLY TGT1\nUA00005 PTF      APPLIED\nUA00006 PTF      APPLIED\nRC 00\n",
                 ..JOB
             },
-            Step {
+            JobStep {
                 report: "SET TGT1\nRC 00\nLIST TGT1\nENTRY AA00009 - SUPBY UA00006 DELBY - WAIVED -\n\
                     ENTRY HAA1100 APPLIED 24.138 SUPBY - DELBY - WAIVED -\n\
                     ENTRY UA00005 APPLIED 24.138 SUPBY - DELBY - WAIVED -\n\
@@ -41,7 +41,7 @@ const ERROR_HOLDS: &[Case] = &[
         shows: "an ERROR hold that nobody resolves is open",
         steps: &[
             ERROR_RECEIVED,
-            Step {
+            JobStep {
                 name: "the fix is applied alone",
                 cntl: "SET BDY(TGT1).\nAPPLY SELECT(UA00005).",
                 report: "SET TGT1\nRC 00\nAPPLY TGT1\nUA00005 PTF      FAILED\n  NEED HOLDERROR AA00009\n\
@@ -67,7 +67,7 @@ const SUPERSEDERS: &[Case] = &[
     Case {
         shows: "what a held SYSMOD would supersede is applied",
         steps: &[
-            Step {
+            JobStep {
                 name: "both come in, the superseder held",
                 cntl: "SET BDY(GLOBAL).\nRECEIVE SYSMODS HOLDDATA.",
                 ptfin: SUPERSEDING,
@@ -76,7 +76,7 @@ const SUPERSEDERS: &[Case] = &[
                     UA00012 USER     HELD WAIT\nRC 00\n",
                 ..JOB
             },
-            Step {
+            JobStep {
                 name: "both are applied",
                 cntl: "SET BDY(TGT1).\nAPPLY SELECT(UA00011,UA00012).",
                 report: "SET TGT1\nRC 00\nAPPLY TGT1\nUA00011 PTF      APPLIED\nUA00012 PTF      FAILED\n  TEST J2\n\
@@ -88,14 +88,14 @@ const SUPERSEDERS: &[Case] = &[
     Case {
         shows: "of two that are kept the superseded one is not applied",
         steps: &[
-            Step {
+            JobStep {
                 name: "both come in",
                 ptfin: SUPERSEDING,
                 report: "SET GLOBAL\nRC 00\nRECEIVE GLOBAL\nUA00011 PTF      RECEIVED\nUA00012 PTF      RECEIVED\n\
                     RC 00\n",
                 ..RECEIVING
             },
-            Step {
+            JobStep {
                 name: "both are applied",
                 cntl: "SET BDY(TGT1).\nAPPLY SELECT(UA00011,UA00012).",
                 report: "SET TGT1\nRC 00\nAPPLY TGT1\nUA00011 PTF      SUPERSEDED\nUA00012 PTF      APPLIED\nRC 00\n",

@@ -1,12 +1,12 @@
 //! Bytes and statements that no reader may take.
 
-use smpe_play::{Case, RECEIVE, REFUSED, Step, play_cases};
+use smpe_play::{Case, JobStep, RECEIVE, REFUSED, play_cases};
 use std::test::Fail;
 
 const BAD_FILES: &[Case] = &[
     Case {
         shows: "a byte that no record may have comes before any fault of a statement",
-        steps: &[Step {
+        steps: &[JobStep {
             name: "PTFIN with an unprintable byte",
             cntl: RECEIVE,
             ptfin: &["++BAD.\n    \0"],
@@ -16,7 +16,7 @@ const BAD_FILES: &[Case] = &[
     },
     Case {
         shows: "a statement has a word",
-        steps: &[Step {
+        steps: &[JobStep {
             name: "PTFIN with ++ alone",
             cntl: RECEIVE,
             ptfin: &["++"],
@@ -26,7 +26,7 @@ const BAD_FILES: &[Case] = &[
     },
     Case {
         shows: "a statement closes its comment",
-        steps: &[Step {
+        steps: &[JobStep {
             name: "PTFIN with an open comment",
             cntl: RECEIVE,
             ptfin: &["++PTF(UA00001). /* X"],
@@ -36,7 +36,7 @@ const BAD_FILES: &[Case] = &[
     },
     Case {
         shows: "parentheses have two levels",
-        steps: &[Step {
+        steps: &[JobStep {
             name: "a command with three levels",
             cntl: "APPLY BYPASS(HOLDSYSTEM((A))).",
             report: "CONTROL RECORD 1 Cn5\n",

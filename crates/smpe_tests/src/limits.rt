@@ -2,7 +2,7 @@
 
 use crate::generated::run_job;
 use smpe_play::{
-    JOB, RECEIVE, RECEIVING, Step, card_file, in_memory, installed, new_files, opened, play,
+    JOB, JobStep, RECEIVE, RECEIVING, card_file, in_memory, installed, new_files, opened, play,
     put_cards,
 };
 use sqlite::{Alter, Connection};
@@ -136,14 +136,14 @@ fn list<S: Alter>(alloc: Global, store: &mut Store<S>, ptfs: u32) -> Result<(), 
     run_job(alloc, store, name, cntl, b"", b"", wanted)
 }
 
-const ONE_RECEIVED: Step = Step {
+const ONE_RECEIVED: JobStep = JobStep {
     name: "one PTF more comes in",
     ptfin: &["++PTF(UC00999).\n++VER(Z038) FMID(HBB1100)."],
     report: "SET GLOBAL\nRC 00\nRECEIVE GLOBAL\nUC00999 PTF      RECEIVED\nRC 00\n",
     ..RECEIVING
 };
 
-const ONE_INSTALLED: Step = Step {
+const ONE_INSTALLED: JobStep = JobStep {
     name: "one PTF more is applied",
     cntl: "SET BDY(TGT1).\nAPPLY PTFS.",
     report: "SET TGT1\nRC 00\nAPPLY TGT1\nUC00999 PTF      APPLIED\nRC 00\n",

@@ -1,9 +1,9 @@
 //! Requisites that are open, bypassed, mutual, and those of an `++IF`.
 
-use smpe_play::{Case, FAILING, JOB, LISTING, RECEIVING, Step, play_installed};
+use smpe_play::{Case, FAILING, JOB, JobStep, LISTING, RECEIVING, play_installed};
 use std::test::Fail;
 
-const WANTING_RECEIVED: Step = Step {
+const WANTING_RECEIVED: JobStep = JobStep {
     name: "a fix whose prerequisite is not received comes in",
     ptfin: &["++PTF(UA00003).\n++VER(Z038) FMID(HAA1100) PRE(UA00002)."],
     report: "SET GLOBAL\nRC 00\nRECEIVE GLOBAL\nUA00003 PTF      RECEIVED\nRC 00\n",
@@ -15,7 +15,7 @@ const PREREQUISITES: &[Case] = &[
         shows: "a prerequisite that is not received is open, and its own candidate is the causer",
         steps: &[
             WANTING_RECEIVED,
-            Step {
+            JobStep {
                 name: "the fix is applied",
                 cntl: "SET BDY(TGT1).\nAPPLY SELECT(UA00003).",
                 report: "SET TGT1\nRC 00\nAPPLY TGT1\nUA00003 PTF      FAILED\n  NEED PRE UA00002\n\
@@ -28,13 +28,13 @@ const PREREQUISITES: &[Case] = &[
         shows: "BYPASS(PRE) waives a prerequisite, and the entry says so",
         steps: &[
             WANTING_RECEIVED,
-            Step {
+            JobStep {
                 name: "the fix is applied with BYPASS(PRE)",
                 cntl: "SET BDY(TGT1).\nAPPLY SELECT(UA00003) BYPASS(PRE).",
                 report: "SET TGT1\nRC 00\nAPPLY TGT1\nUA00003 PTF      APPLIED\nRC 00\n",
                 ..JOB
             },
-            Step {
+            JobStep {
                 report: "SET TGT1\nRC 00\nLIST TGT1\nENTRY HAA1100 APPLIED 24.138 SUPBY - DELBY - WAIVED -\n\
                     ENTRY UA00003 APPLIED 24.138 SUPBY - DELBY - WAIVED UA00002\n\
                     ELEM MAC   M1       FMID HAA1100 RMID HAA1100 UMID - DISTLIB AMACLIB SYSLIB MACLIB\nRC 00\n",
@@ -49,7 +49,7 @@ fn an_open_prerequisite_keeps_a_fix_off_unless_it_is_bypassed(rt: HostRuntime) -
     play_installed(rt.alloc(), PREREQUISITES)
 }
 
-const MUTUAL_RECEIVED: Step = Step {
+const MUTUAL_RECEIVED: JobStep = JobStep {
     name: "two fixes that require each other come in",
     ptfin: &[
         "++PTF(UA00003).\n++VER(Z038) FMID(HAA1100) REQ(UA00004).",
@@ -59,7 +59,7 @@ const MUTUAL_RECEIVED: Step = Step {
     ..RECEIVING
 };
 
-const REQUISITE_HOLD_RECEIVED: Step = Step {
+const REQUISITE_HOLD_RECEIVED: JobStep = JobStep {
     name: "one of them is held",
     cntl: "SET BDY(GLOBAL).\nRECEIVE HOLDDATA.",
     hold: "++HOLD(UA00004) SYSTEM FMID(HAA1100) REASON(ACTION).",
@@ -72,7 +72,7 @@ const MUTUAL_REQUISITES: &[Case] = &[
         shows: "two fixes that require each other go on together",
         steps: &[
             MUTUAL_RECEIVED,
-            Step {
+            JobStep {
                 name: "both are applied",
                 cntl: "SET BDY(TGT1).\nAPPLY SELECT(UA00003,UA00004).",
                 report: "SET TGT1\nRC 00\nAPPLY TGT1\nUA00003 PTF      APPLIED\nUA00004 PTF      APPLIED\nRC 00\n",
@@ -85,7 +85,7 @@ const MUTUAL_REQUISITES: &[Case] = &[
         steps: &[
             MUTUAL_RECEIVED,
             REQUISITE_HOLD_RECEIVED,
-            Step {
+            JobStep {
                 name: "both are applied",
                 cntl: "SET BDY(TGT1).\nAPPLY SELECT(UA00003,UA00004).",
                 report: "SET TGT1\nRC 00\nAPPLY TGT1\nUA00003 PTF      FAILED\n  NEED REQ UA00004\n\
@@ -100,7 +100,7 @@ const MUTUAL_REQUISITES: &[Case] = &[
         steps: &[
             MUTUAL_RECEIVED,
             REQUISITE_HOLD_RECEIVED,
-            Step {
+            JobStep {
                 name: "both are applied with BYPASS(HOLDSYSTEM)",
                 cntl: "SET BDY(TGT1).\nAPPLY SELECT(UA00003,UA00004) BYPASS(HOLDSYSTEM).",
                 report: "SET TGT1\nRC 00\nAPPLY TGT1\nUA00003 PTF      APPLIED\nUA00004 PTF      APPLIED\nRC 00\n",
@@ -115,7 +115,7 @@ fn fixes_that_require_each_other_go_on_together_or_stay_off(rt: HostRuntime) -> 
     play_installed(rt.alloc(), MUTUAL_REQUISITES)
 }
 
-const CONDITION_RECEIVED: Step = Step {
+const CONDITION_RECEIVED: JobStep = JobStep {
     name: "a held function comes in, and a fix that requires another one where that function is",
     cntl: "SET BDY(GLOBAL).\nRECEIVE SYSMODS HOLDDATA.",
     ptfin: &[
@@ -133,7 +133,7 @@ const CONDITIONAL_REQUISITES: &[Case] = &[
         shows: "the requisite of an ++IF holds where its function is a candidate, even one that fails",
         steps: &[
             CONDITION_RECEIVED,
-            Step {
+            JobStep {
                 name: "the function and the fix are applied",
                 cntl: "SET BDY(TGT1).\nAPPLY SELECT(HBB1100,UA00013).",
                 report: "SET TGT1\nRC 00\nAPPLY TGT1\nHBB1100 FUNCTION FAILED\n  TEST J2\n  CAUSER HBB1100\n\
@@ -146,7 +146,7 @@ const CONDITIONAL_REQUISITES: &[Case] = &[
         shows: "without the function the requisite of an ++IF does not hold",
         steps: &[
             CONDITION_RECEIVED,
-            Step {
+            JobStep {
                 name: "the fix is applied",
                 cntl: "SET BDY(TGT1).\nAPPLY SELECT(UA00013).",
                 report: "SET TGT1\nRC 00\nAPPLY TGT1\nUA00013 PTF      APPLIED\nRC 00\n",

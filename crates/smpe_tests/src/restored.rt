@@ -2,12 +2,12 @@
 
 use crate::accepted::FUNCTION_ACCEPTED;
 use smpe_play::{
-    Case, FAILING, FUNCTION_LISTED, JOB, LISTING, LISTING_TEXTS, RECEIVING, RIVAL_RECEIVED, Step,
-    play_installed,
+    Case, FAILING, FUNCTION_LISTED, JOB, JobStep, LISTING, LISTING_TEXTS, RECEIVING,
+    RIVAL_RECEIVED, play_installed,
 };
 use std::test::Fail;
 
-const REPLACEMENT_RECEIVED: Step = Step {
+const REPLACEMENT_RECEIVED: JobStep = JobStep {
     name: "a fix that replaces the macro comes in",
     ptfin: &[
         "++PTF(UA00017).\n++VER(Z038) FMID(HAA1100).\n++MAC(M1) DISTLIB(AMACLIB) SYSLIB(MACLIB).\n\
@@ -17,7 +17,7 @@ const REPLACEMENT_RECEIVED: Step = Step {
     ..RECEIVING
 };
 
-const REPLACEMENT_INSTALLED: Step = Step {
+const REPLACEMENT_INSTALLED: JobStep = JobStep {
     name: "it is applied",
     cntl: "SET BDY(TGT1).\nAPPLY SELECT(UA00017).",
     report: "SET TGT1\nRC 00\nAPPLY TGT1\nUA00017 PTF      APPLIED\nRC 00\n",
@@ -30,7 +30,7 @@ const LEVELS: &[Case] = &[
         steps: &[
             REPLACEMENT_RECEIVED,
             REPLACEMENT_INSTALLED,
-            Step {
+            JobStep {
                 name: "the fix is restored",
                 cntl: "SET BDY(TGT1).\nRESTORE SELECT(UA00017).",
                 report: "SET TGT1\nRC 00\nRESTORE TGT1\nUA00017 PTF      FAILED\n  NEED ELEM HAA1100\n\
@@ -44,14 +44,14 @@ const LEVELS: &[Case] = &[
         steps: &[
             REPLACEMENT_RECEIVED,
             REPLACEMENT_INSTALLED,
-            Step {
+            JobStep {
                 name: "both are restored",
                 cntl: "SET BDY(TGT1).\nRESTORE SELECT(HAA1100,UA00017).",
                 report: "SET TGT1\nRC 00\nRESTORE TGT1\nHAA1100 FUNCTION RESTORED\nUA00017 PTF      RESTORED\n\
                     RC 00\n",
                 ..JOB
             },
-            Step {
+            JobStep {
                 report: "SET TGT1\nRC 00\nLIST TGT1\nRC 00\n",
                 ..LISTING
             },
@@ -63,13 +63,13 @@ const LEVELS: &[Case] = &[
             REPLACEMENT_RECEIVED,
             REPLACEMENT_INSTALLED,
             FUNCTION_ACCEPTED,
-            Step {
+            JobStep {
                 name: "the fix is restored",
                 cntl: "SET BDY(TGT1).\nRESTORE SELECT(UA00017).",
                 report: "SET TGT1\nRC 00\nRESTORE TGT1\nUA00017 PTF      RESTORED\nRC 00\n",
                 ..JOB
             },
-            Step {
+            JobStep {
                 report: "SET TGT1\nRC 00\nLIST TGT1\nENTRY HAA1100 APPLIED 24.138 SUPBY - DELBY - WAIVED -\n\
                     ELEM MAC   M1       FMID HAA1100 RMID HAA1100 UMID - DISTLIB AMACLIB SYSLIB MACLIB\n\
                     \x20          MACRO                                                          00000010\n\
@@ -84,13 +84,13 @@ const LEVELS: &[Case] = &[
             REPLACEMENT_RECEIVED,
             REPLACEMENT_INSTALLED,
             RIVAL_RECEIVED,
-            Step {
+            JobStep {
                 name: "the rival is restored with GROUP",
                 cntl: "SET BDY(TGT1).\nRESTORE GROUP(UA00020).",
                 report: "SET TGT1\nRC 00\nRESTORE TGT1\nUA00020 PTF      NOTAPPLIED\nRC 08\n",
                 ..FAILING
             },
-            Step {
+            JobStep {
                 report: "SET TGT1\nRC 00\nLIST TGT1\nENTRY HAA1100 APPLIED 24.138 SUPBY - DELBY - WAIVED -\n\
                     ENTRY UA00017 APPLIED 24.138 SUPBY - DELBY - WAIVED -\n\
                     ELEM MAC   M1       FMID HAA1100 RMID UA00017 UMID - DISTLIB AMACLIB SYSLIB MACLIB\n\
@@ -106,7 +106,7 @@ fn a_macro_goes_back_to_its_accepted_level(rt: HostRuntime) -> Result<(), Fail> 
     play_installed(rt.alloc(), LEVELS)
 }
 
-const PAIR_RECEIVED: Step = Step {
+const PAIR_RECEIVED: JobStep = JobStep {
     name: "a fix comes in, and one that requires it",
     ptfin: &[
         "++PTF(UA00021).\n++VER(Z038) FMID(HAA1100).",
@@ -116,7 +116,7 @@ const PAIR_RECEIVED: Step = Step {
     ..RECEIVING
 };
 
-const PAIR_INSTALLED: Step = Step {
+const PAIR_INSTALLED: JobStep = JobStep {
     name: "both are applied",
     cntl: "SET BDY(TGT1).\nAPPLY SELECT(UA00021,UA00022).",
     report: "SET TGT1\nRC 00\nAPPLY TGT1\nUA00021 PTF      APPLIED\nUA00022 PTF      APPLIED\nRC 00\n",
@@ -129,7 +129,7 @@ const DEPENDENTS: &[Case] = &[
         steps: &[
             PAIR_RECEIVED,
             PAIR_INSTALLED,
-            Step {
+            JobStep {
                 name: "the required fix is restored",
                 cntl: "SET BDY(TGT1).\nRESTORE SELECT(UA00021).",
                 report: "SET TGT1\nRC 00\nRESTORE TGT1\nUA00021 PTF      FAILED\n  NEED DEP UA00022\n\
@@ -143,7 +143,7 @@ const DEPENDENTS: &[Case] = &[
         steps: &[
             PAIR_RECEIVED,
             PAIR_INSTALLED,
-            Step {
+            JobStep {
                 name: "the required fix is restored with GROUP",
                 cntl: "SET BDY(TGT1).\nRESTORE GROUP(UA00021).",
                 report: "SET TGT1\nRC 00\nRESTORE TGT1\nUA00021 PTF      RESTORED\nUA00022 PTF      RESTORED\n\
@@ -158,13 +158,13 @@ const DEPENDENTS: &[Case] = &[
         steps: &[
             PAIR_RECEIVED,
             PAIR_INSTALLED,
-            Step {
+            JobStep {
                 name: "the function and the fix are accepted",
                 cntl: "SET BDY(DLB1).\nACCEPT SELECT(HAA1100,UA00021).",
                 report: "SET DLB1\nRC 00\nACCEPT DLB1\nHAA1100 FUNCTION ACCEPTED\nUA00021 PTF      ACCEPTED\nRC 00\n",
                 ..JOB
             },
-            Step {
+            JobStep {
                 name: "the fix is restored",
                 cntl: "SET BDY(TGT1).\nRESTORE SELECT(UA00021).",
                 report: "SET TGT1\nRC 00\nRESTORE TGT1\nUA00021 PTF      FAILED\n  TEST J10\n  NEED DEP UA00022\n\
@@ -184,7 +184,7 @@ const EMPTIED: &[Case] = &[Case {
     shows: "what is superseded, and deleted where it was accepted, can be restored until the zone is empty",
     steps: &[
         FUNCTION_ACCEPTED,
-        Step {
+        JobStep {
             name: "a fix, its superseder and a deleting function come in",
             ptfin: &[
                 "++PTF(UA00011).\n++VER(Z038) FMID(HAA1100).",
@@ -195,7 +195,7 @@ const EMPTIED: &[Case] = &[Case {
                 HCC1200 FUNCTION RECEIVED\nRC 00\n",
             ..RECEIVING
         },
-        Step {
+        JobStep {
             name: "the fix is applied, and then its superseder",
             cntl: "SET BDY(TGT1).\nAPPLY SELECT(UA00011).\nAPPLY SELECT(UA00012).\nLIST.",
             report: "SET TGT1\nRC 00\nAPPLY TGT1\nUA00011 PTF      APPLIED\nRC 00\nAPPLY TGT1\n\
@@ -205,7 +205,7 @@ const EMPTIED: &[Case] = &[Case {
                 ELEM MAC   M1       FMID HAA1100 RMID HAA1100 UMID - DISTLIB AMACLIB SYSLIB MACLIB\nRC 00\n",
             ..JOB
         },
-        Step {
+        JobStep {
             name: "the function is deleted where it was accepted",
             cntl: "SET BDY(DLB1).\nACCEPT SELECT(HCC1200) BYPASS(APPLYCHECK).\nLIST.",
             report: "SET DLB1\nRC 00\nACCEPT DLB1\nHCC1200 FUNCTION ACCEPTED\nRC 00\nLIST DLB1\n\
@@ -213,7 +213,7 @@ const EMPTIED: &[Case] = &[Case {
                 ENTRY HCC1200 ACCEPTED 24.138 SUPBY - DELBY - WAIVED -\nRC 00\n",
             ..JOB
         },
-        Step {
+        JobStep {
             name: "all is restored with GROUP",
             cntl: "SET BDY(TGT1).\nRESTORE GROUP(HAA1100).\nLIST.",
             report: "SET TGT1\nRC 00\nRESTORE TGT1\nHAA1100 FUNCTION RESTORED\nUA00011 PTF      RESTORED\n\

@@ -1,9 +1,9 @@
 //! What an APPLY chooses.
 
-use smpe_play::{Case, FAILING, JOB, LISTING, RECEIVING, Step, play_installed};
+use smpe_play::{Case, FAILING, JOB, JobStep, LISTING, RECEIVING, play_installed};
 use std::test::Fail;
 
-const EXTENSION_RECEIVED: Step = Step {
+const EXTENSION_RECEIVED: JobStep = JobStep {
     name: "a fix comes in, and one that supersedes its prerequisite",
     ptfin: &[
         "++PTF(UA00007).\n++VER(Z038) FMID(HAA1100) PRE(UA00008).",
@@ -18,13 +18,13 @@ const EXTENSIONS: &[Case] = &[
         shows: "GROUPEXTEND brings in who supersedes a prerequisite that is missing",
         steps: &[
             EXTENSION_RECEIVED,
-            Step {
+            JobStep {
                 name: "the fix is applied with GROUPEXTEND",
                 cntl: "SET BDY(TGT1).\nAPPLY SELECT(UA00007) GROUPEXTEND.",
                 report: "SET TGT1\nRC 00\nAPPLY TGT1\nUA00007 PTF      APPLIED\nUA00010 PTF      APPLIED\nRC 00\n",
                 ..JOB
             },
-            Step {
+            JobStep {
                 report: "SET TGT1\nRC 00\nLIST TGT1\nENTRY HAA1100 APPLIED 24.138 SUPBY - DELBY - WAIVED -\n\
                     ENTRY UA00007 APPLIED 24.138 SUPBY - DELBY - WAIVED -\n\
                     ENTRY UA00008 - SUPBY UA00010 DELBY - WAIVED -\n\
@@ -38,7 +38,7 @@ const EXTENSIONS: &[Case] = &[
         shows: "GROUP alone brings in no superseder",
         steps: &[
             EXTENSION_RECEIVED,
-            Step {
+            JobStep {
                 name: "the fix is applied with GROUP",
                 cntl: "SET BDY(TGT1).\nAPPLY GROUP(UA00007).",
                 report: "SET TGT1\nRC 00\nAPPLY TGT1\nUA00007 PTF      FAILED\n  NEED PRE UA00008\n\
@@ -50,7 +50,7 @@ const EXTENSIONS: &[Case] = &[
     Case {
         shows: "GROUPEXTEND goes on from what it has brought in",
         steps: &[
-            Step {
+            JobStep {
                 name: "three come in, of which two supersede a prerequisite",
                 ptfin: &[
                     "++PTF(UA00033).\n++VER(Z038) FMID(HAA1100) PRE(UA00034).",
@@ -61,7 +61,7 @@ const EXTENSIONS: &[Case] = &[
                     UA00037 PTF      RECEIVED\nRC 00\n",
                 ..RECEIVING
             },
-            Step {
+            JobStep {
                 name: "the first is applied with GROUPEXTEND",
                 cntl: "SET BDY(TGT1).\nAPPLY SELECT(UA00033) GROUPEXTEND.",
                 report: "SET TGT1\nRC 00\nAPPLY TGT1\nUA00033 PTF      APPLIED\nUA00035 PTF      APPLIED\n\
@@ -81,7 +81,7 @@ const CHOICES: &[Case] = &[
     Case {
         shows: "a type chooses all open SYSMODs of it beside the selected ids",
         steps: &[
-            Step {
+            JobStep {
                 name: "an APAR, a function and a PTF come in",
                 ptfin: &[
                     "++APAR(AA00028).\n++VER(Z038) FMID(HAA1100).",
@@ -92,7 +92,7 @@ const CHOICES: &[Case] = &[
                     UA00027 PTF      RECEIVED\nRC 00\n",
                 ..RECEIVING
             },
-            Step {
+            JobStep {
                 name: "the function and all APARs are applied",
                 cntl: "SET BDY(TGT1).\nAPPLY SELECT(HBB1100) APARS.",
                 report: "SET TGT1\nRC 00\nAPPLY TGT1\nAA00028 APAR     APPLIED\nHBB1100 FUNCTION APPLIED\nRC 00\n",
@@ -103,13 +103,13 @@ const CHOICES: &[Case] = &[
     Case {
         shows: "what is excluded is not chosen, and has no line",
         steps: &[
-            Step {
+            JobStep {
                 name: "a PTF comes in",
                 ptfin: &["++PTF(UA00027).\n++VER(Z038) FMID(HAA1100)."],
                 report: "SET GLOBAL\nRC 00\nRECEIVE GLOBAL\nUA00027 PTF      RECEIVED\nRC 00\n",
                 ..RECEIVING
             },
-            Step {
+            JobStep {
                 name: "all but it is applied",
                 cntl: "SET BDY(TGT1).\nAPPLY EXCLUDE(UA00027).",
                 report: "SET TGT1\nRC 00\nAPPLY TGT1\nNOTHING\nRC 04\n",

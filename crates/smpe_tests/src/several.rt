@@ -1,12 +1,12 @@
 //! Service for several functions of one SREL.
 
 use smpe_play::{
-    Case, FAILING, FUNCTION_RECEIVED, JOB, RECEIVING, Step, play_cases, play_installed,
+    Case, FAILING, FUNCTION_RECEIVED, JOB, JobStep, RECEIVING, play_cases, play_installed,
 };
 use std::test::Fail;
 
 // The fix requires one that is not there where it serves the second function.
-const FOR_BOTH_RECEIVED: Step = Step {
+const FOR_BOTH_RECEIVED: JobStep = JobStep {
     name: "a second function comes in, and a fix for both",
     ptfin: &[
         "++FUNCTION(HEE1300).\n++VER(Z038).",
@@ -16,7 +16,7 @@ const FOR_BOTH_RECEIVED: Step = Step {
     ..RECEIVING
 };
 
-const SECOND_INSTALLED: Step = Step {
+const SECOND_INSTALLED: JobStep = JobStep {
     name: "the second function is applied",
     cntl: "SET BDY(TGT1).\nAPPLY SELECT(HEE1300).",
     report: "SET TGT1\nRC 00\nAPPLY TGT1\nHEE1300 FUNCTION APPLIED\nRC 00\n",
@@ -28,7 +28,7 @@ const MACRO_FOR_BOTH: &str =
     "++PTF(UA00042).\n++VER(Z038) FMID(HAA1100).\n++VER(Z038) FMID(HEE1300).\n\
         ++MAC(M2) DISTLIB(AMACLIB) SYSLIB(MACLIB).\n         MACRO 42\t00000010";
 
-const LEVELS_RECEIVED: Step = Step {
+const LEVELS_RECEIVED: JobStep = JobStep {
     name: "a second function, a fix for both with a macro, and a later one for the first come in",
     ptfin: &[
         "++FUNCTION(HEE1300).\n++VER(Z038).",
@@ -46,7 +46,7 @@ const BESIDE_THE_FIRST: &[Case] = &[
         shows: "with the first function alone nothing is required",
         steps: &[
             FOR_BOTH_RECEIVED,
-            Step {
+            JobStep {
                 name: "the fix is applied",
                 cntl: "SET BDY(TGT1).\nAPPLY SELECT(UA00040).",
                 report: "SET TGT1\nRC 00\nAPPLY TGT1\nUA00040 PTF      APPLIED\nRC 00\n",
@@ -58,7 +58,7 @@ const BESIDE_THE_FIRST: &[Case] = &[
         shows: "with the second one beside it nothing tells for which of them the fix is",
         steps: &[
             FOR_BOTH_RECEIVED,
-            Step {
+            JobStep {
                 name: "the second function and the fix are applied",
                 cntl: "SET BDY(TGT1).\nAPPLY SELECT(HEE1300,UA00040).",
                 report: "SET TGT1\nRC 00\nAPPLY TGT1\nHEE1300 FUNCTION APPLIED\nUA00040 PTF      FAILED\n\
@@ -71,26 +71,26 @@ const BESIDE_THE_FIRST: &[Case] = &[
         shows: "the macro can not go back to a level that was accepted for the other function",
         steps: &[
             LEVELS_RECEIVED,
-            Step {
+            JobStep {
                 name: "the fix for both is applied",
                 cntl: "SET BDY(TGT1).\nAPPLY SELECT(UA00042).",
                 report: "SET TGT1\nRC 00\nAPPLY TGT1\nUA00042 PTF      APPLIED\nRC 00\n",
                 ..JOB
             },
             SECOND_INSTALLED,
-            Step {
+            JobStep {
                 name: "the fix is accepted for the second function",
                 cntl: "SET BDY(DLB1).\nACCEPT SELECT(HEE1300,UA00042).",
                 report: "SET DLB1\nRC 00\nACCEPT DLB1\nHEE1300 FUNCTION ACCEPTED\nUA00042 PTF      ACCEPTED\nRC 00\n",
                 ..JOB
             },
-            Step {
+            JobStep {
                 name: "the later fix is applied",
                 cntl: "SET BDY(TGT1).\nAPPLY SELECT(UA00043).",
                 report: "SET TGT1\nRC 00\nAPPLY TGT1\nUA00043 PTF      APPLIED\nRC 00\n",
                 ..JOB
             },
-            Step {
+            JobStep {
                 name: "the later fix is restored",
                 cntl: "SET BDY(TGT1).\nRESTORE SELECT(UA00043).",
                 report: "SET TGT1\nRC 00\nRESTORE TGT1\nUA00043 PTF      FAILED\n  TEST J12\n  CAUSER UA00043\n\
@@ -106,7 +106,7 @@ fn the_ver_that_fits_counts(rt: HostRuntime) -> Result<(), Fail> {
     play_installed(rt.alloc(), BESIDE_THE_FIRST)
 }
 
-const FOR_THREE_RECEIVED: Step = Step {
+const FOR_THREE_RECEIVED: JobStep = JobStep {
     name: "three functions come in, a fix for each of them with other requisites, and the requisites",
     ptfin: &[
         "++FUNCTION(HAA1100).\n++VER(Z038).",
@@ -127,7 +127,7 @@ const FOR_THREE_RECEIVED: Step = Step {
 
 /// Where none of the functions is applied: the first counts where none is a candidate; GROUP brings in all three, and
 /// with them what all three require; a candidate alone decides.
-const BEFORE: Step = Step {
+const BEFORE: JobStep = JobStep {
     name: "the fix is looked at before any function is applied",
     cntl: "SET BDY(TGT1).\nAPPLY SELECT(UA00050) CHECK.\nAPPLY GROUP(UA00050) CHECK.\n\
         APPLY SELECT(HEE1300,UA00050) CHECK.",
@@ -141,7 +141,7 @@ const BEFORE: Step = Step {
 
 /// Where the third is: GROUP brings in what it requires, and no other function; FORFMID takes by any FMID; an `++IF`
 /// is that of its own `++VER`.
-const BESIDE_THE_THIRD: Step = Step {
+const BESIDE_THE_THIRD: JobStep = JobStep {
     name: "the fix is looked at beside the third function",
     cntl: "SET BDY(TGT1).\nAPPLY SELECT(HFF1400).\nAPPLY GROUP(UA00050) CHECK.\n\
         APPLY SELECT(HAA1100,UA00050,UA00052) CHECK.\nAPPLY PTFS FORFMID(HEE1300) CHECK.\n\
@@ -155,7 +155,7 @@ const BESIDE_THE_THIRD: Step = Step {
     ..FAILING
 };
 
-const ALL_RECEIVED: Step = Step {
+const ALL_RECEIVED: JobStep = JobStep {
     name: "functions, a fix for both with a macro, a later one, and a function that deletes both come in",
     ptfin: &[
         "++FUNCTION(HAA1100).\n++VER(Z038).",
@@ -177,7 +177,7 @@ const WITHOUT_THE_FIRST: &[Case] = &[
             FUNCTION_RECEIVED,
             FOR_BOTH_RECEIVED,
             SECOND_INSTALLED,
-            Step {
+            JobStep {
                 name: "the fix is applied",
                 cntl: "SET BDY(TGT1).\nAPPLY SELECT(UA00040).",
                 report: "SET TGT1\nRC 00\nAPPLY TGT1\nUA00040 PTF      FAILED\n  NEED PRE UA00041\n\
@@ -195,7 +195,7 @@ const WITHOUT_THE_FIRST: &[Case] = &[
             goes back to the accepted level, and goes with the second function",
         steps: &[
             ALL_RECEIVED,
-            Step {
+            JobStep {
                 name: "the fix is applied and accepted for the second function",
                 cntl: "SET BDY(TGT1).\nAPPLY SELECT(HEE1300,UA00042).\nSET BDY(DLB1).\n\
                     ACCEPT SELECT(HEE1300,UA00042).",
@@ -203,7 +203,7 @@ const WITHOUT_THE_FIRST: &[Case] = &[
                     SET DLB1\nRC 00\nACCEPT DLB1\nHEE1300 FUNCTION ACCEPTED\nUA00042 PTF      ACCEPTED\nRC 00\n",
                 ..JOB
             },
-            Step {
+            JobStep {
                 name: "the first function comes beside it, and a later fix comes and goes",
                 cntl: "SET BDY(TGT1).\nAPPLY SELECT(HAA1100).\nAPPLY SELECT(UA00044).\nRESTORE SELECT(UA00044).\n\
                     LIST.",
@@ -215,7 +215,7 @@ const WITHOUT_THE_FIRST: &[Case] = &[
                     ELEM MAC   M2       FMID HEE1300 RMID UA00042 UMID - DISTLIB AMACLIB SYSLIB MACLIB\nRC 00\n",
                 ..JOB
             },
-            Step {
+            JobStep {
                 name: "both functions are deleted where they were accepted",
                 cntl: "SET BDY(DLB1).\nACCEPT SELECT(HCC1200) BYPASS(APPLYCHECK).\nLIST.",
                 report: "SET DLB1\nRC 00\nACCEPT DLB1\nHCC1200 FUNCTION ACCEPTED\nRC 00\nLIST DLB1\n\
@@ -224,7 +224,7 @@ const WITHOUT_THE_FIRST: &[Case] = &[
                     ENTRY HEE1300 - SUPBY - DELBY HCC1200 WAIVED -\nRC 00\n",
                 ..JOB
             },
-            Step {
+            JobStep {
                 name: "all is restored with GROUP",
                 cntl: "SET BDY(TGT1).\nRESTORE GROUP(HAA1100,HEE1300).\nLIST.",
                 report: "SET TGT1\nRC 00\nRESTORE TGT1\nHAA1100 FUNCTION RESTORED\nHEE1300 FUNCTION RESTORED\n\

@@ -7,11 +7,11 @@ use Rattle.machine.specs.Outcome.{NoZone}
 use Rattle.machine.specs.Report.{refused_text}
 use Rattle.store_schema.specs.Inventory.{Inventory}
 use Rattle.store_zones.specs.Found.{zone_in}
-use Rattle.smpe_why.specs.declared.found.Found.{Found}
+use Rattle.smpe_why.specs.declared.found.LoadedZones.{LoadedZones}
 use Rattle.smpe_why.specs.declared.told.Told.{Told}
 
 -- the global zone, and the zone of this name, if there is one
-abbrev pub IsFoundIn : Text → Inventory → Found → Type 0
+abbrev pub IsFoundIn : Text → Inventory → LoadedZones → Type 0
 IsFoundIn name i found = (found.global ≡ i.global) × (found.zone ≡ zone_in i name)
 
 -- The lines of the facts of these ids in the zone, and the status of the facts. Where there is no such zone, a refusal

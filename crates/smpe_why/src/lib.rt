@@ -8,6 +8,6 @@ mod found;
 mod law;
 mod told;
 
-pub use found::{Found, find};
+pub use found::{LoadedZones, find};
 pub use law::clear_is_applied;
 pub use told::{Told, tell};

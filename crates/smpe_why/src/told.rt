@@ -4,7 +4,7 @@ ghost use Rattle.machine.specs.Outcome.{NoZone};
 ghost use Rattle.machine.specs.Report.{refused_text};
 ghost use Rattle.smpe_why.specs.Telling.{IsTold};
 
-use crate::found::Found;
+use crate::found::LoadedZones;
 use fields::Id;
 use report_why::{facts_code, facts_of, facts_text};
 use std::alloc::{AllocError, Global};
@@ -19,7 +19,7 @@ pub struct Told {
 }
 
 /// Tells what is so of these ids, in their order, or that there is no such zone. The error comes where memory runs out.
-pub fn tell(alloc: Global, found: &Found, ids: &[Id]) -> Result<Told, AllocError>
+pub fn tell(alloc: Global, found: &LoadedZones, ids: &[Id]) -> Result<Told, AllocError>
     ensures { IfOk result (IsTold found.now.global found.now.zone ids.now) }
 {
     match &found.zone {

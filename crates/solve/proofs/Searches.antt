@@ -413,8 +413,8 @@ served_more seen d k old new place added so_far x j =
 pub start_room : (p : System) (stored : List StoredNeed) (k : ℕ) (n : StoredNeed) → map numbered stored ≡ p.needs
     → IsSystem p
     → p.size < 2 ^ 63 → length stored < 2 ^ 60
-    → k < length stored → n ≡ get_or stored k n → p.size + k + 2 * pairs_of (map numbered (take k stored)) +
-    (1 + 2 * length n.any.items) < 2 ^ 128
+    → k < length stored → n ≡ get_or stored k n → p.size + k + pairs_of (map numbered (take k stored)) +
+    (1 + length n.any.items) < 2 ^ 128
 start_room p stored k n maps valid small short below is =
     let all : pairs_of (map numbered stored) ≡ pairs_of p.needs = ap pairs_of maps in
     let few : length p.needs < 2 ^ 60 = omega (arith, ap length maps, length-map stored numbered, short) in

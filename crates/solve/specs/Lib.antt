@@ -7,5 +7,6 @@ pub mod Marks
 pub mod Board
 pub mod Rules
 pub mod System
+pub mod Refused
 pub mod Causes
 pub mod Least

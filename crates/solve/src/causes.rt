@@ -1,6 +1,6 @@
 //! The causers of each candidate that failed.
-ghost use Rattle.std.specs.Prelude.{◌≡◌, ◌<◌, ◌↔◌, ◌≤◌, ◌&&◌, ℕ, List, Bool, false, not, IfOk, OnOk, IsTrue, length};
-ghost use Rattle.std.specs.Prelude.{All, AllPairs, Contains};
+ghost use Rattle.std.specs.Prelude.{◌≡◌, ◌≢◌, ◌<◌, ◌↔◌, ◌≤◌, ◌&&◌, ℕ, List, [], Bool, false, not, IfOk, OnOk, IsTrue};
+ghost use Rattle.std.specs.Prelude.{All, AllPairs, Contains, length};
 ghost use Rattle.solve.specs.System.{System as ASystem, AreKept, holds};
 ghost use Rattle.solve.specs.Causes.{HasFailed, HasBareNeed, IsRoot, IsCauser, LeadsOn};
 ghost use Rattle.solve.specs.Rows.{row_at, times};
@@ -16,34 +16,34 @@ fn bare_needs(alloc: Global, s: &System) -> Result<Vec<bool>, AllocError>
     ensures size { IfOk result (λ bare. length bare.items ≡ s.now.size) }
     ensures exact { IfOk result (λ bare. (x : ℕ) → IsTrue (holds bare.items x) ↔ HasBareNeed s.now x) }
 {
-    let mut bare = vec![in alloc; false; s.size()]?;
+    let mut bare = vec![in alloc; false; s.size() as usize]?;
     for need in s.needs() {
         if need.any.is_empty() {
-            bare[need.of] = true;
+            bare[need.of as usize] = true;
         }
     }
     Ok(bare)
 }
 
 /// Whether a candidate has failed for a reason of its own: it is not eligible, or nobody serves a need of it.
-fn is_root(s: &System, kept: &[bool], bare: &[bool], x: usize) -> bool
+fn is_root(s: &System, kept: &[bool], bare: &[bool], x: u32) -> bool
     requires x { x < s.now.size }
     requires kept { length kept.now ≡ s.now.size }
     requires bare { length bare.now ≡ s.now.size }
     requires exact { (y : ℕ) → IsTrue (holds bare.now y) ↔ HasBareNeed s.now y }
     ensures { IsTrue result ↔ IsRoot s.now kept.now x }
 {
-    !kept[x] && (!s.eligible()[x] || bare[x])
+    !kept[x as usize] && (!s.eligible()[x as usize] || bare[x as usize])
 }
 
 /// For each candidate those that lead to it.
-fn leads_to(alloc: Global, s: &System, kept: &[bool]) -> Result<Vec<Vec<usize>>, AllocError>
+fn leads_to(alloc: Global, s: &System, kept: &[bool]) -> Result<Vec<Vec<u32>>, AllocError>
     requires { length kept.now ≡ s.now.size }
     ensures { IfOk result (λ leads. AreLeads s.now kept.now leads.items) }
 {
     let mut leads = empty_rows(alloc, s.size())?;
     for need in s.needs() {
-        if !kept[need.of] && !serves(kept, &need.any) {
+        if !kept[need.of as usize] && !serves(kept, &need.any) {
             add_under(&mut leads, &need.any, need.of)?;
         }
     }
@@ -51,13 +51,13 @@ fn leads_to(alloc: Global, s: &System, kept: &[bool]) -> Result<Vec<Vec<usize>>,
 }
 
 /// Marks the members of a row, and adds to the list those that were not marked.
-fn mark_row(row: &[usize], marks: &mut [bool], list: &mut Vec<usize>) -> Result<(), AllocError>
+fn mark_row(row: &[u32], marks: &mut [bool], list: &mut Vec<u32>) -> Result<(), AllocError>
     requires { All (λ x. x < length marks.old) row.now }
     ensures { OnOk result (IsMarked row.now marks.old marks.new list.old.items list.new.items) }
 {
     for x in row {
-        if !marks[*x] {
-            marks[*x] = true;
+        if !marks[*x as usize] {
+            marks[*x as usize] = true;
             list.push(*x)?;
         }
     }
@@ -65,22 +65,22 @@ fn mark_row(row: &[usize], marks: &mut [bool], list: &mut Vec<usize>) -> Result<
 }
 
 /// Takes the marks of a list away.
-fn clear(marks: &mut [bool], list: &[usize])
+fn clear(marks: &mut [bool], list: &[u32])
     requires { All (λ x. x < length marks.old) list.now }
     ensures { (x : ℕ) → holds marks.new x ≡ (holds marks.old x && not (is_in list.now x)) }
 {
     for x in list {
-        marks[*x] = false;
+        marks[*x as usize] = false;
     }
 }
 
 /// The candidates that reach y, each once: a search from y backwards.
 fn reaching(
     alloc: Global,
-    leads: &[Vec<usize>],
-    y: usize,
+    leads: &[Vec<u32>],
+    y: u32,
     marks: &mut [bool],
-) -> Result<Vec<usize>, AllocError>
+) -> Result<Vec<u32>, AllocError>
     requires y { y < length leads.now }
     requires marks { length marks.old ≡ length leads.now }
     requires clear { AreClear marks.old }
@@ -93,35 +93,38 @@ fn reaching(
 {
     let mut list = Vec::new(alloc);
     list.push(y)?;
-    marks[y] = true;
+    marks[y as usize] = true;
     let mut next = 0;
     while next < list.len() {
         let z = list[next];
         next += 1;
-        mark_row(&leads[z], marks, &mut list)?;
+        mark_row(&leads[z as usize], marks, &mut list)?;
     }
     clear(marks, &list);
     Ok(list)
 }
 
-/// For each candidate its causers, rising: the roots that it reaches. One that is kept has none. The error comes where
-/// memory runs out.
-pub fn causers(alloc: Global, s: &System, kept: &Kept) -> Result<Vec<Vec<usize>>, AllocError>
-    requires { length kept.now ≡ s.now.size }
+/// For each candidate its causers, rising: the roots that it reaches. A kept candidate has none, and nobody has any if
+/// the set is that of a system of another size.
+pub fn causers(alloc: Global, s: &System, kept: &Kept) -> Result<Vec<Vec<u32>>, AllocError>
     ensures size { IfOk result (λ rows. length rows.items ≡ s.now.size) }
-    ensures exact { IfOk result (λ rows. (x y : ℕ) →
+    ensures exact { IfOk result (λ rows. length kept.now ≡ s.now.size → (x y : ℕ) →
         Contains (row_at rows.items x) y ↔ IsCauser s.now kept.now x y) }
+    ensures other { IfOk result (λ rows. length kept.now ≢ s.now.size → (x : ℕ) → row_at rows.items x ≡ []) }
     ensures rising { IfOk result (λ rows. (x : ℕ) → AllPairs (λ a b. a < b) (row_at rows.items x)) }
 
-    // Where the set is the greatest, each failure has a cause.
+    // If the set is the greatest, each failure has a cause.
     ensures some { IfOk result (λ rows. AreKept s.now kept.now →
         (x : ℕ) → HasFailed s.now kept.now x → (y : ℕ) × IsCauser s.now kept.now x y) }
 {
+    let mut rows = empty_rows(alloc, s.size())?;
+    if kept.size() != s.size() {
+        return Ok(rows);
+    }
     let flags = kept.flags();
     let bare = bare_needs(alloc, s)?;
     let leads = leads_to(alloc, s, flags)?;
-    let mut marks = vec![in alloc; false; s.size()]?;
-    let mut rows = empty_rows(alloc, s.size())?;
+    let mut marks = vec![in alloc; false; s.size() as usize]?;
     for y in 0..s.size() {
         if is_root(s, flags, &bare, y) {
             let list = reaching(alloc, &leads, y, &mut marks)?;

@@ -4,6 +4,7 @@ ghost use Rattle.std.specs.Prelude.{not};
 ghost use Rattle.solve.specs.Least.{IsRule, IsLeast};
 ghost use Rattle.solve.specs.Rules.{as_rule};
 
+use crate::error::SystemError;
 use crate::solver::Solver;
 use crate::system::{Need, System};
 use crate::worklist::Worklist;
@@ -13,8 +14,8 @@ use std::marker::Model;
 /// Once a set holds all of `these`, it holds `that`.
 #[derive(Drop)]
 pub struct Rule {
-    pub these: Vec<usize>,
-    pub that: usize,
+    pub these: Vec<u32>,
+    pub that: u32,
 }
 
 /// The numbers that a set starts with, and the rules by which it grows.
@@ -45,27 +46,24 @@ fn turned(alloc: Global, flags: &[bool]) -> Result<Vec<bool>, AllocError>
 }
 
 impl Rules {
-    /// A set of numbers below `start.len()` that starts with the flagged ones, and no rules yet. The error comes where
-    /// memory runs out.
-    pub fn new(alloc: Global, start: &[bool]) -> Result<Rules, AllocError>
+    /// A set of numbers below `start.len()` that starts with the flagged ones, and no rules yet.
+    pub fn new(alloc: Global, start: &[bool]) -> Result<Rules, SystemError>
         ensures { IfOk result (λ rules. rules ≡ record { start = start.now; rules = [] }) }
     {
         let eligible = turned(alloc, start)?;
-        Ok(Rules {
-            outside: System::new(alloc, eligible),
-        })
+        let outside = System::new(alloc, eligible)?;
+        Ok(Rules { outside })
     }
 
     /// How many numbers there are.
-    pub fn size(&self) -> usize
+    pub fn size(&self) -> u32
         ensures { result ≡ length self.now.start }
     {
         self.outside.size()
     }
 
-    /// Adds a number, the next one, and whether the set starts with it. The error comes where memory runs out, and
-    /// changes nothing.
-    pub fn add_number(&mut self, starts: bool) -> Result<(), AllocError>
+    /// Adds a number, the next one, and whether the set starts with it. An error changes nothing.
+    pub fn add_number(&mut self, starts: bool) -> Result<(), SystemError>
         ensures ok { OnOk result (self.new ≡ record self.old { start = self.old.start ++ starts ∷ [] }) }
         ensures err { OnErr result (self.new ≡ self.old) }
     {
@@ -73,13 +71,13 @@ impl Rules {
     }
 
     /// Whether a rule may be added: it is about numbers that are there, and its list rises.
-    pub fn admits(&self, these: &[usize], that: usize) -> bool
+    pub fn admits(&self, these: &[u32], that: u32) -> bool
         ensures { IsTrue result ↔ IsRule (length self.now.start) (record { these = these.now; that = that }) }
     {
         self.outside.admits(that, these)
     }
 
-    /// Adds a rule. `admits` tests what is asked of it. The error comes where memory runs out, and changes nothing.
+    /// Adds a rule. `admits` tests what is asked of it. An error changes nothing.
     pub fn add_rule(&mut self, rule: Rule) -> Result<(), AllocError>
         requires { IsRule (length self.old.start) (as_rule rule) }
         ensures ok { OnOk result (self.new ≡ record self.old { rules = self.old.rules ++ as_rule rule ∷ [] }) }
@@ -92,7 +90,7 @@ impl Rules {
     }
 }
 
-/// The least set that holds its start and is closed under the rules. The error comes where memory runs out.
+/// The least set that holds its start and is closed under the rules.
 pub fn least(alloc: Global, rules: &Rules) -> Result<Vec<bool>, AllocError>
     ensures { IfOk result (λ set. IsLeast rules.now set.items) }
 {

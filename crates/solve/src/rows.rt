@@ -4,8 +4,8 @@ ghost use Rattle.solve.specs.Rows.{row_at, times};
 
 use std::alloc::{AllocError, Global};
 
-/// So many rows with no member. The error comes where memory runs out.
-pub fn empty_rows<T: Copy>(alloc: Global, n: usize) -> Result<Vec<Vec<T>>, AllocError>
+/// So many rows with no member.
+pub fn empty_rows<T: Copy>(alloc: Global, n: u32) -> Result<Vec<Vec<T>>, AllocError>
     ensures size { IfOk result (λ rows. length rows.items ≡ n) }
     ensures empty { IfOk result (λ rows. (x : ℕ) → row_at rows.items x ≡ []) }
 {
@@ -16,14 +16,17 @@ pub fn empty_rows<T: Copy>(alloc: Global, n: usize) -> Result<Vec<Vec<T>>, Alloc
     Ok(rows)
 }
 
-/// Adds a value to the row of each number of the list, as often as the number stands there. The error comes where
-/// memory runs out.
-pub fn add_under<T: Copy>(rows: &mut [Vec<T>], list: &[usize], value: T) -> Result<(), AllocError>
+/// Adds a value to the row of each number of the list, as often as the list has the number.
+pub(crate) fn add_under<T: Copy>(
+    rows: &mut [Vec<T>],
+    list: &[u32],
+    value: T,
+) -> Result<(), AllocError>
     requires { All (λ y. y < length rows.old) list.now }
     ensures { OnOk result ((x : ℕ) → row_at rows.new x ≡ row_at rows.old x ++ replicate (times x list.now) value) }
 {
     for y in list {
-        rows[*y].push(value)?;
+        rows[*y as usize].push(value)?;
     }
     Ok(())
 }

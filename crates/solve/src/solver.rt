@@ -8,7 +8,7 @@ use std::alloc::{AllocError, Global};
 
 /// Gives the kept set of a system.
 pub trait Solver {
-    /// The union of all self-supporting sets. The error comes where memory runs out.
+    /// The union of all self-supporting sets.
     fn greatest(&self, alloc: Global, s: &System) -> Result<Kept, AllocError>
         ensures { IfOk result (λ kept. AreKept s.now kept) };
 }

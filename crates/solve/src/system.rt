@@ -1,21 +1,24 @@
 //! The numbered system: candidates, which of them are eligible, and their needs.
-ghost use Rattle.std.specs.Prelude.{◌≡◌, ◌<◌, ◌+◌, ◌++◌, ◌∷◌, [], ◌↔◌, length, map, All, AllPairs, OnOk, OnErr};
-ghost use Rattle.std.specs.Prelude.{IsTrue};
+ghost use Rattle.std.specs.Prelude.{◌≡◌, ◌<◌, ◌≤◌, ◌+◌, ◌^◌, ◌++◌, ◌∷◌, [], ◌↔◌, length, map, All, AllPairs};
+ghost use Rattle.std.specs.Prelude.{IfOk, IfErr, IsErrAnd, OnOk, OnErr, IsTrue};
 ghost use Rattle.solve.specs.NeedView.{numbered};
 ghost use Rattle.solve.specs.System.{IsNeed, IsSystem};
+ghost use Rattle.solve.specs.Refused.{IsRefused};
+ghost use Rattle.solve.specs.declared.error.SystemError.TheVariants.{TooMany};
 
+use crate::error::SystemError;
 use std::alloc::{AllocError, Global};
 use std::marker::Model;
 
 /// One need of the candidate `of`: each number in `any` serves it.
 #[derive(Drop)]
 pub struct Need {
-    pub of: usize,
-    pub any: Vec<usize>,
+    pub of: u32,
+    pub any: Vec<u32>,
 }
 
 /// Whether each number is above the one before it.
-fn rises(list: &[usize]) -> bool
+fn rises(list: &[u32]) -> bool
     ensures { IsTrue result ↔ AllPairs (λ a b. a < b) list.now }
 {
     for i in 1..list.len() {
@@ -26,10 +29,24 @@ fn rises(list: &[usize]) -> bool
     true
 }
 
+/// Whether a system of so many candidates admits the need.
+fn is_need(size: u32, of: u32, any: &[u32]) -> bool
+    ensures { IsTrue result ↔ IsNeed size (record { of = of; any = any.now }) }
+{
+    of < size && any.iter().all(|y| *y < size) && rises(any)
+}
+
+/// Whether a system of so many candidates admits all the needs.
+fn are_needs(size: u32, needs: &[Need]) -> bool
+    ensures { IsTrue result ↔ All (λ need. IsNeed size (numbered need)) needs.now }
+{
+    needs.iter().all(|need| is_need(size, need.of, &need.any))
+}
+
 /// Candidates below a number, which of them are eligible, and what they need.
 #[derive(Drop)]
 pub struct System {
-    size: usize,
+    size: u32,
     eligible: Vec<bool>,
     needs: Vec<Need>,
 }
@@ -48,18 +65,41 @@ impl Model for System {
 
 impl System {
     /// A system with these flags and no needs yet.
-    pub fn new(alloc: Global, eligible: Vec<bool>) -> System
-        ensures { result ≡ record { size = length eligible.items; eligible = eligible.items; needs = [] } }
+    pub fn new(alloc: Global, eligible: Vec<bool>) -> Result<System, SystemError>
+        ensures ok { IfOk result (λ s. s ≡ record {
+          size = length eligible.items;
+          eligible = eligible.items;
+          needs = [];
+        }) }
+        ensures err { IfErr result (IsRefused (length eligible.items) []) }
     {
-        System {
-            size: eligible.len(),
-            eligible,
-            needs: Vec::new(alloc),
+        System::from_needs(eligible, Vec::new(alloc))
+    }
+
+    /// A system with these flags and needs.
+    pub fn from_needs(eligible: Vec<bool>, needs: Vec<Need>) -> Result<System, SystemError>
+        ensures ok { IfOk result (λ s. s ≡ record {
+          size = length eligible.items;
+          eligible = eligible.items;
+          needs = map numbered needs.items;
+        }) }
+        ensures err { IfErr result (IsRefused (length eligible.items) (map numbered needs.items)) }
+    {
+        let Ok(size) = u32::try_from(eligible.len()) else {
+            return Err(SystemError::TooMany);
+        };
+        if !are_needs(size, &needs) {
+            return Err(SystemError::BadNeed);
         }
+        Ok(System {
+            size,
+            eligible,
+            needs,
+        })
     }
 
     /// How many candidates there are.
-    pub fn size(&self) -> usize
+    pub fn size(&self) -> u32
         ensures size { result ≡ self.now.size }
         ensures valid { IsSystem self.now }
     {
@@ -82,28 +122,32 @@ impl System {
         &self.needs
     }
 
-    /// Adds a candidate, the next number, with no need yet. The error comes where memory runs out, and changes nothing.
-    pub fn add_candidate(&mut self, eligible: bool) -> Result<(), AllocError>
+    /// Adds a candidate, the next number, with no need yet. An error changes nothing.
+    pub fn add_candidate(&mut self, eligible: bool) -> Result<(), SystemError>
         ensures ok { OnOk result (self.new ≡ record {
           size = self.old.size + 1;
           eligible = self.old.eligible ++ eligible ∷ [];
           needs = self.old.needs;
         }) }
         ensures err { OnErr result (self.new ≡ self.old) }
+        ensures many { IsErrAnd result (λ e. e ≡ TooMany) ↔ (2 ^ 32 ≤ self.old.size + 1) }
     {
+        let Some(size) = self.size.checked_add(1) else {
+            return Err(SystemError::TooMany);
+        };
         self.eligible.push(eligible)?;
-        self.size += 1;
+        self.size = size;
         Ok(())
     }
 
     /// Whether a need may be added: it is about candidates, and its list rises.
-    pub fn admits(&self, of: usize, any: &[usize]) -> bool
+    pub fn admits(&self, of: u32, any: &[u32]) -> bool
         ensures { IsTrue result ↔ IsNeed self.now.size (record { of = of; any = any.now }) }
     {
-        of < self.size && any.iter().all(|y| *y < self.size) && rises(any)
+        is_need(self.size, of, any)
     }
 
-    /// Adds a need. `admits` tests what is asked of it. The error comes where memory runs out, and changes nothing.
+    /// Adds a need. `admits` tests what is asked of it. An error changes nothing.
     pub fn add_need(&mut self, need: Need) -> Result<(), AllocError>
         requires { IsNeed self.old.size (numbered need) }
         ensures ok { OnOk result (self.new

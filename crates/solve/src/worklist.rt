@@ -1,10 +1,10 @@
 //! The kept set by following each candidate that falls, with a count of the work.
-ghost use Rattle.std.specs.Prelude.{◌≡◌, ◌<◌, ◌≤◌, ◌+◌, ◌*◌, ◌^◌, ◌∷◌, [], ℕ, List, IfOk, length, All};
-ghost use Rattle.std.specs.Prelude.{count_by};
+ghost use Rattle.std.specs.Prelude.{◌≡◌, ◌<◌, ◌≤◌, ◌+◌, ◌^◌, ◌++◌, ◌∷◌, [], ℕ, List, IfOk, OnOk, length, All};
+ghost use Rattle.std.specs.Prelude.{count_by, replicate};
 ghost use Rattle.solve.specs.System.{AreKept, holds, pairs_of, strikes_of, most_turns};
 ghost use Rattle.solve.specs.Board.{AreServed, AtRest, SettledBelow, IsDrop, open_in};
+ghost use Rattle.solve.specs.Rows.{row_at, times};
 
-use crate::rows::{add_under, empty_rows};
 use crate::sets::Kept;
 use crate::solver::Solver;
 use crate::system::System;
@@ -15,7 +15,7 @@ use std::alloc::{AllocError, Global};
 pub struct Count {
     /// How often the count of a need's living members was lowered.
     pub strikes: u128,
-    /// How often a loop went through its body; each item that an iterator gives is such a pass.
+    /// How often a loop went through its body, also while the needs were indexed.
     pub turns: u128,
 }
 
@@ -29,21 +29,13 @@ pub struct Worklist;
 struct Board {
     standing: Vec<bool>,
     living: Vec<usize>,
-    dropped: Vec<usize>,
+    dropped: Vec<u32>,
     count: Count,
-}
-
-/// How many numbers of the list are eligible.
-fn count_living(eligible: &[bool], any: &[usize]) -> usize
-    requires { All (λ y. y < length eligible.now) any.now }
-    ensures { result ≡ count_by (holds eligible.now) any.now }
-{
-    any.iter().filter(|y| eligible[**y]).count()
 }
 
 impl Board {
     /// Drops a candidate, if it stands. There is room for all that may be dropped.
-    fn drop_candidate(&mut self, x: usize)
+    fn drop_candidate(&mut self, x: u32)
         requires x { x < length self.old.standing.items }
         requires room { open_in self.old ≤ self.old.dropped.cap }
         ensures drop { IsDrop x self.old.standing.items self.old.dropped.items self.new.standing.items
@@ -52,8 +44,8 @@ impl Board {
         ensures living { self.new.living ≡ self.old.living }
         ensures count { self.new.count ≡ self.old.count }
     {
-        if self.standing[x] {
-            self.standing[x] = false;
+        if self.standing[x as usize] {
+            self.standing[x as usize] = false;
             self.dropped.push_reserved(x);
         }
     }
@@ -124,43 +116,72 @@ impl Board {
     {
         while let Some(x) = self.dropped.pop() {
             self.count.turns += 1;
-            self.strike_row(s, &served[x]);
+            self.strike_row(s, &served[x as usize]);
         }
     }
+}
+
+/// Puts a need into the row of each candidate that serves it. How many of these are eligible.
+fn add_served(
+    eligible: &[bool],
+    any: &[u32],
+    need: usize,
+    served: &mut [Vec<usize>],
+    turns: &mut u128,
+) -> Result<usize, AllocError>
+    requires any { All (λ y. y < length eligible.now) any.now }
+    requires rows { length served.old ≡ length eligible.now }
+    requires room { turns.old + length any.now < 2 ^ 128 }
+    ensures rows { OnOk result ((x : ℕ) → row_at served.new x ≡ row_at served.old x
+        ++ replicate (times x any.now) need) }
+    ensures living { IfOk result (λ living. living ≡ count_by (holds eligible.now) any.now) }
+    ensures turns { OnOk result (turns.new ≡ turns.old + length any.now) }
+{
+    let mut living = 0;
+    for y in any {
+        *turns += 1;
+        served[*y as usize].push(need)?;
+        living += usize::from(eligible[*y as usize]);
+    }
+    Ok(living)
 }
 
 /// The board at the start, and for each candidate the needs that it serves.
 fn prepare(alloc: Global, s: &System) -> Result<(Board, Vec<Vec<usize>>), AllocError>
     ensures board { IfOk result (λ r. SettledBelow s.now 0 r.0) }
     ensures strikes { IfOk result (λ r. r.0.count.strikes ≡ 0) }
-    ensures turns { IfOk result (λ r. r.0.count.turns ≡ s.now.size + length s.now.needs + 2 * pairs_of
-        s.now.needs) }
+    ensures turns { IfOk result (λ r. r.0.count.turns ≡ s.now.size + length s.now.needs + pairs_of s.now.needs) }
     ensures served { IfOk result (λ r. AreServed s.now.needs r.1.items) }
     ensures size { IfOk result (λ r. length r.1.items ≡ s.now.size) }
     ensures few { IfOk result (λ r. pairs_of s.now.needs < 2 ^ 123) }
     ensures needs { IfOk result (λ r. length s.now.needs < 2 ^ 64) }
 {
+    let size = s.size();
     let needs = s.needs();
     let standing = s.eligible().to_vec(alloc)?;
+    let mut turns = 0;
+    let mut served = Vec::new(alloc);
+    for _candidate in 0..size {
+        turns += 1;
+        served.push(Vec::new(alloc))?;
+    }
     let mut living = Vec::with_capacity(alloc, needs.len())?;
-    let mut served = empty_rows(alloc, s.size())?;
-    let mut turns = s.size() as u128;
     for (k, need) in needs.iter().enumerate() {
-        living.push(count_living(s.eligible(), &need.any))?;
-        add_under(&mut served, &need.any, k)?;
-        turns += 1 + 2 * need.any.len() as u128;
+        turns += 1;
+        let alive = add_served(s.eligible(), &need.any, k, &mut served, &mut turns)?;
+        living.push(alive)?;
     }
     let board = Board {
         standing,
         living,
-        dropped: Vec::with_capacity(alloc, s.size())?,
+        dropped: Vec::with_capacity(alloc, size as usize)?,
         count: Count { strikes: 0, turns },
     };
     Ok((board, served))
 }
 
 impl Worklist {
-    /// The kept set, and how much work it took. The error comes where memory runs out.
+    /// The kept set, and how much work it took.
     pub fn count(alloc: Global, s: &System) -> Result<(Kept, Count), AllocError>
         ensures kept { IfOk result (λ r. AreKept s.now r.0) }
         ensures strikes { IfOk result (λ r. r.1.strikes ≡ strikes_of s.now r.0) }
@@ -172,7 +193,7 @@ impl Worklist {
         let (mut board, served) = prepare(alloc, s)?;
         board.drop_unserved(s);
         board.run(s, &served);
-        Ok((Kept::new(board.standing), board.count))
+        Ok((Kept::new(s.size(), board.standing), board.count))
     }
 }
 

@@ -5,6 +5,7 @@ mod copies;
 mod edits;
 mod keyed;
 pub mod lists;
+mod merging;
 mod table;
 
 pub use copies::{TryClone, copied};

@@ -9,6 +9,7 @@ ghost use Rattle.sorted.specs.Edits.{edited};
 use crate::copies::{TryClone, copied};
 use crate::edits::{Edit, make_edits};
 use crate::keyed::{Keyed, are_rising, place, stands_last};
+use crate::merging::edited_copy;
 use std::alloc::{AllocError, Global};
 use std::marker::Model;
 
@@ -141,6 +142,15 @@ impl<T: Keyed + TryClone> Table<T> {
         Ok(Table {
             items: copied(alloc, self.items.as_slice())?,
         })
+    }
+
+    /// A table of its own with these edits made, in time that goes with the number of items and edits. The error comes
+    /// where memory runs out.
+    pub fn edited(&self, alloc: Global, edits: &Table<Edit<T, T::Key>>) -> Result<Self, AllocError>
+        ensures { IfOk result (λ new. new ≡ edited T.Key.cmp T.key_of self.now edits.now) }
+    {
+        let items = edited_copy(alloc, self.items.as_slice(), edits.items.as_slice())?;
+        Ok(Table { items })
     }
 
     /// These edits, ready to be made of this table. The error comes where memory runs out.

@@ -13,7 +13,7 @@ use Rattle.terms.specs.Lookups.{is_received, sysmod_of}
 use Rattle.terms.proofs.Searches.{find_passes}
 use Rattle.terms.proofs.TextOrder.{same_from}
 use Rattle.sysmods.specs.declared.edit.GlobalEdit.{GlobalEdit}
-use Rattle.sysmods.specs.Edits.{stated_with, Fits, after_edit, EachFits, after_edits}
+use Rattle.sysmods.specs.Edits.{AreSources, stated_with, Fits, after_edit, EachFits, after_edits}
 use Rattle.store_rows.specs.Calls.{Call, RunsInside}
 use Rattle.store_rows.specs.Inside.{StaysInside, Leads}
 use Rattle.store_rows.specs.Rows.{HasContents}
@@ -23,7 +23,7 @@ use Rattle.store_schema.specs.Inventory.{Inventory}
 use Rattle.store_schema.specs.Stands.{rows_of}
 use Rattle.store_schema.specs.Tables.{store_schema}
 use Rattle.store_sysmods.specs.Calls.{insert_sysmods_calls}
-use Rattle.store_sysmods.specs.Sysmods.{AddsSysmods, AreNew, AreRowsOf, with_sysmods, ChangesGlobal, sourced}
+use Rattle.store_sysmods.specs.Sysmods.{AddsSysmods, AreNew, AreWaitingRows, with_sysmods, ChangesGlobal, sourced}
 use Rattle.store_sysmods.specs.declared.sysmod_rows.SysmodRows.{SysmodRows}
 use Rattle.store.specs.Calls.{Course, behind_waiting, course_of, edits_calls, with_edit, with_waiting}
 use Rattle.store.specs.Waiting.{HoldsBut, ChangesBut, Waits}
@@ -120,7 +120,7 @@ module _ {S : Type 0} (g : Ghosts S) where
 
   -- holds were changed
   pub waits_beside : (ss : List Sysmod) (f : List Hold → List Hold) (calls : List Call) (a b : Held S)
-      (rows : SysmodRows) (r : Result (Unit {0}) Error) → AreRowsOf rows ss → RunsInside g calls a b r
+      (rows : SysmodRows) (r : Result (Unit {0}) Error) → AreWaitingRows rows ss → RunsInside g calls a b r
       → OnOk r (ChangesGlobal g a b (λ global. Unit {0}) (with_holds f))
       → Waits g ss (calls, ss) (λ global. Unit {0}) (with_holds f) a b rows r
   waits_beside ss f calls a b rows r are runs ok = record {
@@ -130,7 +130,7 @@ module _ {S : Type 0} (g : Ghosts S) where
   }
 
   -- those that waited were written
-  pub waits_written : (ss : List Sysmod) (a b : Held S) (rows : SysmodRows) → AreRowsOf rows []
+  pub waits_written : (ss : List Sysmod) (a b : Held S) (rows : SysmodRows) → AreWaitingRows rows []
       → RunsInside g (insert_sysmods_calls ss) a b {X = Unit {0}} (Ok tt) → AddsSysmods g a b ss
       → Waits g ss (insert_sysmods_calls ss, []) (λ global. Unit {0}) (λ global. global) a b rows (Ok tt)
   waits_written ss a b rows are runs adds = record {
@@ -141,7 +141,7 @@ module _ {S : Type 0} (g : Ghosts S) where
 
   -- none waits
   pub waits_alone : (calls : List Call) (F : Global → Type 0) (f : Global → Global) (a b : Held S)
-      (rows : SysmodRows) (r : Result (Unit {0}) Error) → AreRowsOf rows [] → RunsInside g calls a b r
+      (rows : SysmodRows) (r : Result (Unit {0}) Error) → AreWaitingRows rows [] → RunsInside g calls a b r
       → OnOk r (ChangesGlobal g a b F f) → Waits g [] (calls, []) F f a b rows r
   waits_alone calls F f a b rows r are runs ok = record {
     runs = runs;
@@ -150,7 +150,7 @@ module _ {S : Type 0} (g : Ghosts S) where
   }
 
   -- one more waits
-  pub waits_more : (ss : List Sysmod) (s : Sysmod) (a : Held S) (rows : SysmodRows) → AreRowsOf rows (ss ++ s ∷ [])
+  pub waits_more : (ss : List Sysmod) (s : Sysmod) (a : Held S) (rows : SysmodRows) → AreWaitingRows rows (ss ++ s ∷ [])
       → Waits g ss ([], ss ++ s ∷ []) (λ global. is_received global s.id ≡ false) (λ global. with_sysmod global s) a a
       rows (Ok tt)
   waits_more ss s a rows are = record {
@@ -227,13 +227,13 @@ module _ {S : Type 0} (g : Ghosts S) where
       (λ global. with_sysmod global (sourced s sources)) a b rows r
       → Waits g ss
       (option_map_or (λ t. with_waiting ([], ss) (sourced t sources)) (sysmod_of stated x) ([], ss))
-      (λ global. is_received global x ≡ false) (stated_with stated x sources) a b rows r
+      (λ global. (is_received global x ≡ false) × AreSources sources) (stated_with stated x sources) a b rows r
   waits_found {ss = ss} stated x sources s there waits =
       let passes = find_passes (λ (t : Sysmod). bytes_eq t.id x) stated.sysmods s there in
       let named : x ≡ s.id = sym (same_from s.id x passes) in
       waits_as
       (ap (λ (found : Option Sysmod). option_map_or (λ t. with_waiting ([], ss) (sourced t sources)) found ([], ss))
-      (sym there)) (λ global none. subst (λ y. is_received global y ≡ false) named none)
+      (sym there)) (λ global fits. subst (λ y. is_received global y ≡ false) named fits.0)
       (λ global. ap (λ (found : Option Sysmod). option_map_or (λ (t : Sysmod). with_sysmod global (sourced t sources))
       found global) (sym there)) waits
 

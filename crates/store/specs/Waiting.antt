@@ -12,7 +12,7 @@ use Rattle.store_schema.specs.Inventory.{Inventory}
 use Rattle.store_schema.specs.Stands.{rows_of}
 use Rattle.store_schema.specs.Tables.{store_schema}
 use Rattle.store_sysmods.specs.declared.sysmod_rows.SysmodRows.{SysmodRows}
-use Rattle.store_sysmods.specs.Sysmods.{AreNew, AreRowsOf, with_sysmods}
+use Rattle.store_sysmods.specs.Sysmods.{AreNew, AreWaitingRows, with_sysmods}
 use Rattle.store.specs.Calls.{Course}
 
 -- the inventory's rows, but for those of SYSMODs that wait: these come to it last
@@ -33,5 +33,5 @@ ChangesBut g old new before after Fits make =
 pub record Waits {S : Type 0} (g : Ghosts S) (before : List Sysmod) (course : Course) (Fits : Global → Type 0)
     (make : Global → Global) (old new : Held S) (rows : SysmodRows) (result : Result (Unit {0}) Error) : Type 0 where
   pub runs : RunsInside g course.0 old new result
-  pub waits : OnOk result (AreRowsOf rows course.1)
+  pub waits : OnOk result (AreWaitingRows rows course.1)
   pub ok : OnOk result (ChangesBut g old new before course.1 Fits make)

@@ -8,7 +8,7 @@ ghost use Rattle.terms.specs.Types.{Sysmod as ASysmod};
 ghost use Rattle.store_rows.specs.Calls.{RunsInside};
 ghost use Rattle.store_rows.specs.Inside.{Continues};
 ghost use Rattle.store_sysmods.specs.Calls.{insert_sysmods_calls};
-ghost use Rattle.store_sysmods.specs.Sysmods.{AreRowsOf, ChangesGlobal, sourced};
+ghost use Rattle.store_sysmods.specs.Sysmods.{AreWaitingRows, ChangesGlobal, sourced};
 ghost use Rattle.store.specs.Calls.{edits_calls, with_edit, with_room, with_waiting};
 ghost use Rattle.store.specs.Waiting.{Waits};
 ghost use Rattle.sysmods.specs.Edits.{EachFits, Fits, after_edit, after_edits};
@@ -32,7 +32,7 @@ fn write_waiting<S: Alter>(
     waiting: &mut SysmodRows,
 ) -> Result<(), Error>
     ensures continues { Continues S.Store tx.old tx.new }
-    ensures goes { (ss : List ASysmod) → AreRowsOf waiting.old ss → Waits S.Store ss (insert_sysmods_calls ss, [])
+    ensures goes { (ss : List ASysmod) → AreWaitingRows waiting.old ss → Waits S.Store ss (insert_sysmods_calls ss, [])
         (λ g. Unit {0}) (λ g. g) tx.old.conn.now tx.new.conn.now waiting.new result }
 {
     insert_sysmods(alloc, tx, waiting)?;
@@ -47,7 +47,7 @@ fn make_room<S: Alter>(
     waiting: &mut SysmodRows,
 ) -> Result<(), Error>
     ensures continues { Continues S.Store tx.old tx.new }
-    ensures goes { (ss : List ASysmod) → AreRowsOf waiting.old ss → Waits S.Store ss (with_room ([], ss))
+    ensures goes { (ss : List ASysmod) → AreWaitingRows waiting.old ss → Waits S.Store ss (with_room ([], ss))
         (λ g. Unit {0}) (λ g. g) tx.old.conn.now tx.new.conn.now waiting.new result }
 {
     if waiting.len() != MOST_WAIT {
@@ -65,7 +65,7 @@ fn add_waiting<S: Alter>(
     sources: &[Source],
 ) -> Result<(), Error>
     ensures continues { Continues S.Store tx.old tx.new }
-    ensures goes { (ss : List ASysmod) → AreRowsOf waiting.old ss
+    ensures goes { (ss : List ASysmod) → AreWaitingRows waiting.old ss
         → Waits S.Store ss (with_waiting ([], ss) (sourced sysmod.now sources.now))
         (λ g. is_received g sysmod.now.id ≡ false) (λ g. with_sysmod g (sourced sysmod.now sources.now))
         tx.old.conn.now tx.new.conn.now waiting.new result }
@@ -83,7 +83,7 @@ fn write_edit<S: Alter>(
     edit: &GlobalEdit,
 ) -> Result<(), Error>
     ensures continues { Continues S.Store tx.old tx.new }
-    ensures goes { (ss : List ASysmod) → AreRowsOf waiting.old ss
+    ensures goes { (ss : List ASysmod) → AreWaitingRows waiting.old ss
         → Waits S.Store ss (with_edit stated.now ([], ss) edit.now) (λ g. Fits g edit.now)
         (λ g. after_edit stated.now g edit.now) tx.old.conn.now tx.new.conn.now waiting.new result }
 {

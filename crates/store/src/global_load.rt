@@ -24,7 +24,7 @@ use sysmods_values::{Hold, Sysmod};
 
 /// What the tables of the global zone hold, each list in order.
 #[derive(Drop)]
-pub struct Lists {
+pub struct GlobalLists {
     pub sysmods: Vec<Sysmod>,
     pub holds: Vec<Hold>,
 }
@@ -35,7 +35,7 @@ pub fn load_lists<S: Alter>(
     alloc: Global,
     conn: &mut Connection<S>,
     schema: Schema,
-) -> Result<Lists, ReadError>
+) -> Result<GlobalLists, ReadError>
     ensures found { HasCleanDisk (state S.Store conn.new) → (i : Inventory)
         → StandsUnder schema i (state S.Store conn.old).now
         → IfOk result (λ lists. a_global lists.sysmods.items lists.holds.items ≡ i.global) }
@@ -48,12 +48,12 @@ pub fn load_lists<S: Alter>(
 {
     let sysmods = load_sysmods(alloc, conn, schema)?;
     let holds = load_holds(alloc, conn)?;
-    Ok(Lists { sysmods, holds })
+    Ok(GlobalLists { sysmods, holds })
 }
 
 /// The global zone of these, if they are one. `BadRow` comes where they are none, `Memory` where memory runs out, and
 /// `Fault` never.
-pub fn joined(alloc: Global, lists: Lists) -> Result<GlobalZone, ReadError>
+pub fn joined(alloc: Global, lists: GlobalLists) -> Result<GlobalZone, ReadError>
     ensures same { IfOk result (λ global. global ≡ a_global lists.sysmods.items lists.holds.items) }
     ensures whole { OnOk result (IsGlobal (a_global lists.sysmods.items lists.holds.items)) }
     ensures none { IsErrOf result ReadError.BadRow → ¬ IsGlobal (a_global lists.sysmods.items lists.holds.items) }

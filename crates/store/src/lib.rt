@@ -17,7 +17,7 @@ mod open;
 mod write;
 
 pub use change::Change;
-pub use global_load::{Lists, joined, load_lists};
+pub use global_load::{GlobalLists, joined, load_lists};
 pub use law::found_again;
 pub use load::told;
 pub use open::Store;

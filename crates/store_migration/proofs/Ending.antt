@@ -10,7 +10,7 @@ use Rattle.sqlite.specs.State.{State, HasCleanDisk, IsLive, IsUnchanged, KeepsCo
 use Rattle.sqlite.proofs.StateLemmas.{survives_then, survives_weaker}
 use Rattle.store_rows.specs.declared.error.ReadError.{ReadError}
 use Rattle.store_rows.specs.declared.error.ReadError.TheVariants as read
-use Rattle.store_rows.specs.Inside.{Holds}
+use Rattle.store_rows.specs.Inside.{HoldsOpen}
 use Rattle.store_rows.proofs.InsideLemmas.{on_ok, on_ok_of}
 use Rattle.store_rows.proofs.Queries.{keeps_then, reads_then}
 use Rattle.store_rows.proofs.Selects.{unchanged_keeps}
@@ -103,7 +103,7 @@ module _ {S : Type 0} (g : Ghosts S) (old : Held S) (live : IsLive (state g old)
 
   pub tables_made : {X : Type 0} (new : Held S) (r : Result X StoreError) → IsBlank (state g old).now
       → (HasCleanDisk (state g new) → OnOk r ((i : Inventory) → IsStateOf i (state g old).now
-      → Holds StandsFor (state g new) i))
+      → HoldsOpen StandsFor (state g new) i))
       → (HasCleanDisk (state g new) → OnOk r (IsTrue (state g new).is_open))
       → (HasCleanDisk (state g new) → IsTrue (state g new).is_open → IsTrue (state g old).is_open)
       → (HasCleanDisk (state g new) → IsErrOf r OtherSchema → HasOtherNumber (state g old))

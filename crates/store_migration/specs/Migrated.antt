@@ -6,7 +6,7 @@ use Rattle.sqlite.specs.Tree.{Trees, rowid}
 use Rattle.sqlite.specs.Effect.{Database}
 use Rattle.sqlite.specs.Held.{Held, state}
 use Rattle.sqlite.specs.State.{State, HasCleanDisk, IsUnchanged, IsLive, KeepsCommit, Survives}
-use Rattle.store_rows.specs.Inside.{Holds}
+use Rattle.store_rows.specs.Inside.{HoldsOpen}
 use Rattle.store_rows.specs.Numbered.{AreNumbered}
 use Rattle.store_rows.specs.Rows.{shown}
 use Rattle.store_schema.specs.declared.error.StoreError.{StoreError}
@@ -64,7 +64,7 @@ pub record Migrates {S X : Type 0} (g : Ghosts S) (old new : Held S) (result : R
   pub stood : HasCleanDisk (state g new) → OnOk result (HasRowids (state g old).now
       → (i : Inventory) × IsEarlierStateOf i (state g old).now)
   pub stands : HasCleanDisk (state g new) → OnOk result ((i : Inventory) → IsEarlierStateOf i (state g old).now
-      → Holds StandsFor (state g new) i)
+      → HoldsOpen StandsFor (state g new) i)
   pub is_open : HasCleanDisk (state g new) → OnOk result (IsTrue (state g new).is_open)
   pub same : HasCleanDisk (state g new) → OnOk result ((state g old).now.schema ≡ store_schema
       → IsUnchanged (state g old) (state g new))

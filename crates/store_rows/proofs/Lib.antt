@@ -12,6 +12,7 @@ pub mod Pieces
 pub mod Bound
 pub mod Unmapped
 pub mod Queries
+pub mod RowByRow
 pub mod Selects
 pub mod Causes
 pub mod CallLemmas

@@ -18,7 +18,7 @@ use Rattle.sqlite.specs.Listing.{understood, reads_listing}
 use Rattle.sqlite.specs.Given.{IsPlain}
 use Rattle.sqlite.proofs.Callers.{command_of}
 use Rattle.sqlite_rules.specs.Action.{works}
-use Rattle.store_rows.specs.Texts.{PutsIn, PutsByKey, PutsInPlace, TakesOut, ReadsRows, Suits}
+use Rattle.store_rows.specs.Texts.{PutsIn, PutsByKey, PutsInPlace, DeletesByKey, ReadsRows, Suits}
 use Rattle.store_rows.specs.Texts.{key_tests, scan_by, by_key, unique_keys, first_columns, works_of_update, tail_of}
 use Rattle.store_rows.specs.Texts.{places_of, AreTexts, given_rows}
 use Rattle.store_rows.proofs.Typed.{none_typed, one_typed}
@@ -82,7 +82,7 @@ module _ {schema : Schema} {at : ℕ} {table : Table} {sql : List ℕ} (found : 
     })
         → IsPlain (understood schema sql) → width ≤ length table.columns
         → ((olds : List Row) → works schema Enforced 0 table.tree olds [] ≡ [])
-        → TakesOut schema at table width sql
+        → DeletesByKey schema at table width sql
     takes_out command plain narrow free = record {
       there = record { found = found; alone = alone };
       command = command;

@@ -32,7 +32,7 @@ keeps_then a b c p q = record {
 }
 
 -- a query failed behind one that answered
-failed_later : (a b c : State) {P Q : Trees → Type 0} → IsUnchanged a b → Survives a b P → Survives b c Q
+pub failed_later : (a b c : State) {P Q : Trees → Type 0} → IsUnchanged a b → Survives a b P → Survives b c Q
     → FailsToRead b c → FailsToRead a c
 failed_later a b c same one two (inl (inl more)) = inl (inl (omega (arith, more, one.counts)))
 failed_later a b c same one two (inl (inr shut)) = absurd (let is_open = same.0.is_open in cc)

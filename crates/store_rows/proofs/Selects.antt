@@ -50,7 +50,7 @@ if_select_keeps (Ok k) c h = go (is_select k.command) h
     go false e = absurd cc
 if_select_keeps (Err e) c h = absurd cc
 
-itself : (s : State) → IsTrue s.is_open → IsUnchanged s s
+pub itself : (s : State) → IsTrue s.is_open → IsUnchanged s s
 itself s is_open = (
   record { was_open = is_open; is_open = is_open; now_is = refl; committed_is = refl; mode = refl },
   record { changes = refl; last_rowid = refl },
@@ -101,7 +101,7 @@ module _ (sql : List ℕ) (params : Row) (is_select_text : IsSelect sql) where
   not_run_keeps old new e (inl h) = unchanged_keeps old new h.1
   not_run_keeps old new e (inr h) = rolled_keeps old new h.3
 
-  failed_keeps : (old new : State) (e : Error) → FailsToQuery sql params old new e → KeepsCommit old new
+  pub failed_keeps : (old new : State) (e : Error) → FailsToQuery sql params old new e → KeepsCommit old new
   unfolding FailsToQuery
   failed_keeps old new e (inl h) = not_run_keeps old new e h
   failed_keeps old new e (inr h) =

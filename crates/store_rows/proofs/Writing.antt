@@ -37,7 +37,7 @@ use Rattle.sqlite_schema.specs.declared.program.Program.{Program}
 use Rattle.store_rows.specs.Rows.{shown, has_key, without, with_row, in_place, AreRows, Contents, HasContents, HaveNone}
 use Rattle.store_rows.specs.Rows.{in_table, with_rows}
 use Rattle.store_rows.specs.Calls.{columns_of}
-use Rattle.store_rows.specs.Texts.{key_tests, scan_by, SuitColumns, PutsIn, PutsInPlace, TakesOut}
+use Rattle.store_rows.specs.Texts.{key_tests, scan_by, SuitColumns, PutsIn, PutsInPlace, DeletesByKey}
 use Rattle.store_rows.specs.Texts.{TakesOutParent, IsCascade, works_of_update, given_rows}
 use Rattle.store_rows.proofs.RowLemmas.{filter_same, ids_shown}
 use Rattle.store_rows.proofs.Statements.{inserts, updates, deletes, scans}
@@ -205,7 +205,7 @@ found_by_key table width params e le rows = filter_same _ _ rows
     (λ r h. meets_from params r 0 width (length table.columns) (omega (arith, e)) le)
 
 pub take_out : (schema : Schema) (at : ℕ) (table : Table) (width : ℕ) (sql : List ℕ) (key : Row) (old new : State)
-    (count : ℕ) (contents : Contents) → TakesOut schema at table width sql → width ≡ length key
+    (count : ℕ) (contents : Contents) → DeletesByKey schema at table width sql → width ≡ length key
     → HasContents schema contents old.now → Executes sql key old new (Ok count)
     → HasContents schema (in_table table (without key) contents) new.now
 take_out schema at table width sql key old new count contents text e was h =

@@ -9,7 +9,7 @@ use Rattle.sqlite.specs.State.{State, HasCleanDisk, Survives, KeepsCommit}
 use Rattle.sqlite.specs.declared.transaction.Transaction.{Transaction}
 
 -- the connection is open, and its last commit stands for this
-pub record Holds {X : Type 0} (Stands : X → Database → Type 0) (at : State) (x : X) : Type 0 where
+pub record HoldsOpen {X : Type 0} (Stands : X → Database → Type 0) (at : State) (x : X) : Type 0 where
   pub is_open : IsTrue at.is_open
   pub stands : Stands x at.committed
 

@@ -83,7 +83,7 @@ pub record PutsIn (schema : Schema) (at : ℕ) (table : Table) (count : ℕ) (sq
   pub timeless : table.stamps.terms ≡ []
 
 -- DELETE of the rows whose first columns are so many parameters, which sets off no action of a foreign key
-pub record TakesOut (schema : Schema) (at : ℕ) (table : Table) (width : ℕ) (sql : List ℕ) : Type 0 where
+pub record DeletesByKey (schema : Schema) (at : ℕ) (table : Table) (width : ℕ) (sql : List ℕ) : Type 0 where
   pub there : IsTableOf schema at table
   pub command : command_of (understood schema sql) ≡ Delete at
       (record { lets = []; body = scan_by table.tree (key_tests 0 width) (col 1 0 ∷ []) [] })

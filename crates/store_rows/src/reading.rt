@@ -36,24 +36,6 @@ pub trait FromRow {
         ensures fault { IsErrOf result ReadError.Fault → ⊥ };
 }
 
-/// What the rows stand for, in their order.
-fn read_all<T: FromRow>(alloc: Global, rows: &[Row]) -> Result<Vec<T::Item>, ReadError>
-    ensures read { IfOk result (λ items. (rows.now ≡ map T.row_of items.items)
-        × AllByRecursion T.has_form items.items) }
-    ensures none { IsErrOf result ReadError.BadRow → (items : List T.Item) → AllByRecursion T.has_form items
-        → ¬ IsPermutation (map T.row_of items) rows.now }
-    ensures fault { IsErrOf result ReadError.Fault → ⊥ }
-{
-    let mut items = Vec::new(alloc);
-    for row in rows {
-        let item = T::read(alloc, row)?;
-        if items.push(item).is_err() {
-            return Err(ReadError::Memory);
-        }
-    }
-    Ok(items)
-}
-
 /// What the rows that the query finds stand for, whose first columns are the key. `BadRow` comes where a row stands for
 /// nothing, `Memory` where memory is short, and `Fault` where the disk fails or the database refuses the query.
 pub fn load<S: Alter, T: FromRow>(
@@ -75,6 +57,17 @@ pub fn load<S: Alter, T: FromRow>(
         → ReadsRows schema table (length key.now) sql.now → AreTexts (bound key.now)
         → OnlyReads S.Store schema ReadError.BadRow ReadError.Fault conn.old conn.new result }
 {
-    let rows = conn.query_all(sql, key)?;
-    read_all::<T>(alloc, rows.as_slice())
+    let mut items = Vec::new(alloc);
+    let mut rows = conn.query(sql, key)?;
+    'rows: for _ in 0..u64::MAX {
+        rows.advance()?;
+        let Some(row) = rows.get() else {
+            return Ok(items);
+        };
+        let item = T::read(alloc, row)?;
+        if items.push(item).is_err() {
+            return Err(ReadError::Memory);
+        }
+    }
+    Err(ReadError::Memory)
 }

@@ -11,7 +11,7 @@ ghost use Rattle.store_rows.specs.Calls.{RunsInside, many, columns_of, puts};
 ghost use Rattle.store_rows.specs.Inside.{Continues, Turns};
 ghost use Rattle.store_rows.specs.Rows.{Contents, HasContents, HaveNone, in_table, as_bound, with_row, with_rows};
 ghost use Rattle.store_rows.specs.Rows.{with_put, in_place, without};
-ghost use Rattle.store_rows.specs.Texts.{SuitColumns, PutsIn, PutsByKey, PutsInPlace, TakesOut, TakesOutParent};
+ghost use Rattle.store_rows.specs.Texts.{SuitColumns, PutsIn, PutsByKey, PutsInPlace, DeletesByKey, TakesOutParent};
 
 use sqlite::{Alter, Error, Transaction};
 use sqlite_value::row::Row as Cells;
@@ -130,7 +130,7 @@ pub fn remove<S: Alter>(
     ensures continues { Continues S.Store tx.old tx.new }
     ensures calls { RunsInside S.Store ((sql.now, bound key.now) ∷ []) tx.old.conn.now tx.new.conn.now result }
     ensures ok { OnOk result ((schema : Schema) (at : ℕ) (table : Table)
-        → TakesOut schema at table (length key.now) sql.now
+        → DeletesByKey schema at table (length key.now) sql.now
         → Turns S.Store tx.old.conn.now tx.new.conn.now (HasContents schema)
         (in_table table (without (bound key.now)))) }
 {

@@ -5,7 +5,7 @@ ghost use Rattle.sqlite.specs.Held.{state};
 ghost use Rattle.sqlite.specs.State.{HasCleanDisk, IsLive, IsUnchanged, Survives};
 ghost use Rattle.store_schema.specs.Create.{IsBlank};
 ghost use Rattle.store_schema.specs.Inventory.{Inventory};
-ghost use Rattle.store_rows.specs.Inside.{Holds};
+ghost use Rattle.store_rows.specs.Inside.{HoldsOpen};
 ghost use Rattle.store_schema.specs.Known.{HasOtherNumber, HasNoState, HasOwnTables};
 ghost use Rattle.store_schema.specs.Looks.{LeavesAll, KeepsLast, SurvivesAs};
 ghost use Rattle.store_schema.specs.Stands.{StandsFor, IsStateOf, IsSetUp};
@@ -57,7 +57,7 @@ fn check<S: Alter>(alloc: Global, conn: &mut Connection<S>) -> Result<(), StoreE
 pub fn set_up<S: Alter>(alloc: Global, conn: &mut Connection<S>) -> Result<(), StoreError>
     requires { conn.old.in_transaction ≡ false }
     ensures stands { HasCleanDisk (state S.Store conn.new) → OnOk result
-        ((i : Inventory) → IsStateOf i (state S.Store conn.old).now → Holds StandsFor (state S.Store conn.new) i) }
+        ((i : Inventory) → IsStateOf i (state S.Store conn.old).now → HoldsOpen StandsFor (state S.Store conn.new) i) }
     ensures ours { HasCleanDisk (state S.Store conn.new) → OnOk result (HasOwnTables (state S.Store conn.new).now) }
     ensures same { HasCleanDisk (state S.Store conn.new) → OnOk result
         (¬ IsBlank (state S.Store conn.old).now → IsUnchanged (state S.Store conn.old) (state S.Store conn.new)) }

@@ -9,14 +9,14 @@
 //! for nothing, under each schema that has the table.
 #![tactic(auto)]
 
+mod column_lists;
 mod creating;
-mod elements;
+mod element_texts;
 mod error;
 mod kinds;
 mod known;
 mod law;
 mod listed;
-mod lists;
 mod numbers;
 mod optional;
 mod same;
@@ -25,14 +25,14 @@ mod schemas;
 mod tables;
 mod texts;
 
+pub use column_lists::{ids_in, joined_ids, records_in, sources_in};
 pub use creating::add_tables;
-pub use elements::{element_text_in, is_updated};
+pub use element_texts::{element_text_in, is_updated};
 pub use error::StoreError;
 pub use kinds::{elem_type_in, flag_in, hold_kind_in, kind_in, zone_kind_in};
 pub use known::set_up;
 pub use law::{one_earlier_state, one_state};
 pub use listed::{Query, load_listed};
-pub use lists::{ids_in, joined_ids, records_in, sources_in};
 pub use optional::{TextValue, optional_in, text_or_null};
 pub use schema::Schema;
 pub use schemas::found_schema;

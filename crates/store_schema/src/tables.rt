@@ -7,7 +7,7 @@ ghost use Rattle.store_schema.specs.Create.{IsBlank, HasTables};
 ghost use Rattle.store_schema.specs.Inventory.{empty_inventory};
 ghost use Rattle.store_schema.specs.Known.{HasRun};
 ghost use Rattle.store_schema.specs.Stands.{StandsFor};
-ghost use Rattle.store_rows.specs.Inside.{Continues, Leads, IsMade, Holds};
+ghost use Rattle.store_rows.specs.Inside.{Continues, Leads, IsMade, HoldsOpen};
 ghost use Rattle.store_schema.specs.Tables.{meta, global_tables, first_tables, schema_of};
 ghost use Rattle.store_schema.specs.Earlier.{tables_under, schema_under};
 ghost use Rattle.store_schema.specs.declared.schema.Schema.{Schema as SchemaOf};
@@ -47,7 +47,7 @@ pub(crate) fn create<S: Alter>(conn: &mut Connection<S>) -> Result<(), Error>
     requires { conn.old.in_transaction ≡ false }
     ensures made { HasCleanDisk (state S.Store conn.new) → OnOk result
         (IsBlank (state S.Store conn.old).now → StandsFor empty_inventory (state S.Store conn.new).now
-        × Holds StandsFor (state S.Store conn.new) empty_inventory) }
+        × HoldsOpen StandsFor (state S.Store conn.new) empty_inventory) }
     ensures unchanged { HasCleanDisk (state S.Store conn.new) → IsTrue (state S.Store conn.new).is_open
         → OnErr result ((state S.Store conn.new).committed ≡ (state S.Store conn.old).committed) }
     ensures is_open { HasCleanDisk (state S.Store conn.new) → OnOk result (IsTrue (state S.Store conn.new).is_open) }

@@ -31,7 +31,7 @@ use Rattle.store_sysmods.specs.MoreIfs.{row_of_more_if}
 use Rattle.store_sysmod_loads.specs.Runs.{StandsApart, parent_of_ver, parent_of_if, parent_of_elem, source_rows}
 use Rattle.store_sysmod_loads.specs.Runs.{if_rows, ver_rows, elem_rows, HasAllIfs}
 use Rattle.store_sysmod_loads.specs.Joined.{bare_of, all_sources}
-use Rattle.store_sysmod_loads.specs.Built.{IsBuilt, IsTaken, AreTaken}
+use Rattle.store_sysmod_loads.specs.Built.{IsBuilt, BeginsWithSysmod, AreTaken}
 use Rattle.store_sysmod_loads.specs.Flats.{head_of, ifs_of, all_vers, all_ifs, all_elems}
 use Rattle.store_sysmod_loads.proofs.RunLemmas.{if_row}
 
@@ -331,7 +331,7 @@ flat_taken (s ∷ ss) up built none =
 pub taken_step : (x : HeadRow) (new : List HeadRow) (ss : List Sysmod) (vers : List VerRow) (ifs : List IfRow)
     (elems : List ElemRow) → AreTaken (x ∷ new) ss vers ifs elems
     → (s : Sysmod) × (left : List Sysmod) × (vers' : List VerRow) × (ifs' : List IfRow) × (elems' : List ElemRow)
-    × (ss ≡ s ∷ left) × IsTaken x s vers ifs elems vers' ifs' elems' × AreTaken new left vers' ifs' elems'
+    × (ss ≡ s ∷ left) × BeginsWithSysmod x s vers ifs elems vers' ifs' elems' × AreTaken new left vers' ifs' elems'
 taken_step x new [] vers ifs elems h = absurd h
 taken_step x new (s ∷ left) vers ifs elems h = (s, left, h.0, h.1, h.2, refl, h.3, h.4)
 

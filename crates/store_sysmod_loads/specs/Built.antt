@@ -39,7 +39,7 @@ sysmod_from h vers changes = record {
 }
 
 -- the tables begin with the rows of the SYSMOD, and with another's then
-pub record IsTaken (h : HeadRow) (s : Sysmod) (vers : List VerRow) (ifs : List IfRow) (elems : List ElemRow)
+pub record BeginsWithSysmod (h : HeadRow) (s : Sysmod) (vers : List VerRow) (ifs : List IfRow) (elems : List ElemRow)
     (vers' : List VerRow) (ifs' : List IfRow) (elems' : List ElemRow) : Type 0 where
   pub same : s ≡ sysmod_from h s.vers s.changes
   pub vers_are : HasVers h.id vers ifs s.vers vers' ifs'
@@ -52,5 +52,6 @@ AreTaken [] [] vers ifs elems = (vers ≡ []) × (ifs ≡ []) × (elems ≡ [])
 AreTaken [] (s ∷ sysmods) vers ifs elems = ⊥
 AreTaken (h ∷ heads) [] vers ifs elems = ⊥
 AreTaken (h ∷ heads) (s ∷ sysmods) vers ifs elems =
-    (vers' : List VerRow) × (ifs' : List IfRow) × (elems' : List ElemRow) × IsTaken h s vers ifs elems vers' ifs' elems'
+    (vers' : List VerRow) × (ifs' : List IfRow) × (elems' : List ElemRow)
+    × BeginsWithSysmod h s vers ifs elems vers' ifs' elems'
     × AreTaken heads sysmods vers' ifs' elems'

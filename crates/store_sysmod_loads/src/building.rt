@@ -9,7 +9,7 @@ ghost use Rattle.store_sysmods.specs.declared.ver.VerRow.{VerRow as VerLine};
 ghost use Rattle.store_sysmods.specs.declared.ifreq.IfRow.{IfRow as IfLine};
 ghost use Rattle.store_sysmods.specs.declared.elem.ElemRow.{ElemRow as ElemLine};
 ghost use Rattle.store_sysmod_loads.specs.Runs.{AreBare};
-ghost use Rattle.store_sysmod_loads.specs.Built.{MayDo, IsBuilt, sysmod_from, IsTaken, AreTaken};
+ghost use Rattle.store_sysmod_loads.specs.Built.{MayDo, IsBuilt, sysmod_from, BeginsWithSysmod, AreTaken};
 
 use crate::gathering::{next_of, take_changes, take_vers};
 use fields::Id;
@@ -134,13 +134,14 @@ fn take_sysmod(
 ) -> Result<Sysmod, ReadError>
     requires { AreBare vers.old.items }
     ensures bare { AreBare vers.new.items }
-    ensures taken { IfOk result (λ s. IsTaken head s vers.old.items ifs.old.items elems.old.items vers.new.items
+    ensures taken { IfOk result (λ s. BeginsWithSysmod head s vers.old.items ifs.old.items elems.old.items
+        vers.new.items
         ifs.new.items elems.new.items) }
     ensures only { IfOk result (λ s. (other : SysmodTerm) (vs : List VerLine) (is : List IfLine) (es : List ElemLine)
-        → IsTaken head other vers.old.items ifs.old.items elems.old.items vs is es
+        → BeginsWithSysmod head other vers.old.items ifs.old.items elems.old.items vs is es
         → (other ≡ s) × (vs ≡ vers.new.items) × (is ≡ ifs.new.items) × (es ≡ elems.new.items)) }
     ensures none { IsErrOf result ReadError.BadRow → (other : SysmodTerm) (vs : List VerLine) (is : List IfLine)
-        (es : List ElemLine) → ¬ IsTaken head other vers.old.items ifs.old.items elems.old.items vs is es }
+        (es : List ElemLine) → ¬ BeginsWithSysmod head other vers.old.items ifs.old.items elems.old.items vs is es }
     ensures fault { IsErrOf result ReadError.Fault → ⊥ }
 {
     let found = take_vers(alloc, vers, ifs, head.id)?;

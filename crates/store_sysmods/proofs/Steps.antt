@@ -13,7 +13,7 @@ use Rattle.store_rows.specs.Rows.{Contents, HasContents, in_table, with_row, wit
 use Rattle.store_rows.specs.Texts.{SuitColumns}
 use Rattle.store_rows.proofs.InsideLemmas.{on_ok, continues_then, turns_then}
 use Rattle.store_schema.specs.Tables.{store_schema}
-use Rattle.store_sysmods.specs.Steps.{Step, Puts}
+use Rattle.store_sysmods.specs.Steps.{RunsCalls, Puts}
 use Rattle.store_sysmods.specs.Sysmods.{sysmod_key}
 use Rattle.store_sysmods.proofs.Calling.{runs_rest, runs_stops}
 
@@ -26,14 +26,15 @@ each_ok (Err e) P Q each = tt
 module _ {S : Type 0} (g : Ghosts S) where
   -- statements that ran
   abbrev pub Ran : List Call → (Contents → Contents) → Transaction S → Transaction S → Type 0
-  Ran calls make a b = Step g calls make a b (Ok (tt {0}))
+  Ran calls make a b = RunsCalls g calls make a b (Ok (tt {0}))
 
   pub step_ok : {calls : List Call} {make : Contents → Contents} {a b : Transaction S} {q : Result (Unit {0}) Error}
-      {x : Unit {0}} → q ≡ Ok x → Step g calls make a b q → Ran calls make a b
-  step_ok {calls = calls} {make = make} {a = a} {b = b} is step = subst (Step g calls make a b) is step
+      {x : Unit {0}} → q ≡ Ok x → RunsCalls g calls make a b q → Ran calls make a b
+  step_ok {calls = calls} {make = make} {a = a} {b = b} is step = subst (RunsCalls g calls make a b) is step
 
   pub step_then : {X : Type 0} {xs ys : List Call} {make last : Contents → Contents} {a b c : Transaction S}
-      {r : Result X Error} → Ran xs make a b → Step g ys last b c r → Step g (xs ++ ys) (λ h. last (make h)) a c r
+      {r : Result X Error} → Ran xs make a b → RunsCalls g ys last b c r
+      → RunsCalls g (xs ++ ys) (λ h. last (make h)) a c r
   step_then {xs = xs} {ys = ys} {make = make} {last = last} {a = a} {b = b} {c = c} {r = r} one two = record {
     continues = continues_then g a b c one.continues two.continues;
     runs = runs_rest g xs ys a.conn.now b.conn.now c.conn.now r one.continues.inside two.continues.inside one.runs
@@ -49,7 +50,7 @@ module _ {S : Type 0} (g : Ghosts S) where
   -- one of these failed, and none behind it was begun
   pub step_stops : {X Y : Type 0} {xs : List Call} (ys : List Call) {make : Contents → Contents} {a b : Transaction S}
       {q : Result X Error} {e : Error} (r : Result Y Error) → q ≡ Err e → IsErrAnd r (λ z. z ≡ e)
-      → Step g xs make a b q → Step g (xs ++ ys) make a b r
+      → RunsCalls g xs make a b q → RunsCalls g (xs ++ ys) make a b r
   step_stops {xs = xs} ys {a = a} {b = b} {q = q} {e = e} r failed told first = record {
     continues = first.continues;
     runs = runs_stops g xs ys a.conn.now b.conn.now q e r failed told first.runs;
@@ -59,7 +60,7 @@ module _ {S : Type 0} (g : Ghosts S) where
   -- an error says nothing of what the tables hold
   pub step_errs : {X Y : Type 0} {calls : List Call} {make last : Contents → Contents} {a b : Transaction S}
       {q : Result X Error} {e : Error} {r : Result Y Error} → q ≡ Err e → IsErrAnd r (λ z. z ≡ e)
-      → Step g calls make a b r → Step g calls last a b r
+      → RunsCalls g calls make a b r → RunsCalls g calls last a b r
   step_errs {e = e} {r = r} failed told step = record {
     continues = step.continues;
     runs = step.runs;
@@ -71,16 +72,17 @@ module _ {S : Type 0} (g : Ghosts S) where
       (r : Result X Error) → key ≡ sysmod_key id → Continues g a b
       → RunsInside g ((text, key) ∷ []) a.conn.now b.conn.now r
       → OnOk r (Turns g a.conn.now b.conn.now (HasContents store_schema) (in_table table (without key)))
-      → Step g ((text, sysmod_key id) ∷ []) (in_table table (without (sysmod_key id))) a b r
+      → RunsCalls g ((text, sysmod_key id) ∷ []) (in_table table (without (sysmod_key id))) a b r
   step_takes text table key id a b r is kept runs ok =
-      subst (λ k. Step g ((text, k) ∷ []) (in_table table (without k)) a b r) is
+      subst (λ k. RunsCalls g ((text, k) ∷ []) (in_table table (without k)) a b r) is
       (record { continues = kept; runs = runs; ok = ok })
 
   pub step_takes_of : {X : Type 0} (text : List ℕ) (table : Table) {x id : Id} {a b : Transaction S}
-      {r : Result X Error} → x ≡ id → Step g ((text, sysmod_key x) ∷ []) (in_table table (without (sysmod_key x))) a b r
-      → Step g ((text, sysmod_key id) ∷ []) (in_table table (without (sysmod_key id))) a b r
+      {r : Result X Error} → x ≡ id → RunsCalls g ((text, sysmod_key x) ∷ [])
+      (in_table table (without (sysmod_key x))) a b r
+      → RunsCalls g ((text, sysmod_key id) ∷ []) (in_table table (without (sysmod_key id))) a b r
   step_takes_of text table {a = a} {b = b} {r = r} is step =
-      subst (λ y. Step g ((text, sysmod_key y) ∷ []) (in_table table (without (sysmod_key y))) a b r) is step
+      subst (λ y. RunsCalls g ((text, sysmod_key y) ∷ []) (in_table table (without (sysmod_key y))) a b r) is step
 
   -- ---- rows that are put into one table
 
@@ -90,9 +92,9 @@ module _ {S : Type 0} (g : Ghosts S) where
       → RunsInside g ((text, r) ∷ []) a.conn.now b.conn.now q
       → OnOk q (SuitColumns table.columns r
       → Turns g a.conn.now b.conn.now (HasContents store_schema) (in_table table (with_row r)))
-      → Step g ((text, row) ∷ []) (in_table table (with_row row)) a b q
+      → RunsCalls g ((text, row) ∷ []) (in_table table (with_row row)) a b q
   step_row text table {r = r} {a = a} {b = b} {q = q} is suits kept runs ok =
-      subst (λ x. Step g ((text, x) ∷ []) (in_table table (with_row x)) a b q) is (record {
+      subst (λ x. RunsCalls g ((text, x) ∷ []) (in_table table (with_row x)) a b q) is (record {
         continues = kept;
         runs = runs;
         ok = on_ok q _ _ (λ turned. turned (subst (SuitColumns table.columns) (sym is) suits)) ok;

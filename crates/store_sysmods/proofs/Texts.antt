@@ -11,7 +11,7 @@ use Rattle.sqlite_rules.specs.Action.{Work, pairs}
 use Rattle.sqlite_rules.specs.Lists.{Has}
 use Rattle.sqlite_rules.proofs.ListLemmas.{has_got}
 use Rattle.store_rows.specs.Calls.{many}
-use Rattle.store_rows.specs.Texts.{PutsIn, TakesOut, TakesOutParent, IsCascade}
+use Rattle.store_rows.specs.Texts.{PutsIn, DeletesByKey, TakesOutParent, IsCascade}
 use Rattle.store_rows.proofs.Meant.{puts_in, takes_out}
 use Rattle.store_rows.proofs.Parents.{if_set_off}
 use Rattle.store_schema.specs.Tables.{store_schema, sysmod, ver, ifreq, elem, source, morever, moreif}
@@ -93,27 +93,27 @@ pub puts_moreifs : PutsIn store_schema 11 moreif many insert_moreifs
 unfolding understood everything
 puts_moreifs = puts_in refl refl refl (refl, refl) refl refl
 
-pub takes_vers : TakesOut store_schema 2 ver 1 delete_vers
+pub takes_vers : DeletesByKey store_schema 2 ver 1 delete_vers
 unfolding understood everything same_name joined
 takes_vers = takes_out refl refl refl (refl, refl) (omega arith) (λ olds. refl)
 
-pub takes_ifreqs : TakesOut store_schema 3 ifreq 1 delete_ifreqs
+pub takes_ifreqs : DeletesByKey store_schema 3 ifreq 1 delete_ifreqs
 unfolding understood everything same_name joined
 takes_ifreqs = takes_out refl refl refl (refl, refl) (omega arith) (λ olds. refl)
 
-pub takes_elems : TakesOut store_schema 5 elem 1 delete_elems
+pub takes_elems : DeletesByKey store_schema 5 elem 1 delete_elems
 unfolding understood everything same_name joined
 takes_elems = takes_out refl refl refl (refl, refl) (omega arith) (λ olds. refl)
 
-pub takes_sources : TakesOut store_schema 9 source 1 delete_sources
+pub takes_sources : DeletesByKey store_schema 9 source 1 delete_sources
 unfolding understood everything same_name joined
 takes_sources = takes_out refl refl refl (refl, refl) (omega arith) (λ olds. refl)
 
-pub takes_morevers : TakesOut store_schema 10 morever 1 delete_morevers
+pub takes_morevers : DeletesByKey store_schema 10 morever 1 delete_morevers
 unfolding understood everything same_name joined
 takes_morevers = takes_out refl refl refl (refl, refl) (omega arith) (λ olds. refl)
 
-pub takes_moreifs : TakesOut store_schema 11 moreif 1 delete_moreifs
+pub takes_moreifs : DeletesByKey store_schema 11 moreif 1 delete_moreifs
 unfolding understood everything same_name joined
 takes_moreifs = takes_out refl refl refl (refl, refl) (omega arith) (λ olds. refl)
 

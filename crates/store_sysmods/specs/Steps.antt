@@ -12,7 +12,8 @@ use Rattle.store_schema.specs.Tables.{store_schema}
 
 -- The statements ran, and made this of what the tables held; or one of them failed, or memory was short. Nothing is
 -- committed.
-pub record Step {S X : Type 0} (g : Ghosts S) (calls : List Call) (make : Contents → Contents) (old new : Transaction S)
+pub record RunsCalls {S X : Type 0} (g : Ghosts S) (calls : List Call) (make : Contents → Contents)
+    (old new : Transaction S)
     (result : Result X Error) : Type 0 where
   pub continues : Continues g old new
   pub runs : RunsInside g calls old.conn.now new.conn.now result
@@ -22,4 +23,4 @@ pub record Step {S X : Type 0} (g : Ghosts S) (calls : List Call) (make : Conten
 abbrev pub Puts : {S X : Type 0} → Ghosts S → List ℕ → List ℕ → Table → List Row → Transaction S → Transaction S
     → Result X Error → Type 0
 Puts g some one table rows old new result =
-    Step g (puts some one rows) (in_table table (with_rows rows)) old new result
+    RunsCalls g (puts some one rows) (in_table table (with_rows rows)) old new result

@@ -23,7 +23,7 @@ abbrev pub sourced : Sysmod → List Text → Sysmod
 sourced s sources = record s { sources = sources }
 
 -- Rows that wait to be written: they are those of these SYSMODs, table after table.
-pub record AreRowsOf (rows : SysmodRows) (ss : List Sysmod) : Type 0 where
+pub record AreWaitingRows (rows : SysmodRows) (ss : List Sysmod) : Type 0 where
   pub sysmods : map as_bound rows.sysmods.items ≡ map sysmod_row ss
   pub sources : map as_bound rows.sources.items ≡ flat_map sources_of ss
   pub vers : map as_bound rows.vers.items ≡ flat_map vers_of ss

@@ -8,7 +8,7 @@ use Rattle.terms.specs.Types.{Id, Ver}
 use Rattle.store_schema.specs.Forms.{HasVerForms}
 use Rattle.store_schema.specs.Rows.{ver_row, is_first}
 use Rattle.store_sysmods.specs.declared.ver.TheConstants.{SELECT, INSERT, INSERT_MANY, DELETE}
-use Rattle.store_sysmods.specs.declared.ver.Lists.{Lists}
+use Rattle.store_sysmods.specs.declared.ver.VerTexts.{VerTexts}
 use Rattle.store_sysmods.specs.declared.ver.VerRow.{VerRow}
 
 abbrev pub select_vers : List ℕ
@@ -28,7 +28,7 @@ abbrev pub first_row : Id → ℕ × Ver → List Row
 first_row x v = if is_first v then ver_row x v.1 ∷ [] else []
 
 -- The lists of a ++VER as the texts of columns: its ids, joined by commas.
-pub record AreLists (lists : Lists) (v : Ver) : Type 0 where
+pub record AreVerTexts (lists : VerTexts) (v : Ver) : Type 0 where
   pub pre : lists.pre.items ≡ join_with_byte 44 v.pre
   pub req : lists.req.items ≡ join_with_byte 44 v.req
   pub sup : lists.sup.items ≡ join_with_byte 44 v.sup

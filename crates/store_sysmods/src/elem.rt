@@ -17,11 +17,11 @@ ghost use Rattle.store_schema.specs.Tables.{elem as elem_table};
 ghost use Rattle.store_sysmods.specs.declared.elem.ElemRow.{ElemRow as AElemRow};
 ghost use Rattle.store_sysmods.specs.Elems.{delete_elems, is_update, distlib_of, syslib_of};
 ghost use Rattle.store_sysmods.specs.Elems.{lines_of as lines_in};
-ghost use Rattle.store_sysmods.specs.Steps.{Step};
+ghost use Rattle.store_sysmods.specs.Steps.{RunsCalls};
 ghost use Rattle.store_sysmods.specs.Sysmods.{sysmod_key};
 
+use crate::item_rows::Rows;
 use crate::listed::Listed;
-use crate::rows::Rows;
 use fields::spelling::type_text;
 use fields::{Id, Name};
 use sqlite::{Alter, Error, Row, Transaction};
@@ -37,7 +37,8 @@ use sysmods_values::{Action, ElemChange};
 use terms::ElemType;
 use text80::{Line, TextError, Update, bytes_of};
 
-const SELECT: &str = "SELECT id, type, name, upd, distlib, syslib, text FROM elem";
+const SELECT: &str =
+    "SELECT id, type, name, upd, distlib, syslib, text FROM elem ORDER BY id, type, name";
 
 pub(crate) const INSERT: &str =
     "INSERT INTO elem (id, type, name, upd, distlib, syslib, text) VALUES (?1, ?2, ?3, ?4, ?5, ?6, ?7)";
@@ -306,7 +307,7 @@ impl Rows for Changes {
 
 /// Takes out the SYSMOD's rows.
 pub(crate) fn remove_rows<S: Alter>(tx: &mut Transaction<'_, S>, id: Id) -> Result<(), Error>
-    ensures { Step S.Store ((delete_elems, sysmod_key id) ∷ [])
+    ensures { RunsCalls S.Store ((delete_elems, sysmod_key id) ∷ [])
         (in_table elem_table (without (sysmod_key id))) tx.old tx.new result }
 {
     let key = [ValueRef::Text(id.as_bytes())];

@@ -29,7 +29,7 @@ use store_schema::{Query, id_in, kind_in, sources_in};
 use sysmods_values::Sysmod;
 use terms::Kind;
 
-const SELECT: &str = "SELECT id, kind, sources FROM sysmod";
+const SELECT: &str = "SELECT id, kind, sources FROM sysmod ORDER BY id";
 
 pub(crate) const INSERT: &str = "INSERT INTO sysmod (id, kind, sources) VALUES (?1, ?2, ?3)";
 

@@ -36,7 +36,8 @@ use store_schema::{Query, flag_in, hold_kind_in, id_in, optional_in, text_or_nul
 use sysmods_values::Hold;
 use terms::HoldKind;
 
-const SELECT: &str = "SELECT id, kind, reason, fmid, class, date, comment, internal FROM hold";
+const SELECT: &str =
+    "SELECT id, kind, reason, fmid, class, date, comment, internal FROM hold ORDER BY id, kind, reason";
 
 const PUT: &str = "INSERT INTO hold (id, kind, reason, fmid, class, date, comment, internal) \
     VALUES (?1, ?2, ?3, ?4, ?5, ?6, ?7, ?8) \
@@ -90,9 +91,9 @@ fn comment_in(alloc: Global, row: &Row, at: usize) -> Result<Option<String>, Rea
 }
 
 /// Reads holds.
-struct Holds;
+struct HoldReader;
 
-impl FromRow for Holds {
+impl FromRow for HoldReader {
     ghost use Rattle.store_schema.specs.Rows.{hold_row};
     ghost use Rattle.store_schema.specs.Forms.{HasHoldForms};
 
@@ -146,11 +147,11 @@ impl FromRow for Holds {
     }
 }
 
-impl Query for Holds {
+impl Query for HoldReader {
     ghost use Rattle.std.specs.Prelude.{⊤};
     ghost use Rattle.store_schema.specs.Tables.{hold};
 
-    type Rows = Holds;
+    type Rows = HoldReader;
 
     ghost table = { hold };
 
@@ -165,7 +166,7 @@ impl Query for Holds {
     }
 }
 
-impl Listed for Holds {
+impl Listed for HoldReader {
     ghost use Rattle.std.specs.Prelude.{refl};
 
     type Key = (Id, (HoldKind, Reason));
@@ -197,7 +198,7 @@ pub fn load_holds<S: Alter>(alloc: Global, conn: &mut Connection<S>) -> Result<V
     ensures reads { (r : Schema) → OnlyReads S.Store (schema_under r) ReadError.BadRow ReadError.Fault conn.old
         conn.new result }
 {
-    load_sorted::<S, Holds>(alloc, conn)
+    load_sorted::<S, HoldReader>(alloc, conn)
 }
 
 // ---- as it is written

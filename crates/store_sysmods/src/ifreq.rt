@@ -7,13 +7,13 @@ ghost use Rattle.store_schema.specs.Rows.{ifreq_row};
 ghost use Rattle.store_schema.specs.Tables.{ifreq as ifreq_table};
 ghost use Rattle.store_sysmods.specs.declared.ifreq.IfRow.{IfRow as AIfRow};
 ghost use Rattle.store_sysmods.specs.Ifs.{delete_ifreqs};
-ghost use Rattle.store_sysmods.specs.Steps.{Step};
+ghost use Rattle.store_sysmods.specs.Steps.{RunsCalls};
 ghost use Rattle.store_sysmods.specs.Sysmods.{sysmod_key};
 
 use crate::cells::{number_in, requisites_in};
+use crate::item_rows::{Rows, push_all};
 use crate::listed::Listed;
 use crate::numbers::number_behind;
-use crate::rows::{Rows, push_all};
 use fields::{Id, Srel};
 use sqlite::{Alter, Error, Row, Transaction};
 use sqlite_value::row::Row as Cells;
@@ -23,7 +23,7 @@ use store_rows::{FromRow, ReadError, cells_of, remove};
 use store_schema::{Query, id_in, joined_ids, srel_in};
 use sysmods_values::{IfReq, Ver};
 
-const SELECT: &str = "SELECT id, srel, n, fmid, req FROM ifreq";
+const SELECT: &str = "SELECT id, srel, n, fmid, req FROM ifreq ORDER BY id, srel, n";
 
 pub(crate) const INSERT: &str =
     "INSERT INTO ifreq (id, srel, n, fmid, req) VALUES (?1, ?2, ?3, ?4, ?5)";
@@ -215,7 +215,7 @@ impl Rows for FirstIfs {
 
 /// Takes out the SYSMOD's rows.
 pub(crate) fn remove_rows<S: Alter>(tx: &mut Transaction<'_, S>, id: Id) -> Result<(), Error>
-    ensures { Step S.Store ((delete_ifreqs, sysmod_key id) ∷ [])
+    ensures { RunsCalls S.Store ((delete_ifreqs, sysmod_key id) ∷ [])
         (in_table ifreq_table (without (sysmod_key id))) tx.old tx.new result }
 {
     let key = [ValueRef::Text(id.as_bytes())];

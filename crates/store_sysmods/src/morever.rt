@@ -6,14 +6,14 @@ ghost use Rattle.store_schema.specs.Rows.{morever_row};
 ghost use Rattle.store_schema.specs.Tables.{morever as morever_table};
 ghost use Rattle.store_sysmods.specs.declared.ver.VerRow.{VerRow as AVerRow};
 ghost use Rattle.store_sysmods.specs.MoreVers.{delete_morevers};
-ghost use Rattle.store_sysmods.specs.Steps.{Step};
+ghost use Rattle.store_sysmods.specs.Steps.{RunsCalls};
 ghost use Rattle.store_sysmods.specs.Sysmods.{sysmod_key};
-ghost use Rattle.store_sysmods.specs.Vers.{AreLists};
+ghost use Rattle.store_sysmods.specs.Vers.{AreVerTexts};
 
 use crate::cells::{further_in, other_in, others_in};
+use crate::item_rows::Rows;
 use crate::numbers::number_behind;
-use crate::rows::Rows;
-use crate::ver::{Lists, VerRow, lists_of};
+use crate::ver::{VerRow, VerTexts, lists_of};
 use fields::{Id, IdList};
 use sqlite::{Alter, Error, Row, Transaction};
 use sqlite_value::row::Row as Cells;
@@ -23,7 +23,7 @@ use store_rows::{FromRow, ReadError, cells_of, remove};
 use store_schema::{Query, id_in, srel_in, text_or_null};
 use sysmods_values::Ver;
 
-const SELECT: &str = "SELECT id, srel, n, fmid, pre, req, sup FROM morever";
+const SELECT: &str = "SELECT id, srel, n, fmid, pre, req, sup FROM morever ORDER BY id, srel, n";
 
 pub(crate) const INSERT: &str =
     "INSERT INTO morever (id, srel, n, fmid, pre, req, sup) VALUES (?1, ?2, ?3, ?4, ?5, ?6, ?7)";
@@ -121,10 +121,10 @@ fn row_of<'a>(
     id: &'a Id,
     number: usize,
     ver: &'a Ver,
-    lists: &'a Lists,
+    lists: &'a VerTexts,
 ) -> Result<Cells, AllocError>
     requires number { number < 2 ^ 63 }
-    requires lists { AreLists lists.now ver.now }
+    requires lists { AreVerTexts lists.now ver.now }
     ensures { IfOk result (λ row. as_bound row ≡ morever_row id.now (number, ver.now)) }
 {
     let id = ValueRef::Text(id.as_bytes());
@@ -165,7 +165,7 @@ impl Rows for FurtherVers {
 
 /// Takes out the SYSMOD's rows.
 pub(crate) fn remove_rows<S: Alter>(tx: &mut Transaction<'_, S>, id: Id) -> Result<(), Error>
-    ensures { Step S.Store ((delete_morevers, sysmod_key id) ∷ [])
+    ensures { RunsCalls S.Store ((delete_morevers, sysmod_key id) ∷ [])
         (in_table morever_table (without (sysmod_key id))) tx.old tx.new result }
 {
     let key = [ValueRef::Text(id.as_bytes())];

@@ -9,11 +9,11 @@ ghost use Rattle.store_schema.specs.Tables.{source as source_table};
 ghost use Rattle.terms.specs.Forms.{IsSource};
 ghost use Rattle.store_sysmods.specs.declared.source.SourceRow.{SourceRow as ASourceRow};
 ghost use Rattle.store_sysmods.specs.Sources.{insert_source as into_source, delete_sources};
-ghost use Rattle.store_sysmods.specs.Steps.{Step};
+ghost use Rattle.store_sysmods.specs.Steps.{RunsCalls};
 ghost use Rattle.store_sysmods.specs.Sysmods.{sysmod_key};
 
+use crate::item_rows::Rows;
 use crate::listed::Listed;
-use crate::rows::Rows;
 use fields::{Id, Source};
 use sqlite::{Alter, Error, Row, Transaction};
 use sqlite_value::row::Row as Cells;
@@ -22,7 +22,7 @@ use std::alloc::{AllocError, Global};
 use store_rows::{FromRow, ReadError, cells_of, insert, remove, text};
 use store_schema::{Query, id_in};
 
-const SELECT: &str = "SELECT id, name FROM source";
+const SELECT: &str = "SELECT id, name FROM source ORDER BY id, name";
 
 pub(crate) const INSERT: &str = "INSERT INTO source (id, name) VALUES (?1, ?2)";
 
@@ -124,7 +124,7 @@ pub fn insert_source<'a, S: Alter>(
     id: &'a Id,
     source: &'a Source,
 ) -> Result<(), Error>
-    ensures { Step S.Store ((into_source, source_row id.now source.now) ∷ [])
+    ensures { RunsCalls S.Store ((into_source, source_row id.now source.now) ∷ [])
         (in_table source_table (with_row (source_row id.now source.now))) tx.old tx.new result }
 {
     let id = ValueRef::Text(id.as_bytes());
@@ -169,7 +169,7 @@ impl Rows for SourcesOf {
 
 /// Takes out the SYSMOD's rows.
 pub(crate) fn remove_rows<S: Alter>(tx: &mut Transaction<'_, S>, id: Id) -> Result<(), Error>
-    ensures { Step S.Store ((delete_sources, sysmod_key id) ∷ [])
+    ensures { RunsCalls S.Store ((delete_sources, sysmod_key id) ∷ [])
         (in_table source_table (without (sysmod_key id))) tx.old tx.new result }
 {
     let key = [ValueRef::Text(id.as_bytes())];

@@ -7,14 +7,14 @@ ghost use Rattle.store_rows.specs.Inside.{Continues, Turns};
 ghost use Rattle.store_rows.specs.Rows.{HasContents};
 ghost use Rattle.store_schema.specs.Tables.{store_schema};
 ghost use Rattle.store_sysmods.specs.Calls.{insert_sysmods_calls, remove_sysmod_calls, replace_sources_calls};
-ghost use Rattle.store_sysmods.specs.Sysmods.{AddsSysmods, AreRowsOf, ReplacesSources, RemovesSysmod, sourced};
+ghost use Rattle.store_sysmods.specs.Sysmods.{AddsSysmods, AreWaitingRows, ReplacesSources, RemovesSysmod, sourced};
 ghost use Rattle.store_sysmods.specs.Sysmods.{with_source_rows, with_sysmods_rows, without_sysmod_rows};
 
 use crate::elem::Changes;
 use crate::ifreq::FirstIfs;
+use crate::item_rows::push_all;
 use crate::moreif::FurtherIfs;
 use crate::morever::FurtherVers;
-use crate::rows::push_all;
 use crate::source::SourcesOf;
 use crate::ver::FirstVers;
 use crate::{elem, head, ifreq, moreif, morever, source, ver};
@@ -39,7 +39,7 @@ pub struct SysmodRows {
 
 impl SysmodRows {
     pub fn new(alloc: Global) -> SysmodRows
-        ensures { AreRowsOf result [] }
+        ensures { AreWaitingRows result [] }
     {
         SysmodRows {
             sysmods: Vec::new(alloc),
@@ -54,7 +54,7 @@ impl SysmodRows {
 
     /// How many SYSMODs they are of.
     pub fn len(&self) -> usize
-        ensures { (ss : List ASysmod) → AreRowsOf self.now ss → result ≡ length ss }
+        ensures { (ss : List ASysmod) → AreWaitingRows self.now ss → result ≡ length ss }
     {
         self.sysmods.len()
     }
@@ -67,8 +67,8 @@ impl SysmodRows {
         sysmod: &Sysmod,
         sources: &[Source],
     ) -> Result<(), AllocError>
-        ensures { OnOk result ((ss : List ASysmod) → AreRowsOf self.old ss
-            → AreRowsOf self.new (ss ++ sourced sysmod.now sources.now ∷ [])) }
+        ensures { OnOk result ((ss : List ASysmod) → AreWaitingRows self.old ss
+            → AreWaitingRows self.new (ss ++ sourced sysmod.now sources.now ∷ [])) }
     {
         let id = sysmod.id;
         let vers = sysmod.vers.as_slice();
@@ -94,11 +94,11 @@ pub fn insert_sysmods<S: Alter>(
     rows: &SysmodRows,
 ) -> Result<(), Error>
     ensures continues { Continues S.Store tx.old tx.new }
-    ensures calls { (ss : List ASysmod) → AreRowsOf rows.now ss
+    ensures calls { (ss : List ASysmod) → AreWaitingRows rows.now ss
         → RunsInside S.Store (insert_sysmods_calls ss) tx.old.conn.now tx.new.conn.now result }
-    ensures ok { OnOk result ((ss : List ASysmod) → AreRowsOf rows.now ss
+    ensures ok { OnOk result ((ss : List ASysmod) → AreWaitingRows rows.now ss
         → Turns S.Store tx.old.conn.now tx.new.conn.now (HasContents store_schema) (with_sysmods_rows ss)) }
-    ensures stands { OnOk result ((ss : List ASysmod) → AreRowsOf rows.now ss
+    ensures stands { OnOk result ((ss : List ASysmod) → AreWaitingRows rows.now ss
         → AddsSysmods S.Store tx.old.conn.now tx.new.conn.now ss) }
 {
     let sysmods = rows.sysmods.as_slice();

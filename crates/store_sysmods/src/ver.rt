@@ -5,14 +5,14 @@ ghost use Rattle.store_rows.specs.Rows.{as_bound, in_table, without};
 ghost use Rattle.store_schema.specs.Rows.{ver_row};
 ghost use Rattle.store_schema.specs.Tables.{ver as ver_table};
 ghost use Rattle.store_sysmods.specs.declared.ver.VerRow.{VerRow as AVerRow};
-ghost use Rattle.store_sysmods.specs.Steps.{Step};
+ghost use Rattle.store_sysmods.specs.Steps.{RunsCalls};
 ghost use Rattle.store_sysmods.specs.Sysmods.{sysmod_key};
-ghost use Rattle.store_sysmods.specs.Vers.{delete_vers, AreLists};
+ghost use Rattle.store_sysmods.specs.Vers.{delete_vers, AreVerTexts};
 
 use crate::cells::{other_in, others_in};
+use crate::item_rows::Rows;
 use crate::listed::Listed;
 use crate::numbers::number_behind;
-use crate::rows::Rows;
 use fields::{Id, Srel};
 use sqlite::{Alter, Error, Row, Transaction};
 use sqlite_value::row::Row as Cells;
@@ -22,7 +22,7 @@ use store_rows::{FromRow, ReadError, cells_of, remove};
 use store_schema::{Query, id_in, joined_ids, srel_in, text_or_null};
 use sysmods_values::Ver;
 
-const SELECT: &str = "SELECT id, srel, fmid, pre, req, sup, npre, del FROM ver";
+const SELECT: &str = "SELECT id, srel, fmid, pre, req, sup, npre, del FROM ver ORDER BY id, srel";
 
 pub(crate) const INSERT: &str =
     "INSERT INTO ver (id, srel, fmid, pre, req, sup, npre, del) VALUES (?1, ?2, ?3, ?4, ?5, ?6, ?7, ?8)";
@@ -134,7 +134,7 @@ impl Listed for Vers {
 
 /// The texts of a `++VER`'s lists.
 #[derive(Drop)]
-pub(crate) struct Lists {
+pub(crate) struct VerTexts {
     pub pre: Vec<u8>,
     pub req: Vec<u8>,
     pub sup: Vec<u8>,
@@ -142,10 +142,10 @@ pub(crate) struct Lists {
     pub del: Vec<u8>,
 }
 
-pub(crate) fn lists_of(alloc: Global, ver: &Ver) -> Result<Lists, AllocError>
-    ensures { IfOk result (λ lists. AreLists lists ver.now) }
+pub(crate) fn lists_of(alloc: Global, ver: &Ver) -> Result<VerTexts, AllocError>
+    ensures { IfOk result (λ lists. AreVerTexts lists ver.now) }
 {
-    Ok(Lists {
+    Ok(VerTexts {
         pre: joined_ids(alloc, ver.pre.as_slice())?,
         req: joined_ids(alloc, ver.req.as_slice())?,
         sup: joined_ids(alloc, ver.sup.as_slice())?,
@@ -155,8 +155,8 @@ pub(crate) fn lists_of(alloc: Global, ver: &Ver) -> Result<Lists, AllocError>
 }
 
 // The `++VER`'s row, of whose lists these are the texts.
-fn row_of(alloc: Global, id: &Id, ver: &Ver, lists: &Lists) -> Result<Cells, AllocError>
-    requires { AreLists lists.now ver.now }
+fn row_of(alloc: Global, id: &Id, ver: &Ver, lists: &VerTexts) -> Result<Cells, AllocError>
+    requires { AreVerTexts lists.now ver.now }
     ensures { IfOk result (λ row. as_bound row ≡ ver_row id.now ver.now) }
 {
     let id = ValueRef::Text(id.as_bytes());
@@ -197,7 +197,7 @@ impl Rows for FirstVers {
 
 /// Takes out the SYSMOD's rows.
 pub(crate) fn remove_rows<S: Alter>(tx: &mut Transaction<'_, S>, id: Id) -> Result<(), Error>
-    ensures { Step S.Store ((delete_vers, sysmod_key id) ∷ [])
+    ensures { RunsCalls S.Store ((delete_vers, sysmod_key id) ∷ [])
         (in_table ver_table (without (sysmod_key id))) tx.old tx.new result }
 {
     let key = [ValueRef::Text(id.as_bytes())];

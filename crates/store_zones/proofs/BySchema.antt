@@ -11,7 +11,7 @@ use Rattle.store_schema.specs.declared.schema.Schema.{Schema}
 use Rattle.store_schema.specs.declared.schema.Schema.TheVariants.{First, Second, Third}
 use Rattle.store_schema.specs.Earlier.{StandsUnder, schema_under}
 use Rattle.store_schema.specs.Inventory.{Inventory}
-use Rattle.store_zones.specs.declared.chosen.EntryNumber.{EntryNumber}
+use Rattle.store_zones.specs.declared.installed_vers.EntryNumber.{EntryNumber}
 use Rattle.store_zones.specs.Held.{HoldsEntries, HoldsChosen, HasNumbers, HoldsNumbered}
 use Rattle.store_zones.specs.Numbered.{as_first, numbers_of, numbered, left_over}
 use Rattle.store_zones.specs.Chosen.{HasNumberForms}

@@ -6,7 +6,7 @@ use Rattle.terms.specs.Types.{Text, Element}
 use Rattle.terms.proofs.ElementOrder.{element_cmp_total}
 use Rattle.store_schema.specs.Rows.{zelem_row}
 use Rattle.store_schema.proofs.OneState.{element_is}
-use Rattle.store_zones.specs.declared.rows.ZoneRow.{ZoneRow}
+use Rattle.store_zones.specs.declared.zone_rows.ZoneRow.{ZoneRow}
 use Rattle.store_zones.specs.Held.{name_key, HoldsElements}
 use Rattle.store_zones.specs.Elements.{row_of_element, HasElementRowForms}
 use Rattle.store_zones.proofs.ZoneRows.{first_cell}

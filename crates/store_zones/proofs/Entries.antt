@@ -6,8 +6,8 @@ use Rattle.store_rows.specs.Rows.{Contents, has_key}
 use Rattle.terms.specs.Types.{Text, Applied, Entry}
 use Rattle.store_schema.specs.Rows.{entry_row}
 use Rattle.store_schema.proofs.OneState.{number_of, entry_is}
-use Rattle.store_zones.specs.declared.chosen.EntryNumber.{EntryNumber}
-use Rattle.store_zones.specs.declared.rows.ZoneRow.{ZoneRow}
+use Rattle.store_zones.specs.declared.installed_vers.EntryNumber.{EntryNumber}
+use Rattle.store_zones.specs.declared.zone_rows.ZoneRow.{ZoneRow}
 use Rattle.store_zones.specs.Held.{name_key, HoldsEntries, HoldsChosen}
 use Rattle.store_zones.specs.Chosen.{number_row, row_of_number, HasNumberForms}
 use Rattle.store_zones.specs.Entries.{row_of_entry, HasEntryRowForms}

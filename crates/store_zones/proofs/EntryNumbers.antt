@@ -20,7 +20,7 @@ use Rattle.terms.specs.Types.{Text, Id, an_applied, Applied, Entry}
 use Rattle.store_schema.specs.Rows.{entry_row, chosen_in}
 use Rattle.store_schema.proofs.WrittenLists.{all_by}
 use Rattle.store_schema.proofs.Spelled.{not_before_same}
-use Rattle.store_zones.specs.declared.chosen.EntryNumber.{EntryNumber}
+use Rattle.store_zones.specs.declared.installed_vers.EntryNumber.{EntryNumber}
 use Rattle.store_zones.specs.Numbered.{renumbered, as_first, number_in, numbers_of, is_number_of, with_first}
 use Rattle.store_zones.specs.Numbered.{behind_first, numbered, left_over}
 use Rattle.store_zones.specs.Chosen.{number_row}

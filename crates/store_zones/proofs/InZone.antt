@@ -22,7 +22,7 @@ use Rattle.terms.specs.Rising.{Rises}
 use Rattle.terms.specs.Types.{Text}
 use Rattle.terms.proofs.RisingAlike.{rises_alike}
 use Rattle.store_schema.proofs.WrittenLists.{rising_same}
-use Rattle.store_zones.specs.declared.rows.ZoneRow.{ZoneRow}
+use Rattle.store_zones.specs.declared.zone_rows.ZoneRow.{ZoneRow}
 use Rattle.store_zones.specs.Held.{name_key, rows_named, HoldsItems, in_zone}
 use Rattle.store_zones.proofs.ZoneRows.{first_cell}
 

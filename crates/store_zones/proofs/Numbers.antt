@@ -10,7 +10,7 @@ use Rattle.sqlite.specs.Order.{Row}
 use Rattle.sqlite_trees.proofs.ListLemmas.{IsPermutation-flat_map, flat_map_same_on}
 use Rattle.terms.specs.Types.{Text, Id, Applied, Entry, NamedZone}
 use Rattle.store_schema.specs.Rows.{chosen_row, chosen_of}
-use Rattle.store_zones.specs.declared.chosen.EntryNumber.{EntryNumber}
+use Rattle.store_zones.specs.declared.installed_vers.EntryNumber.{EntryNumber}
 use Rattle.store_zones.specs.Chosen.{number_before, number_row}
 use Rattle.store_zones.specs.Numbered.{number_in, numbers_of}
 use Rattle.store_zones.specs.Zones.{entries_but}

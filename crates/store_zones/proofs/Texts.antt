@@ -4,7 +4,7 @@ use Rattle.sqlite.specs.Listing.{understood}
 use Rattle.sqlite_tied.specs.Compute.{everything}
 use Rattle.sqlite_schema.specs.Names.{same_name}
 use Rattle.sqlite_value.specs.Keys.{joined}
-use Rattle.store_rows.specs.Texts.{PutsIn, PutsByKey, TakesOut}
+use Rattle.store_rows.specs.Texts.{PutsIn, PutsByKey, DeletesByKey}
 use Rattle.store_schema.specs.Tables.{store_schema, zone, entry, chosen, zelem}
 use Rattle.store_zones.specs.Chosen.{put_chosen, delete_chosen, insert_chosen}
 use Rattle.store_zones.specs.Elements.{put_element, delete_element, insert_element}
@@ -24,7 +24,7 @@ pub puts_entry : PutsByKey store_schema 7 entry 2 put_entry
 unfolding understood everything
 puts_entry = puts_by_key refl refl refl (refl, refl) refl refl refl refl refl (omega arith) (λ olds news. refl)
 
-pub takes_entry : TakesOut store_schema 7 entry 2 delete_entry
+pub takes_entry : DeletesByKey store_schema 7 entry 2 delete_entry
 unfolding understood everything same_name joined
 takes_entry = takes_out refl refl refl (refl, refl) (omega arith) (λ olds. refl)
 
@@ -36,7 +36,7 @@ pub puts_chosen : PutsByKey store_schema 12 chosen 2 put_chosen
 unfolding understood everything
 puts_chosen = puts_by_key refl refl refl (refl, refl) refl refl refl refl refl (omega arith) (λ olds news. refl)
 
-pub takes_chosen : TakesOut store_schema 12 chosen 2 delete_chosen
+pub takes_chosen : DeletesByKey store_schema 12 chosen 2 delete_chosen
 unfolding understood everything same_name joined
 takes_chosen = takes_out refl refl refl (refl, refl) (omega arith) (λ olds. refl)
 
@@ -48,6 +48,6 @@ pub puts_element : PutsByKey store_schema 8 zelem 3 put_element
 unfolding understood everything
 puts_element = puts_by_key refl refl refl (refl, refl) refl refl refl refl refl (omega arith) (λ olds news. refl)
 
-pub takes_element : TakesOut store_schema 8 zelem 3 delete_element
+pub takes_element : DeletesByKey store_schema 8 zelem 3 delete_element
 unfolding understood everything same_name joined
 takes_element = takes_out refl refl refl (refl, refl) (omega arith) (λ olds. refl)

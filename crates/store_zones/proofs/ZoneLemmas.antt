@@ -31,7 +31,7 @@ use Rattle.store_schema.specs.Tables.{entry, chosen, zelem, zone as zone_table}
 use Rattle.store_schema.proofs.Spelled.{types_alike}
 use Rattle.store_zones.specs.Elements.{element_key}
 use Rattle.store_zones.specs.Entries.{entry_key}
-use Rattle.store_zones.specs.declared.chosen.EntryNumber.{EntryNumber}
+use Rattle.store_zones.specs.declared.installed_vers.EntryNumber.{EntryNumber}
 use Rattle.store_zones.specs.Chosen.{number_of, number_before, number_row}
 use Rattle.store_zones.specs.Numbered.{numbers_of}
 use Rattle.store_zones.specs.Zones.{IsZoneChange, HasEntry, is_element, entries_but, elements_but, HasPutEntry}

@@ -27,7 +27,7 @@ use Rattle.store_zones.specs.Numbered.{as_first, number_in, numbers_of, numbered
 use Rattle.store_zones.specs.Chosen.{HasNumberForms}
 use Rattle.store_zones.specs.Elements.{HasElementRowForms}
 use Rattle.store_zones.specs.Entries.{HasEntryRowForms, IsFirst}
-use Rattle.store_zones.specs.declared.chosen.EntryNumber.{EntryNumber}
+use Rattle.store_zones.specs.declared.installed_vers.EntryNumber.{EntryNumber}
 use Rattle.store_zones.specs.declared.head.ZoneHead.{ZoneHead}
 use Rattle.store_zones.proofs.Elements.{elements_same}
 use Rattle.store_zones.proofs.Entries.{entries_same, numbers_same}

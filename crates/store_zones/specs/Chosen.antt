@@ -5,9 +5,9 @@ use Rattle.sqlite.specs.Order.{Row}
 use Rattle.terms.specs.Forms.{IsId, IsZoneName}
 use Rattle.terms.specs.Types.{Text, Entry}
 use Rattle.store_schema.specs.Rows.{chosen_row}
-use Rattle.store_zones.specs.declared.chosen.TheConstants.{SELECT, INSERT, PUT, DELETE}
-use Rattle.store_zones.specs.declared.chosen.EntryNumber.{EntryNumber}
-use Rattle.store_zones.specs.declared.rows.ZoneRow.{ZoneRow}
+use Rattle.store_zones.specs.declared.installed_vers.TheConstants.{SELECT, INSERT, PUT, DELETE}
+use Rattle.store_zones.specs.declared.installed_vers.EntryNumber.{EntryNumber}
+use Rattle.store_zones.specs.declared.zone_rows.ZoneRow.{ZoneRow}
 
 abbrev pub select_chosen : List ℕ
 select_chosen = SELECT.now

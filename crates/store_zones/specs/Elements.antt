@@ -9,7 +9,7 @@ use Rattle.terms.specs.Types.{Text, Element}
 use Rattle.store_schema.specs.Forms.{HasElementForms}
 use Rattle.store_schema.specs.Rows.{zelem_row}
 use Rattle.store_zones.specs.declared.element.TheConstants.{SELECT, INSERT, PUT, DELETE}
-use Rattle.store_zones.specs.declared.rows.ZoneRow.{ZoneRow}
+use Rattle.store_zones.specs.declared.zone_rows.ZoneRow.{ZoneRow}
 
 abbrev pub select_elements : List ℕ
 select_elements = SELECT.now

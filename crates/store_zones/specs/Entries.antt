@@ -7,7 +7,7 @@ use Rattle.terms.specs.Types.{Text, Id, Entry}
 use Rattle.store_schema.specs.Forms.{AreSorted, HasAppliedForms}
 use Rattle.store_schema.specs.Rows.{entry_row}
 use Rattle.store_zones.specs.declared.entry.TheConstants.{SELECT, INSERT, PUT, DELETE}
-use Rattle.store_zones.specs.declared.rows.ZoneRow.{ZoneRow}
+use Rattle.store_zones.specs.declared.zone_rows.ZoneRow.{ZoneRow}
 
 abbrev pub select_entries : List ℕ
 select_entries = SELECT.now

@@ -19,9 +19,9 @@ use Rattle.store_schema.specs.declared.schema.Schema.TheVariants.{First, Second,
 use Rattle.store_schema.specs.Inventory.{IsZoneNamed}
 use Rattle.store_schema.specs.Rows.{zone_row, entry_row, entries_of, zelem_row, zelems_of, chosen_of}
 use Rattle.store_schema.specs.Tables as tables
-use Rattle.store_zones.specs.declared.chosen.EntryNumber.{EntryNumber}
+use Rattle.store_zones.specs.declared.installed_vers.EntryNumber.{EntryNumber}
 use Rattle.store_zones.specs.declared.head.ZoneHead.{ZoneHead}
-use Rattle.store_zones.specs.declared.rows.ZoneRow.{ZoneRow}
+use Rattle.store_zones.specs.declared.zone_rows.ZoneRow.{ZoneRow}
 use Rattle.store_zones.specs.Numbered.{as_first, numbers_of}
 use Rattle.store_zones.specs.Chosen.{number_row, HasNumberForms}
 use Rattle.store_zones.specs.Elements.{HasElementRowForms}

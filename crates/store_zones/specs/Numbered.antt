@@ -4,7 +4,7 @@ use Rattle.std.specs.List.{flat_map}
 use Rattle.std.specs.Option.{option_map_or}
 use Rattle.std.specs.Str.{bytes_eq}
 use Rattle.terms.specs.Types.{an_applied, Entry}
-use Rattle.store_zones.specs.declared.chosen.EntryNumber.{EntryNumber}
+use Rattle.store_zones.specs.declared.installed_vers.EntryNumber.{EntryNumber}
 
 -- the entry with this number, if it is applied
 abbrev pub renumbered : Entry → ℕ → Entry

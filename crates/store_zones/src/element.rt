@@ -11,10 +11,10 @@ ghost use Rattle.store_zones.specs.Calls.{put_element_calls, remove_element_call
 ghost use Rattle.store_zones.specs.Elements.{element_key};
 ghost use Rattle.store_zones.specs.Zones.{ChangesZone, HasPutElement, HasRemovedElement, with_element};
 ghost use Rattle.terms.specs.Types.{Element as ElementTerm};
-ghost use Rattle.store_zones.specs.declared.rows.ZoneRow.{ZoneRow as AZoneRow};
+ghost use Rattle.store_zones.specs.declared.zone_rows.ZoneRow.{ZoneRow as AZoneRow};
 
 use crate::items::ZoneItem;
-use crate::rows::ZoneRow;
+use crate::zone_rows::ZoneRow;
 use fields::spelling::type_text;
 use fields::{Name, ZoneName};
 use sqlite::{Alter, Error, Row, Transaction};

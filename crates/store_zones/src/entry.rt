@@ -18,11 +18,11 @@ ghost use Rattle.sqlite.specs.Values.{or_null};
 ghost use Rattle.sqlite_value.specs.Value.{owned};
 ghost use Rattle.terms.specs.Types.{Applied as AppliedTerm, Entry as EntryTerm};
 ghost use Rattle.store_schema.specs.Forms.{HasAppliedForms};
-ghost use Rattle.store_zones.specs.declared.rows.ZoneRow.{ZoneRow as AZoneRow};
+ghost use Rattle.store_zones.specs.declared.zone_rows.ZoneRow.{ZoneRow as AZoneRow};
 
-use crate::chosen::{change_number, number_before, number_of};
+use crate::installed_vers::{change_number, number_before, number_of};
 use crate::items::ZoneItem;
-use crate::rows::ZoneRow;
+use crate::zone_rows::ZoneRow;
 use fields::{Id, ZoneName};
 use sqlite::{Alter, Error, Row, Transaction};
 use sqlite_value::value::ValueRef;

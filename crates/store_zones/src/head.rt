@@ -22,7 +22,7 @@ ghost use Rattle.store_zones.specs.Related.{AreRelated};
 ghost use Rattle.store_zones.specs.Zones.{AddsZone, empty_zone};
 
 use crate::related::only_related;
-use crate::rows::table_of;
+use crate::zone_rows::table_of;
 use fields::spelling::zone_kind_text;
 use fields::{Srel, ZoneName};
 use sorted::{Keyed, TryClone};
@@ -37,7 +37,8 @@ use terms::ZoneKind;
 
 const SELECT: &str = "SELECT name, kind, srel, related FROM zone ORDER BY name";
 
-const SELECT_NAMED: &str = "SELECT name, kind, srel, related FROM zone WHERE name = ?1";
+const SELECT_NAMED: &str =
+    "SELECT name, kind, srel, related FROM zone WHERE name = ?1 ORDER BY name";
 
 const INSERT: &str = "INSERT INTO zone (name, kind, srel, related) VALUES (?1, ?2, ?3, ?4)";
 
@@ -78,9 +79,9 @@ fn is_target(kind: ZoneKind) -> bool
 }
 
 /// Reads the rows of zones.
-struct Heads;
+struct ZoneHeads;
 
-impl FromRow for Heads {
+impl FromRow for ZoneHeads {
     ghost use Rattle.store_zones.specs.Heads.{head_row, HasHeadForms};
 
     type Item = ZoneHead;
@@ -132,7 +133,7 @@ impl Query for AllHeads {
     ghost use Rattle.std.specs.Prelude.{⊤};
     ghost use Rattle.store_schema.specs.Tables.{zone};
 
-    type Rows = Heads;
+    type Rows = ZoneHeads;
 
     ghost table = { zone };
 
@@ -154,7 +155,7 @@ impl Query for NamedHeads {
     ghost use Rattle.std.specs.Prelude.{⊤};
     ghost use Rattle.store_schema.specs.Tables.{zone};
 
-    type Rows = Heads;
+    type Rows = ZoneHeads;
 
     ghost table = { zone };
 

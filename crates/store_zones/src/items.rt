@@ -9,7 +9,7 @@ ghost use Rattle.store_schema.specs.declared.schema.Schema.{Schema};
 ghost use Rattle.store_schema.specs.Earlier.{schema_under};
 ghost use Rattle.store_zones.specs.Held.{HoldsItems, in_zone};
 
-use crate::rows::{ZoneRow, zone_table};
+use crate::zone_rows::{ZoneRow, zone_table};
 use fields::ZoneName;
 use sorted::{Keyed, Table};
 use sqlite::{Alter, Connection};
@@ -22,7 +22,7 @@ use store_schema::{Query, load_listed};
 pub(crate) trait ZoneItem: Keyed + Drop {
     ghost use Rattle.std.specs.Prelude.{◌≡◌, ◌∷◌, drop};
     ghost use Rattle.sqlite.specs.declared.types.Value.TheVariants.{Text};
-    ghost use Rattle.store_zones.specs.declared.rows.ZoneRow.{ZoneRow as AZoneRow};
+    ghost use Rattle.store_zones.specs.declared.zone_rows.ZoneRow.{ZoneRow as AZoneRow};
 
     type Rows: FromRow<Item = ZoneRow<Self>> + Query<Rows = Self::Rows>;
 

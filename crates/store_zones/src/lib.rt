@@ -9,17 +9,17 @@
 //! keys keep them out.
 #![tactic(auto)]
 
-mod chosen;
 mod element;
 mod entry;
 mod head;
+mod installed_vers;
 mod items;
 mod numbering;
 mod related;
-mod rows;
-mod zone;
+mod zone_load;
+mod zone_rows;
 
 pub use element::{put_element, remove_element};
 pub use entry::{put_entry, remove_entry};
 pub use head::{ZoneHead, insert_zone, zone_heads, zone_names};
-pub use zone::load_zone;
+pub use zone_load::load_zone;

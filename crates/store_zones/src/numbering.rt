@@ -5,8 +5,8 @@ ghost use Rattle.terms.specs.Types.{an_applied};
 ghost use Rattle.store_zones.specs.Numbered as spec;
 ghost use Rattle.store_zones.specs.Numbered.{left_over, behind_first, with_first, begins_with};
 
-use crate::chosen::EntryNumber;
-use crate::rows::table_of;
+use crate::installed_vers::EntryNumber;
+use crate::zone_rows::table_of;
 use fields::VerNumber;
 use sorted::Table;
 use std::alloc::{AllocError, Global};

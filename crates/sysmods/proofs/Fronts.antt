@@ -1,7 +1,7 @@
 -- The front of a global zone's list of SYSMODs, and one more behind it.
 use Rattle.std.proofs.Common.{◌≡◌, ◌∙◌, Bool, true, false, not, ◌&&◌, List, [], ◌∷◌, ◌++◌, fold, filter}
 use Rattle.std.proofs.Common.{refl, sym, ap, subst, Option, None, Some, is_some, IsTrue, All, Contains, true≢false}
-use Rattle.std.proofs.Common.{arith, append-nil, length-append}
+use Rattle.std.proofs.Common.{arith, append-nil, length-append, ◌≢◌}
 use Rattle.std.specs.declared.cmp.Ordering.TheVariants.{Less}
 use Rattle.std.specs.Ordering.{is_lt, is_eq, nat_cmp}
 use Rattle.std.specs.Cmp.Lexicographic.{slice_cmp}
@@ -27,9 +27,9 @@ use Rattle.terms.proofs.Pairs.{AllPairs_parts}
 use Rattle.terms.proofs.Orderings.{Less_from_is_lt}
 use Rattle.terms.proofs.Searches.{find_over}
 use Rattle.sysmods.specs.Held.{found, zone_of}
-use Rattle.sysmods.specs.declared.faults.ReceiveFault.{ReceiveFault as Code}
-use Rattle.sysmods.specs.declared.faults.ReceiveFault.TheVariants as code
-use Rattle.sysmods.specs.Refused.{IsRefusal}
+use Rattle.sysmods.specs.declared.refused.Refused.{Refused}
+use Rattle.sysmods.specs.declared.refused.Refused.TheVariants as why
+use Rattle.sysmods.specs.Refused.{HasNoFault, IsRefused, fault_of}
 use Rattle.sysmods.proofs.Receiving.{kept}
 use Rattle.terms.proofs.Pairs.{AllPairs_front}
 
@@ -146,14 +146,14 @@ module _ (xs : List Sysmod) (s : Sysmod) where
     zone_last = ap zone_of (item_last low (record s { holds = [] }) refl ∙ ap (λ r. xs ++ r ∷ []) bare)
 
     -- Where it is refused, it makes no global zone.
-    pub none_refused : IsGlobal (zone_of (xs ++ s ∷ [])) → (f : ReceiveFault) → ¬ HasFault (zone_of xs) s f
+    pub none_refused : IsGlobal (zone_of (xs ++ s ∷ [])) → HasNoFault (zone_of xs) s
     none_refused g AlreadyReceived fault = true≢false (sym fault ∙ ap is_some (new_last low))
     none_refused g MakesLoop fault = g.no_loop (subst HasLoop zone_last fault)
     none_refused g WrongRole fault = fault (subst RolesFit (sym zone_last) g.roles)
     none_refused g NoRoom fault = omega (arith, fault, g.size, length-append xs (s ∷ []))
 
     -- Where it is not, it makes one.
-    pub global_last : IsGlobal (zone_of xs) → IsSysmod s → ((f : ReceiveFault) → ¬ HasFault (zone_of xs) s f)
+    pub global_last : IsGlobal (zone_of xs) → IsSysmod s → HasNoFault (zone_of xs) s
         → IsGlobal (zone_of (xs ++ s ∷ []))
     global_last g formed no_fault =
         subst IsGlobal (ap (fold hold (with_sysmod (zone_of xs) s)) none ∙ zone_last)
@@ -174,15 +174,11 @@ module _ (xs : List Sysmod) (hs : List Hold) where
     size = g.size;
   }
 
--- what a refusal says
+-- A refusal that stands for a fault has that fault.
 module _ (g : Global) (s : Sysmod) where
-  pub some_fault : (o : Option Code) → IsRefusal g s o → is_some o ≡ true → (f : ReceiveFault) × HasFault g s f
-  some_fault None none some = absurd (true≢false (sym some))
-  some_fault (Some code.AlreadyReceived) fault some = (AlreadyReceived, fault)
-  some_fault (Some code.MakesLoop) (first, fault) some = (MakesLoop, fault)
-  some_fault (Some code.WrongRole) (first, second, fault) some = (WrongRole, fault)
-  some_fault (Some code.NoRoom) (first, second, third, fault) some = (NoRoom, fault)
-
-  pub no_fault_holds : (o : Option Code) → IsRefusal g s o → is_some o ≡ false → (f : ReceiveFault) → ¬ HasFault g s f
-  no_fault_holds None none some = none
-  no_fault_holds (Some fault) by some = absurd (true≢false some)
+  pub some_fault : (e : Refused) → IsRefused g s e → IsTrue (is_some (fault_of e)) → (f : ReceiveFault) × HasFault g s f
+  some_fault why.AlreadyReceived fault is = (AlreadyReceived, fault)
+  some_fault why.MakesLoop (first, fault) is = (MakesLoop, fault)
+  some_fault why.WrongRole (first, second, fault) is = (WrongRole, fault)
+  some_fault why.NoRoom (first, second, third, fault) is = (NoRoom, fault)
+  some_fault why.Memory fault is = absurd (true≢false (sym is))

@@ -24,8 +24,8 @@ use Rattle.terms.proofs.GlobalKept.{kind_from}
 use Rattle.terms.proofs.HoldOrder.{has_key_ties, number_back}
 use Rattle.terms.proofs.Orderings.{is_eq_then}
 use Rattle.sysmods.proofs.KeyedMaps as keyed
-use Rattle.sysmods.specs.declared.key.Place.{Place}
-use Rattle.sysmods.specs.declared.key.Place.TheVariants.{First, At, Last}
+use Rattle.sysmods.specs.declared.key.HoldPlace.{HoldPlace}
+use Rattle.sysmods.specs.declared.key.HoldPlace.TheVariants.{First, At, Last}
 use Rattle.sysmods.specs.declared.key.HoldKey.{HoldKey}
 use Rattle.sysmods.specs.Keys.{key_of, key_cmp, key_cmp_total, place_cmp, before_kind, behind_kind, IsByKey}
 use Rattle.sysmods.specs.Lists.{held, is_on}
@@ -38,7 +38,7 @@ abbrev pub key : Id → HoldKind → Text → HoldKey
 key x kind reason = record { id = x; kind = kind; place = At reason }
 
 -- keys that compare alike are one
-exact_place : (a b : Place) → is_eq (place_cmp a b) ≡ true → a ≡ b
+exact_place : (a b : HoldPlace) → is_eq (place_cmp a b) ≡ true → a ≡ b
 exact_place First First e = refl
 exact_place First (At b) e = absurd (true≢false (sym e))
 exact_place First Last e = absurd (true≢false (sym e))

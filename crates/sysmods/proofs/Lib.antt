@@ -21,5 +21,5 @@ pub mod Kept
 pub mod OneVer
 pub mod Receiving
 pub mod Taken
-mod KnownOvers
+mod KnownPairs
 pub mod NoneMet

@@ -7,15 +7,15 @@ use Rattle.std.specs.Cmp.Lexicographic.{slice_cmp}
 use Rattle.terms.specs.Types.{Hold, Sysmod, Global, a_global}
 use Rattle.terms.specs.Rising.{with_item}
 use Rattle.terms.specs.Lookups.{is_received}
-use Rattle.terms.specs.Global.{IsGlobal, IsSysmod, HasFault, RefusedBy, ReceiveFault, AlreadyReceived, MakesLoop}
+use Rattle.terms.specs.Global.{IsGlobal, IsSysmod, AlreadyReceived, MakesLoop}
 use Rattle.terms.specs.Global.{WrongRole, NoRoom, with_sysmod}
 use Rattle.terms.specs.Global.{received, fits_roles, RolesFit}
 use Rattle.terms.proofs.GlobalKept.{received_kept}
 use Rattle.sysmods.specs.Lists.{with_holds}
-use Rattle.sysmods.specs.declared.faults.ReceiveFault.{ReceiveFault as Code}
-use Rattle.sysmods.specs.declared.faults.ReceiveFault.TheVariants as code
+use Rattle.sysmods.specs.declared.refused.Refused.{Refused}
+use Rattle.sysmods.specs.declared.refused.Refused.TheVariants as why
 use Rattle.sysmods.specs.Held.{found, zone_of}
-use Rattle.sysmods.specs.Refused.{fault_of, IsRefusal}
+use Rattle.sysmods.specs.Refused.{HasNoFault, IsRefused}
 use Rattle.sysmods.proofs.Taken.{folded}
 
 -- roles that cannot but fit fit
@@ -29,25 +29,21 @@ roles_stable g never i d below j e within = by (fits_roles g (get_or (get_or g.s
 
 module _ (xs : List Sysmod) (hs : List Hold) (s : Sysmod) where
   -- faults do not look at holds
-  no_fault : ((f : ReceiveFault) → ¬ HasFault (zone_of xs) s f) → (f : ReceiveFault)
-      → ¬ HasFault (a_global xs hs) s f
+  pub no_fault : HasNoFault (zone_of xs) s → HasNoFault (a_global xs hs) s
   no_fault none AlreadyReceived = none AlreadyReceived
   no_fault none MakesLoop = none MakesLoop
   no_fault none WrongRole = none WrongRole
   no_fault none NoRoom = none NoRoom
 
-  same_fault : (f : Code) → RefusedBy (zone_of xs) s (fault_of f) → RefusedBy (a_global xs hs) s (fault_of f)
-  same_fault code.AlreadyReceived by = by
-  same_fault code.MakesLoop by = by
-  same_fault code.WrongRole by = by
-  same_fault code.NoRoom by = by
-
-  pub same_refusal : (fault : Option Code) → IsRefusal (zone_of xs) s fault → IsRefusal (a_global xs hs) s fault
-  same_refusal None none = no_fault none
-  same_refusal (Some f) by = same_fault f by
+  pub same_refusal : (e : Refused) → IsRefused (zone_of xs) s e → IsRefused (a_global xs hs) s e
+  same_refusal why.AlreadyReceived by = by
+  same_refusal why.MakesLoop by = by
+  same_refusal why.WrongRole by = by
+  same_refusal why.NoRoom by = by
+  same_refusal why.Memory by = by
 
   -- where no fault applies it is new
-  pub is_new : ((f : ReceiveFault) → ¬ HasFault (a_global xs hs) s f) → found xs s.id ≡ None
+  pub is_new : HasNoFault (a_global xs hs) s → found xs s.id ≡ None
   is_new none = by (found xs s.id) refl
     where
       by : (o : Option Sysmod) → found xs s.id ≡ o → found xs s.id ≡ None
@@ -60,8 +56,7 @@ pub taken : (g : Global) (s : Sysmod) (xs : List Sysmod) (hs : List Hold)
     → hs ≡ with_holds g.holds s.holds → a_global xs hs ≡ received g s
 taken g s xs hs xs_is hs_is = ap₂ a_global xs_is hs_is ∙ sym (folded s.holds (with_sysmod g s))
 
-pub kept : (g : Global) (s : Sysmod) → IsGlobal g → IsSysmod s → ((f : ReceiveFault) → ¬ HasFault g s f)
-    → IsGlobal (received g s)
+pub kept : (g : Global) (s : Sysmod) → IsGlobal g → IsSysmod s → HasNoFault g s → IsGlobal (received g s)
 kept g s k formed none = received_kept g s (new (is_received g s.id) refl) k formed (none MakesLoop)
     (roles_stable (with_sysmod g s) (none WrongRole)) room
   where

@@ -4,8 +4,8 @@ use Rattle.std.specs.Str.{bytes_eq}
 use Rattle.terms.specs.Types.{Text, Id, Global}
 use Rattle.terms.specs.Lookups.{is_nil}
 use Rattle.terms.specs.Choice.{Choice, vers_of}
-use Rattle.sysmods.specs.declared.choice.Pick.{Pick}
-use Rattle.sysmods.specs.declared.choice.VerChoice.{VerChoice}
+use Rattle.sysmods.specs.declared.ver_choice.Pick.{Pick}
+use Rattle.sysmods.specs.declared.ver_choice.VerChoice.{VerChoice}
 
 -- whether it is received with a ++VER for the SREL
 abbrev pub has_ver : Global → Text → Id → Bool

@@ -1,10 +1,12 @@
 -- What edits make of the global zone.
-use Rattle.std.specs.Prelude.{◌≡◌, ◌<◌, ℕ, false, List, All, Some, fold, length, get_or, take}
+use Rattle.std.specs.Prelude.{◌≡◌, ◌<◌, ℕ, false, List, All, IsTrue, Some, fold, length, get_or, take}
+use Rattle.std.specs.Ordering.{nat_cmp}
+use Rattle.std.specs.Cmp.Lexicographic.{slice_cmp}
 use Rattle.std.specs.Option.{option_map_or}
 use Rattle.terms.specs.Types.{Text, Id, Hold, Sysmod, Global}
 use Rattle.terms.specs.Global.{hold_cmp, with_sysmod, without_hold}
 use Rattle.terms.specs.Lookups.{is_received, sysmod_of}
-use Rattle.terms.specs.Rising.{with_item}
+use Rattle.terms.specs.Rising.{Rises, with_item}
 use Rattle.sysmods_values.specs.Edited.{with_sources, less_sysmod}
 use Rattle.sysmods.specs.declared.edit.GlobalEdit.{GlobalEdit}
 use Rattle.sysmods.specs.declared.edit.GlobalEdit.TheVariants.{PutHold, RemoveHold, InsertSysmod, ReplaceSources}
@@ -27,10 +29,15 @@ after_edit stated g (InsertSysmod x sources) = stated_with stated x sources.item
 after_edit stated g (ReplaceSources s) = with_sources s.id s.sources g
 after_edit stated g (RemoveSysmod x) = less_sysmod x g
 
--- A SYSMOD that is inserted is not received, and one whose sources are replaced keeps its kind.
+-- no source twice, in order
+abbrev pub AreSources : List Text → Type 0
+AreSources sources = Rises (slice_cmp nat_cmp) (λ t. t) sources
+
+-- A SYSMOD that is inserted is not received. One whose sources are replaced is received, and keeps its kind.
 abbrev pub Fits : Global → GlobalEdit → Type 0
-Fits g (InsertSysmod x sources) = is_received g x ≡ false
-Fits g (ReplaceSources s) = All (λ r. r.id ≡ s.id → r.kind ≡ s.kind) g.sysmods
+Fits g (InsertSysmod x sources) = (is_received g x ≡ false) × AreSources sources.items
+Fits g (ReplaceSources s) =
+    IsTrue (is_received g s.id) × All (λ r. r.id ≡ s.id → r.kind ≡ s.kind) g.sysmods × AreSources s.sources
 Fits g _ = Unit {0}
 
 -- the global zone after one edit and the next

@@ -10,25 +10,25 @@ use Rattle.std.specs.List.Sorted.{IsStrictlySortedBy}
 use Rattle.std.specs.Map.{keys_of}
 use Rattle.sysmods.specs.KeyedMaps.{KnowKeys}
 use Rattle.terms.specs.Types as terms
-use Rattle.sysmods.specs.declared.key.Place.{Place}
-use Rattle.sysmods.specs.declared.key.Place.TheVariants.{First, At, Last}
+use Rattle.sysmods.specs.declared.key.HoldPlace.{HoldPlace}
+use Rattle.sysmods.specs.declared.key.HoldPlace.TheVariants.{First, At, Last}
 use Rattle.sysmods.specs.declared.key.HoldKey.{HoldKey}
 
 abbrev pub key_of : terms.Hold → HoldKey
 key_of h = record { id = h.id; kind = h.kind; place = At h.reason }
 
 -- the ends are before and behind all reasons
-abbrev pub place_number : Place → ℕ
+abbrev pub place_number : HoldPlace → ℕ
 place_number First = 0
 place_number (At reason) = 1
 place_number Last = 2
 
-abbrev pub place_text : Place → terms.Text
+abbrev pub place_text : HoldPlace → terms.Text
 place_text First = []
 place_text (At reason) = reason
 place_text Last = []
 
-abbrev pub place_cmp : Place → Place → Ordering
+abbrev pub place_cmp : HoldPlace → HoldPlace → Ordering
 place_cmp a b = ordering_then (nat_cmp (place_number a) (place_number b))
     (slice_cmp nat_cmp (place_text a) (place_text b))
 

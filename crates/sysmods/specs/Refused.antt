@@ -1,17 +1,23 @@
--- What RECEIVE answers of a SYSMOD: the first fault that applies, or none does.
-use Rattle.std.specs.Prelude.{Option, None, Some}
+-- Why a SYSMOD is not received.
+use Rattle.std.specs.Prelude.{Option, None, Some, IfSome}
 use Rattle.terms.specs.Types.{Sysmod, Global}
-use Rattle.terms.specs.Global as global
-use Rattle.terms.specs.Global.{HasFault, RefusedBy}
-use Rattle.sysmods.specs.declared.faults.ReceiveFault.{ReceiveFault}
-use Rattle.sysmods.specs.declared.faults.ReceiveFault.TheVariants.{AlreadyReceived, MakesLoop, WrongRole, NoRoom}
+use Rattle.terms.specs.Global.{ReceiveFault, HasFault, RefusedBy}
+use Rattle.terms.specs.Global as rule
+use Rattle.sysmods.specs.declared.refused.Refused.{Refused}
+use Rattle.sysmods.specs.declared.refused.Refused.TheVariants.{AlreadyReceived, MakesLoop, WrongRole, NoRoom, Memory}
 
-abbrev pub fault_of : ReceiveFault → global.ReceiveFault
-fault_of AlreadyReceived = global.AlreadyReceived
-fault_of MakesLoop = global.MakesLoop
-fault_of WrongRole = global.WrongRole
-fault_of NoRoom = global.NoRoom
+-- the fault that an error stands for: want of memory is none of the SYSMOD's
+abbrev pub fault_of : Refused → Option ReceiveFault
+fault_of AlreadyReceived = Some rule.AlreadyReceived
+fault_of MakesLoop = Some rule.MakesLoop
+fault_of WrongRole = Some rule.WrongRole
+fault_of NoRoom = Some rule.NoRoom
+fault_of Memory = None
 
-abbrev pub IsRefusal : Global → Sysmod → Option ReceiveFault → Type 0
-IsRefusal g s None = (f : global.ReceiveFault) → ¬ HasFault g s f
-IsRefusal g s (Some f) = RefusedBy g s (fault_of f)
+-- none applies
+abbrev pub HasNoFault : Global → Sysmod → Type 0
+HasNoFault g s = (f : ReceiveFault) → ¬ HasFault g s f
+
+-- A fault that the error stands for is the first that applies.
+abbrev pub IsRefused : Global → Sysmod → Refused → Type 0
+IsRefused g s why = IfSome (fault_of why) (RefusedBy g s)

@@ -4,7 +4,7 @@ ghost use Rattle.std.specs.Iterator.{YieldsFirst, item_count};
 ghost use Rattle.sysmods.specs.Choices.{choice};
 ghost use Rattle.terms.specs.Over.{chain};
 
-use crate::choice::VerChoice;
+use crate::ver_choice::VerChoice;
 use fields::{Attest, Id};
 use std::marker::Model;
 

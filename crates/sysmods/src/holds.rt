@@ -10,7 +10,7 @@ ghost use Rattle.sysmods.specs.Internal.{IsNextInternal};
 ghost use Rattle.sysmods.specs.Undone.{Undoes, is_restoring};
 
 use crate::iter::Iter;
-use crate::key::{HoldKey, Place, key_of};
+use crate::key::{HoldKey, HoldPlace, key_of};
 use crate::undo::{Undo, put_each, take_back};
 use fields::{Id, Reason};
 use sorted::are_rising;
@@ -117,12 +117,12 @@ impl Holds {
         let first = HoldKey {
             id,
             kind,
-            place: Place::First,
+            place: HoldPlace::First,
         };
         let last = HoldKey {
             id,
             kind,
-            place: Place::Last,
+            place: HoldPlace::Last,
         };
         Iter::new(self.map.range(first..last))
     }
@@ -183,7 +183,7 @@ impl Holds {
         let mut from = HoldKey {
             id,
             kind: HoldKind::Error,
-            place: Place::First,
+            place: HoldPlace::First,
         };
         while let Some(key) = next_internal(&self.map, from) {
             drop(self.map.remove(&key));
@@ -225,7 +225,7 @@ fn next_internal(map: &BTreeMap<HoldKey, Hold>, from: HoldKey) -> Option<HoldKey
     let end = HoldKey {
         id: from.id,
         kind: HoldKind::User,
-        place: Place::Last,
+        place: HoldPlace::Last,
     };
     for (key, hold) in map.range(from..end) {
         if hold.internal {

@@ -10,7 +10,7 @@ use terms::HoldKind;
 
 /// A place among the holds of an id and a kind: that of a reason, or an end, where no hold is.
 #[derive(Clone, Copy, Debug, PartialEq, Eq, PartialOrd, Ord)]
-pub(crate) enum Place {
+pub(crate) enum HoldPlace {
     First,
     At(Reason),
     Last,
@@ -21,17 +21,17 @@ pub(crate) enum Place {
 pub(crate) struct HoldKey {
     pub id: Id,
     pub kind: HoldKind,
-    pub place: Place,
+    pub place: HoldPlace,
 }
 
 impl HoldKey {
     pub(crate) fn new(id: Id, kind: HoldKind, reason: Reason) -> HoldKey
-        ensures { result ≡ record { id = id; kind = kind; place = Place.At reason } }
+        ensures { result ≡ record { id = id; kind = kind; place = HoldPlace.At reason } }
     {
         HoldKey {
             id,
             kind,
-            place: Place::At(reason),
+            place: HoldPlace::At(reason),
         }
     }
 }
@@ -87,7 +87,7 @@ impl Ord for HoldKey {
 
 /// The key of a hold.
 pub(crate) fn key_of(hold: &Hold) -> HoldKey
-    ensures { result ≡ record { id = hold.now.id; kind = hold.now.kind; place = Place.At hold.now.reason } }
+    ensures { result ≡ record { id = hold.now.id; kind = hold.now.kind; place = HoldPlace.At hold.now.reason } }
 {
     HoldKey::new(hold.id, hold.kind, hold.reason)
 }

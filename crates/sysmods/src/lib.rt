@@ -8,9 +8,8 @@
 #![tactic(auto)]
 
 mod chain;
-mod choice;
 mod edit;
-mod faults;
+mod global_zone;
 mod holds;
 mod index;
 mod iter;
@@ -25,16 +24,16 @@ mod refused;
 mod roles;
 mod search;
 mod undo;
+mod ver_choice;
 mod ways;
-mod zone;
 
 pub use chain::Chain;
-pub use choice::{Pick, VerChoice, has_ver, numbered_ver};
 pub use edit::GlobalEdit;
-pub use faults::ReceiveFault;
 pub use fields::{Class, Id, Name, Reason, Source, Srel, ZoneName};
+pub use global_zone::{GlobalZone, RejectError};
 pub use holds::{Placed, ReleaseError};
-pub use overs::Overs;
+pub use overs::{KnownOvers, Overs};
+pub use refused::Refused;
 pub use sysmods_values::{ElemChange, Hold, IfReq, Sysmod, Ver};
 pub use terms::Kind;
-pub use zone::{GlobalZone, RejectError};
+pub use ver_choice::{Pick, VerChoice, has_ver, numbered_ver};

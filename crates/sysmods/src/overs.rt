@@ -5,7 +5,7 @@ ghost use Rattle.terms.specs.Over.{IsOver};
 ghost use Rattle.sysmods.specs.Choices.{choice};
 ghost use Rattle.sysmods.specs.Overs.{AreOver, is_known, is_one_known};
 
-use crate::choice::VerChoice;
+use crate::ver_choice::VerChoice;
 use fields::Id;
 use indexmap::IndexSet;
 use std::alloc::{AllocError, Global};
@@ -19,8 +19,24 @@ pub struct Overs<'a, 'b> {
     known: IndexSet<(Id, Id)>,
 }
 
+/// The pairs of ids that an `Overs` has found, the first over the second, without the choice of `++VER`s that they are
+/// of. A contract sees their list.
+#[derive(Drop)]
+pub struct KnownOvers {
+    pairs: IndexSet<(Id, Id)>,
+}
+
+impl Model for KnownOvers {
+    ghost use Rattle.std.specs.Prelude.{List};
+    ghost use Rattle.terms.specs.Types.{Id as AnId};
+
+    ghost Value = { List (AnId × AnId) };
+
+    ghost view = { λ a. a.pairs.keys };
+}
+
 impl<'a, 'b> Model for Overs<'a, 'b> {
-    ghost use Rattle.sysmods.specs.declared.choice.VerChoice as choices;
+    ghost use Rattle.sysmods.specs.declared.ver_choice.VerChoice as choices;
 
     ghost Value = { choices.VerChoice };
 
@@ -41,6 +57,24 @@ impl<'a, 'b> Overs<'a, 'b> {
             vers,
             known: IndexSet::new(alloc),
         }
+    }
+
+    /// Goes on with the pairs that another `Overs` of the same choice has found.
+    pub fn resume(vers: &'a VerChoice<'b>, known: KnownOvers) -> Self
+        requires { AreOver (choice vers.now) known }
+        ensures { result ≡ vers.now }
+    {
+        Overs {
+            vers,
+            known: known.pairs,
+        }
+    }
+
+    /// The pairs that it has found: `resume` goes on with them.
+    pub fn into_known(self) -> KnownOvers
+        ensures { AreOver (choice self.entry) result }
+    {
+        KnownOvers { pairs: self.known }
     }
 
     /// The choice of the `++VER`s that count.

@@ -1,15 +1,17 @@
 //! The SYSMODs and holds of a global zone, out of lists.
-ghost use Rattle.std.specs.Prelude.{◌≡◌, ◌↔◌, ◌++◌, [], ◌∷◌, All, IsTrue, IsSome, IfOk, IfSome};
+ghost use Rattle.std.specs.Prelude.{◌≡◌, ◌↔◌, ◌++◌, [], ◌∷◌, All, IsTrue, IsSome, IfOk, IfSome, false, is_some};
 ghost use Rattle.std.specs.Ordering.{is_lt, nat_cmp};
 ghost use Rattle.std.specs.Cmp.Lexicographic.{slice_cmp};
 ghost use Rattle.terms.specs.Global.{IsGlobal};
 ghost use Rattle.sysmods.specs.Held.{zone_of};
+ghost use Rattle.sysmods.specs.Refused.{fault_of};
 ghost use Rattle.terms.specs.declared.kinds.HoldKind.TheVariants.{System};
 ghost use Rattle.terms.specs.Lookups.{is_received};
 ghost use Rattle.terms.proofs.GlobalKept.{IsOwned};
 
+use crate::receive::receivable;
 use crate::received::Received;
-use crate::refused::refusal;
+use crate::refused::Refused;
 use fields::Attest;
 use sorted::are_rising;
 use std::alloc::{AllocError, Global};
@@ -47,12 +49,26 @@ fn push_last(alloc: Global, received: &mut Received, sysmod: Sysmod) -> Result<b
     if !carries_none(&sysmod) {
         return Ok(false);
     }
-    if refusal(alloc, received, &sysmod)?.is_some() {
-        return Ok(false);
+    match receivable(alloc, received, &sysmod) {
+        Ok(()) => {}
+        Err(why) => return unfit(why),
     }
     sysmod.attest();
     drop(received.insert(sysmod)?);
     Ok(true)
+}
+
+// `false` for a fault of the SYSMOD; an error if memory ran out.
+fn unfit(why: Refused) -> Result<bool, AllocError>
+    ensures { IfOk result (λ fits. (fits ≡ false) × IsTrue (is_some (fault_of why))) }
+{
+    match why {
+        Refused::Memory => Err(AllocError),
+        Refused::AlreadyReceived => Ok(false),
+        Refused::MakesLoop => Ok(false),
+        Refused::WrongRole => Ok(false),
+        Refused::NoRoom => Ok(false),
+    }
 }
 
 fn carries_none(sysmod: &Sysmod) -> bool

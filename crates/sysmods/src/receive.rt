@@ -1,15 +1,46 @@
-//! Taking a SYSMOD in.
-ghost use Rattle.std.specs.Prelude.{◌≡◌, [], None, OnOk, OnErr};
+//! Whether a SYSMOD may be received, and taking it in.
+ghost use Rattle.std.specs.Prelude.{◌≡◌, [], None, OnOk, OnErr, IfErr};
 ghost use Rattle.std.specs.Ordering.{nat_cmp};
 ghost use Rattle.std.specs.Cmp.Lexicographic.{slice_cmp};
+ghost use Rattle.terms.specs.Global.{HasLoop, RolesFit};
 ghost use Rattle.terms.specs.Rising.{with_item};
 ghost use Rattle.sysmods.specs.Lists.{with_holds};
-ghost use Rattle.sysmods.specs.Held.{found};
+ghost use Rattle.sysmods.specs.Held.{found, zone_of};
+ghost use Rattle.sysmods.specs.Refused.{HasNoFault, IsRefused};
 
 use crate::holds::Holds;
+use crate::loops::makes_loop;
 use crate::received::Received;
+use crate::refused::Refused;
+use crate::roles::roles_fit;
 use std::alloc::{AllocError, Global};
 use sysmods_values::Sysmod;
+
+/// How many SYSMODs may be received.
+const MOST: usize = 65_535;
+
+/// Whether the SYSMOD may be received. The error is the first fault by which RECEIVE refuses it. The caller keeps that
+/// the received SYSMODs have no loop and that their roles fit: a SYSMOD without a fault keeps both.
+pub(crate) fn receivable(alloc: Global, received: &Received, sysmod: &Sysmod) -> Result<(), Refused>
+    requires no_loop { ¬ HasLoop (zone_of received.now) }
+    requires roles { RolesFit (zone_of received.now) }
+    ensures ok { OnOk result (HasNoFault (zone_of received.now) sysmod.now) }
+    ensures refused { IfErr result (IsRefused (zone_of received.now) sysmod.now) }
+{
+    if received.contains(sysmod.id) {
+        return Err(Refused::AlreadyReceived);
+    }
+    if makes_loop(alloc, received, sysmod)? {
+        return Err(Refused::MakesLoop);
+    }
+    if !roles_fit(received, sysmod) {
+        return Err(Refused::WrongRole);
+    }
+    if received.len() >= MOST {
+        return Err(Refused::NoRoom);
+    }
+    Ok(())
+}
 
 /// Takes a new SYSMOD in, and its holds among the others. After an error neither came in: the SYSMOD comes first, since
 /// taking it out again takes no memory.

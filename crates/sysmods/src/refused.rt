@@ -1,42 +1,29 @@
-//! Why a SYSMOD may not be received.
-ghost use Rattle.std.specs.Prelude.{IfOk};
-ghost use Rattle.terms.specs.Global.{HasLoop, RolesFit};
-ghost use Rattle.sysmods.specs.Held.{zone_of};
-ghost use Rattle.sysmods.specs.Refused.{IsRefusal};
+//! Why RECEIVE refuses a SYSMOD.
+use std::alloc::AllocError;
+use thiserror::Error;
 
-use crate::faults::ReceiveFault;
-use crate::loops::makes_loop;
-use crate::received::Received;
-use crate::roles::roles_fit;
-use std::alloc::{AllocError, Global};
-use sysmods_values::Sysmod;
+/// Why the global zone does not receive a SYSMOD: a fault of the SYSMOD, or memory ran out.
+#[derive(Clone, Copy, Debug, PartialEq, Eq, Error)]
+pub enum Refused {
+    #[error("the SYSMOD is already received")]
+    AlreadyReceived,
+    #[error("the SYSMOD closes a loop of PRE, SUP and FMID")]
+    MakesLoop,
+    #[error("a function is named where only service may be, or service where only functions may")]
+    WrongRole,
+    #[error("65,535 SYSMODs are received")]
+    NoRoom,
+    #[error("out of memory")]
+    Memory,
+}
 
-/// How many SYSMODs may be received.
-const MOST: usize = 65_535;
+impl From<AllocError> for Refused {
+    ghost use Rattle.std.specs.Prelude.{◌≡◌};
+    ghost use Rattle.sysmods.specs.declared.refused.Refused.TheVariants.{Memory};
 
-/// The first fault by which RECEIVE refuses the SYSMOD, if there is one. That there is no loop and roles
-/// fit among the received ones is the caller's to keep: what `refusal` passes keeps it. The error comes where memory
-/// runs out.
-pub fn refusal(
-    alloc: Global,
-    received: &Received,
-    sysmod: &Sysmod,
-) -> Result<Option<ReceiveFault>, AllocError>
-    requires no_loop { ¬ HasLoop (zone_of received.now) }
-    requires roles { RolesFit (zone_of received.now) }
-    ensures { IfOk result (λ fault. IsRefusal (zone_of received.now) sysmod.now fault) }
-{
-    if received.contains(sysmod.id) {
-        return Ok(Some(ReceiveFault::AlreadyReceived));
+    ghost from_gives = { λ _ e. e ≡ Memory };
+
+    fn from(_e: AllocError) -> Refused {
+        Refused::Memory
     }
-    if makes_loop(alloc, received, sysmod)? {
-        return Ok(Some(ReceiveFault::MakesLoop));
-    }
-    if !roles_fit(received, sysmod) {
-        return Ok(Some(ReceiveFault::WrongRole));
-    }
-    if received.len() >= MOST {
-        return Ok(Some(ReceiveFault::NoRoom));
-    }
-    Ok(None)
 }

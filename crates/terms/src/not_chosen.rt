@@ -1,11 +1,13 @@
 //! Why an id that a command names is no candidate of it.
 
-/// The status of an id that SELECT or GROUP names and that is no candidate: `Already`
-/// supplied, `Deleted`, `Missing` from the global zone, or `NoVer` for the zone's SREL.
+/// The status of an id that a command names and that is not one of its candidates. SELECT and GROUP name an id that is
+/// `Already` supplied, `Deleted`, `Missing` from the global zone, or has `NoVer` for the zone's SREL. RESTORE names an
+/// id that is `NotApplied`.
 #[derive(Clone, Copy, Debug, PartialEq, Eq, PartialOrd, Ord, Hash)]
 pub enum NotChosen {
     Already,
     Deleted,
     Missing,
     NoVer,
+    NotApplied,
 }

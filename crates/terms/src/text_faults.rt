@@ -1,5 +1,7 @@
 //! The faults of texts of elements.
 
+use thiserror::Error;
+
 /// What is wrong with a record of a text, in the order of the codes `Tx1` to `Tx6`.
 #[derive(Clone, Copy, Debug, PartialEq, Eq)]
 pub enum TextCode {
@@ -18,7 +20,8 @@ pub enum TextCode {
 }
 
 /// The first record of a text that is at fault, counted from 1.
-#[derive(Clone, Copy, Debug, PartialEq, Eq)]
+#[derive(Clone, Copy, Debug, PartialEq, Eq, Error)]
+#[error("record {number} of the text is at fault")]
 pub struct TextFault {
     pub number: usize,
     pub code: TextCode,

@@ -8,7 +8,7 @@ use thiserror::Error;
 pub enum TextError {
     #[error("out of memory")]
     Memory,
-    #[error("a record of the text is at fault")]
+    #[error("{0}")]
     Fault(TextFault),
 }
 

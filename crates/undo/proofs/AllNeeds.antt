@@ -6,7 +6,7 @@ use Rattle.std.specs.List.{flat_map}
 use Rattle.std.specs.Str.{bytes_eq}
 use Rattle.std.proofs.lemmas.Bool.{and_parts, not-true}
 use Rattle.std.proofs.lemmas.List.Elements.{Contains-append_left, Contains-append_right, Contains-append_cases}
-use Rattle.std.proofs.lemmas.List.Elements.{All-map}
+use Rattle.std.proofs.lemmas.List.Elements.{All-contains, All-map}
 use Rattle.terms.proofs.ListMembers.{in_map, map_in, in_filter, filter_in, in_flat, flat_in}
 use Rattle.terms.proofs.Pairs.{AllPairs_join, pairs_map}
 use Rattle.terms.proofs.TextOrder.{same_itself, other_text}
@@ -14,15 +14,14 @@ use Rattle.terms.specs.declared.codes.NeedKind.{NeedKind}
 use Rattle.terms.specs.declared.codes.NeedKind.TheVariants.{Fmid, Pre, Req, Ifreq, HoldError, Orphan, Elem, Dep}
 use Rattle.terms.specs.Types.{Id}
 use Rattle.terms.specs.Lookups.{IsZone, is_in, is_applied, is_supplied, applied_ids, change_key, changes_of, has_change}
-use Rattle.terms.specs.Restore.{Restoring, NeedsDep, NeedsInRestore, restore_candidates}
+use Rattle.terms.specs.Restore.{Restoring, NeedsDep, NeedsInRestore}
 use Rattle.terms.proofs.Ids.{is_in_from_Contains, Contains_from_is_in}
 use Rattle.terms.proofs.Applied.{applied_are}
 use Rattle.judge_system.specs.declared.stated.RequisiteOf.{RequisiteOf}
 use Rattle.undo.specs.Dependences.{dependents}
 use Rattle.sorted.specs.ElementKeys.{key_cmp}
 use Rattle.sorted.specs.Lists.{listed}
-use Rattle.undo.specs.Elements.{Changers, AreChangers, sharers, beside}
-use Rattle.undo.specs.Restoring.{changed_keys}
+use Rattle.undo.specs.Elements.{Changers, AreChangers, changed_keys, sharers, beside}
 use Rattle.undo.specs.Pairs.{is_own, AreOwn}
 use Rattle.undo.specs.Needed.{pair_need, HaveElem, HaveDep, AreNeeds}
 use Rattle.terms.proofs.ChangedElements.{changes_to}
@@ -99,13 +98,13 @@ module _ (r : Restoring) (is_zone : IsZone r.zone) (others : List Id)
 
 -- ---- both kinds
 
-pub have_dep_holds : (r : Restoring) → IsZone r.zone → (ids cands : List Id) → cands ≡ restore_candidates r ids
-    → (pairs : List Pair) → pairs ≡ flat_map (dependents r (is_in ids)) (applied_ids r.zone)
-    → HaveDep r ids cands pairs
-have_dep_holds r is_zone ids cands are pairs made x y other own =
-    let kept = filter_in (is_applied r.zone) ids x (subst (λ l. Contains l x) are own) in
-    subst (λ l. Contains {X = Pair} l (x, y) ↔ NeedsDep r (is_in ids) x y) (sym made)
-    (dependents_are r is_zone (is_in ids) x y other kept.1 (is_in_from_Contains ids x kept.0))
+pub have_dep_holds : (r : Restoring) → IsZone r.zone → (cands : List Id)
+    → All (λ x. IsTrue (is_applied r.zone x)) cands
+    → (pairs : List Pair) → pairs ≡ flat_map (dependents r (is_in cands)) (applied_ids r.zone) → HaveDep r cands pairs
+have_dep_holds r is_zone cands applied pairs made x y other own =
+    subst (λ l. Contains {X = Pair} l (x, y) ↔ NeedsDep r (is_in cands) x y) (sym made)
+    (dependents_are r is_zone (is_in cands) x y other
+    (All-contains (λ v. IsTrue (is_applied r.zone v)) cands x applied own) (is_in_from_Contains cands x own))
 
 own_parts : (cands : List Id) (x y : Id) → IsTrue (is_own cands (x, y)) → Contains cands x × (y ≢ x)
 own_parts cands x y own =
@@ -122,15 +121,15 @@ own_whole : (cands : List Id) (x y : Id) → Contains cands x → y ≢ x → Is
 own_whole cands x y there other =
     rw (is_in_from_Contains cands x there, other_text x y (λ same. other (sym same))) refl
 
-module _ (r : Restoring) (ids cands : List Id) (are : cands ≡ restore_candidates r ids)
+module _ (r : Restoring) (cands : List Id) (applied : All (λ x. IsTrue (is_applied r.zone x)) cands)
     (elem dep own_elem own_dep : List Pair)
-    (have_elem : HaveElem r cands elem) (have_dep : HaveDep r ids cands dep) (of_elem : AreOwn cands elem own_elem)
+    (have_elem : HaveElem r cands elem) (have_dep : HaveDep r cands dep) (of_elem : AreOwn cands elem own_elem)
     (of_dep : AreOwn cands dep own_dep) where
   on : (x : Id) → Contains cands x → IsTrue (is_applied r.zone x)
-  on x there = (filter_in (is_applied r.zone) ids x (subst (λ l. Contains l x) are there)).1
+  on x there = All-contains (λ v. IsTrue (is_applied r.zone v)) cands x applied there
 
   elem_is : (x y : Id) → Contains {X = Pair} own_elem (x, y)
-      ↔ (Contains cands x × NeedsInRestore r (is_in ids) x Elem y)
+      ↔ (Contains cands x × NeedsInRestore r (is_in cands) x Elem y)
   elem_is x y = (
     λ h.
         let m = (of_elem.members (x, y)).0 h in
@@ -140,7 +139,7 @@ module _ (r : Restoring) (ids cands : List Id) (are : cands ≡ restore_candidat
         ((have_elem x y n.1.1.other).1 (n.0, n.1.1), own_whole cands x y n.0 n.1.1.other),
   )
 
-  dep_is : (x y : Id) → Contains {X = Pair} own_dep (x, y) ↔ (Contains cands x × NeedsInRestore r (is_in ids) x Dep y)
+  dep_is : (x y : Id) → Contains {X = Pair} own_dep (x, y) ↔ (Contains cands x × NeedsInRestore r (is_in cands) x Dep y)
   dep_is x y = (
     λ h.
         let m = (of_dep.members (x, y)).0 h in
@@ -154,23 +153,23 @@ module _ (r : Restoring) (ids cands : List Id) (are : cands ≡ restore_candidat
   both = map (pair_need Elem) own_elem ++ map (pair_need Dep) own_dep
 
   needs_from : (x : Id) (kind : NeedKind) (y : Id) → Contains both (pair_need kind (x, y))
-      → Contains cands x × NeedsInRestore r (is_in ids) x kind y
+      → Contains cands x × NeedsInRestore r (is_in cands) x kind y
   needs_from x kind y h =
       elim (Contains-append_cases (map (pair_need Elem) own_elem) (map (pair_need Dep) own_dep) (pair_need kind (x, y))
       h) [
         | inl front ↦
             let m = map_in (pair_need Elem) own_elem (pair_need kind (x, y)) front in
             let pair : m.0 ≡ (x, y) = ap (λ (w : RequisiteOf). (w.of, w.id)) m.2 in
-            subst (λ k. Contains cands x × NeedsInRestore r (is_in ids) x k y) (ap (λ (w : RequisiteOf). w.kind) m.2)
+            subst (λ k. Contains cands x × NeedsInRestore r (is_in cands) x k y) (ap (λ (w : RequisiteOf). w.kind) m.2)
             ((elem_is x y).0 (subst (Contains own_elem) pair m.1))
         | inr back ↦
             let m = map_in (pair_need Dep) own_dep (pair_need kind (x, y)) back in
             let pair : m.0 ≡ (x, y) = ap (λ (w : RequisiteOf). (w.of, w.id)) m.2 in
-            subst (λ k. Contains cands x × NeedsInRestore r (is_in ids) x k y) (ap (λ (w : RequisiteOf). w.kind) m.2)
+            subst (λ k. Contains cands x × NeedsInRestore r (is_in cands) x k y) (ap (λ (w : RequisiteOf). w.kind) m.2)
             ((dep_is x y).0 (subst (Contains own_dep) pair m.1))
       ]
 
-  needs_to : (x : Id) (kind : NeedKind) (y : Id) → Contains cands x → NeedsInRestore r (is_in ids) x kind y
+  needs_to : (x : Id) (kind : NeedKind) (y : Id) → Contains cands x → NeedsInRestore r (is_in cands) x kind y
       → Contains both (pair_need kind (x, y))
   needs_to x Elem y there n =
       Contains-append_left (map (pair_need Elem) own_elem) (map (pair_need Dep) own_dep) (pair_need Elem (x, y))
@@ -191,8 +190,8 @@ module _ (r : Restoring) (ids cands : List Id) (are : cands ≡ restore_candidat
       pairs_map (λ p q. p ≢ q) (λ v w. v ≢ w) (pair_need kind)
       (λ p q apart same. apart (ap (λ (w : RequisiteOf). (w.of, w.id)) same)) pairs once
 
-  pub are_needs : (needs : List RequisiteOf) → needs ≡ both → AreNeeds r ids cands needs
-  are_needs needs made = subst (AreNeeds r ids cands) (sym made) (record {
+  pub are_needs : (needs : List RequisiteOf) → needs ≡ both → AreNeeds r cands needs
+  are_needs needs made = subst (AreNeeds r cands) (sym made) (record {
     members = λ x kind y. (needs_from x kind y, λ n. needs_to x kind y n.0 n.1);
     once = AllPairs_join (λ v w. v ≢ w) (map (pair_need Elem) own_elem) (map (pair_need Dep) own_dep)
         (once_each Elem own_elem of_elem.once) (once_each Dep own_dep of_dep.once)

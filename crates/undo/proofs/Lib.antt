@@ -1,4 +1,5 @@
 pub mod Supplying
+pub mod Settings
 pub mod ListedBySteps
 pub mod Reached
 pub mod RulesOfSteps
@@ -6,8 +7,5 @@ pub mod PairOrder
 pub mod Changed
 pub mod Needing
 pub mod AllNeeds
-pub mod Candidates
+pub mod RestoreJudged
 pub mod Testing
-pub mod LessEdits
-pub mod Reverted
-pub mod AfterRestore

@@ -25,7 +25,7 @@ use Rattle.undo.specs.declared.nodes.Node.TheVariants.{Sysmod, Element}
 use Rattle.undo.specs.declared.nodes.Step.{Step as RustStep}
 use Rattle.undo.specs.contracts.nodes.NodeOrd.TheImpl as node_order
 use Rattle.undo.specs.Steps.{Step, as_step, as_steps, is_start}
-use Rattle.undo.specs.ByNumbers.{ArePlaces, IsNumbered, AreNumbered, IsGrowth, AddsRule, Covers, nodes_in}
+use Rattle.undo.specs.ByNumbers.{ArePlaces, IsNumbered, AreNumberedRules, IsGrowth, AddsRule, Covers, nodes_in}
 use Rattle.undo.specs.ByNumbers.{sysmod_in, AreFlagged, IsFlagged, AreReached}
 use Rattle.terms.proofs.Each.{All_from_each}
 use Rattle.undo.proofs.Reached.{flagged_reached}
@@ -71,7 +71,8 @@ numbered_rule table s r is rising = record {
 -- ---- one rule more
 
 both_numbered : (table : List Node) (steps : List Step) (rules : List Rule) (s : Step) (r : Rule)
-    → AreNumbered table steps rules → IsNumbered table s r → AreNumbered table (steps ++ s ∷ []) (rules ++ r ∷ [])
+    → AreNumberedRules table steps rules → IsNumbered table s r
+    → AreNumberedRules table (steps ++ s ∷ []) (rules ++ r ∷ [])
 both_numbered table steps rules s r are is = record {
   there = λ t h. elim (Contains-append_cases steps (s ∷ []) t h) [
     | inl old ↦ (let p = are.there t old in (p.0, Contains-append_left rules (r ∷ []) p.0 p.1, p.2))

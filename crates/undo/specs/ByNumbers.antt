@@ -20,7 +20,7 @@ pub record IsNumbered (table : List Node) (s : Step) (r : Rule) : Type 0 where
   pub that : slice_get table r.that ≡ Some s.that
 
 -- the rules are the steps
-pub record AreNumbered (table : List Node) (steps : List Step) (rules : List Rule) : Type 0 where
+pub record AreNumberedRules (table : List Node) (steps : List Step) (rules : List Rule) : Type 0 where
   pub there : (s : Step) → Contains steps s → (r : Rule) × Contains rules r × IsNumbered table s r
   pub only : (r : Rule) → Contains rules r → (s : Step) × Contains steps s × IsNumbered table s r
 
@@ -36,7 +36,7 @@ pub record Covers (table : List Node) (s : RustStep) : Type 0 where
 -- the numbered system
 pub record IsGrowth (table : List Node) (ids : List Id) (steps : List Step) (g : Growth) : Type 0 where
   pub start : g.start ≡ map (is_start ids) table
-  pub rules : AreNumbered table steps g.rules
+  pub rules : AreNumberedRules table steps g.rules
 
 -- the system with one more rule
 pub record AddsRule (table : List Node) (s : Step) (old new : Growth) : Type 0 where

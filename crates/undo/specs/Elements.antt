@@ -5,7 +5,10 @@ use Rattle.sorted.specs.ElementKeys.{Key, key_cmp}
 use Rattle.sorted.specs.Lists.{Lists, listed, Holds, OneOf}
 use Rattle.terms.specs.Types.{Id, Global}
 use Rattle.terms.specs.Lookups.{change_key, changes_of}
-use Rattle.undo.specs.Restoring.{changed_keys}
+
+-- the elements that a SYSMOD changes
+abbrev pub changed_keys : Global → Id → List Key
+changed_keys g x = map change_key (changes_of g x)
 
 -- for each element some SYSMODs that change it
 abbrev pub Changers : Type 0

@@ -1,4 +1,5 @@
 pub mod Scopes
+pub mod Candidates
 pub mod Steps
 pub mod NodeOrder
 pub mod ByNumbers
@@ -7,4 +8,4 @@ pub mod Elements
 pub mod Tests
 pub mod Pairs
 pub mod Needed
-pub mod Restoring
+pub mod Judged

@@ -17,12 +17,12 @@ HaveElem r cands pairs =
     (x y : Id) → y ≢ x → Contains {X = Id × Id} pairs (x, y) ↔ (Contains cands x × NeedsElem r x y)
 
 -- and what depends on candidates
-abbrev pub HaveDep : Restoring → List Id → List Id → List (Id × Id) → Type 0
-HaveDep r ids cands pairs =
-    (x y : Id) → y ≢ x → Contains cands x → Contains {X = Id × Id} pairs (x, y) ↔ NeedsDep r (is_in ids) x y
+abbrev pub HaveDep : Restoring → List Id → List (Id × Id) → Type 0
+HaveDep r cands pairs =
+    (x y : Id) → y ≢ x → Contains cands x → Contains {X = Id × Id} pairs (x, y) ↔ NeedsDep r (is_in cands) x y
 
 -- the list has the needs of the candidates, each once
-pub record AreNeeds (r : Restoring) (ids cands : List Id) (needs : List RequisiteOf) : Type 0 where
+pub record AreNeeds (r : Restoring) (cands : List Id) (needs : List RequisiteOf) : Type 0 where
   pub members : (x : Id) (kind : NeedKind) (y : Id)
-      → Contains needs (a_need x kind y) ↔ (Contains cands x × NeedsInRestore r (is_in ids) x kind y)
+      → Contains needs (a_need x kind y) ↔ (Contains cands x × NeedsInRestore r (is_in cands) x kind y)
   pub once : AllPairs (λ v w. v ≢ w) needs

@@ -1,13 +1,12 @@
 //! What an applied SYSMOD depends on: its function, and for each of its requisites those who supply it.
-ghost use Rattle.std.specs.Prelude.{◌≡◌, filter, map, IfOk};
+ghost use Rattle.std.specs.Prelude.{◌≡◌, filter, map, All, IsTrue, IfOk};
 ghost use Rattle.std.specs.List.{flat_map, list_all};
-ghost use Rattle.terms.specs.Lookups.{is_in, supby_of};
-ghost use Rattle.terms.specs.Restore.{restore_candidates};
+ghost use Rattle.terms.specs.Lookups.{is_applied, is_in, supby_of};
 ghost use Rattle.undo.specs.Scopes.{restoring_of};
 ghost use Rattle.undo.specs.Dependences.{suppliers, dependences_of};
 ghost use Rattle.undo.specs.Needed.{HaveDep};
 
-use crate::scope::{Scope, applied_among};
+use crate::scope::{RestoreScope, applied_among};
 use fields::{Attest, Id, IdList};
 use std::alloc::{AllocError, Global};
 use zones::{Zone, requisites_held};
@@ -34,7 +33,7 @@ fn suppliers(alloc: Global, zone: &Zone, id: Id) -> Result<Vec<Id>, AllocError>
 /// The groups of applied SYSMODs on which it depends: it is to go as soon as all of one group go, if that has any.
 pub(crate) fn dependences_of(
     alloc: Global,
-    scope: &Scope<'_, '_>,
+    scope: &RestoreScope<'_, '_>,
     id: Id,
 ) -> Result<Vec<Vec<Id>>, AllocError>
     ensures { IfOk result (λ groups. map (λ group. group.items) groups.items
@@ -70,21 +69,20 @@ fn all_within(alloc: Global, list: &IdList, groups: &[Vec<Id>]) -> Result<Vec<Id
         .collect(alloc)
 }
 
-/// The candidates with those that depend on them: on a group which is in the list as a whole.
+/// The candidates, which are applied, with those that depend on them: on a group which are candidates as a whole.
 pub(crate) fn dep_pairs(
     alloc: Global,
-    scope: &Scope<'_, '_>,
-    list: &IdList,
+    scope: &RestoreScope<'_, '_>,
     cands: &IdList,
 ) -> Result<Vec<(Id, Id)>, AllocError>
-    requires { cands.now ≡ restore_candidates (restoring_of scope.now) list.now }
-    ensures { IfOk result (λ pairs. HaveDep (restoring_of scope.now) list.now cands.now pairs.items) }
+    requires { All (λ x. IsTrue (is_applied scope.now.zone.now x)) cands.now }
+    ensures { IfOk result (λ pairs. HaveDep (restoring_of scope.now) cands.now pairs.items) }
 {
     scope.zone.attest();
     let mut pairs = Vec::new(alloc);
     for by in scope.applied {
         let groups = dependences_of(alloc, scope, *by)?;
-        let ids = all_within(alloc, list, groups.as_slice())?;
+        let ids = all_within(alloc, cands, groups.as_slice())?;
         for id in ids.as_slice() {
             pairs.push((*id, *by))?;
         }

@@ -1,47 +1,38 @@
-//! The candidates of a RESTORE, judged: their tests and their needs.
-ghost use Rattle.std.specs.Prelude.{◌≡◌, [], IfOk, map};
-ghost use Rattle.terms.specs.Lookups.{is_in};
-ghost use Rattle.terms.specs.Needs.{Serves};
-ghost use Rattle.terms.specs.Restore.{FailsRestore, MayBeRestored, NeedsInRestore, restore_candidates};
-ghost use Rattle.sysmods.specs.Choices.{choice};
-ghost use Rattle.undo.specs.Scopes.{restoring_of};
-ghost use Rattle.judge_system.specs.Judged.{AreJudged};
+//! The numbered system of a RESTORE.
+ghost use Rattle.std.specs.Prelude.{◌≡◌, List, All, IsTrue, IfOk};
+ghost use Rattle.terms.specs.Types.{Id as AnId};
+ghost use Rattle.terms.specs.Lookups.{is_applied};
+ghost use Rattle.terms.specs.Restore.{restore_candidates};
+ghost use Rattle.undo.specs.Judged.{IsRestoreJudged};
+ghost use Rattle.undo.specs.Scopes.{restoring_from};
 
-use crate::needed::needs_of_all;
-use crate::scope::{Scope, applied_among};
-use crate::tests::all_rows;
+use crate::assessing::assess;
 use fields::{Attest, IdList};
-use judge_system::RequisiteOf;
+use judge_system::Judged;
 use std::alloc::{AllocError, Global};
-use terms::Test;
+use sysmods::{GlobalZone, Overs};
+use zones::{Candidates, Zone, choose};
 
-/// What is said of the candidates: who they are, the tests that each one fails, and what each one needs.
-#[derive(Drop)]
-pub struct Judged {
-    pub cands: IdList,
-    pub tests: Vec<Vec<Test>>,
-    pub needs: Vec<RequisiteOf>,
-}
-
-/// Judges the SYSMODs of RESTORE's list. No superseder serves what they need. An error comes where memory runs out.
-pub fn judge_restore(
+/// Judges the candidates of a RESTORE of this target zone from its distribution zone: whom a `Solver` keeps of the
+/// system is taken off. It is so for each list of which they are the candidates. The error comes where memory runs out.
+pub fn restore_system<'a>(
     alloc: Global,
-    scope: &Scope<'_, '_>,
-    ids: &IdList,
-) -> Result<Judged, AllocError>
-    ensures cands { IfOk result (λ j. j.cands ≡ restore_candidates (restoring_of scope.now) ids.now) }
-    ensures judged { IfOk result (λ j. AreJudged
-        (FailsRestore (restoring_of scope.now)) (MayBeRestored (restoring_of scope.now) ids.now)
-        (NeedsInRestore (restoring_of scope.now) (is_in ids.now)) (Serves (choice scope.now.vers.now)) j.cands
-        (map (λ row. row.items) j.tests.items) j.needs.items []) }
+    global: &'a GlobalZone,
+    zone: &Zone,
+    accepted: &Zone,
+    candidates: &Candidates,
+) -> Result<Judged<'a>, AllocError>
+    requires { All (λ x. IsTrue (is_applied zone.now x)) candidates.now.ids }
+    ensures { IfOk result (λ j. (list : List AnId)
+        → candidates.now.ids ≡ restore_candidates (restoring_from global.now zone.now accepted.now) list
+        → IsRestoreJudged (restoring_from global.now zone.now accepted.now) list candidates.now.ids j) }
 {
-    let cands = IdList::from_vec(applied_among(alloc, scope.zone, ids.as_slice())?);
-    cands.attest();
-    let tests = all_rows(alloc, scope, cands.as_slice())?;
-    let needs = needs_of_all(alloc, scope, ids, &cands)?;
-    Ok(Judged {
-        cands,
-        tests,
-        needs,
-    })
+    let ids = &candidates.ids;
+    ids.attest();
+    let none = IdList::new(alloc);
+    let vers = choose(alloc, global, zone, &none)?;
+    let said = assess(alloc, &vers, zone, accepted, ids)?;
+    let overs = Overs::new(alloc, &vers).into_known();
+    let judged = Judged::new(alloc, ids, said, vers, overs)?;
+    Ok(judged)
 }

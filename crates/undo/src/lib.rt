@@ -1,14 +1,15 @@
-//! What RESTORE decides, and how it changes its zone, in three parts.
-//! Its list is SELECT's ids, or the least closed list with GROUP's: whatever all of some SYSMODs and elements bring in
-//! comes in with them. What is said of a list, for any list and any two zones, is which tests each candidate fails, and
-//! what each one needs; one pass over the applied SYSMODs notes who changes which element and who depends on whom. The
-//! change is a delta that makes of a target zone the one that the definition of a restore asks for (`Restores`),
-//! whatever is kept, and each edit of it changes something. Seen in the code alone: it is one pass over the entries,
-//! and one over what is changed.
+//! What RESTORE takes off its zone, in two parts.
+//! The candidates are the applied ids of its list: of SELECT's ids, or of the least closed list with GROUP's, where
+//! whatever all of some SYSMODs and elements bring in comes in with them. For candidates of any list and any two zones
+//! `restore_system` answers who fails which test and who needs what, and the numbered system of that; one pass over the
+//! applied SYSMODs notes who changes which element and who depends on whom. Whom any `solve::Solver` keeps of it is
+//! taken off, by `change::restore`.
 #![tactic(auto)]
 
+mod assessing;
+mod candidates;
 mod dependences;
-mod elements;
+mod element_changers;
 mod judging;
 mod listing;
 mod needed;
@@ -16,12 +17,11 @@ mod nodes;
 mod numbered;
 mod numbers;
 mod pairs;
-mod restoring;
 mod scope;
 mod steps;
 mod tests;
 
-pub use judging::{Judged, judge_restore};
-pub use listing::restore_list;
-pub use restoring::restore;
-pub use scope::{Scope, applied_ids};
+pub use candidates::restore_candidates;
+pub use judging::restore_system;
+pub use needed::needs_in_restore;
+pub use scope::{RestoreScope, applied_ids};

@@ -1,32 +1,58 @@
 //! The list of a RESTORE.
 ghost use Rattle.std.specs.Prelude.{IfOk};
+ghost use Rattle.terms.specs.Types.{RestoreGroup};
 ghost use Rattle.terms.specs.Restore.{AreListed};
 ghost use Rattle.fields.specs.Choices.{restore_list_of};
-ghost use Rattle.undo.specs.Scopes.{restoring_of};
+ghost use Rattle.undo.specs.Scopes.{restoring_from};
 
 use crate::numbered::reached;
-use crate::scope::Scope;
+use crate::scope::{RestoreScope, applied_ids};
 use crate::steps::all_steps;
 use fields::{Attest, IdList, RestoreList};
 use std::alloc::{AllocError, Global};
+use sysmods::GlobalZone;
+use zones::{Zone, choose};
 
 /// SELECT's ids, or GROUP's and all which they need, and what those need. The error comes where memory runs out.
-pub fn restore_list(
+pub(crate) fn restore_list(
     alloc: Global,
-    scope: &Scope<'_, '_>,
+    global: &GlobalZone,
+    zone: &Zone,
+    accepted: &Zone,
     list: &RestoreList,
 ) -> Result<IdList, AllocError>
-    ensures { IfOk result (AreListed (restoring_of scope.now) (restore_list_of list.now)) }
+    ensures { IfOk result
+        (AreListed (restoring_from global.now zone.now accepted.now) (restore_list_of list.now)) }
 {
     match list {
         RestoreList::Select(ids) => {
             ids.attest();
             ids.try_clone(alloc)
         }
-        RestoreList::Group(ids) => {
-            scope.zone.attest();
-            let steps = all_steps(alloc, scope)?;
-            reached(alloc, ids, steps.as_slice())
-        }
+        RestoreList::Group(ids) => group_list(alloc, global, zone, accepted, ids),
     }
+}
+
+// GROUP's ids and all which they need.
+fn group_list(
+    alloc: Global,
+    global: &GlobalZone,
+    zone: &Zone,
+    accepted: &Zone,
+    ids: &IdList,
+) -> Result<IdList, AllocError>
+    ensures { IfOk result (AreListed (restoring_from global.now zone.now accepted.now) (RestoreGroup ids.now)) }
+{
+    zone.attest();
+    let none = IdList::new(alloc);
+    let vers = choose(alloc, global, zone, &none)?;
+    let applied = applied_ids(alloc, zone)?;
+    let scope = RestoreScope {
+        vers: &vers,
+        zone,
+        accepted,
+        applied: applied.as_slice(),
+    };
+    let steps = all_steps(alloc, &scope)?;
+    reached(alloc, ids, steps.as_slice())
 }

@@ -1,13 +1,13 @@
-//! What each candidate needs.
-ghost use Rattle.std.specs.Prelude.{◌≡◌, ◌++◌, map, IfOk, OnOk};
-ghost use Rattle.terms.specs.Restore.{restore_candidates};
+//! What each candidate of a RESTORE needs.
+ghost use Rattle.std.specs.Prelude.{◌≡◌, ◌++◌, map, All, IsTrue, IfOk, OnOk};
+ghost use Rattle.terms.specs.Lookups.{is_applied};
 ghost use Rattle.undo.specs.Scopes.{restoring_of};
 ghost use Rattle.undo.specs.Needed.{pair_need, AreNeeds};
 
 use crate::dependences::dep_pairs;
-use crate::elements::elem_pairs;
+use crate::element_changers::elem_pairs;
 use crate::pairs::own_pairs;
-use crate::scope::Scope;
+use crate::scope::RestoreScope;
 use fields::{Id, IdList};
 use judge_system::RequisiteOf;
 use std::alloc::{AllocError, Global};
@@ -31,18 +31,18 @@ fn add_needs(
     Ok(())
 }
 
-/// The needs of all candidates.
-pub(crate) fn needs_of_all(
+/// What these SYSMODs, which are applied, need in a RESTORE that names them and no others. The error comes where memory
+/// runs out.
+pub fn needs_in_restore(
     alloc: Global,
-    scope: &Scope<'_, '_>,
-    list: &IdList,
-    cands: &IdList,
+    scope: &RestoreScope<'_, '_>,
+    ids: &IdList,
 ) -> Result<Vec<RequisiteOf>, AllocError>
-    requires { cands.now ≡ restore_candidates (restoring_of scope.now) list.now }
-    ensures { IfOk result (λ needs. AreNeeds (restoring_of scope.now) list.now cands.now needs.items) }
+    requires { All (λ x. IsTrue (is_applied scope.now.zone.now x)) ids.now }
+    ensures { IfOk result (λ needs. AreNeeds (restoring_of scope.now) ids.now needs.items) }
 {
-    let elem = own_pairs(cands, elem_pairs(alloc, scope, cands)?);
-    let dep = own_pairs(cands, dep_pairs(alloc, scope, list, cands)?);
+    let elem = own_pairs(ids, elem_pairs(alloc, scope, ids)?);
+    let dep = own_pairs(ids, dep_pairs(alloc, scope, ids)?);
     let mut needs = Vec::new(alloc);
     add_needs(&mut needs, NeedKind::Elem, elem.as_slice())?;
     add_needs(&mut needs, NeedKind::Dep, dep.as_slice())?;

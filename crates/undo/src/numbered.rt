@@ -51,6 +51,8 @@ fn growth(
 {
     let start = starts(alloc, ids, table.as_slice())?;
     let mut rules = Rules::new(alloc, start.as_slice())?;
+    // So the places in the table are numbers.
+    let _ = rules.size();
     for step in steps {
         rules.add_rule(rule_of(alloc, table, step)?)?;
     }

@@ -1,5 +1,5 @@
 //! A step with numbers: the places of what it is about in a table.
-ghost use Rattle.std.specs.Prelude.{◌≡◌, Some, length, slice_get, Contains, IfOk};
+ghost use Rattle.std.specs.Prelude.{◌≡◌, ◌<◌, ◌^◌, Some, length, slice_get, Contains, IfOk};
 ghost use Rattle.solve.specs.Least.{IsRule};
 ghost use Rattle.solve.specs.Rules.{as_rule};
 ghost use Rattle.undo.specs.Steps.{as_step};
@@ -11,16 +11,18 @@ use solve::Rule;
 use std::alloc::{AllocError, Global};
 
 // The place of an item that stands in the list is its number.
-fn number<T: Field>(table: &Rising<T>, item: T) -> usize
-    requires { Contains table.now item }
+fn number<T: Field>(table: &Rising<T>, item: T) -> u32
+    requires there { Contains table.now item }
+    requires few { length table.now < 2 ^ 32 }
     ensures { slice_get table.now result ≡ Some item }
 {
-    table.as_slice().binary_search(&item).unwrap()
+    table.as_slice().binary_search(&item).unwrap() as u32
 }
 
 /// The step as a rule.
 pub(crate) fn rule_of(alloc: Global, table: &Rising<Node>, step: &Step) -> Result<Rule, AllocError>
-    requires { Covers table.now step.now }
+    requires covers { Covers table.now step.now }
+    requires few { length table.now < 2 ^ 32 }
     ensures numbered { IfOk result (λ rule. IsNumbered table.now (as_step step.now) (as_rule rule)) }
     ensures valid { IfOk result (λ rule. IsRule (length table.now) (as_rule rule)) }
 {

@@ -11,7 +11,7 @@ use zones::{Entry, Zone};
 /// The `++VER`s that count, the target zone, its distribution zone, and the ids that are applied in the target zone,
 /// which `applied_ids` finds once for all that a RESTORE decides.
 #[derive(Clone, Copy)]
-pub struct Scope<'a, 'b> {
+pub struct RestoreScope<'a, 'b> {
     pub vers: &'a VerChoice<'b>,
     pub zone: &'a Zone,
     pub accepted: &'a Zone,

@@ -5,7 +5,7 @@ ghost use Rattle.undo.specs.Scopes.{restoring_of};
 
 use crate::dependences::dependences_of;
 use crate::nodes::{Node, Step, element_at, push_step, sysmods};
-use crate::scope::{Scope, changes_of, unaccepted};
+use crate::scope::{RestoreScope, changes_of, unaccepted};
 use fields::Id;
 use std::alloc::{AllocError, Global};
 
@@ -22,7 +22,10 @@ fn push_from_all(alloc: Global, ids: &[Id], by: Id, steps: &mut Vec<Step>) -> Re
 
 /// From each applied SYSMOD to the elements that it changes, from these to those that the distribution zone does not
 /// supply, and from what a SYSMOD depends on to it.
-pub(crate) fn all_steps(alloc: Global, scope: &Scope<'_, '_>) -> Result<Vec<Step>, AllocError>
+pub(crate) fn all_steps(
+    alloc: Global,
+    scope: &RestoreScope<'_, '_>,
+) -> Result<Vec<Step>, AllocError>
     ensures { IfOk result (λ steps. as_steps steps.items ≡ all_steps (restoring_of scope.now)) }
 {
     let global = scope.vers.global();

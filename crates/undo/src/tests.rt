@@ -7,7 +7,7 @@ ghost use Rattle.undo.specs.Scopes.{restoring_of};
 ghost use Rattle.judge_system.specs.Said.{AreTests};
 ghost use Rattle.undo.specs.Tests.{is_behind, fails_test};
 
-use crate::scope::{Scope, changes_of};
+use crate::scope::{RestoreScope, changes_of};
 use fields::Id;
 use std::alloc::{AllocError, Global};
 use sysmods_values::ElemChange;
@@ -43,14 +43,14 @@ fn are_alike(zone: &Zone, other: &Zone, element: &Element) -> bool
 // Whether the target zone can take in the element of the distribution zone. An RMID or UMID that is alike in both is
 // applied, so of those that are to be applied only the FMID is left to ask for.
 #[tactic(auto, using(crate::proofs::Testing::returns_by))]
-fn may_return(scope: &Scope<'_, '_>, element: &Element) -> bool
+fn may_return(scope: &RestoreScope<'_, '_>, element: &Element) -> bool
     ensures { result ≡ may_return (restoring_of scope.now) element.now }
 {
     scope.zone.is_applied(element.fmid) && are_alike(scope.zone, scope.accepted, element)
 }
 
 // Whether the distribution zone has the element of the statement, and the target zone can't take it in.
-fn is_behind(scope: &Scope<'_, '_>, change: &ElemChange) -> bool
+fn is_behind(scope: &RestoreScope<'_, '_>, change: &ElemChange) -> bool
     ensures { result ≡ is_behind (restoring_of scope.now) change.now }
 {
     match scope.accepted.element(change.elem_type, change.name) {
@@ -60,7 +60,7 @@ fn is_behind(scope: &Scope<'_, '_>, change: &ElemChange) -> bool
 }
 
 // Whether a candidate fails the test.
-fn fails(scope: &Scope<'_, '_>, id: Id, test: Test) -> bool
+fn fails(scope: &RestoreScope<'_, '_>, id: Id, test: Test) -> bool
     ensures { result ≡ fails_test (restoring_of scope.now) id test }
 {
     match test {
@@ -77,7 +77,7 @@ fn fails(scope: &Scope<'_, '_>, id: Id, test: Test) -> bool
 }
 
 // The tests that a candidate fails.
-fn row_of(alloc: Global, scope: &Scope<'_, '_>, id: Id) -> Result<Vec<Test>, AllocError>
+fn row_of(alloc: Global, scope: &RestoreScope<'_, '_>, id: Id) -> Result<Vec<Test>, AllocError>
     ensures { IfOk result (λ row. row.items ≡ filter (fails_test (restoring_of scope.now) id) (AlreadyAccepted
         ∷ HasDelete ∷ OtherLevel ∷ [])) }
 {
@@ -91,7 +91,7 @@ fn row_of(alloc: Global, scope: &Scope<'_, '_>, id: Id) -> Result<Vec<Test>, All
 /// The tests that each candidate fails.
 pub(crate) fn all_rows(
     alloc: Global,
-    scope: &Scope<'_, '_>,
+    scope: &RestoreScope<'_, '_>,
     ids: &[Id],
 ) -> Result<Vec<Vec<Test>>, AllocError>
     ensures { IfOk result (λ rows. AreTests (fails_test (restoring_of scope.now)) ids.now

@@ -20,7 +20,7 @@ use Rattle.terms.specs.Rising.{Rises}
 use Rattle.terms.specs.Global.{IsGlobal}
 use Rattle.terms.specs.Lookups.{is_in, is_before, sysmod_of, entry_of, is_applied, IsZone}
 use Rattle.terms.specs.Choice.{vers_of, fits, place}
-use Rattle.sysmods.specs.declared.choice.Pick.{Pick}
+use Rattle.sysmods.specs.declared.ver_choice.Pick.{Pick}
 use Rattle.sysmods.specs.Choices.{picked}
 use Rattle.zones.specs.Picks.{a_pick, is_further, kept_pick, fitting_pick}
 use Rattle.zones.proofs.Filtered.{passing, find_filter}

@@ -5,7 +5,7 @@ use Rattle.std.specs.Str.{bytes_eq}
 use Rattle.terms.specs.Types.{Id, Sysmod, Entry, Zone}
 use Rattle.terms.specs.Lookups.{is_in, is_applied}
 use Rattle.terms.specs.Choice.{fits}
-use Rattle.sysmods.specs.declared.choice.Pick.{Pick}
+use Rattle.sysmods.specs.declared.ver_choice.Pick.{Pick}
 
 abbrev pub a_pick : Id → ℕ → Pick
 a_pick x number = record { id = x; number = number }

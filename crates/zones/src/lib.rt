@@ -9,7 +9,8 @@
 
 mod binding;
 mod bypassing;
-mod choosing;
+mod candidates;
+mod counting_vers;
 mod deleting;
 mod entry;
 mod left;
@@ -19,12 +20,15 @@ mod taking;
 
 pub use binding::requisites_held;
 pub use bypassing::is_bypassed_hold;
-pub use choosing::{choose, fits};
+pub use candidates::Candidates;
+pub use counting_vers::{choose, fits};
 pub use deleting::{deletions, view_deletions};
 pub use entry::{TakesOut, entry_less};
 pub use left::{element_left, is_left, supplies_left};
 pub use orphaned::orphans;
 pub use scope::Scope;
+pub use sysmods::{Chain, VerChoice};
+pub use terms::ZoneKind;
 pub use zones_maps::{
     Applied, Element, Entry, PreparedZone, Zone, ZoneDelta, are_same, is_element, is_same_entry,
 };

@@ -1,13 +1,15 @@
 //! How a command changes a zone.
-ghost use Rattle.std.specs.Prelude.{◌≡◌, [], IsTrue, OnOk, OnErr};
+ghost use Rattle.std.specs.Prelude.{◌≡◌, [], IsTrue, IfOk, OnOk, OnErr};
 ghost use Rattle.std.specs.Ordering.{nat_cmp};
 ghost use Rattle.std.specs.Cmp.Lexicographic.{slice_cmp};
 ghost use Rattle.sorted.specs.declared.edits.Edit.TheVariants.{Put, Remove};
 ghost use Rattle.terms.specs.Lookups.{element_cmp, element_key, has_content, waives_applied};
 ghost use Rattle.terms.specs.Rising.{with_item};
 ghost use Rattle.sorted.specs.Edits.{edit_key};
+ghost use Rattle.zones_maps.specs.Delta.{IsChanged};
 
 use crate::entries::{Element, Entry};
+use crate::zone::Zone;
 use fields::{Attest, Id, Name};
 use sorted::{Edit, Table};
 use std::alloc::{AllocError, Global};
@@ -70,6 +72,14 @@ impl ZoneDelta {
         ensures { result.now ≡ self.now.elements }
     {
         self.elements.as_slice()
+    }
+
+    /// The zone as this delta changes it, beside the old one: it goes over both once, in order. What stays and what the
+    /// delta puts is copied. To change a zone in place, use `Zone::prepare` and `Zone::edit`.
+    pub fn apply(&self, alloc: Global, zone: &Zone) -> Result<Zone, AllocError>
+        ensures { IfOk result (λ new. IsChanged self.now zone.now new) }
+    {
+        zone.edited(alloc, self)
     }
 
     pub(crate) fn entry_edits(&self) -> &Table<Edit<Entry, Id>>

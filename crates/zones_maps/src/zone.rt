@@ -198,6 +198,21 @@ impl Zone {
         }
     }
 
+    /// The zone as the delta changes it, beside this one.
+    pub(crate) fn edited(&self, alloc: Global, delta: &ZoneDelta) -> Result<Zone, AllocError>
+        ensures { IfOk result (IsChanged delta.now self.now) }
+    {
+        self.attest();
+        delta.attest();
+        Ok(Zone {
+            kind: self.kind,
+            srel: self.srel,
+            related: self.related,
+            entries: self.entries.edited(alloc, delta.entry_edits())?,
+            elements: self.elements.edited(alloc, delta.element_edits())?,
+        })
+    }
+
     /// Memory for this change of the zone: `edit` takes none then. Only what the delta puts is copied. The error comes
     /// where memory runs out.
     pub fn prepare(&self, alloc: Global, delta: &ZoneDelta) -> Result<PreparedZone, AllocError>

@@ -11,17 +11,10 @@ use Rattle.zones_maps.specs.Delta.{IsChanged}
 use Rattle.terms.specs.Install.{Installation, HasInstalled}
 use Rattle.change.specs.declared.deleting.Deleting.{Deleting}
 use Rattle.zones_maps.specs.Differing.{ChangesEntry, HasEditedElements}
-use Rattle.change.specs.Plans.{installation, installation_of, IsFresh, IsPlan}
+use Rattle.change.specs.Plans.{installation, installation_by, installation_of, IsPlan}
 use Rattle.change.proofs.AfterInstall.{installs}
 use Rattle.change.proofs.EffectiveIds.{members_are, effective_ordered, effective_base}
 use Rattle.change.proofs.installing.install.Goals as goal
-
--- the plan is by the ++VERs that count
-planned_by : (c : goal.After-as_slice-6) → IsPlan (installation_of c.args.overs c.args.installing.now)
-    c.as_slice-2.result.now c.in_ok-plan.plan
-planned_by c =
-    subst (λ v. IsPlan (installation_of v c.args.installing.now) c.as_slice-2.result.now c.in_ok-plan.plan)
-    c.vers-vers.ensures c.in_ok-plan.ensures
 
 pub put_entries-requires-clause-dels : goal.put_entries-requires-clause-dels
 put_entries-requires-clause-dels c =
@@ -30,19 +23,19 @@ put_entries-requires-clause-dels c =
 
 pub elements_after-requires-clause-order : goal.elements_after-requires-clause-order
 elements_after-requires-clause-order c =
-    let i = installation_of c.args.overs c.args.installing.now in
+    let i = installation_of c.args.installing in
     effective_ordered i c.as_slice-6.result.now
-    (members_are i c.as_slice-2.result.now c.in_ok-plan.plan c.as_slice-6.result.now (planned_by c)
+    (members_are i c.as_slice-2.result.now c.in_ok-plan.plan c.as_slice-6.result.now c.in_ok-plan.ensures
     c.as_slice-6.ensures.items)
     c.as_slice-6.ensures.rising c.requires.order
 
 pub elements_after-requires-clause-some : goal.elements_after-requires-clause-some
 elements_after-requires-clause-some c = λ type name changed.
-    let g = c.args.overs.global.now in
-    let by = choice c.args.overs in
-    let zone = c.args.installing.now.zone.now in
-    let kept = c.args.installing.now.kept.now in
-    let i = installation_of c.args.overs c.args.installing.now in
+    let g = c.args.installing.overs.global.now in
+    let by = choice c.args.installing.overs in
+    let zone = c.args.installing.zone.now in
+    let kept = c.args.installing.kept.now in
+    let i = installation_of c.args.installing in
     let ids = c.as_slice-6.result.now in
     let dels : c.as_slice-5.result.now ≡ deletions by kept =
     c.as_slice-5.ensures.value ∙ c.in_ok-dels.ensures
@@ -50,7 +43,7 @@ elements_after-requires-clause-some c = λ type name changed.
     ∙ ap (λ v. deletions (choice v) kept) c.vers-vers.ensures in
     subst (λ z. IsSome (element_of z type name) ⊎ Any (λ x. IsTrue (has_replacement g x type name)) ids)
     (ap (λ ds. zone_less g by ds zone) (sym dels))
-    (effective_base i ids (members_are i c.as_slice-2.result.now c.in_ok-plan.plan ids (planned_by c)
+    (effective_base i ids (members_are i c.as_slice-2.result.now c.in_ok-plan.plan ids c.in_ok-plan.ensures
     c.as_slice-6.ensures.items)
     c.requires.base type name changed)
 
@@ -65,7 +58,7 @@ returns-clause-installs c =
     let vers = c.vers-vers.result.now in
     let g = vers.global.now in
     let by = choice vers in
-    let is = c.args.installing.now in
+    let is = c.args.installing in
     let zone = is.zone.now in
     let plan = c.in_ok-plan.plan in
     let d : Deleting = record {
@@ -79,16 +72,16 @@ returns-clause-installs c =
     c.in_ok-dels.ensures ∙ ap (deletions by) (c.as_slice.ensures.items ∙ sym c.as_slice-3.ensures.items) in
     let planned : IsPlan (i d.kept.now) d.dels.now plan =
     subst (λ ids. IsPlan (i ids) d.dels.now plan) (sym c.as_slice-3.ensures.items)
-    (subst (λ ds. IsPlan (i is.kept.now) ds plan) (c.as_slice-2.ensures.value ∙ sym c.as_slice-4.ensures.value)
-    c.in_ok-plan.ensures) in
-    subst (λ v. (new : Zone) → IsChanged c.edit_elements.new.delta zone new → HasInstalled (installation_of v is) new)
+    (subst (λ v. IsPlan (installation_by v is) d.dels.now plan) (sym c.vers-vers.ensures)
+    (subst (λ ds. IsPlan (installation_of is) ds plan) (c.as_slice-2.ensures.value ∙ sym c.as_slice-4.ensures.value)
+    c.in_ok-plan.ensures)) in
+    subst (λ v. (new : Zone) → IsChanged c.edit_elements.new.delta zone new → HasInstalled (installation_by v is) new)
     c.vers-vers.ensures
     (subst (λ ids. (new : Zone) → IsChanged c.edit_elements.new.delta zone new → HasInstalled (i ids) new)
     c.as_slice-3.ensures.items
     (installs d is.bypassed.now is.date (rw c.global.ensures at c.attest-2.ensures) c.attest.ensures
     c.known_lists.ensures
     (c.as_slice-4.ensures.value ∙ dels)
-    (subst (All (IsFresh zone)) (sym c.as_slice-3.ensures.items) c.requires.fresh)
     plan c.new-delta.result c.put_entries.new.delta c.edit_elements.new.delta c.new-edits.result
     c.remove_elements.new.edits c.put_elements.new.edits c.in_ok-elements.elements.items planned c.new-edits.ensures
     c.in_ok-put_entries.ensures c.in_ok-remove_elements.ensures
@@ -107,12 +100,11 @@ pub returns-clause-differs : goal.returns-clause-differs
 returns-clause-differs c =
     let done = c.in_ok-edit_elements.ensures in
     record {
-      entries = subst (All (ChangesEntry c.args.installing.now.zone.now)) (sym done.entries)
+      entries = subst (All (ChangesEntry c.args.installing.zone.now)) (sym done.entries)
           c.in_ok-put_entries.ensures.differ;
       elements = done.differ;
     }
 
 pub returns-clause-effective : goal.returns-clause-effective
 returns-clause-effective c =
-    (subst (λ v. IsPlan (installation_of v c.args.installing.now) c.as_slice-2.result.now c.in_ok-plan.plan)
-    c.vers-vers.ensures c.in_ok-plan.ensures).effective
+    c.in_ok-plan.ensures.effective

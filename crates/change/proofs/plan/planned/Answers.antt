@@ -1,4 +1,4 @@
-use Rattle.std.proofs.Common.{◌++◌, ap₂, sym, subst, map}
+use Rattle.std.proofs.Common.{◌++◌, ap₂, sym, subst, subst₂, map}
 use Rattle.std.specs.Prelude.{◌↔◌, Contains}
 use Rattle.terms.specs.Types.{Id}
 use Rattle.terms.specs.Global.{IsGlobal}
@@ -6,7 +6,7 @@ use Rattle.terms.specs.Install.{Installation, TakesEffect}
 use Rattle.sysmods.specs.Choices.{choice}
 use Rattle.change.specs.Deleting.{at_stake}
 use Rattle.change.specs.Pairs.{AreGrouped}
-use Rattle.change.specs.Plans.{installation_of, IsPlan}
+use Rattle.change.specs.Plans.{installation_by, IsPlan}
 use Rattle.change.proofs.ChosenVers.{looked_up, never_itself}
 use Rattle.change.proofs.Planned.{is_plan}
 use Rattle.change.proofs.TakingEffect.{takes_effect}
@@ -14,8 +14,8 @@ use Rattle.change.proofs.plan.planned.Goals as goal
 
 pub returns : goal.returns
 returns c =
-    let vers = c.args.vers.now in
-    let i : Installation = installation_of vers c.args.installing.now in
+    let vers = c.vers-vers.result.now in
+    let i : Installation = installation_by vers c.args.installing.now in
     let dels = c.args.dels.now in
     let effective = c.in_ok-ids.field-0.ids in
     let touched = c.in_ok-touched.touched in
@@ -26,13 +26,13 @@ returns c =
     let un = c.in_ok-ids.ensures.ids x in
     let takes = takes_effect i never x in
     (λ h. takes.0 (un.0 h), λ h. un.1 (takes.1 h)) in
-    subst (λ xs. IsPlan i dels (record {
+    subst₂ (λ v xs. IsPlan (installation_by v c.args.installing.now) dels (record {
       effective = xs;
       superseders = c.in_ok-grouped.field-0;
       bypassed = c.in_ok-grouped-2.field-0;
       touched = touched;
       date = i.date;
-    })) (sym c.ids.view_is)
+    })) c.vers-vers.ensures (sym c.ids.view_is)
     (is_plan i dels effective touched pairs c.in_ok-grouped.field-0
     c.in_ok-grouped-2.field-0 effect c.in_ok-ids.ensures.superseded
     (subst (λ ids. (x : Id) → Contains touched x ↔ Contains ids x)

@@ -8,6 +8,6 @@ failure_of-requires c =
     let found = c.args.found.now in
     let n = c.args.place in
     subst (All (λ m. m < length c.args.ids.now))
-    (row_at_read found.causers.items n c.index-3.result.now c.deref-3.result.now
-    (omega (arith, c.requires.within, c.requires.found.causers)) c.index-3.ensures c.deref-3.ensures.value)
+    (row_at_read found.causers.now n c.index-found-place-3.result c.deref-3.result.now
+    (omega (arith, c.requires.within, c.requires.found.causers)) c.index-found-place-3.is c.deref-3.ensures.value)
     (c.requires.found.within n)

@@ -8,17 +8,17 @@ use Rattle.judge_system.proofs.numbered.with_needs.Goals as goal
 
 pub loop-i-preserved : goal.loop-i-preserved
 loop-i-preserved c =
-    needs_next c.args.ids.now c.args.served.now.keys c.args.eligible.items c.args.stated.now c.loop-i.i
+    needs_next c.args.ids.now.keys c.args.served.now.keys c.args.eligible.items c.args.stated.now c.loop-i.i
     c.need_at-need.result c.loop-i.system c.number_need.new.system c.need_at-need.ensures c.in_ok-number_need.ensures
     c.loop-i.invariant
 
 pub returns-clause-needs : goal.returns-clause-needs
 returns-clause-needs c =
     let whole : length c.args.stated.now ≤ c.loop-i.i = omega arith in
-    subst (λ l. HasNeeds c.args.ids.now c.args.served.now.keys c.args.eligible.items l c.loop-i.system)
+    subst (λ l. HasNeeds c.args.ids.now.keys c.args.served.now.keys c.args.eligible.items l c.loop-i.system)
     (take_all c.loop-i.i c.args.stated.now whole) c.loop-i.invariant
 
 pub number_need-requires-clause-of : goal.number_need-requires-clause-of
 number_need-requires-clause-of c =
-    All-found (λ (w : RequisiteOf). Contains c.args.ids.now w.of) c.args.stated.now c.loop-i.i c.need_at-need.result
+    All-found (λ (w : RequisiteOf). Contains c.args.ids.now.keys w.of) c.args.stated.now c.loop-i.i c.need_at-need.result
     c.requires.within c.need_at-need.ensures

@@ -6,16 +6,16 @@ use Rattle.judge_system.proofs.serving.own_places.Goals as goal
 
 pub returns-in_default-clause-places : goal.returns-in_default-clause-places
 returns-in_default-clause-places c =
-    rw c.new-places.ensures.items (no_place c.args.ids.now c.args.id (c.in_default.ensures.none refl))
+    rw c.new-places.ensures.items (no_place c.args.ids.now.keys c.args.id (c.in_default.ensures.none refl))
 
 pub returns-clause-places : goal.returns-clause-places
 returns-clause-places c =
     rw (c.in_ok-push.ensures.items, c.new-places.ensures.items)
-    (one_place c.args.ids.now c.attest.ensures c.in-Some.place c.args.id
+    (one_place c.args.ids.now.keys c.requires.rising c.in-Some.place c.args.id
     c.in-Some.ensures.at)
 
 pub returns-clause-below : goal.returns-clause-below
 returns-clause-below c =
     rw (c.in_ok-push.ensures.items, c.new-places.ensures.items)
-    (All-push (λ n. n < length c.args.ids.now) [] c.in-Some.place (λ i d below. absurd (omega (arith, below)))
-    (slice_get_within c.args.ids.now c.in-Some.place c.args.id c.in-Some.ensures.at))
+    (All-push (λ n. n < length c.args.ids.now.keys) [] c.in-Some.place (λ i d below. absurd (omega (arith, below)))
+    (slice_get_within c.args.ids.now.keys c.in-Some.place c.args.id c.in-Some.ensures.at))

@@ -5,4 +5,4 @@ use Rattle.judge_system.proofs.serving.places_in.Given as goal
 abbrev pub invariant-loop-pair : goal.invariant-loop-pair
 invariant-loop-pair l =
     l.places.items ++ map (λ p. p.1) l.pair-iterator
-    ≡ map (λ p. p.1) (filter (is_between l.fn.id (length l.ids)) l.served.keys)
+    ≡ map (λ p. p.1) (filter (is_between l.fn.id (length l.ids.keys)) l.served.keys)

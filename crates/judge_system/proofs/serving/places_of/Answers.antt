@@ -6,6 +6,6 @@ use Rattle.judge_system.proofs.serving.places_of.Goals as goal
 
 pub returns-else-takes_superseder-clause-places : goal.returns-else-takes_superseder-clause-places
 returns-else-takes_superseder-clause-places c =
-    IfOk-weaker c.own_places.result _ (λ any. IsServedIn c.args.ids.now c.args.kind c.args.id c.args.served.now.keys
-    any.items) (λ any own. own_serve c.args.ids.now c.args.kind c.args.id c.args.served.now.keys any.items
+    IfOk-weaker c.own_places.result _ (λ any. IsServedIn c.args.ids.now.keys c.args.kind c.args.id c.args.served.now.keys
+    any.items) (λ any own. own_serve c.args.ids.now.keys c.args.kind c.args.id c.args.served.now.keys any.items
     (sym c.takes_superseder.ensures ∙ c.if-takes_superseder.false) own) c.own_places.ensures.places

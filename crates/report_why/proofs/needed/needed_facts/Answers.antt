@@ -1,22 +1,43 @@
-use Rattle.std.proofs.Common.{◌∙◌, ap, arith, map, subst, take_all, Contains}
+use Rattle.std.proofs.Common.{◌∙◌, [], ap, arith, map, refl, subst, sym, take_all, All, Contains, IsTrue}
 use Rattle.std.specs.Prelude.{◌↔◌}
+use Rattle.std.proofs.lemmas.List.Elements.{All-cons, All-nil}
 use Rattle.sysmods.specs.Choices.{choice}
-use Rattle.terms.specs.Lookups.{IsRising}
+use Rattle.terms.proofs.ListMembers.{none_in}
+use Rattle.terms.specs.Lookups.{IsRising, is_applied}
 use Rattle.terms.specs.Facts.{NeededFact}
 use Rattle.report_why.specs.Needed.{dep_ids}
-use Rattle.report_why.proofs.Dependents.{dependents}
+use Rattle.report_why.proofs.Dependents.{dependents, none_need}
 use Rattle.report_why.proofs.needed.needed_facts.Goals as goal
+
+pub returns-then-is_applied : goal.returns-then-is_applied
+returns-then-is_applied c =
+    let ids = c.new.result.items in
+    record {
+      ids = [];
+      rising = λ i j d less below. absurd (omega (arith, below));
+      needed = λ y. (
+        λ h. absurd (none_in y h),
+        λ n. absurd (none_need c.args.vers.now.global.now c.args.zone.now c.args.id
+            (sym c.is_applied.ensures ∙ c.if-is_applied.false) y n),
+      );
+      facts_are = rw c.new.ensures refl;
+    }
+
+pub needs_in_restore-requires : goal.needs_in_restore-requires
+needs_in_restore-requires c =
+    let zone = c.args.zone.now in
+    subst (All (λ x. IsTrue (is_applied zone x))) (sym c.requires.list)
+    (All-cons (λ x. IsTrue (is_applied zone x)) c.args.id [] (sym c.is_applied.ensures ∙ c.if-is_applied.true)
+    (All-nil (λ x. IsTrue (is_applied zone x))))
 
 pub returns : goal.returns
 returns c =
-    let judged = c.in_ok-judged.judged in
     let ids = c.from_vec-needing.result in
     record {
       ids = ids;
       rising = subst IsRising c.as_slice-by-items.ensures.items c.as_slice-by-items.ensures.rising;
       needed = dependents c.args.vers.now.global.now c.args.zone.now (choice c.args.vers.now) c.args.id c.args.ids.now
-          judged.cands judged.needs.items ids c.requires.counting c.requires.list c.in_ok-judged.ensures.cands
-          c.in_ok-judged.ensures.judged.of c.in_ok-judged.ensures.judged.said.needs
+          c.in_ok-needs.needs.items ids c.requires.counting c.requires.list c.in_ok-needs.ensures
           (λ y. subst (λ l. Contains ids y ↔ Contains l y)
           (c.loop-need.invariant ∙ ap dep_ids (take_all c.loop-need.need-index c.as_slice-need-items.result.now
           (omega arith) ∙ c.as_slice-need-items.ensures.value)) (c.from_vec-needing.ensures y));

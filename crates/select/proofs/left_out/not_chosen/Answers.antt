@@ -3,7 +3,7 @@ use Rattle.std.proofs.lemmas.Result.{IfOk-weaker}
 use Rattle.terms.specs.declared.not_chosen.NotChosen.{NotChosen}
 use Rattle.terms.specs.Types.{Id}
 use Rattle.terms.specs.Lookups.{IsRising}
-use Rattle.select.specs.Scopes.{Scope, named_ids}
+use Rattle.select.specs.Scopes.{named_ids}
 use Rattle.select.specs.Reasons.{reason_in}
 use Rattle.select.proofs.Reasoned.{found_rising, found_members}
 use Rattle.select.proofs.left_out.not_chosen.Goals as goal
@@ -17,11 +17,7 @@ returns-clause-rising c =
 
 pub returns-clause-members : goal.returns-clause-members
 returns-clause-members c =
-    let scope : Scope = record {
-      global = c.args.global.now;
-      zone = c.args.zone.now;
-      selection = c.args.selection.now;
-    } in
+    let scope = c.args.scope.now in
     let ids = c.as_slice.result.now in
     let named : (x : Id) → Contains ids x ↔ Contains (named_ids scope.selection) x = λ x.
     subst (λ xs. Contains xs x ↔ Contains (named_ids scope.selection) x) (sym c.as_slice.ensures.items)

@@ -3,7 +3,7 @@ use Rattle.terms.specs.Lookups.{sysmod_of}
 use Rattle.terms.specs.Global.{assign}
 use Rattle.machine.specs.Outcome.{StatusLine, Assigned, Unknown}
 use Rattle.machine.specs.Receiving.{place_of}
-use Rattle.report.specs.declared.outcome.Line.TheVariants.{Status}
+use Rattle.report.specs.declared.outcome.ReportLine.TheVariants.{Status}
 use Rattle.report.specs.Views.{status_view}
 use Rattle.smpe_global.specs.Edits.{source_edits}
 use Rattle.sysmods.specs.Edits.{StatesThose}
@@ -19,7 +19,7 @@ returns c =
     let is = c.in_ok-received.ensures.ok in
     let o = sysmod_of c.assign.new.self x in
     let at : sysmod_of (assign g source x) x ≡ o = ap (λ n. sysmod_of n x) (sym is) in
-    let written = assigned_written source g x c.attest.ensures.sysmods in
+    let written = assigned_written source g x c.attest.ensures in
     let status = c.status_of.result in
     record {
       own = source_edits o;

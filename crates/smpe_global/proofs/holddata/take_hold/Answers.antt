@@ -2,7 +2,7 @@ use Rattle.std.proofs.Common.{◌∷◌, [], ◌∙◌, sym, ap, true≢false, i
 use Rattle.terms.specs.Types.{Hold, Global}
 use Rattle.terms.specs.Global.{is_replacing}
 use Rattle.machine.specs.Outcome.{StatusLine, OfHold, Held, Replaced}
-use Rattle.report.specs.declared.outcome.Line.TheVariants.{Status}
+use Rattle.report.specs.declared.outcome.ReportLine.TheVariants.{Status}
 use Rattle.report.specs.declared.outcome.Place.TheVariants as place
 use Rattle.sysmods.specs.declared.edit.GlobalEdit.TheVariants.{PutHold}
 use Rattle.std.proofs.lemmas.List.Elements.{All-nil, All-cons}

@@ -3,7 +3,7 @@ use Rattle.terms.specs.Types.{Release, ARelease}
 use Rattle.machine.specs.Outcome.{StatusLine, OfHold}
 use Rattle.machine.specs.Receiving.{TakesHoldItem, release_status}
 use Rattle.sysmods.specs.Faults.{a_release}
-use Rattle.report.specs.declared.outcome.Line.TheVariants.{Status}
+use Rattle.report.specs.declared.outcome.ReportLine.TheVariants.{Status}
 use Rattle.report.specs.declared.outcome.Place.TheVariants as place
 use Rattle.smpe_global.specs.declared.taken.Taken.{Taken}
 use Rattle.smpe_global.specs.Edits.{release_edits}

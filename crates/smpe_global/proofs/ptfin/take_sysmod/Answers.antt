@@ -1,18 +1,18 @@
-use Rattle.std.proofs.Common.{◌≡◌, ◌∙◌, ◌++◌, List, Result, Ok, Err, OnOk, refl, ap, subst}
-use Rattle.std.specs.Prelude.{is_ok, if◌then◌else◌}
+use Rattle.std.proofs.Common.{◌≡◌, ◌∙◌, ◌++◌, List, Result, Ok, Err, Some, OnOk, refl, sym, ap, subst}
+use Rattle.std.specs.Prelude.{is_ok, IfErr, OnErr, option_map, if◌then◌else◌}
 use Rattle.std.proofs.lemmas.Result.{on_ok_weaker}
-use Rattle.terms.specs.Types.{Sysmod}
-use Rattle.terms.specs.Global.{IsSysmod}
+use Rattle.terms.specs.Types.{Sysmod, Global}
+use Rattle.terms.specs.Global.{IsSysmod, Receives}
 use Rattle.machine.specs.Outcome.{OfKind, StatusLine}
 use Rattle.machine.specs.Receiving.{sourced, receive_status}
-use Rattle.report.specs.declared.outcome.Line.{Line}
-use Rattle.report.specs.declared.outcome.Line.TheVariants.{Status}
+use Rattle.report.specs.declared.outcome.ReportLine.{ReportLine}
+use Rattle.report.specs.declared.outcome.ReportLine.TheVariants.{Status}
 use Rattle.report.specs.declared.outcome.Place.TheVariants.{Kind}
-use Rattle.report.specs.Views.{line_view}
-use Rattle.sysmods.specs.Faults.{IsReceived}
+use Rattle.report.specs.Views.{line_view, status_view}
+use Rattle.sysmods.specs.Refused.{IsRefused}
 use Rattle.smpe_global.specs.declared.taken.Taken.{Taken}
 use Rattle.smpe_global.specs.Edits.{answer_of, AreEditsOf}
-use Rattle.smpe_global.proofs.Sysmods.{sysmod_taken, sysmod_refused}
+use Rattle.smpe_global.proofs.Sysmods.{refused_by, sysmod_taken, sysmod_refused}
 use Rattle.smpe_global.proofs.ptfin.take_sysmod.Goals.{In_ok-push}
 use Rattle.smpe_global.proofs.ptfin.take_sysmod.Goals as goal
 
@@ -21,36 +21,49 @@ appended : {T E X : Type 0} (r : Result T E) (new old more : List X) → new ≡
 appended (Ok x) new old more is = is
 appended (Err e) new old more is = tt
 
-abbrev line : In_ok-push → Line
-line c = Status c.sysmod.inside.id (Kind c.sysmod.inside.kind) c.status_of.result
+abbrev line : In_ok-push → ReportLine
+line c = Status c.sysmod.inside.id (Kind c.sysmod.inside.kind) c.in_ok-status_of.field-0
 
-printed : (c : In_ok-push) → line_view (line c) ≡ StatusLine c.args.sysmod.id (OfKind c.args.sysmod.kind)
-    (receive_status (answer_of c.receive.new.self c.in_ok-refused.refused))
-printed c =
-    let status = receive_status (answer_of c.receive.new.self c.in_ok-refused.refused) in
-    ap (StatusLine c.sysmod.inside.id (OfKind c.sysmod.inside.kind)) (c.status_of.ensures c.receive.new.self)
-    ∙ ap (λ (r : Sysmod). StatusLine r.id (OfKind r.kind) status) c.sysmod.view_is
+printed : (c : In_ok-push) → line_view (line c)
+    ≡ StatusLine c.args.sysmod.id (OfKind c.args.sysmod.kind) (status_view c.in_ok-status_of.field-0)
+printed c = ap (λ (r : Sysmod). StatusLine r.id (OfKind r.kind) (status_view c.in_ok-status_of.field-0)) c.sysmod.view_is
 
-received : (c : In_ok-push) → IsReceived c.args.global.now (sourced c.args.source.now c.args.sysmod) c.receive.new.self
-    c.in_ok-refused.refused
-received c = subst (λ s. IsReceived c.args.global.now s c.receive.new.self c.in_ok-refused.refused)
-    c.in_ok-sysmod.ensures c.in_ok-refused.ensures.ok
-
-pub returns-in-None : goal.returns-in-None
-returns-in-None c =
-    let p = (goal.at.returns-in-None c).In_ok-push in
+pub returns-in-Ok : goal.returns-in-Ok
+returns-in-Ok c =
+    let p = (goal.at.returns-in-Ok c).In_ok-push in
     let now : Taken = record { edits = c.append.new.self; lines = c.push.new.self } in
     let own = c.in_ok-edits.edits.items in
+    let g = c.args.global.now in
+    let new = c.receive-answer.new.self in
+    let sent = sourced c.args.source.now c.args.sysmod in
+    let status = status_view c.in_ok-status_of.field-0 in
+    let told : Some (receive_status (Ok new)) ≡ Some status =
+    subst (λ r. option_map receive_status (answer_of new r) ≡ Some status) c.in-Ok.is (c.in_ok-status_of.ensures new) in
+    let came : Receives g sent (Ok new) =
+    subst (λ s. Receives g s (Ok new)) c.in_ok-sysmod.ensures
+    (subst (λ r. OnOk r (Receives g c.in_ok-sysmod.sysmod (Ok new))) c.in-Ok.is c.receive-answer.ensures.ok) in
     on_ok_weaker c.append.result (λ written.
-    sysmod_taken c.args.source.now c.args.global.now c.receive.new.self c.args.sysmod (line p) c.args.taken.now now
-    c.in_ok-push.ensures.items c.in_ok-refused.refused (printed p) (received p) own
+    sysmod_taken c.args.source.now g new c.args.sysmod (line p) c.args.taken.now now c.in_ok-push.ensures.items own
     (subst (λ s. AreEditsOf s own) c.in_ok-sysmod.ensures c.in_ok-edits.ensures) written
-    (subst IsSysmod c.in_ok-sysmod.ensures c.attest.ensures) c.in-None.is)
+    (subst IsSysmod c.in_ok-sysmod.ensures c.attest.ensures)
+    (printed p ∙ ap (StatusLine c.args.sysmod.id (OfKind c.args.sysmod.kind)) (cc (told))) came)
     (appended c.append.result c.append.new.self.items c.args.taken.now.edits.items own c.append.ensures.items)
 
 pub returns : goal.returns
 returns c =
     let p = (goal.at.returns c).In_ok-push in
     let now : Taken = record { edits = c.args.taken.now.edits; lines = c.push.new.self } in
-    sysmod_refused c.args.source.now c.args.global.now c.receive.new.self c.args.sysmod (line p) c.args.taken.now now
-    c.in_ok-push.ensures.items c.in_ok-refused.refused (printed p) (received p) c.in-Some.field-0 refl c.in-Some.is
+    let g = c.args.global.now in
+    let new = c.receive-answer.new.self in
+    let sent = sourced c.args.source.now c.args.sysmod in
+    let e = c.in-Err.field-0 in
+    let status = status_view c.in_ok-status_of.field-0 in
+    let told : option_map receive_status (answer_of new (Err e)) ≡ Some status =
+    subst (λ r. option_map receive_status (answer_of new r) ≡ Some status) c.in-Err.is (c.in_ok-status_of.ensures new) in
+    let why : IsRefused g sent e =
+    subst (λ s. IsRefused g s e) c.in_ok-sysmod.ensures
+    (subst (λ r. IfErr r (IsRefused g c.in_ok-sysmod.sysmod)) c.in-Err.is c.receive-answer.ensures.refused) in
+    let same : new ≡ g = subst (λ r. OnErr r (new ≡ g)) c.in-Err.is c.receive-answer.ensures.err in
+    let by = refused_by g new sent e status why told in
+    sysmod_refused c.args.source.now g new c.args.sysmod (line p) c.args.taken.now now c.in_ok-push.ensures.items by.0
+    refl (printed p ∙ ap (StatusLine c.args.sysmod.id (OfKind c.args.sysmod.kind)) by.2) by.1 same

@@ -47,11 +47,11 @@ loop-y-preserved c =
     ]
 
 pub returns-clause-exact : goal.returns-clause-exact
-returns-clause-exact c =
+returns-clause-exact c _ =
     let at_end : c.loop-y.y ≡ c.args.s.now.size = omega arith in
     causers_all c.args.s.now c.args.kept.now c.loop-y.rows.items (rw at_end at c.loop-y.invariant.rows)
 
 pub returns-clause-some : goal.returns-clause-some
 returns-clause-some c kept =
-    has_causer c.args.s.now c.args.kept.now c.loop-y.rows.items c.size.ensures.valid (returns-clause-exact c)
+    has_causer c.args.s.now c.args.kept.now c.loop-y.rows.items c.size.ensures.valid (returns-clause-exact c kept.size)
     (greatest_from_kept c.args.s.now c.args.kept.now kept)

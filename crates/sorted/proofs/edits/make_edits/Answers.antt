@@ -1,8 +1,6 @@
-use Rattle.std.proofs.Common.{◌≡◌, ◌∷◌, ◌++◌, ◌∙◌, [], length, refl, sym, ap, subst, append_assoc, append-nil, arith, vec_len, vec_capacity}
+use Rattle.std.proofs.Common.{◌≡◌, ◌∷◌, ◌++◌, ◌∙◌, [], length, refl, sym, ap, append_assoc, append-nil, arith, vec_len, vec_capacity}
 use Rattle.std.specs.Vec.Iter.{into_iter_items}
 use Rattle.std.proofs.lemmas.List.{nil_from_length}
-use Rattle.terms.specs.Rising.{Rises}
-use Rattle.sorted.specs.Edits.{edit_key}
 use Rattle.sorted.proofs.Editing.{editing_starts, editing_walks_on, editing_ends}
 use Rattle.sorted.proofs.edits.make_edits.Goals as goal
 

@@ -1,4 +1,4 @@
-use Rattle.std.proofs.Common.{◌≡◌, ◌∙◌, [], Some, sym, ap, not}
+use Rattle.std.proofs.Common.{◌≡◌, ◌∙◌, [], Some, refl, sym, ap, not}
 use Rattle.std.specs.Prelude.{option_copied, filter}
 use Rattle.terms.specs.Global.{has_key, hold_cmp}
 use Rattle.terms.specs.Lookups.{sysmod_of}
@@ -8,7 +8,7 @@ use Rattle.store_rows.proofs.InsideLemmas.{on_ok}
 use Rattle.store_sysmods.specs.Calls.{replace_sources_calls, remove_sysmod_calls}
 use Rattle.store_sysmods.specs.Holds.{put_hold_calls, remove_hold_calls}
 use Rattle.store.proofs.GlobalLemmas.{hold_put, hold_removed}
-use Rattle.store.proofs.Waiting.{waits_behind, waits_beside, waits_found, waits_stops}
+use Rattle.store.proofs.Waiting.{waits_as, waits_behind, waits_beside, waits_found, waits_stops}
 use Rattle.store.proofs.edits.write_edit.Goals as goal
 
 pub returns-in-PutHold-clause-goes : goal.returns-in-PutHold-clause-goes
@@ -39,10 +39,11 @@ pub returns-in_ok-write_waiting-in-ReplaceSources-clause-goes :
     goal.returns-in_ok-write_waiting-in-ReplaceSources-clause-goes
 returns-in_ok-write_waiting-in-ReplaceSources-clause-goes g c ss are =
     let k = c.in-ReplaceSources in
-    rw k.is (waits_behind g.S.Store (replace_sources_calls k.sysmod) _ _ c.replace_sources.result
+    rw k.is (waits_as g.S.Store refl (λ global fits. fits.1) (λ global. refl)
+    (waits_behind g.S.Store (replace_sources_calls k.sysmod) _ _ c.replace_sources.result
     c.in_ok-write_waiting-in-ReplaceSources.was c.write_waiting.ensures.continues.inside
     c.replace_sources.ensures.continues.inside (c.write_waiting.ensures.goes ss are) c.replace_sources.ensures.calls
-    c.replace_sources.ensures.stands)
+    c.replace_sources.ensures.stands))
 
 pub returns-in_ok-write_waiting-in-RemoveSysmod-clause-goes :
     goal.returns-in_ok-write_waiting-in-RemoveSysmod-clause-goes

@@ -15,8 +15,8 @@ use Rattle.store_sysmods.specs.MoreIfs.{insert_moreif, insert_moreifs}
 use Rattle.store_sysmods.specs.MoreVers.{insert_morever, insert_morevers}
 use Rattle.store_sysmods.specs.Sources.{insert_source, insert_sources}
 use Rattle.store_sysmods.specs.Vers.{insert_ver, insert_vers}
-use Rattle.store_sysmods.specs.Steps.{Step, Puts}
-use Rattle.store_sysmods.specs.Sysmods.{AreRowsOf, with_sysmods_rows}
+use Rattle.store_sysmods.specs.Steps.{RunsCalls, Puts}
+use Rattle.store_sysmods.specs.Sysmods.{AreWaitingRows, with_sysmods_rows}
 use Rattle.store_sysmods.proofs.Kept.{kept_sysmods, kept_sources, kept_vers, kept_ifreqs, kept_elems, kept_morevers}
 use Rattle.store_sysmods.proofs.Kept.{kept_moreifs}
 use Rattle.store_sysmods.proofs.Steps.{puts_rows, step_ok, step_then, step_stops, each_ok}
@@ -54,7 +54,7 @@ module _ (ss : List Sysmod) where
 -- ---- each table
 
 module _ (g : Over) (ss : List Sysmod) where
-  sysmods : (c : After-insert_rows g) → AreRowsOf c.args.rows.now ss
+  sysmods : (c : After-insert_rows g) → AreWaitingRows c.args.rows.now ss
       → Puts g.S.Store insert_sysmods insert_sysmod sysmod (map sysmod_row ss) c.args.tx.now
       c.insert_rows.new.tx c.insert_rows.result
   sysmods c are =
@@ -63,7 +63,7 @@ module _ (g : Over) (ss : List Sysmod) where
       c.insert_rows.ensures.continues c.insert_rows.ensures.calls (on_ok c.insert_rows.result _ _
       (λ ran. ran store_schema 1 sysmod puts_sysmods puts_sysmod) c.insert_rows.ensures.ok)
 
-  sources : (c : After-insert_rows-2 g) → AreRowsOf c.args.rows.now ss
+  sources : (c : After-insert_rows-2 g) → AreWaitingRows c.args.rows.now ss
       → Puts g.S.Store insert_sources insert_source source (flat_map sources_of ss) c.insert_rows.new.tx
       c.insert_rows-2.new.tx c.insert_rows-2.result
   sources c are =
@@ -72,7 +72,7 @@ module _ (g : Over) (ss : List Sysmod) where
       c.insert_rows-2.ensures.continues c.insert_rows-2.ensures.calls (on_ok c.insert_rows-2.result _ _
       (λ ran. ran store_schema 9 source puts_sources puts_source) c.insert_rows-2.ensures.ok)
 
-  vers : (c : After-insert_rows-3 g) → AreRowsOf c.args.rows.now ss
+  vers : (c : After-insert_rows-3 g) → AreWaitingRows c.args.rows.now ss
       → Puts g.S.Store insert_vers insert_ver ver (flat_map vers_of ss) c.insert_rows-2.new.tx
       c.insert_rows-3.new.tx c.insert_rows-3.result
   vers c are =
@@ -81,7 +81,7 @@ module _ (g : Over) (ss : List Sysmod) where
       c.insert_rows-3.ensures.continues c.insert_rows-3.ensures.calls (on_ok c.insert_rows-3.result _ _
       (λ ran. ran store_schema 2 ver puts_vers puts_ver) c.insert_rows-3.ensures.ok)
 
-  ifreqs : (c : After-insert_rows-4 g) → AreRowsOf c.args.rows.now ss
+  ifreqs : (c : After-insert_rows-4 g) → AreWaitingRows c.args.rows.now ss
       → Puts g.S.Store insert_ifreqs insert_ifreq ifreq (flat_map ifreqs_of ss) c.insert_rows-3.new.tx
       c.insert_rows-4.new.tx c.insert_rows-4.result
   ifreqs c are =
@@ -90,7 +90,7 @@ module _ (g : Over) (ss : List Sysmod) where
       c.insert_rows-4.ensures.continues c.insert_rows-4.ensures.calls (on_ok c.insert_rows-4.result _ _
       (λ ran. ran store_schema 3 ifreq puts_ifreqs puts_ifreq) c.insert_rows-4.ensures.ok)
 
-  elems : (c : After-insert_rows-5 g) → AreRowsOf c.args.rows.now ss
+  elems : (c : After-insert_rows-5 g) → AreWaitingRows c.args.rows.now ss
       → Puts g.S.Store insert_elems insert_elem elem (flat_map elems_of ss) c.insert_rows-4.new.tx
       c.insert_rows-5.new.tx c.insert_rows-5.result
   elems c are =
@@ -99,7 +99,7 @@ module _ (g : Over) (ss : List Sysmod) where
       c.insert_rows-5.ensures.continues c.insert_rows-5.ensures.calls (on_ok c.insert_rows-5.result _ _
       (λ ran. ran store_schema 5 elem puts_elems puts_elem) c.insert_rows-5.ensures.ok)
 
-  morevers : (c : After-insert_rows-6 g) → AreRowsOf c.args.rows.now ss
+  morevers : (c : After-insert_rows-6 g) → AreWaitingRows c.args.rows.now ss
       → Puts g.S.Store insert_morevers insert_morever morever (flat_map morevers_of ss) c.insert_rows-5.new.tx
       c.insert_rows-6.new.tx c.insert_rows-6.result
   morevers c are =
@@ -108,7 +108,7 @@ module _ (g : Over) (ss : List Sysmod) where
       c.insert_rows-6.ensures.continues c.insert_rows-6.ensures.calls (on_ok c.insert_rows-6.result _ _
       (λ ran. ran store_schema 10 morever puts_morevers puts_morever) c.insert_rows-6.ensures.ok)
 
-  moreifs : (c : After-insert_rows-7 g) → AreRowsOf c.args.rows.now ss
+  moreifs : (c : After-insert_rows-7 g) → AreWaitingRows c.args.rows.now ss
       → Puts g.S.Store insert_moreifs insert_moreif moreif (flat_map moreifs_of ss) c.insert_rows-6.new.tx
       c.insert_rows-7.new.tx c.insert_rows-7.result
   moreifs c are =
@@ -119,8 +119,8 @@ module _ (g : Over) (ss : List Sysmod) where
 
 -- ---- all tables
 
-all : (g : Over) (c : After-insert_rows-7 g) (ss : List Sysmod) → AreRowsOf c.args.rows.now ss
-    → Step g.S.Store (insert_sysmods_calls ss) (with_sysmods_rows ss) c.args.tx.now c.insert_rows-7.new.tx
+all : (g : Over) (c : After-insert_rows-7 g) (ss : List Sysmod) → AreWaitingRows c.args.rows.now ss
+    → RunsCalls g.S.Store (insert_sysmods_calls ss) (with_sysmods_rows ss) c.args.tx.now c.insert_rows-7.new.tx
     c.insert_rows-7.result
 all g c ss are =
     let p = goal.at.returns-clause-calls g c in
@@ -148,7 +148,7 @@ returns-clause-calls g c ss are = (all g c ss are).runs
 
 pub returns-clause-ok : goal.returns-clause-ok
 returns-clause-ok g c =
-    each_ok c.insert_rows-7.result (AreRowsOf c.args.rows.now) _
+    each_ok c.insert_rows-7.result (AreWaitingRows c.args.rows.now) _
     (λ ss are. (all g c ss are).ok)
 
 pub returns-clause-stands : goal.returns-clause-stands

@@ -9,7 +9,7 @@ use Rattle.store_schema.specs.Tables.{store_schema, source}
 use Rattle.store_sysmods.specs.Behind.{rows_behind, of_each}
 use Rattle.store_sysmods.specs.Calls.{replace_sources_calls}
 use Rattle.store_sysmods.specs.Sources.{delete_sources, insert_source, insert_sources}
-use Rattle.store_sysmods.specs.Steps.{Step}
+use Rattle.store_sysmods.specs.Steps.{RunsCalls}
 use Rattle.store_sysmods.specs.Sysmods.{with_source_rows}
 use Rattle.store_sysmods.proofs.Behind.{each_behind}
 use Rattle.store_sysmods.proofs.Kept.{kept_sources_of}
@@ -33,7 +33,7 @@ bound_rows g c =
     (c.as_slice.ensures.items ∙ ap (λ (t : Sysmod). t.sources) view)
 
 replaced : (g : Over) (c : After-insert_rows g)
-    → Step g.S.Store (replace_sources_calls c.args.sysmod.now) (with_source_rows c.args.sysmod.now)
+    → RunsCalls g.S.Store (replace_sources_calls c.args.sysmod.now) (with_source_rows c.args.sysmod.now)
     c.args.tx.now c.insert_rows.new.tx c.insert_rows.result
 replaced g c =
     step_then g.S.Store (step_ok g.S.Store c.in_ok-remove_rows.was

@@ -1,6 +1,6 @@
 use Rattle.std.proofs.Common.{refl, sym, ◌∙◌}
 use Rattle.sysmods.specs.Choices.{choice}
-use Rattle.sysmods.proofs.KnownOvers.{follows_over}
+use Rattle.sysmods.proofs.KnownPairs.{follows_over}
 use Rattle.sysmods.proofs.overs.finds.Goals as goal
 
 pub returns-then-follows_known : goal.returns-then-follows_known

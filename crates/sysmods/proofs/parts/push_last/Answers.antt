@@ -1,19 +1,11 @@
 use Rattle.std.proofs.Common.{◌≡◌, ◌∙◌, [], refl, sym, ap, is_some, if◌then◌else◌, true≢false}
+use Rattle.std.proofs.lemmas.Result.{IfOk-weaker}
 use Rattle.std.specs.Ordering.{nat_cmp}
 use Rattle.std.specs.Cmp.Lexicographic.{slice_cmp}
 use Rattle.terms.specs.Rising.{with_item}
 use Rattle.sysmods.specs.Held.{zone_of}
-use Rattle.sysmods.proofs.Fronts.{none_refused, global_last, new_last, item_last, some_fault, no_fault_holds}
+use Rattle.sysmods.proofs.Fronts.{none_refused, global_last, new_last, item_last, some_fault}
 use Rattle.sysmods.proofs.parts.push_last.Goals as goal
-
-pub returns-then-is_some-clause-fits : goal.returns-then-is_some-clause-fits
-returns-then-is_some-clause-fits c =
-    let xs = c.args.received.now in
-    let s = c.args.sysmod in
-    let none : s.holds ≡ [] = c.carries_none.ensures.0 c.if-not-carries_none.false in
-    let fault = some_fault (zone_of xs) s c.in_ok-refusal.field-0 c.in_ok-refusal.ensures
-    (sym c.is_some.ensures ∙ c.if-is_some.true) in
-    (λ e. absurd (true≢false (sym e)), λ g. absurd (none_refused xs s c.requires.last none g fault.0 fault.1))
 
 pub returns-clause-fits : goal.returns-clause-fits
 returns-clause-fits c =
@@ -21,8 +13,7 @@ returns-clause-fits c =
     let s = c.args.sysmod in
     let none : s.holds ≡ [] = c.carries_none.ensures.0 c.if-not-carries_none.false in (
       λ e. global_last xs s c.requires.last none c.requires.global c.attest.ensures
-          (no_fault_holds (zone_of xs) s c.in_ok-refusal.field-0 c.in_ok-refusal.ensures
-          (sym c.is_some.ensures ∙ c.if-is_some.false)),
+          c.in-Ok.ensures.ok,
       λ g. refl,
     )
 
@@ -33,3 +24,20 @@ returns-clause-ok c =
     λ e. c.in_ok-insert.ensures.ok
     ∙ ap (λ o. if is_some o then xs else with_item (slice_cmp nat_cmp) (λ r. r.id) xs s) (new_last xs s c.requires.last)
     ∙ item_last xs s c.requires.last s refl
+
+pub returns-in-Err-clause-fits : goal.returns-in-Err-clause-fits
+returns-in-Err-clause-fits c =
+    let xs = c.args.received.now in
+    let s = c.args.sysmod in
+    let none : s.holds ≡ [] = c.carries_none.ensures.0 c.if-not-carries_none.false in
+    IfOk-weaker c.unfit.result _ _ (λ fits e. (
+      λ fit. absurd (true≢false (sym fit ∙ e.0)),
+      λ g. absurd (
+          let fault = some_fault (zone_of xs) s c.in-Err.why c.in-Err.ensures.refused e.1 in
+          none_refused xs s c.requires.last none g fault.0 fault.1
+          ),
+    )) c.unfit.ensures
+
+pub returns-in-Err-clause-ok : goal.returns-in-Err-clause-ok
+returns-in-Err-clause-ok c =
+    IfOk-weaker c.unfit.result _ _ (λ fits e fit. absurd (true≢false (sym fit ∙ e.0))) c.unfit.ensures

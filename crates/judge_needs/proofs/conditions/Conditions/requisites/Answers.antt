@@ -5,7 +5,7 @@ use Rattle.terms.specs.Lookups.{is_applied, is_function, is_in}
 use Rattle.terms.specs.Over.{chain}
 use Rattle.terms.specs.Deleted.{deletions, zone_less}
 use Rattle.terms.specs.Conditions.{if_needed, if_reqs}
-use Rattle.judge_needs.specs.declared.stated.Requisite.{Requisite}
+use Rattle.judge_needs.specs.declared.stated.StatedRequisite.{StatedRequisite}
 use Rattle.judge_needs.specs.Conditions.{is_there}
 use Rattle.zones.specs.Scopes.{choice_of}
 use Rattle.judge_needs.proofs.Stating.{stated_left}
@@ -29,7 +29,8 @@ returns c =
     (c.in_ok-extend_from_slice.ensures.items
     ∙ ap (λ l. l ++ c.as_slice-3.result.now) c.in_ok-found.ensures
     ∙ ap (λ l. own ++ l) (c.as_slice-3.ensures.value ∙ c.in_ok-stated.ensures)
-    ∙ ap (λ l. own ++ cond (is_function g x) (map (λ (r : Requisite). r.id) (filter (λ r. is_applied left r.by) l)) [])
+    ∙ ap (λ l. own ++ cond (is_function g x)
+    (map (λ (r : StatedRequisite). r.id) (filter (λ r. is_applied left r.by) l)) [])
     (self.are_stated x)
     ∙ ap (λ l. own ++ cond (is_function g x) l []) (stated_left g ch dels zone c.attest.ensures x)
     ∙ ap (λ ds. if_needed g ch (zone_less g ch ds zone) (is_in ids) x) seen)

@@ -78,7 +78,7 @@ returns g c = answered c.in_ok-outcome.ensures.uses
     carries date files command s c.args.self.now name c.args.delta c.args.header.check
     (Ran (header_view c.args.header) (map line_view c.args.lines.items)) planned inventory c.if-header.false
     (zone_of c.in_ok-outcome.ensures.uses) same g.S.Store c.args.store.now c.commit_change.new.store
-    (report.Ran c.args.header c.args.lines) refl session new changed
+    (report.Ran c.args.header c.args.lines) refl session new changed c.attest.ensures
     (install_session s name planned.zone new inventory planned.is_there c.args.self.now session is refl refl
     ((c.get_mut.follows.holds new).3 (subst IsSome (sym here) refl)))
     (Ok c.in_ok-outcome.outcome) ended)

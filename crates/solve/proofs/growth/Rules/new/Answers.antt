@@ -7,4 +7,4 @@ pub returns : goal.returns
 returns c =
     let start = c.args.start.now in
     let grown : List Bool → Growth = λ flags. record { start = flags; rules = [] } in
-    rw (c.new.ensures, c.in_ok-eligible.ensures) (ap grown (turned_twice start))
+    rw (c.in_ok-outside.ensures.ok, c.in_ok-eligible.ensures) (ap grown (turned_twice start))

@@ -33,3 +33,6 @@ returns-clause-turns c =
       c.in_ok-board.ensures.turns,
       c.in_ok-board.ensures.strikes,
     )
+
+pub new-requires : goal.new-requires
+new-requires c = omega (arith, c.run.ensures.board.size, c.size.ensures.size)

@@ -8,13 +8,13 @@ use Rattle.store_rows.proofs.InsideLemmas.{on_ok}
 use Rattle.store_schema.specs.Rows.{sysmod_row, source_row, sources_of, ver_row, vers_of, ifreq_row, ifreqs_of}
 use Rattle.store_schema.specs.Rows.{elem_row, elems_of, morever_row, morevers_of, moreif_row, moreifs_of, is_first}
 use Rattle.store_schema.specs.Rows.{numbered_behind}
-use Rattle.store_sysmods.specs.Sysmods.{AreRowsOf, sourced}
+use Rattle.store_sysmods.specs.Sysmods.{AreWaitingRows, sourced}
 use Rattle.store_sysmods.proofs.Behind.{each_behind, first_rows, further_rows, first_if_rows, further_if_rows}
 use Rattle.store_sysmods.proofs.Pushing.{one_pushed, pushed_as, flat_pushed}
 use Rattle.store_sysmods.proofs.sysmod_rows.SysmodRows.push.Goals.{After-push_all-6}
 use Rattle.store_sysmods.proofs.sysmod_rows.SysmodRows.push.Goals as goal
 
-module _ (c : After-push_all-6) (ss : List Sysmod) (are : AreRowsOf c.args.self.now ss) where
+module _ (c : After-push_all-6) (ss : List Sysmod) (are : AreWaitingRows c.args.self.now ss) where
   abbrev all : List Sysmod
   all = ss ++ sourced c.args.sysmod.now c.args.sources.now ∷ []
 

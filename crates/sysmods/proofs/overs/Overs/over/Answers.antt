@@ -1,7 +1,7 @@
 use Rattle.std.proofs.Common.{refl, sym, ◌∙◌, subst}
 use Rattle.sysmods.specs.Choices.{choice}
 use Rattle.sysmods.specs.Overs.{AreOver}
-use Rattle.sysmods.proofs.KnownOvers.{known_over, more_over}
+use Rattle.sysmods.proofs.KnownPairs.{known_over, more_over}
 use Rattle.sysmods.proofs.overs.Overs.over.Goals as goal
 
 pub returns-then-is_known-clause-over : goal.returns-then-is_known-clause-over

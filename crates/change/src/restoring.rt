@@ -1,0 +1,115 @@
+//! What RESTORE makes of a target zone.
+ghost use Rattle.std.specs.Prelude.{◌≡◌, ◌++◌, IsTrue, IfOk, OnOk};
+ghost use Rattle.std.specs.List.{list_any};
+ghost use Rattle.terms.specs.Types.{Zone as AZone};
+ghost use Rattle.terms.specs.Lookups.{is_in, waives_applied};
+ghost use Rattle.terms.specs.Restore.{Restoring, Restores};
+ghost use Rattle.zones_maps.specs.Delta.{IsChanged};
+ghost use Rattle.zones_maps.specs.Differing.{EachChanges};
+ghost use Rattle.change.specs.Restoring.{IsRestoringOf, PutsBack, changed_keys, loses, take_off};
+
+use fields::{Attest, Id, IdList, Name};
+use sorted::TryClone;
+use std::alloc::{AllocError, Global};
+use sysmods::GlobalZone;
+use terms::ElemType;
+use zones::{Entry, Zone, ZoneDelta, are_same, entry_less};
+
+/// What changes in a target zone when the kept SYSMODs are taken off it. Elements that they change become those of the
+/// distribution zone. Each edit changes something. An error comes where memory runs out.
+pub fn restore(
+    alloc: Global,
+    global: &GlobalZone,
+    zone: &Zone,
+    accepted: &Zone,
+    kept: &IdList,
+) -> Result<ZoneDelta, AllocError>
+    ensures restores { IfOk result (λ delta. (r : Restoring) → IsRestoringOf r global.now zone.now accepted.now
+        → (new : AZone) → IsChanged delta zone.now new → Restores r kept.now new) }
+    ensures differs { IfOk result (EachChanges zone.now) }
+{
+    zone.attest();
+    let mut delta = ZoneDelta::new(alloc);
+    for entry in zone.entries() {
+        take_off(alloc, kept, entry, &mut delta)?;
+    }
+    let mut changed = Vec::new(alloc);
+    for id in kept.as_slice() {
+        push_keys(global, *id, &mut changed)?;
+    }
+    changed.sort_unstable();
+    for key in changed.as_slice() {
+        put_back(alloc, zone, accepted, *key, &mut delta)?;
+    }
+    Ok(delta)
+}
+
+// Adds the types and names of the elements that the SYSMOD changes.
+fn push_keys(
+    global: &GlobalZone,
+    id: Id,
+    keys: &mut Vec<(ElemType, Name)>,
+) -> Result<(), AllocError>
+    ensures { OnOk result (keys.new.items ≡ keys.old.items ++ changed_keys global.now id) }
+{
+    let Some(sysmod) = global.get(id) else {
+        return Ok(());
+    };
+    for change in sysmod.changes.as_slice() {
+        keys.push((change.elem_type, change.name))?;
+    }
+    Ok(())
+}
+
+// Whether the entry's SYSMOD is kept and applied, or a kept one supersedes it.
+fn loses(kept: &IdList, entry: &Entry) -> bool
+    ensures { result ≡ loses (is_in kept.now) entry.now }
+{
+    (kept.contains(entry.id) && entry.applied.is_some()) || has_any(kept, entry.supby.as_slice())
+}
+
+fn has_any(kept: &IdList, ids: &[Id]) -> bool
+    ensures { result ≡ list_any (is_in kept.now) ids.now }
+{
+    ids.iter().any(|id| kept.contains(*id))
+}
+
+// Takes the kept SYSMODs out of the entry.
+fn take_off(
+    alloc: Global,
+    kept: &IdList,
+    entry: &Entry,
+    delta: &mut ZoneDelta,
+) -> Result<(), AllocError>
+    requires { IsTrue (waives_applied entry.now) }
+    ensures { OnOk result (delta.new ≡ take_off (is_in kept.now) delta.old entry.now) }
+{
+    if !loses(kept, entry) {
+        return Ok(());
+    }
+    let less = entry_less(alloc, kept, entry)?;
+    if !less.has_content() {
+        return delta.remove_entry(entry.id);
+    }
+    delta.put_entry(less)
+}
+
+// The element becomes the one of the other zone, or goes if that has none. One that is the same in both stays.
+fn put_back(
+    alloc: Global,
+    zone: &Zone,
+    accepted: &Zone,
+    key: (ElemType, Name),
+    delta: &mut ZoneDelta,
+) -> Result<(), AllocError>
+    ensures { OnOk result (PutsBack zone.now accepted.now key delta.old delta.new) }
+{
+    let wanted = accepted.element(key.0, key.1);
+    if are_same(zone.element(key.0, key.1), wanted) {
+        return Ok(());
+    }
+    match wanted {
+        Some(element) => delta.put_element(element.try_clone(alloc)?),
+        None => delta.remove_element(key.0, key.1),
+    }
+}

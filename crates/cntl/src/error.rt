@@ -1,0 +1,44 @@
+//! Why a command, or a command file, is not read.
+use std::alloc::{AllocError, AllocFailed};
+use terms::CommandCode;
+use thiserror::Error;
+
+/// Why one command is not read.
+#[derive(Clone, Copy, Debug, PartialEq, Eq, Error)]
+pub enum CommandReadError {
+    #[error("out of memory")]
+    Memory,
+    #[error("the command is at fault")]
+    Fault(CommandCode),
+}
+
+/// Why a command file is not read: the first command at fault begins in this record.
+#[derive(Clone, Copy, Debug, PartialEq, Eq, Error)]
+pub enum CntlError {
+    #[error("out of memory")]
+    Memory,
+    #[error("the command in record {number} is at fault")]
+    Fault { number: usize, code: CommandCode },
+}
+
+impl From<AllocError> for CntlError {
+    ghost use Rattle.std.specs.Prelude.{◌≡◌};
+    ghost use Rattle.cntl.specs.declared.error.CntlError.TheVariants.{Memory};
+
+    ghost from_gives = { λ _ e. e ≡ Memory };
+
+    fn from(_e: AllocError) -> CntlError {
+        CntlError::Memory
+    }
+}
+
+impl<T: Drop> From<AllocFailed<T>> for CntlError {
+    ghost use Rattle.std.specs.Prelude.{◌≡◌};
+    ghost use Rattle.cntl.specs.declared.error.CntlError.TheVariants.{Memory};
+
+    ghost from_gives = { λ _ e. e ≡ Memory };
+
+    fn from(_e: AllocFailed<T>) -> CntlError {
+        CntlError::Memory
+    }
+}

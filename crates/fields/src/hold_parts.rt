@@ -1,0 +1,129 @@
+//! What a hold is made of.
+ghost use Rattle.std.specs.Prelude.{◌≡◌, ◌↔◌, IsSome, IfSome, IsTrue};
+ghost use Rattle.terms.specs.Forms.{IsClass, IsId, IsDate};
+
+use crate::forms::{are_digits, is_day, is_run};
+use crate::ids::Id;
+use crate::padded::Short;
+use crate::rising_lists::Field;
+use std::marker::Model;
+
+/// The reason of a hold, which of an ERROR hold is an id. A contract sees it as its bytes.
+#[derive(Clone, Copy, Debug, PartialEq, Eq, PartialOrd, Ord, Hash)]
+pub struct Reason {
+    text: Short<7>,
+}
+
+impl Model for Reason {
+    ghost use Rattle.std.specs.Prelude.{ℕ, List};
+    ghost use Rattle.terms.specs.Forms.{IsClass};
+
+    ghost Value = { List ℕ };
+
+    ghost view = { λ a. a.text };
+
+    ghost invariant = { λ a. IsClass a.text };
+
+    ghost inverse = { λ text. record { text = text } };
+}
+
+impl Field for Reason {
+    ghost use Rattle.std.proofs.lemmas.Map.Lookups.{exact_bytes};
+
+    ghost exact = { exact_bytes };
+}
+
+impl Reason {
+    /// The value of this text, where it has the form.
+    pub fn read(text: &[u8]) -> Option<Reason>
+        ensures form { IsSome result ↔ IsClass text.now }
+        ensures same { IfSome result (λ read. read ≡ text.now) }
+    {
+        if !is_run(text, 1, 7) {
+            return None;
+        }
+        Some(Reason {
+            text: Short::new(text),
+        })
+    }
+
+    /// Its text.
+    pub fn as_bytes(&self) -> &[u8]
+        ensures same { result.now ≡ self.now }
+        ensures form { IsClass result.now }
+    {
+        self.text.as_bytes()
+    }
+
+    /// Whether it has the form of an id, as an ERROR hold asks of its reason.
+    pub fn is_id(&self) -> bool
+        ensures { IsTrue result ↔ IsId self.now }
+    {
+        is_run(self.as_bytes(), 7, 7)
+    }
+
+    /// The id that it is, where it has the form of one.
+    pub fn as_id(&self) -> Option<Id>
+        ensures form { IsSome result ↔ IsId self.now }
+        ensures same { IfSome result (λ id. id ≡ self.now) }
+    {
+        Id::read(self.as_bytes())
+    }
+}
+
+/// The date of a hold, `yyddd`. A contract sees it as its five digits.
+#[derive(Clone, Copy, Debug, PartialEq, Eq, PartialOrd, Ord, Hash)]
+pub struct HoldDate {
+    text: Short<5>,
+}
+
+impl Model for HoldDate {
+    ghost use Rattle.std.specs.Prelude.{ℕ, List};
+    ghost use Rattle.terms.specs.Forms.{IsDate};
+
+    ghost Value = { List ℕ };
+
+    ghost view = { λ a. a.text };
+
+    ghost invariant = { λ a. IsDate a.text };
+
+    ghost inverse = { λ text. record { text = text } };
+}
+
+impl Field for HoldDate {
+    ghost use Rattle.std.proofs.lemmas.Map.Lookups.{exact_bytes};
+
+    ghost exact = { exact_bytes };
+}
+
+impl HoldDate {
+    /// The value of this text, where it has the form.
+    pub fn read(text: &[u8]) -> Option<HoldDate>
+        ensures form { IsSome result ↔ IsDate text.now }
+        ensures same { IfSome result (λ read. read ≡ text.now) }
+    {
+        if !is_date(text) {
+            return None;
+        }
+        Some(HoldDate {
+            text: Short::new(text),
+        })
+    }
+
+    /// Its text.
+    pub fn as_bytes(&self) -> &[u8]
+        ensures same { result.now ≡ self.now }
+        ensures form { IsDate result.now }
+    {
+        self.text.as_bytes()
+    }
+}
+
+fn is_date(text: &[u8]) -> bool
+    ensures { IsTrue result ↔ IsDate text.now }
+{
+    match text.split_at_checked(2) {
+        Some((year, day)) => are_digits(year, 2) && is_day(day),
+        None => false,
+    }
+}

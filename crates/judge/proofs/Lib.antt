@@ -1,0 +1,4 @@
+pub mod Chosen
+pub mod Needed
+pub mod SaidOf
+pub mod Survivors

@@ -1,0 +1,34 @@
+use Rattle.std.proofs.Common.{All, IsTrue, ◌≡◌, ◌∙◌, ap, map, length, sym, subst}
+use Rattle.std.proofs.lemmas.List.{length-map}
+use Rattle.std.specs.Prelude.{option_copied}
+use Rattle.terms.specs.Candidates.{is_installable}
+use Rattle.sysmods.specs.Choices.{choice, number_in}
+use Rattle.sysmods.specs.Overs.{AreOver}
+use Rattle.judge_system.proofs.Judging.{rows_of}
+use Rattle.judge.specs.Installs.{IsInstallJudged}
+use Rattle.judge.proofs.Chosen.{same_setting}
+use Rattle.judge.proofs.SaidOf.{install_numbered}
+use Rattle.judge.proofs.installing.install_system.Goals as goal
+
+pub assess-requires : goal.assess-requires
+assess-requires c =
+    subst (λ g. All (λ x. IsTrue (is_installable g c.args.zone.now x)) c.args.candidates.now.ids)
+    (sym c.in_ok-vers.ensures.global) c.requires
+
+pub new-requires-clause-rows : goal.new-requires-clause-rows
+new-requires-clause-rows c =
+    let said = c.in_ok-said.field-0.said in
+    sym (length-map said.tests.items (λ row. row.items))
+    ∙ rows_of _ _ _ _ _ _ _ _ c.in_ok-said.ensures.said.are_judged
+
+pub returns-clause-judged : goal.returns-clause-judged
+returns-clause-judged c =
+    let zone = c.args.zone.now in
+    let related = option_copied c.args.related in
+    let ids = c.args.candidates.now.ids in
+    let j = c.in_ok-judged.judged in
+    subst (λ s. IsInstallJudged s j)
+    (same_setting zone related ids c.args.bypass.now c.args.global.now c.in_ok-vers.vers.global.now
+    (choice c.in_ok-vers.vers) c.in_ok-vers.ensures.global c.in_ok-vers.ensures.counting)
+    (install_numbered _ c.in_ok-said.field-0.said c.in_ok-said.ensures.said c.attest.ensures j
+    c.in_ok-judged.ensures.numbered)

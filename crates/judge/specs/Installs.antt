@@ -1,0 +1,24 @@
+-- What is said of the candidates of an APPLY or ACCEPT, by their ids and by their numbers.
+use Rattle.std.specs.Prelude.{List, map}
+use Rattle.terms.specs.Types.{Id}
+use Rattle.terms.specs.Tests.{Setting, Fails, IsEligible, AreSurvivors}
+use Rattle.terms.specs.Needs.{Needs, Serves}
+use Rattle.judge_system.specs.declared.judged.Judged.{Judged}
+use Rattle.judge_system.specs.declared.stated.Assessment.{Assessment}
+use Rattle.judge_system.specs.Judged.{AreJudged, IsJudged}
+use Rattle.judge_needs.specs.Pairs.{AreBypassed}
+
+-- It is so by the command's tests and needs; what is needed depends on the survivors.
+pub record IsInstallAssessed (s : Setting) (said : Assessment) : Type 0 where
+  pub survivors : List Id
+  pub are_survivors : AreSurvivors s survivors
+  pub are_judged : AreJudged (Fails s) (IsEligible s) (Needs s survivors) (Serves s.choice) s.cands
+      (map (λ row. row.items) said.tests.items) said.needs.items said.superseded.items
+  pub bypassed : AreBypassed s s.cands said.bypassed.items
+
+-- so it is of the numbered candidates
+pub record IsInstallJudged (s : Setting) (j : Judged) : Type 0 where
+  pub survivors : List Id
+  pub are_survivors : AreSurvivors s survivors
+  pub judged : IsJudged (Fails s) (IsEligible s) (Needs s survivors) (Serves s.choice) s.cands j
+  pub bypassed : AreBypassed s s.cands j.bypassed.items

@@ -1,0 +1,48 @@
+//! What is said of the candidates of an APPLY or ACCEPT, by their ids.
+ghost use Rattle.std.specs.Prelude.{All, IsTrue, IfOk, option_copied};
+ghost use Rattle.terms.specs.Candidates.{is_installable};
+ghost use Rattle.sysmods.specs.Overs.{AreOver};
+ghost use Rattle.zones.specs.Scopes.{choice_of, global_of, setting_with};
+ghost use Rattle.judge.specs.Installs.{IsInstallAssessed};
+
+use crate::surviving::survivors;
+use judge_faults::{Tested, test_all};
+use judge_needs::{bypassed_pairs, needs_of, superseded_pairs};
+use judge_system::Assessment;
+use std::alloc::{AllocError, Global};
+use sysmods::KnownOvers;
+use zones::{Scope, Zone};
+
+/// What is said of the candidates, and what the tests have found of who is over whom.
+#[derive(Drop)]
+pub(crate) struct Assessed {
+    pub(crate) said: Assessment,
+    pub(crate) overs: KnownOvers,
+}
+
+/// Tests the candidates of an APPLY or ACCEPT by the `++VER`s that count, for ACCEPT with the related target zone, and
+/// finds what they need, which ids they supersede, and which requisites BYPASS covers.
+pub(crate) fn assess(
+    alloc: Global,
+    scope: &Scope<'_, '_>,
+    related: Option<&Zone>,
+) -> Result<Assessed, AllocError>
+    requires { All (λ x. IsTrue (is_installable (global_of scope.now) scope.now.zone.now x)) scope.now.ids.now }
+    ensures said { IfOk result (λ a. IsInstallAssessed (setting_with scope.now (option_copied related.entry)) a.said) }
+    ensures overs { IfOk result (λ a. AreOver (choice_of scope.now) a.overs) }
+{
+    let Tested { tests, overs } = test_all(alloc, scope, related)?;
+    let survivors = survivors(alloc, scope.ids, tests.as_slice())?;
+    let needs = needs_of(alloc, scope, &survivors)?;
+    let superseded = superseded_pairs(alloc, scope.vers, scope.ids, needs.as_slice())?;
+    let bypassed = bypassed_pairs(alloc, scope)?;
+    Ok(Assessed {
+        said: Assessment {
+            tests,
+            needs,
+            superseded,
+            bypassed,
+        },
+        overs: overs.into_known(),
+    })
+}

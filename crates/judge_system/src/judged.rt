@@ -1,0 +1,70 @@
+//! The candidates of a command, judged and numbered.
+ghost use Rattle.std.specs.Prelude.{◌≡◌, All, Contains, IfOk, length};
+ghost use Rattle.judge_system.specs.Judged.{IsNumberedAs};
+
+use crate::numbered::{all_eligible, numbered, with_numbers};
+use crate::stated::{Assessment, RequisiteOf};
+use fields::{Id, IdList};
+use indexmap::IndexSet;
+use solve::System;
+use std::alloc::{AllocError, Global};
+use sysmods::{KnownOvers, VerChoice};
+use terms::Test;
+
+/// The candidates of an APPLY, ACCEPT or RESTORE, judged. They are numbered in the order in which they are first seen;
+/// a number is a place in each list that has an item for each candidate.
+#[derive(Drop)]
+pub struct Judged<'a> {
+    /// Which candidates are eligible, and what each one needs, by their numbers.
+    pub system: System,
+    /// The id of each number.
+    pub ids: IndexSet<Id>,
+    /// The tests that each candidate fails.
+    pub tests: Vec<Vec<Test>>,
+    /// Each need of the system by its ids, in the same order.
+    pub needs: Vec<RequisiteOf>,
+    /// The candidates with each of their requisites that BYPASS covers.
+    pub bypassed: Vec<(Id, Id)>,
+    /// The `++VER`s that count.
+    pub vers: VerChoice<'a>,
+    /// What is known of which id is over which.
+    pub overs: KnownOvers,
+}
+
+impl<'a> Judged<'a> {
+    /// Numbers the candidates, and what is said of them. It returns an error too if there are more of them than numbers
+    /// of 32 bits.
+    pub fn new(
+        alloc: Global,
+        ids: &IdList,
+        said: Assessment,
+        vers: VerChoice<'a>,
+        overs: KnownOvers,
+    ) -> Result<Self, AllocError>
+        requires rows { length said.tests.items ≡ length ids.now }
+        requires of { All (λ w. Contains ids.now w.of) said.needs.items }
+        requires by { All (λ p. Contains ids.now p.0) said.superseded.items }
+        ensures numbered { IfOk result (λ j. IsNumberedAs ids.now said j) }
+        ensures vers { IfOk result (λ j. j.vers ≡ vers) }
+        ensures overs { IfOk result (λ j. j.overs ≡ overs) }
+    {
+        let eligible = all_eligible(alloc, said.tests.as_slice())?;
+        let ids = with_numbers(alloc, ids)?;
+        let system = numbered(
+            alloc,
+            &ids,
+            said.superseded.as_slice(),
+            said.needs.as_slice(),
+            eligible,
+        )?;
+        Ok(Judged {
+            system,
+            ids,
+            tests: said.tests,
+            needs: said.needs,
+            bypassed: said.bypassed,
+            vers,
+            overs,
+        })
+    }
+}

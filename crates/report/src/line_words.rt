@@ -1,0 +1,92 @@
+//! Words, and lines that are made of them.
+ghost use Rattle.std.specs.Prelude.{◌<◌, ◌∷◌, length, map};
+ghost use Rattle.machine.specs.Report.{words_line, list_text};
+ghost use Rattle.report.specs.Paged.{Paged};
+ghost use Rattle.report.specs.WordTexts.{word_text};
+
+use crate::page::Page;
+use crate::sink::Sink;
+use fields::{Id, Source};
+use itoa::Buffer;
+
+/// A word of a line.
+#[derive(Clone, Copy)]
+pub(crate) enum LineWord<'a> {
+    Of(&'a [u8]),
+    /// The word, or `-`.
+    Optional(Option<&'a [u8]>),
+    /// The first word where it is so, else the second.
+    If(bool, &'static [u8], &'static [u8]),
+    /// In so many places, with blanks behind it.
+    Left(usize, &'a [u8]),
+    Number(usize),
+    /// With commas between them, or `-`.
+    Ids(&'a [Id]),
+    /// With commas between them, or `-`.
+    Sources(&'a [Source]),
+}
+
+// Ids with commas between them, or `-`.
+fn put_ids<W: Sink>(ids: &[Id], page: &mut Page<'_, W>)
+    ensures { Paged W.Sink page.old page.new (list_text ids.now) }
+{
+    let Some((first, rest)) = ids.split_first() else {
+        page.put(b"-");
+        return;
+    };
+    page.put(first.as_bytes());
+    for id in rest {
+        page.put(b",");
+        page.put(id.as_bytes());
+    }
+}
+
+// Sources with commas between them, or `-`.
+fn put_sources<W: Sink>(sources: &[Source], page: &mut Page<'_, W>)
+    ensures { Paged W.Sink page.old page.new (list_text sources.now) }
+{
+    let Some((first, rest)) = sources.split_first() else {
+        page.put(b"-");
+        return;
+    };
+    page.put(first.as_bytes());
+    for source in rest {
+        page.put(b",");
+        page.put(source.as_bytes());
+    }
+}
+
+fn put_word<W: Sink>(word: LineWord<'_>, page: &mut Page<'_, W>)
+    ensures { Paged W.Sink page.old page.new (word_text word.entry) }
+{
+    match word {
+        LineWord::Of(text) | LineWord::Optional(Some(text)) => page.put(text),
+        LineWord::Optional(None) => page.put(b"-"),
+        LineWord::If(true, text, _) | LineWord::If(false, _, text) => page.put(text),
+        LineWord::Left(places, text) => {
+            page.put(text);
+            for _place in 0..places.saturating_sub(text.len()) {
+                page.put(b" ");
+            }
+        }
+        LineWord::Number(number) => {
+            let mut buffer = Buffer::new();
+            page.put(buffer.format(number).as_bytes());
+        }
+        LineWord::Ids(ids) => put_ids(ids, page),
+        LineWord::Sources(sources) => put_sources(sources, page),
+    }
+}
+
+/// A line that begins with these bytes. A line that begins with blanks and then a word has one blank less here.
+pub(crate) fn put_words<W: Sink>(start: &[u8], words: &[LineWord<'_>], page: &mut Page<'_, W>)
+    ensures paged { Paged W.Sink page.old page.new (words_line (start.now ∷ map word_text words.now)) }
+    ensures some { 0 < length page.new.waiting.items }
+{
+    page.put(start);
+    for word in words {
+        page.put(b" ");
+        put_word(*word, page);
+    }
+    page.put(b"\n");
+}

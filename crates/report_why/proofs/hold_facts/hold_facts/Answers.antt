@@ -1,0 +1,21 @@
+use Rattle.std.proofs.Common.{◌∙◌, ◌++◌, ap, subst, sym}
+use Rattle.terms.specs.Beside.{Beside}
+use Rattle.terms.specs.declared.kinds.HoldKind.TheVariants.{Error, System, User}
+use Rattle.terms.specs.Lookups.{holds_of}
+use Rattle.zones.specs.Scopes.{global_of}
+use Rattle.terms.specs.Facts.{IsHoldFact, holds_on}
+use Rattle.report_why.specs.Asking.{setting_in}
+use Rattle.report_why.specs.Views.{fact_view}
+use Rattle.report_why.proofs.Besides.{beside_append}
+use Rattle.report_why.proofs.hold_facts.hold_facts.Goals as goal
+
+pub returns : goal.returns
+returns c =
+    let a = c.args.asking.now in
+    let g = global_of a.scope in
+    subst (Beside (λ n h fact. IsHoldFact (setting_in a) a.id h (fact_view fact)) (holds_on g a.id))
+    (sym (c.in_ok-append-2.ensures.items ∙ ap (λ l. l ++ c.in_ok-user.user.items) c.in_ok-append.ensures.items))
+    (beside_append (λ h fact. IsHoldFact (setting_in a) a.id h (fact_view fact))
+    (holds_of g Error a.id ++ holds_of g System a.id) (holds_of g User a.id) _ _
+    (beside_append (λ h fact. IsHoldFact (setting_in a) a.id h (fact_view fact)) (holds_of g Error a.id)
+    (holds_of g System a.id) _ _ c.in_ok-facts.ensures c.in_ok-system.ensures) c.in_ok-user.ensures)

@@ -1,0 +1,137 @@
+//! What the words of the command line ask for.
+ghost use Rattle.std.specs.Prelude.{map, option_map, IfOk, IfErr};
+ghost use Rattle.clap.specs.Words.{found_of, rows_of};
+ghost use Rattle.smpe_invocation.specs.Answers.{Excludes, IsMet, IsRead, IsRefused};
+ghost use Rattle.smpe_invocation.specs.Values.{HasCheck, HasList, HasMigrate, HasRun, HasWhy, HasZone};
+ghost use Rattle.smpe_invocation.specs.declared.asked.Invocation.{Invocation};
+
+use crate::asked::Invocation;
+use crate::command::command_line;
+use crate::fault::ArgFault;
+use crate::option_values::{
+    commands, date, ids, kind, optional_text, related, srel, text, zone_name,
+};
+use clap::ArgMatches;
+use std::alloc::Global;
+
+/// Reads the words, of which the first is the program's name. `Memory` comes where memory runs out, `Clap` where `clap`
+/// refuses the words or has a text to show in place of them, as for `--help`, and `BadOperand` where a name, an id, an
+/// SREL or a date has not its form.
+pub fn invocation<'a>(alloc: Global, words: &'a [&'a str]) -> Result<Invocation, ArgFault>
+    ensures ok { IfOk result (IsRead (map (λ word. word.now) words.entry.now)) }
+    ensures err { IfErr result (IsRefused (map (λ word. word.now) words.entry.now)) }
+{
+    let matches = command_line(alloc)?.try_get_matches_from(words)?;
+    met(alloc, matches.subcommand())
+}
+
+// The subcommand that was met, with its matches.
+fn met(alloc: Global, met: Option<(&str, &ArgMatches<'_>)>) -> Result<Invocation, ArgFault>
+    ensures ok { IfOk result (IsMet (option_map (λ p. (p.0.now, rows_of (found_of p.1.now))) met.entry)) }
+    ensures err { IfErr result (λ e. Excludes e ((invocation : Invocation)
+        × IsMet (option_map (λ p. (p.0.now, rows_of (found_of p.1.now))) met.entry) invocation)) }
+{
+    let Some((name, found)) = met else {
+        return Err(ArgFault::BadOperand);
+    };
+    if name == "zone" {
+        zone(alloc, found)
+    } else if name == "run" {
+        run(alloc, found)
+    } else if name == "list" {
+        list(alloc, found)
+    } else if name == "why" {
+        why(alloc, found)
+    } else if name == "check" {
+        check(alloc, found)
+    } else if name == "migrate" {
+        migrate(alloc, found)
+    } else {
+        Err(ArgFault::BadOperand)
+    }
+}
+
+fn zone(alloc: Global, found: &ArgMatches<'_>) -> Result<Invocation, ArgFault>
+    ensures ok { IfOk result (HasZone (rows_of (found_of found.now))) }
+    ensures err { IfErr result (λ e. Excludes e ((invocation : Invocation)
+        × HasZone (rows_of (found_of found.now)) invocation)) }
+{
+    let name = zone_name(found, "name")?;
+    let kind = kind(found)?;
+    let srel = srel(found)?;
+    let related = related(found)?;
+    let db = text(alloc, found, "db")?;
+    Ok(Invocation::Zone {
+        db,
+        name,
+        kind,
+        srel,
+        related,
+    })
+}
+
+fn run(alloc: Global, found: &ArgMatches<'_>) -> Result<Invocation, ArgFault>
+    ensures ok { IfOk result (HasRun (rows_of (found_of found.now))) }
+    ensures err { IfErr result (λ e. Excludes e ((invocation : Invocation)
+        × HasRun (rows_of (found_of found.now)) invocation)) }
+{
+    let date = date(found)?;
+    let db = text(alloc, found, "db")?;
+    let cntl = text(alloc, found, "cntl")?;
+    let ptfin = optional_text(alloc, found, "ptfin")?;
+    let hold = optional_text(alloc, found, "hold")?;
+    Ok(Invocation::Run {
+        db,
+        date,
+        cntl,
+        ptfin,
+        hold,
+    })
+}
+
+fn list(alloc: Global, found: &ArgMatches<'_>) -> Result<Invocation, ArgFault>
+    ensures ok { IfOk result (HasList (rows_of (found_of found.now))) }
+    ensures err { IfErr result (λ e. Excludes e ((invocation : Invocation)
+        × HasList (rows_of (found_of found.now)) invocation)) }
+{
+    let zone = zone_name(found, "zone")?;
+    let db = text(alloc, found, "db")?;
+    Ok(Invocation::List { db, zone })
+}
+
+fn why(alloc: Global, found: &ArgMatches<'_>) -> Result<Invocation, ArgFault>
+    ensures ok { IfOk result (HasWhy (rows_of (found_of found.now))) }
+    ensures err { IfErr result (λ e. Excludes e ((invocation : Invocation)
+        × HasWhy (rows_of (found_of found.now)) invocation)) }
+{
+    let zone = zone_name(found, "zone")?;
+    let ids = ids(alloc, found)?;
+    let db = text(alloc, found, "db")?;
+    Ok(Invocation::Why { db, zone, ids })
+}
+
+fn check(alloc: Global, found: &ArgMatches<'_>) -> Result<Invocation, ArgFault>
+    ensures ok { IfOk result (HasCheck (rows_of (found_of found.now))) }
+    ensures err { IfErr result (λ e. Excludes e ((invocation : Invocation)
+        × HasCheck (rows_of (found_of found.now)) invocation)) }
+{
+    let srel = srel(found)?;
+    let commands = commands(alloc, found)?;
+    let ptfin = text(alloc, found, "ptfin")?;
+    let hold = optional_text(alloc, found, "hold")?;
+    Ok(Invocation::Check {
+        srel,
+        ptfin,
+        hold,
+        commands,
+    })
+}
+
+fn migrate(alloc: Global, found: &ArgMatches<'_>) -> Result<Invocation, ArgFault>
+    ensures ok { IfOk result (HasMigrate (rows_of (found_of found.now))) }
+    ensures err { IfErr result (λ e. Excludes e ((invocation : Invocation)
+        × HasMigrate (rows_of (found_of found.now)) invocation)) }
+{
+    let db = text(alloc, found, "db")?;
+    Ok(Invocation::Migrate { db })
+}

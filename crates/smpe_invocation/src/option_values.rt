@@ -1,0 +1,159 @@
+//! The values of the options.
+ghost use Rattle.std.specs.Prelude.{◌≡◌, ◌++◌, ◌∷◌, [], All, List, Option, Some, map, option_map, IfOk, IfErr, OnOk};
+ghost use Rattle.std.specs.String.{string_bytes};
+ghost use Rattle.terms.specs.Forms.{IsId};
+ghost use Rattle.terms.specs.Types.{Text};
+ghost use Rattle.terms.specs.declared.kinds.ZoneKind.{ZoneKind};
+ghost use Rattle.clap.specs.Words.{all_of, first_of, found_of, rows_of};
+ghost use Rattle.smpe_invocation.specs.Answers.{Excludes};
+ghost use Rattle.smpe_invocation.specs.Values.{HasCommands, HasDate, HasIds, HasKind, HasRelated, HasSrel, HasText};
+ghost use Rattle.smpe_invocation.specs.Values.{HasZoneName};
+ghost use Rattle.smpe_invocation.specs.declared.asked.CommandJob.{CommandJob};
+
+use crate::asked::CommandJob;
+use crate::date::read_date;
+use crate::fault::ArgFault;
+use clap::ArgMatches;
+use fields::spelling::read_zone_kind;
+use fields::{Id, Srel, YyDdd, ZoneName};
+use std::alloc::{AllocError, Global};
+use terms::ZoneKind;
+
+// The text that stands for the option, if the words have it.
+fn value<'a>(found: &ArgMatches<'a>, id: &str) -> Option<&'a str>
+    ensures { option_map (λ text. text.now) result ≡ first_of id.now (rows_of (found_of found.now)) }
+{
+    found.get_str(id)
+}
+
+fn needed<'a>(found: &ArgMatches<'a>, id: &str) -> Result<&'a str, ArgFault>
+    ensures ok { IfOk result (λ text. HasText id.now (rows_of (found_of found.now)) text.now) }
+    ensures err { IfErr result (λ e. Excludes e ((text : Text) × HasText id.now (rows_of (found_of found.now)) text)) }
+{
+    value(found, id).ok_or(ArgFault::BadOperand)
+}
+
+pub(crate) fn text(alloc: Global, found: &ArgMatches<'_>, id: &str) -> Result<String, ArgFault>
+    ensures ok { IfOk result (λ text. HasText id.now (rows_of (found_of found.now)) (string_bytes text)) }
+    ensures err { IfErr result (λ e. Excludes e ((text : Text) × HasText id.now (rows_of (found_of found.now)) text)) }
+{
+    Ok(String::from_str(alloc, needed(found, id)?)?)
+}
+
+pub(crate) fn optional_text(
+    alloc: Global,
+    found: &ArgMatches<'_>,
+    id: &str,
+) -> Result<Option<String>, AllocError>
+    ensures { IfOk result (λ text. first_of id.now (rows_of (found_of found.now)) ≡ option_map string_bytes text) }
+{
+    match value(found, id) {
+        Some(text) => Ok(Some(String::from_str(alloc, text)?)),
+        None => Ok(None),
+    }
+}
+
+pub(crate) fn zone_name(found: &ArgMatches<'_>, id: &str) -> Result<ZoneName, ArgFault>
+    ensures ok { IfOk result (λ name. HasZoneName id.now (rows_of (found_of found.now)) name) }
+    ensures err { IfErr result (λ e. Excludes e ((name : Text)
+        × HasZoneName id.now (rows_of (found_of found.now)) name)) }
+{
+    ZoneName::read(needed(found, id)?.as_bytes()).ok_or(ArgFault::BadOperand)
+}
+
+pub(crate) fn kind(found: &ArgMatches<'_>) -> Result<ZoneKind, ArgFault>
+    ensures ok { IfOk result (λ kind. HasKind (rows_of (found_of found.now)) kind) }
+    ensures err { IfErr result (λ e. Excludes e ((kind : ZoneKind) × HasKind (rows_of (found_of found.now)) kind)) }
+{
+    read_zone_kind(needed(found, "kind")?.as_bytes()).ok_or(ArgFault::BadOperand)
+}
+
+pub(crate) fn srel(found: &ArgMatches<'_>) -> Result<Srel, ArgFault>
+    ensures ok { IfOk result (λ srel. HasSrel (rows_of (found_of found.now)) srel) }
+    ensures err { IfErr result (λ e. Excludes e ((srel : Text) × HasSrel (rows_of (found_of found.now)) srel)) }
+{
+    Srel::read(needed(found, "srel")?.as_bytes()).ok_or(ArgFault::BadOperand)
+}
+
+pub(crate) fn related(found: &ArgMatches<'_>) -> Result<Option<ZoneName>, ArgFault>
+    ensures ok { IfOk result (λ related. HasRelated (rows_of (found_of found.now)) related) }
+    ensures err { IfErr result (λ e. Excludes e ((related : _) × HasRelated (rows_of (found_of found.now)) related)) }
+{
+    match value(found, "related") {
+        Some(name) => match ZoneName::read(name.as_bytes()) {
+            Some(name) => Ok(Some(name)),
+            None => Err(ArgFault::BadOperand),
+        },
+        None => Ok(None),
+    }
+}
+
+fn read_id(text: &str) -> Result<Id, ArgFault>
+    ensures ok { IfOk result (λ id. (id ≡ text.now) × IsId id) }
+    ensures err { IfErr result (λ e. Excludes e (IsId text.now)) }
+{
+    Id::read(text.as_bytes()).ok_or(ArgFault::BadOperand)
+}
+
+fn push(id: Id, ids: &mut Vec<Id>) -> Result<(), AllocError>
+    ensures { OnOk result (ids.new.items ≡ ids.old.items ++ id ∷ []) }
+{
+    ids.push(id)?;
+    Ok(())
+}
+
+fn read_ids(alloc: Global, texts: &[&str]) -> Result<Vec<Id>, ArgFault>
+    ensures ok { IfOk result (λ ids. (ids.items ≡ map (λ text. text.now) texts.now) × All IsId ids.items) }
+    ensures err { IfErr result (λ e. Excludes e (All IsId (map (λ text. text.now) texts.now))) }
+{
+    let mut ids = Vec::new(alloc);
+    for text in texts {
+        let id = read_id(text)?;
+        push(id, &mut ids)?;
+    }
+    Ok(ids)
+}
+
+// The texts that stand for an option that may be repeated, if the words have it.
+fn values<'a, 'b>(found: &'b ArgMatches<'a>, id: &str) -> Option<&'b [&'a str]>
+    ensures { option_map (λ texts. map (λ text. text.now) texts.now) result
+        ≡ all_of id.now (rows_of (found_of found.now)) }
+{
+    found.get_strs(id)
+}
+
+pub(crate) fn ids(alloc: Global, found: &ArgMatches<'_>) -> Result<Vec<Id>, ArgFault>
+    ensures ok { IfOk result (λ ids. HasIds (rows_of (found_of found.now)) ids.items) }
+    ensures err { IfErr result (λ e. Excludes e ((ids : List Text) × HasIds (rows_of (found_of found.now)) ids)) }
+{
+    match values(found, "id") {
+        Some(texts) => read_ids(alloc, texts),
+        None => Err(ArgFault::BadOperand),
+    }
+}
+
+pub(crate) fn date(found: &ArgMatches<'_>) -> Result<YyDdd, ArgFault>
+    ensures ok { IfOk result (λ date. HasDate (rows_of (found_of found.now)) date) }
+    ensures err { IfErr result (λ e. Excludes e ((date : Text) × HasDate (rows_of (found_of found.now)) date)) }
+{
+    read_date(needed(found, "date")?).ok_or(ArgFault::BadOperand)
+}
+
+// The commands, if the words have a file of them; only these want a date.
+pub(crate) fn commands(
+    alloc: Global,
+    found: &ArgMatches<'_>,
+) -> Result<Option<CommandJob>, ArgFault>
+    ensures ok { IfOk result (λ commands. HasCommands (rows_of (found_of found.now)) commands) }
+    ensures err { IfErr result (λ e. Excludes e ((commands : Option CommandJob)
+        × HasCommands (rows_of (found_of found.now)) commands)) }
+{
+    match value(found, "cntl") {
+        Some(name) => {
+            let date = date(found)?;
+            let cntl = String::from_str(alloc, name)?;
+            Ok(Some(CommandJob { cntl, date }))
+        }
+        None => Ok(None),
+    }
+}

@@ -1,0 +1,214 @@
+//! Which `++VER` of a SYSMOD counts.
+ghost use Rattle.std.specs.Prelude.{◌≡◌, ◌↔◌, ◌-◌, List, ℕ, Contains, IsTrue, IfOk, filter, option_copied, slice_get};
+ghost use Rattle.std.specs.Str.{bytes_eq};
+ghost use Rattle.terms.specs.Choice.{fmid_of, vers_of};
+ghost use Rattle.terms.specs.Lookups.{is_in, meets};
+ghost use Rattle.terms.specs.Over.{IsOver, Supersedes, chain, owner};
+ghost use Rattle.sysmods.specs.Choices.{has_ver, picked, number_in, choice};
+
+use crate::chain::Chain;
+use crate::global_zone::GlobalZone;
+use crate::search::{Names, ends, leads};
+use fields::{Id, IdList, Srel, VerNumber};
+use sorted::{Keyed, Table};
+use std::alloc::{AllocError, Global};
+use sysmods_values::Ver;
+
+/// The number of an id's `++VER` among those for an SREL.
+#[derive(Clone, Copy, Debug)]
+pub struct Pick {
+    pub id: Id,
+    pub number: VerNumber,
+}
+
+impl Keyed for Pick {
+    type Key = Id;
+
+    ghost key_of = { λ pick. pick.id };
+
+    fn key(&self) -> Id {
+        self.id
+    }
+}
+
+/// Gives each id its `++VER` that counts for a zone, of those for the zone's SREL: the one that it was installed by,
+/// or else one that fits. Where no number is picked it is the first.
+#[derive(Drop)]
+pub struct VerChoice<'a> {
+    global: &'a GlobalZone,
+    srel: Srel,
+    kept: Table<Pick>,
+    fitting: Table<Pick>,
+}
+
+impl<'a> VerChoice<'a> {
+    /// The choice of the `++VER`s for one SREL by these numbers, of which the kept ones come first.
+    pub fn new(global: &'a GlobalZone, srel: Srel, kept: Table<Pick>, fitting: Table<Pick>) -> Self
+        ensures global { result.global.now ≡ global.now }
+        ensures srel { result.srel ≡ srel }
+        ensures kept { result.kept ≡ kept }
+        ensures fitting { result.fitting ≡ fitting }
+    {
+        VerChoice {
+            global,
+            srel,
+            kept,
+            fitting,
+        }
+    }
+
+    /// The global zone that it looks into.
+    pub fn global(&self) -> &'a GlobalZone
+        ensures { result.now ≡ self.now.global.now }
+    {
+        self.global
+    }
+
+    /// Whether a SYSMOD of this id is received with a `++VER` for the SREL.
+    pub fn has_ver(&self, id: Id) -> bool
+        ensures { result ≡ has_ver self.now.global.now self.now.srel id }
+    {
+        has_ver(self.global, self.srel, id)
+    }
+
+    /// The number of the `++VER` that counts.
+    pub fn number(&self, id: Id) -> VerNumber
+        ensures { result ≡ number_in self.now id }
+    {
+        match picked(&self.kept, id) {
+            Some(number) => number,
+            None => picked(&self.fitting, id).unwrap_or(VerNumber::FIRST),
+        }
+    }
+
+    /// The `++VER` that counts, if one does.
+    pub fn ver(&self, id: Id) -> Option<&'a Ver>
+        ensures { option_copied result ≡ choice self.now id }
+    {
+        numbered_ver(self.global, self.srel, id, self.number(id))
+    }
+
+    /// The FMID of the `++VER` that counts.
+    pub fn fmid(&self, id: Id) -> Option<Id>
+        ensures { result ≡ fmid_of (choice self.now) id }
+    {
+        self.ver(id)?.fmid
+    }
+
+    /// The id that owns its elements: a function itself, else its FMID.
+    pub fn owner(&self, id: Id) -> Id
+        ensures { result ≡ owner self.now.global.now (choice self.now) id }
+    {
+        if self.global.is_function(id) {
+            return id;
+        }
+        self.fmid(id).unwrap_or(id)
+    }
+
+    /// The id, and all that the walk from FMID to FMID meets.
+    pub fn chain(&self, id: Id) -> Chain<'_, 'a>
+        ensures { result ≡ chain self.now.global.now (choice self.now) id }
+    {
+        Chain::new(self, id)
+    }
+
+    /// Whether its chain has one of these ids. Where there are none, the chain is not walked.
+    pub fn meets(&self, id: Id, ids: &[Id]) -> bool
+        ensures { result ≡ meets (chain self.now.global.now (choice self.now) id) ids.now }
+    {
+        if ids.is_empty() {
+            return false;
+        }
+        self.chain(id).any(|x| is_in(ids, x))
+    }
+
+    /// Whether x is over z: a list leads from x to z by PRE, SUP and FMID. The error comes where memory runs out.
+    pub fn over(&self, alloc: Global, x: Id, z: Id) -> Result<bool, AllocError>
+        ensures { IfOk result (λ over. IsTrue over ↔ IsOver (choice self.now) x z) }
+    {
+        leads(alloc, &AllNames { choice: self }, x, z)
+    }
+
+    /// The ids that x supersedes, directly or through others. The error comes where memory runs out.
+    pub fn sup_all(&self, alloc: Global, x: Id) -> Result<IdList, AllocError>
+        ensures { IfOk result (λ ids. (z : List ℕ) → Contains ids z ↔ Supersedes (choice self.now) x z) }
+    {
+        ends(alloc, &Superseded { choice: self }, x)
+    }
+}
+
+fn is_in(ids: &[Id], id: Id) -> bool
+    ensures { result ≡ is_in ids.now id }
+{
+    ids.contains(&id)
+}
+
+// The number that is picked for the id.
+fn picked(picks: &Table<Pick>, id: Id) -> Option<VerNumber>
+    ensures { result ≡ picked picks.now id }
+{
+    let pick = picks.get(id)?;
+    Some(pick.number)
+}
+
+/// Whether a SYSMOD of this id is received with a `++VER` for the SREL.
+pub fn has_ver(global: &GlobalZone, srel: Srel, id: Id) -> bool
+    ensures { result ≡ has_ver global.now srel id }
+{
+    numbered_ver(global, srel, id, VerNumber::FIRST).is_some()
+}
+
+/// The `++VER` of this number among those of the SYSMOD for the SREL.
+pub fn numbered_ver(global: &GlobalZone, srel: Srel, id: Id, number: VerNumber) -> Option<&Ver>
+    ensures { option_copied result ≡ slice_get (vers_of global.now srel id) (number - 1) }
+{
+    let sysmod = global.get(id)?;
+    of_srel(sysmod.vers.as_slice(), srel, number.get() - 1)
+}
+
+// The one at this place among those for the SREL.
+fn of_srel<'a>(vers: &'a [Ver], srel: Srel, place: usize) -> Option<&'a Ver>
+    ensures { option_copied result ≡ slice_get (filter (λ v. bytes_eq v.srel srel) vers.now) place }
+{
+    vers.iter().filter(|ver| ver.srel == srel).nth(place)
+}
+
+// What the `++VER` that counts names in PRE, SUP and FMID.
+#[derive(Clone, Copy)]
+struct AllNames<'a, 'b> {
+    choice: &'a VerChoice<'b>,
+}
+
+impl Names for AllNames<'_, '_> {
+    ghost use Rattle.terms.specs.Over.{names};
+    ghost use Rattle.sysmods.specs.Choices.{choice};
+
+    ghost named = { λ n. names (choice n.choice.now) };
+
+    fn append_named(&self, id: Id, found: &mut Vec<Id>) -> Result<(), AllocError> {
+        match self.choice.ver(id) {
+            Some(ver) => ver.append_named(found),
+            None => Ok(()),
+        }
+    }
+}
+
+// What it names in SUP.
+#[derive(Clone, Copy)]
+struct Superseded<'a, 'b> {
+    choice: &'a VerChoice<'b>,
+}
+
+impl Names for Superseded<'_, '_> {
+    ghost use Rattle.terms.specs.Choice.{sup_of};
+    ghost use Rattle.sysmods.specs.Choices.{choice};
+
+    ghost named = { λ n. sup_of (choice n.choice.now) };
+
+    fn append_named(&self, id: Id, found: &mut Vec<Id>) -> Result<(), AllocError> {
+        match self.choice.ver(id) {
+            Some(ver) => found.extend_from_slice(ver.sup.as_slice()),
+            None => Ok(()),
+        }
+    }
+}

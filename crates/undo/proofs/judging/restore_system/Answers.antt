@@ -1,0 +1,42 @@
+use Rattle.std.proofs.Common.{◌∙◌, ap, length, sym, subst}
+use Rattle.std.proofs.lemmas.List.{length-map}
+use Rattle.terms.specs.Choice.{counting}
+use Rattle.terms.specs.Lookups.{is_applied}
+use Rattle.terms.specs.Restore.{restore_candidates}
+use Rattle.terms.proofs.Searches.{filter_all}
+use Rattle.judge_system.proofs.Judging.{judged_of, rows_of}
+use Rattle.undo.specs.Judged.{IsRestoreAssessed, IsRestoreJudged}
+use Rattle.undo.specs.Scopes.{restoring}
+use Rattle.undo.proofs.Settings.{restoring_is}
+use Rattle.undo.proofs.judging.restore_system.Goals as goal
+
+-- they are their own candidates
+own_said : (c : goal.After-assess) → IsRestoreAssessed (restoring c.in_ok-vers.vers c.args.zone.now c.args.accepted.now)
+    c.args.candidates.now.ids c.args.candidates.now.ids c.in_ok-said.said
+own_said c =
+    let ids = c.args.candidates.now.ids in
+    c.in_ok-said.ensures ids (sym (filter_all (is_applied c.args.zone.now) ids c.requires))
+
+pub new-requires-clause-rows : goal.new-requires-clause-rows
+new-requires-clause-rows c =
+    sym (length-map c.in_ok-said.said.tests.items (λ row. row.items)) ∙ rows_of _ _ _ _ _ _ _ _ (own_said c)
+
+pub new-requires-clause-of : goal.new-requires-clause-of
+new-requires-clause-of c = (own_said c).of
+
+pub new-requires-clause-by : goal.new-requires-clause-by
+new-requires-clause-by c = (own_said c).by
+
+pub returns : goal.returns
+returns c = λ list are.
+    let g = c.args.global.now in
+    let zone = c.args.zone.now in
+    let accepted = c.args.accepted.now in
+    let ids = c.args.candidates.now.ids in
+    let j = c.in_ok-judged.judged in
+    let setting = restoring_is c.in_ok-vers.vers g zone accepted c.in_ok-vers.ensures.global
+    (c.in_ok-vers.ensures.counting ∙ ap (counting g zone) c.new-none.ensures) in
+    subst (λ r. IsRestoreJudged r list ids j) setting
+    (judged_of _ _ _ _ ids c.in_ok-said.said
+    (c.in_ok-said.ensures list (subst (λ r. ids ≡ restore_candidates r list) (sym setting) are))
+    c.attest.ensures j c.in_ok-judged.ensures.numbered)

@@ -1,0 +1,46 @@
+//! What is said of the candidates of a RESTORE, by their ids.
+ghost use Rattle.std.specs.Prelude.{◌≡◌, List, All, IsTrue, IfOk};
+ghost use Rattle.terms.specs.Types.{Id as AnId};
+ghost use Rattle.terms.specs.Lookups.{is_applied};
+ghost use Rattle.terms.specs.Restore.{restore_candidates};
+ghost use Rattle.undo.specs.Judged.{IsRestoreAssessed};
+ghost use Rattle.undo.specs.Scopes.{restoring};
+
+use crate::needed::needs_in_restore;
+use crate::scope::{RestoreScope, applied_ids};
+use crate::tests::all_rows;
+use fields::{Attest, IdList};
+use judge_system::Assessment;
+use std::alloc::{AllocError, Global};
+use sysmods::VerChoice;
+use zones::Zone;
+
+/// Tests these applied SYSMODs by the `++VER`s that count, and finds what they need. Nobody supersedes what a RESTORE
+/// needs, and BYPASS covers nothing of it. What is said is so for each list of which they are the candidates.
+pub(crate) fn assess(
+    alloc: Global,
+    vers: &VerChoice<'_>,
+    zone: &Zone,
+    accepted: &Zone,
+    ids: &IdList,
+) -> Result<Assessment, AllocError>
+    requires { All (λ x. IsTrue (is_applied zone.now x)) ids.now }
+    ensures { IfOk result (λ said. (list : List AnId)
+        → ids.now ≡ restore_candidates (restoring vers.now zone.now accepted.now) list
+        → IsRestoreAssessed (restoring vers.now zone.now accepted.now) list ids.now said) }
+{
+    zone.attest();
+    let applied = applied_ids(alloc, zone)?;
+    let scope = RestoreScope {
+        vers,
+        zone,
+        accepted,
+        applied: applied.as_slice(),
+    };
+    Ok(Assessment {
+        tests: all_rows(alloc, &scope, ids.as_slice())?,
+        needs: needs_in_restore(alloc, &scope, ids)?,
+        superseded: Vec::new(alloc),
+        bypassed: Vec::new(alloc),
+    })
+}

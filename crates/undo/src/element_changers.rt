@@ -1,0 +1,81 @@
+//! Who changes which element.
+ghost use Rattle.std.specs.Prelude.{◌≡◌, IfOk};
+ghost use Rattle.sorted.specs.ElementKeys.{key_cmp};
+ghost use Rattle.undo.specs.Elements.{AreChangers, changed_keys, sharers};
+ghost use Rattle.undo.specs.Needed.{HaveElem};
+ghost use Rattle.undo.specs.Scopes.{restoring_of};
+
+use crate::scope::{RestoreScope, changes_of, unaccepted};
+use fields::{Attest, Id, IdList, Name};
+use sorted::lists::{Lists, add_to_all, listed};
+use std::alloc::{AllocError, Global};
+use std::collections::BTreeMap;
+use sysmods::GlobalZone;
+use terms::ElemType;
+
+/// For each element some SYSMODs that change it.
+type Changers = Lists<(ElemType, Name), Id>;
+
+// The types and names of the elements that the SYSMOD changes.
+fn changed_keys(
+    alloc: Global,
+    global: &GlobalZone,
+    id: Id,
+) -> Result<Vec<(ElemType, Name)>, AllocError>
+    ensures { IfOk result (λ keys. keys.items ≡ changed_keys global.now id) }
+{
+    changes_of(global, id)
+        .iter()
+        .map(|change| (change.elem_type, change.name))
+        .collect(alloc)
+}
+
+// What these SYSMODs change.
+fn changers(alloc: Global, global: &GlobalZone, ids: &[Id]) -> Result<Changers, AllocError>
+    ensures { IfOk result (AreChangers global.now ids.now) }
+{
+    let mut changers = BTreeMap::new(alloc);
+    for id in ids {
+        let keys = changed_keys(alloc, global, *id)?;
+        add_to_all(alloc, &mut changers, keys.as_slice(), *id)?;
+    }
+    Ok(changers)
+}
+
+// Those that change an element which the SYSMOD changes too.
+fn sharers(
+    alloc: Global,
+    global: &GlobalZone,
+    changers: &Changers,
+    id: Id,
+) -> Result<Vec<Id>, AllocError>
+    ensures { IfOk result (λ ids. ids.items ≡ sharers global.now changers.now id) }
+{
+    changes_of(global, id)
+        .iter()
+        .flat_map(|change| listed(changers, (change.elem_type, change.name)).iter())
+        .copied()
+        .collect(alloc)
+}
+
+/// The candidates with those that share an element with them.
+pub(crate) fn elem_pairs(
+    alloc: Global,
+    scope: &RestoreScope<'_, '_>,
+    cands: &IdList,
+) -> Result<Vec<(Id, Id)>, AllocError>
+    ensures { IfOk result (λ pairs. HaveElem (restoring_of scope.now) cands.now pairs.items) }
+{
+    scope.zone.attest();
+    let global = scope.vers.global();
+    let others = unaccepted(alloc, scope.accepted, scope.applied)?;
+    let changers = changers(alloc, global, others.as_slice())?;
+    let mut pairs = Vec::new(alloc);
+    for id in cands.as_slice() {
+        let sharers = sharers(alloc, global, &changers, *id)?;
+        for sharer in sharers.as_slice() {
+            pairs.push((*id, *sharer))?;
+        }
+    }
+    Ok(pairs)
+}
