@@ -14,7 +14,7 @@ use Rattle.sysmods.specs.declared.edit.GlobalEdit.{GlobalEdit}
 use Rattle.sysmods.specs.declared.edit.GlobalEdit.TheVariants.{PutHold, RemoveHold, InsertSysmod, ReplaceSources}
 use Rattle.sysmods.specs.declared.edit.GlobalEdit.TheVariants.{RemoveSysmod}
 use Rattle.zones_maps.specs.Delta.{ZoneDelta}
-use Rattle.store_rows.specs.Calls.{Call, Refused}
+use Rattle.store_rows.specs.Calls.{Call, RefusedCall}
 use Rattle.store_rows.specs.Reads.{HasFailed}
 use Rattle.store_sysmods.specs.Holds.{put_hold_calls, remove_hold_calls}
 use Rattle.store_sysmods.specs.Calls.{insert_sysmods_calls, replace_sources_calls, remove_sysmod_calls}
@@ -92,7 +92,7 @@ calls_of (Global stated edits) = edits_calls stated.now edits.items
 -- the database refused one of the statements
 abbrev pub IsRefused : {S : Type 0} → Ghosts S → Change → Held S → Type 0
 IsRefused {S} g change old =
-    (last : Held S) × (error : Error) × Refused g (calls_of change) (record old { in_transaction = true }) last error
+    (last : Held S) × (error : Error) × RefusedCall g (calls_of change) (record old { in_transaction = true }) last error
 
 -- the disk failed or refused, the connection had been shut, or the database refused one of the statements
 abbrev pub FailsToWrite : {S : Type 0} → Ghosts S → Change → Held S → Held S → Type 0

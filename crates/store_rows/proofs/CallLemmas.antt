@@ -18,7 +18,7 @@ use Rattle.sqlite.specs.State.{State, Survives, HasCleanDisk, IsUnchanged, IsNot
 use Rattle.sqlite.specs.State.{shows_rows}
 use Rattle.store_rows.specs.Reads.{HasFailed}
 use Rattle.store_rows.specs.Inside.{StaysInside}
-use Rattle.store_rows.specs.Calls.{Call, Ran, Refused, RunsThrough, RunsInside}
+use Rattle.store_rows.specs.Calls.{Call, Ran, RefusedCall, RunsThrough, RunsInside}
 use Rattle.store_rows.proofs.Causes.{failed_itself}
 
 -- the second answers where the first does, and hands its error on
@@ -95,7 +95,7 @@ module _ {S : Type 0} (g : Ghosts S) where
   alone old new sql params (Ok n) h = ((new, n, h.0, refl), cc h.1.mode)
   alone old new sql params (Err e) h =
       let refused : IsUnchanged (state g old) (state g new) ⊎ (e ≡ SqliteFailure TooBig)
-      → Refused g ((sql, params) ∷ []) old new e = λ left. record {
+      → RefusedCall g ((sql, params) ∷ []) old new e = λ left. record {
         before = [];
         call = (sql, params);
         after = [];
@@ -134,7 +134,7 @@ module _ {S : Type 0} (g : Ghosts S) where
   ran_then (x ∷ xs) ys a b c one two = (one.0, one.1, one.2, ran_then xs ys one.0 b c one.3 two)
 
   refused_then : (xs ys : List Call) (a b c : Held S) (e : Error) → Ran g xs a b
-      → (state g b).step_limit ≡ (state g a).step_limit → Refused g ys b c e → Refused g (xs ++ ys) a c e
+      → (state g b).step_limit ≡ (state g a).step_limit → RefusedCall g ys b c e → RefusedCall g (xs ++ ys) a c e
   refused_then xs ys a b c e one limit two = record {
     before = xs ++ two.before;
     call = two.call;
@@ -147,7 +147,7 @@ module _ {S : Type 0} (g : Ghosts S) where
     left = two.left;
   }
 
-  refused_more : (xs ys : List Call) (a b : Held S) (e : Error) → Refused g xs a b e → Refused g (xs ++ ys) a b e
+  refused_more : (xs ys : List Call) (a b : Held S) (e : Error) → RefusedCall g xs a b e → RefusedCall g (xs ++ ys) a b e
   refused_more xs ys a b e h = record {
     before = h.before;
     call = h.call;

@@ -44,7 +44,7 @@ module _ {S : Type 0} (g : Ghosts S) where
 
   -- Those before one of them ran, under the same limit on steps, and the database refused that one, or has no room for
   -- its row.
-  pub record Refused (calls : List Call) (old new : Held S) (error : Error) : Type 0 where
+  pub record RefusedCall (calls : List Call) (old new : Held S) (error : Error) : Type 0 where
     pub before : List Call
     pub call : Call
     pub after : List Call
@@ -59,7 +59,7 @@ module _ {S : Type 0} (g : Ghosts S) where
   abbrev pub RunsThrough : List Call → Held S → Held S → {X : Type 0} → Result X Error → Type 0
   RunsThrough calls old new (Ok x) = Ran calls old new × IsTrue new.in_transaction
   RunsThrough calls old new (Err e) =
-      (e ≡ SqliteFailure OutOfMemory) ⊎ (HasFailed (state g old) (state g new) ⊎ Refused calls old new e)
+      (e ≡ SqliteFailure OutOfMemory) ⊎ (HasFailed (state g old) (state g new) ⊎ RefusedCall calls old new e)
 
   -- so it is in a transaction
   abbrev pub RunsInside : List Call → Held S → Held S → {X : Type 0} → Result X Error → Type 0
