@@ -1,12 +1,12 @@
 -- The numbered form of what is said of candidates is that of the command's own tests, needs, and what serves a need.
-use Rattle.std.proofs.Common.{List, ℕ, Some, sym, ◌∙◌, true≢false, slice_get}
-use Rattle.std.specs.Prelude.{◌↔◌, IsTrue, Contains, map}
+use Rattle.std.proofs.Common.{List, sym, ◌∙◌, true≢false}
+use Rattle.std.specs.Prelude.{◌↔◌}
 use Rattle.std.proofs.lemmas.Bool.{false_from_ne_true}
 use Rattle.terms.specs.declared.codes.NeedKind.{NeedKind}
 use Rattle.terms.specs.declared.codes.Test.{Test}
 use Rattle.terms.specs.Types.{Id}
 use Rattle.terms.proofs.Places.{contains_at}
-use Rattle.solve.specs.System.{Need, System, holds}
+use Rattle.solve.specs.System.{Need, System}
 use Rattle.judge_system.specs.Said.{Said, IsEligible, Needs, Serves, IsSaid}
 use Rattle.judge_system.specs.NumberedForm.{IsNumberedForm, NeedFor}
 

@@ -45,7 +45,7 @@ impl<'a> Judged<'a> {
         requires of { All (λ w. Contains ids.now w.of) said.needs.items }
         requires by { All (λ p. Contains ids.now p.0) said.superseded.items }
         ensures numbered { IfOk result (λ j. IsNumberedAs ids.now said j) }
-        ensures vers { IfOk result (λ j. j.vers ≡ vers) }
+        ensures vers { IfOk result (λ j. j.vers ≡ vers.entry) }
         ensures overs { IfOk result (λ j. j.overs ≡ overs) }
     {
         let eligible = all_eligible(alloc, said.tests.as_slice())?;

@@ -174,15 +174,8 @@ fn the_kept_of_another_size_have_no_causers(rt: HostRuntime) -> Result<(), Syste
     let alloc = rt.alloc();
     let s = with_need(alloc, 2, 0, &[])?;
     let kept = Sweep.greatest(alloc, &with_need(alloc, 3, 0, &[])?)?;
-    assert_eq!(rt;
-        (
-            kept.size(),
-            kept.contains(0),
-            kept.contains(1),
-            kept.contains(3)
-        ),
-        (3, false, true, false)
-    );
+    assert_eq!(rt; kept.size(), 3);
+    assert!(rt; kept.contains(1) && !kept.contains(0) && !kept.contains(3));
     let rows = causers(alloc, &s, &kept)?;
     assert_eq!(rt; rows.len(), 2);
     assert!(rt; rows.iter().all(|row| row.is_empty()));

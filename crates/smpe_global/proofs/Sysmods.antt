@@ -2,6 +2,7 @@
 use Rattle.std.proofs.Common.{◌≡◌, ◌∙◌, List, [], ◌∷◌, ◌++◌, refl, sym, ap, subst, Option, None, Some, Ok, Err, All}
 use Rattle.std.proofs.Common.{map, option_map, append-nil}
 use Rattle.std.proofs.lemmas.Bool.{false_from_ne_true}
+use Rattle.std.proofs.lemmas.Option.{same_Some}
 use Rattle.std.proofs.lemmas.List.Elements.{All-nil, All-cons, All-map}
 use Rattle.terms.specs.Types.{Text, Global, Sysmod, ASysmod}
 use Rattle.terms.specs.Global.{IsSysmod, ReceiveFault, AlreadyReceived, MakesLoop, WrongRole, NoRoom, Receives, RefusedBy}
@@ -32,11 +33,16 @@ writes_receive s edits (sources, names, are) = subst (All IsOfReceive) (sym are)
 pub refused_by : (g new : Global) (s : Sysmod) (e : Refused) (status : Status) → IsRefused g s e
     → option_map receive_status (answer_of new (Err e)) ≡ Some status
     → (fault : ReceiveFault) × RefusedBy g s fault × (status ≡ receive_status (Err fault))
-refused_by g new s why.AlreadyReceived status by told = (AlreadyReceived, by, cc (told))
-refused_by g new s why.MakesLoop status by told = (MakesLoop, by, cc (told))
-refused_by g new s why.WrongRole status by told = (WrongRole, by, cc (told))
-refused_by g new s why.NoRoom status by told = (NoRoom, by, cc (told))
-refused_by g new s why.Memory status by told = absurd (cc (told))
+refused_by g new s why.AlreadyReceived status first told =
+    (AlreadyReceived, first, sym (same_Some (receive_status (Err AlreadyReceived)) status told))
+refused_by g new s why.MakesLoop status first told =
+    (MakesLoop, first, sym (same_Some (receive_status (Err MakesLoop)) status told))
+refused_by g new s why.WrongRole status first told =
+    (WrongRole, first, sym (same_Some (receive_status (Err WrongRole)) status told))
+refused_by g new s why.NoRoom status first told =
+    (NoRoom, first, sym (same_Some (receive_status (Err NoRoom)) status told))
+refused_by g new s why.Memory status first told =
+    let none : None ≡ Some status = told in absurd (cc none)
 
 -- whose line is told
 module _ (source : Option Text) (g new : Global) (s : Sysmod) (line : ReportLine) (was is : Taken)

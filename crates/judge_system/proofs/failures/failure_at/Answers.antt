@@ -1,4 +1,4 @@
-use Rattle.std.proofs.Common.{◌<◌, length, subst, arith}
+use Rattle.std.proofs.Common.{◌<◌, ◌∙◌, ap, sym, length, subst, arith}
 use Rattle.std.specs.Prelude.{All}
 use Rattle.solve.proofs.Added.{row_at_read}
 use Rattle.judge_system.proofs.failures.failure_at.Goals as goal
@@ -9,5 +9,6 @@ failure_of-requires c =
     let n = c.args.place in
     subst (All (λ m. m < length c.args.ids.now))
     (row_at_read found.causers.now n c.index-found-place-3.result c.deref-3.result.now
-    (omega (arith, c.requires.within, c.requires.found.causers)) c.index-found-place-3.is c.deref-3.ensures.value)
+    (omega (arith, c.requires.within, c.requires.found.causers)) c.index-found-place-3.is
+    (c.deref-3.ensures.value ∙ ap (λ row. row.items) (sym c.index-found-place-3.is)))
     (c.requires.found.within n)

@@ -1,4 +1,4 @@
-use Rattle.std.proofs.Common.{◌≡◌, ◌∙◌, ◌≤◌, ◌<◌, ◌+◌, ◌^◌, length, arith, ap, subst, sym, take, take_all}
+use Rattle.std.proofs.Common.{◌∙◌, ◌≤◌, ◌+◌, length, arith, ap, subst, sym, take, take_all}
 use Rattle.terms.specs.Lookups.{IsRising}
 use Rattle.judge_system.proofs.Numbering.{number_next}
 use Rattle.judge_system.proofs.numbered.with_numbers.Goals as goal

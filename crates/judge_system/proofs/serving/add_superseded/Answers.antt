@@ -8,8 +8,8 @@ use Rattle.judge_system.proofs.CandidateIds.{one_number}
 use Rattle.judge_system.proofs.Standing.{superseded_next, superseded_none}
 use Rattle.judge_system.proofs.serving.add_superseded.Goals as goal
 
-pub own_place-requires : goal.own_place-requires
-own_place-requires c =
+pub own_place-requires-clause-within : goal.own_place-requires-clause-within
+own_place-requires-clause-within c =
     let over = c.args.superseded.now in
     All-found (λ (p : Id × Id). Contains c.args.ids.now.keys p.0) over c.loop-pair.pair-index c.pair-item.result
     c.requires.within

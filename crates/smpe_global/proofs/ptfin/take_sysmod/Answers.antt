@@ -1,9 +1,10 @@
 use Rattle.std.proofs.Common.{◌≡◌, ◌∙◌, ◌++◌, List, Result, Ok, Err, Some, OnOk, refl, sym, ap, subst}
 use Rattle.std.specs.Prelude.{is_ok, IfErr, OnErr, option_map, if◌then◌else◌}
+use Rattle.std.proofs.lemmas.Option.{same_Some}
 use Rattle.std.proofs.lemmas.Result.{on_ok_weaker}
 use Rattle.terms.specs.Types.{Sysmod, Global}
 use Rattle.terms.specs.Global.{IsSysmod, Receives}
-use Rattle.machine.specs.Outcome.{OfKind, StatusLine}
+use Rattle.machine.specs.Outcome.{OfKind, Received, StatusLine}
 use Rattle.machine.specs.Receiving.{sourced, receive_status}
 use Rattle.report.specs.declared.outcome.ReportLine.{ReportLine}
 use Rattle.report.specs.declared.outcome.ReportLine.TheVariants.{Status}
@@ -37,7 +38,7 @@ returns-in-Ok c =
     let new = c.receive-answer.new.self in
     let sent = sourced c.args.source.now c.args.sysmod in
     let status = status_view c.in_ok-status_of.field-0 in
-    let told : Some (receive_status (Ok new)) ≡ Some status =
+    let told : Some Received ≡ Some status =
     subst (λ r. option_map receive_status (answer_of new r) ≡ Some status) c.in-Ok.is (c.in_ok-status_of.ensures new) in
     let came : Receives g sent (Ok new) =
     subst (λ s. Receives g s (Ok new)) c.in_ok-sysmod.ensures
@@ -46,7 +47,7 @@ returns-in-Ok c =
     sysmod_taken c.args.source.now g new c.args.sysmod (line p) c.args.taken.now now c.in_ok-push.ensures.items own
     (subst (λ s. AreEditsOf s own) c.in_ok-sysmod.ensures c.in_ok-edits.ensures) written
     (subst IsSysmod c.in_ok-sysmod.ensures c.attest.ensures)
-    (printed p ∙ ap (StatusLine c.args.sysmod.id (OfKind c.args.sysmod.kind)) (cc (told))) came)
+    (printed p ∙ ap (StatusLine c.args.sysmod.id (OfKind c.args.sysmod.kind)) (sym (same_Some Received status told))) came)
     (appended c.append.result c.append.new.self.items c.args.taken.now.edits.items own c.append.ensures.items)
 
 pub returns : goal.returns
