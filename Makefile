@@ -15,7 +15,8 @@ completions = $(root)/share/bash-completion/completions
 man = $(root)/share/man
 doc = $(root)/share/doc/smpe
 # Those of tools/NAME are installed as smpe-NAME.
-tools = cards query job failures
+tools = cards query job failures shadow
+completed = query job failures shadow
 commands = smpe smpe-intake $(tools:%=smpe-%)
 
 .PHONY: all check install uninstall
@@ -44,8 +45,9 @@ install: $(PROGRAM) $(INTAKE)
 	install -m 644 docs/*.md docs/*.svg $(doc)/docs
 	install -m 644 tools/smpe.bash-completion $(completions)/smpe
 	install -m 644 tools/smpe-intake.bash-completion $(completions)/smpe-intake
+	for tool in $(completed); do install -m 644 tools/tools.bash-completion $(completions)/smpe-$$tool || exit; done
 
 uninstall:
 	rm -f $(commands:%=$(root)/bin/%) $(commands:%=$(man)/man1/%.1) $(man)/man5/smpe-cards.5 $(man)/man5/smpe-db.5 \
-	  $(completions)/smpe $(completions)/smpe-intake
+	  $(completions)/smpe $(completions)/smpe-intake $(completed:%=$(completions)/smpe-%)
 	rm -rf $(root)/share/smpe $(doc)

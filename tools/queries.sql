@@ -140,3 +140,13 @@ FROM keys
 LEFT JOIN standing AS t ON t.zone = target AND t.id = keys.id
 LEFT JOIN standing AS d ON d.zone = related AND d.id = keys.id
 WHERE replace(coalesce(t.stands, ''), 'APPLIED', 'ACCEPTED') <> coalesce(d.stands, '');
+
+-- What is applied in a target zone and neither accepted nor superseded in its distribution zone: since when, and how
+-- many open holds and unmet needs it has in the distribution zone.
+CREATE TEMP VIEW unaccepted AS
+SELECT zone.name AS zone, related, entry.id, sysmod.kind, entry.date, n.holds, n.unmet
+FROM zone JOIN entry ON entry.zone = zone.name AND entry.date IS NOT NULL
+LEFT JOIN entry AS accepted ON accepted.zone = related AND accepted.id = entry.id
+LEFT JOIN sysmod ON sysmod.id = entry.id
+LEFT JOIN not_installed AS n ON n.zone = related AND n.id = entry.id
+WHERE related IS NOT NULL AND accepted.id IS NULL;

@@ -15,7 +15,7 @@ use Rattle.terms.specs.Lookups.{element_cmp, element_eq, element_key, element_of
 use Rattle.terms.proofs.ElementOrder.{element_cmp_total, element_ties, same_key}
 use Rattle.zones_maps.specs.Delta.{ZoneDelta}
 use Rattle.sorted.specs.Turned.{AreTurned}
-use Rattle.change.specs.Restoring.{changed_keys, all_changed, element_at, EditsElement, PutsBack, ArePutBack}
+use Rattle.change.specs.Restoring.{changed_keys, all_changed, element_at, LeavesElement, PutsBack, ArePutBack}
 use Rattle.sorted.proofs.Turning.{turned_none, turned_next}
 
 -- what is found at a key has it

@@ -3,3 +3,4 @@ pub mod Excluding
 pub mod Ids
 pub mod Meeting
 pub mod Shapes
+mod ParsedDates

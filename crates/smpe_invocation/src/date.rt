@@ -1,6 +1,5 @@
 //! The date of a job, as the command line has it.
-ghost use Rattle.std.specs.Prelude.{◌≡◌, ◌↔◌, IsSome, IfSome, IsTrue, ◌<◌, ◌≤◌, length, pos};
-ghost use Rattle.std.specs.Str.Parse.{digits_value};
+ghost use Rattle.std.specs.Prelude.{◌≡◌, ◌↔◌, IsSome, IfSome, IsTrue, ◌≤◌, ℕ, length, pos};
 ghost use Rattle.jiff_core.specs.Date.{IsYmd, ordinal};
 ghost use Rattle.smpe_invocation.specs.Dates.{AreDigits, HasDateDigits, HasDateForm, IsCalendarDay, day_of, dotted};
 ghost use Rattle.smpe_invocation.specs.Dates.{month_of, year_of};
@@ -14,12 +13,18 @@ pub fn read_date(text: &str) -> Option<YyDdd>
     ensures form { IsSome result ↔ (HasDateForm text.now × IsCalendarDay text.now) }
     ensures value { IfSome result (λ date. date ≡ dotted text.now) }
 {
-    let digits = text.as_bytes();
-    if !has_date_form(digits) {
+    if !has_date_form(text.as_bytes()) {
         return None;
     }
-    let date = calendar_day(digits)?;
-    Some(YyDdd::new(year(digits), day_of_year(date)))
+    let date = calendar_day(text)?;
+    Some(YyDdd::new(year(date), day_of_year(date)))
+}
+
+fn year(date: Date) -> u16
+    requires { (y : ℕ) × (date.year ≡ pos y) }
+    ensures { pos result ≡ date.year }
+{
+    date.year() as u16
 }
 
 fn day_of_year(date: Date) -> u16
@@ -31,22 +36,12 @@ fn day_of_year(date: Date) -> u16
 }
 
 // The day that the calendar has.
-fn calendar_day(text: &[u8]) -> Option<Date>
+fn calendar_day(text: &str) -> Option<Date>
     requires { HasDateForm text.now }
     ensures form { IsSome result ↔ IsCalendarDay text.now }
     ensures value { IfSome result (IsYmd (pos (year_of text.now)) (pos (month_of text.now)) (pos (day_of text.now))) }
 {
-    let month = two_digits(&text[5..7]);
-    let day = two_digits(&text[8..10]);
-    Date::new(year(text) as i16, month as i8, day as i8).ok()
-}
-
-fn year(text: &[u8]) -> u16
-    requires { HasDateForm text.now }
-    ensures value { result ≡ year_of text.now }
-    ensures small { result < 10_000 }
-{
-    four_digits(&text[..4])
+    text.parse().ok()
 }
 
 fn has_date_form(text: &[u8]) -> bool
@@ -66,22 +61,4 @@ fn are_digits(text: &[u8]) -> bool
     ensures { IsTrue result ↔ AreDigits text.now }
 {
     text.iter().all(|b| b.is_ascii_digit())
-}
-
-fn four_digits(digits: &[u8]) -> u16
-    requires count { length digits.now ≡ 4 }
-    requires digits { AreDigits digits.now }
-    ensures value { result ≡ digits_value 10 digits.now }
-    ensures small { result < 10_000 }
-{
-    u16::from(two_digits(&digits[..2])) * 100 + u16::from(two_digits(&digits[2..4]))
-}
-
-fn two_digits(digits: &[u8]) -> u8
-    requires count { length digits.now ≡ 2 }
-    requires digits { AreDigits digits.now }
-    ensures value { result ≡ digits_value 10 digits.now }
-    ensures small { result < 100 }
-{
-    (digits[0] - b'0') * 10 + (digits[1] - b'0')
 }

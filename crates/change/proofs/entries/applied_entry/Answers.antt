@@ -1,4 +1,4 @@
-use Rattle.std.proofs.Common.{ap, sym, subst}
+use Rattle.std.proofs.Common.{Some, ap, sym, subst}
 use Rattle.terms.specs.Types.{Entry, an_applied}
 use Rattle.change.specs.Entries.{IsAppliedEntry}
 use Rattle.change.proofs.Made.{applied_from, waived_from}

@@ -1,13 +1,10 @@
-use Rattle.std.proofs.Common.{rules, ◌≡◌, subst, refl}
+use Rattle.std.proofs.Common.{rules, subst, refl}
 use Rattle.smpe_invocation.specs.Dates.{HasDateForm, IsCalendarDay}
 use Rattle.smpe_invocation.proofs.date.read_date.Goals as goal
 
-pub year-requires : goal.year-requires
-year-requires c = c.has_date_form.ensures.0 (search rules)
-
 pub returns-clause-form : goal.returns-clause-form
 returns-clause-form c =
-    let form : HasDateForm c.as_bytes-digits.result.now = c.has_date_form.ensures.0 (search rules) in
-    let day : IsCalendarDay c.as_bytes-digits.result.now = c.in_ok-date.ensures.form.0 refl in
-    let same : c.as_bytes-digits.result.now ≡ c.args.text.now = c.as_bytes-digits.ensures.value in
-    (λ _. subst (λ t. HasDateForm t × IsCalendarDay t) same (form, day), λ _. refl)
+    let read : HasDateForm c.as_bytes.result.now = c.has_date_form.ensures.0 (search rules) in
+    let form : HasDateForm c.args.text.now = subst HasDateForm c.as_bytes.ensures.value read in
+    let day : IsCalendarDay c.args.text.now = c.in_ok-date.ensures.form.0 refl in
+    (λ _. (form, day), λ _. refl)

@@ -1,9 +1,11 @@
-use Rattle.std.proofs.Common.{◌∙◌, ap, length, sym, subst}
+use Rattle.std.proofs.Common.{◌≡◌, ◌∙◌, All, IsTrue, List, ap, sym, subst}
 use Rattle.std.proofs.lemmas.List.{length-map}
 use Rattle.terms.specs.Choice.{counting}
 use Rattle.terms.specs.Lookups.{is_applied}
-use Rattle.terms.specs.Restore.{restore_candidates}
+use Rattle.terms.specs.Restore.{Restoring, restore_candidates}
+use Rattle.terms.specs.Types.{Id}
 use Rattle.terms.proofs.Searches.{filter_all}
+use Rattle.judge_system.specs.declared.stated.Assessment.{Assessment}
 use Rattle.judge_system.proofs.Judging.{judged_of, rows_of}
 use Rattle.undo.specs.Judged.{IsRestoreAssessed, IsRestoreJudged}
 use Rattle.undo.specs.Scopes.{restoring}
@@ -11,21 +13,26 @@ use Rattle.undo.proofs.Settings.{restoring_is}
 use Rattle.undo.proofs.judging.restore_system.Goals as goal
 
 -- they are their own candidates
-own_said : (c : goal.After-assess) → IsRestoreAssessed (restoring c.in_ok-vers.vers c.args.zone.now c.args.accepted.now)
-    c.args.candidates.now.ids c.args.candidates.now.ids c.in_ok-said.said
-own_said c =
-    let ids = c.args.candidates.now.ids in
-    c.in_ok-said.ensures ids (sym (filter_all (is_applied c.args.zone.now) ids c.requires))
+own_said : (r : Restoring) (ids : List Id) (said : Assessment)
+    → ((list : List Id) → ids ≡ restore_candidates r list → IsRestoreAssessed r list ids said)
+    → All (λ x. IsTrue (is_applied r.zone x)) ids → IsRestoreAssessed r ids ids said
+own_said r ids said says applied = says ids (sym (filter_all (is_applied r.zone) ids applied))
 
-pub new-requires-clause-rows : goal.new-requires-clause-rows
-new-requires-clause-rows c =
-    sym (length-map c.in_ok-said.said.tests.items (λ row. row.items)) ∙ rows_of _ _ _ _ _ _ _ _ (own_said c)
+pub new-requires-2-clause-rows : goal.new-requires-2-clause-rows
+new-requires-2-clause-rows c =
+    sym (length-map c.in_ok-said.said.tests.items (λ row. row.items))
+    ∙ rows_of _ _ _ _ _ _ _ _ (own_said (restoring c.in_ok-vers.vers c.args.zone.now c.args.accepted.now)
+    c.args.candidates.now.ids c.in_ok-said.said c.in_ok-said.ensures c.requires)
 
-pub new-requires-clause-of : goal.new-requires-clause-of
-new-requires-clause-of c = (own_said c).of
+pub new-requires-2-clause-of : goal.new-requires-2-clause-of
+new-requires-2-clause-of c =
+    (own_said (restoring c.in_ok-vers.vers c.args.zone.now c.args.accepted.now) c.args.candidates.now.ids
+    c.in_ok-said.said c.in_ok-said.ensures c.requires).of
 
-pub new-requires-clause-by : goal.new-requires-clause-by
-new-requires-clause-by c = (own_said c).by
+pub new-requires-2-clause-by : goal.new-requires-2-clause-by
+new-requires-2-clause-by c =
+    (own_said (restoring c.in_ok-vers.vers c.args.zone.now c.args.accepted.now) c.args.candidates.now.ids
+    c.in_ok-said.said c.in_ok-said.ensures c.requires).by
 
 pub returns : goal.returns
 returns c = λ list are.

@@ -7,8 +7,8 @@ use Rattle.undo.specs.Steps.{is_start}
 use Rattle.undo.proofs.RulesOfSteps.{one_more}
 use Rattle.undo.proofs.numbered.growth.Goals as goal
 
-pub rule_of-requires : goal.rule_of-requires
-rule_of-requires c =
+pub rule_of-requires-clause-covers : goal.rule_of-requires-clause-covers
+rule_of-requires-clause-covers c =
     subst (Covers c.args.table.now) (sym c.step-item.is)
     (c.requires c.loop-step.step-index c.step-item.result c.loop-step-test.true)
 

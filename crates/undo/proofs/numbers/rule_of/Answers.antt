@@ -8,12 +8,12 @@ use Rattle.terms.proofs.Each.{All_from_each}
 use Rattle.undo.proofs.RulesOfSteps.{are_places, numbered_rule, unique_members, unique_rising}
 use Rattle.undo.proofs.numbers.rule_of.Goals as goal
 
-pub number-requires : goal.number-requires
-number-requires c =
+pub number-requires-clause-there : goal.number-requires-clause-there
+number-requires-clause-there c =
     let nodes = c.as_slice-node-items in
     subst (Contains c.args.table.now) (sym c.node-item.is)
     (All_from_each (Contains c.args.table.now) nodes.result.now
-    (λ n h. c.requires.these n (subst (λ l. Contains l n) nodes.ensures.value h))
+    (λ n h. c.requires.covers.these n (subst (λ l. Contains l n) nodes.ensures.value h))
     c.loop-node.node-index c.node-item.result c.loop-node-test.true)
 
 pub returns-clause-numbered : goal.returns-clause-numbered
