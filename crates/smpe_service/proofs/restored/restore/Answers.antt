@@ -52,14 +52,16 @@ decided_are c =
 
 pub lines_of-requires : goal.lines_of-requires
 lines_of-requires c =
+    let at = goal.at.lines_of-requires c in
     subst (Rises (slice_cmp nat_cmp) (λ (f : Id × Failure). f.0)) (sym c.as_slice-3.ensures.value)
-    (failed_rises (setting c.before) c.in_ok-candidates.ensures.listed c.in_ok-candidates.candidates.ids
-    (judged c.before).rising c.in_ok-kept.field-0.kept c.in_ok-kept.field-0.failed.items (decided_are c.before))
+    (failed_rises (setting at.After-restore_system) c.in_ok-candidates.ensures.listed c.in_ok-candidates.candidates.ids
+    (judged at.After-restore_system).rising c.in_ok-kept.field-0.kept c.in_ok-kept.field-0.failed.items (decided_are at.After-decided))
 
 pub returns : goal.returns
 returns c = λ new changed.
+    let at = goal.at.returns c in
     let g = c.args.global.now in
-    let r = setting c.before in
+    let r = setting at.After-restore_system in
     let has = c.in_ok-candidates.ensures in
     let cands = c.in_ok-candidates.candidates.ids in
     let kept = c.in_ok-kept.field-0.kept in
@@ -67,7 +69,7 @@ returns c = λ new changed.
     let ids : c.as_slice-2.result.now ≡ has.listed =
     listed_are r _ c.in_ok-candidates.candidates has c.as_slice-2.result.now c.as_slice-2.ensures.rising
     (λ x. rw (sym c.as_slice-2.ensures.items) (c.in_ok-ids.ensures x)) in
-    let lines = restore_lines r has.listed cands has.ids kept failed (decided_are c.before) g refl
+    let lines = restore_lines r has.listed cands has.ids kept failed (decided_are at.After-decided) g refl
     (map line_view c.in_ok-lines.lines.items)
     (c.in_ok-lines.ensures ∙ ap (map (line_in g kept c.as_slice-3.result.now)) ids
     ∙ ap (λ fs. map (line_in g kept fs) has.listed) c.as_slice-3.ensures.value) in
@@ -77,8 +79,8 @@ returns c = λ new changed.
       ids = has.listed;
       listed = has.are_listed;
       kept = kept;
-      rising = (decided_are c.before).rising;
-      members = (decided_are c.before).members;
+      rising = (decided_are at.After-decided).rising;
+      members = (decided_are at.After-decided).members;
       restores = c.in_ok-delta.ensures.restores r
           (record { global = refl; zone_is = refl; accepted_is = refl }) new changed;
       status = lines.status;
