@@ -9,11 +9,11 @@
 
 mod asking;
 mod bringing;
-mod candidates;
 mod filters;
 mod growing;
 mod left_out;
 mod scope;
+mod selected;
 mod start;
 
-pub use candidates::candidates;
+pub use selected::candidates;

@@ -14,6 +14,7 @@ use report::{Sink, WriteFault, put, write_all};
 use smpe_invocation::ArgFault;
 use smpe_zones::ZoneFault;
 use store::StoreError;
+use thiserror::Error;
 
 fn zone_fault_text(fault: ZoneFault) -> &'static [u8]
     ensures { result.now ≡ zone_fault_text (fault_of fault) }

@@ -1,9 +1,9 @@
-use Rattle.std.proofs.Common.{Contains, Some, ◌≡◌, map, sym, subst, ◌↔◌}
+use Rattle.std.proofs.Common.{Contains, Some, ◌≡◌, ◌∙◌, ap, map, sym, subst, ◌↔◌}
 use Rattle.std.proofs.lemmas.Result.{IfOk-weaker}
 use Rattle.terms.specs.declared.not_chosen.NotChosen.{NotChosen}
 use Rattle.terms.specs.Types.{Id}
 use Rattle.terms.specs.Lookups.{IsRising}
-use Rattle.select.specs.Scopes.{named_ids}
+use Rattle.select.specs.Scopes.{Selecting, named_ids}
 use Rattle.select.specs.Reasons.{reason_in}
 use Rattle.select.proofs.Reasoned.{found_rising, found_members}
 use Rattle.select.proofs.left_out.not_chosen.Goals as goal
@@ -21,7 +21,8 @@ returns-clause-members c =
     let ids = c.as_slice.result.now in
     let named : (x : Id) → Contains ids x ↔ Contains (named_ids scope.selection) x = λ x.
     subst (λ xs. Contains xs x ↔ Contains (named_ids scope.selection) x) (sym c.as_slice.ensures.items)
-    (subst (λ ys. Contains c.from_vec-named.result x ↔ Contains ys x) c.in_ok-named_ids.ensures
+    (subst (λ ys. Contains c.from_vec-named.result x ↔ Contains ys x)
+    (c.in_ok-named_ids.ensures ∙ ap (λ (s : Selecting). named_ids s.selection) c.scope.view_is)
     (c.from_vec-named.ensures x)) in
     IfOk-weaker c.with_reasons.result _ _
     (λ found same x why. subst (λ ps. Contains {X = Id × NotChosen} ps (x, why) ↔ (reason_in scope x ≡ Some why))

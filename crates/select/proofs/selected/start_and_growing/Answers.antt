@@ -1,5 +1,5 @@
 use Rattle.select.proofs.Growth.{joined, kept_of, candidates_from, candidates_installable}
-use Rattle.select.proofs.candidates.start_and_growing.Goals as goal
+use Rattle.select.proofs.selected.start_and_growing.Goals as goal
 
 pub returns-clause-members : goal.returns-clause-members
 returns-clause-members c =
