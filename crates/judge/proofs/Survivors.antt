@@ -7,7 +7,7 @@ use Rattle.std.specs.List.{list_all}
 use Rattle.std.proofs.lemmas.Bool.{cases_eq}
 use Rattle.std.proofs.lemmas.Option.{same_Some, slice_get_within}
 use Rattle.std.proofs.lemmas.List.Elements.{Contains-append_left, Contains-append_right, Contains-append_cases}
-use Rattle.terms.proofs.ListMembers.{here, here_or, there, none_in, in_filter, filter_in}
+use Rattle.terms.proofs.ListMembers.{here, here_or, none_in, in_filter, filter_in}
 use Rattle.terms.proofs.Places.{contains_at, found_at}
 use Rattle.terms.proofs.Searches.{all_pass, passes_all}
 use Rattle.terms.specs.declared.codes.Test.{Test}

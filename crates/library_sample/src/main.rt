@@ -3,12 +3,14 @@
 #![tactic(auto)]
 
 use anyhow::{Context, Result};
-use fields::SourceList;
-use fields::{Bypass, IdList, Selection, Srel, ZoneName};
+use fields::{Bypass, IdList, Selection, SourceList, Srel, ZoneName};
 use judge::install_system;
+use judge_system::Decided;
 use mcs::{Item, read_ptfin};
 use select::candidates;
 use solve::{Solver, Worklist, causers};
+use std::alloc::Global;
+use std::io::{Read, Write};
 use sysmods::GlobalZone;
 use terms::ZoneKind;
 use zones::Zone;
@@ -40,6 +42,33 @@ fn functions_and_ptfs(alloc: Global) -> Selection {
     }
 }
 
+/// A line for each candidate: that it is kept, or which failures cause its own.
+fn print<W: Write>(decided: &Decided, out: &mut W) -> Result<()> {
+    for id in decided.kept.as_slice() {
+        out.write_all(id.as_bytes())?;
+        out.write_all(b" is kept\n")?;
+    }
+    for (id, failure) in decided.failed.as_slice() {
+        out.write_all(id.as_bytes())?;
+        out.write_all(b" fails because of")?;
+        for causer in failure.causers.as_slice() {
+            out.write_all(b" ")?;
+            out.write_all(causer.as_bytes())?;
+        }
+        out.write_all(b"\n")?;
+    }
+    Ok(())
+}
+
+/// Which candidates an APPLY into the zone would keep.
+fn decide(alloc: Global, global: &GlobalZone, zone: &Zone) -> Result<Decided> {
+    let candidates = candidates(alloc, global, zone, &functions_and_ptfs(alloc))?;
+    let judged = install_system(alloc, global, zone, None, &candidates, &Bypass::none(alloc))?;
+    let kept = Worklist.greatest(alloc, &judged.system)?;
+    let causers = causers(alloc, &judged.system, &kept)?;
+    Ok(judged.decided(alloc, &kept, causers.as_slice())?)
+}
+
 fn main(rt: HostRuntime) -> Result<()> {
     let alloc = rt.alloc();
     let mut ptfin = Vec::new(alloc);
@@ -48,21 +77,5 @@ fn main(rt: HostRuntime) -> Result<()> {
     let srel = Srel::read(b"Z038").context("an SREL")?;
     let related = ZoneName::read(b"DLB1").context("a zone's name")?;
     let zone = Zone::new(alloc, ZoneKind::Target, srel, Some(related));
-
-    let candidates = candidates(alloc, &global, &zone, &functions_and_ptfs(alloc))?;
-    let judged = install_system(alloc, &global, &zone, None, &candidates, &Bypass::none(alloc))?;
-    let kept = Worklist.greatest(alloc, &judged.system)?;
-    let causers = causers(alloc, &judged.system, &kept)?;
-    let decided = judged.decided(alloc, &kept, &causers)?;
-    for id in decided.kept.as_slice() {
-        println!(rt; "{id} is kept")?;
-    }
-    for (id, failure) in &decided.failed {
-        print!(rt; "{id} fails because of")?;
-        for causer in &failure.causers {
-            print!(rt; " {causer}")?;
-        }
-        println!(rt)?;
-    }
-    Ok(())
+    print(&decide(alloc, &global, &zone)?, &mut rt.stdout())
 }

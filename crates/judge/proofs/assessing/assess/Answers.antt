@@ -1,6 +1,9 @@
 use Rattle.std.proofs.Common.{map, subst}
 use Rattle.std.specs.Prelude.{option_copied}
 use Rattle.terms.specs.Tests.{Setting, AreSurvivors}
+use Rattle.sysmods.specs.declared.ver_choice.VerChoice.{VerChoice}
+use Rattle.sysmods.specs.Choices.{choice}
+use Rattle.sysmods.specs.Overs.{AreOver}
 use Rattle.zones.specs.Scopes.{choice_of, setting_with}
 use Rattle.judge_needs.specs.Pairs.{AreSuperseded}
 use Rattle.judge.proofs.SaidOf.{install_judged}
@@ -27,3 +30,7 @@ returns-clause-said c =
           c.in_ok-superseded.ensures);
       bypassed = c.in_ok-bypassed.ensures;
     }
+
+pub returns-clause-overs : goal.returns-clause-overs
+returns-clause-overs c =
+    subst (λ (v : VerChoice). AreOver (choice v) c.into_known.result) c.in_ok-tests.ensures.overs c.into_known.ensures

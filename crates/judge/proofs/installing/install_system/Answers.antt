@@ -1,7 +1,9 @@
-use Rattle.std.proofs.Common.{All, IsTrue, ◌≡◌, ◌∙◌, ap, map, length, sym, subst}
+use Rattle.std.proofs.Common.{All, IsTrue, ◌∙◌, ap, List, sym, subst, subst₂}
 use Rattle.std.proofs.lemmas.List.{length-map}
 use Rattle.std.specs.Prelude.{option_copied}
+use Rattle.terms.specs.Types.{Id}
 use Rattle.terms.specs.Candidates.{is_installable}
+use Rattle.sysmods.specs.declared.ver_choice.VerChoice.{VerChoice}
 use Rattle.sysmods.specs.Choices.{choice, number_in}
 use Rattle.sysmods.specs.Overs.{AreOver}
 use Rattle.judge_system.proofs.Judging.{rows_of}
@@ -32,3 +34,11 @@ returns-clause-judged c =
     (choice c.in_ok-vers.vers) c.in_ok-vers.ensures.global c.in_ok-vers.ensures.counting)
     (install_numbered _ c.in_ok-said.field-0.said c.in_ok-said.ensures.said c.attest.ensures j
     c.in_ok-judged.ensures.numbered)
+
+pub returns-clause-numbers : goal.returns-clause-numbers
+returns-clause-numbers c = ap number_in c.in_ok-judged.ensures.vers ∙ c.in_ok-vers.ensures.numbers
+
+pub returns-clause-overs : goal.returns-clause-overs
+returns-clause-overs c =
+    subst₂ (λ (v : VerChoice) (known : List (Id × Id)). AreOver (choice v) known) (sym c.in_ok-judged.ensures.vers)
+    (sym c.in_ok-judged.ensures.overs) c.in_ok-said.ensures.overs
