@@ -1,22 +1,29 @@
 //! The zone's change and the lines of an APPLY or ACCEPT.
-ghost use Rattle.std.specs.Prelude.{IfOk, map, option_copied};
-ghost use Rattle.terms.specs.Types.{Zone as AZone};
+ghost use Rattle.std.specs.Prelude.{◌≢◌, ◌↔◌, ◌⊎◌, Contains, IfOk, map, option_copied};
+ghost use Rattle.terms.specs.Types.{Id as AnId, Zone as AZone};
 ghost use Rattle.terms.specs.Forms.{IsDottedDate};
+ghost use Rattle.terms.specs.Install.{HasInstalled, TakesEffect};
+ghost use Rattle.terms.specs.Over.{IsOver};
+ghost use Rattle.terms.specs.Tests.{ShareElement};
+ghost use Rattle.sysmods.specs.Choices.{choice};
+ghost use Rattle.sysmods.specs.Overs.{AreOver};
 ghost use Rattle.zones_maps.specs.Delta.{IsChanged};
+ghost use Rattle.change.specs.Elements.{HasBases};
 ghost use Rattle.machine.specs.Installing.{InstallsSelected};
 ghost use Rattle.report.specs.Views.{line_view};
+ghost use Rattle.smpe_service.specs.Decided.{installation_in};
 
 use crate::lines::lines;
 use crate::statuses::statuses;
 use change::{Installed, Installing, install, pairs_of};
-use fields::{Attest, Bypass, Selection, YyDdd};
+use fields::{Attest, Bypass, Id, IdList, Selection, YyDdd};
 use judge::{Judged, install_system};
 use judge_system::Decided;
 use report::ReportLine;
 use select::candidates;
 use solve::{Solver, Worklist, causers};
 use std::alloc::{AllocError, Global};
-use sysmods::{GlobalZone, Overs};
+use sysmods::{GlobalZone, KnownOvers, Overs, VerChoice};
 use zones::{Zone, ZoneDelta};
 
 /// What an APPLY or ACCEPT changes, and its lines by id.
@@ -58,14 +65,15 @@ pub fn apply(
         ..
     } = judged;
     let bypassed = pairs_of(alloc, &kept, bypassed.as_slice())?;
-    let installing = Installing {
-        overs: Overs::resume(&vers, overs),
+    let Installed { delta, effective } = install_by(
+        alloc,
+        &vers,
+        overs,
         zone,
-        kept: &kept,
-        bypassed: bypassed.as_slice(),
+        &kept,
+        bypassed.as_slice(),
         date,
-    };
-    let Installed { delta, effective } = install(alloc, installing)?;
+    )?;
     let found = statuses(
         alloc,
         zone.kind(),
@@ -78,4 +86,34 @@ pub fn apply(
         delta,
         lines: lines(alloc, global, found)?,
     })
+}
+
+// Installs the kept SYSMODs by the `++VER`s that count, with what is known of which is over which.
+fn install_by<'a>(
+    alloc: Global,
+    vers: &'a VerChoice<'_>,
+    known: KnownOvers,
+    zone: &'a Zone,
+    kept: &'a IdList,
+    bypassed: &'a [(Id, Id)],
+    date: YyDdd,
+) -> Result<Installed, AllocError>
+    requires known { AreOver (choice vers.now) known }
+    requires order { (x y : AnId) → Contains kept.now x → Contains kept.now y → x ≢ y
+        → ShareElement vers.now.global.now x y → IsOver (choice vers.now) x y ⊎ IsOver (choice vers.now) y x }
+    requires base { HasBases (installation_in vers.now zone.now kept.now bypassed.now date) }
+    ensures installs { IfOk result (λ i. (new : AZone) → IsChanged i.delta zone.now new →
+        HasInstalled (installation_in vers.now zone.now kept.now bypassed.now date) new) }
+    ensures effective { IfOk result (λ i. (x : AnId) → Contains i.effective x
+        ↔ TakesEffect (installation_in vers.now zone.now kept.now bypassed.now date) x) }
+{
+    let installing = Installing {
+        overs: Overs::resume(vers, known),
+        zone,
+        kept,
+        bypassed,
+        date,
+    };
+    let installed = install(alloc, installing)?;
+    Ok(installed)
 }
