@@ -1,13 +1,9 @@
 -- What APPLY and ACCEPT decide of the candidates of a setting.
 use Rattle.std.specs.Prelude.{List}
-use Rattle.terms.specs.Types.{Text, Id, Zone}
-use Rattle.terms.specs.Install.{Installation}
+use Rattle.terms.specs.Types.{Id}
 use Rattle.terms.specs.Tests.{Setting, Fails, IsEligible, AreSurvivors}
 use Rattle.terms.specs.Needs.{Needs, Serves}
 use Rattle.machine.specs.Outcome.{Failure}
-use Rattle.sysmods.specs.declared.ver_choice.VerChoice.{VerChoice}
-use Rattle.sysmods.specs.Choices.{number_in, choice}
-use Rattle.change.specs.Plans.{installation}
 use Rattle.judge_system.specs.Decided.{AreDecided}
 
 -- which of them are kept, and why each other one is not; what is needed depends on the survivors
@@ -15,8 +11,3 @@ pub record IsDecided (s : Setting) (kept : List Id) (failed : List (Id × Failur
   pub survivors : List Id
   pub are_survivors : AreSurvivors s survivors
   pub are_decided : AreDecided (Fails s) (IsEligible s) (Needs s survivors) (Serves s.choice) s.cands kept failed
-
--- the install of the kept ones by these ++VERs
-abbrev pub installation_in : VerChoice → Zone → List Id → List (Id × Id) → Text → Installation
-installation_in vers zone kept bypassed date =
-    installation vers.global.now (choice vers) (number_in vers) zone kept bypassed date

@@ -1,3 +1,4 @@
 pub mod Decided
 pub mod Statuses
 pub mod Lines
+pub mod Installs

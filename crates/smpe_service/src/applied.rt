@@ -7,11 +7,11 @@ ghost use Rattle.terms.specs.Over.{IsOver};
 ghost use Rattle.terms.specs.Tests.{ShareElement};
 ghost use Rattle.sysmods.specs.Choices.{choice};
 ghost use Rattle.sysmods.specs.Overs.{AreOver};
-ghost use Rattle.zones_maps.specs.Delta.{IsChanged};
 ghost use Rattle.change.specs.Elements.{HasBases};
+ghost use Rattle.smpe_service.specs.Installs.{install_by};
+ghost use Rattle.zones_maps.specs.Delta.{IsChanged};
 ghost use Rattle.machine.specs.Installing.{InstallsSelected};
 ghost use Rattle.report.specs.Views.{line_view};
-ghost use Rattle.smpe_service.specs.Decided.{installation_in};
 
 use crate::lines::lines;
 use crate::statuses::statuses;
@@ -65,7 +65,7 @@ pub fn apply(
         ..
     } = judged;
     let bypassed = pairs_of(alloc, &kept, bypassed.as_slice())?;
-    let Installed { delta, effective } = install_by(
+    let Installed { delta, effective } = install_kept(
         alloc,
         &vers,
         overs,
@@ -88,32 +88,31 @@ pub fn apply(
     })
 }
 
-// Installs the kept SYSMODs by the `++VER`s that count, with what is known of which is over which.
-fn install_by<'a>(
+// Installs the kept SYSMODs by these `++VER`s. What is known of who is over whom goes on.
+fn install_kept(
     alloc: Global,
-    vers: &'a VerChoice<'_>,
-    known: KnownOvers,
-    zone: &'a Zone,
-    kept: &'a IdList,
-    bypassed: &'a [(Id, Id)],
+    vers: &VerChoice<'_>,
+    overs: KnownOvers,
+    zone: &Zone,
+    kept: &IdList,
+    bypassed: &[(Id, Id)],
     date: YyDdd,
 ) -> Result<Installed, AllocError>
-    requires known { AreOver (choice vers.now) known }
+    requires known { AreOver (choice vers.now) overs }
     requires order { (x y : AnId) → Contains kept.now x → Contains kept.now y → x ≢ y
         → ShareElement vers.now.global.now x y → IsOver (choice vers.now) x y ⊎ IsOver (choice vers.now) y x }
-    requires base { HasBases (installation_in vers.now zone.now kept.now bypassed.now date) }
-    ensures installs { IfOk result (λ i. (new : AZone) → IsChanged i.delta zone.now new →
-        HasInstalled (installation_in vers.now zone.now kept.now bypassed.now date) new) }
+    requires base { HasBases (install_by vers.now zone.now kept.now bypassed.now date) }
+    ensures installs { IfOk result (λ i. (new : AZone) → IsChanged i.delta zone.now new
+        → HasInstalled (install_by vers.now zone.now kept.now bypassed.now date) new) }
     ensures effective { IfOk result (λ i. (x : AnId) → Contains i.effective x
-        ↔ TakesEffect (installation_in vers.now zone.now kept.now bypassed.now date) x) }
+        ↔ TakesEffect (install_by vers.now zone.now kept.now bypassed.now date) x) }
 {
     let installing = Installing {
-        overs: Overs::resume(vers, known),
+        overs: Overs::resume(vers, overs),
         zone,
         kept,
         bypassed,
         date,
     };
-    let installed = install(alloc, installing)?;
-    Ok(installed)
+    install(alloc, installing)
 }

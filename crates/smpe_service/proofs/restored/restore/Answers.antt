@@ -4,7 +4,6 @@ use Rattle.std.specs.Cmp.Lexicographic.{slice_cmp}
 use Rattle.std.proofs.lemmas.List.Elements.{filter_passes}
 use Rattle.terms.specs.Types.{Id}
 use Rattle.terms.specs.Lookups.{is_applied}
-use Rattle.terms.specs.Restore.{Restoring}
 use Rattle.terms.specs.Rising.{Rises}
 use Rattle.judge_system.specs.ByNumber.{AreCausers}
 use Rattle.judge_system.specs.declared.failure.Failure.{Failure}
@@ -16,7 +15,7 @@ use Rattle.smpe_service.specs.Lines.{line_in}
 use Rattle.smpe_service.proofs.Listed.{listed_are}
 use Rattle.smpe_service.proofs.RestoredStatuses.{IsDecided, failed_rises, restore_lines}
 use Rattle.smpe_service.proofs.restored.restore.Goals as goal
-use Rattle.smpe_service.proofs.restored.restore.Goals.{After-decided, After-restore_system}
+use Rattle.smpe_service.proofs.restored.restore.Goals.{In_ok-judged, In_ok-kept}
 
 pub restore_system-requires : goal.restore_system-requires
 restore_system-requires c =
@@ -24,16 +23,16 @@ restore_system-requires c =
     let has = c.in_ok-candidates.ensures in
     subst (All (λ x. IsTrue (is_applied zone x))) (sym has.ids) (filter_passes (is_applied zone) has.listed)
 
-setting : (c : After-restore_system) → Restoring
-setting c = restoring_from c.args.global.now c.args.zone.now c.args.accepted.now
-
-judged : (c : After-restore_system) → IsRestoreJudged (setting c) c.in_ok-candidates.ensures.listed
+-- the numbered system is that of the list
+judged : (c : In_ok-judged) → IsRestoreJudged
+    (restoring_from c.args.global.now c.args.zone.now c.args.accepted.now) c.in_ok-candidates.ensures.listed
     c.in_ok-candidates.candidates.ids c.in_ok-judged.judged
 judged c = c.in_ok-judged.ensures c.in_ok-candidates.ensures.listed c.in_ok-candidates.ensures.ids
 
 pub decided-requires-clause-parts : goal.decided-requires-clause-parts
 decided-requires-clause-parts c =
-    has_parts _ _ _ _ c.in_ok-candidates.candidates.ids c.in_ok-judged.judged (judged c.before)
+    has_parts _ _ _ _ c.in_ok-candidates.candidates.ids c.in_ok-judged.judged
+    (judged (goal.at.decided-requires-clause-parts c).In_ok-judged)
 
 pub decided-requires-clause-causers : goal.decided-requires-clause-causers
 decided-requires-clause-causers c =
@@ -44,30 +43,36 @@ decided-requires-clause-causers c =
       rising = c.in_ok-causers.ensures.rising;
     })
 
-decided_are : (c : After-decided) → IsDecided (setting c.before) c.in_ok-candidates.ensures.listed
-    c.in_ok-candidates.candidates.ids c.in_ok-kept.field-0.kept c.in_ok-kept.field-0.failed.items
+-- so is what is decided
+decided_are : (c : In_ok-kept) → IsDecided (restoring_from c.args.global.now c.args.zone.now c.args.accepted.now)
+    c.in_ok-candidates.ensures.listed c.in_ok-candidates.candidates.ids c.in_ok-kept.field-0.kept
+    c.in_ok-kept.field-0.failed.items
 decided_are c =
-    decided_of _ _ _ _ c.in_ok-candidates.candidates.ids c.in_ok-judged.judged (judged c.before) c.in_ok-set.set
+    decided_of _ _ _ _ c.in_ok-candidates.candidates.ids c.in_ok-judged.judged
+    (c.in_ok-judged.ensures c.in_ok-candidates.ensures.listed c.in_ok-candidates.ensures.ids) c.in_ok-set.set
     c.in_ok-set.ensures c.in_ok-kept.field-0.kept c.in_ok-kept.field-0.failed.items c.in_ok-kept.ensures
 
 pub lines_of-requires : goal.lines_of-requires
 lines_of-requires c =
+    let at = goal.at.lines_of-requires c in
     subst (Rises (slice_cmp nat_cmp) (λ (f : Id × Failure). f.0)) (sym c.as_slice-3.ensures.value)
-    (failed_rises (setting c.before) c.in_ok-candidates.ensures.listed c.in_ok-candidates.candidates.ids
-    (judged c.before).rising c.in_ok-kept.field-0.kept c.in_ok-kept.field-0.failed.items (decided_are c.before))
+    (failed_rises _ c.in_ok-candidates.ensures.listed c.in_ok-candidates.candidates.ids
+    (judged at.In_ok-judged).rising c.in_ok-kept.field-0.kept c.in_ok-kept.field-0.failed.items
+    (decided_are at.In_ok-kept))
 
 pub returns : goal.returns
 returns c = λ new changed.
     let g = c.args.global.now in
-    let r = setting c.before in
+    let r = restoring_from g c.args.zone.now c.args.accepted.now in
     let has = c.in_ok-candidates.ensures in
     let cands = c.in_ok-candidates.candidates.ids in
     let kept = c.in_ok-kept.field-0.kept in
     let failed = c.in_ok-kept.field-0.failed.items in
+    let decided = decided_are (goal.at.returns c).In_ok-kept in
     let ids : c.as_slice-2.result.now ≡ has.listed =
     listed_are r _ c.in_ok-candidates.candidates has c.as_slice-2.result.now c.as_slice-2.ensures.rising
-    (λ x. rw (sym c.as_slice-2.ensures.items) (c.in_ok-ids.ensures x)) in
-    let lines = restore_lines r has.listed cands has.ids kept failed (decided_are c.before) g refl
+    (λ x. rw c.as_slice-2.ensures.items (c.in_ok-ids.ensures x)) in
+    let lines = restore_lines r has.listed cands has.ids kept failed decided g refl
     (map line_view c.in_ok-lines.lines.items)
     (c.in_ok-lines.ensures ∙ ap (map (line_in g kept c.as_slice-3.result.now)) ids
     ∙ ap (λ fs. map (line_in g kept fs) has.listed) c.as_slice-3.ensures.value) in
@@ -77,8 +82,8 @@ returns c = λ new changed.
       ids = has.listed;
       listed = has.are_listed;
       kept = kept;
-      rising = (decided_are c.before).rising;
-      members = (decided_are c.before).members;
+      rising = decided.rising;
+      members = decided.members;
       restores = c.in_ok-delta.ensures.restores r
           (record { global = refl; zone_is = refl; accepted_is = refl }) new changed;
       status = lines.status;
