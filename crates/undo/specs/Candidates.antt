@@ -1,6 +1,5 @@
 -- The candidates of a RESTORE, and those of its list that are none.
 use Rattle.std.specs.Prelude.{◌≡◌, List, not, filter, map}
-use Rattle.terms.specs.declared.not_chosen.NotChosen.{NotChosen}
 use Rattle.terms.specs.declared.not_chosen.NotChosen.TheVariants.{NotApplied}
 use Rattle.terms.specs.Types.{Id, RestoreList}
 use Rattle.terms.specs.Lookups.{is_applied}

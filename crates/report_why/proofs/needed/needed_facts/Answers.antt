@@ -9,25 +9,24 @@ use Rattle.report_why.specs.Needed.{dep_ids}
 use Rattle.report_why.proofs.Dependents.{dependents, none_need}
 use Rattle.report_why.proofs.needed.needed_facts.Goals as goal
 
-pub returns-then-is_applied : goal.returns-then-is_applied
-returns-then-is_applied c =
-    let ids = c.new.result.items in
+pub returns-then-not-is_applied : goal.returns-then-not-is_applied
+returns-then-not-is_applied c =
     record {
       ids = [];
       rising = λ i j d less below. absurd (omega (arith, below));
       needed = λ y. (
         λ h. absurd (none_in y h),
         λ n. absurd (none_need c.args.vers.now.global.now c.args.zone.now c.args.id
-            (sym c.is_applied.ensures ∙ c.if-is_applied.false) y n),
+            (sym c.is_applied.ensures ∙ c.if-not-is_applied.true) y n),
       );
-      facts_are = rw c.new.ensures refl;
+      facts_are = rw c.new.ensures.items refl;
     }
 
 pub needs_in_restore-requires : goal.needs_in_restore-requires
 needs_in_restore-requires c =
     let zone = c.args.zone.now in
     subst (All (λ x. IsTrue (is_applied zone x))) (sym c.requires.list)
-    (All-cons (λ x. IsTrue (is_applied zone x)) c.args.id [] (sym c.is_applied.ensures ∙ c.if-is_applied.true)
+    (All-cons (λ x. IsTrue (is_applied zone x)) c.args.id [] (sym c.is_applied.ensures ∙ c.if-not-is_applied.false)
     (All-nil (λ x. IsTrue (is_applied zone x))))
 
 pub returns : goal.returns

@@ -1,6 +1,5 @@
-use Rattle.std.proofs.Common.{map, subst}
+use Rattle.std.proofs.Common.{map}
 use Rattle.undo.specs.Scopes.{restoring}
-use Rattle.undo.specs.Judged.{IsRestoreAssessed}
 use Rattle.undo.proofs.RestoreJudged.{are_judged}
 use Rattle.undo.proofs.assessing.assess.Goals as goal
 
