@@ -5,7 +5,7 @@ use crate::told::{Told, Words};
 use crate::words::{Form, Known, Spelled, command_of, is_dropped, spelling_of};
 use fields::{Class, Id, Reason as HoldReason, Source, ZoneName};
 use intake_cards::{Deed, Reason};
-use intake_wide::{Place, WideOperand};
+use intake_read::{Place, WideOperand};
 use std::alloc::{AllocError, Global};
 
 /// How many members a list may have.

@@ -9,7 +9,7 @@ use crate::scan::{WideCommand, wide_commands};
 use crate::told::{Told, Words};
 use cntl::{CntlError, read_cntl};
 use intake_cards::{Deed, PrintedCards, Reason, Remark};
-use intake_wide::Card;
+use intake_read::Card;
 use std::alloc::{AllocError, Global};
 use terms::CommandCode;
 

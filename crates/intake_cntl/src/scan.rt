@@ -2,7 +2,7 @@
 //! A command is a word, operands, and the first period outside comments and parentheses. Comments may stand anywhere,
 //! in parentheses too; more than one command may stand on a card, and a command may run over cards.
 
-use intake_wide::{Card, Place, WideOperand};
+use intake_read::{Card, Place, WideOperand};
 use std::alloc::{AllocError, Global};
 
 /// The last column of a card that is read.

@@ -1,7 +1,7 @@
 //! What is told of a command.
 
 use intake_cards::{Deed, Reason, Remark};
-use intake_wide::Place;
+use intake_read::Place;
 use std::alloc::{AllocError, Global};
 
 /// The remarks so far, and how many of them say that nothing is written.

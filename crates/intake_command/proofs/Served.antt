@@ -6,9 +6,9 @@ use Rattle.mcs.specs.Files as ptfin
 use Rattle.mcs.specs.HoldItems as hold
 use Rattle.mcs.specs.declared.file.Item.{Item}
 use Rattle.mcs.specs.declared.hold_item.HoldItem.{HoldItem}
-use Rattle.intake_wide.specs.declared.items.WideFile.{WideFile}
-use Rattle.intake_narrow.specs.Carried.{IsCarriedOf}
-use Rattle.intake_narrow.specs.Holds.{AreHeld}
+use Rattle.intake_read.specs.declared.items.WideFile.{WideFile}
+use Rattle.intake_carry.specs.Carried.{IsCarriedOf}
+use Rattle.intake_carry.specs.Holds.{AreHeld}
 use Rattle.intake_command.specs.declared.host.Host.{Ghosts}
 use Rattle.intake_command.specs.Keeping.{KeepsService}
 use Rattle.intake_command.specs.Serving.{ServesFiles}

@@ -3,7 +3,7 @@
 use crate::asked::WordsFault;
 use crate::sources::Sources;
 use intake_cards::CardError;
-use intake_wide::WideError;
+use intake_read::WideError;
 use std::alloc::{AllocError, AllocFailed, Global};
 
 /// Why a run ends without output.

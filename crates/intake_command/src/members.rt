@@ -5,8 +5,8 @@ use crate::fault::Fault;
 use crate::host::Host;
 use crate::sources::{Sources, cards_of, read_if_there};
 use fields::Name;
+use intake_read::{WideElement, WideFile};
 use intake_sysmod::Member;
-use intake_wide::{WideElement, WideFile};
 use std::alloc::Global;
 
 /// The texts of the elements with RELFILE that have a file in the folder, lines or records, in whichever code each is.

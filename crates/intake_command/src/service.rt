@@ -12,9 +12,9 @@ use crate::remarks::tell;
 use crate::sources::{Sources, cards_of, read};
 use crate::summary::{by_reason, print};
 use intake_cards::{Deed, Remark};
-use intake_narrow::{NarrowError, Narrowed, Tally, narrow};
+use intake_carry::{NarrowError, Narrowed, Tally, narrow};
+use intake_read::{WideFile, read_wide};
 use intake_sysmod::Options;
-use intake_wide::{WideFile, read_wide};
 use std::alloc::{AllocError, Global};
 
 /// The status where something is left out that may be asked for.

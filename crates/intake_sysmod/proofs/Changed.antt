@@ -16,7 +16,7 @@ use Rattle.terms.specs.Types.{Text, Change, type_number}
 use Rattle.terms.specs.Global.{change_cmp}
 use Rattle.terms.specs.Rising.{before, behind, with_item}
 use Rattle.terms.proofs.ElementOrder.{change_cmp_total, element_ties, same_key, type_from_number}
-use Rattle.intake_wide.specs.declared.items.WideElement.{WideElement}
+use Rattle.intake_read.specs.declared.items.WideElement.{WideElement}
 use Rattle.intake_sysmod.specs.Elements.{Changes, IsChanged}
 
 abbrev pub put : List Change → Change → List Change

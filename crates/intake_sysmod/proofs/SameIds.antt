@@ -2,7 +2,7 @@
 use Rattle.std.proofs.Common.{◌≡◌, ◌↔◌, ℕ, List, Vec, Contains, subst, sym}
 use Rattle.std.specs.declared.alloc.Global.{Global}
 use Rattle.terms.specs.Types.{Id}
-use Rattle.intake_wide.specs.Stated.{texts, AreSame}
+use Rattle.intake_read.specs.Stated.{texts, AreSame}
 
 pub same_ids : (stated : List (Vec ℕ Global)) (ids list : List Id) → ids ≡ texts stated
     → ((x : Id) → Contains list x ↔ Contains ids x) → AreSame stated list

@@ -10,9 +10,9 @@ use Rattle.terms.proofs.BesideLists.{beside_there}
 use Rattle.terms.proofs.Places.{at_place}
 use Rattle.std.proofs.lemmas.Option.{slice_get_within}
 use Rattle.terms.specs.Types.{Text, Ver}
-use Rattle.intake_wide.specs.declared.items.WideVer.{WideVer}
+use Rattle.intake_read.specs.declared.items.WideVer.{WideVer}
 use Rattle.intake_sysmod.specs.declared.ver_operands.Operands.{Operands}
-use Rattle.intake_wide.specs.Stated.{AreSame}
+use Rattle.intake_read.specs.Stated.{AreSame}
 use Rattle.intake_sysmod.specs.NoLooser.{IsIf, IsVer, IsSaidBy, IsCarriedIn, AreVers, AreOperands}
 use Rattle.intake_sysmod.proofs.Quantified.{Any_append_right, Any_permuted, All_permuted, contains_at, stands_at}
 

@@ -3,7 +3,7 @@ use Rattle.std.proofs.Common.{◌≡◌, Bool, List, [], subst, sym, ap, ◌∙�
 use Rattle.std.specs.List.{All}
 use Rattle.terms.specs.Types.{Text, Ver, Sysmod}
 use Rattle.terms.specs.Ptfin.{begun}
-use Rattle.intake_wide.specs.declared.items.WideSysmod.{WideSysmod}
+use Rattle.intake_read.specs.declared.items.WideSysmod.{WideSysmod}
 use Rattle.intake_sysmod.specs.Elements.{IsChanged}
 use Rattle.intake_sysmod.specs.NoLooser.{AreVers, IsNoLooser}
 

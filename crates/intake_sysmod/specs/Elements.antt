@@ -7,7 +7,7 @@ use Rattle.terms.specs.declared.kinds.ElemType.{ElemType}
 use Rattle.terms.specs.declared.kinds.ElemType.TheVariants.{Mac, Src, Data}
 use Rattle.terms.specs.Types.{Text, Change}
 use Rattle.terms.specs.Spelling.{type_text}
-use Rattle.intake_wide.specs.declared.items.WideElement.{WideElement}
+use Rattle.intake_read.specs.declared.items.WideElement.{WideElement}
 
 -- the type of what stands for an element that the profile lacks, by its statement's word
 abbrev pub stand_in : Text → ElemType

@@ -4,12 +4,12 @@ use Rattle.std.specs.Prelude.{◌≡◌, Bool, List, Some, All}
 use Rattle.std.specs.List.{Any}
 use Rattle.terms.specs.Types.{Text, IfReq, Ver, Sysmod}
 use Rattle.terms.specs.Beside.{Beside}
-use Rattle.intake_wide.specs.declared.items.WideIf.{WideIf}
-use Rattle.intake_wide.specs.declared.items.WideVer.{WideVer}
-use Rattle.intake_wide.specs.declared.items.WideSysmod.{WideSysmod}
+use Rattle.intake_read.specs.declared.items.WideIf.{WideIf}
+use Rattle.intake_read.specs.declared.items.WideVer.{WideVer}
+use Rattle.intake_read.specs.declared.items.WideSysmod.{WideSysmod}
 use Rattle.intake_sysmod.specs.declared.ver_operands.Lists.{Lists}
 use Rattle.intake_sysmod.specs.declared.ver_operands.Operands.{Operands}
-use Rattle.intake_wide.specs.Stated.{text_in, AreSame}
+use Rattle.intake_read.specs.Stated.{text_in, AreSame}
 use Rattle.intake_sysmod.specs.Elements.{IsChanged}
 
 -- the ++IF of the file: its function and its requisites

@@ -9,7 +9,7 @@ use crate::others::tell_others;
 use crate::vers::vers_of;
 use fields::spelling::kind_text;
 use intake_cards::{Deed, Reason, Remarks, Subject};
-use intake_wide::{WideSysmod, tell_no_decision, tell_odd};
+use intake_read::{WideSysmod, tell_no_decision, tell_odd};
 use std::alloc::{AllocError, Global};
 use sysmods_values::{Sysmod, Ver};
 

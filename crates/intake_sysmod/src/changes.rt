@@ -9,7 +9,7 @@ use crate::options::Options;
 use crate::stand_ins::stand_in_change;
 use fields::Name;
 use intake_cards::{Reason, Remarks, Subject};
-use intake_wide::{WideElement, WideSysmod};
+use intake_read::{WideElement, WideSysmod};
 use std::alloc::{AllocError, Global};
 use sysmods_values::{Action, ElemChange, Sysmod};
 

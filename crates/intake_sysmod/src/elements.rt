@@ -10,7 +10,7 @@ use crate::updates::update_lines;
 use crate::words::{is_update, profile_type};
 use fields::Name;
 use intake_cards::{Deed, Reason, Remarks, Subject};
-use intake_wide::{Card, WideElement, tell_odd};
+use intake_read::{Card, WideElement, tell_odd};
 use std::alloc::{AllocError, Global};
 use sysmods_values::{Action, ElemChange};
 use terms::{ElemType, Kind};

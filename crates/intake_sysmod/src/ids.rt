@@ -1,6 +1,6 @@
 //! Lists of ids.
 ghost use Rattle.std.specs.Prelude.{◌≡◌, IfOk, IfSome};
-ghost use Rattle.intake_wide.specs.Stated.{texts, AreSame};
+ghost use Rattle.intake_read.specs.Stated.{texts, AreSame};
 
 use fields::{Id, IdList};
 use intake_cards::{Reason, Remarks, Subject};

@@ -5,7 +5,7 @@ ghost use Rattle.intake_sysmod.specs.NoLooser.{IsIf};
 
 use crate::ids::{id_of, ids_of};
 use intake_cards::{Deed, Reason, Remarks, Subject};
-use intake_wide::{WideIf, tell_odd};
+use intake_read::{WideIf, tell_odd};
 use std::alloc::{AllocError, Global};
 use sysmods_values::IfReq;
 

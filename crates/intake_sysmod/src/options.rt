@@ -2,7 +2,7 @@
 ghost use Rattle.std.specs.Prelude.{◌≡◌};
 
 use fields::Name;
-use intake_wide::Card;
+use intake_read::Card;
 use std::cmp::Ordering;
 
 /// The SYSLIB of elements that state this DISTLIB alone.

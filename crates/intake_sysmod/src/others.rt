@@ -2,7 +2,7 @@
 
 use crate::options::Options;
 use intake_cards::{Reason, Remarks, Subject};
-use intake_wide::{OtherReason, WideOther};
+use intake_read::{OtherReason, WideOther};
 use std::alloc::{AllocError, Global};
 
 /// Tells of the statements of a SYSMOD or of a file that are carried nowhere, and answers whether a SYSMOD can be

@@ -10,7 +10,7 @@ use crate::words::{profile_type, stand_in};
 use fields::Name;
 use fields::spelling::type_text;
 use intake_cards::{Reason, Remarks, Subject};
-use intake_wide::{Card, Place, WideElement};
+use intake_read::{Card, Place, WideElement};
 use std::alloc::{AllocError, Global};
 use sysmods_values::{Action, ElemChange};
 use terms::{ElemType, Kind};

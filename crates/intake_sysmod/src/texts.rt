@@ -2,7 +2,7 @@
 ghost use Rattle.std.specs.Prelude.{◌<◌, IfOk, IfSome, length};
 ghost use Rattle.terms.specs.Texts.{IsNumbered, IsReplacement};
 
-use intake_wide::Card;
+use intake_read::Card;
 use std::alloc::{AllocError, Global};
 use terms::ElemType;
 use text80::{Line, Numbered};

@@ -2,7 +2,7 @@
 
 use crate::texts::are_printable;
 use intake_cards::{Reason, Remarks, Subject};
-use intake_wide::Card;
+use intake_read::Card;
 use std::alloc::{AllocError, Global};
 use text80::Line;
 

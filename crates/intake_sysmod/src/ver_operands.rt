@@ -1,13 +1,13 @@
 //! The operands of `++VER`.
 ghost use Rattle.std.specs.Prelude.{◌≡◌, IfOk, IfSome};
-ghost use Rattle.intake_wide.specs.Stated.{text_in};
+ghost use Rattle.intake_read.specs.Stated.{text_in};
 ghost use Rattle.intake_sysmod.specs.NoLooser.{AreLists, AreOperands};
 
 use crate::ids::{id_of, ids_of};
 use crate::ifs::ifs_of;
 use fields::{Id, IdList};
 use intake_cards::{Deed, Reason, Remarks, Subject};
-use intake_wide::{WideSysmod, WideVer, tell_odd};
+use intake_read::{WideSysmod, WideVer, tell_odd};
 use std::alloc::{AllocError, Global};
 use sysmods_values::IfReq;
 use terms::Kind;

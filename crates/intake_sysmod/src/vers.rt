@@ -6,7 +6,7 @@ ghost use Rattle.intake_sysmod.specs.NoLooser.{IsVer, AreVers, AreOperands};
 use crate::ver_operands::{Operands, operands_of};
 use fields::Srel;
 use intake_cards::{Reason, Remarks, Subject};
-use intake_wide::{WideSysmod, WideVer};
+use intake_read::{WideSysmod, WideVer};
 use std::alloc::{AllocError, Global};
 use sysmods_values::{IfReq, Ver};
 use terms::Kind;

@@ -1,10 +1,10 @@
 //! What comes of a file, as lines: what is carried of it, read back, and what is told.
 
 use intake_cards::{Remark, read_cards};
+use intake_carry::{NarrowError, Narrowed, narrow};
 use intake_command::{are_same_hold_items, are_same_items, hold_file, ptfin};
-use intake_narrow::{NarrowError, Narrowed, narrow};
+use intake_read::{WideFile, read_wide};
 use intake_sysmod::Options;
-use intake_wide::{WideFile, read_wide};
 use mcs::{read_hold, read_ptfin};
 use std::alloc::{AllocError, Global};
 use std::test::Fail;

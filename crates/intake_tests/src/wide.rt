@@ -2,7 +2,7 @@
 
 use crate::wide_spelled::{items, spelled_file, with_notes};
 use intake_cards::read_cards;
-use intake_wide::read_wide;
+use intake_read::read_wide;
 use std::alloc::{AllocError, Global};
 use std::test::Fail;
 

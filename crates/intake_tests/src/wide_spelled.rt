@@ -1,7 +1,7 @@
 //! The items of a wide file as text.
 
 use intake_cards::{Code, Form, Place, read_cards};
-use intake_wide::{
+use intake_read::{
     NoteReason, OddOperand, OddReason, OtherReason, WideAssign, WideElement, WideError, WideFile,
     WideHold, WideHoldKind, WideIf, WideOperand, WideOther, WideRelease, WideSysmod, WideVer,
     read_wide,

@@ -1,5 +1,5 @@
 use Rattle.std.proofs.Common.{Some, ap, sym, subst, ◌∙◌}
-use Rattle.intake_wide.specs.Stated.{text_in, AreSame}
+use Rattle.intake_read.specs.Stated.{text_in, AreSame}
 use Rattle.intake_sysmod.proofs.ifs.if_of.Goals as goal
 
 pub returns : goal.returns

@@ -1,5 +1,5 @@
 use Rattle.std.proofs.Common.{subst}
-use Rattle.intake_wide.specs.Stated.{AreSame}
+use Rattle.intake_read.specs.Stated.{AreSame}
 use Rattle.intake_sysmod.proofs.ver_operands.lists_of.Goals as goal
 
 pub returns : goal.returns

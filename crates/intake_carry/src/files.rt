@@ -1,0 +1,172 @@
+//! The statements of files.
+ghost use Rattle.std.specs.Prelude.{◌≡◌, ◌++◌, ◌∷◌, [], IfOk, All};
+ghost use Rattle.std.specs.List.{flat_map};
+ghost use Rattle.intake_carry.specs.Carried.{IsCarriedOf};
+ghost use Rattle.intake_carry.specs.Holds.{AreHeld};
+ghost use Rattle.intake_carry.specs.Gathered.{placed_items, item_in, AreSysmodsOf, AreFilesOf};
+
+use crate::assigns::{assigns_of, with_assigns};
+use crate::errors::HoldError;
+use crate::narrowed::{NarrowError, Narrowed};
+use crate::notes::tell_notes;
+use crate::placed::{Placed, in_order, placed_holds, placed_releases};
+use crate::refusals::tell_refusals;
+use crate::sysmods::{Part, part_of};
+use intake_cards::Remarks;
+use intake_read::WideFile;
+use intake_sysmod::{Options, tell_others};
+use mcs::Item;
+use std::alloc::{AllocError, Global};
+
+/// SYSMODs, and the holds and releases of the hold file.
+#[derive(Drop)]
+pub(crate) struct Gathered {
+    pub items: Vec<Item>,
+    pub outside: Vec<Placed>,
+}
+
+/// With what becomes of one SYSMOD more.
+fn with_part(gathered: Gathered, part: Part) -> Result<Gathered, AllocError>
+    ensures items { IfOk result (λ all. all.items.items ≡ gathered.items.items ++ item_in part.sysmod) }
+    ensures outside { IfOk result (λ all. placed_items all.outside.items
+        ≡ placed_items gathered.outside.items ++ placed_items part.outside.items) }
+{
+    let mut items = gathered.items;
+    let mut outside = gathered.outside;
+    let mut more = part.outside;
+    outside.append(&mut more)?;
+    if let Some(sysmod) = part.sysmod {
+        items.push(Item::Sysmod(sysmod))?;
+    }
+    Ok(Gathered { items, outside })
+}
+
+/// The SYSMODs of a file, and their holds.
+fn sysmods_of(
+    alloc: Global,
+    options: &Options,
+    remarks: &mut Remarks,
+    file: &WideFile,
+) -> Result<Gathered, HoldError>
+    ensures { IfOk result (λ all. AreSysmodsOf options.now.decide file.now.sysmods.items all.items.items
+        (placed_items all.outside.items)) }
+{
+    let mut gathered = Gathered {
+        items: Vec::new(alloc),
+        outside: Vec::new(alloc),
+    };
+    for stated in file.sysmods.iter() {
+        let part = part_of(alloc, options, remarks, stated)?;
+        gathered = with_part(gathered, part)?;
+    }
+    Ok(gathered)
+}
+
+/// With the items of others behind these.
+fn joined(one: Gathered, other: Gathered) -> Result<Gathered, AllocError>
+    ensures items { IfOk result (λ all. all.items.items ≡ one.items.items ++ other.items.items) }
+    ensures outside { IfOk result (λ all. placed_items all.outside.items
+        ≡ placed_items one.outside.items ++ placed_items other.outside.items) }
+{
+    let mut items = one.items;
+    let mut outside = one.outside;
+    let mut more_items = other.items;
+    let mut more = other.outside;
+    items.append(&mut more_items)?;
+    outside.append(&mut more)?;
+    Ok(Gathered { items, outside })
+}
+
+/// With these holds and releases in the hold file.
+fn with_outside(gathered: Gathered, more: Vec<Placed>) -> Result<Gathered, AllocError>
+    ensures items { IfOk result (λ all. all.items.items ≡ gathered.items.items) }
+    ensures outside { IfOk result (λ all. placed_items all.outside.items
+        ≡ placed_items gathered.outside.items ++ placed_items more.items) }
+{
+    let items = gathered.items;
+    let mut outside = gathered.outside;
+    let mut more = more;
+    outside.append(&mut more)?;
+    Ok(Gathered { items, outside })
+}
+
+/// What a file has of SYSMODs, holds and releases.
+fn of_file(
+    alloc: Global,
+    options: &Options,
+    remarks: &mut Remarks,
+    file: &WideFile,
+) -> Result<Gathered, HoldError>
+    ensures { IfOk result (λ all. AreFilesOf options.now.decide (file.now ∷ []) all.items.items
+        (placed_items all.outside.items)) }
+{
+    tell_notes(alloc, remarks, file.notes.as_slice())?;
+    let gathered = sysmods_of(alloc, options, remarks, file)?;
+    let _ = tell_others(alloc, options, remarks, file.others.as_slice())?;
+    let holds = placed_holds(alloc, remarks, file.holds.as_slice())?;
+    let gathered = with_outside(gathered, holds)?;
+    let releases = placed_releases(alloc, remarks, file.releases.as_slice())?;
+    let gathered = with_outside(gathered, releases)?;
+    Ok(gathered)
+}
+
+/// What the files have of SYSMODs, holds and releases.
+fn of_files(
+    alloc: Global,
+    options: &Options,
+    remarks: &mut Remarks,
+    files: &[WideFile],
+) -> Result<Gathered, HoldError>
+    ensures { IfOk result (λ all. AreFilesOf options.now.decide files.now all.items.items
+        (placed_items all.outside.items)) }
+{
+    let mut gathered = Gathered {
+        items: Vec::new(alloc),
+        outside: Vec::new(alloc),
+    };
+    for file in files {
+        let more = of_file(alloc, options, remarks, file)?;
+        gathered = joined(gathered, more)?;
+    }
+    Ok(gathered)
+}
+
+/// Tells of the holds and releases that can't be carried, and answers whether there are any.
+fn are_refused(
+    alloc: Global,
+    remarks: &mut Remarks,
+    files: &[WideFile],
+) -> Result<bool, AllocError> {
+    let mut any = false;
+    for file in files {
+        if tell_refusals(alloc, remarks, file)? {
+            any = true;
+        }
+    }
+    Ok(any)
+}
+
+/// What the files state, as RECEIVE takes it: each SYSMOD that is carried is no looser than one of the files, and no
+/// ERROR, SYSTEM or USER hold is lost. All else is told in the remarks. `Refused` comes, with all remarks, where a hold
+/// or a release of such a kind can't be said, and `Memory` where memory runs out.
+pub fn narrow(alloc: Global, files: &[WideFile], options: Options) -> Result<Narrowed, NarrowError>
+    ensures no_looser { IfOk result (λ narrowed. All
+        (IsCarriedOf options.decide (flat_map (λ f. f.sysmods.items) files.now)) narrowed.items.items) }
+    ensures held { IfOk result (λ narrowed. AreHeld files.now narrowed.items.items narrowed.hold_items.items) }
+{
+    let mut options = options;
+    options.sort();
+    let mut remarks = Remarks::new(alloc);
+    if are_refused(alloc, &mut remarks, files)? {
+        return Err(NarrowError::Refused(remarks.list));
+    }
+    let gathered = match of_files(alloc, &options, &mut remarks, files) {
+        Ok(gathered) => gathered,
+        Err(HoldError::Memory) => return Err(NarrowError::Memory),
+        Err(HoldError::BadHold) => return Err(NarrowError::Refused(remarks.list)),
+    };
+    let assigns = assigns_of(alloc, &mut remarks, files)?;
+    let items = with_assigns(alloc, gathered.items, assigns)?;
+    let hold_items = in_order(alloc, gathered.outside)?;
+    Ok(Narrowed::new(items, hold_items, remarks))
+}

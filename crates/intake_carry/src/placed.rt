@@ -1,0 +1,111 @@
+//! Holds and releases of the hold file, in the order of the files.
+ghost use Rattle.std.specs.Prelude.{◌≡◌, ◌∷◌, ◌++◌, [], IfOk, OnOk, All, IsPermutation};
+ghost use Rattle.mcs.specs.declared.hold_item.HoldItem.TheVariants.{Hold as AHold, Release as ARelease};
+ghost use Rattle.intake_carry.specs.Holds.{IsHeldBy, IsAHold, IsReleased, IsStatedRelease};
+ghost use Rattle.intake_carry.specs.Gathered.{placed_items};
+
+use crate::errors::HoldError;
+use crate::holds::{carried_hold, carried_release};
+use intake_cards::Remarks;
+use intake_read::{Place, WideHold, WideRelease};
+use mcs::{HoldItem, Release};
+use std::alloc::{AllocError, Global};
+use sysmods_values::Hold;
+
+/// A hold or a release of the hold file, and where it stood.
+#[derive(Drop)]
+pub(crate) struct Placed {
+    pub place: Place,
+    pub item: HoldItem,
+}
+
+/// Puts a hold behind the others.
+pub(crate) fn put_outside(
+    placed: &mut Vec<Placed>,
+    place: Place,
+    hold: Hold,
+) -> Result<(), AllocError>
+    ensures { OnOk result (placed_items placed.new.items ≡ placed_items placed.old.items ++ AHold hold ∷ []) }
+{
+    placed.push(Placed {
+        place,
+        item: HoldItem::Hold(hold),
+    })?;
+    Ok(())
+}
+
+/// Puts a release behind the others.
+fn put_release(placed: &mut Vec<Placed>, place: Place, release: Release) -> Result<(), AllocError>
+    ensures { OnOk result (placed_items placed.new.items ≡ placed_items placed.old.items ++ ARelease release ∷ []) }
+{
+    placed.push(Placed {
+        place,
+        item: HoldItem::Release(release),
+    })?;
+    Ok(())
+}
+
+/// The holds, each external. What is left out or differs is told.
+pub(crate) fn placed_holds(
+    alloc: Global,
+    remarks: &mut Remarks,
+    stated: &[WideHold],
+) -> Result<Vec<Placed>, HoldError>
+    ensures held { IfOk result (λ placed. All (IsHeldBy [] (placed_items placed.items)) stated.now) }
+    ensures holds { IfOk result (λ placed. All IsAHold (placed_items placed.items)) }
+{
+    let mut placed = Vec::with_capacity(alloc, stated.len())?;
+    for hold in stated {
+        let Some(carried) = carried_hold(alloc, remarks, hold, None)? else {
+            continue;
+        };
+        put_outside(&mut placed, hold.place, carried)?;
+    }
+    Ok(placed)
+}
+
+/// The releases. What is left out or differs is told.
+pub(crate) fn placed_releases(
+    alloc: Global,
+    remarks: &mut Remarks,
+    stated: &[WideRelease],
+) -> Result<Vec<Placed>, HoldError>
+    ensures released { IfOk result (λ placed. All (IsReleased (placed_items placed.items)) stated.now) }
+    ensures stated { IfOk result (λ placed. All (IsStatedRelease stated.now) (placed_items placed.items)) }
+{
+    let mut placed = Vec::with_capacity(alloc, stated.len())?;
+    for release in stated {
+        let Some(carried) = carried_release(alloc, remarks, release)? else {
+            continue;
+        };
+        put_release(&mut placed, release.place, carried)?;
+    }
+    Ok(placed)
+}
+
+/// By their places.
+fn by_place(mut placed: Vec<Placed>) -> Vec<Placed>
+    ensures { IsPermutation placed.items result.items }
+{
+    placed.sort_unstable_by_key(|one| one.place);
+    placed
+}
+
+/// The items without their places.
+fn items_of(alloc: Global, placed: Vec<Placed>) -> Result<Vec<HoldItem>, AllocError>
+    ensures { IfOk result (λ items. items.items ≡ placed_items placed.items) }
+{
+    let mut items = Vec::with_capacity(alloc, placed.len())?;
+    for one in placed {
+        items.push(one.item)?;
+    }
+    Ok(items)
+}
+
+/// The items in the order of the files.
+pub(crate) fn in_order(alloc: Global, placed: Vec<Placed>) -> Result<Vec<HoldItem>, AllocError>
+    ensures { IfOk result (λ items. IsPermutation (placed_items placed.items) items.items) }
+{
+    let items = items_of(alloc, by_place(placed))?;
+    Ok(items)
+}

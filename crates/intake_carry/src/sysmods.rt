@@ -1,0 +1,147 @@
+//! SYSMODs with their holds.
+ghost use Rattle.std.specs.Prelude.{◌≡◌, IfOk, IfSome, OnOk, IsTrue, All};
+ghost use Rattle.terms.specs.declared.kinds.HoldKind.TheVariants.{System};
+ghost use Rattle.intake_read.specs.declared.items.WideHold.{WideHold as AnyWideHold};
+ghost use Rattle.intake_carry.specs.Holds.{IsHold, IsHeldBy, IsAHold, holds_inside};
+ghost use Rattle.intake_carry.specs.Gathered.{placed_items, item_in, IsPartOf};
+
+use crate::errors::HoldError;
+use crate::holds::carried_hold;
+use crate::placed::{Placed, placed_holds, put_outside};
+use fields::Id;
+use intake_cards::{Place, Reason, Remarks, Subject};
+use intake_read::{WideHold, WideHoldKind, WideSysmod};
+use intake_sysmod::{Options, carried_sysmod};
+use std::alloc::{AllocError, Global};
+use sysmods_values::{Hold, Sysmod};
+
+/// What becomes of a SYSMOD: nothing where it is left out, and the holds in it that stand outside.
+#[derive(Drop)]
+pub(crate) struct Part {
+    pub sysmod: Option<Sysmod>,
+    pub outside: Vec<Placed>,
+}
+
+/// The id of a SYSMOD.
+fn id_in(sysmod: &Sysmod) -> Id
+    ensures { result ≡ sysmod.now.id }
+{
+    sysmod.id
+}
+
+/// Puts an internal hold into the SYSMOD, and another one into the hold file.
+fn put_hold(
+    sysmod: &mut Sysmod,
+    outside: &mut Vec<Placed>,
+    place: Place,
+    hold: Hold,
+) -> Result<(), AllocError>
+    requires { IsTrue hold.internal → (hold.kind ≡ System) × (hold.id ≡ sysmod.old.id) }
+    ensures same { OnOk result (sysmod.new ≡ record sysmod.old { holds = sysmod.new.holds }) }
+    ensures held { OnOk result ((w : AnyWideHold) → IsHold w hold
+        → IsHeldBy sysmod.new.holds (placed_items outside.new.items) w) }
+    ensures kept { OnOk result ((w : AnyWideHold) → IsHeldBy sysmod.old.holds (placed_items outside.old.items) w
+        → IsHeldBy sysmod.new.holds (placed_items outside.new.items) w) }
+    ensures outside { OnOk result (All IsAHold (placed_items outside.old.items)
+        → All IsAHold (placed_items outside.new.items)) }
+{
+    if hold.internal {
+        sysmod.push_hold(hold)?;
+        Ok(())
+    } else {
+        put_outside(outside, place, hold)?;
+        Ok(())
+    }
+}
+
+/// Tells that a hold of a SYSMOD stands in the hold file.
+fn tell_outside(alloc: Global, remarks: &mut Remarks, stated: &WideHold) -> Result<(), AllocError> {
+    let subject = Subject {
+        place: stated.place,
+        word: b"HOLD",
+        id: stated.id.as_slice(),
+    };
+    remarks.tell_carried(alloc, &subject, b"", Reason::HeldOutside, b"")
+}
+
+/// Tells the same of all holds of a SYSMOD that is left out.
+fn tell_all_outside(
+    alloc: Global,
+    remarks: &mut Remarks,
+    stated: &[WideHold],
+) -> Result<(), AllocError> {
+    for hold in stated {
+        if hold.kind != Some(WideHoldKind::Fixcat) {
+            tell_outside(alloc, remarks, hold)?;
+        }
+    }
+    Ok(())
+}
+
+/// Puts the SYSTEM holds on the SYSMOD into it, and answers the others, which stand in the hold file. What differs is
+/// told.
+fn put_holds(
+    alloc: Global,
+    remarks: &mut Remarks,
+    stated: &WideSysmod,
+    sysmod: &mut Sysmod,
+) -> Result<Vec<Placed>, HoldError>
+    ensures same { OnOk result (sysmod.new ≡ record sysmod.old { holds = sysmod.new.holds }) }
+    ensures held { IfOk result (λ outside. All (IsHeldBy sysmod.new.holds (placed_items outside.items))
+        stated.now.holds.items) }
+    ensures outside { IfOk result (λ outside. All IsAHold (placed_items outside.items)) }
+{
+    let own = id_in(sysmod);
+    let mut outside = Vec::new(alloc);
+    for hold in stated.holds.iter() {
+        let Some(carried) = carried_hold(alloc, remarks, hold, Some(own))? else {
+            continue;
+        };
+        if !carried.internal {
+            tell_outside(alloc, remarks, hold)?;
+        }
+        put_hold(sysmod, &mut outside, hold.place, carried)?;
+    }
+    Ok(outside)
+}
+
+/// The SYSMOD with its holds, and those that stand in the hold file.
+fn carried_part(
+    alloc: Global,
+    remarks: &mut Remarks,
+    stated: &WideSysmod,
+    mut sysmod: Sysmod,
+) -> Result<Part, HoldError>
+    ensures same { IfOk result (λ part. IfSome part.sysmod (λ s. s ≡ record sysmod { holds = s.holds })) }
+    ensures held { IfOk result (λ part. All
+        (IsHeldBy (holds_inside (item_in part.sysmod)) (placed_items part.outside.items)) stated.now.holds.items) }
+    ensures outside { IfOk result (λ part. All IsAHold (placed_items part.outside.items)) }
+{
+    let outside = put_holds(alloc, remarks, stated, &mut sysmod)?;
+    Ok(Part {
+        sysmod: Some(sysmod),
+        outside,
+    })
+}
+
+/// What becomes of a SYSMOD and its holds. Why it is left out, and what differs, is told.
+pub(crate) fn part_of(
+    alloc: Global,
+    options: &Options,
+    remarks: &mut Remarks,
+    stated: &WideSysmod,
+) -> Result<Part, HoldError>
+    ensures { IfOk result (IsPartOf options.now.decide stated.now) }
+{
+    let Some(sysmod) = carried_sysmod(alloc, options, remarks, stated)? else {
+        let holds = stated.holds.as_slice();
+        tell_all_outside(alloc, remarks, holds)?;
+        let outside = placed_holds(alloc, remarks, holds)?;
+        return Ok(Part {
+            sysmod: None,
+            outside,
+        });
+    };
+    let part = carried_part(alloc, remarks, stated, sysmod)?;
+    Ok(part)
+}

@@ -1,0 +1,54 @@
+//! Why a file of statements is not read.
+use crate::items::OtherReason;
+use intake_cards::Place;
+use std::alloc::{AllocError, AllocFailed};
+use thiserror::Error;
+
+/// Why a file of statements is not read: want of memory, or its first fault of those that no SYSMOD can be left out
+/// for.
+#[derive(Debug, Drop, Error)]
+pub enum WideError {
+    #[error("out of memory")]
+    Memory,
+    /// Before the first statement stands more than blanks and comments.
+    #[error("no statement begins there")]
+    NoStatement {
+        place: Place,
+    },
+    /// A comment is open where the file ends.
+    #[error("the comment is not closed")]
+    OpenComment {
+        place: Place,
+    },
+    /// A statement outside of SYSMODs, or a hold, a release or an assignment, is none, for that reason.
+    #[error("{reason}")]
+    Statement {
+        place: Place,
+        /// Its word without `++`, and what stands in parentheses behind it, both in upper case.
+        word: Vec<u8>,
+        name: Vec<u8>,
+        reason: OtherReason,
+    },
+}
+
+impl From<AllocError> for WideError {
+    ghost use Rattle.std.specs.Prelude.{◌≡◌};
+    ghost use Rattle.intake_read.specs.declared.errors.WideError.TheVariants.{Memory};
+
+    ghost from_gives = { λ _ e. e ≡ Memory };
+
+    fn from(_e: AllocError) -> WideError {
+        WideError::Memory
+    }
+}
+
+impl<T: Drop> From<AllocFailed<T>> for WideError {
+    ghost use Rattle.std.specs.Prelude.{◌≡◌};
+    ghost use Rattle.intake_read.specs.declared.errors.WideError.TheVariants.{Memory};
+
+    ghost from_gives = { λ _ e. e ≡ Memory };
+
+    fn from(_e: AllocFailed<T>) -> WideError {
+        WideError::Memory
+    }
+}
