@@ -34,8 +34,8 @@ loop-edit-preserved g c =
       calls = rw more (one_more s (element_calls c.args.name) (zip edits stood) done old mid new (edit, before) pair.0
           pair.1 c.loop-edit.invariant.continues.inside c.edit_element.ensures.continues.inside
           c.loop-edit.invariant.calls c.in_ok-edit_element.was c.edit_element.ensures.calls);
-      changes = λ zone known. rw more (elements_go_on s c.args.name zone old mid new edits done edit turn.0 (turn.2 edit)
-          c.edit_element.ensures.continues.inside (c.loop-edit.invariant.changes zone known)
+      changes = λ zone known. rw more (elements_go_on s c.args.name zone old mid new edits done edit turn.0
+          (turn.2 edit) c.edit_element.ensures.continues.inside (c.loop-edit.invariant.changes zone known)
           (c.in_ok-edit_element.ensures.ok zone (known_at edits stood done edit before turn.0 turn.2
           (element_stood zone) known turn.3)));
     }

@@ -14,8 +14,8 @@ returns-in-Put-clause-ok g c =
     let e = c.in-Put.entry in
     rw c.in-Put.is (on_ok c.put_entry.result _ _ (λ stands zone same.
     changes_as g.S.Store c.args.name c.args.tx.now.conn.now c.put_entry.new.tx.conn.now
-    (HasPutEntry (entry_of zone e.id) e) (EditsEntry zone (Put e)) (entry_put zone e) (stands (entry_of zone e.id) same))
-    c.put_entry.ensures.stands)
+    (HasPutEntry (entry_of zone e.id) e) (EditsEntry zone (Put e)) (entry_put zone e)
+    (stands (entry_of zone e.id) same)) c.put_entry.ensures.stands)
 
 pub returns-in-Put-clause-calls : goal.returns-in-Put-clause-calls
 returns-in-Put-clause-calls g c =
