@@ -60,7 +60,7 @@ returns-clause-ok g c zone known =
     in
     subst (λ all. ChangesZone g.S.Store c.args.tx.now.conn.now c.loop-edit.tx.conn.now c.args.name
     (EditsElements zone all))
-    (take_all done edits (omega (arith, end, ap length known, length-map (element_stood zone) edits)))
+    (take_all done edits (omega (arith, end, ap length known, length-map edits (element_stood zone))))
     (c.loop-edit.invariant.changes zone known)
 
 pub returns-in_err-edit_element-clause-calls : goal.returns-in_err-edit_element-clause-calls
