@@ -9,7 +9,7 @@ use Rattle.smpe.proofs.Commanding.{commands_err, reported}
 use Rattle.smpe.proofs.Early.{failed_first, broke_first}
 use Rattle.smpe_zones.specs.Own.{IsOwnOf}
 use Rattle.smpe_session.specs.Writing.{AnswersRun}
-use Rattle.smpe.proofs.Coursing.{passed_one, early_first, fails_by, fails_told, performs_passes, goes_early}
+use Rattle.smpe.proofs.Coursing.{goes_one, early_first, fails_by, fails_told, performs_passes, goes_early}
 use Rattle.smpe.proofs.job.run_command.Goals as goal
 
 pub returns-in_err-performed-clause-ended : goal.returns-in_err-performed-clause-ended
@@ -113,11 +113,12 @@ returns-in_ok-write_report-in-Told-clause-course g c =
     let new = c.perform.new.store in
     let command = command_of c.args.command.now in
     let outcome = outcome_view c.in-Told.outcome in
-    passed_one g.S.Store old new (Perform c.args.date c.args.files.now command) outcome (g.W.Sink.taken c.args.w.now)
-    (g.W.Sink.taken c.write_report.new.w)
+    goes_one g.S.Store old new (Perform c.args.date c.args.files.now command) outcome (g.W.Sink.taken c.args.w.now)
+    (g.W.Sink.taken c.write_report.new.w) _
     (performs_passes g.S.Store old new c.args.date c.args.files.now command c.in_ok-performed.performed outcome
     (λ change ran. subst (AnswersRun change) c.in-Told.is ran) c.in_ok-performed.ensures.uses.once.goes)
     (sent_all _ _ _ _ _ c.in_ok-write_report-in-Told.ensures.sends c.in_ok-write_report-in-Told.ensures.fault)
+    c.in_ok-write_report-in-Told.ensures.code
 
 pub returns-in_err-write_report-in-Lists-clause-course : goal.returns-in_err-write_report-in-Lists-clause-course
 returns-in_err-write_report-in-Lists-clause-course g c =
@@ -142,11 +143,12 @@ returns-in_ok-write_report-in-Lists-clause-course g c =
     let new = c.perform.new.store in
     let command = command_of c.args.command.now in
     let outcome = outcome_view c.list.result in
-    passed_one g.S.Store old new (Perform c.args.date c.args.files.now command) outcome (g.W.Sink.taken c.args.w.now)
-    (g.W.Sink.taken c.write_report-in-Lists.new.w)
+    goes_one g.S.Store old new (Perform c.args.date c.args.files.now command) outcome (g.W.Sink.taken c.args.w.now)
+    (g.W.Sink.taken c.write_report-in-Lists.new.w) _
     (performs_passes g.S.Store old new c.args.date c.args.files.now command c.in_ok-performed.performed outcome
     (λ change ran. absurd (subst (AnswersRun change) c.in-Lists.is ran)) c.in_ok-performed.ensures.uses.once.goes)
     (sent_all _ _ _ _ _ c.in_ok-write_report-in-Lists.ensures.sends c.in_ok-write_report-in-Lists.ensures.fault)
+    c.in_ok-write_report-in-Lists.ensures.code
 
 -- ---- the store behind it
 
