@@ -25,7 +25,7 @@ use Rattle.store.specs.declared.change.Change.TheVariants as change
 use Rattle.store.proofs.Going.{alone_loads, goes_err, goes_ok}
 use Rattle.smpe_zones.specs.Own.{IsOwn, IsOwnOf}
 use Rattle.smpe_session.specs.declared.session.Performed.{Performed}
-use Rattle.smpe_session.specs.Writing.{IsRan, AnswersRun}
+use Rattle.smpe_session.specs.Writing.{IsOutcomeOf, IsRan, AnswersRun}
 use Rattle.smpe.specs.declared.error.JobError.{JobError}
 use Rattle.smpe.specs.declared.error.JobError.TheVariants.{Memory, Store, Write}
 use Rattle.smpe.specs.Commands.{job_error}
@@ -119,12 +119,14 @@ module _ {S : Type 0} (g : Ghosts S) where
 
   -- what a command does is told by this outcome
   pub performs_passes : (old new : Held S) (date : Text) (files : Files) (c : Command) (performed : Performed)
-      (outcome : Outcome) → ((change : Change) → AnswersRun change performed → IsRan change outcome)
+      (outcome : Outcome) → IsOutcomeOf c outcome
+      → ((change : Change) → AnswersRun change performed → IsRan change outcome)
       → GoesOver g old new (λ change. IsOwnOf c change × AnswersRun change performed) {E = StoreError} (Ok performed)
       → Passes g old (Perform date files c) new (outcome ∷ [])
-  performs_passes old new date files c performed outcome ran goes = (
+  performs_passes old new date files c performed outcome of ran goes = (
     outcome,
     refl,
+    of,
     goes_ok g old new (λ change. IsOwnOf c change × AnswersRun change performed)
         (λ change. IsOwnOf c change × IsRan change outcome) performed outcome
         (λ change own. (own.0, ran change own.1)) goes,

@@ -15,7 +15,7 @@ use Rattle.store.specs.Courses.{CommitsOnce, GoesOver}
 use Rattle.store.specs.Whole.{ShowsGlobal}
 use Rattle.store.specs.declared.change.Change.TheVariants as change
 use Rattle.smpe_zones.specs.Own.{IsOwn}
-use Rattle.smpe_session.specs.Writing.{IsRan}
+use Rattle.smpe_session.specs.Writing.{IsOutcomeOf, IsRan}
 use Rattle.smpe.specs.Course.{AllRan, Course, Unreported, AtNext}
 use Rattle.smpe.specs.declared.error.JobError.{JobError}
 use Rattle.smpe.specs.declared.error.JobError.TheVariants.{Memory, Store, Write}
@@ -37,14 +37,14 @@ AreFirstAsked (job ∷ more) acts =
 
 module _ {S : Type 0} (g : Ghosts S) where
   -- The store before an act that ran, the store after it, and what was reported. A job's beginning has found the rows
-  -- of a global zone, and has left the store as it was; the fault of a command file has not asked it. So has a command
-  -- left it that was refused; one that ran, or the definition of a zone, has made no more than one change of its own, a
-  -- command of the zone that its report's header names.
+  -- of a global zone, and has left the store as it was; the fault of a command file has not asked it. A command has its
+  -- own header. One that was refused has left the store as it was; one that ran, or the definition of a zone, has made
+  -- no more than one change of its own, a command of the zone that its header names.
   abbrev pub Passes : Held S → Act → Held S → List Outcome → Type 0
   Passes old Begin new outcomes = OnlyLoads g old new × (outcomes ≡ [])
       × (HasCleanDisk (state g new) → (global : terms.Global) × ShowsGlobal g old global)
   Passes old (Faulty fault) new outcomes = (new ≡ old) × (outcomes ≡ Control fault ∷ [])
-  Passes old (Perform date files c) new outcomes = (outcome : Outcome) × (outcomes ≡ outcome ∷ [])
+  Passes old (Perform date files c) new outcomes = (outcome : Outcome) × (outcomes ≡ outcome ∷ []) × IsOutcomeOf c outcome
       × GoesOver g old new (λ change. IsOwn (Perform date files c) change × IsRan change outcome) {E = JobError}
       (Ok outcome)
   Passes old (Define d) new outcomes =
