@@ -55,11 +55,11 @@ asked_more (job ∷ jobs) more acts (inr (front, back, asks, rest, is)) =
 module _ {S : Type 0} (g : Ghosts S) where
   -- ---- acts
 
-  pub passed_none : (at : Held S) (taken : Option (List ℕ)) → Passed g at at [] taken taken
+  abbrev pub passed_none : (at : Held S) (taken : Option (List ℕ)) → Passed g at at [] taken taken
   passed_none at taken = ran_none (Passes g) at taken
 
   -- one that reports this
-  pub passed_one : (old new : Held S) (act : Act) (outcome : Outcome) (a b : Option (List ℕ))
+  abbrev pub passed_one : (old new : Held S) (act : Act) (outcome : Outcome) (a b : Option (List ℕ))
       → Passes g old act new (outcome ∷ []) → Appends a b (text outcome) → Passed g old new (act ∷ []) a b
   passed_one old new act outcome a b passes appends = ran_one (Passes g) old new act outcome a b passes appends
 
@@ -139,12 +139,17 @@ module _ {S : Type 0} (g : Ghosts S) where
       let p = err_from_is_err_and r failed in
       subst (λ q. Goes g old new acts a b q) (sym (p.1 ∙ ap (λ y. Err y) p.2)) early
 
+  -- no command yet
+  pub goes_none : (at : Held S) (taken : Option (List ℕ)) → Goes g at at [] taken taken (Ok 0)
+  goes_none at taken = (passed_none at taken, refl)
+
   -- a command that reports this
   pub goes_one : (old new : Held S) (act : Act) (outcome : Outcome) (a b : Option (List ℕ)) (code : ℕ)
       → Passes g old act new (outcome ∷ []) → Appends a b (text outcome) → code ≡ outcome_code outcome
       → Goes g old new (act ∷ []) a b (Ok code)
   goes_one old new act outcome a b code passes appends told =
-      (passed_one old new act outcome a b passes appends, omega (arith, told))
+      let greatest : code ≡ job_code (outcome ∷ []) = omega (arith, told) in
+      (passed_one old new act outcome a b passes appends, greatest)
 
   module _ (date : Text) (files : Files) (old mid new : Held S) (xs ys : List Command) (a b c : Option (List ℕ))
       (code : ℕ) (front : Goes g old mid (map (Perform date files) xs) a b (Ok code)) where

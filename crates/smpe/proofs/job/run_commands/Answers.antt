@@ -1,15 +1,23 @@
-use Rattle.std.proofs.Common.{◌∷◌, [], ◌+◌, map, take, drop, ◌++◌, sym, subst, max, Ok, arith}
+use Rattle.std.proofs.Common.{◌∷◌, [], ◌+◌, map, take, drop, ◌++◌, sym, subst, max, Ok, arith, rules}
 use Rattle.std.proofs.lemmas.List.{take_all}
 use Rattle.cntl.specs.Views.{command_of}
 use Rattle.smpe.specs.Ending.{EndsEarly}
 use Rattle.machine.specs.Machine.{Perform}
 use Rattle.smpe.specs.Commands.{EndsCommands}
 use Rattle.smpe.specs.Going.{Goes, GoesEarly}
-use Rattle.smpe_zones.proofs.Once.{follows_on}
+use Rattle.smpe_zones.proofs.Once.{follows_itself, follows_on}
 use Rattle.smpe.proofs.Taken.{taken_more, taken_split}
 use Rattle.smpe.proofs.Commanding.{commands_err, commands_more, commands_stop, commands_early}
-use Rattle.smpe.proofs.Coursing.{commands_passed, early_commands, goes_early}
+use Rattle.smpe.proofs.Coursing.{goes_none, commands_passed, early_commands, goes_early}
 use Rattle.smpe.proofs.job.run_commands.Goals as goal
+
+pub loop-command-init : goal.loop-command-init
+loop-command-init g c = record {
+  follows = follows_itself g.S.Store c.args.store.now;
+  ran = search rules;
+  course = goes_none g.S.Store c.args.store.now (g.W.Sink.taken c.args.w.now);
+  sound = search rules;
+}
 
 pub loop-command-preserved : goal.loop-command-preserved
 loop-command-preserved g c = record {

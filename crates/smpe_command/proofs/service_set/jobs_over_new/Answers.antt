@@ -1,4 +1,4 @@
-use Rattle.std.proofs.Common.{map, inl, inr, refl, rules}
+use Rattle.std.proofs.Common.{Err, map, ap, inl, inr, refl}
 use Rattle.smpe.specs.Ending.{answer_of, job_of}
 use Rattle.smpe.specs.FromEmpty.{empty_system}
 use Rattle.smpe.proofs.Early.{jobs_since}
@@ -23,6 +23,6 @@ pub returns-in-Err : goal.returns-in-Err
 returns-in-Err g c = inl (
   c.in-Err.error,
   record { left = c.in-Err.conn; other = c.in-Err.ensures.other; none = c.in-Err.ensures.none },
-  search rules,
+  ap Err c.from.ensures,
   refl,
 )
