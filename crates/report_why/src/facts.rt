@@ -5,13 +5,14 @@ ghost use Rattle.terms.specs.Lookups.{applied_ids};
 ghost use Rattle.terms.specs.Choice.{place, counting};
 ghost use Rattle.sysmods.specs.Choices.{number_in, choice};
 ghost use Rattle.zones.specs.Scopes.{setting_of};
-ghost use Rattle.terms.specs.Facts.{alone, AreFacts, AreFactsOf};
-ghost use Rattle.report_why.specs.Views.{fact_view};
+ghost use Rattle.report_why.specs.Facts.{alone, AreFacts};
+ghost use Rattle.terms.specs.Beside.{Beside};
+ghost use Rattle.report_why.specs.Views.{fact_view, AreIdFacts};
 
 use crate::asking::Asking;
 use crate::deletes::delete_facts;
 use crate::element_facts::element_facts;
-use crate::fact::Fact;
+use crate::fact::{Fact, IdFacts};
 use crate::forbids::npre_facts;
 use crate::hold_facts::hold_facts;
 use crate::needed::needed_facts;
@@ -100,14 +101,14 @@ fn facts<'a>(alloc: Global, looking: &Looking<'a, '_>, id: Id) -> Result<Vec<Fac
     facts_alone(alloc, looking, &scope, id)
 }
 
-/// The facts of these ids in the zone, in the order of the ids. The error comes where memory runs out.
+/// The facts of each of these ids in the zone, in their order. The error comes where memory runs out.
 pub fn facts_of<'a>(
     alloc: Global,
     global: &'a GlobalZone,
     zone: &'a Zone,
     ids: &[Id],
-) -> Result<Vec<Fact<'a>>, AllocError>
-    ensures { IfOk result (λ facts. AreFactsOf global.now zone.now ids.now (map fact_view facts.items)) }
+) -> Result<Vec<IdFacts<'a>>, AllocError>
+    ensures { IfOk result (λ found. Beside (λ n x of. AreIdFacts global.now zone.now x of) ids.now found.items) }
 {
     let bare = choose(alloc, global, zone, &IdList::new(alloc))?;
     let applied = applied_ids(alloc, zone)?;
@@ -124,8 +125,8 @@ pub fn facts_of<'a>(
     };
     let mut found = Vec::new(alloc);
     for id in ids {
-        let mut facts = facts(alloc, &looking, *id)?;
-        found.append(&mut facts)?;
+        let facts = facts(alloc, &looking, *id)?;
+        found.push(IdFacts { id: *id, facts })?;
     }
     Ok(found)
 }

@@ -1,7 +1,7 @@
 //! The text of facts. An error comes where memory runs out.
 ghost use Rattle.std.specs.Prelude.{◌≡◌, ◌++◌, map, IfOk, OnOk};
-ghost use Rattle.terms.specs.Facts.{EntryFact, VerFact};
-ghost use Rattle.machine.specs.FactText.{fact_text, facts_text as text_of, fact_code, facts_code as code_of};
+ghost use Rattle.report_why.specs.Facts.{EntryFact, VerFact};
+ghost use Rattle.report_why.specs.FactText.{fact_text, facts_text as text_of, fact_code, facts_code as code_of};
 ghost use Rattle.report_why.specs.Views.{fact_view};
 
 use crate::asked_lines::{put_hold, put_requisite};

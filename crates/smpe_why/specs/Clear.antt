@@ -5,10 +5,10 @@ use Rattle.std.specs.List.{list_all}
 use Rattle.terms.specs.declared.kinds.ZoneKind.TheVariants.{Target}
 use Rattle.terms.specs.Types.{Text, Id, Global, Zone, Selection}
 use Rattle.terms.specs.CommandForms.{no_bypass}
-use Rattle.terms.specs.Facts.{Standing, StandsReceived}
-use Rattle.terms.specs.Facts.{Answer, Supplied, Rank, Over, Found, Fact}
-use Rattle.terms.specs.Facts.{StandingFact, EntryFact, VerFact, RequisiteFact, HoldFact, ElementFact, DeleteFact}
-use Rattle.terms.specs.Facts.{TakesFact, NpreFact, ForbiddenFact, NeededFact, AreFacts}
+use Rattle.report_why.specs.Facts.{Standing, StandsReceived}
+use Rattle.report_why.specs.Facts.{Answer, Supplied, Rank, Over, Found, Fact}
+use Rattle.report_why.specs.Facts.{StandingFact, EntryFact, VerFact, RequisiteFact, HoldFact, ElementFact, DeleteFact}
+use Rattle.report_why.specs.Facts.{TakesFact, NpreFact, ForbiddenFact, NeededFact, AreFacts}
 use Rattle.machine.specs.Outcome.{Line, StatusLine, Applied}
 use Rattle.machine.specs.Receiving.{place_of}
 use Rattle.machine.specs.Installing.{InstallsSelected}

@@ -1,8 +1,8 @@
 -- What is found of a store, and what is told of ids in a zone.
 use Rattle.std.specs.Prelude.{◌≡◌, List, Option, None, Some}
 use Rattle.terms.specs.Types.{Text, Id, Global, Zone}
-use Rattle.terms.specs.Facts.{Fact, AreFactsOf}
-use Rattle.machine.specs.FactText.{facts_text, facts_code}
+use Rattle.report_why.specs.Facts.{Fact, AreFactsOf}
+use Rattle.report_why.specs.FactText.{facts_text, facts_code}
 use Rattle.machine.specs.Outcome.{NoZone}
 use Rattle.machine.specs.Report.{refused_text}
 use Rattle.store_schema.specs.Inventory.{Inventory}

@@ -1,6 +1,6 @@
 use Rattle.std.proofs.Common.{◌≡◌, take}
 use Rattle.std.specs.List.{flat_map}
-use Rattle.machine.specs.FactText.{fact_text}
+use Rattle.report_why.specs.FactText.{fact_text}
 use Rattle.report_why.specs.Views.{fact_view}
 use Rattle.report_why.proofs.text.facts_text.Given as goal
 
