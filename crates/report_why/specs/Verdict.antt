@@ -144,9 +144,12 @@ supply_words (Some (Open (y ∷ ys))) = list_text (y ∷ ys) ∷ codes "would su
 supply_words (Some (Open [])) = codes "no SYSMOD that supplies it is received" ∷ []
 supply_words _ = codes "nothing supplies it" ∷ []
 
+abbrev pub need_line : OpenNeed → List Text → Text
+need_line n words = inner_line (codes "NEED" ∷ need_text n.kind ∷ named n.id ∷ words)
+
+-- the line of an open need
 abbrev pub need_told : List Fact → OpenNeed → Text
-need_told facts n =
-    inner_line (codes "NEED" ∷ need_text n.kind ∷ named n.id ∷ supply_words (first_answer n.kind n.id facts))
+need_told facts n = need_line n (supply_words (first_answer n.kind n.id facts))
 
 -- ---- the verdict
 
@@ -171,10 +174,13 @@ abbrev pub why_told : Id → List Fact → Status → Text
 why_told x facts (Failed why) = failure_told x facts why
 why_told x facts _ = []
 
+abbrev pub status_told : Id → List Fact → Status → Text
+status_told x facts status = detail_line (verdict_word status ∷ []) ++ why_told x facts status
+
 -- what a line of APPLY or ACCEPT says of x; the lines of others say nothing of it
 abbrev pub verdict_told : Id → List Fact → Line → Text
 verdict_told x facts (StatusLine y place status) =
-    if bytes_eq x y then detail_line (verdict_word status ∷ []) ++ why_told x facts status else []
+    if bytes_eq x y then status_told x facts status else []
 verdict_told x facts _ = []
 
 abbrev pub verdict_text : Id → List Fact → List Line → Text

@@ -1,6 +1,6 @@
 -- What the code's facts stand for.
-use Rattle.std.specs.Prelude.{◌≡◌, List, map, option_map}
-use Rattle.terms.specs.Types.{Id, Global, Zone}
+use Rattle.std.specs.Prelude.{List, map, option_map}
+use Rattle.terms.specs.Types.{Global, Zone}
 use Rattle.report_why.specs.Facts as facts
 use Rattle.report_why.specs.declared.fact.Standing.{Standing}
 use Rattle.report_why.specs.declared.fact.Standing.TheVariants as standing
@@ -60,6 +60,6 @@ fact_view (fact.Needed id) = facts.NeededFact id
 abbrev pub facts_view : List Fact → List facts.Fact
 facts_view facts = map fact_view facts
 
--- the facts of this id in the zone
-abbrev pub AreIdFacts : Global → Zone → Id → IdFacts → Type 0
-AreIdFacts g zone x of = (of.id ≡ x) × facts.AreFacts g zone x (facts_view of.facts.items)
+-- they are all facts of the id in the zone
+abbrev pub HasFacts : Global → Zone → IdFacts → Type 0
+HasFacts g zone of = facts.AreFacts g zone of.id (facts_view of.facts.items)

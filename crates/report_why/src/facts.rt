@@ -1,13 +1,12 @@
 //! All facts of ids in a zone.
-ghost use Rattle.std.specs.Prelude.{◌≡◌, ◌+◌, [], ◌∷◌, map, IfOk};
+ghost use Rattle.std.specs.Prelude.{◌≡◌, ◌+◌, [], ◌∷◌, All, map, IfOk};
 ghost use Rattle.terms.specs.Types.{Sysmod as ASysmod};
 ghost use Rattle.terms.specs.Lookups.{applied_ids};
 ghost use Rattle.terms.specs.Choice.{place, counting};
 ghost use Rattle.sysmods.specs.Choices.{number_in, choice};
 ghost use Rattle.zones.specs.Scopes.{setting_of};
 ghost use Rattle.report_why.specs.Facts.{alone, AreFacts};
-ghost use Rattle.terms.specs.Beside.{Beside};
-ghost use Rattle.report_why.specs.Views.{fact_view, AreIdFacts};
+ghost use Rattle.report_why.specs.Views.{fact_view, HasFacts};
 
 use crate::asking::Asking;
 use crate::deletes::delete_facts;
@@ -108,7 +107,8 @@ pub fn facts_of<'a>(
     zone: &'a Zone,
     ids: &[Id],
 ) -> Result<Vec<IdFacts<'a>>, AllocError>
-    ensures { IfOk result (λ found. Beside (λ n x of. AreIdFacts global.now zone.now x of) ids.now found.items) }
+    ensures ids { IfOk result (λ found. map (λ of. of.id) found.items ≡ ids.now) }
+    ensures facts { IfOk result (λ found. All (HasFacts global.now zone.now) found.items) }
 {
     let bare = choose(alloc, global, zone, &IdList::new(alloc))?;
     let applied = applied_ids(alloc, zone)?;

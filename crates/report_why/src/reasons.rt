@@ -80,63 +80,61 @@ fn put_hold(test: Test, hold: &Hold, text: &mut Vec<u8>) -> Result<(), AllocErro
     if !by_hold(test, hold.kind) {
         return Ok(());
     }
-    let words = [
-        FactWord::Of(test_text(test)),
-        FactWord::Of(hold_text(hold.kind)),
-        FactWord::Of(b"hold"),
-        FactWord::Of(hold.reason.as_bytes()),
-    ];
+    let code = FactWord::Of(test_text(test));
+    let kind = FactWord::Of(hold_text(hold.kind));
+    let hold_word = FactWord::Of(b"hold");
+    let reason = FactWord::Of(hold.reason.as_bytes());
+    let words = [code, kind, hold_word, reason];
     put_words(b"   ", &words, text)
 }
 
 // Of a SYSMOD that made the element, unless the id is over it.
-fn put_maker(
+fn put_maker<'a>(
     test: Test,
     elem_type: ElemType,
-    name: &Name,
-    word: &[u8],
-    maker: Maker,
+    name: &'a Name,
+    word: &'a [u8],
+    maker: &'a Maker,
     text: &mut Vec<u8>,
 ) -> Result<(), AllocError>
     ensures { OnOk result (text.new.items
-        ≡ text.old.items ++ maker_reason test elem_type name.now word.now (maker_view maker)) }
+        ≡ text.old.items ++ maker_reason test elem_type name.now word.now (maker_view maker.now)) }
 {
     if is_over(maker.rank) {
         return Ok(());
     }
-    let words = [
-        FactWord::Of(test_text(test)),
-        FactWord::Of(type_text(elem_type)),
-        FactWord::Named(name.as_bytes()),
-        FactWord::Of(word),
-        FactWord::Of(maker.id.as_bytes()),
-        FactWord::Of(b"is not required or superseded by it"),
-    ];
+    let code = FactWord::Of(test_text(test));
+    let elem_type = FactWord::Of(type_text(elem_type));
+    let name = FactWord::Named(name.as_bytes());
+    let word = FactWord::Of(word);
+    let id = FactWord::Of(maker.id.as_bytes());
+    let not_over = FactWord::Of(b"is not required or superseded by it");
+    let words = [code, elem_type, name, word, id, not_over];
     put_words(b"   ", &words, text)
 }
 
-fn put_makers(
+fn put_makers<'a>(
     test: Test,
     elem_type: ElemType,
-    name: &Name,
-    found: &Found,
+    name: &'a Name,
+    found: &'a Found,
     text: &mut Vec<u8>,
 ) -> Result<(), AllocError>
     ensures { OnOk result (text.new.items
         ≡ text.old.items ++ makers_reason test elem_type name.now (found_view found.now)) }
 {
-    put_maker(test, elem_type, name, b"RMID", found.rmid, text)?;
+    put_maker(test, elem_type, name, b"RMID", &found.rmid, text)?;
     for umid in found.umids.as_slice() {
-        put_maker(test, elem_type, name, b"UMID", *umid, text)?;
+        put_maker(test, elem_type, name, b"UMID", umid, text)?;
     }
     Ok(())
 }
 
-fn put_owner(
+fn put_owner<'a>(
     test: Test,
     elem_type: ElemType,
-    name: &Name,
-    found: &Found,
+    name: &'a Name,
+    found: &'a Found,
     text: &mut Vec<u8>,
 ) -> Result<(), AllocError>
     ensures { OnOk result (text.new.items
@@ -145,22 +143,21 @@ fn put_owner(
     if found.owned {
         return Ok(());
     }
-    let words = [
-        FactWord::Of(test_text(test)),
-        FactWord::Of(type_text(elem_type)),
-        FactWord::Named(name.as_bytes()),
-        FactWord::Of(b"it belongs to"),
-        FactWord::Of(found.fmid.as_bytes()),
-    ];
+    let code = FactWord::Of(test_text(test));
+    let elem_type = FactWord::Of(type_text(elem_type));
+    let name = FactWord::Named(name.as_bytes());
+    let belongs = FactWord::Of(b"it belongs to");
+    let owner = FactWord::Of(found.fmid.as_bytes());
+    let words = [code, elem_type, name, belongs, owner];
     put_words(b"   ", &words, text)
 }
 
 // Of an element that is there.
-fn put_there(
+fn put_there<'a>(
     test: Test,
     elem_type: ElemType,
-    name: &Name,
-    found: &Found,
+    name: &'a Name,
+    found: &'a Found,
     text: &mut Vec<u8>,
 ) -> Result<(), AllocError>
     ensures { OnOk result (text.new.items
@@ -190,21 +187,20 @@ fn put_missing(
     if !fails {
         return Ok(());
     }
-    let words = [
-        FactWord::Of(test_text(test)),
-        FactWord::Of(type_text(elem_type)),
-        FactWord::Named(name.as_bytes()),
-        FactWord::Of(b"there is none to update"),
-    ];
+    let code = FactWord::Of(test_text(test));
+    let elem_type = FactWord::Of(type_text(elem_type));
+    let name = FactWord::Named(name.as_bytes());
+    let none = FactWord::Of(b"there is none to update");
+    let words = [code, elem_type, name, none];
     put_words(b"   ", &words, text)
 }
 
-fn put_element(
+fn put_element<'a>(
     test: Test,
     elem_type: ElemType,
-    name: &Name,
+    name: &'a Name,
     replaces: bool,
-    found: &Option<Found>,
+    found: &'a Option<Found>,
     text: &mut Vec<u8>,
 ) -> Result<(), AllocError>
     ensures { OnOk result (text.new.items ≡ text.old.items
@@ -231,60 +227,56 @@ fn put_ver(
     if !fails {
         return Ok(());
     }
-    let words = [
-        FactWord::Of(test_text(test)),
-        FactWord::Of(b"VER"),
-        FactWord::Number(number),
-        FactWord::Of(b"FMID"),
-        FactWord::Of(id_text(fmid)),
-        FactWord::Of(b"fits"),
-    ];
+    let code = FactWord::Of(test_text(test));
+    let ver = FactWord::Of(b"VER");
+    let number = FactWord::Number(number);
+    let of_fmid = FactWord::Of(b"FMID");
+    let fmid = FactWord::Of(id_text(fmid));
+    let fits_word = FactWord::Of(b"fits");
+    let words = [code, ver, number, of_fmid, fmid, fits_word];
     put_words(b"   ", &words, text)
 }
 
-fn put_delete(test: Test, id: Id, own: bool, text: &mut Vec<u8>) -> Result<(), AllocError>
-    ensures { OnOk result (text.new.items ≡ text.old.items ++ reason test (DeleteFact id own)) }
+fn put_delete(test: Test, id: &Id, own: bool, text: &mut Vec<u8>) -> Result<(), AllocError>
+    ensures { OnOk result (text.new.items ≡ text.old.items ++ reason test (DeleteFact id.now own)) }
 {
     let fails = by_delete(test) && own;
     if !fails {
         return Ok(());
     }
-    let words = [
-        FactWord::Of(test_text(test)),
-        FactWord::Of(b"DELETE"),
-        FactWord::Of(id.as_bytes()),
-        FactWord::Of(b"is in its own chain"),
-    ];
+    let code = FactWord::Of(test_text(test));
+    let delete = FactWord::Of(b"DELETE");
+    let id = FactWord::Of(id.as_bytes());
+    let chain = FactWord::Of(b"is in its own chain");
+    let words = [code, delete, id, chain];
     put_words(b"   ", &words, text)
 }
 
-fn put_npre(test: Test, id: Id, applied: bool, text: &mut Vec<u8>) -> Result<(), AllocError>
-    ensures { OnOk result (text.new.items ≡ text.old.items ++ reason test (NpreFact id applied)) }
+fn put_npre(test: Test, id: &Id, applied: bool, text: &mut Vec<u8>) -> Result<(), AllocError>
+    ensures { OnOk result (text.new.items ≡ text.old.items ++ reason test (NpreFact id.now applied)) }
 {
     let fails = by_npre(test) && applied;
     if !fails {
         return Ok(());
     }
-    let words = [
-        FactWord::Of(test_text(test)),
-        FactWord::Of(b"NPRE"),
-        FactWord::Of(id.as_bytes()),
-        FactWord::Of(b"is applied"),
-    ];
+    let code = FactWord::Of(test_text(test));
+    let npre = FactWord::Of(b"NPRE");
+    let id = FactWord::Of(id.as_bytes());
+    let applied_word = FactWord::Of(b"is applied");
+    let words = [code, npre, id, applied_word];
     put_words(b"   ", &words, text)
 }
 
-fn put_forbidden(test: Test, id: Id, text: &mut Vec<u8>) -> Result<(), AllocError>
-    ensures { OnOk result (text.new.items ≡ text.old.items ++ reason test (ForbiddenFact id)) }
+fn put_forbidden(test: Test, id: &Id, text: &mut Vec<u8>) -> Result<(), AllocError>
+    ensures { OnOk result (text.new.items ≡ text.old.items ++ reason test (ForbiddenFact id.now)) }
 {
     if !by_npre(test) {
         return Ok(());
     }
-    let words = [
-        FactWord::Of(test_text(test)),
-        FactWord::Of(id.as_bytes()),
-        FactWord::Of(b"is applied and has it in NPRE"),
-    ];
+    let code = FactWord::Of(test_text(test));
+    let id = FactWord::Of(id.as_bytes());
+    let forbids = FactWord::Of(b"is applied and has it in NPRE");
+    let words = [code, id, forbids];
     put_words(b"   ", &words, text)
 }
 
@@ -308,10 +300,10 @@ fn put_reason(test: Test, fact: &Fact<'_>, text: &mut Vec<u8>) -> Result<(), All
             replaces,
             found,
         } => put_element(test, *elem_type, name, *replaces, found, text),
-        Fact::Delete { id, own } => put_delete(test, *id, *own, text),
+        Fact::Delete { id, own } => put_delete(test, id, *own, text),
         Fact::Takes(_) => Ok(()),
-        Fact::Npre { id, applied } => put_npre(test, *id, *applied, text),
-        Fact::Forbidden(id) => put_forbidden(test, *id, text),
+        Fact::Npre { id, applied } => put_npre(test, id, *applied, text),
+        Fact::Forbidden(id) => put_forbidden(test, id, text),
         Fact::Needed(_) => Ok(()),
     }
 }
@@ -325,10 +317,9 @@ pub(crate) fn put_test(
     ensures { OnOk result (text.new.items ≡ text.old.items ++ test_told (map fact_view facts.now) test) }
 {
     if by_target(test) {
-        let words = [
-            FactWord::Of(test_text(test)),
-            FactWord::Of(b"no related target zone has applied it"),
-        ];
+        let code = FactWord::Of(test_text(test));
+        let none = FactWord::Of(b"no related target zone has applied it");
+        let words = [code, none];
         return put_words(b"   ", &words, text);
     }
     for fact in facts {

@@ -1,15 +1,30 @@
-use Rattle.std.proofs.Common.{◌∙◌, arith, refl}
-use Rattle.terms.proofs.BesideLists.{beside_next, beside_through}
-use Rattle.report_why.specs.Views.{AreIdFacts}
+use Rattle.std.proofs.Common.{◌∙◌, [], ◌∷◌, ◌++◌, All, ap, arith, map, refl, subst, sym, take, take_all}
+use Rattle.std.proofs.lemmas.List.{map-append}
+use Rattle.std.proofs.lemmas.List.Elements.{All-append, All-cons, All-nil}
+use Rattle.terms.proofs.Lists.{front_more}
+use Rattle.report_why.specs.Views.{HasFacts}
 use Rattle.report_why.proofs.facts.facts_of.Goals as goal
+
+pub loop-id-init : goal.loop-id-init
+loop-id-init c =
+    let none = c.new-found.ensures.items in
+    let has = HasFacts c.args.global.now c.args.zone.now in
+    (ap (map (λ of. of.id)) none, subst (All has) (sym none) (All-nil has))
 
 pub loop-id-preserved : goal.loop-id-preserved
 loop-id-preserved c =
-    beside_next (λ n x of. AreIdFacts c.args.global.now c.args.zone.now x of) c.args.ids.now c.loop-id.found.items
-    c.push-in-loop-id.new.self.items c.loop-id.id-index c.id-item.result _ (omega arith) c.id-item.is
-    c.in_ok-push-in-loop-id.ensures.items (refl, c.in_ok-facts.ensures) c.loop-id.invariant
+    let has = HasFacts c.args.global.now c.args.zone.now in
+    let old = c.loop-id.found.items in
+    let made = c.in_ok-push-in-loop-id.ensures.items in (
+      ap (map (λ of. of.id)) made ∙ map-append (λ of. of.id) old _
+          ∙ ap (λ l. l ++ c.id-item.result ∷ []) c.loop-id.invariant.0
+          ∙ sym (front_more c.args.ids.now c.loop-id.id-index c.id-item.result (omega arith) c.id-item.is),
+      subst (All has) (sym made)
+          (All-append has old _ c.loop-id.invariant.1 (All-cons has _ [] c.in_ok-facts.ensures (All-nil has))),
+    )
 
-pub returns : goal.returns
-returns c =
-    beside_through (λ n x of. AreIdFacts c.args.global.now c.args.zone.now x of) c.args.ids.now c.loop-id.found.items
-    c.loop-id.id-index (omega arith) c.loop-id.invariant
+pub returns-clause-ids : goal.returns-clause-ids
+returns-clause-ids c = c.loop-id.invariant.0 ∙ take_all c.loop-id.id-index c.args.ids.now (omega arith)
+
+pub returns-clause-facts : goal.returns-clause-facts
+returns-clause-facts c = c.loop-id.invariant.1

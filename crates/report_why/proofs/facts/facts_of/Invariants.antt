@@ -1,6 +1,5 @@
-use Rattle.std.proofs.Common.{◌≡◌, ◌++◌, map, take}
-use Rattle.terms.specs.Beside.{Beside}
-use Rattle.report_why.specs.Views.{AreIdFacts}
+use Rattle.std.proofs.Common.{◌≡◌, ◌++◌, All, map, take}
+use Rattle.report_why.specs.Views.{HasFacts}
 use Rattle.report_why.proofs.facts.facts_of.Given as goal
 
 -- with those of the SYSMODs that are left they are all
@@ -10,4 +9,4 @@ invariant-loop-sysmod l =
 
 abbrev pub invariant-loop-id : goal.invariant-loop-id
 invariant-loop-id l =
-    Beside (λ n x of. AreIdFacts l.global l.zone x of) (take l.id-index l.ids) l.found.items
+    (map (λ of. of.id) l.found.items ≡ take l.id-index l.ids) × All (HasFacts l.global l.zone) l.found.items
