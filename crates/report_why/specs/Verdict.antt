@@ -1,6 +1,6 @@
 -- What an APPLY or ACCEPT would make of an id, in words: what its line says, with what each failed test and each open
 -- need rests on. The words name the facts of the id.
-use Rattle.std.specs.Prelude.{◌&&◌, Bool, true, false, not, List, [], ◌∷◌, ◌++◌, Option, None, Some, codes, decimal, filter}
+use Rattle.std.specs.Prelude.{◌&&◌, Bool, true, false, not, List, [], ◌∷◌, ◌++◌, Option, None, Some, codes, decimal}
 use Rattle.std.specs.Prelude.{if◌then◌else◌}
 use Rattle.std.specs.List.{flat_map}
 use Rattle.std.specs.Str.{bytes_eq}
@@ -153,14 +153,13 @@ need_told facts n = need_line n (supply_words (first_answer n.kind n.id facts))
 
 -- ---- the verdict
 
--- the causers of a failure, but for x itself
-abbrev pub causers_told : Id → List Id → Text
-causers_told x causers =
-    flat_map (λ y. inner_line (codes "CAUSER" ∷ y ∷ [])) (filter (λ y. not (bytes_eq x y)) causers)
+-- a causer of a failure, but for x itself
+abbrev pub causer_told : Id → Id → Text
+causer_told x y = if bytes_eq x y then [] else inner_line (codes "CAUSER" ∷ y ∷ [])
 
 abbrev pub failure_told : Id → List Fact → Failure → Text
 failure_told x facts f =
-    flat_map (test_told facts) f.tests ++ flat_map (need_told facts) f.needs ++ causers_told x f.causers
+    flat_map (test_told facts) f.tests ++ flat_map (need_told facts) f.needs ++ flat_map (causer_told x) f.causers
 
 -- what would become of it; an id that is no candidate has the word of its line
 abbrev pub verdict_word : Status → Text

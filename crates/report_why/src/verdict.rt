@@ -1,11 +1,12 @@
 //! What APPLY or ACCEPT would make of an id, in words. An error comes where memory runs out.
 ghost use Rattle.std.specs.Prelude.{◌≡◌, ◌++◌, ◌∷◌, ◌&&◌, [], Some, map, option_map, OnOk};
+ghost use Rattle.std.specs.List.{flat_map};
 ghost use Rattle.std.specs.Str.{bytes_eq};
 ghost use Rattle.terms.specs.Spelling.{need_text};
 ghost use Rattle.judge_system.specs.Views.{need_view, failure_view};
 ghost use Rattle.report.specs.Views.{status_view, line_view};
 ghost use Rattle.report_why.specs.Facts.{Open};
-ghost use Rattle.report_why.specs.Verdict.{answered, first_answer, supply_words, need_line, need_told, causers_told};
+ghost use Rattle.report_why.specs.Verdict.{answered, first_answer, supply_words, need_line, need_told, causer_told, test_told};
 ghost use Rattle.report_why.specs.Verdict.{failure_told, verdict_word, status_told, verdict_told, verdict_text};
 ghost use Rattle.report_why.specs.Views.{answer_view, fact_view};
 
@@ -17,7 +18,7 @@ use fields::spelling::need_text;
 use judge_system::{Failure, OpenNeed};
 use report::{ReportLine, Status};
 use std::alloc::AllocError;
-use terms::NeedKind;
+use terms::{NeedKind, Test};
 
 // Whether the kind and the id are those of the need.
 fn is_of(need: &OpenNeed, kind: NeedKind, id: &[u8]) -> bool
@@ -115,14 +116,51 @@ fn put_need<'a>(facts: &'a [Fact<'_>], need: &'a OpenNeed, text: &mut Vec<u8>) -
     put_answer(need, first_answer(need, facts), text)
 }
 
+// Appends the line of a causer other than the id itself.
+fn put_causer(id: Id, causer: &Id, text: &mut Vec<u8>) -> Result<(), AllocError>
+    ensures { OnOk result (text.new.items ≡ text.old.items ++ causer_told id causer.now) }
+{
+    if id == *causer {
+        return Ok(());
+    }
+    let word = FactWord::Of(b"CAUSER");
+    let causer = FactWord::Of(causer.as_bytes());
+    put_words(b"   ", &[word, causer], text)
+}
+
+fn put_tests(
+    facts: &[Fact<'_>],
+    tests: &[Test],
+    text: &mut Vec<u8>,
+) -> Result<(), AllocError>
+    ensures { OnOk result (text.new.items
+        ≡ text.old.items ++ flat_map (test_told (map fact_view facts.now)) tests.now) }
+{
+    for failed in tests {
+        put_test(facts, *failed, text)?;
+    }
+    Ok(())
+}
+
+fn put_needs<'a>(
+    facts: &'a [Fact<'_>],
+    needs: &'a [OpenNeed],
+    text: &mut Vec<u8>,
+) -> Result<(), AllocError>
+    ensures { OnOk result (text.new.items
+        ≡ text.old.items ++ flat_map (need_told (map fact_view facts.now)) (map need_view needs.now)) }
+{
+    for need in needs {
+        put_need(facts, need, text)?;
+    }
+    Ok(())
+}
+
 fn put_causers(id: Id, causers: &[Id], text: &mut Vec<u8>) -> Result<(), AllocError>
-    ensures { OnOk result (text.new.items ≡ text.old.items ++ causers_told id causers.now) }
+    ensures { OnOk result (text.new.items ≡ text.old.items ++ flat_map (causer_told id) causers.now) }
 {
     for causer in causers {
-        if *causer != id {
-            let words = [FactWord::Of(b"CAUSER"), FactWord::Of(causer.as_bytes())];
-            put_words(b"   ", &words, text)?;
-        }
+        put_causer(id, causer, text)?;
     }
     Ok(())
 }
@@ -136,12 +174,8 @@ fn put_failure<'a>(
     ensures { OnOk result (text.new.items
         ≡ text.old.items ++ failure_told id (map fact_view facts.now) (failure_view failure.now)) }
 {
-    for test in failure.tests.as_slice() {
-        put_test(facts, *test, text)?;
-    }
-    for need in failure.needs.as_slice() {
-        put_need(facts, need, text)?;
-    }
+    put_tests(facts, failure.tests.as_slice(), text)?;
+    put_needs(facts, failure.needs.as_slice(), text)?;
     put_causers(id, failure.causers.as_slice(), text)
 }
 
