@@ -15,7 +15,8 @@ pub record IsZoneAdded (zone : NamedZone) (i j : Inventory) : Type 0 where
   pub was : i.zones ≡ before ++ after
   pub is : j ≡ record { global = i.global; zones = before ++ zone ∷ after }
 
--- The second is what the change makes of the first. A change of a zone has one edit at a key, and knows what stood there.
+-- The second is what the change makes of the first. A change of a zone has one edit at a key, and knows what stood
+-- there.
 abbrev pub Makes : Change → Inventory → Inventory → Type 0
 Makes (NewZone name kind srel related) i j = IsZoneAdded (empty_zone name kind srel related) i j
 Makes (Zone name delta) i j =

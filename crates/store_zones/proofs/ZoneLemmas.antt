@@ -1,7 +1,7 @@
 -- What the tables hold when a zone's entries or elements change.
 use Rattle.std.proofs.Common.{◌≡◌, ◌≢◌, List, [], ◌∷◌, ◌++◌, map, filter, Bool, not, ◌&&◌, IsPermutation, refl, sym}
 use Rattle.std.proofs.Common.{ap, ap₂, subst, subst₂, ◌∙◌, Option, None, Some, IfSome, is_some, slice_get}
-use Rattle.std.specs.Prelude.{option_map}
+use Rattle.std.specs.Prelude.{ℕ, option_map}
 use Rattle.std.specs.List.{AllByRecursion, flat_map}
 use Rattle.std.specs.Option.{option_to_list}
 use Rattle.std.specs.Str.{bytes_eq}
@@ -34,7 +34,7 @@ use Rattle.store_schema.proofs.Spelled.{types_alike}
 use Rattle.store_zones.specs.Elements.{element_key}
 use Rattle.store_zones.specs.Entries.{entry_key}
 use Rattle.store_zones.specs.declared.installed_vers.EntryNumber.{EntryNumber}
-use Rattle.store_zones.specs.Chosen.{number_row}
+use Rattle.store_zones.specs.Chosen.{number_before, number_row}
 use Rattle.store_zones.specs.Numbered.{numbers_of}
 use Rattle.store_zones.specs.Zones.{IsZoneChange, HasEntry, is_element, entries_but, elements_but, HasPutEntry}
 use Rattle.store_zones.specs.Zones.{HasRemovedEntry, HasPutElement, HasRemovedElement, numbered, rows_with}
@@ -303,27 +303,36 @@ module _ (i j : Inventory) (name : terms.Text) (was is : Zone) (c : IsZoneChange
       (number_rows id stood was (of_key (λ (e : Entry). e.id) id stood was.entries had)
       (parted (λ (e : Entry). bytes_eq e.id id) stood was.entries had)) (number_rows id o is here same)
 
-  pub entry_put : (old : Option Entry) (e : Entry) (db : Database) → HasPutEntry old e was is
-      → HasContents store_schema (with_entry name (option_map number_of old) e (rows_of i)) db
+  -- `old` stood there, which was installed by this number
+  pub entry_put : (old : Option Entry) (stood : Option ℕ) (e : Entry) (db : Database) → option_map number_of old ≡ stood
+      → HasPutEntry old e was is → HasContents store_schema (with_entry name stood e (rows_of i)) db
       → HasContents store_schema (rows_of j) db
-  entry_put old e db p =
+  entry_put old stood e db same p =
       let key = entry_key name e.id in
-      let stood = option_map number_of old in
-      let rows = row_put (entry_row name) key (entry_row name e) old _ _
+      let olds = flat_map entries_of (c.before ++ old_zone ∷ c.after) in
+      let news = flat_map entries_of (c.before ++ new_zone ∷ c.after) in
+      let rows = row_put (entry_row name) key (entry_row name e) old olds news
       (entry_rows e.id (option_to_list old) was (parted (λ (x : Entry). bytes_eq x.id e.id) old was.entries p.was))
       (entry_rows e.id (e ∷ []) is p.entries) in
       permuted store_schema (with_entry name stood e (rows_of i)) (rows_of j) db
-      (by_entries (rows_with (is_some stood) key (entry_row name e)) (numbered name e.id (number_at old) (number_of e))
-      p.rest (subst (λ b. IsPermutation _ (rows_with b key (entry_row name e) _)) (is_mapped number_of old) rows)
-      (numbers_changed e.id old (Some e) p.was refl p.entries))
+      (by_entries (rows_with (is_some stood) key (entry_row name e))
+      (numbered name e.id (number_before stood) (number_of e)) p.rest
+      (subst (λ b. IsPermutation news (rows_with b key (entry_row name e) olds))
+      (is_mapped number_of old ∙ ap is_some same) rows)
+      (subst (λ n. IsPermutation (flat_map chosen_of (c.before ++ new_zone ∷ c.after))
+      (numbered name e.id n (number_of e) (flat_map chosen_of (c.before ++ old_zone ∷ c.after))))
+      (ap number_before same) (numbers_changed e.id old (Some e) p.was refl p.entries)))
 
-  pub entry_removed : (old : Option Entry) (id : terms.Id) (db : Database) → HasRemovedEntry old id was is
-      → HasContents store_schema (without_entry name (option_map number_of old) id (rows_of i)) db
-      → HasContents store_schema (rows_of j) db
-  entry_removed old id db p =
-      permuted store_schema (without_entry name (option_map number_of old) id (rows_of i)) (rows_of j) db
-      (by_entries (without (entry_key name id)) (numbered name id (number_at old) 1) p.rest
-      (entry_rows id [] is p.entries) (numbers_changed id old None p.was tt p.entries))
+  pub entry_removed : (old : Option Entry) (stood : Option ℕ) (id : terms.Id) (db : Database)
+      → option_map number_of old ≡ stood → HasRemovedEntry old id was is
+      → HasContents store_schema (without_entry name stood id (rows_of i)) db → HasContents store_schema (rows_of j) db
+  entry_removed old stood id db same p =
+      permuted store_schema (without_entry name stood id (rows_of i)) (rows_of j) db
+      (by_entries (without (entry_key name id)) (numbered name id (number_before stood) 1) p.rest
+      (entry_rows id [] is p.entries)
+      (subst (λ n. IsPermutation (flat_map chosen_of (c.before ++ new_zone ∷ c.after))
+      (numbered name id n 1 (flat_map chosen_of (c.before ++ old_zone ∷ c.after))))
+      (ap number_before same) (numbers_changed id old None p.was tt p.entries)))
 
   -- what `zelem` holds of a zone that has these elements of the type and name and its others
   element_rows : (type : ElemType) (x : terms.Text) (front : List Element) (zone : Zone)
@@ -335,17 +344,21 @@ module _ (i j : Inventory) (name : terms.Text) (was is : Zone) (c : IsZoneChange
       rows_changed zelem_row name (element_key name type x) (is_element type x)
       (λ other y. element_meets other name type x y) (λ z. z.elements) c.before c.after was zone front c.others same
 
-  pub element_put : (old : Option Element) (e : Element) (db : Database) → HasPutElement old e was is
-      → HasContents store_schema (with_element name (is_some old) e (rows_of i)) db
+  -- whether one stood there
+  pub element_put : (old : Option Element) (stood : Bool) (e : Element) (db : Database) → is_some old ≡ stood
+      → HasPutElement old e was is → HasContents store_schema (with_element name stood e (rows_of i)) db
       → HasContents store_schema (rows_of j) db
-  element_put old e db p =
+  element_put old stood e db same p =
       let key = element_key name e.elem_type e.name in
-      permuted store_schema (with_element name (is_some old) e (rows_of i)) (rows_of j) db
-      (by_elements (rows_with (is_some old) key (zelem_row name e)) p.rest
-      (row_put (zelem_row name) key (zelem_row name e) old _ _
+      let olds = flat_map zelems_of (c.before ++ old_zone ∷ c.after) in
+      let news = flat_map zelems_of (c.before ++ new_zone ∷ c.after) in
+      permuted store_schema (with_element name stood e (rows_of i)) (rows_of j) db
+      (by_elements (rows_with stood key (zelem_row name e)) p.rest
+      (subst (λ b. IsPermutation news (rows_with b key (zelem_row name e) olds)) same
+      (row_put (zelem_row name) key (zelem_row name e) old olds news
       (element_rows e.elem_type e.name (option_to_list old) was
       (parted (is_element e.elem_type e.name) old was.elements p.was))
-      (element_rows e.elem_type e.name (e ∷ []) is p.elements)))
+      (element_rows e.elem_type e.name (e ∷ []) is p.elements))))
 
   pub element_removed : (type : ElemType) (x : terms.Text) (db : Database) → HasRemovedElement type x was is
       → HasContents store_schema (in_table zelem (without (element_key name type x)) (rows_of i)) db

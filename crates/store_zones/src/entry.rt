@@ -64,8 +64,21 @@ pub fn put_entry<S: Alter>(
 {
     let supby = joined_ids(alloc, entry.supby.as_slice())?;
     let waived = joined_ids(alloc, entry.waived.as_slice())?;
-    put_row(tx, &zone, stood.is_some(), entry, supby.as_slice(), waived.as_slice())?;
-    change_number(tx, &zone, &entry.id, number_before(stood), entry.number().get())
+    put_row(
+        tx,
+        &zone,
+        stood.is_some(),
+        entry,
+        supby.as_slice(),
+        waived.as_slice(),
+    )?;
+    change_number(
+        tx,
+        &zone,
+        &entry.id,
+        number_before(stood),
+        entry.number().get(),
+    )
 }
 
 // The date of APPLY or ACCEPT, or NULL.

@@ -2,12 +2,13 @@ use Rattle.std.proofs.Common.{◌≡◌, ◌∙◌, ◌++◌, [], ◌∷◌, IsP
 use Rattle.std.proofs.Common.{take_all}
 use Rattle.std.specs.Prelude.{fold}
 use Rattle.std.proofs.lemmas.List.{take_more}
+use Rattle.std.proofs.lemmas.Result.{IfOk-weaker}
 use Rattle.terms.specs.Types.{Zone}
 use Rattle.terms.specs.Lookups.{is_in, waives_applied}
-use Rattle.terms.specs.Restore.{Restores}
-use Rattle.zones_maps.specs.Delta.{IsEdited}
+use Rattle.terms.specs.Restore.{Restoring, Restores}
+use Rattle.zones_maps.specs.Delta.{IsEdited, IsChanged}
 use Rattle.zones_maps.specs.Differing.{EachChanges}
-use Rattle.change.specs.Restoring.{all_changed, take_off, ArePutBack}
+use Rattle.change.specs.Restoring.{IsRestoringOf, all_changed, take_off, ArePutBack}
 use Rattle.change.proofs.AfterRestore.{elements_none, each_changes, restored}
 use Rattle.change.proofs.LessEdits.{one_more}
 use Rattle.change.proofs.Reverted.{put_back_none, put_back_next}
@@ -64,10 +65,13 @@ returns-clause-restores c =
     let back : ArePutBack c.args.zone.now c.args.accepted.now sorted c.loop-entry.zone_edits c.loop-key.zone_edits =
     subst (λ ks. ArePutBack c.args.zone.now c.args.accepted.now ks c.loop-entry.zone_edits c.loop-key.zone_edits)
     (take_all c.loop-key.key-index keys (omega arith) ∙ c.as_slice-key-items.ensures.value) c.loop-key.invariant in
-    λ r of. subst (λ edits. (new : Zone) → IsEdited edits c.args.zone.now new → Restores r kept new)
-    (sym c.in_ok-of.ensures.0)
+    IfOk-weaker c.of.result _ (λ delta. (r : Restoring) → IsRestoringOf r g c.args.zone.now c.args.accepted.now
+    → (new : Zone) → IsChanged delta c.args.zone.now new → Restores r kept new)
+    (λ delta made r of. subst (λ edits. (new : Zone) → IsEdited edits c.args.zone.now new → Restores r kept new)
+    (sym made.0)
     (restored g c.args.zone.now c.args.accepted.now kept c.attest.ensures _ _ _
-    c.new-zone_edits.ensures.entries taken_off _ changed back r of)
+    c.new-zone_edits.ensures.entries taken_off _ changed back r of))
+    c.of.ensures
 
 pub returns-clause-differs : goal.returns-clause-differs
 returns-clause-differs c =
@@ -87,6 +91,8 @@ returns-clause-differs c =
     let back : ArePutBack c.args.zone.now c.args.accepted.now sorted c.loop-entry.zone_edits c.loop-key.zone_edits =
     subst (λ ks. ArePutBack c.args.zone.now c.args.accepted.now ks c.loop-entry.zone_edits c.loop-key.zone_edits)
     (take_all c.loop-key.key-index keys (omega arith) ∙ c.as_slice-key-items.ensures.value) c.loop-key.invariant in
-    subst (EachChanges c.args.zone.now) (sym c.in_ok-of.ensures.0)
+    IfOk-weaker c.of.result _ (λ delta. EachChanges c.args.zone.now delta.edits)
+    (λ delta made. subst (EachChanges c.args.zone.now) (sym made.0)
     (each_changes g c.args.zone.now c.args.accepted.now kept c.attest.ensures _ _ _
-    c.new-zone_edits.ensures.entries taken_off _ changed back)
+    c.new-zone_edits.ensures.entries taken_off _ changed back))
+    c.of.ensures

@@ -1,4 +1,4 @@
-use Rattle.std.proofs.Common.{[], ◌∷◌, is_some, if◌then◌else◌, ap, sym, subst, rules}
+use Rattle.std.proofs.Common.{[], ◌∷◌, is_some, if◌then◌else◌, ap, ◌∙◌, rules}
 use Rattle.terms.specs.Types.{Entry}
 use Rattle.zones_maps.specs.Delta.{number_of}
 use Rattle.store_rows.specs.Rows.{HasContents, in_table}
@@ -10,7 +10,7 @@ use Rattle.store_schema.specs.Tables.{store_schema, entry, chosen}
 use Rattle.store_zones.specs.Calls.{number_calls}
 use Rattle.store_zones.specs.Entries.{insert_entry, put_entry, entry_key}
 use Rattle.store_zones.specs.Chosen.{number_before}
-use Rattle.store_zones.specs.Zones.{numbered, rows_with, with_entry}
+use Rattle.store_zones.specs.Zones.{numbered, rows_with}
 use Rattle.store_zones.proofs.ByNumber.{Renumbers, renumbers_as}
 use Rattle.store_zones.proofs.ZoneLemmas.{entry_put}
 use Rattle.store_zones.proofs.entry.put_entry.Given.{Over}
@@ -36,17 +36,14 @@ returns-clause-ok g c =
     (HasContents store_schema)
     (in_table entry (rows_with (is_some stood) (entry_key zone e.id) (entry_row zone e)))
     (in_table chosen (numbered zone e.id (number_before stood) (number_of e)))
-    c.change_number.ensures.continues.inside c.in_ok-put_row.ensures.ok)
+    c.change_number.ensures.continues.inside (rw c.is_some.ensures at c.in_ok-put_row.ensures.ok))
     (changed g (goal.at.returns-clause-ok g c).After-change_number).1
 
 pub returns-clause-stands : goal.returns-clause-stands
 returns-clause-stands g c =
-    let zone = c.args.zone in
-    let e = c.args.entry.now in
     on_ok c.change_number.result _ _ (λ turned old same i j was is change put clean held.
-    entry_put i j zone was is change old e _ put
-    (subst (λ stood. HasContents store_schema (with_entry zone stood e (rows_of i)) _) (sym same)
-    (turned clean (rows_of i) held))) (returns-clause-ok g c)
+    entry_put i j c.args.zone was is change old c.args.stood c.args.entry.now _ same put
+    (turned clean (rows_of i) held)) (returns-clause-ok g c)
 
 pub returns-clause-calls : goal.returns-clause-calls
 returns-clause-calls g c =
@@ -57,7 +54,7 @@ returns-clause-calls g c =
     (number_calls zone e.id (number_before stood) (number_of e)) c.args.tx.now.conn.now
     c.put_row.new.tx.conn.now c.change_number.new.tx.conn.now c.put_row.result (tt {0}) c.change_number.result
     c.put_row.ensures.continues.inside c.change_number.ensures.continues.inside c.in_ok-put_row.was
-    c.put_row.ensures.calls
+    (rw c.is_some.ensures at c.put_row.ensures.calls)
     (changed g (goal.at.returns-clause-calls g c).After-change_number).0
 
 pub returns-in_err-put_row-clause-calls : goal.returns-in_err-put_row-clause-calls
@@ -69,4 +66,4 @@ returns-in_err-put_row-clause-calls g c =
     (number_calls zone e.id (number_before stood) (number_of e)) c.args.tx.now.conn.now
     c.put_row.new.tx.conn.now c.put_row.result c.from_residual-in_err-put_row.result (search rules)
     (follows_err c.put_row.result _ _ c.in_err-put_row.was c.from_residual-in_err-put_row.ensures.1)
-    c.put_row.ensures.calls
+    (rw c.is_some.ensures at c.put_row.ensures.calls)

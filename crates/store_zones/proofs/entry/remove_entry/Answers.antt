@@ -1,4 +1,4 @@
-use Rattle.std.proofs.Common.{[], ◌∷◌, refl, sym, subst, rules}
+use Rattle.std.proofs.Common.{[], ◌∷◌, refl, rules}
 use Rattle.store_rows.specs.Rows.{HasContents, in_table, without}
 use Rattle.store_rows.proofs.CallLemmas.{runs_then, runs_err, follows_err}
 use Rattle.store_rows.proofs.InsideLemmas.{on_ok, turns_then}
@@ -7,7 +7,7 @@ use Rattle.store_schema.specs.Tables.{store_schema, entry, chosen}
 use Rattle.store_zones.specs.Calls.{number_calls}
 use Rattle.store_zones.specs.Entries.{delete_entry, entry_key}
 use Rattle.store_zones.specs.Chosen.{number_before}
-use Rattle.store_zones.specs.Zones.{numbered, without_entry}
+use Rattle.store_zones.specs.Zones.{numbered}
 use Rattle.store_zones.proofs.ByNumber.{Renumbers, renumbers_as}
 use Rattle.store_zones.proofs.ZoneLemmas.{entry_removed}
 use Rattle.store_zones.proofs.entry.remove_entry.Given.{Over}
@@ -35,12 +35,9 @@ returns-clause-ok g c =
 
 pub returns-clause-stands : goal.returns-clause-stands
 returns-clause-stands g c =
-    let zone = c.args.zone in
-    let id = c.args.id in
     on_ok c.change_number.result _ _ (λ turned old same i j was is change removed clean held.
-    entry_removed i j zone was is change old id _ removed
-    (subst (λ stood. HasContents store_schema (without_entry zone stood id (rows_of i)) _) (sym same)
-    (turned clean (rows_of i) held))) (returns-clause-ok g c)
+    entry_removed i j c.args.zone was is change old c.args.stood c.args.id _ same removed
+    (turned clean (rows_of i) held)) (returns-clause-ok g c)
 
 pub returns-clause-calls : goal.returns-clause-calls
 returns-clause-calls g c =
