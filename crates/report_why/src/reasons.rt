@@ -309,11 +309,7 @@ fn put_reason(test: Test, fact: &Fact<'_>, text: &mut Vec<u8>) -> Result<(), All
 }
 
 /// Appends the lines of a test that the id with these facts has failed.
-pub(crate) fn put_test(
-    facts: &[Fact<'_>],
-    test: Test,
-    text: &mut Vec<u8>,
-) -> Result<(), AllocError>
+pub(crate) fn put_test(facts: &[Fact<'_>], test: Test, text: &mut Vec<u8>) -> Result<(), AllocError>
     ensures { OnOk result (text.new.items ≡ text.old.items ++ test_told (map fact_view facts.now) test) }
 {
     if by_target(test) {

@@ -79,7 +79,11 @@ fn put_open<'a>(need: &'a OpenNeed, ids: &'a [Id], text: &mut Vec<u8>) -> Result
     put_words(b"   ", &words, text)
 }
 
-fn put_need_line<'a>(need: &'a OpenNeed, why: &'a [u8], text: &mut Vec<u8>) -> Result<(), AllocError>
+fn put_need_line<'a>(
+    need: &'a OpenNeed,
+    why: &'a [u8],
+    text: &mut Vec<u8>,
+) -> Result<(), AllocError>
     ensures { OnOk result (text.new.items ≡ text.old.items ++ need_line (need_view need.now) (why.now ∷ [])) }
 {
     let need_word = FactWord::Of(b"NEED");
@@ -110,7 +114,11 @@ fn put_answer<'a>(
 }
 
 // Appends the line of an open need of the id with these facts.
-fn put_need<'a>(facts: &'a [Fact<'_>], need: &'a OpenNeed, text: &mut Vec<u8>) -> Result<(), AllocError>
+fn put_need<'a>(
+    facts: &'a [Fact<'_>],
+    need: &'a OpenNeed,
+    text: &mut Vec<u8>,
+) -> Result<(), AllocError>
     ensures { OnOk result (text.new.items ≡ text.old.items ++ need_told (map fact_view facts.now) (need_view need.now)) }
 {
     put_answer(need, first_answer(need, facts), text)
@@ -128,11 +136,7 @@ fn put_causer(id: Id, causer: &Id, text: &mut Vec<u8>) -> Result<(), AllocError>
     put_words(b"   ", &[word, causer], text)
 }
 
-fn put_tests(
-    facts: &[Fact<'_>],
-    tests: &[Test],
-    text: &mut Vec<u8>,
-) -> Result<(), AllocError>
+fn put_tests(facts: &[Fact<'_>], tests: &[Test], text: &mut Vec<u8>) -> Result<(), AllocError>
     ensures { OnOk result (text.new.items
         ≡ text.old.items ++ flat_map (test_told (map fact_view facts.now)) tests.now) }
 {

@@ -297,12 +297,17 @@ module _ (g : Global) (zone : Zone) (x : Id) (facts : List Fact) (are : AreFacts
       by : (y : Id) → Contains ids y → Contains (if_reqs s.choice (bytes_eq x) y) z → (b : Bool) → bytes_eq x y ≡ b
           → Contains (if_reqs s.choice (λ f. is_applied (view_of s x) f || is_in (x ∷ []) f) x) z
           ⊎ Has (flat_map (conditions_of s.choice (bytes_eq x)) (filter (λ y. not (bytes_eq x y)) ids)) z
-      by y in has true e = inl (own_too (ifs_of s.choice x) z
+      by y within has true e = inl (own_too (ifs_of s.choice x) z
           (subst (λ w. Contains (if_reqs s.choice (bytes_eq x) w) z) (sym (same_from x y e)) has))
-      by y in has false e =
+      by y within has false e =
           let it = stated (bytes_eq x) y z has in
-          inr (it.0, in_flat (conditions_of s.choice (bytes_eq x)) _ y it.0
-              (in_filter (λ y. not (bytes_eq x y)) ids y in (ap not e)) it.1, it.2, it.3)
+          inr (
+            it.0,
+            in_flat (conditions_of s.choice (bytes_eq x)) _ y it.0
+                (in_filter (λ y. not (bytes_eq x y)) ids y within (ap not e)) it.1,
+            it.2,
+            it.3,
+          )
   stated_if false ids z is = absurd (none_in z is)
 
   by_condition : (z : Id) → Contains (asked s (x ∷ []) x Ifreq) z → Has (conditions s x) z

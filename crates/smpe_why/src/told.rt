@@ -92,8 +92,9 @@ fn lines_alone(
     let selection = only(alloc, id)?;
     let bypass = Bypass::none(alloc);
     let date = YyDdd::new(2000, 1);
-    let InstallChange { delta, lines } =
-        apply(alloc, global, zone, related, &selection, &bypass, date)?;
+    let InstallChange { delta, lines } = apply(
+        alloc, global, zone, related, &selection, &bypass, date,
+    )?;
     delta.attest();
     Ok(lines)
 }
@@ -104,16 +105,20 @@ fn only(alloc: Global, id: Id) -> Result<Selection, AllocError>
 {
     let mut select = IdList::new(alloc);
     select.insert(id)?;
+    let exclude = IdList::new(alloc);
+    let sourceid = SourceList::new(alloc);
+    let forfmid = IdList::new(alloc);
+    let group = IdList::new(alloc);
     Ok(Selection {
         functions: false,
         ptfs: false,
         apars: false,
         usermods: false,
         select,
-        exclude: IdList::new(alloc),
-        sourceid: SourceList::new(alloc),
-        forfmid: IdList::new(alloc),
-        group: IdList::new(alloc),
+        exclude,
+        sourceid,
+        forfmid,
+        group,
         groupextend: false,
     })
 }

@@ -1,6 +1,8 @@
-use Rattle.std.proofs.Common.{◌∙◌, ap, arith, map, subst, sym, take_all}
-use Rattle.std.specs.Prelude.{option_copied}
-use Rattle.std.proofs.lemmas.List.Elements.{All-get_or}
+use Rattle.std.proofs.Common.{◌∙◌, ◌×◌, All, ap, arith, map, subst, sym}
+use Rattle.std.specs.Prelude.{ℕ, option_copied}
+use Rattle.terms.specs.Beside.{Beside}
+use Rattle.terms.specs.Types.{Text, Id}
+use Rattle.terms.proofs.BesideLists.{beside_through}
 use Rattle.report_why.specs.Views.{HasFacts}
 use Rattle.smpe_why.specs.Telling.{IsToldOf}
 use Rattle.smpe_why.proofs.Parts.{told_none, told_more, beside_seen}
@@ -12,7 +14,11 @@ loop-of-init c =
     c.new.ensures.items
 
 pub tell_of-requires : goal.tell_of-requires
-tell_of-requires c = search rules
+tell_of-requires c =
+    let has = HasFacts c.args.global.now c.args.zone.now in
+    let all : All has c.as_slice-of-items.result.now =
+    subst (All has) (sym c.as_slice-of-items.ensures.value) c.in_ok-found.ensures.facts in
+    subst has (sym c.of-item.is) (all c.loop-of.of-index c.of-item.result (omega arith))
 
 pub loop-of-preserved : goal.loop-of-preserved
 loop-of-preserved c =
@@ -24,6 +30,14 @@ loop-of-preserved c =
 pub returns : goal.returns
 returns c =
     let items = c.as_slice-of-items.result.now in
-    let all = c.loop-of.invariant in
-    let told = subst (λ xs. _) (take_all c.loop-of.of-index items (omega arith)) all in
-    told
+    let told = λ (x : Id) (p : Text × ℕ). IsToldOf c.args.global.now c.args.zone.now (option_copied c.args.related) x p.0
+    p.1 in
+    let all = c.loop-of.invariant in (
+      all.parts,
+      subst (λ xs. Beside (λ n x p. told x p) xs all.parts)
+          (ap (map (λ of. of.id)) c.as_slice-of-items.ensures.value ∙ c.in_ok-found.ensures.ids)
+          (beside_seen told (λ of. of.id) items all.parts
+          (beside_through (λ n of p. told of.id p) items all.parts c.loop-of.of-index (omega arith) all.each)),
+      all.text_is,
+      all.code_is,
+    )
