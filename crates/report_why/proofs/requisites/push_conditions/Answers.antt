@@ -2,6 +2,7 @@ use Rattle.std.proofs.Common.{◌∙◌, ◌++◌, ◌&&◌, [], not, cond, filt
 use Rattle.std.specs.List.{flat_map}
 use Rattle.std.specs.Str.{bytes_eq}
 use Rattle.std.proofs.lemmas.Result.{IfOk-equal}
+use Rattle.terms.specs.Types.{Id}
 use Rattle.terms.specs.Lookups.{is_in, is_applied, is_function, applied_ids}
 use Rattle.terms.specs.Over.{chain}
 use Rattle.terms.specs.Deleted.{deletions}
@@ -34,7 +35,7 @@ returns c =
     let old = c.args.found.now.items in
     let own = conditions_of ch (is_there a) a.id in
     let stated = conditions_of ch (bytes_eq a.id) in
-    let other = λ y. is_applied (view_in a) y && not (bytes_eq a.id y) in
+    let other = λ (y : Id). is_applied (view_in a) y && not (bytes_eq a.id y) in
     IfOk-equal c.push_of_others.result c.push_of_others.new.found.items _ _ c.push_of_others.ensures
     (ap (λ l. l ++ flat_map stated (filter other a.applied.now)) (c.in_ok-push_own.ensures
     ∙ ap (λ ifs. old ++ flat_map (stated_by a.id) (filter (λ i. is_there a i.function) ifs)) c.ifs.ensures)

@@ -3,6 +3,7 @@ use Rattle.std.specs.Prelude.{ℕ, option_copied}
 use Rattle.terms.specs.Beside.{Beside}
 use Rattle.terms.specs.Types.{Text, Id}
 use Rattle.terms.proofs.BesideLists.{beside_through}
+use Rattle.report_why.specs.declared.fact.IdFacts.{IdFacts}
 use Rattle.report_why.specs.Views.{HasFacts}
 use Rattle.smpe_why.specs.Telling.{IsToldOf}
 use Rattle.smpe_why.proofs.Parts.{told_none, told_more, beside_seen}
@@ -10,7 +11,7 @@ use Rattle.smpe_why.proofs.told.told_in.Goals as goal
 
 pub loop-of-init : goal.loop-of-init
 loop-of-init c =
-    told_none (λ of text code. IsToldOf c.args.global.now c.args.zone.now (option_copied c.args.related) of.id text code) _
+    told_none (λ (of : IdFacts) (text : Text) (code : ℕ). IsToldOf c.args.global.now c.args.zone.now (option_copied c.args.related) of.id text code) _
     c.new.ensures.items
 
 pub tell_of-requires : goal.tell_of-requires
@@ -23,7 +24,7 @@ tell_of-requires c =
 pub loop-of-preserved : goal.loop-of-preserved
 loop-of-preserved c =
     let it = c.in_ok-tell_of.ensures in
-    told_more (λ of text code. IsToldOf c.args.global.now c.args.zone.now (option_copied c.args.related) of.id text code)
+    told_more (λ (of : IdFacts) (text : Text) (code : ℕ). IsToldOf c.args.global.now c.args.zone.now (option_copied c.args.related) of.id text code)
     c.as_slice-of-items.result.now c.loop-of.of-index c.of-item.result _ _ it.0 _ _ it.1 (omega arith) c.of-item.is
     c.loop-of.invariant it.2 it.3 it.4
 
