@@ -15,7 +15,7 @@ pub loop-id-preserved : goal.loop-id-preserved
 loop-id-preserved c =
     let has = HasFacts c.args.global.now c.args.zone.now in
     let old = c.loop-id.found.items in
-    let made = c.in_ok-push-in-loop-id.ensures.items in (
+    let made = c.in_ok-push-2.ensures.items in (
       ap (map (λ of. of.id)) made ∙ map-append (λ of. of.id) old _
           ∙ ap (λ l. l ++ c.id-item.result ∷ []) c.loop-id.invariant.0
           ∙ sym (front_more c.args.ids.now c.loop-id.id-index c.id-item.result (omega arith) c.id-item.is),

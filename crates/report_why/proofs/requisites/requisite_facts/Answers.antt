@@ -18,8 +18,12 @@ loop-requisite-preserved c =
 pub returns : goal.returns
 returns c =
     let a = c.args.asking.now in
-    subst (λ rs. Beside (λ n r fact. IsRequisiteFact (setting_in a) a.id r (fact_view fact)) rs
-    c.loop-requisite.facts.items) (c.as_slice-requisite-items.ensures.value ∙ c.in_ok-found.ensures)
-    (beside_through (λ n r fact. IsRequisiteFact (setting_in a) a.id r (fact_view fact))
-    c.as_slice-requisite-items.result.now
-    c.loop-requisite.facts.items c.loop-requisite.requisite-index (omega arith) c.loop-requisite.invariant)
+    let found = c.in_ok-found.ensures in (
+      found.0,
+      found.1,
+      subst (λ rs. Beside (λ n r fact. IsRequisiteFact (setting_in a) a.id r (fact_view fact)) rs
+          c.loop-requisite.facts.items) (c.as_slice-requisite-items.ensures.value ∙ found.2)
+          (beside_through (λ n r fact. IsRequisiteFact (setting_in a) a.id r (fact_view fact))
+          c.as_slice-requisite-items.result.now
+          c.loop-requisite.facts.items c.loop-requisite.requisite-index (omega arith) c.loop-requisite.invariant),
+    )

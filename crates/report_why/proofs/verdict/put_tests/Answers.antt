@@ -1,16 +1,21 @@
-use Rattle.std.proofs.Common.{◌++◌, ◌∙◌, ap, arith, map, sym, take_all}
+use Rattle.std.proofs.Common.{◌++◌, ◌∙◌, ap, append_assoc, arith, get_or, map, take, take_all}
 use Rattle.std.specs.List.{flat_map}
-use Rattle.std.proofs.lemmas.List.Folds.{flat_map-map}
+use Rattle.terms.specs.declared.codes.Test.TheVariants.{HeldBySystem}
+use Rattle.report.proofs.Texts.{flat_map_more}
 use Rattle.report_why.specs.Verdict.{test_told}
 use Rattle.report_why.specs.Views.{fact_view}
-use Rattle.report_why.proofs.TextParts.{flat_more}
 use Rattle.report_why.proofs.verdict.put_tests.Goals as goal
 
 pub loop-failed-preserved : goal.loop-failed-preserved
 loop-failed-preserved c =
-    flat_more (test_told (map fact_view c.args.facts.now)) c.args.tests.now c.loop-failed.failed-index c.failed-item.result c.args.text.now.items
-    c.loop-failed.text.items c.put_test.new.text.items (omega arith) c.failed-item.is c.loop-failed.invariant
+    let told = test_told (map fact_view c.args.facts.now) in
+    let tests = c.args.tests.now in
+    let i = c.loop-failed.failed-index in
+    let old = c.args.text.now.items in
     c.in_ok-put_test.ensures
+    ∙ ap (λ t. t ++ told (get_or tests i HeldBySystem)) c.loop-failed.invariant
+    ∙ append_assoc old (flat_map told (take i tests)) (told (get_or tests i HeldBySystem))
+    ∙ ap (λ l. old ++ l) (flat_map_more told tests i HeldBySystem c.loop-failed-test.true)
 
 pub returns : goal.returns
 returns c =
