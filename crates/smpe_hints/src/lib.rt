@@ -7,5 +7,5 @@ mod card;
 mod operand;
 mod report;
 
-pub use operand::operand_hint;
+pub use operand::{empty_hint, operand_hint};
 pub use report::{ReadFile, ReportWatch};

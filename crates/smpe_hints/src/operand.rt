@@ -121,3 +121,14 @@ fn missing_hint(alloc: Global, words: Words<'_>) -> Result<Option<String>, Alloc
     }
     Ok(None)
 }
+
+/// What is said of a job that has printed nothing.
+pub fn empty_hint(alloc: Global, words: &[Vec<u8>]) -> Result<Option<String>, AllocError> {
+    let words = Words { words };
+    match words.value("--cntl") {
+        Some(name) if words.at(1) == Some("run") => {
+            Ok(Some(format!(in alloc; "{name} has no command")?))
+        }
+        _ => Ok(None),
+    }
+}

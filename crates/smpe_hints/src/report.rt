@@ -43,6 +43,9 @@ pub struct ReportWatch {
     line: Vec<u8>,
     lines: usize,
     first: String,
+    /// The header of the last command, and how many have ended.
+    header: String,
+    ended: usize,
     /// The zone that the last SET named, until it was accepted.
     meant: Option<String>,
     /// Whether that SET was refused.
@@ -57,6 +60,8 @@ impl ReportWatch {
             line: Vec::new(alloc),
             lines: 0,
             first: String::new(alloc),
+            header: String::new(alloc),
+            ended: 0,
             meant: None,
             is_refused: false,
             remarks: Vec::new(alloc),
@@ -66,6 +71,16 @@ impl ReportWatch {
     /// The first line, if it has ended.
     pub fn first_line(&self) -> &str {
         self.first.as_str()
+    }
+
+    /// How many commands have ended.
+    pub fn ended(&self) -> usize {
+        self.ended
+    }
+
+    /// The header of the last command.
+    pub fn header(&self) -> &str {
+        self.header.as_str()
     }
 
     /// The next bytes of the report.
@@ -87,6 +102,9 @@ impl ReportWatch {
         if self.lines == 0 {
             self.first = String::from_str(self.alloc, line.as_str())?;
         }
+        if line.as_str().starts_with("RC ") {
+            self.ended = self.ended.saturating_add(1);
+        }
         self.lines = self.lines.saturating_add(1);
         Ok(())
     }
@@ -107,11 +125,13 @@ impl ReportWatch {
                 Ok(())
             }
             ("SET", zone) => {
+                self.header = String::from_str(self.alloc, line)?;
                 self.meant = Some(String::from_str(self.alloc, zone)?);
                 self.is_refused = false;
                 Ok(())
             }
             ("RECEIVE" | "REJECT" | "APPLY" | "ACCEPT" | "RESTORE" | "LIST" | "REPORT", zone) => {
+                self.header = String::from_str(self.alloc, line)?;
                 self.follow_command(first, zone)
             }
             _ => Ok(()),
@@ -203,7 +223,7 @@ fn told(
             zone,
             meant,
         } => Ok(Some(format!(in alloc;
-            "SET BDY({meant}) was refused, and {command} ran in the zone before it, {zone}; with --careful, nothing runs"
+            "SET BDY({meant}) was refused, and {command} ran in the zone before it, {zone}"
         )?)),
         Remark::NoZone(zone) => Ok(Some(format!(in alloc;
             "zone {zone} is not defined in this database; smpe zone defines one"

@@ -15,15 +15,20 @@ use host::ProgramHost;
 use report::Out;
 use smpe_command::command;
 use smpe_hints::ReportWatch;
+use std::alloc::AllocError;
 use std::process::ExitCode;
 use telling::tell;
-use watched::Watched;
+use watched::{Progress, Watched};
 
 fn main(rt: HostRuntime) -> ExitCode {
     let words = words(&rt);
     let mut host = ProgramHost::new(&rt, makes_database(&words));
-    let mut out = Watched::new(Out::new(rt.stdout()), ReportWatch::new(rt.alloc()));
-    let mut err = Watched::new(Out::new(rt.stderr()), ReportWatch::new(rt.alloc()));
+    let mut out = Watched::new(
+        Out::new(rt.stdout()),
+        ReportWatch::new(rt.alloc()),
+        Progress::new(&rt),
+    );
+    let mut err = Watched::new(Out::new(rt.stderr()), ReportWatch::new(rt.alloc()), None);
     let status = command(rt.alloc(), &mut host, &words, &mut out, &mut err);
     if let Ok(words) = &words {
         tell(&rt, words.as_slice(), &host, &out.watch, &err.watch);
@@ -32,7 +37,7 @@ fn main(rt: HostRuntime) -> ExitCode {
 }
 
 // Whether what is asked for makes a database where there is none: a zone's definition and a job do.
-fn makes_database(words: &Result<Vec<Vec<u8>>, std::alloc::AllocError>) -> bool {
+fn makes_database(words: &Result<Vec<Vec<u8>>, AllocError>) -> bool {
     match words {
         Ok(words) => match words.get(1) {
             Some(word) => word.as_slice() == b"zone" || word.as_slice() == b"run",

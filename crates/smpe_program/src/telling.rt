@@ -1,7 +1,7 @@
 //! What is said on standard error when the program ends, beside the line of its fault.
 use crate::host::{Database, ProgramHost};
-use crate::place::place_told;
-use smpe_hints::{ReportWatch, operand_hint};
+use crate::place::{has_other_form, place_told};
+use smpe_hints::{ReportWatch, empty_hint, operand_hint};
 use sqlite::{Error, ErrorCode};
 use std::alloc::AllocError;
 
@@ -31,6 +31,10 @@ fn hints(
     match faults.first_line() {
         "smpe: bad operand" => push(operand_hint(rt.alloc(), words)?, &mut lines)?,
         "smpe: store Sf1" => push(database_hint(rt, &host.database)?, &mut lines)?,
+        "" if report.first_line().is_empty() && !host.files.is_empty() => push(
+            empty_hint(rt.alloc(), words)?,
+            &mut lines,
+        )?,
         _ => {}
     }
     if let Some(unread) = &host.unread {
@@ -69,6 +73,10 @@ fn database_hint(rt: &HostRuntime, database: &Database) -> Result<Option<String>
             let told = place_told(rt, name.as_str());
             Ok(Some(format!(in rt.alloc(); "the database can't be opened: {name}: {told}")?))
         }
+        Database::Refused(name, Error::SqliteFailure(ErrorCode::NotADatabase))
+            if has_other_form(rt, name.as_str()) => {
+            Ok(Some(String::from_str(rt.alloc(), "the file is no database")?))
+        }
         Database::Refused(_, error) => Ok(Some(String::from_str(rt.alloc(), refusal(*error))?)),
         Database::Opened { meta, closing, .. } => {
             Ok(Some(String::from_str(rt.alloc(), failure(*meta, *closing))?))
@@ -80,7 +88,7 @@ fn refusal(error: Error) -> &'static str {
     match error {
         Error::SqliteFailure(ErrorCode::DatabaseBusy) => "another program has the database",
         Error::SqliteFailure(ErrorCode::NotADatabase) => {
-            "the file is no database, or its rows break its own keys"
+            "rows of the database break its own keys"
         }
         Error::SqliteFailure(ErrorCode::DatabaseCorrupt) => "the database breaks its own rules",
         Error::SqliteFailure(ErrorCode::DiskFull) => "the disk is full",
