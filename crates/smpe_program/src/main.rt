@@ -40,9 +40,13 @@ fn main(rt: HostRuntime) -> ExitCode {
 fn makes_database(words: &Result<Vec<Vec<u8>>, AllocError>) -> bool {
     match words {
         Ok(words) => match words.get(1) {
-            Some(word) => word.as_slice() == b"zone" || word.as_slice() == b"run",
+            Some(word) => is_word(word, "zone") || is_word(word, "run"),
             None => false,
         },
         Err(_) => false,
     }
+}
+
+fn is_word(word: &Vec<u8>, text: &str) -> bool {
+    word.as_slice() == text.as_bytes()
 }
