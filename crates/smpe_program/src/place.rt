@@ -14,7 +14,8 @@ pub(crate) fn is_missing(rt: &HostRuntime, name: &str) -> bool {
     }
 }
 
-/// Whether a file that has bytes does not begin as those of SQLite do. One with a log beside it may be made whole by it.
+/// Whether a file that has bytes does not begin as those of SQLite do. One with a log beside it may be made whole by
+/// that.
 pub(crate) fn has_other_form(rt: &HostRuntime, name: &str) -> bool {
     match (begins_otherwise(rt, name), has_log(rt, name)) {
         (Ok(is_other), Ok(has_log)) => is_other && !has_log,
