@@ -1,5 +1,5 @@
 //! The card that a code names, and the word in it that is at fault, as far as that can be told without the grammar.
-use fields::{Id, ZoneName};
+use fields::{Id, Srel, ZoneName};
 use std::alloc::{AllocError, Global};
 
 const RECORD: usize = 80;
@@ -125,6 +125,16 @@ fn shown(byte: u8) -> char {
     }
 }
 
+/// Whether a record, counted from 1, has a byte that is not ASCII, as nearly all of EBCDIC are.
+pub(crate) fn is_foreign(file: &[u8], record: usize) -> bool {
+    for byte in file.iter().skip(start_of(record)).take(RECORD) {
+        if !byte.is_ascii() {
+            return true;
+        }
+    }
+    false
+}
+
 /// The text of a record, counted from 1: what is not printable is shown as a question mark.
 pub(crate) fn card_text(alloc: Global, file: &[u8], record: usize) -> Result<String, AllocError> {
     let mut text = String::new(alloc);
@@ -197,6 +207,9 @@ fn odd_value(alloc: Global, operand: &str, value: &str) -> Result<Option<String>
     let told = match operand {
         "BDY" if ZoneName::read(value.as_bytes()).is_none() => {
             "a zone name has 1 to 7 characters and begins with a letter"
+        }
+        "++VER" if Srel::read(value.as_bytes()).is_none() => {
+            "an SREL is a capital letter and three digits"
         }
         _ if takes_ids(operand) && Id::read(value.as_bytes()).is_none() => {
             "the id of a SYSMOD has seven of A to Z, 0 to 9, $, # and @"

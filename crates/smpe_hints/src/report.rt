@@ -1,5 +1,5 @@
 //! What a report tells of that needs more words.
-use crate::card::{card_fault, card_text};
+use crate::card::{card_fault, card_text, is_foreign};
 use crate::operand::value_of;
 use std::alloc::{AllocError, Global};
 
@@ -244,6 +244,11 @@ fn card_told(
         return Ok(None);
     };
     for file in files {
+        if file.name.as_str() == name && is_foreign(file.bytes.as_slice(), record) {
+            return Ok(Some(format!(in alloc;
+                "{name} record {record} is not ASCII; smpe-intake and iconv convert EBCDIC"
+            )?));
+        }
         if file.name.as_str() == name {
             let card = card_text(alloc, file.bytes.as_slice(), record)?;
             let fault = card_fault(alloc, file.bytes.as_slice(), record, code)?;

@@ -1,6 +1,7 @@
 //! What stands at the name of a database.
 use std::fs::{File, OpenOptions};
 use std::io::{ErrorKind, Read};
+use std::os::unix::fs::MetadataExt;
 use std::{fs, io};
 
 /// What a file of SQLite begins with.
@@ -54,6 +55,7 @@ pub(crate) fn place_told(rt: &HostRuntime, name: &str) -> &'static str {
         Err(_) => "it is in a folder that is closed to you, or behind what is no folder",
         Ok(found) if found.is_dir() => "it is a folder",
         Ok(found) if !found.is_file() => "it is no plain file",
+        Ok(found) if found.nlink() > 1 => "it has a second name, by a hard link",
         Ok(_) => file_told(rt, name),
     }
 }
@@ -70,9 +72,7 @@ fn file_told(rt: &HostRuntime, name: &str) -> &'static str {
         Ok(_) if has_journal(rt, name) => {
             "a killed sqlite3 left a journal beside it; read it once with sqlite3"
         }
-        Ok(_) => {
-            "nothing can be written in its folder, its -wal belongs to someone else, or it has a second name"
-        }
+        Ok(_) => "nothing can be written in its folder, or its -wal belongs to someone else",
     }
 }
 
