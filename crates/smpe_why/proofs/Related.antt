@@ -5,7 +5,6 @@ use Rattle.terms.specs.Types.{Text, Global, Zone}
 use Rattle.store_schema.specs.Inventory.{Inventory}
 use Rattle.store_zones.specs.declared.head.ZoneHead.{ZoneHead}
 use Rattle.store_zones.specs.Found.{zone_in, head_of}
-use Rattle.smpe_why.specs.declared.found.LoadedZones.{LoadedZones}
 use Rattle.smpe_why.specs.Telling.{IsFoundIn, target_for, related_in}
 
 module _ (i : Inventory) (name : Text) (zone : Option Zone) (heads : List ZoneHead) (global : Global)

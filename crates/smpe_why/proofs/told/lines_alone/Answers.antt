@@ -1,11 +1,9 @@
-use Rattle.std.proofs.Common.{subst, subst₂}
+use Rattle.std.proofs.Common.{subst₂}
 use Rattle.std.specs.Prelude.{option_copied, map}
-use Rattle.terms.specs.CommandForms.{no_bypass}
 use Rattle.machine.specs.Installing.{InstallsSelected}
 use Rattle.report.specs.Views.{line_view}
 use Rattle.zones_maps.specs.Changed.{changed_zone}
 use Rattle.zones_maps.proofs.Changing.{zone_changes}
-use Rattle.smpe_why.specs.Clear.{only}
 use Rattle.smpe_why.proofs.told.lines_alone.Goals as goal
 
 pub returns : goal.returns

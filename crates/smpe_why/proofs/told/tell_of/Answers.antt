@@ -31,5 +31,5 @@ returns c =
           (map line_view c.as_slice.result.now)) c.in_ok-put_facts.ensures
           ∙ append_assoc old _ _
           ∙ ap₂ (λ fs ls. old ++ (facts_text fs ++ verdict_text of.id fs ls)) same same_lines,
-      c.max.ensures ∙ ap (max c.args.told.now.status) (c.facts_code.ensures ∙ ap facts_code same),
+      c.max-told.ensures ∙ ap (max c.args.told.now.status) (c.facts_code.ensures ∙ ap facts_code same),
     )) c.put_verdict.ensures

@@ -1,4 +1,4 @@
-use Rattle.std.proofs.Common.{◌∙◌, ◌×◌, All, ap, arith, map, subst, sym}
+use Rattle.std.proofs.Common.{◌∙◌, All, ap, arith, map, subst, sym}
 use Rattle.std.specs.Prelude.{ℕ, option_copied}
 use Rattle.terms.specs.Beside.{Beside}
 use Rattle.terms.specs.Types.{Text, Id}
