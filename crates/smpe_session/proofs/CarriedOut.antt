@@ -33,13 +33,13 @@ module _ (date : Text) (files : Files) (c : Command) (s : State) (at : Session) 
     (check : Bool) (outcome : Outcome) (planned : ChangesZone date files c s at name delta check outcome)
     (inventory : IsInventory (kept s)) where
   -- there is a zone that the delta leads to
-  changes : IsDelta delta → IsChanged delta planned.zone (changed_zone delta planned.zone)
-  changes is = zone_changes delta planned.zone is (each_named IsZone s.zones (All-weaker IsZoneNamed
+  changes : IsDelta delta → IsChanged delta planned.zone (changed_zone delta.edits planned.zone)
+  changes is = zone_changes delta.edits planned.zone is (each_named IsZone s.zones (All-weaker IsZoneNamed
       (λ (z : NamedZone). IsZone z.zone) (λ z is. is.zone) s.zones inventory.zones) name planned.zone planned.is_there)
 
   pub checks : IsDelta delta → check ≡ true → Performs date files s c s outcome
   checks is checked =
-      let new = changed_zone delta planned.zone in
+      let new = changed_zone delta.edits planned.zone in
       subst (λ t. Performs date files s c t outcome) (ap (λ b. if b then s else with_zone s name new) checked)
       (planned.performs new (changes is))
 
@@ -82,7 +82,7 @@ module _ (date : Text) (files : Files) (c : Command) (s : State) (at : Session) 
     pub fails : IsDelta delta → (e : StoreError) → Commits (Err e)
         → HasPerformed g before after s session date files c (Err e)
     fails is e ended =
-        let new = changed_zone delta planned.zone in
+        let new = changed_zone delta.edits planned.zone in
         let changed = changes is in
         let t = with_zone s name new in
         performs_failed g before after s date files c t answer (performs new changed is)

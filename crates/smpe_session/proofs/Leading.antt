@@ -20,7 +20,7 @@ use Rattle.store.specs.Changes.{Makes}
 use Rattle.store.specs.declared.change.Change.{Change}
 use Rattle.store.specs.declared.change.Change.TheVariants as changes
 use Rattle.smpe_zones.specs.Ends.{HasCommitted}
-use Rattle.smpe_zones.specs.Kept.{kept}
+use Rattle.smpe_zones.specs.Kept.{kept, IsHere}
 use Rattle.smpe_zones.specs.Own.{IsOwnOf}
 use Rattle.smpe_session.specs.declared.session.Session.{Session}
 use Rattle.smpe_session.specs.Sessions.{IsSessionOf, HasPerformed}

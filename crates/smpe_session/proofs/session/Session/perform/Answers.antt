@@ -1,5 +1,7 @@
 use Rattle.std.proofs.Common.{refl}
 use Rattle.cntl.specs.Views.{command_of}
+use Rattle.terms.specs.Types.{Set, Receive, Reject, Apply, Accept, Restore}
+use Rattle.fields.specs.Choices.{restore_list_of}
 use Rattle.machine.specs.Machine.{Perform}
 use Rattle.smpe_session.proofs.Stepping.{stopped}
 use Rattle.smpe_session.proofs.Using.{nothing, answered, ran_short, told_uses, told_of, no_answer}
@@ -52,27 +54,27 @@ returns-in_ok-report-in-Report-clause-uses g c = rw c.in-Report.is (answered not
 -- ---- the header
 
 pub returns-in-Set-clause-header : goal.returns-in-Set-clause-header
-returns-in-Set-clause-header g c = rw c.in-Set.is (told_of _ c.set.result _ c.told.ensures c.set.ensures.header)
+returns-in-Set-clause-header g c = rw c.in-Set.is (told_of (Set c.in-Set.name) c.set.result _ c.told.ensures c.set.ensures.header)
 
 pub returns-in-Receive-clause-header : goal.returns-in-Receive-clause-header
 returns-in-Receive-clause-header g c = rw c.in-Receive.is
-    (told_of _ c.receive.result _ c.told-in-Receive.ensures c.receive.ensures.header)
+    (told_of (Receive c.in-Receive.what) c.receive.result _ c.told-in-Receive.ensures c.receive.ensures.header)
 
 pub returns-in-Reject-clause-header : goal.returns-in-Reject-clause-header
 returns-in-Reject-clause-header g c = rw c.in-Reject.is
-    (told_of _ c.reject.result _ c.told-in-Reject.ensures c.reject.ensures.header)
+    (told_of (Reject c.in-Reject.ids) c.reject.result _ c.told-in-Reject.ensures c.reject.ensures.header)
 
 pub returns-in-Apply-clause-header : goal.returns-in-Apply-clause-header
 returns-in-Apply-clause-header g c = rw c.in-Apply.is
-    (told_of _ c.install.result _ c.told-in-Apply.ensures c.install.ensures.header)
+    (told_of (Apply c.in-Apply.operands) c.install.result _ c.told-in-Apply.ensures c.install.ensures.header)
 
 pub returns-in-Accept-clause-header : goal.returns-in-Accept-clause-header
 returns-in-Accept-clause-header g c = rw c.in-Accept.is
-    (told_of _ c.install-in-Accept.result _ c.told-in-Accept.ensures c.install-in-Accept.ensures.header)
+    (told_of (Accept c.in-Accept.operands) c.install-in-Accept.result _ c.told-in-Accept.ensures c.install-in-Accept.ensures.header)
 
 pub returns-in-Restore-clause-header : goal.returns-in-Restore-clause-header
 returns-in-Restore-clause-header g c = rw c.in-Restore.is
-    (told_of _ c.restore.result _ c.told-in-Restore.ensures c.restore.ensures.header)
+    (told_of (Restore (restore_list_of c.in-Restore.list) c.in-Restore.check) c.restore.result _ c.told-in-Restore.ensures c.restore.ensures.header)
 
 pub returns-in-List-clause-header : goal.returns-in-List-clause-header
 returns-in-List-clause-header g c = rw c.in-List.is refl
