@@ -1,5 +1,5 @@
 -- How a definition ends, and how it went.
-use Rattle.std.proofs.Common.{◌≡◌, ◌∙◌, false, Result, Err, IsErrAnd, OnOk, refl, sym, ap, subst, true≢false}
+use Rattle.std.proofs.Common.{◌≡◌, ◌∙◌, false, Result, Ok, Err, IsErrAnd, OnOk, refl, sym, ap, subst, true≢false}
 use Rattle.std.proofs.lemmas.Result.{err_from_is_err_and}
 use Rattle.sqlite.specs.Store.{Ghosts}
 use Rattle.sqlite.specs.Held.{Held}
