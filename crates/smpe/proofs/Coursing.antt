@@ -248,7 +248,7 @@ module _ {S : Type 0} (g : Ghosts S) where
 
   -- a commit is answered otherwise
   once_as : {X E Y F : Type 0} (old new : Held S) (change : Change) (x : X) (y : Y)
-      → CommitsOnce g old new change {X = X} {E = E} (Ok x) → CommitsOnce g old new change {X = Y} {E = F} (Ok y)
+      → CommitsOnce g old new {X = X} {E = E} change (Ok x) → CommitsOnce g old new {X = Y} {E = F} change (Ok y)
   once_as old new change x y once = record {
     before = once.before;
     loads = once.loads;
@@ -261,7 +261,7 @@ module _ {S : Type 0} (g : Ghosts S) where
 
   -- a zone is defined
   pub defined_goes : {X E : Type 0} (old new : Held S) (d : ZoneDefinition) (taken : Option (List ℕ)) (x : X)
-      → CommitsOnce g old new (change.NewZone d.name d.kind d.srel d.related) {X = X} {E = E} (Ok x)
+      → CommitsOnce g old new {X = X} {E = E} (change.NewZone d.name d.kind d.srel d.related) (Ok x)
       → JobPassed g old (NewZone d) new taken taken Defined
   defined_goes old new d taken x once =
       let added = change.NewZone d.name d.kind d.srel d.related in

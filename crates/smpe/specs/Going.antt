@@ -91,7 +91,7 @@ module _ {S : Type 0} (g : Ghosts S) where
   Tells answer (RunFiles date cntl files) old new outcomes = answer ≡ Code (job_code outcomes)
   Tells (Code n) (NewZone d) old new outcomes = ⊥
   Tells Defined (NewZone d) old new outcomes =
-      CommitsOnce g old new (change.NewZone d.name d.kind d.srel d.related) {E = JobError} (Ok outcomes)
+      CommitsOnce g old new {E = JobError} (change.NewZone d.name d.kind d.srel d.related) (Ok outcomes)
   Tells (NotDefined why) (NewZone d) old new outcomes = OnlyLoads g old new
 
   -- The job went to its end, and this is its answer.

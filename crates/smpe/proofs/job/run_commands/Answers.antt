@@ -107,3 +107,11 @@ returns-clause-course g c =
     (g.W.Sink.taken c.loop-command.w) (Ok c.loop-command.code))
     (take_all c.loop-command.command-index c.args.commands.now (omega (arith, c.loop-command-test.false)))
     c.loop-command.invariant.course
+
+pub returns-clause-ended : goal.returns-clause-ended
+returns-clause-ended g c clean s is keeps =
+    subst (λ cs. EndsCommands g.S.Store c.args.store.now c.loop-command.store s c.loop-command.session c.args.date
+    c.args.files.now (map command_of cs) (g.W.Sink.taken c.args.w.now) (g.W.Sink.taken c.loop-command.w)
+    (Ok c.loop-command.code))
+    (take_all c.loop-command.command-index c.args.commands.now (omega (arith, c.loop-command-test.false)))
+    (c.loop-command.invariant.ran clean s is keeps)
