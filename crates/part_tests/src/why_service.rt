@@ -1,4 +1,4 @@
-//! A function that would delete another one, what stands in its way, and service whose requisites are waived.
+//! A function that would delete another one, what blocks it, and service whose requisites are waived.
 
 use crate::cards::id;
 use crate::why_cards::{Wanted, check, entry, put_entries, zone};
