@@ -12,7 +12,7 @@ use Rattle.smpe_session.specs.declared.session.Performed.TheVariants.{Told, List
 
 -- The zone that is changed is the boundary, which the header names.
 abbrev pub IsAtBoundary : Change → Header → Type 0
-IsAtBoundary (Zone name old delta) header = header.boundary ≡ Some name
+IsAtBoundary (Zone name delta) header = header.boundary ≡ Some name
 IsAtBoundary (Global stated edits) header = header.boundary ≡ Some global_name
 IsAtBoundary _ header = ⊥
 

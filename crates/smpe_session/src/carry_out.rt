@@ -1,6 +1,7 @@
 //! How an APPLY, ACCEPT or RESTORE is carried out.
 ghost use Rattle.std.specs.Prelude.{◌≡◌, false, IfOk, Some, map};
-ghost use Rattle.terms.specs.Types.{Text, Command};
+ghost use Rattle.terms.specs.Types.{Text, Command, Zone as AZone};
+ghost use Rattle.zones_maps.specs.Delta.{KnowsStood};
 ghost use Rattle.machine.specs.Machine.{Files};
 ghost use Rattle.machine.specs.Outcome.{Ran};
 ghost use Rattle.report.specs.Views.{line_view, header_view};
@@ -32,7 +33,8 @@ impl Session {
         delta: ZoneDelta,
         lines: Vec<ReportLine>,
     ) -> Result<Outcome<'static>, StoreError>
-        requires { header.boundary ≡ Some name }
+        requires boundary { header.boundary ≡ Some name }
+        requires knows { (zone : AZone) × KnowsStood zone delta }
         ensures { UsesStore S.Store store.old store.new
             (λ own. IsOfZone own × (header.check ≡ false) × IfOk result (TellsRun own))
             (λ s ended. IsSessionOf s self.old → (date : Text) (files : Files) (c : Command)
@@ -52,7 +54,7 @@ impl Session {
         let prepared = zone.prepare(alloc, &delta)?;
         let outcome = commit_change(
             store,
-            &Change::Zone(name, zone, delta),
+            &Change::Zone(name, delta),
             Outcome::Ran { header, lines },
         )?;
         zone.edit(prepared);

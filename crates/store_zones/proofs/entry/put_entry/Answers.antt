@@ -1,5 +1,6 @@
-use Rattle.std.proofs.Common.{[], ◌∷◌, is_some, option_copied, if◌then◌else◌, ap, rules}
+use Rattle.std.proofs.Common.{[], ◌∷◌, is_some, if◌then◌else◌, ap, sym, subst, rules}
 use Rattle.terms.specs.Types.{Entry}
+use Rattle.zones_maps.specs.Delta.{number_of}
 use Rattle.store_rows.specs.Rows.{HasContents, in_table}
 use Rattle.store_rows.proofs.CallLemmas.{runs_then, runs_err, follows_err}
 use Rattle.store_rows.proofs.InsideLemmas.{on_ok, turns_then}
@@ -8,8 +9,8 @@ use Rattle.store_schema.specs.Stands.{rows_of}
 use Rattle.store_schema.specs.Tables.{store_schema, entry, chosen}
 use Rattle.store_zones.specs.Calls.{number_calls}
 use Rattle.store_zones.specs.Entries.{insert_entry, put_entry, entry_key}
-use Rattle.store_zones.specs.Chosen.{number_of, number_before}
-use Rattle.store_zones.specs.Zones.{numbered, rows_with}
+use Rattle.store_zones.specs.Chosen.{number_before}
+use Rattle.store_zones.specs.Zones.{numbered, rows_with, with_entry}
 use Rattle.store_zones.proofs.ByNumber.{Renumbers, renumbers_as}
 use Rattle.store_zones.proofs.ZoneLemmas.{entry_put}
 use Rattle.store_zones.proofs.entry.put_entry.Given.{Over}
@@ -18,17 +19,17 @@ use Rattle.store_zones.proofs.entry.put_entry.Goals as goal
 
 changed : (g : Over) (c : After-change_number g) → Renumbers g.S.Store c.put_row.new.tx.conn.now
     c.change_number.new.tx.conn.now c.change_number.result c.args.zone c.args.entry.now.id
-    (number_before (option_copied c.args.stood)) (number_of c.args.entry.now)
+    (number_before c.args.stood) (number_of c.args.entry.now)
 changed g c =
     renumbers_as g.S.Store c.put_row.new.tx.conn.now c.change_number.new.tx.conn.now c.change_number.result c.args.zone
-    _ c.args.entry.now.id _ (number_before (option_copied c.args.stood)) _ (number_of c.args.entry.now)
-    (ap (λ (x : Entry). x.id) c.entry.view_is) c.number_before.ensures c.number_of.ensures.same
+    _ c.args.entry.now.id _ (number_before c.args.stood) _ (number_of c.args.entry.now)
+    (ap (λ (x : Entry). x.id) c.entry.view_is) c.number_before.ensures (c.get.ensures.value ∙ c.number.ensures)
     (c.change_number.ensures.calls, c.change_number.ensures.ok)
 
 pub returns-clause-ok : goal.returns-clause-ok
 returns-clause-ok g c =
     let zone = c.args.zone in
-    let stood = option_copied c.args.stood in
+    let stood = c.args.stood in
     let e = c.args.entry.now in
     on_ok c.change_number.result _ _
     (turns_then g.S.Store c.args.tx.now.conn.now c.put_row.new.tx.conn.now c.change_number.new.tx.conn.now
@@ -40,14 +41,17 @@ returns-clause-ok g c =
 
 pub returns-clause-stands : goal.returns-clause-stands
 returns-clause-stands g c =
-    on_ok c.change_number.result _ _ (λ turned i j was is change put clean held.
-    entry_put i j c.args.zone was is change (option_copied c.args.stood) c.args.entry.now _ put
-    (turned clean (rows_of i) held)) (returns-clause-ok g c)
+    let zone = c.args.zone in
+    let e = c.args.entry.now in
+    on_ok c.change_number.result _ _ (λ turned old same i j was is change put clean held.
+    entry_put i j zone was is change old e _ put
+    (subst (λ stood. HasContents store_schema (with_entry zone stood e (rows_of i)) _) (sym same)
+    (turned clean (rows_of i) held))) (returns-clause-ok g c)
 
 pub returns-clause-calls : goal.returns-clause-calls
 returns-clause-calls g c =
     let zone = c.args.zone in
-    let stood = option_copied c.args.stood in
+    let stood = c.args.stood in
     let e = c.args.entry.now in
     runs_then g.S.Store ((if is_some stood then put_entry else insert_entry, entry_row zone e) ∷ [])
     (number_calls zone e.id (number_before stood) (number_of e)) c.args.tx.now.conn.now
@@ -59,7 +63,7 @@ returns-clause-calls g c =
 pub returns-in_err-put_row-clause-calls : goal.returns-in_err-put_row-clause-calls
 returns-in_err-put_row-clause-calls g c =
     let zone = c.args.zone in
-    let stood = option_copied c.args.stood in
+    let stood = c.args.stood in
     let e = c.args.entry.now in
     runs_err g.S.Store ((if is_some stood then put_entry else insert_entry, entry_row zone e) ∷ [])
     (number_calls zone e.id (number_before stood) (number_of e)) c.args.tx.now.conn.now

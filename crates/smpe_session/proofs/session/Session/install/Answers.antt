@@ -25,8 +25,11 @@ returns-in_err-lines g c = ran_short c.from_residual-in_err-lines.ensures.1 c.in
     (λ s inventory sought is files. stopped g.S.Store c.seek_related.new.store s
     (Perform c.args.date files (install_command c.args.kind c.args.install.now)) (sought is).1)
 
-pub carry_out-requires : goal.carry_out-requires
-carry_out-requires g c = c.header-header.ensures.boundary ∙ c.in-Ok.ensures.named
+pub carry_out-requires-clause-boundary : goal.carry_out-requires-clause-boundary
+carry_out-requires-clause-boundary g c = c.header-header.ensures.boundary ∙ c.in-Ok.ensures.named
+
+pub carry_out-requires-clause-knows : goal.carry_out-requires-clause-knows
+carry_out-requires-clause-knows g c = (c.in-Ok.place.zone.now, c.in_ok-delta.ensures.knows)
 
 pub returns : goal.returns
 returns g c = weaker (after c.in_ok-related.ensures c.carry_out.ensures)
@@ -44,7 +47,7 @@ returns g c = weaker (after c.in_ok-related.ensures c.carry_out.ensures)
     let checks = sym (ap (λ w. w.check) c.install.view_is) ∙ sym c.header-header.ensures.check in
     let changes = install_changes c.args.date kind i s at place.name place.zone.now _ c.install.inside.selection
     c.install.inside.bypass p.delta (map line_view p.lines.items) (map line_view c.in_ok-lines.lines.items)
-    sought.0.session there
+    c.in_ok-delta.ensures.knows sought.0.session there
     (c.zone_at.ensures ∙ sought.0.is_related place.name there.boundary)
     (sym (ap (λ w. w.selection) c.install.view_is)) (sym (ap (λ w. w.bypass) c.install.view_is))
     c.apply.ensures.dated c.in_ok-delta.ensures.installs c.in_ok-lines.ensures files

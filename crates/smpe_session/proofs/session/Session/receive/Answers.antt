@@ -75,6 +75,6 @@ returns g c =
     c.in_ok-lines.ensures in
     led g.S.Store c.args.store.now c.commit_change.new.store date files (Receive what) s at.boundary at
     (record at { global = new }) taken.edits.items lines _ is.boundary is refl refl leads
-    (Change.Global (stated_in c.commit_change.ensures.uses) taken.edits) c.in_ok-edits.ensures.taken.receives
+    (Change.Global (stated_in c.commit_change.ensures.uses) taken.edits) c.in_ok-edits.ensures.taken.receives tt
     (leads.fits, leads.makes) c.commit_change.result
     (ended (record s { global = new }) (leads.fits, leads.makes) leads.inventory) refl))

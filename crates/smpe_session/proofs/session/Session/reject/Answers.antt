@@ -59,6 +59,6 @@ returns g c =
     c.load_zones.ensures.once.follows _ date files (Reject c.args.ids.now) c.commit_change.result
     (led g.S.Store c.load_zones.new.store c.commit_change.new.store date files (Reject c.args.ids.now) s
     c.args.self.now.boundary at (record at { global = new }) rejects.edits.items lines _ is.boundary had.0.session refl
-    refl leads (Change.Global (stated_in c.commit_change.ensures.uses) rejects.edits) c.in_ok-edits.ensures.rejects
+    refl leads (Change.Global (stated_in c.commit_change.ensures.uses) rejects.edits) c.in_ok-edits.ensures.rejects tt
     (leads.fits, leads.makes) c.commit_change.result
     (both.1 had.1 (record s { global = new }) (leads.fits, leads.makes) leads.inventory) refl)))

@@ -42,8 +42,11 @@ returns-in_err-delta g c = ran_short c.from_residual-in_err-delta.ensures.1 c.in
     (λ s inventory sought is date files. stopped g.S.Store c.seek_accepted.new.store s
     (Perform date files (Restore (restore_list_of c.args.list.now) c.args.check)) (sought is).1)
 
-pub carry_out-requires : goal.carry_out-requires
-carry_out-requires g c = c.in-Ok.ensures.named
+pub carry_out-requires-clause-boundary : goal.carry_out-requires-clause-boundary
+carry_out-requires-clause-boundary g c = c.in-Ok.ensures.named
+
+pub carry_out-requires-clause-knows : goal.carry_out-requires-clause-knows
+carry_out-requires-clause-knows g c = (c.in-Ok.place.zone.now, c.in_ok-delta.ensures.knows)
 
 pub returns : goal.returns
 returns g c = weaker (after c.in_ok-accepted.ensures c.carry_out.ensures) (λ change own. own)
@@ -59,7 +62,7 @@ returns g c = weaker (after c.in_ok-accepted.ensures c.carry_out.ensures) (λ ch
     let related = sym (beside s inventory at c.in_ok-accepted.accepted sought.0 place.name place.zone.now there)
     ∙ sym c.in-Some.ensures in
     let changes = restore_changes s at place.name place.zone.now accepted what p.delta (map line_view p.lines.items)
-    sought.0.session there related c.in_ok-delta.ensures date files c.args.check at.boundary
+    c.in_ok-delta.ensures.knows sought.0.session there related c.in_ok-delta.ensures.restores date files c.args.check at.boundary
     sought.0.session.boundary in
     performs_since g.S.Store c.args.store.now c.seek_accepted.new.store c.carry_out.new.store s
     c.seek_accepted.ensures.once.follows _ date files command c.carry_out.result
