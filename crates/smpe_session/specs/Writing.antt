@@ -1,4 +1,4 @@
--- Commands that ran, and what their reports tell of their changes. What is refused has written nothing.
+-- Commands that ran, and what their reports tell about their changes. A refused command has written nothing.
 use Rattle.std.specs.Prelude.{◌≡◌, Some}
 use Rattle.machine.specs.Outcome as machine
 use Rattle.machine.specs.Outcome.{Header, Ran}
@@ -10,7 +10,7 @@ use Rattle.store.specs.declared.change.Change.TheVariants.{Zone, Global}
 use Rattle.smpe_session.specs.declared.session.Performed.{Performed}
 use Rattle.smpe_session.specs.declared.session.Performed.TheVariants.{Told, Lists}
 
--- The zone that is changed is the boundary, which the header names.
+-- The zone that changes is the boundary, which the header names.
 abbrev pub IsAtBoundary : Change → Header → Type 0
 IsAtBoundary (Zone name delta) header = header.boundary ≡ Some name
 IsAtBoundary (Global stated edits) header = header.boundary ≡ Some global_name

@@ -1,4 +1,4 @@
-//! SET: the boundary is another zone.
+//! SET: another zone becomes the boundary.
 ghost use Rattle.std.specs.Prelude.{IsSome, OnOk};
 ghost use Rattle.std.specs.Str.{bytes_eq};
 ghost use Rattle.indexmap.specs.IndexMap.{get};
@@ -18,7 +18,7 @@ use store::{Store, StoreError};
 use terms::CommandWord;
 
 impl Session {
-    /// Whether SET may name it. A zone that it names is loaded once a job.
+    /// Whether SET may name it. A zone that SET names is loaded once in a job.
     pub(crate) fn seek<S: Alter>(
         &mut self,
         store: &mut Store<S>,

@@ -41,14 +41,14 @@ abbrev pub is_refused : {U : Type 0} → Result U ZoneError → Bool
 is_refused (Err (Refused why)) = true
 is_refused _ = false
 
--- What a definition has done, whatever the tables are. A refused one has left all as it was.
+-- What a definition has done, whatever the tables hold. A refused one has left all as it was.
 pub record HasCourse {S U : Type 0} (g : Ghosts S) (old new : Held S) (d : ZoneDefinition)
     (result : Result U ZoneError) :
     Type 0 where
   pub once : GoesOnce g old new (IsOwn (Define d)) (Store store.NoState) (Store store.OtherSchema) result
   pub refused : IsTrue (is_refused result) → OnlyLoads g old new
 
--- how an error of the store is told
+-- the definition's error for an error of the store
 abbrev pub zone_error : StoreError → ZoneError
 zone_error store.Memory = Memory
 zone_error error = Store error

@@ -1,4 +1,4 @@
--- What a change makes of the inventory for which the tables stand.
+-- How a change changes the inventory for which the tables stand.
 use Rattle.std.specs.Prelude.{◌≡◌, List, ◌∷◌, ◌++◌}
 use Rattle.terms.specs.Types.{Zone as AZone, NamedZone}
 use Rattle.zones_maps.specs.Delta.{IsDelta, IsChanged, KnowsStood}
@@ -15,7 +15,8 @@ pub record IsZoneAdded (zone : NamedZone) (i j : Inventory) : Type 0 where
   pub was : i.zones ≡ before ++ after
   pub is : j ≡ record { global = i.global; zones = before ++ zone ∷ after }
 
--- The second is what the change makes of the first. A change of a zone has one edit at a key, and knows what stood there.
+-- The second is the first after the change. A change of a zone has one edit for a key, and knows what the zone had
+-- there.
 abbrev pub Makes : Change → Inventory → Inventory → Type 0
 Makes (NewZone name kind srel related) i j = IsZoneAdded (empty_zone name kind srel related) i j
 Makes (Zone name delta) i j =
