@@ -17,7 +17,7 @@ choice_of d = choice d.vers.now
 abbrev pub AreDeletions : Deleting → Type 0
 AreDeletions d = d.dels.now ≡ deletions (choice_of d) d.kept.now
 
--- whether its chain meets the deletions
+-- whether its chain contains one of the deletions
 abbrev pub is_cut : Deleting → Id → Bool
 is_cut d = is_deleted (global_of d) (choice_of d) d.dels.now
 
@@ -45,7 +45,7 @@ first_naming d x = find (λ k. is_in (del_of (choice_of d) k) x) d.kept.now
 abbrev pub first_deleter : Deleting → Id → Option Id
 first_deleter d x = if is_function_gone d x then first_meeting d x else first_naming d x
 
--- its DELBY: what is there, else the first that deletes it
+-- its DELBY: the one that is there, otherwise the first that deletes it
 abbrev pub delby_left : Deleting → Id → Option Id
 delby_left d x = if is_some (delby_of d.zone.now x) then delby_of d.zone.now x else first_deleter d x
 

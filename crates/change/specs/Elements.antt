@@ -9,7 +9,7 @@ use Rattle.terms.specs.Choice.{Choice}
 use Rattle.terms.specs.Deleted.{zone_less}
 use Rattle.terms.specs.Install.{Installation, TakesEffect, cleared, HasElementAfter}
 
--- an install of which these SYSMODs take effect on the zone less these deletions
+-- an install in which these SYSMODs take effect on the zone less these deletions
 pub record IsInstallOf (i : Installation) (g : Global) (c : Choice) (zone : Zone)
     (deletions effective : List Id) : Type 0
   where
@@ -18,7 +18,7 @@ pub record IsInstallOf (i : Installation) (g : Global) (c : Choice) (zone : Zone
     pub cleared_is : cleared i ≡ zone_less g c deletions zone
     pub members : (x : Id) → Contains effective x ↔ TakesEffect i x
 
--- Each element that the install changes stands there once, as it is after the install, and no other one.
+-- The list has each element that the install changes once, as it is after the install, and no other one.
 pub record AreElementsAfter (i : Installation) (es : List Element) : Type 0 where
   pub rising : Rises element_cmp element_key es
   pub changed : (x : Id) (type : ElemType) (name : Text) → TakesEffect i x → IsTrue (has_change i.global x type name)

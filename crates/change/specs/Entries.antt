@@ -21,7 +21,7 @@ is_open d p z = not (is_in p.effective z) && is_nil (others_of p.superseders z) 
 abbrev pub bare_entry : Id → Entry
 bare_entry x = record { id = x; applied = None; supby = []; delby = None; waived = [] }
 
--- the entry as it is, which may have nothing
+-- the entry as it is, or one that has nothing
 abbrev pub old_entry : Zone → Id → Entry
 old_entry zone x = unwrap_or (entry_of zone x) (bare_entry x)
 
@@ -30,7 +30,7 @@ pub record IsWaived (d : Deleting) (p : Plan) (x : Id) (waived : List Id) : Type
   pub rising : IsRising waived
   pub members : (z : Id) → Contains waived z ↔ (Contains (others_of p.bypassed x) z × IsTrue (is_open d p z))
 
--- the entry of a SYSMOD that takes effect: what is left of it, applied
+-- the entry of a SYSMOD that takes effect: what is left of it, and applied
 pub record IsAppliedEntry (d : Deleting) (p : Plan) (x : Id) (e : Entry) : Type 0 where
   pub rest : e ≡ record (old_entry (left d) x) {
     applied = Some (an_applied p.date (number_in d.vers.now x));
@@ -57,19 +57,19 @@ pub record IsMadeEntry (d : Deleting) (p : Plan) (x : Id) (e : Entry) : Type 0 w
   pub supby : IsRising e.supby
   pub waived : IsRising e.waived
 
--- the entry is put, or goes if nothing holds it
+-- the entry is put, or removed if it would be empty
 abbrev pub held_edit : Id → Entry → EntryEdit
 held_edit x e = if has_content e then Put e else Remove x
 
--- so, if that changes something
+-- the same, if it changes something
 abbrev pub PutsEntry : Deleting → Plan → Id → ZoneEdits → ZoneEdits → Type 0
 PutsEntry d p x old new = (e : Entry) × IsMadeEntry d p x e × AddsEntryEdit d.zone.now (held_edit x e) old new
 
--- what stands at an id after the edits
+-- the entry of an id after the edits
 abbrev pub entry_after : ZoneEdits → Zone → Id → Option Entry
 entry_after zone_edits zone x = after_edits bytes_eq (λ e. e.id) zone_edits.entries zone.entries x
 
--- the entry, if something holds it
+-- the entry, unless it is empty
 abbrev pub if_held : Entry → Option Entry
 if_held e = if has_content e then Some e else None
 

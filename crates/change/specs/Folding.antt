@@ -27,14 +27,14 @@ replacement owner r type name distlib syslib lines = record {
   text = lines;
 }
 
--- what the update by y makes of an element: its text is the merge, and y is a UMID more
+-- what the update by y makes of an element: its text is the merge, and y is one more UMID
 pub record IsUpdateOf (y : Id) (update : Lines) (old e : Element) : Type 0 where
   pub rest : e ≡ record old { umids = e.umids; text = e.text }
   pub rising : IsRising e.umids
   pub umids : (x : Id) → Contains e.umids x ↔ (Contains old.umids x ⊎ (y ≡ x))
   pub merged : IsMerge old.text update e.text
 
--- what a statement of x makes of the element that is there, if one is
+-- what a statement of x makes of the old element, if there is one
 abbrev pub IsMadeBy : Id → Id → ElemType → Text → Action → Option Element → Option Element → Type 0
 IsMadeBy owner x type name (Replaces distlib syslib lines) old new =
     new ≡ Some (replacement owner x type name distlib syslib lines)
@@ -74,7 +74,7 @@ module _ (g : Global) (c : Choice) (type : ElemType) (name : Text) where
     pub numbered : (y : Id) → Contains ys y → IsNumbered e.text
     pub same : ((y : Id) → ¬ Contains ys y) → e.text ≡ base.text
 
-  -- what updates make of the element that the zone has, if it has one
+  -- what updates make of the zone's element, if there is one
   abbrev pub IsUpdatedFrom : List Id → Option Element → Option Element → Type 0
   IsUpdatedFrom ys None new = new ≡ None
   IsUpdatedFrom ys (Some base) new = (e : Element) × (new ≡ Some e) × IsUpdatedBy ys base e
@@ -85,7 +85,7 @@ module _ (g : Global) (c : Choice) (type : ElemType) (name : Text) where
       × (h.action ≡ Replaces distlib syslib lines)
       × (base ≡ replacement (owner g c r) r type name distlib syslib lines)
 
-  -- one of them replaces the element, and those behind it update that
+  -- one of them replaces the element, and those after it update that
   pub record HasReplaced (xs : List Id) (new : Option Element) : Type 0 where
     pub front : List Id
     pub replacer : Id
@@ -98,16 +98,16 @@ module _ (g : Global) (c : Choice) (type : ElemType) (name : Text) where
     pub updated : IsUpdatedBy back base e
     pub new_is : new ≡ Some e
 
-  -- all of them update the element, and the zone's is the base
+  -- all of them update the element, and the zone's element is the base
   pub record HasUpdated (xs : List Id) (start new : Option Element) : Type 0 where
     pub updates : AreUpdates xs
     pub updated : IsUpdatedFrom xs start new
 
-  -- what all these SYSMODs make of the element that the zone has, if it has one
+  -- what all these SYSMODs make of the zone's element, if there is one
   abbrev pub IsFolded : List Id → Option Element → Option Element → Type 0
   IsFolded xs start new = HasReplaced xs new ⊎ HasUpdated xs start new
 
--- The installed SYSMODs that change the element are these, and the zone less the deletions has this element.
+-- These are the installed SYSMODs that change the element, and this is the element of the zone less the deletions.
 pub record AreChangers (i : Installation) (g : Global) (c : Choice) (type : ElemType) (name : Text)
     (base : Option Element) (changers : List Id) : Type 0 where
   pub global : i.global ≡ g

@@ -1,11 +1,11 @@
--- Pairs of ids, gathered by their first ids.
+-- Pairs of ids, grouped by their first ids.
 use Rattle.std.specs.Prelude.{List, Contains}
 use Rattle.std.specs.Ordering.{nat_cmp}
 use Rattle.std.specs.Cmp.Lexicographic.{slice_cmp}
 use Rattle.sorted.specs.Lists.{Lists, listed, Holds}
 use Rattle.terms.specs.Types.{Id}
 
--- what an id is paired with
+-- the ids with which an id is paired
 abbrev pub others_of : Lists Id Id → Id → List Id
 others_of = listed (slice_cmp nat_cmp)
 

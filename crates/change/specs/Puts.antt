@@ -17,7 +17,7 @@ with_element edits e = with_item element_cmp (edit_key element_key) edits (Put e
 abbrev pub with_elements : List ElementEdit → List Element → List ElementEdit
 with_elements edits es = fold with_element edits es
 
--- with an element removed, if the deletions meet its owner's chain
+-- with an element removed, if its owner's chain contains one of the deletions
 abbrev pub less_element : Deleting → List ElementEdit → Element → List ElementEdit
 less_element d edits e =
     if is_cut d e.fmid then with_item element_cmp (edit_key element_key) edits (Remove (element_key e)) else edits

@@ -22,11 +22,11 @@ pub record IsRestoringOf (r : Restoring) (g : Global) (zone accepted : Zone) : T
   pub zone_is : r.zone ≡ zone
   pub accepted_is : r.accepted ≡ accepted
 
--- whether the entry loses its date or some of its SUPBY when these are gone
+-- whether the entry loses its date or some of its SUPBY when these SYSMODs are gone
 abbrev pub loses : (Id → Bool) → Entry → Bool
 loses is_gone e = (is_gone e.id && is_some e.applied) || list_any is_gone e.supby
 
--- what is left of the entry is put, if something holds it
+-- puts what is left of the entry, unless that is empty
 abbrev pub less_edit : (Id → Bool) → Entry → Edit Entry Id
 less_edit is_gone e = if has_content (entry_less is_gone e) then Put (entry_less is_gone e) else Remove e.id
 
@@ -43,11 +43,11 @@ changed_keys g x = map change_key (changes_of g x)
 abbrev pub all_changed : Global → List Id → List (ElemType × Text)
 all_changed g xs = flat_map (changed_keys g) xs
 
--- the element that the other zone has at a key
+-- the element of the other zone at a key
 abbrev pub element_at : Zone → ElemType × Text → Option Element
 element_at zone k = element_of zone k.0 k.1
 
--- an edit comes in that leaves this at the key
+-- an edit that leaves this at the key is added
 pub record LeavesElement (k : ElemType × Text) (wanted : Option Element) (old new : ZoneEdits) : Type 0 where
   pub edit : Edit Element (ElemType × Text)
   pub entries : new.entries ≡ old.entries

@@ -1,4 +1,4 @@
--- Who supersedes whom among kept SYSMODs.
+-- Which kept SYSMODs supersede which.
 use Rattle.std.specs.Prelude.{◌↔◌, List, Contains}
 use Rattle.terms.specs.Types.{Id}
 use Rattle.terms.specs.Choice.{Choice, sup_of}

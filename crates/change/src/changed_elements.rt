@@ -19,8 +19,8 @@ use std::alloc::{AllocError, Global};
 use sysmods::Overs;
 use zones::{Element, Zone, element_left};
 
-/// The elements that these SYSMODs change, rising by type and name, as they are when all of them have taken effect on
-/// the zone less the deletions. Over orders those that change one element, and what they update is there.
+/// The elements that these SYSMODs change, rising by type and name, as they are once all of the SYSMODs have taken
+/// effect on the zone less the deletions. Over orders those that change one element, and what they update exists.
 pub(crate) fn elements_after(
     alloc: Global,
     overs: &mut Overs<'_, '_>,

@@ -11,7 +11,7 @@ use std::alloc::{AllocError, Global};
 use sysmods::VerChoice;
 use zones::{Entry, TakesOut, Zone, entry_less};
 
-/// Kept SYSMODs, what they name in DELETE by the `++VER`s that count, and the zone that this takes from.
+/// Kept SYSMODs, what they name in DELETE by the `++VER`s that count, and the zone from which this takes SYSMODs out.
 #[derive(Clone, Copy)]
 pub(crate) struct Deleting<'a, 'b> {
     pub(crate) vers: &'a VerChoice<'b>,
@@ -21,14 +21,14 @@ pub(crate) struct Deleting<'a, 'b> {
 }
 
 impl<'a, 'b> Deleting<'a, 'b> {
-    /// Whether its chain meets the deletions.
+    /// Whether its chain contains one of the deletions.
     pub(crate) fn deletes(&self, id: Id) -> bool
         ensures { result ≡ is_cut self.now id }
     {
         self.vers.meets(id, self.dels)
     }
 
-    /// Its DELBY: what is there, else the first that deletes it.
+    /// Its DELBY: the one that is there, otherwise the first SYSMOD that deletes it.
     pub(crate) fn delby(&self, id: Id) -> Option<Id>
         requires { AreDeletions self.now }
         ensures { result ≡ delby_left self.now id }
@@ -39,8 +39,8 @@ impl<'a, 'b> Deleting<'a, 'b> {
         }
     }
 
-    /// Of a function that is taken out, the first kept one whose DELETE meets its chain. Of any other id, the first
-    /// that names it.
+    /// For a function that is taken out, the first kept SYSMOD whose DELETE meets its chain. For any other id, the
+    /// first one that names it.
     fn first_deleter(&self, id: Id) -> Option<Id>
         requires { AreDeletions self.now }
         ensures { result ≡ first_deleter self.now id }
@@ -53,7 +53,7 @@ impl<'a, 'b> Deleting<'a, 'b> {
                 .copied()
                 .find(|k| vers.meets(id, del_of(vers, *k)));
         }
-        // Hardly any id is named.
+        // Few ids are ever named.
         if !self.dels.contains(&id) {
             return None;
         }
@@ -75,7 +75,7 @@ impl<'a, 'b> TakesOut for Deleting<'a, 'b> {
     }
 }
 
-/// The entry in what is left, which may have nothing.
+/// The entry in what is left; it may be empty.
 pub(crate) fn left_entry(alloc: Global, deleting: &Deleting, id: Id) -> Result<Entry, AllocError>
     ensures { IfOk result (λ e. e ≡ old_entry (left deleting.now) id) }
 {

@@ -1,4 +1,4 @@
-//! Edits come in where they change something.
+//! Edits are added if they change something.
 ghost use Rattle.std.specs.Prelude.{◌≡◌, [], IsTrue, OnOk};
 ghost use Rattle.terms.specs.Lookups.{element_cmp, element_key, has_content, waives_applied};
 ghost use Rattle.terms.specs.Rising.{Rises};
@@ -15,7 +15,7 @@ use zones::{Element, Entry, Zone, ZoneEdits, is_element, is_same_entry};
 /// What is put or removed of elements.
 pub(crate) type ElementEdit = Edit<Element, (ElemType, Name)>;
 
-/// Puts the entry, unless the zone has this very one.
+/// Puts the entry, unless the zone already has the same one.
 pub(crate) fn put_entry(
     zone: &Zone,
     entry: Entry,
@@ -47,7 +47,7 @@ pub(crate) fn remove_entry(
     zone_edits.remove_entry(id)
 }
 
-/// Does those of the edits that change something.
+/// Makes those of the edits that change something.
 pub(crate) fn edit_elements(
     zone: &Zone,
     edits: Vec<ElementEdit>,
@@ -63,7 +63,7 @@ pub(crate) fn edit_elements(
     Ok(())
 }
 
-/// Puts the element, unless the zone has this very one, or removes it, if the zone has it.
+/// Puts the element, unless the zone already has the same one, or removes it, if the zone has it.
 fn edit_element(
     zone: &Zone,
     edit: ElementEdit,

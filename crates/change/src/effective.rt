@@ -1,6 +1,6 @@
-//! Which kept SYSMODs take effect, and what these supersede. What any kept one supersedes is found first, by one search
-//! from all of them, and then what each one that takes effect does. So the time of a chain of SUP grows with its length
-//! alone, whatever the order of its ids.
+//! Which kept SYSMODs take effect, and what these supersede. One search from all kept ones finds what any of them
+//! supersedes. Then each one that takes effect is searched from. So the time for a chain of SUP grows only with its
+//! length, whatever the order of its ids.
 ghost use Rattle.std.specs.Prelude.{◌≡◌, ◌↔◌, not, filter, Contains, IfOk, OnOk};
 ghost use Rattle.terms.specs.Types.{Id as AnId};
 ghost use Rattle.terms.specs.Choice.{sup_of};
@@ -52,7 +52,7 @@ fn all_superseded(
     let mut gone = 0;
     while gone < seen.len() {
         let id = seen.as_slice()[gone];
-        // What a kept one names is seen already.
+        // What a kept one names has been seen already.
         if !kept.contains(id) {
             see_named(vers, id, &mut seen)?;
         }

@@ -12,8 +12,8 @@ use sorted::lists::listed;
 use std::alloc::{AllocError, Global};
 use zones::{Applied, Entry, ZoneEdits, supplies_left};
 
-/// Puts the entries that the install makes of those that it may change. One that stays as it is is not put, and one
-/// that nothing holds goes.
+/// Puts the entries that the install makes of those that it may change. It does not put an entry that stays as it is,
+/// and removes one that is empty.
 pub(crate) fn put_entries(
     alloc: Global,
     deleting: &Deleting,
@@ -41,8 +41,8 @@ pub(crate) fn put_entries(
     Ok(())
 }
 
-/// The entry of a SYSMOD that takes effect: what is left of it, applied on this date. What is waived are its bypassed
-/// requisites that nothing supplies.
+/// The entry of a SYSMOD that takes effect: what is left of it, applied on this date. It waives its bypassed requisites
+/// that nothing supplies.
 fn applied_entry(
     alloc: Global,
     deleting: &Deleting,

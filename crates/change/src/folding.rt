@@ -18,8 +18,8 @@ use terms::ElemType;
 use text80::{Numbered, Update, merge};
 use zones::Element;
 
-/// The element after all these SYSMODs, which change it and of which each later one is over each earlier one. The zone
-/// has it already, as `base`, or one of them replaces it.
+/// The element after all these SYSMODs, which change it and each of which is over the earlier ones. The zone has it
+/// already, as `base`, or one of them replaces it.
 pub(crate) fn element_after(
     alloc: Global,
     vers: &VerChoice<'_>,
@@ -50,7 +50,7 @@ pub(crate) fn element_after(
     }
 }
 
-/// Where the last of these SYSMODs that replaces the element stands.
+/// The place of the last of these SYSMODs that replaces the element.
 fn last_replacement(
     global: &GlobalZone,
     elem_type: ElemType,
@@ -86,7 +86,7 @@ fn replaces(global: &GlobalZone, id: Id, elem_type: ElemType, name: Name) -> boo
     }
 }
 
-/// What these SYSMODs make of the element that is there, if one is.
+/// What these SYSMODs make of the old element, if there is one.
 fn folded(
     alloc: Global,
     vers: &VerChoice<'_>,
@@ -126,7 +126,7 @@ fn change_of(global: &GlobalZone, id: Id, elem_type: ElemType, name: Name) -> &E
     &sysmod.changes[place]
 }
 
-/// Where the statement for the element stands.
+/// The place of the statement for the element.
 fn find_change(changes: &[ElemChange], elem_type: ElemType, name: Name) -> Option<usize>
     ensures place { result ≡ position (is_for elem_type name) changes.now }
     ensures within { IfSome result (λ i. i < length changes.now) }

@@ -22,8 +22,9 @@ use std::alloc::{AllocError, Global};
 use sysmods::Overs;
 use zones::{Element, Zone, ZoneDelta, ZoneEdits, deletions};
 
-/// What is installed into which zone, by the `++VER`s that count and with what is found of who is over whom. `bypassed`
-/// has SYSMODs with a bypassed requisite of theirs, in any order; what it says of others does not matter.
+/// What is installed into which zone, by the `++VER`s that count and with the pairs of ids that are known to be over
+/// each other. `bypassed` has SYSMODs with one of their bypassed requisites, in any order. What it says about other
+/// SYSMODs does not matter.
 #[derive(Drop)]
 pub struct Installing<'a, 'b> {
     pub overs: Overs<'a, 'b>,
@@ -33,7 +34,7 @@ pub struct Installing<'a, 'b> {
     pub date: YyDdd,
 }
 
-/// What an install changes, and the kept SYSMODs that take effect. The others of them become SUPERSEDED.
+/// What an install changes, and the kept SYSMODs that take effect. The other ones become SUPERSEDED.
 #[derive(Drop)]
 pub struct Installed {
     pub delta: ZoneDelta,
@@ -41,8 +42,7 @@ pub struct Installed {
 }
 
 /// What the kept SYSMODs put into the zone and take out of it on this date. Any SYSMODs may be kept, if over orders
-/// those that change one element, and what they update is there or comes along. The error comes where memory runs out,
-/// and no other.
+/// those that change one element, and what they update exists or comes along. It fails only if memory runs out.
 pub fn install(alloc: Global, installing: Installing<'_, '_>) -> Result<Installed, AllocError>
     requires order { (x y : AnId) → Contains installing.kept.now x → Contains installing.kept.now y → x ≢ y
         → ShareElement installing.overs.global.now x y
@@ -88,7 +88,7 @@ pub fn install(alloc: Global, installing: Installing<'_, '_>) -> Result<Installe
     })
 }
 
-/// Removes the elements whose owner's chain the deletions meet. Mostly nothing is deleted.
+/// Removes the elements whose owner's chain contains one of the deletions. Usually nothing is deleted.
 fn remove_elements(deleting: &Deleting, edits: &mut Table<ElementEdit>) -> Result<(), AllocError>
     ensures { OnOk result (edits.new ≡ less_elements deleting.now edits.old deleting.now.zone.now.elements) }
 {

@@ -7,8 +7,8 @@ use fields::Id;
 use std::alloc::{AllocError, Global};
 use sysmods::Overs;
 
-/// The ids, of which over orders each two, so that each later one is over each earlier one. An id that is over all
-/// before it is asked about once, and any other one as often as it takes to halve them.
+/// The ids, any two of which over orders, so that each later one is over each earlier one. It asks once about an id
+/// that is over all before it, and about any other as often as it takes to halve them.
 pub(crate) fn in_order(
     alloc: Global,
     overs: &mut Overs<'_, '_>,
@@ -27,8 +27,8 @@ pub(crate) fn in_order(
     Ok(ordered)
 }
 
-/// The place of an id among others, which over orders: behind the last one that it is over. It tests the last one
-/// first, and then halves what is left.
+/// The place of an id among others, which over orders: after the last one that it is over. It tests the last one first,
+/// and then halves the rest.
 fn place_of(
     alloc: Global,
     overs: &mut Overs<'_, '_>,

@@ -8,7 +8,7 @@ use sorted::lists::{Lists, add};
 use std::alloc::{AllocError, Global};
 use std::collections::BTreeMap;
 
-/// The pairs whose first id is among these. The error comes where memory runs out.
+/// The pairs whose first id is among these.
 pub fn pairs_of(
     alloc: Global,
     ids: &IdList,

@@ -12,7 +12,8 @@ use sorted::lists::Lists;
 use std::alloc::{AllocError, Global};
 use zones::Zone;
 
-/// Who takes effect, who supersedes an id, what was bypassed of an id, and whose entries change.
+/// Which SYSMODs take effect, which ones supersede an id, which requisites of an id were bypassed, and which entries
+/// change.
 #[derive(Drop)]
 pub(crate) struct Plan {
     pub(crate) effective: IdList,
@@ -49,8 +50,8 @@ pub(crate) fn planned(
     })
 }
 
-/// The ids whose entries may change: those that take effect, what they supersede, and where something is deleted all
-/// that is deleted or has an entry. Mostly nothing is.
+/// The ids whose entries may change: those that take effect, what they supersede, and if something is deleted all that
+/// is deleted or has an entry. Usually nothing is.
 fn touched(
     alloc: Global,
     effective: &[Id],

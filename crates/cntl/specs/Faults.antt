@@ -1,4 +1,4 @@
--- What the errors of this crate say.
+-- What the errors of this crate mean.
 use Rattle.std.specs.Prelude.{ℕ, List}
 use Rattle.terms.specs.Statement.{Piece}
 use Rattle.terms.specs.Commands.{IsCommandFault, IsNextFault, IsCommandFileFault}

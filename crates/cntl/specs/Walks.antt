@@ -6,7 +6,7 @@ use Rattle.terms.proofs.OperandWords.{count}
 use Rattle.cntl.specs.declared.at.At.{At}
 use Rattle.cntl.specs.declared.at.At.TheVariants.{Inner, Part, Other}
 
--- what the run up to here, of which there is none in an inner list, has of the name
+-- how much of the name the run up to here contains; inside an inner list there is no run
 abbrev pub IsAt : Text → At → Text → Type 0
 IsAt name Inner run = run ≡ []
 IsAt name (Part left) run = run ++ left.now ≡ name
@@ -16,7 +16,7 @@ abbrev pub is_inner : At → Bool
 is_inner Inner = true
 is_inner _ = false
 
--- Behind the byte the name stands as often among the runs, from the run up to there on.
+-- After the byte, the runs from the run up to there on contain the name as often.
 pub record WalksOn (name : Text) (at : At) (run : Text) (byte : ℕ) (next : At) : Type 0 where
   pub goes_on : Text
   pub is_at : IsAt name next goes_on

@@ -3,14 +3,14 @@ ghost use Rattle.std.specs.Prelude.{◌≡◌, ◌≢◌, ◌==◌, ◌<◌, ◌
 ghost use Rattle.terms.specs.Forms.{is_word_byte};
 ghost use Rattle.cntl.specs.Walks.{IsAt, is_inner, WalksOn};
 
-/// Where the walk stands.
+/// The state of the walk.
 #[derive(Clone, Copy)]
 pub enum At<'n> {
-    /// In an inner list.
+    /// Inside an inner list.
     Inner,
-    /// Behind a part of the name, of which this is left.
+    /// After a part of the name; this part is left.
     Part(&'n [u8]),
-    /// In a run that the name does not begin with.
+    /// In a run that does not begin with the name.
     Other,
 }
 
@@ -25,7 +25,7 @@ fn is_part_of_word(byte: u8) -> bool
         || byte == b'+'
 }
 
-/// Behind a character of a word.
+/// After a character of a word.
 fn behind_part<'n>(left: &'n [u8], byte: u8) -> At<'n>
     ensures at { (name run : List ℕ) → run ++ left.now ≡ name → IsAt name result (run ++ byte ∷ []) }
     ensures outer { is_inner result ≡ false }
@@ -40,7 +40,7 @@ fn behind_part<'n>(left: &'n [u8], byte: u8) -> At<'n>
     }
 }
 
-/// Behind a character of no word.
+/// After a character that belongs to no word.
 fn behind_run<'n>(byte: u8, name: &'n [u8]) -> At<'n>
     ensures at { IsAt name.now result [] }
     ensures inner { is_inner result ≡ (byte == 40) }
@@ -52,7 +52,7 @@ fn behind_run<'n>(byte: u8, name: &'n [u8]) -> At<'n>
     }
 }
 
-/// Behind the byte, where the run up to here is not the name, or goes on.
+/// After the byte, if the run up to here is not the name or continues.
 pub fn behind<'n>(at: &At<'n>, byte: u8, name: &'n [u8]) -> At<'n>
     ensures { (run : List ℕ) → 0 < length name.now → IsAt name.now at.now run
         → (run ≡ name.now → is_word_byte byte ≡ true) → WalksOn name.now at.now run byte result }

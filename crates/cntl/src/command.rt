@@ -27,7 +27,7 @@ pub enum Command {
     Apply(Install),
     Accept(Install),
     Restore { list: RestoreList, check: bool },
-    /// With TEXT, the texts of elements are listed too.
+    /// With TEXT, LIST prints the texts of elements too.
     List { text: bool },
     /// REPORT ERRSYSMODS.
     Report,

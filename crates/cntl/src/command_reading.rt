@@ -19,7 +19,7 @@ use rec80::{OperandError, Piece, Words};
 use std::alloc::Global;
 use terms::{CommandCode, CommandWord};
 
-/// Takes the word that a command begins with.
+/// Takes the word with which a command begins.
 fn take_command_word(left: &mut Words<'_>) -> Option<CommandWord>
     ensures word { IfSome result (λ w. (pieces : List AnyPiece) → LeavesPieces left.old pieces
         → (rest : List AnyPiece) × BeginsWith pieces w rest × LeavesPieces left.new rest) }
@@ -33,10 +33,10 @@ fn take_command_word(left: &mut Words<'_>) -> Option<CommandWord>
     read_word(text)
 }
 
-/// The command of these words. `Memory` comes where memory runs out, and `Fault` has the first that applies of
-/// `UnknownCommand` where they begin with no command, `OperandTwice` where an operand or a member of BYPASS comes
-/// twice, `NoSingleList` where RESTORE has SELECT and GROUP or none of them, and `BadCommandOperand` where anything
-/// else is wrong with an operand.
+/// The command of these words. Returns `Memory` if memory runs out. `Fault` is the first that applies of
+/// `UnknownCommand` if they begin with no command, `OperandTwice` if an operand or a member of BYPASS occurs twice,
+/// `NoSingleList` if RESTORE has both SELECT and GROUP or neither, and `BadCommandOperand` if anything else is wrong
+/// with an operand.
 pub fn read_command(alloc: Global, words: &Words<'_>) -> Result<Command, CommandReadError>
     ensures command { (pieces : List AnyPiece) → LeavesPieces words.now pieces
         → IfOk result (λ c. IsCommand pieces (command_of c)) }

@@ -1,4 +1,4 @@
-//! Operands and members of BYPASS that a command has twice, whatever else is wrong in it.
+//! Operands and members of BYPASS that occur twice in a command, whatever else is wrong with it.
 ghost use Rattle.std.specs.Prelude.{◌≡◌, List};
 ghost use Rattle.terms.specs.Statement.{Piece};
 ghost use Rattle.terms.specs.Commands.{has_double};
@@ -9,7 +9,7 @@ use crate::tables::{members_of, operands_of};
 use rec80::Operands;
 use terms::CommandWord;
 
-/// Whether a known operand of the command is there twice, or a member that its BYPASS may have.
+/// Whether a known operand of the command occurs twice, or a member that its BYPASS may have.
 pub fn has_double(word: CommandWord, operands: &Operands<'_>) -> bool
     ensures { (pieces : List Piece) → IsRead pieces operands.now
         → result ≡ has_double word pieces }

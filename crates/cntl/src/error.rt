@@ -12,7 +12,7 @@ pub enum CommandReadError {
     Fault(CommandCode),
 }
 
-/// Why a command file is not read: the first command at fault begins in this record.
+/// Why a command file is not read: the first bad command begins in this record.
 #[derive(Clone, Copy, Debug, PartialEq, Eq, Error)]
 pub enum CntlError {
     #[error("out of memory")]

@@ -15,7 +15,7 @@ use rec80::{Commands, records};
 use std::alloc::Global;
 use terms::CommandCode;
 
-/// Takes the next command. Behind the last one there is none.
+/// Takes the next command, if there is one.
 fn read_next(alloc: Global, left: &mut Commands<'_>) -> Result<Option<Command>, CntlError>
     ensures command { IfOk result (λ found. IfSome found (λ c. (pieces : List Piece) × (number : ℕ)
         × TakesCommand left.old.number left.old.rest.now pieces number left.new.number left.new.rest.now
@@ -46,9 +46,9 @@ fn read_next(alloc: Global, left: &mut Commands<'_>) -> Result<Option<Command>, 
     }
 }
 
-/// The commands of a command file. `Memory` comes where memory runs out. `Fault` is `BadCommandForm` at the first bad
-/// record, wherever it stands; else the fault of the first faulty command, at the record where this begins:
-/// `BadCommandForm` also where its form is at fault, or where a comment between commands is not closed.
+/// The commands of a command file. Returns `Memory` if memory runs out. `Fault` is `BadCommandForm` at the first bad
+/// record, wherever it is. Otherwise it is the fault of the first bad command, at the record where the command begins:
+/// `BadCommandForm` also if its form is bad, or if a comment between commands is not closed.
 pub fn read_cntl(alloc: Global, bytes: &[u8]) -> Result<Vec<Command>, CntlError>
     ensures commands { IfOk result (λ read. IsCommandFile bytes.now (map command_of read.items)) }
     ensures good { (cs : List terms.Command) → IsCommandFile bytes.now cs → IfErr result (λ e. e ≡ CntlError.Memory) }

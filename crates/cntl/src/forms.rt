@@ -74,7 +74,7 @@ fn install(alloc: Global, word: CommandWord, words: &[Word<'_>]) -> Result<Insta
     })
 }
 
-/// The ids of SELECT or of GROUP, of which one is there and not both.
+/// The ids of SELECT or of GROUP; exactly one of them is present.
 fn restore_list(alloc: Global, words: &[Word<'_>]) -> Result<RestoreList, OperandError>
     ensures ok { IfOk result (λ list. HasRestoreList (words_of words.now) (restore_list_of list)) }
     ensures bad { IfErr result (λ e. Excludes e ((list : terms.RestoreList)
@@ -87,9 +87,9 @@ fn restore_list(alloc: Global, words: &[Word<'_>]) -> Result<RestoreList, Operan
     }
 }
 
-/// The command of this word and of the operands that are left, which are known ones. No member of BYPASS is there
-/// twice. `Memory` comes where memory runs out, `Bad` where an operand has not its form, where one that the command
-/// needs is absent, and where RESTORE has both SELECT and GROUP.
+/// The command of this word and of the remaining operands, which are known ones. No member of BYPASS occurs twice.
+/// Returns `Memory` if memory runs out, and `Bad` if an operand has a bad form, if one that the command needs is
+/// absent, or if RESTORE has both SELECT and GROUP.
 pub fn read_operands(
     alloc: Global,
     word: CommandWord,

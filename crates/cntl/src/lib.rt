@@ -1,6 +1,5 @@
-//! Command files: their commands, or the first fault.
-//! `read_cntl` answers the commands that the grammar relates the file to, else its first fault with the record; no file
-//! has both.
+//! Command files: their commands, or the first fault. `read_cntl` returns the commands to which the grammar relates the
+//! file, or its first fault with the record. No file has both.
 #![tactic(auto)]
 
 mod at;

@@ -14,7 +14,7 @@ use std::alloc::Global;
 /// How many members a list may have.
 const MOST: usize = 1000;
 
-/// Whether the operand of that name is there, which has no list. The error comes where it has one.
+/// Whether there is an operand of that name, which has no list. Returns an error if it has one.
 pub fn flag_of(words: &[Word<'_>], name: &[u8]) -> Result<bool, BadOperand>
     ensures ok { IfOk result (λ flag. HasFlag (operand name.now (words_of words.now)) flag) }
     ensures bad { OnErr result ((flag : Bool)
@@ -23,7 +23,7 @@ pub fn flag_of(words: &[Word<'_>], name: &[u8]) -> Result<bool, BadOperand>
     flag(&operand(words, name))
 }
 
-/// The members of the word's list in rising order. `Memory` comes where memory runs out, `Bad` where the word has no
+/// The members of the word's list in rising order. Returns `Memory` if memory runs out, and `Bad` if the word has no
 /// list of such members, more than 1,000 of them, or one of them twice.
 pub fn short_list<T: Member>(alloc: Global, word: &Word<'_>) -> Result<Rising<T>, OperandError>
     ensures ok { IfOk result (λ list. HasSorted T.form (word_of word.now) (map T.text list)
@@ -38,8 +38,8 @@ pub fn short_list<T: Member>(alloc: Global, word: &Word<'_>) -> Result<Rising<T>
     Ok(list)
 }
 
-/// The members of the list of an operand, none where it is absent. `Memory` comes where memory runs out, `Bad` where the
-/// operand is there and has no list of such members, more than 1,000 of them, or one of them twice.
+/// The members of the list of an operand, or none if it is absent. Returns `Memory` if memory runs out, and `Bad` if
+/// the operand is present and has no list of such members, more than 1,000 of them, or one of them twice.
 pub fn optional_list<T: Member>(
     alloc: Global,
     words: &[Word<'_>],
@@ -55,8 +55,8 @@ pub fn optional_list<T: Member>(
     }
 }
 
-/// The ids of an operand that must be there. `Memory` comes where memory runs out, `Bad` where it is not, or has no
-/// list of ids, more than 1,000 of them, or one of them twice.
+/// The ids of an operand that must be present. Returns `Memory` if memory runs out, and `Bad` if the operand is absent,
+/// or has no list of ids, more than 1,000 of them, or one of them twice.
 pub fn some_ids(alloc: Global, words: &[Word<'_>], name: &[u8]) -> Result<IdList, OperandError>
     ensures ok { IfOk result (λ list. HasSome IsId (operand name.now (words_of words.now)) list) }
     ensures bad { IfErr result (λ e. Excludes e ((list : List (List ℕ))

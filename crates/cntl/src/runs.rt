@@ -9,7 +9,7 @@ ghost use Rattle.rec80.specs.Cursors.{text_of};
 use crate::at::{At, behind, ends_before, is_whole};
 use rec80::Text;
 
-/// What stands behind the first run that is the name.
+/// The text after the first run that is the name.
 fn behind_name<'a>(list: &Text<'a>, name: &[u8]) -> Option<Text<'a>>
     ensures found { IfSome result (λ after. 0 < length name.now → count name.now (runs_from false [] (text_of list.now))
         ≡ 1 + count name.now (runs_from false [] (text_of after))) }
@@ -37,7 +37,7 @@ fn runs_twice(list: &Text<'_>, name: &[u8]) -> bool
     behind_name(&after, name).is_some()
 }
 
-/// Whether one of the names, none of which is empty, is there twice.
+/// Whether one of the names, none of which is empty, occurs twice.
 pub fn any_run_twice(names: &[&[u8]], list: &Text<'_>) -> bool
     ensures { All (λ name. 0 < length name.now) names.now
         → result ≡ list_any (λ name. is_often 2 (runs_from false [] (text_of list.now)) name.now) names.now }

@@ -1,10 +1,10 @@
-//! What holds of each value of a type.
+//! Facts about each value of a type.
 
-/// A value of which something holds that a contract needs where it sees the value alone.
+/// A value with a fact about it, for contracts that see only the value.
 pub trait Attest {
     ghost form: { Self → Type 0 };
 
-    /// It holds. The call does nothing.
+    /// The fact holds. The call does nothing.
     fn attest(&self)
         ensures { form self.now };
 }

@@ -1,4 +1,4 @@
-//! What APPLY and ACCEPT leave out of account.
+//! What APPLY and ACCEPT disregard.
 ghost use Rattle.std.specs.Prelude.{◌≡◌, false};
 ghost use Rattle.terms.specs.CommandForms.{no_bypass};
 
@@ -6,7 +6,7 @@ use crate::{ClassList, ReasonList};
 use std::alloc::Global;
 use std::marker::Model;
 
-/// The reasons of holds that HOLDERROR, HOLDSYSTEM or HOLDUSER covers: those of its list, without a list all.
+/// The reasons of holds that HOLDERROR, HOLDSYSTEM or HOLDUSER covers: those of its list, or all if it has no list.
 #[derive(Drop)]
 pub enum Reasons {
     None,
@@ -14,7 +14,7 @@ pub enum Reasons {
     These(ReasonList),
 }
 
-/// The members of BYPASS (`ID` is `same_id`). Classes are those of HOLDCLASS, which covers holds of each kind.
+/// The members of BYPASS (`ID` is `same_id`). The classes are those of HOLDCLASS, which covers holds of every kind.
 #[derive(Drop)]
 pub struct Bypass {
     pub pre: bool,

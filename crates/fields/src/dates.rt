@@ -1,4 +1,4 @@
-//! The date on which a zone took a SYSMOD in.
+//! The date on which a zone applied or accepted a SYSMOD.
 ghost use Rattle.std.specs.Prelude.{◌≡◌, ◌↔◌, IsSome, IfSome, ◌≤◌, IsTrue};
 ghost use Rattle.terms.specs.Forms.{IsDottedDate, dotted_date, last_digit};
 
@@ -44,7 +44,7 @@ impl Attest for YyDdd {
 }
 
 impl YyDdd {
-    /// The date of this text, where it has the form.
+    /// The date of this text, if it has the form.
     pub fn read(text: &[u8]) -> Option<YyDdd>
         ensures form { IsSome result ↔ IsDottedDate text.now }
         ensures same { IfSome result (λ read. read ≡ text.now) }
@@ -65,7 +65,7 @@ impl YyDdd {
         self.text.as_bytes()
     }
 
-    /// The date of a day, which counts from 1 in its year.
+    /// The date of a day, which counts from 1 within its year.
     pub fn new(year: u16, day: u16) -> YyDdd
         requires first { 1 ≤ day }
         requires last { day ≤ 366 }

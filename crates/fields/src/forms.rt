@@ -21,14 +21,14 @@ fn is_id_byte(b: u8) -> bool
     is_letter(b) || is_digit(b) || matches!(b, b'$' | b'#' | b'@')
 }
 
-// Whether the text has so many of the characters of ids, and no others.
+// Whether the text consists of so many of the characters of ids.
 pub(crate) fn is_run(text: &[u8], least: usize, most: usize) -> bool
     ensures { IsTrue result ↔ IsRun is_id_byte least most text.now }
 {
     least <= text.len() && text.len() <= most && text.iter().all(|b| is_id_byte(*b))
 }
 
-// Whether the text is so many digits.
+// Whether the text consists of so many digits.
 pub(crate) fn are_digits(text: &[u8], count: usize) -> bool
     ensures { IsTrue result ↔ IsRun is_digit count count text.now }
 {

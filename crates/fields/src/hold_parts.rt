@@ -1,4 +1,4 @@
-//! What a hold is made of.
+//! The parts of a hold.
 ghost use Rattle.std.specs.Prelude.{◌≡◌, ◌↔◌, IsSome, IfSome, IsTrue};
 ghost use Rattle.terms.specs.Forms.{IsClass, IsId, IsDate};
 
@@ -8,7 +8,7 @@ use crate::padded::Short;
 use crate::rising_lists::Field;
 use std::marker::Model;
 
-/// The reason of a hold, which of an ERROR hold is an id. A contract sees it as its bytes.
+/// The reason of a hold, for an ERROR hold an id. A contract sees it as its bytes.
 #[derive(Clone, Copy, Debug, PartialEq, Eq, PartialOrd, Ord, Hash)]
 pub struct Reason {
     text: Short<7>,
@@ -34,7 +34,7 @@ impl Field for Reason {
 }
 
 impl Reason {
-    /// The value of this text, where it has the form.
+    /// The value of this text, if it has the form.
     pub fn read(text: &[u8]) -> Option<Reason>
         ensures form { IsSome result ↔ IsClass text.now }
         ensures same { IfSome result (λ read. read ≡ text.now) }
@@ -55,14 +55,14 @@ impl Reason {
         self.text.as_bytes()
     }
 
-    /// Whether it has the form of an id, as an ERROR hold asks of its reason.
+    /// Whether it has the form of an id, as the reason of an ERROR hold must.
     pub fn is_id(&self) -> bool
         ensures { IsTrue result ↔ IsId self.now }
     {
         is_run(self.as_bytes(), 7, 7)
     }
 
-    /// The id that it is, where it has the form of one.
+    /// The id that it is, if it has the form of one.
     pub fn as_id(&self) -> Option<Id>
         ensures form { IsSome result ↔ IsId self.now }
         ensures same { IfSome result (λ id. id ≡ self.now) }
@@ -97,7 +97,7 @@ impl Field for HoldDate {
 }
 
 impl HoldDate {
-    /// The value of this text, where it has the form.
+    /// The value of this text, if it has the form.
     pub fn read(text: &[u8]) -> Option<HoldDate>
         ensures form { IsSome result ↔ IsDate text.now }
         ensures same { IfSome result (λ read. read ≡ text.now) }

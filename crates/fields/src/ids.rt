@@ -33,7 +33,7 @@ impl Field for Id {
 }
 
 impl Id {
-    /// The value of this text, where it has the form.
+    /// The value of this text, if it has the form.
     pub fn read(text: &[u8]) -> Option<Id>
         ensures form { IsSome result ↔ IsId text.now }
         ensures same { IfSome result (λ read. read ≡ text.now) }
@@ -55,7 +55,7 @@ impl Id {
     }
 }
 
-/// A source id, by which SYSMODs are chosen. A contract sees it as its bytes.
+/// A source id, by which commands choose SYSMODs. A contract sees it as its bytes.
 #[derive(Clone, Copy, Debug, PartialEq, Eq, PartialOrd, Ord, Hash)]
 pub struct Source {
     text: Short<64>,
@@ -81,7 +81,7 @@ impl Field for Source {
 }
 
 impl Source {
-    /// The value of this text, where it has the form.
+    /// The value of this text, if it has the form.
     pub fn read(text: &[u8]) -> Option<Source>
         ensures form { IsSome result ↔ IsSource text.now }
         ensures same { IfSome result (λ read. read ≡ text.now) }
@@ -129,7 +129,7 @@ impl Field for Class {
 }
 
 impl Class {
-    /// The value of this text, where it has the form.
+    /// The value of this text, if it has the form.
     pub fn read(text: &[u8]) -> Option<Class>
         ensures form { IsSome result ↔ IsClass text.now }
         ensures same { IfSome result (λ read. read ≡ text.now) }

@@ -1,9 +1,9 @@
-//! The small values that files, tables and commands share: each is checked once, where it is made.
-//! Ids, names, dates, reasons and classes are read just where the text has their form, and contracts see them as that
-//! text; their order and equality are the text's. The number of a `++VER` is one that a table's column holds. A list
-//! that rises (`Rising`) is its items, with look-ups by binary search. Each kind, type and code has one word, in files,
-//! tables and reports alike (`spelling`). What commands choose and bypass are plain values, whatever file they come
-//! from.
+//! The small values that files, tables and commands share. Each is checked once, when it is made. Ids, names, dates,
+//! reasons and classes are read exactly if the text has their form. Contracts see them as that text, and their order
+//! and equality are the text's. The number of a `++VER` fits into a column of a table. A list that rises (`Rising`) is
+//! its items, found by binary search. Each kind, type and code has one word, in files, tables and reports alike
+//! (`spelling`). What commands choose and bypass are plain values, whatever file they come from. Every call that
+//! allocates returns `AllocError` if memory runs out, and then changes nothing.
 #![tactic(auto)]
 
 mod attest;

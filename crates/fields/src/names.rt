@@ -34,7 +34,7 @@ impl Field for Name {
 }
 
 impl Name {
-    /// The value of this text, where it has the form.
+    /// The value of this text, if it has the form.
     pub fn read(text: &[u8]) -> Option<Name>
         ensures form { IsSome result ↔ IsName text.now }
         ensures same { IfSome result (λ read. read ≡ text.now) }
@@ -92,7 +92,7 @@ impl Attest for ZoneName {
 }
 
 impl ZoneName {
-    /// The value of this text, where it has the form.
+    /// The value of this text, if it has the form.
     pub fn read(text: &[u8]) -> Option<ZoneName>
         ensures form { IsSome result ↔ IsZoneName text.now }
         ensures same { IfSome result (λ read. read ≡ text.now) }
@@ -113,7 +113,7 @@ impl ZoneName {
         self.text.as_bytes()
     }
 
-    /// Whether it names the global zone.
+    /// Whether it is the name of the global zone.
     pub fn is_global(&self) -> bool
         ensures { IsTrue result ↔ (self.now ≡ codes "GLOBAL") }
     {
@@ -121,7 +121,7 @@ impl ZoneName {
     }
 }
 
-/// A system release, by which `++VER`s and zones go together. A contract sees it as its four bytes.
+/// A system release (SREL), which relates `++VER`s to zones. A contract sees it as its four bytes.
 #[derive(Clone, Copy, Debug, PartialEq, Eq, PartialOrd, Ord, Hash)]
 pub struct Srel {
     text: Short<4>,
@@ -157,7 +157,7 @@ impl Attest for Srel {
 }
 
 impl Srel {
-    /// The value of this text, where it has the form.
+    /// The value of this text, if it has the form.
     pub fn read(text: &[u8]) -> Option<Srel>
         ensures form { IsSome result ↔ IsSrel text.now }
         ensures same { IfSome result (λ read. read ≡ text.now) }

@@ -1,4 +1,4 @@
-//! A text of a few bytes that lies in its value, with equality and order by its bytes.
+//! A text of a few bytes that its value holds in place, with equality and order by its bytes.
 ghost use Rattle.std.specs.Prelude.{◌≡◌, ◌<◌, ◌≤◌, ◌^◌, length, All, Some, List, ℕ, refl};
 ghost use Rattle.std.specs.Hash as fed;
 ghost use Rattle.std.specs.Ordering.{nat_cmp};
@@ -16,7 +16,7 @@ use std::marker::Model;
 /// A text of at most `N` bytes. A contract sees it as its bytes.
 #[derive(Clone, Copy, Debug)]
 pub(crate) struct Short<const N: usize> {
-    // The text, and zeros behind it.
+    // The text, padded with zeros.
     bytes: [u8; N],
     len: u8,
 }
@@ -57,7 +57,7 @@ impl<const N: usize> Short<N> {
         &self.bytes[..usize::from(self.len)]
     }
 
-    // The bytes and behind them the length, as one number: two of these are compared faster than two texts.
+    // The bytes, followed by the length, as one number: two numbers are compared faster than two texts.
     fn number(&self) -> u64
         requires { N ≡ 7 }
         ensures same { result ≡ number_of self.now }

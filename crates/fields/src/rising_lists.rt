@@ -1,4 +1,4 @@
-//! Lists that rise by their bytes, none twice, as statements and tables have them.
+//! Lists that rise by their bytes, none twice, as in statements and tables.
 ghost use Rattle.std.specs.Prelude.{◌≡◌, ◌↔◌, ◌++◌, [], ◌∷◌, length, not, IsTrue, All, Contains, IfOk, OnOk, OnErr};
 ghost use Rattle.std.specs.Prelude.{if◌then◌else◌};
 ghost use Rattle.std.specs.List.{list_any};
@@ -12,7 +12,7 @@ use std::alloc::{AllocError, Global};
 use std::marker::Model;
 use std::slice::Iter;
 
-/// A value whose order tells it apart from every other.
+/// A value whose order tells it apart from every other one.
 pub trait Field: Ord + Copy {
     ghost use Rattle.std.specs.declared.cmp.Ordering.TheVariants.{Equal};
 
@@ -47,7 +47,7 @@ impl<T: Field> Attest for Rising<T> {
 }
 
 impl<T: Field> Rising<T> {
-    /// A list of nothing.
+    /// An empty list.
     pub fn new(alloc: Global) -> Self
         ensures { result ≡ [] }
     {
@@ -63,7 +63,7 @@ impl<T: Field> Rising<T> {
         self.items.len()
     }
 
-    /// Whether it has no item.
+    /// Whether it is empty.
     pub fn is_empty(&self) -> bool
         ensures { IsTrue result ↔ (self.now ≡ []) }
     {
@@ -93,8 +93,7 @@ impl<T: Field> Rising<T> {
         self.items.binary_search(&item).is_ok()
     }
 
-    /// Puts the item into the list, and answers whether it is new. The error comes where memory runs out, and changes
-    /// nothing.
+    /// Puts the item into the list, and returns whether it is new.
     pub fn insert(&mut self, item: T) -> Result<bool, AllocError>
         ensures added { IfOk result (λ added. added ≡ not (list_any (T.eq item) self.old)) }
         ensures ok { OnOk result (self.new ≡ with_item T.cmp (λ x. x) self.old item) }
@@ -109,7 +108,7 @@ impl<T: Field> Rising<T> {
         }
     }
 
-    /// Takes the item out of the list, and answers whether it was there.
+    /// Takes the item out of the list, and returns whether it was there.
     pub fn remove(&mut self, item: T) -> bool
         ensures found { result ≡ list_any (T.eq item) self.old }
         ensures after { self.new ≡ without_key T.cmp (λ x. x) self.old item }
@@ -123,8 +122,7 @@ impl<T: Field> Rising<T> {
         }
     }
 
-    /// Adds an item that all others stand before, and answers whether it is one. The error comes where memory runs out,
-    /// and changes nothing.
+    /// Adds an item that comes after all others. Returns whether it does.
     pub fn push_last(&mut self, item: T) -> Result<bool, AllocError>
         ensures fits { IfOk result
             (λ fits. IsTrue fits ↔ All (λ x. IsTrue (is_lt (T.cmp x item))) self.old) }
@@ -139,7 +137,7 @@ impl<T: Field> Rising<T> {
         Ok(fits)
     }
 
-    /// A list of the same items. The error comes where memory runs out.
+    /// A list of the same items.
     pub fn try_clone(&self, alloc: Global) -> Result<Self, AllocError>
         ensures { IfOk result (λ copy. copy ≡ self.now) }
     {
@@ -148,7 +146,7 @@ impl<T: Field> Rising<T> {
         })
     }
 
-    /// Sorts the items and drops doubles.
+    /// Sorts the items and removes duplicates.
     pub fn from_vec(mut items: Vec<T>) -> Self
         ensures { (x : T) → Contains result x ↔ Contains items.items x }
     {
@@ -158,7 +156,7 @@ impl<T: Field> Rising<T> {
     }
 }
 
-// Whether all items, which rise, stand before this one.
+// Whether all items, which rise, come before this one.
 fn stands_last<T: Field>(items: &[T], item: T) -> bool
     requires { Rises T.cmp (λ x. x) items.now }
     ensures { IsTrue result ↔ All (λ x. IsTrue (is_lt (T.cmp x item))) items.now }

@@ -3,8 +3,8 @@ use crate::ids::Source;
 use crate::{IdList, SourceList};
 use std::marker::Model;
 
-/// What RECEIVE reads: PTFIN for `sysmods`, the hold file for `holddata`, one of them or both. It adds
-/// the source to SYSMODs.
+/// What RECEIVE reads: PTFIN for `sysmods`, the hold file for `holddata`, at least one of them. It adds the source to
+/// SYSMODs.
 #[derive(Drop)]
 pub struct ReceiveWhat {
     pub sysmods: bool,
@@ -20,7 +20,7 @@ impl Model for ReceiveWhat {
     ghost view = { λ a. record { sysmods = a.sysmods; holddata = a.holddata; source = a.source } };
 }
 
-/// What APPLY or ACCEPT chooses. An operand that is absent is an empty list.
+/// What APPLY or ACCEPT chooses. An absent operand is an empty list.
 #[derive(Drop)]
 pub struct Selection {
     pub functions: bool,
@@ -54,7 +54,7 @@ impl Model for Selection {
     } };
 }
 
-/// The SYSMODs that RESTORE is to take off: those of SELECT, or those of GROUP and all that these make it take.
+/// The SYSMODs that RESTORE takes off: those of SELECT, or those of GROUP with all that these bring along.
 #[derive(Drop)]
 pub enum RestoreList {
     Select(IdList),

@@ -1,5 +1,5 @@
-//! How kinds, types and codes are spelled in files, tables and reports.
-//! Each has its word, and what is read is spelled so.
+//! How kinds, types and codes are spelled in files, tables and reports. Each has one word, which is both written and
+//! read.
 ghost use Rattle.std.specs.Prelude.{◌≡◌, ◌≢◌, IfSome, IfNone};
 ghost use Rattle.terms.specs.declared.kinds.Kind.{Kind};
 ghost use Rattle.terms.specs.declared.kinds.HoldKind.{HoldKind};
@@ -15,7 +15,7 @@ use terms::{
     ZoneKind,
 };
 
-/// A SYSMOD's type, as it is spelled.
+/// The word for a SYSMOD's type.
 pub fn kind_text(kind: Kind) -> &'static [u8]
     ensures { result.now ≡ kind_text kind }
 {
@@ -27,7 +27,7 @@ pub fn kind_text(kind: Kind) -> &'static [u8]
     }
 }
 
-/// A SYSMOD's type that is spelled so.
+/// The SYSMOD's type for this word.
 pub fn read_kind(text: &[u8]) -> Option<Kind>
     ensures found { IfSome result (λ found. kind_text found ≡ text.now) }
     ensures none { IfNone result ((other : Kind) → kind_text other ≢ text.now) }
@@ -41,7 +41,7 @@ pub fn read_kind(text: &[u8]) -> Option<Kind>
     }
 }
 
-/// A hold's kind, as it is spelled.
+/// The word for a hold's kind.
 pub fn hold_text(hold: HoldKind) -> &'static [u8]
     ensures { result.now ≡ hold_text hold }
 {
@@ -52,7 +52,7 @@ pub fn hold_text(hold: HoldKind) -> &'static [u8]
     }
 }
 
-/// A hold's kind that is spelled so.
+/// The hold's kind for this word.
 pub fn read_hold(text: &[u8]) -> Option<HoldKind>
     ensures found { IfSome result (λ found. hold_text found ≡ text.now) }
     ensures none { IfNone result ((other : HoldKind) → hold_text other ≢ text.now) }
@@ -65,7 +65,7 @@ pub fn read_hold(text: &[u8]) -> Option<HoldKind>
     }
 }
 
-/// An element's type, as it is spelled.
+/// The word for an element's type.
 pub fn type_text(elem_type: ElemType) -> &'static [u8]
     ensures { result.now ≡ type_text elem_type }
 {
@@ -80,7 +80,7 @@ pub fn type_text(elem_type: ElemType) -> &'static [u8]
     }
 }
 
-/// An element's type that is spelled so.
+/// The element's type for this word.
 pub fn read_type(text: &[u8]) -> Option<ElemType>
     ensures found { IfSome result (λ found. type_text found ≡ text.now) }
     ensures none { IfNone result ((other : ElemType) → type_text other ≢ text.now) }
@@ -97,7 +97,7 @@ pub fn read_type(text: &[u8]) -> Option<ElemType>
     }
 }
 
-/// A zone's kind, as it is spelled.
+/// The word for a zone's kind.
 pub fn zone_kind_text(zone_kind: ZoneKind) -> &'static [u8]
     ensures { result.now ≡ zone_kind_text zone_kind }
 {
@@ -107,7 +107,7 @@ pub fn zone_kind_text(zone_kind: ZoneKind) -> &'static [u8]
     }
 }
 
-/// A zone's kind that is spelled so.
+/// The zone's kind for this word.
 pub fn read_zone_kind(text: &[u8]) -> Option<ZoneKind>
     ensures found { IfSome result (λ found. zone_kind_text found ≡ text.now) }
     ensures none { IfNone result ((other : ZoneKind) → zone_kind_text other ≢ text.now) }
@@ -121,7 +121,7 @@ pub fn read_zone_kind(text: &[u8]) -> Option<ZoneKind>
     }
 }
 
-/// The fault of a statement file, as it is spelled.
+/// The code for a fault of a PTFIN or hold file.
 pub fn statement_code_text(code: StatementCode) -> &'static [u8]
     ensures { result.now ≡ statement_code_text code }
 {
@@ -135,7 +135,7 @@ pub fn statement_code_text(code: StatementCode) -> &'static [u8]
     }
 }
 
-/// The fault of a command file, as it is spelled.
+/// The code for a fault of a command file.
 pub fn command_code_text(code: CommandCode) -> &'static [u8]
     ensures { result.now ≡ command_code_text code }
 {
@@ -148,7 +148,7 @@ pub fn command_code_text(code: CommandCode) -> &'static [u8]
     }
 }
 
-/// The word that a command begins with, as it is spelled.
+/// The word with which a command begins.
 pub fn word_text(word: CommandWord) -> &'static [u8]
     ensures { result.now ≡ word_text word }
 {
@@ -182,7 +182,7 @@ pub fn read_word(text: &[u8]) -> Option<CommandWord>
     }
 }
 
-/// A test, as it is spelled.
+/// The code for a test.
 pub fn test_text(test: Test) -> &'static [u8]
     ensures { result.now ≡ test_text test }
 {
@@ -203,7 +203,7 @@ pub fn test_text(test: Test) -> &'static [u8]
     }
 }
 
-/// What an id is needed for, as it is spelled.
+/// The word for the kind of a need.
 pub fn need_text(need: NeedKind) -> &'static [u8]
     ensures { result.now ≡ need_text need }
 {
@@ -219,7 +219,7 @@ pub fn need_text(need: NeedKind) -> &'static [u8]
     }
 }
 
-/// Why an id was refused, as it is spelled.
+/// The code for the refusal of an id.
 pub fn refusal_text(refusal: IdRefusal) -> &'static [u8]
     ensures { result.now ≡ refusal_text refusal }
 {

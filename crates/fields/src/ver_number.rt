@@ -3,8 +3,8 @@ ghost use Rattle.std.specs.Prelude.{◌≡◌, ◌+◌, ◌<◌, ◌≤◌, ◌^
 
 use std::marker::Model;
 
-/// Which `++VER` it is among those of its SYSMOD for one SREL, counted from 1. A contract sees it as that number. An
-/// integer column of a table can hold each.
+/// The place of a `++VER` among those of its SYSMOD for one SREL, counted from 1. A contract sees it as that number. It
+/// fits into an integer column of a table.
 #[derive(Clone, Copy, Debug, PartialEq, Eq)]
 pub struct VerNumber {
     value: usize,

@@ -1,4 +1,4 @@
--- What is said of the candidates of an APPLY or ACCEPT, by their ids and by their numbers.
+-- The assessment of the candidates of an APPLY or ACCEPT, by their ids and by their numbers.
 use Rattle.std.specs.Prelude.{List, map}
 use Rattle.terms.specs.Types.{Id}
 use Rattle.terms.specs.Tests.{Setting, Fails, IsEligible, AreSurvivors}
@@ -8,7 +8,7 @@ use Rattle.judge_system.specs.declared.stated.Assessment.{Assessment}
 use Rattle.judge_system.specs.Judged.{AreJudged, IsJudged}
 use Rattle.judge_needs.specs.Pairs.{AreBypassed}
 
--- It is so by the command's tests and needs; what is needed depends on the survivors.
+-- It follows the command's tests and needs. The needs depend on the survivors.
 pub record IsInstallAssessed (s : Setting) (said : Assessment) : Type 0 where
   pub survivors : List Id
   pub are_survivors : AreSurvivors s survivors
@@ -16,7 +16,7 @@ pub record IsInstallAssessed (s : Setting) (said : Assessment) : Type 0 where
       (map (λ row. row.items) said.tests.items) said.needs.items said.superseded.items
   pub bypassed : AreBypassed s s.cands said.bypassed.items
 
--- so it is of the numbered candidates
+-- the same for the numbered candidates
 pub record IsInstallJudged (s : Setting) (j : Judged) : Type 0 where
   pub survivors : List Id
   pub are_survivors : AreSurvivors s survivors

@@ -5,12 +5,12 @@ use Rattle.terms.specs.declared.codes.Test.{Test}
 use Rattle.terms.specs.declared.codes.Test.TheVariants.{InClash}
 use Rattle.terms.specs.Types.{Id}
 
--- whether it is the test that survivors alone fail
+-- whether it is the test that only survivors fail
 abbrev pub is_clash : Test → Bool
 is_clash InClash = true
 is_clash _ = false
 
--- the candidate stands in front of a place, and fails at most that test
+-- the candidate comes before a place, and fails at most that test
 pub record SurvivesIn (ids : List Id) (rows : List (List Test)) (end : ℕ) (x : Id) : Type 0 where
   pub place : ℕ
   pub below : place < end

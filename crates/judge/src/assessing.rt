@@ -1,4 +1,4 @@
-//! What is said of the candidates of an APPLY or ACCEPT, by their ids.
+//! The assessment of the candidates of an APPLY or ACCEPT, by their ids.
 ghost use Rattle.std.specs.Prelude.{All, IsTrue, IfOk, option_copied};
 ghost use Rattle.terms.specs.Candidates.{is_installable};
 ghost use Rattle.sysmods.specs.Overs.{AreOver};
@@ -13,7 +13,7 @@ use std::alloc::{AllocError, Global};
 use sysmods::KnownOvers;
 use zones::{Scope, Zone};
 
-/// What is said of the candidates, and what the tests have found of who is over whom.
+/// The assessment of the candidates, and the pairs of ids that the tests found to be over each other.
 #[derive(Drop)]
 pub(crate) struct Assessed {
     pub(crate) said: Assessment,

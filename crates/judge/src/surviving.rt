@@ -1,4 +1,4 @@
-//! The survivors: candidates that fail at most the test which looks at survivors alone.
+//! The survivors: candidates that fail at most the test that looks only at survivors.
 ghost use Rattle.std.specs.Prelude.{◌≡◌, ◌↔◌, ◌<◌, ◌++◌, [], ◌∷◌, length, map, slice_get, Some, Contains, OnOk, IfOk};
 ghost use Rattle.std.specs.Prelude.{if◌then◌else◌};
 ghost use Rattle.std.specs.List.{list_all};

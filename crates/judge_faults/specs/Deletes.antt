@@ -1,4 +1,4 @@
--- What those candidates name in DELETE that pass the tests that look at each by itself, and whom that takes.
+-- What the candidates that pass the tests of their own name in DELETE, and which candidates that takes out.
 use Rattle.std.specs.Prelude.{◌≡◌, ◌↔◌, ◌<◌, ◌&&◌, ℕ, Bool, List, Some, IsTrue, Contains, slice_get}
 use Rattle.terms.specs.Types.{Id, Global}
 use Rattle.terms.specs.Choice.{Choice, del_of}
@@ -6,14 +6,14 @@ use Rattle.terms.specs.Deleted.{is_deleted}
 use Rattle.judge_faults.specs.declared.own.OwnFaults.{OwnFaults}
 use Rattle.judge_faults.specs.Own.{passes_alone}
 
--- the candidate at the place passes the tests that look at it by itself
+-- the candidate at the place passes the tests of its own
 pub record PassesAloneAt (ids : List Id) (faults : List OwnFaults) (n : ℕ) (x : Id) : Type 0 where
   pub at : slice_get ids n ≡ Some x
   pub own : OwnFaults
   pub own_at : slice_get faults n ≡ Some own
   pub passing : IsTrue (passes_alone own)
 
--- the candidates in front of a place that pass them
+-- the candidates before a place that pass them
 abbrev pub ArePassing : List Id → List OwnFaults → ℕ → List Id → Type 0
 ArePassing ids faults end passing =
     (x : Id) → Contains passing x ↔ ((n : ℕ) × (n < end) × PassesAloneAt ids faults n x)
@@ -23,7 +23,7 @@ abbrev pub AreDeletions : Choice → List Id → List OwnFaults → List Id → 
 AreDeletions c ids faults dels =
     (z : Id) → Contains dels z ↔ ((n : ℕ) × (y : Id) × PassesAloneAt ids faults n y × Contains (del_of c y) z)
 
--- the faults with ChainDeleted, given whether the chain meets the deletions
+-- the faults with ChainDeleted, given whether the chain contains one of the deletions
 abbrev pub with_deleted : Bool → OwnFaults → OwnFaults
 with_deleted is_deleted own = record own { deleted = passes_alone own && is_deleted }
 

@@ -5,7 +5,7 @@ use Rattle.terms.specs.Types.{Id}
 use Rattle.terms.specs.Tests.{Setting, Fails}
 use Rattle.terms.specs.Failures.{all_tests}
 
--- there is a row for each candidate, and it has the tests that the candidate fails
+-- there is a row for each candidate, with the tests that the candidate fails
 pub record AreFailedTests (s : Setting) (rows : List (List Test)) : Type 0 where
   pub lengths : length rows ≡ length s.cands
   pub fails : Id → Test → Bool

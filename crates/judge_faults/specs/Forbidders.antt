@@ -1,4 +1,4 @@
--- Who names whom in NPRE.
+-- Which functions name which ids in NPRE.
 use Rattle.std.specs.Prelude.{◌≡◌, ◌⊎◌, List, Contains, IsTrue, is_some}
 use Rattle.std.specs.Ordering.{nat_cmp}
 use Rattle.std.specs.Cmp.Lexicographic.{slice_cmp}
@@ -7,7 +7,7 @@ use Rattle.terms.specs.Types.{Id, Entry, Global, Zone}
 use Rattle.terms.specs.Lookups.{is_applied, is_function}
 use Rattle.terms.specs.Choice.{Choice, npre_of}
 
--- the entry is of an applied function y that names z
+-- the entry is that of an applied function y that names z
 pub record ForbidsBy (g : Global) (c : Choice) (e : Entry) (z y : Id) : Type 0 where
   pub id : y ≡ e.id
   pub applied : IsTrue (is_some e.applied)
@@ -18,7 +18,7 @@ pub record ForbidsBy (g : Global) (c : Choice) (e : Entry) (z y : Id) : Type 0 w
 abbrev pub AreForbidders : Global → Choice → List Entry → Lists Id Id → Type 0
 AreForbidders g c entries all = Holds (slice_cmp nat_cmp) all (OneOf entries (ForbidsBy g c))
 
--- x names what is applied in the zone, or an applied function there names x
+-- x names an id that is applied in the zone, or an applied function there names x
 abbrev pub IsForbidden : Global → Choice → Zone → Id → Type 0
 IsForbidden g c zone x =
     (y : Id) × IsTrue (is_applied zone y)

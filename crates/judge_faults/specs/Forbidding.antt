@@ -7,7 +7,7 @@ use Rattle.judge_faults.specs.declared.own.OwnFaults.{OwnFaults}
 use Rattle.judge_faults.specs.Claims.{PassesAt}
 use Rattle.judge_faults.specs.Sharing.{IsClashing}
 
--- candidates in order, each with its faults, and with a place that fits 32 bits
+-- candidates in order, each with its faults, and with a place that fits into 32 bits
 pub record AreCandidates (ids : List Id) (faults : List OwnFaults) : Type 0 where
   pub rising : IsRising ids
   pub lengths : length faults ≡ length ids
@@ -39,7 +39,7 @@ pub record IsForbidding (c : Choice) (ids : List Id) (faults : List OwnFaults) (
   pub apart : x ≢ y
   pub names : Contains (npre_of c x) y ⊎ Contains (npre_of c y) x
 
--- they are the places of candidates that pass by themselves and clash with another such one
+-- they are the places of candidates that pass the tests of their own and clash with another such one
 abbrev pub AreClashing : Global → Choice → List Id → List OwnFaults → List ℕ → Type 0
 AreClashing g c ids faults places =
     (n : ℕ) → Contains places n ↔ (IsClashing g c ids faults n ⊎ IsForbidding c ids faults n)

@@ -15,11 +15,11 @@ use Rattle.terms.specs.Tests.{Setting, view_of, owner_of, is_bypassed_hold, HasS
 use Rattle.judge_faults.specs.declared.own.OwnFaults.{OwnFaults}
 use Rattle.judge_faults.specs.Forbidders.{IsForbidden}
 
--- whether a hold of the kind stands against x
+-- whether a hold of the kind keeps x off
 abbrev pub has_standing_hold : Setting → HoldKind → Id → Bool
 has_standing_hold s kind x = list_any (λ h. not (is_bypassed_hold s.bypass h)) (holds_of s.global kind x)
 
--- whether the statement is about an element of the view that another than this one owns
+-- whether the statement is about an element of the view that has another owner
 abbrev pub is_foreign_at : Zone → Id → Change → Bool
 is_foreign_at zone owner h =
     option_map_or (λ e. not (bytes_eq e.fmid owner)) (element_of zone h.elem_type h.name) false
@@ -28,7 +28,7 @@ is_foreign_at zone owner h =
 abbrev pub IsLower : Choice → Id → Element → Type 0
 IsLower c x e = Any (λ z. ¬ IsOver c x z) (e.rmid ∷ e.umids)
 
--- the statement is about an element of the view that x is lower than
+-- the statement is about an element of the view that x is not over
 abbrev pub IsLowerAt : Choice → Zone → Id → Change → Type 0
 IsLowerAt c zone x h = (e : Element) × (element_of zone h.elem_type h.name ≡ Some e) × IsLower c x e
 
@@ -37,19 +37,19 @@ abbrev pub has_base : Global → List Id → Option Id → Change → Bool
 has_base g cands fmid h =
     option_map_or (λ f. is_in cands f && has_replacement g f h.elem_type h.name) fmid false
 
--- whether the statement updates what the view lacks, and no base comes with it
+-- whether the statement updates an element that the view lacks, and no base comes with it
 abbrev pub is_bare_at : Global → Zone → List Id → Option Id → Change → Bool
 is_bare_at g zone cands fmid h =
     not (is_replacement h.action) && not (is_some (element_of zone h.elem_type h.name))
     && not (has_base g cands fmid h)
 
--- whether x is accepted, and no related target zone has it applied
+-- whether x is accepted, and no related target zone has applied it
 abbrev pub is_unapplied : Setting → Id → Bool
 is_unapplied s x =
     is_distribution s.zone.kind && not s.bypass.applycheck
     && not (option_map_or (λ target. is_applied target x) s.related false)
 
--- the tests that look at it by itself, each as the code tests it
+-- the tests of its own, each as the code tests it
 pub record HasFaults (s : Setting) (x : Id) (a : OwnFaults) : Type 0 where
   pub system_held : a.system_held ≡ has_standing_hold s System x
   pub user_held : a.user_held ≡ has_standing_hold s User x
@@ -62,7 +62,7 @@ pub record HasFaults (s : Setting) (x : Id) (a : OwnFaults) : Type 0 where
   pub unapplied : a.unapplied ≡ is_unapplied s x
   pub ambiguous : IsTrue a.ambiguous ↔ HasSeveralFit s x
 
--- whether it passes all tests that look at it by itself
+-- whether it passes all tests of its own
 abbrev pub passes_alone : OwnFaults → Bool
 passes_alone a =
     not a.system_held && not a.user_held && not a.forbidden && not a.foreign && not a.lower && not a.bare

@@ -9,7 +9,7 @@ use Rattle.terms.specs.declared.codes.Test.TheVariants.{InClash, SeveralFit}
 use Rattle.terms.specs.Failures.{all_tests}
 use Rattle.judge_faults.specs.declared.own.OwnFaults.{OwnFaults}
 
--- the tests, by what the candidate fails by itself and whether it clashes with another one
+-- the tests, given what the candidate fails by itself and whether it clashes with another one
 abbrev pub fails_test : OwnFaults → Bool → Test → Bool
 fails_test a clashes HeldBySystem = a.system_held
 fails_test a clashes HeldByUser = a.user_held

@@ -1,4 +1,4 @@
--- Which candidates may not change one element beside another.
+-- Which candidates may not change an element that another one changes.
 use Rattle.std.specs.Prelude.{◌≡◌, ◌≢◌, ◌↔◌, ◌<◌, ◌≤◌, ◌⊎◌, ℕ, List, ◌++◌, Some, All, AllPairs, Contains}
 use Rattle.std.specs.Prelude.{take, drop, slice_get, length}
 use Rattle.terms.specs.declared.kinds.ElemType.{ElemType}
@@ -10,7 +10,7 @@ use Rattle.judge_faults.specs.declared.own.OwnFaults.{OwnFaults}
 use Rattle.judge_faults.specs.declared.claims.Claim.{Claim}
 use Rattle.judge_faults.specs.Claims.{PassesAt}
 
--- they have two owners, or over does not order them
+-- they have two owners, or neither is over the other
 abbrev pub StandApart : Global → Choice → Id → Id → Type 0
 StandApart g c x y = (owner g c x ≢ owner g c y) ⊎ ((¬ IsOver c x y) × (¬ IsOver c y x))
 
@@ -34,7 +34,7 @@ IsOfPair g c a b n = Clashes g c a b × ((n ≡ a.place) ⊎ (n ≡ b.place))
 abbrev pub IsAgainst : Global → Choice → Claim → List Claim → ℕ → Type 0
 IsAgainst g c a others n = (b : Claim) × Contains others b × IsOfPair g c a b n
 
--- the place of a claim that clashes with another of the list
+-- the place of a claim that clashes with another one of the list
 pub record IsAmong (R : Claim → Claim → Type 0) (claims : List Claim) (n : ℕ) : Type 0 where
   pub a : Claim
   pub b : Claim
@@ -57,14 +57,14 @@ pub record FitsAt (g : Global) (c : Choice) (chain : List Claim) (a : Claim) (k 
   pub front : All (λ b. IsBelow g c b a) (take k chain)
   pub back : All (λ b. IsBelow g c a b) (drop k chain)
 
--- after these claims on one element: a chain of them, the others, and the marks since some earlier ones
+-- after these claims on one element: a chain of them, the others, and the marks since some earlier claims
 pub record AreMarked (g : Global) (c : Choice) (claims chain others : List Claim) (before shared : List ℕ) :
     Type 0 where
   pub members : (a : Claim) → Contains (chain ++ others) a ↔ Contains claims a
   pub ordered : IsChain g c chain
   pub marks : Marks (IsAmong (Clashes g c) claims) before shared
 
--- the claims from the place on, up to the end, are those of one element
+-- the claims from the place on, up to the end, are those on one element
 pub record IsRun (claims : List Claim) (start end : ℕ) : Type 0 where
   pub element : ElemType × Text
   pub more : start < end
@@ -72,7 +72,8 @@ pub record IsRun (claims : List Claim) (start end : ℕ) : Type 0 where
   pub same : (i : ℕ) (a : Claim) → slice_get claims i ≡ Some a → start ≤ i → i < end → a.element ≡ element
   pub ends : (a : Claim) → slice_get claims end ≡ Some a → a.element ≢ element
 
--- the candidate at the place passes by itself, and so does another one; both change an element that they may not share
+-- the candidate at the place passes the tests of its own, and so does another one; both change an element that they may
+-- not share
 pub record IsClashing (g : Global) (c : Choice) (ids : List Id) (faults : List OwnFaults) (n : ℕ) : Type 0 where
   pub x : Id
   pub passes : PassesAt ids faults n x

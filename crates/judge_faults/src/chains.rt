@@ -17,7 +17,7 @@ fn have_one_owner(vers: &VerChoice<'_>, x: Id, y: Id) -> bool
     vers.owner(x) == vers.owner(y)
 }
 
-/// Whether two SYSMODs may not change one element: they have two owners, or over does not order them.
+/// Whether two SYSMODs may not change one element: they have two owners, or neither is over the other.
 pub(crate) fn may_not_share(
     alloc: Global,
     overs: &mut Overs<'_, '_>,
@@ -70,8 +70,8 @@ fn is_at_end(
     }
 }
 
-// A place of the chain such that the claim is over all in front of it. A claim that fits into the chain is over no
-// other.
+// A place of the chain such that the claim is over all before it. A claim that fits into the chain is over no other
+// one.
 fn search_end(
     alloc: Global,
     overs: &mut Overs<'_, '_>,
@@ -115,7 +115,7 @@ fn is_in_front(
     is_below(alloc, overs, claim, &chain[place])
 }
 
-/// Where the claim fits into the chain, if it may share the element with each in it: mostly at its end.
+/// Where the claim fits into the chain, if it may share the element with each in it. Usually that is at its end.
 pub(crate) fn place_in(
     alloc: Global,
     overs: &mut Overs<'_, '_>,
@@ -136,7 +136,7 @@ pub(crate) fn place_in(
     let Some(first) = chain.first() else {
         return Ok(None);
     };
-    // What is not over the first fits nowhere, and needs no search for its place.
+    // A claim that is not over the first fits nowhere, and needs no search for its place.
     if !is_below(alloc, overs, first, claim)? {
         return Ok(None);
     }

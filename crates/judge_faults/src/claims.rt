@@ -1,4 +1,4 @@
-//! What the candidates change that pass by themselves.
+//! What the candidates change that pass the tests of their own.
 ghost use Rattle.std.specs.Prelude.{◌≡◌, ◌↔◌, ◌<◌, ◌^◌, length, IsTrue, IfOk};
 ghost use Rattle.judge_faults.specs.Claims.{AreClaims, AreGrouped};
 
@@ -25,7 +25,7 @@ impl Claim {
     }
 }
 
-/// The claims of the candidates that pass by themselves, those on one element side by side and in their order.
+/// The claims of the candidates that pass the tests of their own, those on one element side by side and in their order.
 pub(crate) fn claims_of(
     alloc: Global,
     global: &GlobalZone,

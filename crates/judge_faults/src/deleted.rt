@@ -1,4 +1,4 @@
-//! Whom the DELETEs take, of the candidates that pass the tests that look at each by itself.
+//! Which candidates that pass the tests of their own the DELETEs take out.
 ghost use Rattle.std.specs.Prelude.{◌≡◌, List, length, IfOk};
 ghost use Rattle.terms.specs.Types.{Id as AnId};
 ghost use Rattle.terms.specs.Deleted.{deletions, is_deleted};
@@ -12,7 +12,7 @@ use std::alloc::{AllocError, Global};
 use sysmods::VerChoice;
 use zones::deletions;
 
-// Whether its chain meets the deletions: mostly there are none.
+// Whether its chain contains one of the deletions. Usually there are none.
 fn is_deleted(vers: &VerChoice<'_>, dels: &IdList, id: Id) -> bool
     ensures { result ≡ is_deleted vers.now.global.now (choice vers.now) dels.now id }
 {
@@ -22,7 +22,7 @@ fn is_deleted(vers: &VerChoice<'_>, dels: &IdList, id: Id) -> bool
     vers.chain(id).any(|above| dels.contains(above))
 }
 
-// The faults of a candidate, with `deleted` where a DELETE takes its chain and it passes the tests before that.
+// The faults of a candidate, with `deleted` if a DELETE takes out its chain and it passes the earlier tests.
 fn with_deleted(vers: &VerChoice<'_>, dels: &IdList, own: OwnFaults, id: Id) -> OwnFaults
     ensures { result ≡ with_deleted (is_deleted vers.now.global.now (choice vers.now) dels.now id) own }
 {
@@ -32,7 +32,7 @@ fn with_deleted(vers: &VerChoice<'_>, dels: &IdList, own: OwnFaults, id: Id) -> 
     }
 }
 
-// The faults of all candidates, with `deleted` for those whom these deletions take.
+// The faults of all candidates, with `deleted` for those that these deletions take out.
 fn all_with(
     alloc: Global,
     vers: &VerChoice<'_>,
@@ -52,8 +52,8 @@ fn all_with(
     Ok(all)
 }
 
-/// The faults of all candidates, from those of the tests that look at each by itself, with `deleted` for those whom the
-/// DELETEs take.
+/// The faults of all candidates, from those of the tests of their own, with `deleted` for those that the DELETEs take
+/// out.
 pub(crate) fn all_with_deleted(
     alloc: Global,
     vers: &VerChoice<'_>,

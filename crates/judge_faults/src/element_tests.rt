@@ -1,4 +1,4 @@
-//! The tests that look at the elements which a candidate changes.
+//! The tests that look at the elements that a candidate changes.
 ghost use Rattle.std.specs.Prelude.{◌≡◌, ◌==◌, ◌↔◌, ◌&&◌, Any, find, option_copied, IsTrue, IfOk};
 ghost use Rattle.std.specs.List.{list_any};
 ghost use Rattle.std.specs.Str.{bytes_eq};
@@ -87,7 +87,7 @@ fn is_lower_at(
     }
 }
 
-/// Whether an element of these statements was made by a SYSMOD which it is not over.
+/// Whether an element of these statements was made by a SYSMOD that it is not over.
 pub(crate) fn is_lower_somewhere(
     alloc: Global,
     view: &View<'_, '_>,
@@ -153,7 +153,7 @@ fn has_base(global: &GlobalZone, ids: &IdList, fmid: Option<Id>, change: &ElemCh
     }
 }
 
-// Whether it updates what the view lacks, and no base comes with it.
+// Whether it updates an element that the view lacks, and no base comes with it.
 fn is_bare_at(
     global: &GlobalZone,
     view: &View<'_, '_>,
@@ -168,7 +168,7 @@ fn is_bare_at(
         && !has_base(global, ids, fmid, change)
 }
 
-/// Whether one of these statements updates what the view lacks, and no base of that comes with its function.
+/// Whether one of these statements updates an element that the view lacks, and no base of that comes with its function.
 pub(crate) fn has_bare_update(
     global: &GlobalZone,
     view: &View<'_, '_>,

@@ -11,7 +11,7 @@ use indexmap::IndexSet;
 use std::alloc::{AllocError, Global};
 use terms::Test;
 
-// Whether a candidate fails the test, by what it fails by itself and whether it clashes with another one.
+// Whether a candidate fails the test, given what it fails by itself and whether it clashes with another one.
 fn fails(own: OwnFaults, clashes: bool, test: Test) -> bool
     ensures { result ≡ fails_test own clashes test }
 {
@@ -54,7 +54,7 @@ fn row_of(alloc: Global, own: OwnFaults, clashes: bool) -> Result<Vec<Test>, All
     .collect(alloc)
 }
 
-/// The tests that each candidate fails, given who clashes.
+/// The tests that each candidate fails, given which candidates clash.
 pub(crate) fn all_rows(
     alloc: Global,
     faults: &[OwnFaults],

@@ -21,7 +21,7 @@ use zones::{Entry, Zone};
 /// For each id the applied functions that name it in NPRE.
 pub(crate) type Forbidders = Lists<Id, Id>;
 
-/// What it names in NPRE.
+/// The ids that it names in NPRE.
 pub(crate) fn npre<'a>(vers: &VerChoice<'a>, id: Id) -> &'a [Id]
     ensures { result.now ≡ npre_of (choice vers.now) id }
 {
@@ -31,7 +31,7 @@ pub(crate) fn npre<'a>(vers: &VerChoice<'a>, id: Id) -> &'a [Id]
     }
 }
 
-// Adds what the SYSMOD of the entry names, if it is an applied function.
+// Adds the ids that the SYSMOD of the entry names, if it is an applied function.
 fn add_function(
     alloc: Global,
     vers: &VerChoice<'_>,
@@ -47,7 +47,7 @@ fn add_function(
     Ok(())
 }
 
-/// Who forbids whom, of the applied functions.
+/// Which ids the applied functions forbid.
 pub(crate) fn forbidders(
     alloc: Global,
     vers: &VerChoice<'_>,
@@ -68,7 +68,8 @@ fn any_applied(view: &View<'_, '_>, ids: &[Id]) -> bool
     ids.iter().any(|id| view.is_applied(*id))
 }
 
-/// Whether the candidate forbids what is applied in its view, or a function that is applied there forbids it.
+/// Whether the candidate forbids a SYSMOD that is applied in its view, or a function that is applied there forbids the
+/// candidate.
 pub(crate) fn is_forbidden(view: &View<'_, '_>, forbidders: &Forbidders, id: Id) -> bool
     requires { AreForbidders view.now.vers.now.global.now (choice view.now.vers.now) view.now.zone.now.entries
         forbidders.now }

@@ -13,7 +13,7 @@ use indexmap::IndexSet;
 use std::alloc::{AllocError, Global};
 use sysmods::{Overs, VerChoice};
 
-// The place of the candidate, if it is one that passes by itself.
+// The place of the candidate, if it is one that passes the tests of its own.
 fn passing_place(ids: &[Id], faults: &[OwnFaults], id: Id) -> Option<usize>
     requires { AreCandidates ids.now faults.now }
     ensures { (n : ℕ) → (result ≡ Some n) ↔ PassesAt ids.now faults.now n id }
@@ -27,7 +27,7 @@ fn passing_place(ids: &[Id], faults: &[OwnFaults], id: Id) -> Option<usize>
     Some(place)
 }
 
-// Marks the candidate at the place and this one that it names, if that is another one and passes by itself.
+// Marks the candidate at the place and the one that it names, if that is another one and passes the tests of its own.
 fn mark_named(
     ids: &[Id],
     faults: &[OwnFaults],
@@ -50,7 +50,7 @@ fn mark_named(
     Ok(())
 }
 
-// Marks the candidate at the place and those that it names in NPRE, if both pass by themselves.
+// Marks the candidate at the place and those that it names in NPRE, if both pass the tests of their own.
 fn mark_by(
     vers: &VerChoice<'_>,
     ids: &[Id],
@@ -74,7 +74,7 @@ fn mark_by(
     Ok(())
 }
 
-/// The places of the candidates that pass by themselves and clash with another such one.
+/// The places of the candidates that pass the tests of their own and clash with another such one.
 pub(crate) fn clashing_places(
     alloc: Global,
     overs: &mut Overs<'_, '_>,

@@ -1,8 +1,8 @@
-//! Which tests each candidate of an APPLY or ACCEPT fails.
-//! For candidates that may all be installed, `test_all` answers who fails which test, for every setting. Whom applied
-//! functions name in NPRE is gathered in one pass over the zone. Seen in the code alone: a candidate's view of the zone
-//! is no copy but a list of deletions beside the zone; what the survivors change is gone through element by element,
-//! and those that may share one stand in a chain, which mostly takes the next one in by one search.
+//! Which tests each candidate of an APPLY or ACCEPT fails. For candidates that may all be installed, `test_all` returns
+//! the tests that each one fails, in every setting. One pass over the zone gathers the ids that applied functions name
+//! in NPRE. No contract says that a candidate's view of the zone is a list of deletions beside the zone and not a copy.
+//! The changes of the survivors are compared element by element. Those that may share an element form a chain, which
+//! usually takes in the next one with one search. Every call that allocates returns `AllocError` if memory runs out.
 #![tactic(auto)]
 
 mod chains;

@@ -26,10 +26,10 @@ use sysmods_values::{ElemChange, Ver};
 use terms::{HoldKind, ZoneKind};
 use zones::{Scope, Zone, deletions, fits, is_bypassed_hold, view_deletions};
 
-/// What a candidate fails by itself: a SYSTEM hold or a USER hold stands against it, an NPRE forbids it, it changes an
-/// element that another owns (`foreign`) or that a SYSMOD made which it is not over (`lower`), it updates an element
-/// that is not there (`bare`), it is accepted where it is not applied, two of its `++VER`s fit (`ambiguous`), or it has
-/// none of these and is deleted.
+/// What a candidate fails by itself: a SYSTEM hold or a USER hold keeps it off, an NPRE forbids it, it changes an
+/// element that another SYSMOD owns (`foreign`) or that was made by a SYSMOD that it is not over (`lower`), it updates
+/// an element that does not exist (`bare`), ACCEPT takes it although it is not applied, two of its `++VER`s fit
+/// (`ambiguous`), or it has none of these and is deleted.
 #[derive(Clone, Copy)]
 pub(crate) struct OwnFaults {
     pub(crate) system_held: bool,
@@ -44,7 +44,7 @@ pub(crate) struct OwnFaults {
 }
 
 impl OwnFaults {
-    /// Whether it passes the tests that look at it by itself.
+    /// Whether it passes the tests of its own.
     pub(crate) fn passes_alone(self) -> bool
         ensures { result ≡ passes_alone self }
     {
@@ -76,7 +76,7 @@ pub(crate) fn changes_of(global: &GlobalZone, id: Id) -> &[ElemChange]
     }
 }
 
-// Whether a hold of this kind stands against it.
+// Whether a hold of this kind keeps it off.
 fn has_standing_hold(global: &GlobalZone, bypass: &Bypass, kind: HoldKind, id: Id) -> bool
     ensures { result ≡ list_any (λ h. not (is_bypassed_hold bypass.now h)) (holds_of global.now kind id) }
 {
@@ -85,7 +85,7 @@ fn has_standing_hold(global: &GlobalZone, bypass: &Bypass, kind: HoldKind, id: I
         .any(|hold| !is_bypassed_hold(bypass, hold))
 }
 
-// Whether an element that it changes was made by a SYSMOD which it is not over. BYPASS(ID) does not ask.
+// Whether an element that it changes was made by a SYSMOD that it is not over. With BYPASS(ID) it never is.
 fn is_lower(
     alloc: Global,
     view: &View<'_, '_>,
@@ -113,7 +113,7 @@ fn has_applied(related: Option<&Zone>, id: Id) -> bool
     }
 }
 
-// Whether it is accepted and no related target zone has it applied. BYPASS(APPLYCHECK) does not ask.
+// Whether it is accepted and no related target zone has applied it. With BYPASS(APPLYCHECK) it never is.
 fn is_unapplied(zone: &Zone, related: Option<&Zone>, bypass: &Bypass, id: Id) -> bool
     ensures { result ≡ (is_distribution zone.now.kind && not bypass.now.applycheck && not
         (option_map_or (λ target. is_applied target id) (option_copied related.entry) false)) }
@@ -150,7 +150,7 @@ fn is_ambiguous(scope: &Scope<'_, '_>, id: Id) -> bool
     fitting_count(scope.zone, scope.ids, vers_of(scope.global(), id)) >= 2
 }
 
-// What the candidate fails of the tests that look at it by itself, in its view.
+// The tests of its own that the candidate fails, in its view.
 fn own_faults(
     alloc: Global,
     scope: &Scope<'_, '_>,
@@ -190,7 +190,7 @@ fn own_faults(
     })
 }
 
-/// What each candidate fails of the tests that look at it by itself.
+/// The tests of its own that each candidate fails.
 pub(crate) fn all_faults(
     alloc: Global,
     scope: &Scope<'_, '_>,

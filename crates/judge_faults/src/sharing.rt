@@ -13,7 +13,7 @@ use indexmap::IndexSet;
 use std::alloc::{AllocError, Global};
 use sysmods::Overs;
 
-// Whether no test is needed for the two: they are of one candidate, or both are marked.
+// Whether the two need no test: they are of one candidate, or both are marked.
 fn is_settled(one: &Claim, other: &Claim, shared: &IndexSet<u32>) -> bool
     ensures settled { IsTrue result → (one.now.id ≡ other.now.id) ⊎ (Contains shared.now.keys one.now.place
         × Contains shared.now.keys other.now.place) }
@@ -44,7 +44,7 @@ fn mark_pair(
     Ok(())
 }
 
-// Marks a claim and those of the others that it clashes with.
+// Marks a claim and those of the others with which it clashes.
 fn mark_against(
     alloc: Global,
     overs: &mut Overs<'_, '_>,
@@ -62,7 +62,7 @@ fn mark_against(
     Ok(())
 }
 
-/// The claims on one element so far. Those of the chain may share it with each other, as each is over those before
+/// The claims on one element so far. Those of the chain may share it with each other, because each is over those before
 /// it: a claim that is over the last of them is over all. The others are compared one by one.
 #[derive(Drop)]
 struct Claimants {
@@ -130,8 +130,8 @@ fn run_end(claims: &[Claim], start: usize) -> usize
     end
 }
 
-/// The places of the candidates that pass by themselves and change an element that they may not share with another
-/// such one.
+/// The places of the candidates that pass the tests of their own and change an element that they may not share with
+/// another such one.
 pub(crate) fn shared_places(
     alloc: Global,
     overs: &mut Overs<'_, '_>,

@@ -14,15 +14,14 @@ use sysmods::Overs;
 use terms::Test;
 use zones::{Scope, Zone};
 
-/// For each candidate the tests that it fails, and what was found of who is over whom.
+/// For each candidate the tests that it fails, and the pairs of ids that were found to be over each other.
 #[derive(Drop)]
 pub struct Tested<'a, 'b> {
     pub tests: Vec<Vec<Test>>,
     pub overs: Overs<'a, 'b>,
 }
 
-/// The tests that each candidate of an APPLY or ACCEPT fails in this zone, for ACCEPT with the related target zone. The
-/// error comes where memory runs out.
+/// The tests that each candidate of an APPLY or ACCEPT fails in this zone, for ACCEPT with the related target zone.
 pub fn test_all<'a, 'b>(
     alloc: Global,
     scope: &Scope<'a, 'b>,
@@ -35,7 +34,7 @@ pub fn test_all<'a, 'b>(
 {
     scope.global().attest();
     let list = scope.ids.as_slice();
-    // They are no more than the received SYSMODs.
+    // There are no more candidates than received SYSMODs.
     prove!(list.len() < 4_294_967_296);
     let mut overs = Overs::new(alloc, scope.vers);
     let alone = all_faults(alloc, scope, related, &mut overs)?;

@@ -1,4 +1,4 @@
-//! What a candidate sees of the zone: it less what the DELETEs of candidates in its chain take out.
+//! What a candidate sees of the zone: the zone less what the DELETEs of candidates in its chain take out.
 ghost use Rattle.std.specs.Prelude.{◌≡◌, option_copied};
 ghost use Rattle.terms.specs.Lookups.{is_applied, element_of};
 ghost use Rattle.judge_faults.specs.Views.{seen};

@@ -13,11 +13,11 @@ SupersedesOne c needed x z = Contains needed z × Supersedes c x z
 abbrev pub IsClosure : Choice → List Id → Closure → Type 0
 IsClosure c needed k = (z : Id) → Contains k.ids z ↔ SupersedesOne c needed k.id z
 
--- what x supersedes of the needed ids comes in
+-- the needed ids that x supersedes are added
 abbrev pub AddsBelow : Choice → List Id → Id → List Id → List Id → Type 0
 AddsBelow c needed x old new = (z : Id) → Contains new z ↔ (Contains old z ⊎ SupersedesOne c needed x z)
 
--- some of these ids, of which one names each other one of these in SUP
+-- some of these ids, one of which names each other one in SUP
 pub record AreEnough (c : Choice) (xs some : List Id) : Type 0 where
   pub of : (x : Id) → Contains some x → Contains xs x
   pub all : (x : Id) → Contains xs x → Contains some x ⊎ ((y : Id) × Contains some y × Contains (sup_of c y) x)

@@ -20,7 +20,7 @@ pub record AreAllNeeds (Done : Id → NeedKind → Id → Type 0) (needs : List 
   pub members : (x : Id) (kind : NeedKind) (z : Id) → Contains needs (a_need x kind z) ↔ Done x kind z
   pub once : AllPairs (λ v w. v ≢ w) needs
 
--- some needs of one more candidate come in, each once
+-- some needs of one more candidate are added, each once
 pub record AddsPart (of : Id) (Part : NeedKind → Id → Type 0) (old new : List RequisiteOf) : Type 0 where
   pub more : List RequisiteOf
   pub are : new ≡ old ++ more
@@ -30,7 +30,7 @@ pub record AddsPart (of : Id) (Part : NeedKind → Id → Type 0) (old new : Lis
 abbrev pub IsOfKind : Zone → Bypass → NeedKind → List Id → NeedKind → Id → Type 0
 IsOfKind zone b kind asked k z = (k ≡ kind) × Contains asked z × IsTrue (is_open zone b kind z)
 
--- the needs of these candidates, where this is left of the zone, each once
+-- the needs of these candidates, given what is left of the zone, each once
 abbrev pub AreNeedsOf : Setting → List Id → Zone → List Id → List RequisiteOf → Type 0
 AreNeedsOf s survivors left xs needs =
     AreAllNeeds (λ x kind z. Contains xs x × IsOpen s survivors left x kind z) needs

@@ -44,7 +44,7 @@ fn bypassed(alloc: Global, conditions: &Conditions<'_, '_>, id: Id) -> Result<Ve
     Ok(ids)
 }
 
-/// Each candidate with each of its PRE, REQ and IFREQ that BYPASS covers. The error comes where memory runs out.
+/// Each candidate with each of its PRE, REQ and IFREQ that BYPASS covers.
 pub fn bypassed_pairs(alloc: Global, scope: &Scope<'_, '_>) -> Result<Vec<(Id, Id)>, AllocError>
     ensures { IfOk result (λ pairs. AreBypassed (setting_of scope.now) scope.now.ids.now pairs.items) }
 {

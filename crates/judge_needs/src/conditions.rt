@@ -17,7 +17,8 @@ use sorted::lists::listed;
 use std::alloc::{AllocError, Global};
 use zones::{Scope, deletions, view_deletions};
 
-/// What the requisites by `++IF` are found by: what applied SYSMODs state, and what the candidates name in DELETE.
+/// What determines the requisites by `++IF`: the statements of applied SYSMODs, and the DELETE operands of the
+/// candidates.
 #[derive(Drop)]
 pub(crate) struct Conditions<'a, 'b> {
     pub(crate) scope: Scope<'a, 'b>,
@@ -56,7 +57,7 @@ impl<'a, 'b> Conditions<'a, 'b> {
         })
     }
 
-    // What SYSMODs that are left state for it, if it is a function.
+    // What the remaining SYSMODs state for it, if it is a function.
     fn stated_for(&self, alloc: Global, left: &Left<'_, '_>, id: Id) -> Result<Vec<Id>, AllocError>
         ensures { IfOk result (λ found. found.items ≡ if is_function (global_of self.now.scope) id then map (λ r. r.id)
             (filter (λ r. is_applied (left_of left.now) r.by) (requisites_of self.now.stated id)) else []) }

@@ -24,7 +24,7 @@ impl<'a, 'b> Left<'a, 'b> {
         is_left(self.scope.vers, self.dels, self.scope.zone, id)
     }
 
-    // Whether it meets a need: as an FMID only what is applied does.
+    // Whether it meets a need; only an applied SYSMOD meets one for an FMID.
     fn meets(&self, kind: NeedKind, id: Id) -> bool
         ensures { result ≡ is_met (left_of self.now) kind id }
     {

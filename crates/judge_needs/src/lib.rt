@@ -1,8 +1,8 @@
-//! What each candidate of an APPLY or ACCEPT needs, and whom it supersedes.
-//! For candidates of which these survive, `needs_of` answers what each one needs, `superseded_pairs` whom each one
-//! supersedes of the ids that are needed where a superseder serves, and `bypassed_pairs` the requisites that BYPASS
-//! covers. What applied SYSMODs state in their `++IF`s is gathered in one pass over the zone. Seen in the code alone:
-//! what survivors leave of the zone is no copy but a list of deletions beside it.
+//! What each candidate of an APPLY or ACCEPT needs, and which ids it supersedes. Given the survivors, `needs_of`
+//! returns what each candidate needs, `superseded_pairs` the ids that it supersedes among those with a need that a
+//! superseder serves, and `bypassed_pairs` the requisites that BYPASS covers. One pass over the zone gathers what
+//! applied SYSMODs state in their `++IF`s. No contract says that what survivors leave of the zone is a list of
+//! deletions and not a copy. Every call that allocates returns `AllocError` if memory runs out.
 #![tactic(auto)]
 
 mod bypassed;

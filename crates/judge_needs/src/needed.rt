@@ -1,5 +1,5 @@
 //! What each candidate needs: its function, what it names in PRE and REQ, the requisites by `++IF`, the reasons of
-//! ERROR holds on it, and what its DELETE orphans, as far as neither BYPASS nor what is left of the zone meets that.
+//! ERROR holds on it, and what its DELETE orphans, unless BYPASS or what is left of the zone meets that.
 ghost use Rattle.std.specs.Prelude.{◌≡◌, ◌↔◌, Contains, OnOk, IfOk};
 ghost use Rattle.terms.specs.Types.{Id as AnId};
 ghost use Rattle.terms.specs.Lookups.{IsRising};
@@ -17,7 +17,7 @@ use std::alloc::{AllocError, Global};
 use terms::NeedKind;
 use zones::{Scope, deletions, orphans};
 
-// Adds what a candidate asks for and is not met.
+// Adds what a candidate asks for and nothing meets.
 fn add_asked(
     left: &Left<'_, '_>,
     of: Id,
@@ -80,7 +80,7 @@ fn add_open(
     add_asked(left, id, NeedKind::Orphan, lost.as_slice(), needs)
 }
 
-/// What candidates need of which these survive: each need once. The error comes where memory runs out.
+/// What the candidates need, given the survivors: each need once.
 pub fn needs_of(
     alloc: Global,
     scope: &Scope<'_, '_>,

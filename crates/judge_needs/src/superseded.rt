@@ -1,6 +1,6 @@
-//! Whom each candidate supersedes of the ids that are needed where a superseder serves: mostly these are few among all
-//! that it supersedes. Candidates rise, and mostly supersede lower ones: what these supersede is known then, and is not
-//! searched for again.
+//! The ids that each candidate supersedes, among those with a need that a superseder serves. Usually these are few
+//! among all that it supersedes. Candidates rise, and usually supersede lower ones. What these supersede is known then,
+//! and is not searched for again.
 ghost use Rattle.std.specs.Prelude.{◌≡◌, ◌↔◌, ◌∷◌, [], All, Contains, IfOk, OnOk, map, filter};
 ghost use Rattle.terms.specs.Types.{Id as AnId};
 ghost use Rattle.terms.specs.Lookups.{is_in};
@@ -45,7 +45,7 @@ fn sup<'a>(vers: &VerChoice<'a>, id: Id) -> &'a [Id]
     }
 }
 
-// The ids that are needed where a superseder serves.
+// The ids with a need that a superseder serves.
 fn needed_ids(alloc: Global, needs: &[RequisiteOf]) -> Result<Vec<Id>, AllocError>
     ensures { IfOk result (λ ids. ids.items
         ≡ map (λ (w : ANeed). w.id) (filter (λ (w : ANeed). takes_superseder w.kind) needs.now)) }
@@ -67,8 +67,8 @@ fn needed_among(alloc: Global, needed: &IdList, ids: &[Id]) -> Result<Vec<Id>, A
         .collect(alloc)
 }
 
-// Those of the named ids that together supersede all that any of them does: not those that the highest one names in
-// SUP itself, and in cumulative service it names all others.
+// Those of the named ids that together supersede all that any of them supersedes. It leaves out those that the highest
+// one names in SUP itself; in cumulative service that names all others.
 fn enough(alloc: Global, vers: &VerChoice<'_>, named: &[Id]) -> Result<Vec<Id>, AllocError>
     ensures { IfOk result (λ some. AreEnough (choice vers.now) named.now some.items) }
 {
@@ -85,7 +85,7 @@ fn enough(alloc: Global, vers: &VerChoice<'_>, named: &[Id]) -> Result<Vec<Id>, 
         .collect(alloc)
 }
 
-// Appends the needed ids that this one supersedes, by what is known or by a search.
+// Appends the needed ids that this one supersedes, from what is known or by a search.
 fn append_below(
     alloc: Global,
     vers: &VerChoice<'_>,
@@ -107,7 +107,7 @@ fn append_below(
     }
 }
 
-// The needed ids that a SYSMOD supersedes: those that it names in SUP, and what these supersede.
+// The needed ids that a SYSMOD supersedes: those that it names in SUP, and those that these supersede.
 fn superseded(
     alloc: Global,
     vers: &VerChoice<'_>,
@@ -127,8 +127,8 @@ fn superseded(
     Ok(IdList::from_vec(found))
 }
 
-/// Each candidate with each id that it supersedes, directly or through others, of those that are needed where a
-/// superseder serves. The error comes where memory runs out.
+/// Each candidate with each id that it supersedes, directly or through others, among those with a need that a
+/// superseder serves.
 pub fn superseded_pairs(
     alloc: Global,
     vers: &VerChoice<'_>,

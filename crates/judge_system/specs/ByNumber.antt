@@ -1,4 +1,4 @@
--- Which candidates are kept and why each other one is not, by their numbers.
+-- Which candidates are kept and why each other one is not, by numbers.
 use Rattle.std.specs.Prelude.{◌≡◌, ◌↔◌, ◌<◌, ℕ, Bool, List, Some, AllPairs, Contains, IsTrue, Vec, length, map, slice_get}
 use Rattle.std.specs.declared.alloc.Global.{Global}
 use Rattle.terms.specs.Types.{Id}
@@ -19,8 +19,8 @@ pub record AreCausers (p : System) (flags : List Bool) (rows : List (Vec ℕ Glo
   pub exact : (x y : ℕ) → Contains (row_at rows x) y ↔ numbered.IsCauser p flags x y
   pub rising : (x : ℕ) → AllPairs (λ a b. a < b) (row_at rows x)
 
--- The flags tell who is kept. Each other id has its failure by what is found at its number: the tests, the needs that
--- no kept one serves, and the causers.
+-- The flags say which candidates are kept. Each other id has its failure, from what is found at its number: the tests,
+-- the needs that no kept candidate serves, and the causers.
 pub record IsDecidedBy (j : Judged) (flags : List Bool) (kept : List Id) (failed : List (Id × Failure)) :
     Type 0 where
   pub rising : IsRising kept

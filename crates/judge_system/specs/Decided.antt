@@ -8,7 +8,7 @@ use Rattle.terms.specs.Kept.{StaysKept}
 use Rattle.machine.specs.Outcome.{Failure}
 use Rattle.machine.specs.Installing.{IsFailure}
 
--- which candidates are kept, rising, and why each other one is not, in the order of the candidates
+-- the kept candidates, rising, and why each other one is not kept, in the order of the candidates
 pub record AreDecided (Fails : Id → Test → Type 0) (Eligible : Id → Type 0) (Needs : Id → NeedKind → Id → Type 0)
     (Serves : NeedKind → Id → Id → Type 0) (cands kept : List Id) (failed : List (Id × Failure)) : Type 0 where
   pub rising : IsRising kept

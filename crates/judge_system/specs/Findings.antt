@@ -1,4 +1,4 @@
--- What is known of candidates by their places, and the failures that are made of it.
+-- What is known about candidates by their places, and the failures that follow from it.
 use Rattle.std.specs.Prelude.{◌≡◌, ◌<◌, ℕ, not, List, [], ◌∷◌, ◌++◌, Some, All, length, map, filter, take, slice_get}
 use Rattle.std.specs.Prelude.{slice_index_or}
 use Rattle.terms.specs.declared.codes.NeedKind.{NeedKind}
@@ -47,7 +47,7 @@ pub record AddsFailure (ids kept : List Id) (found : Findings) (place : ℕ) (ol
   pub ids_are : (x : Id) → slice_get ids place ≡ Some x → map (λ p. p.0) more ≡ not_kept kept (x ∷ [])
   pub failed : All (IsFailed ids found) more
 
--- the candidates in front of a place that are not kept, each with its failure
+-- the candidates before a place that are not kept, each with its failure
 pub record AreFailures (ids kept : List Id) (found : Findings) (end : ℕ) (failed : List (Id × Failure)) : Type 0 where
   pub ids_are : map (λ p. p.0) failed ≡ not_kept kept (take end ids)
   pub each : All (IsFailed ids found) failed

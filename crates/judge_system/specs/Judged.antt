@@ -1,4 +1,4 @@
--- Candidates about whom a command has said all, by their ids and by their numbers.
+-- Candidates that a command has judged, by their ids and by their numbers.
 use Rattle.std.specs.Prelude.{◌≡◌, ◌≢◌, ◌↔◌, Bool, List, All, AllPairs, Contains, IsTrue, length, map}
 use Rattle.terms.specs.declared.codes.NeedKind.{NeedKind}
 use Rattle.terms.specs.declared.codes.Test.{Test}
@@ -14,7 +14,7 @@ use Rattle.judge_system.specs.Said.{AreTests, IsSaid}
 
 module _ (Fails : Id → Test → Type 0) (Eligible : Id → Type 0) (Requires : Id → NeedKind → Id → Type 0)
     (ServedBy : NeedKind → Id → Id → Type 0) (cands : List Id) where
-  -- Beside them stand the tests that each one fails. Needs are of candidates, each once, and candidates supersede.
+  -- Each candidate has the tests that it fails. Needs belong to candidates, each once, and candidates supersede.
   pub record AreJudged (tests : List (List Test)) (needs : List RequisiteOf) (superseded : List (Id × Id)) :
       Type 0 where
     pub fails : Id → Test → Bool
@@ -29,8 +29,8 @@ module _ (Fails : Id → Test → Type 0) (Eligible : Id → Type 0) (Requires :
       superseded = superseded;
     })
 
-  -- The numbers are those of the candidates, in their order. Beside each one stand the tests that it fails, and the
-  -- system is the numbered form of who is eligible, who needs what, and who serves a need.
+  -- The numbers are those of the candidates, in their order. Each number has the tests that its candidate fails. The
+  -- system is the numbered form of which candidates are eligible, what each one needs, and which ones serve a need.
   pub record IsJudged (j : Judged) : Type 0 where
     pub ids_are : j.ids.keys ≡ cands
     pub rising : IsRising cands
@@ -40,7 +40,7 @@ module _ (Fails : Id → Test → Type 0) (Eligible : Id → Type 0) (Requires :
     pub within : (x : Id) → Eligible x → Contains cands x
     pub numbered : IsNumberedForm Eligible Requires ServedBy cands j.system (map need_of j.needs.items)
 
--- the candidates with what is said of them, and the system of that
+-- the candidates with their assessment, and the system that follows from it
 pub record IsNumberedAs (cands : List Id) (said : Assessment) (j : Judged) : Type 0 where
   pub ids_are : j.ids.keys ≡ cands
   pub tests_are : j.tests ≡ said.tests

@@ -7,11 +7,11 @@ use Rattle.solve.specs.System.{Need, System}
 use Rattle.judge_system.specs.declared.stated.RequisiteOf.{RequisiteOf}
 use Rattle.judge_system.specs.Serving.{AreServed, IsServedIn}
 
--- the kind and the id that is needed
+-- the kind of a need, and the id that is needed
 abbrev pub need_of : RequisiteOf → NeedKind × Id
 need_of w = (w.kind, w.id)
 
--- the numbered need is the need: of the place of who needs, with all that serve it
+-- the numbered need is the need: it is of the place of the candidate that has it, and lists all that serve it
 pub record IsNeedFor (ids : List Id) (pairs : List (Id × ℕ)) (w : RequisiteOf) (d : Need) : Type 0 where
   pub of : slice_get ids d.of ≡ Some w.of
   pub any : IsServedIn ids w.kind w.id pairs d.any
@@ -30,7 +30,7 @@ pub record AddsNeed (ids : List Id) (pairs : List (Id × ℕ)) (w : RequisiteOf)
   pub for : IsNeedFor ids pairs w numbered
   pub system : new ≡ record old { needs = old.needs ++ numbered ∷ [] }
 
--- the system of the candidates with these flags has these needs, served by who stands for an id
+-- the system of the candidates with these flags has these needs, served by the candidates that stand for the needed id
 pub record HasSystem (ids : List Id) (superseded : List (Id × Id)) (flags : List Bool) (stated : List RequisiteOf)
     (p : System) : Type 0 where
   pub pairs : List (Id × ℕ)

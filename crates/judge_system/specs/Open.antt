@@ -1,4 +1,4 @@
--- The open needs of candidates by their places, and a candidate's by kind and id.
+-- The open needs of candidates, by places, and those of one candidate, by kind and id.
 use Rattle.std.specs.Prelude.{◌≡◌, ◌↔◌, ◌<◌, ◌==◌, ◌&&◌, ℕ, Bool, not, List, [], ◌∷◌, Some, IsTrue, Contains, Vec}
 use Rattle.std.specs.Prelude.{AllPairs, map, slice_get, if◌then◌else◌}
 use Rattle.std.specs.Ordering.{nat_cmp, is_lt, ordering_then}
@@ -15,7 +15,7 @@ use Rattle.solve.specs.Rows.{row_at}
 use Rattle.machine.specs.Outcome.{OpenNeed}
 use Rattle.terms.specs.Failures.{all_needs}
 
--- whether the numbered need is of x, and nothing kept serves it
+-- whether the numbered need is of x, and no kept candidate serves it
 abbrev pub is_open_of : List Bool → Need → ℕ → Bool
 is_open_of kept d x = (d.of == x) && not (list_any (holds kept) d.any)
 
@@ -23,7 +23,7 @@ is_open_of kept d x = (d.of == x) && not (list_any (holds kept) d.any)
 abbrev pub open_of : List Bool → Need → NeedKind × Id → ℕ → List (NeedKind × Id)
 open_of kept d need x = if is_open_of kept d x then need ∷ [] else []
 
--- each candidate's row has its open needs among those in front of a place
+-- each candidate's row has its open needs among those before a place
 abbrev pub HaveOpen : List Bool → List Need → List (NeedKind × Id) → ℕ → List (Vec (NeedKind × Id) Global)
     → Type 0
 HaveOpen kept needs needed end rows = (x : ℕ) (need : NeedKind × Id) → Contains (row_at rows x) need

@@ -1,4 +1,4 @@
--- What a command says of its candidates, by their ids.
+-- The assessment of candidates, by their ids.
 use Rattle.std.specs.Prelude.{◌≡◌, ◌↔◌, ◌⊎◌, Bool, List, IsTrue, IsFalse, Contains, map, filter}
 use Rattle.terms.specs.declared.codes.NeedKind.{NeedKind}
 use Rattle.terms.specs.declared.codes.Test.{Test}
@@ -11,7 +11,7 @@ use Rattle.judge_system.specs.declared.stated.RequisiteOf.{RequisiteOf}
 abbrev pub a_need : Id → NeedKind → Id → RequisiteOf
 a_need x kind z = record { of = x; kind = kind; id = z }
 
--- The tests that candidates fail, what they need, and pairs of a candidate and one that it supersedes.
+-- The tests that candidates fail, what they need, and pairs of a candidate and an id that it supersedes.
 pub record Said : Type 0 where
   pub cands : List Id
   pub fails : Id → Test → Bool
@@ -28,15 +28,15 @@ IsEligible s x = Contains s.cands x × ((test : Test) → IsFalse (s.fails x tes
 abbrev pub Needs : Said → Id → NeedKind → Id → Type 0
 Needs s x kind z = Contains s.needs (a_need x kind z)
 
--- y serves a need for z: it is z, or supersedes it where that serves
+-- y serves a need for z: y is z, or supersedes it if that serves the need
 abbrev pub Serves : List (Id × Id) → NeedKind → Id → Id → Type 0
 Serves superseded kind y z = (y ≡ z) ⊎ (IsTrue (takes_superseder kind) × Contains superseded (y, z))
 
--- beside the ids stand the tests that each one fails, in the order of reports
+-- each id has the tests that it fails, in the order of reports
 abbrev pub AreTests : (Id → Test → Bool) → List Id → List (List Test) → Type 0
 AreTests fails ids rows = rows ≡ map (λ x. filter (fails x) all_tests) ids
 
--- So it is by a command's own tests, needs, and what serves a need.
+-- The assessment follows a command's own tests, needs, and rule for what serves a need.
 module _ (Fails : Id → Test → Type 0) (Eligible : Id → Type 0) (Requires : Id → NeedKind → Id → Type 0)
     (ServedBy : NeedKind → Id → Id → Type 0) where
   pub record IsSaid (s : Said) : Type 0 where

@@ -13,7 +13,7 @@ use fields::{Id, IdList};
 use solve::Kept;
 use std::alloc::{AllocError, Global};
 
-/// The kept candidates, and each other one with the reason, in their order.
+/// The kept candidates, and each other one with its failure, in their order.
 #[derive(Drop)]
 pub struct Decided {
     pub kept: IdList,
@@ -21,8 +21,8 @@ pub struct Decided {
 }
 
 impl Judged<'_> {
-    /// Turns numbers back into ids: the kept candidates, and why each other one is not kept. Given are the kept numbers
-    /// and the causers of each number.
+    /// Turns numbers back into ids: the kept candidates, and why each other one is not kept. Its arguments are the kept
+    /// numbers and the causers of each number.
     pub fn decided(
         &self,
         alloc: Global,

@@ -1,4 +1,4 @@
-//! Why each candidate that is not kept failed.
+//! Why each candidate that is not kept has failed.
 ghost use Rattle.std.specs.Prelude.{◌<◌, All, IfOk, OnOk, length, not};
 ghost use Rattle.judge_system.specs.Views.{failure_view};
 ghost use Rattle.judge_system.specs.Findings.{AreFindings, IsFailureOf, IsFailureAt, AddsFailure, AreFailures};
@@ -10,7 +10,7 @@ use fields::{Id, IdList};
 use std::alloc::{AllocError, Global};
 use terms::{NeedKind, Test};
 
-/// What is known of each candidate, by its place: the tests that it fails, its open needs, and its causers.
+/// What is known about each candidate, by its place: the tests that it fails, its open needs, and its causers.
 #[derive(Clone, Copy)]
 pub(crate) struct Findings<'a> {
     pub(crate) tests: &'a [Vec<Test>],

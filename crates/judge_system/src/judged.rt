@@ -11,8 +11,8 @@ use std::alloc::{AllocError, Global};
 use sysmods::{KnownOvers, VerChoice};
 use terms::Test;
 
-/// The candidates of an APPLY, ACCEPT or RESTORE, judged. They are numbered in the order in which they are first seen;
-/// a number is a place in each list that has an item for each candidate.
+/// The candidates of an APPLY, ACCEPT or RESTORE, judged. They are numbered in the order in which they are first seen.
+/// A number is a place in each list that has an item for each candidate.
 #[derive(Drop)]
 pub struct Judged<'a> {
     /// Which candidates are eligible, and what each one needs, by their numbers.
@@ -27,12 +27,12 @@ pub struct Judged<'a> {
     pub bypassed: Vec<(Id, Id)>,
     /// The `++VER`s that count.
     pub vers: VerChoice<'a>,
-    /// What is known of which id is over which.
+    /// The pairs of ids that are known to be over each other.
     pub overs: KnownOvers,
 }
 
 impl<'a> Judged<'a> {
-    /// Numbers the candidates, and what is said of them. It returns an error too if there are more of them than numbers
+    /// Numbers the candidates and their assessment. It also returns an error if there are more candidates than numbers
     /// of 32 bits.
     pub fn new(
         alloc: Global,

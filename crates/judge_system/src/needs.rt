@@ -1,4 +1,4 @@
-//! The needs that nothing kept serves.
+//! The needs that no kept candidate serves.
 ghost use Rattle.std.specs.Prelude.{◌≡◌, ◌↔◌, ◌<◌, ◌++◌, ℕ, Contains, IfOk, OnOk, length, map};
 ghost use Rattle.solve.specs.NeedView.{numbered};
 ghost use Rattle.solve.specs.Rows.{row_at};
@@ -30,7 +30,7 @@ fn add_open(
     Ok(())
 }
 
-/// For each candidate the kinds and ids of its needs that no kept one serves.
+/// For each candidate the kinds and ids of its needs that no kept candidate serves.
 pub(crate) fn open_needs(
     alloc: Global,
     system: &System,

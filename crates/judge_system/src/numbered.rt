@@ -1,4 +1,4 @@
-//! The numbered system of who is eligible and needs whom.
+//! The numbered system: which candidates are eligible, and what each one needs.
 ghost use Rattle.std.specs.Prelude.{◌≡◌, ◌<◌, ◌^◌, length, map, All, Contains, OnOk, IfOk};
 ghost use Rattle.terms.specs.Lookups.{IsRising, is_nil};
 ghost use Rattle.solve.specs.System.{IsSystem};
@@ -13,7 +13,7 @@ use std::alloc::{AllocError, Global};
 use std::collections::BTreeSet;
 use terms::Test;
 
-/// As many candidates as there are numbers of 32 bits for their count.
+/// The greatest number of candidates whose count fits into 32 bits.
 const MOST: usize = u32::MAX as usize;
 
 /// The ids, numbered in their order.
@@ -88,7 +88,7 @@ fn with_needs(
     Ok(system)
 }
 
-/// The system of candidates with these flags and these needs, of which some supersede what is needed.
+/// The system of candidates with these flags and these needs; some candidates supersede an id that is needed.
 pub(crate) fn numbered(
     alloc: Global,
     ids: &IndexSet<Id>,

@@ -1,4 +1,4 @@
-//! Who serves a need: the id itself, and a candidate that supersedes it where that serves.
+//! The candidates that serve a need: the id itself, and a candidate that supersedes it if that serves the need.
 ghost use Rattle.std.specs.Prelude.{◌≡◌, ◌<◌, ◌^◌, ℕ, List, Some, length, map, filter, slice_get, All, AllPairs};
 ghost use Rattle.std.specs.Prelude.{Contains, IsTrue, IsFalse, IsNone, IfSome, OnOk, IfOk};
 ghost use Rattle.terms.specs.Types.{Id as AnId};
@@ -12,7 +12,7 @@ use std::alloc::{AllocError, Global};
 use std::collections::BTreeSet;
 use terms::NeedKind;
 
-// Where the id stands among the numbered ones: its number.
+// The place of the id among the numbered ones: its number.
 fn place_of(ids: &IndexSet<Id>, id: Id) -> Option<u32>
     requires { length ids.now.keys < 2 ^ 32 }
     ensures at { IfSome result (λ n. slice_get ids.now.keys n ≡ Some id) }
@@ -24,7 +24,7 @@ fn place_of(ids: &IndexSet<Id>, id: Id) -> Option<u32>
     }
 }
 
-/// The place of one that is numbered.
+/// The place of a numbered id.
 pub(crate) fn own_place(ids: &IndexSet<Id>, id: Id) -> u32
     requires few { length ids.now.keys < 2 ^ 32 }
     requires within { Contains ids.now.keys id }
@@ -45,7 +45,7 @@ fn own_pairs(alloc: Global, ids: &[Id]) -> Result<Vec<(Id, u32)>, AllocError>
     Ok(pairs)
 }
 
-// Adds what candidates supersede, each with the place of the candidate.
+// Adds what candidates supersede, each id with the place of the candidate.
 fn add_superseded(
     ids: &IndexSet<Id>,
     superseded: &[(Id, Id)],
@@ -62,7 +62,7 @@ fn add_superseded(
     Ok(())
 }
 
-/// The ids that candidates stand for, each with the place of the candidate, in order.
+/// The ids for which candidates stand, each with the place of the candidate, in order.
 pub(crate) fn served(
     alloc: Global,
     ids: &IndexSet<Id>,
@@ -79,7 +79,7 @@ pub(crate) fn served(
     Ok(set)
 }
 
-/// Whether what supersedes an id serves a need for it.
+/// Whether a SYSMOD that supersedes an id serves a need for it.
 pub fn takes_superseder(kind: NeedKind) -> bool
     ensures { result ≡ takes_superseder kind }
 {
@@ -104,7 +104,7 @@ fn places_in(
     Ok(places)
 }
 
-// They serve a need where a superseder does.
+// The candidates that serve a need that a superseder serves.
 fn served_places(
     alloc: Global,
     ids: &IndexSet<Id>,
@@ -123,7 +123,7 @@ fn served_places(
     Ok(places)
 }
 
-// Else the id alone does, if it is a candidate.
+// Otherwise only the id itself does, if it is a candidate.
 fn own_places(alloc: Global, ids: &IndexSet<Id>, id: Id) -> Result<Vec<u32>, AllocError>
     requires few { length ids.now.keys < 2 ^ 32 }
     requires rising { IsRising ids.now.keys }

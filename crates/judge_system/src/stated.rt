@@ -1,4 +1,4 @@
-//! What is said of candidates.
+//! The assessment of candidates.
 ghost use Rattle.std.specs.Prelude.{◌≡◌, ◌<◌, Some, length, slice_get};
 
 use fields::Id;
@@ -12,14 +12,14 @@ pub struct RequisiteOf {
     pub id: Id,
 }
 
-/// What a command says of its candidates, by their ids.
+/// The assessment of candidates, by their ids.
 #[derive(Drop)]
 pub struct Assessment {
     /// The tests that each candidate fails, in the order of the candidates.
     pub tests: Vec<Vec<Test>>,
     /// What each one needs, each need once.
     pub needs: Vec<RequisiteOf>,
-    /// The candidates with each id that they supersede, of those that are needed where a superseder serves.
+    /// The candidates with each id that they supersede, among the ids with a need that a superseder serves.
     pub superseded: Vec<(Id, Id)>,
     /// The candidates with each of their requisites that BYPASS covers.
     pub bypassed: Vec<(Id, Id)>,

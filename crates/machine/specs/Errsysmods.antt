@@ -1,5 +1,5 @@
--- REPORT ERRSYSMODS of a zone: what is applied and held for error, and what would resolve that.
--- (IBM z/OS SMP/E Commands, REPORT ERRSYSMODS, whose zone is the boundary's here.)
+-- REPORT ERRSYSMODS of a zone: the applied SYSMODs that are held for error, and what would resolve the holds. (IBM z/OS
+-- SMP/E Commands, REPORT ERRSYSMODS, whose zone is the boundary's here.)
 use Rattle.std.specs.Prelude.{◌≡◌, ◌⊎◌, ◌↔◌, ◌&&◌, Bool, not, List, [], Contains, IsTrue, map, filter, is_some}
 use Rattle.std.specs.List.{flat_map}
 use Rattle.terms.specs.declared.kinds.HoldKind.TheVariants.{Error}
@@ -9,11 +9,11 @@ use Rattle.terms.specs.Choice.{vers_of, counting}
 use Rattle.terms.specs.Over.{Supersedes}
 use Rattle.machine.specs.Outcome.{Line, ErrsysmodLine}
 
--- the ERROR holds on an entry that is applied and superseded by nothing, whose reason the zone does not supply
+-- the ERROR holds on a SYSMOD that is applied and not superseded, whose reason the zone does not supply
 abbrev pub open_errors : Global → Zone → Entry → List Hold
 open_errors g zone e = filter (λ h. not (is_supplied zone h.reason)) (holds_of g Error e.id)
 
--- the entries of which it speaks
+-- the entries that it reports
 abbrev pub is_current : Entry → Bool
 is_current e = is_some e.applied && is_nil e.supby
 
@@ -22,7 +22,7 @@ pub record Resolves (g : Global) (zone : Zone) (reason y : Id) : Type 0 where
   pub fits : IsTrue (not (is_nil (vers_of g zone.srel y)))
   pub reaches : (y ≡ reason) ⊎ Supersedes (counting g zone []) y reason
 
--- A line for each such hold, by the entries and then by reason, with all that resolve it, rising.
+-- A line for each such hold, by entry and then by reason, with all SYSMODs that resolve it, rising.
 pub record AreErrsysmods (g : Global) (zone : Zone) (lines : List Line) : Type 0 where
   pub resolvers : Id → List Id
   pub lines_are : lines

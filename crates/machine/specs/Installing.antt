@@ -21,8 +21,8 @@ use Rattle.machine.specs.Outcome.{Status, Already, Applied, Accepted, Superseded
 use Rattle.machine.specs.Outcome.{NoVer, NotApplied, Line, StatusLine}
 use Rattle.machine.specs.Receiving.{place_of}
 
--- Why a candidate is not kept: its failed tests, its open needs by kind and id, and its causers.
--- Given are the candidates and the kept ones, the tests they fail, which are eligible, and the needs.
+-- Why a candidate is not kept: its failed tests, its open needs by kind and id, and its causers. Given are the
+-- candidates and the kept ones, the tests that each fails, which of them are eligible, and the needs.
 module _ (cands kept : List Id) (FailsTest : Id → Test → Type 0) (Eligible : Id → Type 0)
     (Wants : Id → NeedKind → Id → Type 0) (ServedBy : NeedKind → Id → Id → Type 0) where
   pub record IsFailure (x : Id) (f : Failure) : Type 0 where
@@ -64,7 +64,7 @@ pub record IsDecision (g : Global) (zone : Zone) (related : Option Zone) (sel : 
     date = date;
   }
 
--- the status of what is installed
+-- the status of an installed SYSMOD
 abbrev pub installed_status : ZoneKind → Status
 installed_status Target = Applied
 installed_status Distribution = Accepted
@@ -76,7 +76,7 @@ not_chosen_status out.Missing = Missing
 not_chosen_status out.NoVer = NoVer
 not_chosen_status out.NotApplied = NotApplied
 
--- The status of an id: installed, kept and superseded, failed, or named by the command and no candidate.
+-- The status of an id: installed, kept and superseded, failed, or named by the command without being a candidate.
 pub data HasStatus (d : Decision) (sel : Selection) (x : Id) : Status → Type 0 where
   IsInstalled : TakesEffect d.installing x → HasStatus d sel x (installed_status d.setting.zone.kind)
   IsSuperseded : Contains d.kept x → (¬ TakesEffect d.installing x) → HasStatus d sel x Superseded
@@ -96,7 +96,7 @@ pub record AreInstallLines (d : Decision) (sel : Selection) (lines : List Line) 
   pub each : (x : Id) → Contains ids x → HasStatus d sel x (status x)
   pub all : (x : Id) (s : Status) → HasStatus d sel x s → Contains ids x
 
--- the new zone and the lines; CHECK comes to the same lines
+-- the new zone and the lines; CHECK gives the same lines
 pub record InstallsSelected (g : Global) (zone : Zone) (related : Option Zone) (sel : Selection) (bypass : Bypass)
     (date : Text) (new : Zone) (lines : List Line) : Type 0 where
   pub decision : Decision

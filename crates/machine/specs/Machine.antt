@@ -27,13 +27,13 @@ pub record Files : Type 0 where
   pub ptfin : List ℕ
   pub holds : List ℕ
 
--- what a file holds; of a file that the command does not read, nothing
+-- what a file contains; a file that the command does not read counts as empty
 abbrev pub HasItems : {X : Type 0} → (List ℕ → List X → Type 0) → Bool → List ℕ → List X → Type 0
 HasItems Is true bytes items = Is bytes items
 HasItems Is false bytes items = items ≡ []
 
--- RECEIVE takes in the items of PTFIN, and then those of the hold file. Both are read before anything changes, and the
--- first fault of PTFIN, or else of the hold file, refuses it.
+-- RECEIVE takes in the items of PTFIN, and then those of the hold file. It reads both before anything changes. The
+-- first fault of PTFIN, or otherwise of the hold file, refuses it.
 pub data Takes (files : Files) (s : State) (what : ReceiveWhat) : State → Outcome → Type 0 where
   TakesAll : (items : List Item) (holds : List HoldItem) (middle g : Global) (lines more : List Line)
       → HasItems IsPtfin what.sysmods files.ptfin items → HasItems IsHoldFile what.holddata files.holds holds
@@ -54,8 +54,8 @@ pub record Rejects (s : State) (ids : List Id) (t : State) (outcome : Outcome) :
   pub state : t ≡ record s { global = new }
   pub prints : outcome ≡ Ran (header_of (Reject ids) s.boundary) lines
 
--- APPLY and ACCEPT install into the zone of the boundary. ACCEPT has the target zone in view that is related to it.
--- With CHECK they print the same and change nothing.
+-- APPLY and ACCEPT install into the zone of the boundary. ACCEPT also looks at the related target zone. With CHECK they
+-- print the same and change nothing.
 pub record InstallsThere (date : Text) (s : State) (c : Command) (i : Install) (related : Text → Option Zone)
     (t : State) (outcome : Outcome) : Type 0 where
   pub name : Text
@@ -68,7 +68,7 @@ pub record InstallsThere (date : Text) (s : State) (c : Command) (i : Install) (
   pub state : t ≡ (if i.check then s else with_zone s name new)
   pub prints : outcome ≡ Ran (header_of c s.boundary) (or_nothing lines)
 
--- RESTORE takes SYSMODs off the target zone of the boundary, back to what its distribution zone holds.
+-- RESTORE takes SYSMODs off the target zone of the boundary, back to the level of its distribution zone.
 pub record RestoresThere (s : State) (what : RestoreList) (check : Bool) (t : State) (outcome : Outcome) : Type 0 where
   pub name : Text
   pub at : s.boundary ≡ Some name
@@ -94,7 +94,7 @@ pub record ReportsThere (s : State) (outcome : Outcome) : Type 0 where
   pub lines_are : AreErrsysmods s.global zone lines
   pub prints : outcome ≡ Ran (header_of Report s.boundary) lines
 
--- a command where it can run
+-- a command that may run
 abbrev pub RunsThere : Text → Files → State → Command → State → Outcome → Type 0
 RunsThere date files s (Set name) t outcome =
     (t ≡ record s { boundary = Some name }) × (outcome ≡ Ran (header_of (Set name) s.boundary) [])
@@ -107,13 +107,13 @@ RunsThere date files s (ListZone text) t outcome =
     (t ≡ s) × (outcome ≡ Ran (header_of (ListZone text) s.boundary) (listed s text))
 RunsThere date files s Report t outcome = (t ≡ s) × ReportsThere s outcome
 
--- a command; where it can't run it is refused and changes nothing
+-- a command; one that may not run is refused and changes nothing
 abbrev pub Performs : Text → Files → State → Command → State → Outcome → Type 0
 Performs date files s c t outcome =
     ((why : Refusal) × (misplaced s c ≡ Some why) × (t ≡ s) × (outcome ≡ Refused (header_of c s.boundary) why))
     ⊎ ((misplaced s c ≡ None) × RunsThere date files s c t outcome)
 
--- A job begins, and has no boundary; a command of it runs, on its date and over its files; or its command file is at
+-- A job begins, without a boundary. One of its commands runs, on its date and over its files. Its command file has a
 -- fault. Or a zone is defined.
 pub data Act : Type 0 where
   Begin : Act
@@ -121,7 +121,7 @@ pub data Act : Type 0 where
   Faulty : ControlFault → Act
   Define : ZoneDefinition → Act
 
--- the state that is answered, or else the one that was there
+-- the state of the answer, or otherwise the one before
 abbrev pub state_after : State → Result State ZoneFault → State
 state_after s (Ok new) = new
 state_after s (Err why) = s
@@ -173,7 +173,7 @@ pub record RunsJob (s : State) (job : Job) (t : State) (bytes : List ℕ) (answe
   pub bytes_are : bytes ≡ flat_map text outcomes
   pub answers : HasAnswer s job outcomes answer
 
--- So do the jobs one after the other.
+-- The jobs do so one after the other.
 abbrev pub RunsJobs : State → List Job → State → List ℕ → List Answer → Type 0
 RunsJobs s [] t bytes answers = (t ≡ s) × (bytes ≡ []) × (answers ≡ [])
 RunsJobs s (job ∷ more) t bytes answers =

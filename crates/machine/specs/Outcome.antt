@@ -1,4 +1,4 @@
--- What a command prints, before it is text.
+-- What a command prints, before it becomes text.
 use Rattle.std.specs.Prelude.{ℕ, Bool, false, List, [], ◌∷◌, Option, Some, max, map, ◌++◌, if◌then◌else◌}
 use Rattle.std.specs.List.{flat_map}
 use Rattle.terms.specs.declared.kinds.Kind.{Kind}
@@ -17,7 +17,7 @@ use Rattle.terms.specs.declared.codes.CommandCode.{CommandCode}
 use Rattle.terms.specs.declared.codes.Test.{Test}
 use Rattle.terms.specs.declared.codes.NeedKind.{NeedKind}
 
--- the command's word, the boundary if there is one (of SET the zone that it names), and whether CHECK was given
+-- the command's word, the boundary if there is one (for SET the zone that it names), and whether CHECK was given
 pub record Header : Type 0 where
   pub word : CommandWord
   pub boundary : Option Text
@@ -34,8 +34,8 @@ header_of (Restore ids check) b = record { word = word.Restore; boundary = b; ch
 header_of (ListZone text) b = record { word = word.List; boundary = b; check = false }
 header_of Report b = record { word = word.Report; boundary = b; check = false }
 
--- Why a command is refused: no SET came before it, SET names a zone that is not there, the boundary suits other
--- commands, or a record of PTFIN or of the hold file is at fault.
+-- Why a command is refused: no SET precedes it, SET names an undefined zone, the boundary suits other commands, or a
+-- record of PTFIN or of the hold file has a fault.
 pub data Refusal : Type 0 where
   NoBoundary : Refusal
   NoZone : Refusal
@@ -43,7 +43,7 @@ pub data Refusal : Type 0 where
   BadPtfin : ℕ → StatementCode → Refusal
   BadHoldFile : ℕ → StatementCode → Refusal
 
--- what stands in a status line after the id: a SYSMOD's type, a hold's kind, or nothing known
+-- what follows the id in a status line: a SYSMOD's type, a hold's kind, or nothing known
 pub data Place : Type 0 where
   OfKind : Kind → Place
   OfHold : HoldKind → Place
@@ -54,7 +54,7 @@ pub record OpenNeed : Type 0 where
   pub kind : NeedKind
   pub id : Id
 
--- why an id failed: the tests, the needs that nothing kept serves, and the causers
+-- why an id failed: the tests, the needs that no kept candidate serves, and the causers
 pub record Failure : Type 0 where
   pub tests : List Test
   pub needs : List OpenNeed
@@ -90,7 +90,7 @@ pub record ElementRow : Type 0 where
   pub distlib : Text
   pub syslib : Text
 
--- An entry stands with its zone's kind, an ERRSYSMOD with its reason and its resolvers.
+-- An entry is printed with its zone's kind, an ERRSYSMOD with its reason and its resolvers.
 pub data Line : Type 0 where
   StatusLine : Id → Place → Status → Line
   NothingLine : Line
@@ -112,7 +112,7 @@ pub data Outcome : Type 0 where
   Refused : Header → Refusal → Outcome
   Control : ControlFault → Outcome
 
--- RECEIVE, APPLY and ACCEPT print NOTHING where they would print no line
+-- RECEIVE, APPLY and ACCEPT print NOTHING instead of no line
 abbrev pub or_nothing : List Line → List Line
 or_nothing [] = NothingLine ∷ []
 or_nothing (l ∷ ls) = l ∷ ls
@@ -181,7 +181,7 @@ line_code (ElementLine row) = 0
 line_code (TextLine r) = 0
 line_code (ErrsysmodLine id reason resolvers) = 4
 
--- the highest code of any line; no lines make 0
+-- the highest code of any line, or 0 without lines
 abbrev pub lines_code : List Line → ℕ
 lines_code [] = 0
 lines_code (l ∷ ls) = max (line_code l) (lines_code ls)

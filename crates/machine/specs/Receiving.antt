@@ -13,7 +13,7 @@ use Rattle.machine.specs.Outcome.{Place, OfKind, OfHold, NotReceived, Status, Re
 use Rattle.machine.specs.Outcome.{Unknown, Held, Replaced, Released, Line, StatusLine}
 use Rattle.machine.specs.Runs.{Runs}
 
--- the zone that is answered, or else the one that was there
+-- the zone of the answer, or otherwise the one before
 abbrev pub global_after : {E : Type 0} → Global → Result Global E → Global
 global_after g (Ok new) = new
 global_after g (Err why) = g
@@ -34,13 +34,13 @@ receive_status (Err MakesLoop) = RefusedId refusal.MakesLoop
 receive_status (Err WrongRole) = RefusedId refusal.WrongRole
 receive_status (Err NoRoom) = RefusedId refusal.NoRoom
 
--- one id of an ++ASSIGN: the source is added where it is received
+-- one id of an ++ASSIGN: a received SYSMOD gets the source
 abbrev pub AssignsId : Text → Global → Id → Global → List Line → Type 0
 AssignsId source g x new lines =
     (new ≡ assign g source x)
     × (lines ≡ StatusLine x (place_of g x) (if is_received g x then Assigned source else Unknown) ∷ [])
 
--- an item of PTFIN. The line of a SYSMOD has its own type, also where it is refused.
+-- An item of PTFIN. The line of a SYSMOD has its own type, even if it is refused.
 abbrev pub TakesItem : Option Text → Global → Item → Global → List Line → Type 0
 TakesItem source g (ASysmod s) new lines =
     (answer : Result Global ReceiveFault) × Receives g (sourced source s) answer
@@ -55,7 +55,7 @@ release_status r (Ok new) = Released r.reason
 release_status r (Err NoHold) = RefusedId refusal.NoHold
 release_status r (Err Internal) = RefusedId refusal.Internal
 
--- an item of the hold file, in whose line the hold's kind stands in place of the type
+-- an item of the hold file; its line has the hold's kind instead of the type
 abbrev pub TakesHoldItem : Global → HoldItem → Global → List Line → Type 0
 TakesHoldItem g (AHold h) new lines =
     (new ≡ hold g h) × (lines ≡ StatusLine h.id (OfHold h.kind) (hold_status g h) ∷ [])

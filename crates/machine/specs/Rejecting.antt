@@ -12,7 +12,7 @@ reject_status (Ok new) = Rejected
 reject_status (Err AppliedSomewhere) = RefusedId refusal.AppliedSomewhere
 reject_status (Err UnknownSysmod) = RefusedId refusal.UnknownSysmod
 
--- One id, in whose line stands the type that the SYSMOD had.
+-- One id. Its line has the type that the SYSMOD had.
 abbrev pub RejectsId : List NamedZone → Global → Id → Global → List Line → Type 0
 RejectsId zones g x new lines =
     (new ≡ global_after g (reject g zones x))

@@ -25,7 +25,7 @@ words_line words = join_with_byte 32 words ++ 10 ∷ []
 abbrev pub detail_line : List Text → Text
 detail_line words = 32 ∷ 32 ∷ words_line words
 
--- the text left in so many places
+-- the text, padded to so many places
 abbrev pub left_in : ℕ → Text → Text
 left_in n text = text ++ replicate (n - length text) 32
 
@@ -57,7 +57,7 @@ place_text (OfKind kind) = kind_text kind
 place_text (OfHold kind) = hold_text kind
 place_text NotReceived = codes "-"
 
--- the word of a status, and what may stand behind it
+-- the word of a status, and what may follow it
 abbrev pub status_word : Status → Text
 status_word Received = codes "RECEIVED"
 status_word Already = codes "ALREADY"
@@ -101,7 +101,7 @@ abbrev pub mark_text : Bool → Text
 mark_text true = codes "INTERNAL"
 mark_text false = codes "EXTERNAL"
 
--- the word and the date of an applied entry, or -
+-- the word and date of an applied entry, or -
 abbrev pub applied_words : ZoneKind → Option Text → List Text
 applied_words kind None = codes "-" ∷ []
 applied_words Target (Some date) = codes "APPLIED" ∷ date ∷ []

@@ -20,7 +20,7 @@ pub data HasRestoreStatus (r : Restoring) (ids kept : List Id) (x : Id) : Status
       → HasRestoreStatus r ids kept x (Failed f)
   WasNotOn : Contains ids x → (¬ Contains (restore_candidates r ids) x) → HasRestoreStatus r ids kept x NotApplied
 
--- the new target zone and the lines, by id; CHECK comes to the same lines
+-- the new target zone and the lines, by id; CHECK gives the same lines
 pub record RestoresListed (g : Global) (zone accepted : Zone) (what : RestoreList) (new : Zone) (lines : List Line) :
     Type 0 where
   pub setting : Restoring

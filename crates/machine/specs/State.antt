@@ -27,15 +27,15 @@ global_name = codes "GLOBAL"
 abbrev pub zone_named : List NamedZone → Text → Option Zone
 zone_named zones name = option_map (λ z. z.zone) (find (λ z. bytes_eq z.name name) zones)
 
--- the zone that the boundary names, which is none at the global zone
+-- the zone that the boundary names; none if that is the global zone
 abbrev pub current_zone : State → Option Zone
 current_zone s = option_and_then (zone_named s.zones) s.boundary
 
--- the target zone to which a distribution zone is related, if there is one
+-- the target zone that is related to a distribution zone, if there is one
 abbrev pub target_of : List NamedZone → Text → Option Zone
 target_of zones name = option_map (λ z. z.zone) (find (λ z. option_map_or (bytes_eq name) z.zone.related false) zones)
 
--- the state with the zone in place of the one of its name
+-- the state with this zone in place of the one of its name
 abbrev pub with_zone : State → Text → Zone → State
 with_zone s name zone = record s {
   zones = with_item (slice_cmp nat_cmp) (λ z. z.name) s.zones
@@ -52,11 +52,11 @@ at_kind kind s = option_map_or (λ z. zone_number z.kind == zone_number kind) (c
 abbrev pub at_zone : State → Bool
 at_zone s = is_some (current_zone s)
 
--- why a command of these kinds can't run at this boundary: there is none, or it is not where the command can run
+-- why a command of these kinds cannot run at this boundary: there is none, or it is of another kind
 abbrev pub unless_at : Bool → State → Option Refusal
 unless_at fits s = if not (is_some s.boundary) then Some NoBoundary else if fits then None else Some WrongKind
 
--- why the command can't run at this boundary, or SET names no zone
+-- why the command cannot run at this boundary, or that SET names no zone
 unfoldable pub misplaced : State → Command → Option Refusal
 misplaced s (Set name) = if bytes_eq name global_name || is_some (zone_named s.zones name) then None
     else Some NoZone
@@ -75,8 +75,8 @@ pub record ZoneDefinition : Type 0 where
   pub srel : Text
   pub related : Option Text
 
--- NameTaken: a zone has the name, or it is GLOBAL. WrongRelated: a target zone wants a distribution zone that is
--- related to none, and a distribution zone wants no related zone. OtherSrel: the related zone has another SREL.
+-- NameTaken: a zone has the name, or the name is GLOBAL. WrongRelated: a target zone needs a distribution zone to which
+-- no other is related, and a distribution zone has no related zone. OtherSrel: the related zone has another SREL.
 -- TooMany: 64 zones are defined.
 pub data ZoneFault : Type 0 where
   NameTaken : ZoneFault
@@ -94,8 +94,8 @@ is_free zones name =
     option_map_or (λ z. is_distribution z.kind) (zone_named zones name) false
     && not (is_related zones name)
 
--- whether the related zone is as the kind asks: a free distribution zone for a target zone, and none for a distribution
--- zone
+-- whether the related zone suits the kind: for a target zone an unrelated distribution zone, for a distribution zone
+-- none
 abbrev pub has_right_related : List NamedZone → ZoneKind → Option Text → Bool
 has_right_related zones Target related = option_map_or (is_free zones) related false
 has_right_related zones Distribution related = not (is_some related)
@@ -106,7 +106,7 @@ has_same_srel zones srel related =
     option_map_or (λ name. option_map_or (λ z. bytes_eq z.srel srel) (zone_named zones name) false) related
     (not (is_some related))
 
--- the zones with an empty one more, or the first fault that applies
+-- the zones with one more, which is empty, or the first fault that applies
 unfoldable pub define_zone : State → ZoneDefinition → Result State ZoneFault
 define_zone s d =
     if bytes_eq d.name global_name || is_some (zone_named s.zones d.name) then Err NameTaken

@@ -1,4 +1,4 @@
--- That there is one answer at most, and that there is one: of a file, and of a step.
+-- There is at most one answer, and there is one: of a file, and of a step.
 use Rattle.std.specs.Prelude.{◌≡◌, ◌⊎◌, ℕ, List, Option, All}
 use Rattle.std.specs.List.{AllByRecursion}
 use Rattle.terms.specs.Types.{Text, Global, Zone, Selection, Bypass, Command, Apply, Accept, Restore}
@@ -14,13 +14,13 @@ use Rattle.machine.specs.State.{State}
 use Rattle.machine.specs.Machine.{Files, Act, Perform, Steps, Job, Answer, RunsJob, RunsJobs}
 use Rattle.machine_laws.specs.Storable.{IsStorable, HasActForms, HasJobForms}
 
--- A file is of one list of items at most, has one fault at most, and never both.
+-- A file consists of at most one list of items, has at most one fault, and never both.
 pub record IsReadOnce {X F : Type 0} (Is : List X → Type 0) (IsFault : F → Type 0) : Type 0 where
   pub items : (xs ys : List X) → Is xs → Is ys → xs ≡ ys
   pub faults : (f g : F) → IsFault f → IsFault g → f ≡ g
   pub apart : (xs : List X) (f : F) → Is xs → IsFault f → ⊥
 
--- It is of items, or has a fault.
+-- It consists of items, or has a fault.
 abbrev pub IsRead : {X F : Type 0} → (List X → Type 0) → (F → Type 0) → Type 0
 IsRead {X} {F} Is IsFault = ((xs : List X) × Is xs) ⊎ ((fault : F) × IsFault fault)
 
@@ -29,7 +29,7 @@ pub record AreRead (files : Files) : Type 0 where
   pub ptfin : IsRead (IsPtfin files.ptfin) (IsPtfinFault files.ptfin)
   pub holds : IsRead (IsHoldFile files.holds) (IsHoldFileFault files.holds)
 
--- From this state the act leads to one state at most, and prints one list.
+-- From this state the act leads to at most one state, and prints one list.
 abbrev pub IsOnce : {S A B : Type 0} → (S → A → S → List B → Type 0) → S → A → Type 0
 IsOnce {S} {A} {B} Steps s a = (t u : S) (front back : List B) → Steps s a t front → Steps s a u back
     → (t ≡ u) × (front ≡ back)
@@ -49,7 +49,7 @@ abbrev pub IsPlainAct : Act → Type 0
 IsPlainAct (Perform date files c) = AreRead files × IsPlain c
 IsPlainAct _ = Unit {0}
 
--- ---- the laws: there is one answer at most
+-- ---- the laws: there is at most one answer
 
 abbrev pub PtfinReadOnce : Type 0
 PtfinReadOnce = (bytes : List ℕ) → IsReadOnce (IsPtfin bytes) (IsPtfinFault bytes)
@@ -74,7 +74,7 @@ JobsOnce =
     → AllByRecursion HasJobForms jobs → RunsJobs s jobs t bytes answers → RunsJobs s jobs u others more
     → (t ≡ u) × (bytes ≡ others) × (answers ≡ more)
 
--- ---- and there is one; where a file is read or a set is decided, that there is none can be refuted
+-- ---- and there is one; if a file is read or a set is decided, it can be refuted that there is none
 
 abbrev pub PtfinRead : Type 0
 PtfinRead = (bytes : List ℕ) → ¬ ¬ IsRead (IsPtfin bytes) (IsPtfinFault bytes)

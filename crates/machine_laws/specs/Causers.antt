@@ -1,4 +1,4 @@
--- What the line of a failed id says of its causers.
+-- What the line of a failed id says about its causers.
 use Rattle.std.specs.Prelude.{◌≢◌, ◌⊎◌, List, [], Option, Contains}
 use Rattle.terms.specs.declared.codes.NeedKind.{NeedKind}
 use Rattle.terms.specs.Types.{Id, Text, Global, Zone, Selection, Bypass, RestoreList}
@@ -26,7 +26,7 @@ module _ (cands kept : List Id) (Eligible : Id → Type 0) (Wants : Id → NeedK
     pub some : f.causers ≢ []
     pub each : (y : Id) → Contains f.causers y → (h : Failure) × HasFailedLine lines y h × IsCause y h
 
--- So it is of each line of a failed id of an APPLY or ACCEPT.
+-- This is true of each line of a failed id of an APPLY or ACCEPT.
 abbrev pub InstallFailuresCaused : Type 0
 InstallFailuresCaused =
     (g : Global) (zone : Zone) (related : Option Zone) (sel : Selection) (bypass : Bypass) (date : Text)
@@ -35,7 +35,7 @@ InstallFailuresCaused =
     → IsCaused d.setting.cands d.kept (IsEligible d.setting) (Needs d.setting d.survivors) (Serves d.setting.choice)
     lines f
 
--- So it is of each line of a failed id of a RESTORE.
+-- This is true of each line of a failed id of a RESTORE.
 abbrev pub RestoreFailuresCaused : Type 0
 RestoreFailuresCaused =
     (g : Global) (zone accepted : Zone) (what : RestoreList) (new : Zone) (lines : List Line)

@@ -1,4 +1,4 @@
--- What is kept is the greatest set that supports itself.
+-- The kept set is the greatest set that supports itself.
 use Rattle.std.specs.Prelude.{◌↔◌, List, Contains}
 use Rattle.terms.specs.Types.{Id}
 use Rattle.terms.specs.Lookups.{is_in}

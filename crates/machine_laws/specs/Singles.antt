@@ -1,5 +1,5 @@
--- Where no SYSMOD has two ++VERs of one SREL, and each was installed by the first, the one of the SREL counts, several
--- never fit, and of a level RESTORE asks only whether it is applied.
+-- If no SYSMOD has two ++VERs of one SREL, and each was installed by the first, then the ++VER of the SREL counts,
+-- several never fit, and RESTORE asks about a level only whether it is applied.
 use Rattle.std.specs.Prelude.{◌≡◌, ◌↔◌, List, Option, true, Contains, Any, IsFalse}
 use Rattle.std.specs.Option.{option_map_or}
 use Rattle.terms.specs.Types.{Text, Id, NamedZone, Selection, Bypass, Zone}
@@ -22,7 +22,7 @@ abbrev pub NeverSeveralFit : Type 0
 NeverSeveralFit = (i : Inventory) → IsOfEarlier i → (s : Setting) → s.global ≡ i.global → (x : Id)
     → ¬ HasSeveralFit s x
 
--- What is installed is so by number 1.
+-- What is installed is installed by number 1.
 abbrev pub FirstInstalls : Type 0
 FirstInstalls =
     (i : Inventory) → IsOfEarlier i → (zone : Zone) (related : Option Zone) (sel : Selection) (bypass : Bypass)

@@ -1,4 +1,4 @@
--- Which states can be stored, and that what is made of one can be.
+-- Which states can be stored, and that what a step makes of one can be stored too.
 use Rattle.std.specs.Prelude.{ℕ, List, IfSome}
 use Rattle.std.specs.List.{AllByRecursion}
 use Rattle.terms.specs.Types.{Command, Receive}
@@ -32,19 +32,19 @@ HasJobForms (NewZone d) = IsZoneName d.name × IsSrel d.srel
 
 -- ---- the laws
 
--- A step leads from a state that can be stored to one.
+-- A step leads from a state that can be stored to another one.
 abbrev pub StepStaysStorable : Type 0
 StepStaysStorable =
     (s t : State) (a : Act) (outcomes : List Outcome) → IsStorable s → HasActForms a → Steps s a t outcomes
     → IsStorable t
 
--- So does a job.
+-- A job does so too.
 abbrev pub JobStaysStorable : Type 0
 JobStaysStorable =
     (s t : State) (job : Job) (bytes : List ℕ) (answer : Answer) → IsStorable s → HasJobForms job
     → RunsJob s job t bytes answer → IsStorable t
 
--- So do jobs one after the other.
+-- A list of jobs does so too.
 abbrev pub JobsStayStorable : Type 0
 JobsStayStorable =
     (jobs : List Job) (s t : State) (bytes : List ℕ) (answers : List Answer) → IsStorable s

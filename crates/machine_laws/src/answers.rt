@@ -1,4 +1,4 @@
-//! What the definitions say of the machine's answers.
+//! What the definitions say about the machine's answers.
 ghost use Rattle.machine_laws.specs.Answers.{PtfinReadOnce, HoldFileReadOnce, CommandFileReadOnce};
 ghost use Rattle.machine_laws.specs.Answers.{StepOnce, JobOnce, JobsOnce};
 ghost use Rattle.machine_laws.specs.Answers.{PtfinRead, HoldFileRead, CommandFileRead};
@@ -7,8 +7,8 @@ ghost use Rattle.machine_laws.specs.Answers.{JobsAnswered};
 ghost use Rattle.machine_laws.specs.Causers.{InstallFailuresCaused, RestoreFailuresCaused};
 ghost use Rattle.machine_laws.specs.Greatest.{InstallsGreatest, RestoresGreatest};
 
-/// A file has one meaning at most, and from a state that can be stored a step, a job and a list of jobs have one answer
-/// at most.
+/// A file has at most one meaning, and from a state that can be stored a step, a job and a list of jobs have at most
+/// one answer.
 pub fn one_answer()
     ensures ptfin { PtfinReadOnce }
     ensures hold_file { HoldFileReadOnce }
@@ -18,9 +18,9 @@ pub fn one_answer()
     ensures jobs { JobsOnce }
 {}
 
-/// A file is of items or has a fault, and from a state that can be stored a step, a job and a list of jobs have an
-/// answer. A step that installs and restores nothing has it plainly, and so has each decision of APPLY and ACCEPT its
-/// zone; of the others it can't be refuted.
+/// A file consists of items or has a fault, and from a state that can be stored a step, a job and a list of jobs have
+/// an answer. A step that installs and restores nothing plainly has one, and each decision of APPLY and ACCEPT plainly
+/// has its zone. For the others, it can be refuted that there is none.
 pub fn some_answer()
     ensures ptfin { PtfinRead }
     ensures hold_file { HoldFileRead }

@@ -1,4 +1,4 @@
-//! What the definitions say of the states that are made of one, and of the `++VER` that counts in them.
+//! What the definitions say about the states that steps make, and about the `++VER` that counts in them.
 ghost use Rattle.machine_laws.specs.Storable.{StepStaysStorable, JobStaysStorable, JobsStayStorable};
 ghost use Rattle.machine_laws.specs.Choices.{InstallKeepsChoice, StepKeepsChoice};
 ghost use Rattle.machine_laws.specs.Singles.{OneCounts, NeverSeveralFit, FirstInstalls, LevelAsksApplied};
@@ -10,13 +10,13 @@ pub fn stays_storable()
     ensures jobs { JobsStayStorable }
 {}
 
-/// What counts for an applied SYSMOD is the `++VER` that counted in its install, whatever is applied later.
+/// For an applied SYSMOD the `++VER` counts that counted in its install, whatever is applied later.
 pub fn choice_is_kept()
     ensures install { InstallKeepsChoice }
     ensures step { StepKeepsChoice }
 {}
 
-/// Where no SYSMOD has two `++VER`s of one SREL, all is as if none could have two.
+/// If no SYSMOD has two `++VER`s of one SREL, everything is as if none could have two.
 pub fn one_ver_counts()
     ensures counts { OneCounts }
     ensures installs { FirstInstalls }

@@ -10,7 +10,7 @@ use Rattle.terms.specs.Texts.{IsReplacement, IsUpdate}
 use Rattle.mcs.specs.declared.fault.StatementError.{StatementError}
 use Rattle.mcs.specs.declared.fault.StatementError.TheVariants.{Memory, Fault}
 
--- DISTLIB and SYSLIB alone, and these names
+-- only DISTLIB and SYSLIB, with these names
 pub record HasNames (own : Option Text) (ws : List Word) (element distlib syslib : Text) : Type 0 where
   pub name : HasOwn IsName own element
   pub are_operands : AreOperands (codes "DISTLIB" ∷ codes "SYSLIB" ∷ []) ws

@@ -1,4 +1,4 @@
--- What the errors of one statement say.
+-- What the errors of one statement mean.
 use Rattle.terms.specs.declared.codes.StatementCode.TheVariants.{BadStatementOperand}
 use Rattle.rec80.specs.declared.operand_errors.OperandError.{OperandError}
 use Rattle.rec80.specs.declared.operand_errors.OperandError.TheVariants as operand

@@ -1,4 +1,4 @@
--- What is at fault with a file of statements.
+-- What is wrong with a file of statements.
 use Rattle.std.specs.Prelude.{ℕ, List}
 use Rattle.terms.specs.Ptfin.{IsFileFault}
 use Rattle.mcs.specs.declared.fault.StatementError.{StatementError}
@@ -11,7 +11,7 @@ abbrev pub error_at : ℕ → StatementError → McsError
 error_at n statement.Memory = Memory
 error_at n (statement.Fault code) = Fault n code
 
--- a fault that comes before those of all statements
+-- a fault that precedes those of all statements
 abbrev pub IsFileError : List ℕ → McsError → Type 0
 IsFileError bytes Memory = ⊥
 IsFileError bytes (Fault n code) = IsFileFault bytes (record { number = n; code = code })

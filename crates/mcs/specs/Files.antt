@@ -1,4 +1,4 @@
--- What is read so far, as the definitions see it.
+-- What has been read so far, as the definitions see it.
 use Rattle.std.specs.Prelude.{◌≡◌, ℕ, List, map, Option, option_map, IfSome, IsTrue}
 use Rattle.terms.specs.declared.kinds.HoldKind.TheVariants.{System}
 use Rattle.terms.specs.Statements.{Statement, SaysHold}
@@ -29,17 +29,17 @@ begun_in current = option_map begun_of current
 abbrev pub so_far : SoFar → ptfin.SoFar
 so_far c = record { whole = items c.whole.items; current = begun_in c.current }
 
--- A hold belongs to the SYSMOD that is begun, and is an internal one.
+-- A hold belongs to the SYSMOD that has begun, and is internal.
 abbrev pub Suits : Option ptfin.Begun → Statement → Type 0
 Suits current (SaysHold h) = IfSome current (λ b. IsTrue h.internal × (h.kind ≡ System) × (h.id ≡ b.sysmod.id))
 Suits current _ = Unit {0}
 
--- the first fault of the file, or want of memory
+-- the first fault of the file, or that memory ran out
 abbrev pub IsPtfinError : List ℕ → McsError → Type 0
 IsPtfinError bytes Memory = Unit {0}
 IsPtfinError bytes (Fault n code) = IsPtfinFault bytes (record { number = n; code = code })
 
--- the first fault of the statements that follow those that make c, or want of memory
+-- the first fault of the statements that follow those that make c, or that memory ran out
 abbrev pub IsRestError : ptfin.SoFar → ℕ → Lines → McsError → Type 0
 IsRestError c n records Memory = Unit {0}
 IsRestError c n records (Fault number code) =

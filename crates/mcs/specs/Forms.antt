@@ -12,7 +12,7 @@ IsFormFault records BadStatementForm = (why : StFault) × IsStFault records why
 IsFormFault records UnknownStatementWord = IsUnknown records
 IsFormFault records _ = ⊥
 
--- one of these, or want of memory
+-- one of these, or that memory ran out
 abbrev pub IsFormError : Lines → StatementError → Type 0
 IsFormError records Memory = Unit {0}
 IsFormError records (Fault code) = IsFormFault records code

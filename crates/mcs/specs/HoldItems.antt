@@ -1,4 +1,4 @@
--- The items of this crate as the definitions see them, and what is at fault with one or with the file.
+-- The items of this crate as the definitions see them, and what is wrong with an item or with the file.
 use Rattle.std.specs.Prelude.{ℕ, List, Option, map}
 use Rattle.terms.specs.declared.codes.StatementCode.{StatementCode}
 use Rattle.terms.specs.declared.codes.StatementCode.TheVariants.{BadStatementOperand, OverLimit}
@@ -26,7 +26,7 @@ pub record IsItemSaid (w : StatementWord) (own : Option Text) (rest : List Piece
   pub value : HasItem w own rest item
   pub within : IsWithin item
 
--- It says none, or too much.
+-- It says nothing, or exceeds a limit.
 abbrev pub IsSaidFault : StatementWord → Option Text → List Piece → StatementCode → Type 0
 IsSaidFault w own rest BadStatementOperand = (item : terms.HoldItem) → ¬ HasItem w own rest item
 IsSaidFault w own rest OverLimit = (item : terms.HoldItem) × HasItem w own rest item × (¬ IsWithin item)
@@ -36,19 +36,19 @@ abbrev pub IsSaidError : StatementWord → Option Text → List Piece → Statem
 IsSaidError w own rest Memory = Unit {0}
 IsSaidError w own rest (Fault code) = IsSaidFault w own rest code
 
--- the first fault of a statement, or want of memory
+-- the first fault of a statement, or that memory ran out
 abbrev pub IsItemError : Lines → StatementError → Type 0
 IsItemError records Memory = Unit {0}
 IsItemError records (Fault code) = IsItemFault records code
 
--- the first fault of the statements that are left, or want of memory
+-- the first fault of the remaining statements, or that memory ran out
 abbrev pub IsRestError : ℕ → Lines → McsError → Type 0
 IsRestError n records file.Memory = Unit {0}
 IsRestError n records (file.Fault number code) =
     (found : List terms.HoldItem) × (m : ℕ) × (rest : Lines)
     × BeginsWithItems n records found m rest × IsNextItemFault m rest (record { number = number; code = code })
 
--- the first fault of the file, or want of memory
+-- the first fault of the file, or that memory ran out
 abbrev pub IsHoldFileError : List ℕ → McsError → Type 0
 IsHoldFileError bytes file.Memory = Unit {0}
 IsHoldFileError bytes (file.Fault n code) = IsHoldFileFault bytes (record { number = n; code = code })

@@ -1,4 +1,4 @@
--- A statement whose word is known, as the definitions see it.
+-- A statement of a known word, as the definitions see it.
 use Rattle.std.specs.Prelude.{ℕ, List, Option}
 use Rattle.terms.specs.declared.statement_words.StatementWord.{StatementWord}
 use Rattle.terms.specs.declared.statement_words.StatementWord.TheVariants.{Header, Replace}

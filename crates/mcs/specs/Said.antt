@@ -1,4 +1,4 @@
--- What a statement says that stands in order, and what is at fault with it.
+-- What a statement in its right place says, and what is wrong with it.
 use Rattle.std.specs.Prelude.{List, Option, Result, IfOk, IfErr}
 use Rattle.terms.specs.declared.codes.StatementCode.{StatementCode}
 use Rattle.terms.specs.declared.codes.StatementCode.TheVariants.{BadStatementOperand, BadText, OverLimit}
@@ -26,7 +26,7 @@ pub record IsStatementSaid (current : Option Begun) (w : StatementWord) (own : O
   pub within : IsWithin current s inline
   pub text : HasGoodText s
 
--- It says nothing, or too much, or its text is bad.
+-- It says nothing, exceeds a limit, or its text is bad.
 abbrev pub IsSaidFault : Option Begun → StatementWord → Option Text → List Piece → Lines → StatementCode → Type 0
 IsSaidFault current w own rest inline BadStatementOperand = (s : Statement) → ¬ HasValue
     (sysmod_in current) w own rest inline s
@@ -40,25 +40,25 @@ abbrev pub IsSaidError : Option Begun → StatementWord → Option Text → List
 IsSaidError current w own rest inline Memory = Unit {0}
 IsSaidError current w own rest inline (Fault code) = IsSaidFault current w own rest inline code
 
--- the first fault of a statement, or want of memory
+-- the first fault of a statement, or that memory ran out
 abbrev pub IsStatementError : Option Begun → Lines → Lines → StatementError → Type 0
 IsStatementError current later records Memory = Unit {0}
 IsStatementError current later records (Fault code) = IsStatementFault current later records code
 
--- A statement of a known word says what is answered.
+-- A statement of a known word says what the call returns.
 abbrev pub Says : Option file.Begun → Known → Result Said StatementError → Type 0
 Says current known result =
     (rest : List Piece) → IsRead rest known.operands
     → IfOk result (λ s. IsStatementSaid (begun_in current) known.word (own_list known) rest known.inline.now
     (statement_of s))
 
--- It says nothing, and the error is its first fault, or want of memory.
+-- It says nothing, and the error is its first fault, or that memory ran out.
 abbrev pub Fails : Option file.Begun → Known → Result Said StatementError → Type 0
 Fails current known result =
     (rest : List Piece) → IsRead rest known.operands
     → IfErr result (IsSaidError (begun_in current) known.word (own_list known) rest known.inline.now)
 
--- The same where its lists have no byte that a record has not.
+-- The same, if its lists have only bytes that a record may have.
 abbrev pub FailsPrintable : Option file.Begun → Known → Result Said StatementError → Type 0
 FailsPrintable current known result =
     (rest : List Piece) → IsRead rest known.operands → ArePrintable rest

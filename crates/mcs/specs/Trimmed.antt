@@ -1,4 +1,4 @@
--- Blanks left out at the front of a text, and at its end.
+-- A text without the blanks at its front, and without those at its end.
 use Rattle.std.specs.Prelude.{◌≡◌, ◌≢◌, [], ◌∷◌, ◌++◌}
 use Rattle.terms.specs.Types.{Text}
 use Rattle.terms.specs.Forms.{AreBlanks}
@@ -13,7 +13,7 @@ pub record DropsBlanks (text rest : Text) : Type 0 where
   pub text_is : text ≡ rest ++ right
   pub blanks : AreBlanks right
 
--- nothing, or a first byte that is no blank
+-- nothing, or a first byte that is not a blank
 abbrev pub BeginsNoBlank : Text → Type 0
 BeginsNoBlank [] = Unit {0}
 BeginsNoBlank (b ∷ bs) = b ≢ 32

@@ -1,4 +1,4 @@
--- The lists of a ++VER, as its operands have them.
+-- The lists of a ++VER, as its operands give them.
 use Rattle.std.specs.Prelude.{List, codes}
 use Rattle.terms.specs.Types.{Id}
 use Rattle.terms.specs.Forms.{IsId}

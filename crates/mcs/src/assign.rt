@@ -25,7 +25,7 @@ use terms::StatementCode;
 /// The operands of `++ASSIGN`.
 const OPERANDS: &[&[u8]] = &[b"SOURCEID", b"TO"];
 
-/// The ids of the operand, which must be there, as they stand.
+/// The ids of the operand, which must be present, in the order of the statement.
 fn required_ids(alloc: Global, words: &[Word<'_>], name: &[u8]) -> Result<Vec<Id>, OperandError>
     ensures ok { IfOk result (λ ids. IsSomeAnd (operand name.now (words_of words.now))
         (λ w. HasListed IsId w ids.items)) }
@@ -70,8 +70,8 @@ fn is_within(assign: &Assign) -> bool
     assign.to.len() <= 1000
 }
 
-/// What an `++ASSIGN` says. `Memory` comes where memory runs out. `Fault` is `BadStatementOperand` where it has
-/// anything but SOURCEID and TO, each in its form, and `OverLimit` where TO has more than 1,000 ids.
+/// What an `++ASSIGN` says. Returns `Memory` if memory runs out. `Fault` is `BadStatementOperand` if it has anything
+/// but SOURCEID and TO, each in its form, and `OverLimit` if TO has more than 1,000 ids.
 pub fn assign_statement(
     alloc: Global,
     current: &Option<Begun>,

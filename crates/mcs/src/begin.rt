@@ -1,4 +1,4 @@
-//! The word that a statement begins with.
+//! The word with which a statement begins.
 ghost use Rattle.std.specs.Prelude.{List, IfOk, IfErr};
 ghost use Rattle.terms.specs.Statement.{Piece};
 ghost use Rattle.terms.specs.Ptfin.{IsKnown};
@@ -12,7 +12,7 @@ use rec80::{Group, Operands, Record, Word, statement};
 use std::alloc::Global;
 use terms::{StatementCode, StatementWord};
 
-/// A statement of a known word. Behind its first word stand its operands, and its inline records.
+/// A statement of a known word: its operands after the word, and its inline records.
 #[derive(Drop)]
 pub struct Known<'a> {
     pub word: StatementWord,
@@ -21,8 +21,8 @@ pub struct Known<'a> {
     pub inline: &'a [Record],
 }
 
-/// The statement's word and its operands. `Memory` comes where memory runs out. `Fault` is `BadStatementForm` where the
-/// statement's form is at fault, and `UnknownStatementWord` where it begins with no known word.
+/// The statement's word and its operands. Returns `Memory` if memory runs out. `Fault` is `BadStatementForm` if the
+/// statement's form is bad, and `UnknownStatementWord` if it does not begin with a known word.
 pub fn begun<'a>(alloc: Global, group: &Group<'a>) -> Result<Known<'a>, StatementError>
     ensures ok { IfOk result (λ b. (rest : List Piece)
         × IsKnown group.now.records.now b.word (own_list b) rest b.inline.now × IsRead rest b.operands) }

@@ -96,10 +96,9 @@ fn text_of(
     }
 }
 
-/// What a replacement says. `Memory` comes where memory runs out. `Fault` is `BadStatementOperand` where it has
-/// anything but a name, DISTLIB and SYSLIB, each in its form; `OverLimit` where the SYSMOD has 999 elements already, or
-/// the text has more than 99,999 records; and `BadText` where there is no text, or one of a macro or source that is not
-/// numbered.
+/// What a replacement says. Returns `Memory` if memory runs out. `Fault` is `BadStatementOperand` if it has anything
+/// but a name, DISTLIB and SYSLIB, each in its form; `OverLimit` if the SYSMOD has 999 elements already, or the text
+/// has more than 99,999 records; and `BadText` if there is no text, or the text of a macro or source is not numbered.
 pub fn change_statement(
     alloc: Global,
     current: &Option<Begun>,
@@ -152,9 +151,9 @@ fn update_of(alloc: Global, name: Name, inline: &[Record]) -> Result<Update, Sta
     }
 }
 
-/// What an update says. `Memory` comes where memory runs out. `Fault` is `BadStatementOperand` where it has anything
-/// but one name; `OverLimit` where the SYSMOD has 999 elements already, or the text has more than 99,999 records; and
-/// `BadText` where the text is no update of the element.
+/// What an update says. Returns `Memory` if memory runs out. `Fault` is `BadStatementOperand` if it has anything but
+/// one name; `OverLimit` if the SYSMOD has 999 elements already, or the text has more than 99,999 records; and
+/// `BadText` if the text is not an update of the element.
 pub fn update_statement(
     alloc: Global,
     current: &Option<Begun>,
@@ -186,7 +185,7 @@ pub fn update_statement(
     }))
 }
 
-/// Whether the SYSMOD may have one element more, and the text is no longer than the limit.
+/// Whether the SYSMOD may have one more element, and the text is no longer than the limit.
 fn is_within(current: &Option<Begun>, inline: &[Record]) -> bool
     ensures { IsTrue result ↔ (IfSome (begun_in current.now) (λ b. length b.sysmod.changes < 999)
         × (length inline.now ≤ 99999)) }

@@ -26,7 +26,7 @@ fn bytes_of(alloc: Global, text: &Text<'_>) -> Result<Vec<u8>, AllocError>
     Ok(bytes)
 }
 
-/// What follows the blanks.
+/// The text after the blanks.
 #[tactic(auto, using(crate::proofs::Trimming::skips_more))]
 fn behind_blanks(text: &[u8]) -> &[u8]
     ensures skips { SkipsSomeBlanks text.now result.now }
@@ -42,7 +42,7 @@ fn behind_blanks(text: &[u8]) -> &[u8]
     rest
 }
 
-/// What stands before the blanks at the end.
+/// The text before the blanks at the end.
 fn before_blanks(text: &[u8]) -> &[u8]
     ensures drops { DropsBlanks text.now result.now }
     ensures dark { BeginsNoBlank (reverse result.now) }
@@ -57,7 +57,7 @@ fn before_blanks(text: &[u8]) -> &[u8]
     rest
 }
 
-/// The text without the blanks at both ends, if there is more in it.
+/// The text without the blanks at both ends, if anything is left.
 fn trimmed(text: &[u8]) -> Option<&[u8]>
     ensures cut { IfSome result (λ cut. IsTrimmed text.now cut.now) }
     ensures none { IfNone result ((cut : List ℕ) → IsTrimmed text.now cut → ⊥) }
@@ -85,8 +85,8 @@ fn comment_in(alloc: Global, text: &Text<'_>) -> Result<String, OperandError>
     Ok(String::from_str(alloc, comment)?)
 }
 
-/// The comment of an operand that may be absent. `Memory` comes where memory runs out, `Bad` where the operand is there
-/// and its list is absent, blank or no UTF-8.
+/// The comment of an operand that may be absent. Returns `Memory` if memory runs out, and `Bad` if the operand is
+/// present and its list is absent, blank or not UTF-8.
 pub fn optional_comment(
     alloc: Global,
     words: &[Word<'_>],

@@ -3,8 +3,7 @@ use std::alloc::{AllocError, AllocFailed};
 use terms::StatementCode;
 use thiserror::Error;
 
-/// Why a file is not read: want of memory, or its first fault with the number of the record where
-/// the statement at fault begins.
+/// Why a file is not read: memory ran out, or its first bad statement begins in this record and has this fault.
 #[derive(Clone, Copy, Debug, Error)]
 pub enum McsError {
     #[error("out of memory")]

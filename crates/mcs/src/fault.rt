@@ -1,4 +1,4 @@
-//! Why one statement says nothing.
+//! Why one statement has no value.
 ghost use Rattle.std.specs.Prelude.{◌≡◌};
 ghost use Rattle.mcs.specs.Faults.{value_error};
 
@@ -6,7 +6,7 @@ use rec80::OperandError;
 use std::alloc::{AllocError, AllocFailed};
 use terms::StatementCode;
 
-/// Why a statement says nothing.
+/// Why a statement has no value.
 #[derive(Clone, Copy, Debug)]
 pub enum StatementError {
     Memory,

@@ -1,4 +1,4 @@
-//! The items of a PTFIN, and what its statements have made so far.
+//! The items of a PTFIN, and what its statements make so far.
 ghost use Rattle.std.specs.Prelude.{◌≡◌, IfOk, option_map};
 ghost use Rattle.terms.specs.Statements.{SaysHold};
 ghost use Rattle.terms.specs.Ptfin.{nothing, after, items_of, with_ver as begun_with_ver, with_if as begun_with_if};
@@ -12,7 +12,7 @@ use std::alloc::{AllocError, Global};
 use std::marker::Model;
 use sysmods_values::{ElemChange, Hold, IfReq, Sysmod, Ver};
 
-/// `++ASSIGN`: the source that the ids get, as the statement has them.
+/// `++ASSIGN`: the source that the ids get, in the order of the statement.
 #[derive(Drop)]
 pub struct Assign {
     pub source: Source,
@@ -34,22 +34,21 @@ pub enum Item {
     Assign(Assign),
 }
 
-/// A SYSMOD to which the next statement may belong, and the place of its last `++VER`, to which an
-/// `++IF` belongs.
+/// A SYSMOD to which the next statement may belong, and the place of its last `++VER`, to which an `++IF` belongs.
 #[derive(Drop)]
 pub(crate) struct Begun {
     pub sysmod: Sysmod,
     pub last: Option<usize>,
 }
 
-/// What the statements so far make: what is whole, and the SYSMOD that is begun.
+/// What the statements so far make: whole items, and the SYSMOD that has begun.
 #[derive(Drop)]
 pub(crate) struct SoFar {
     pub whole: Vec<Item>,
     pub current: Option<Begun>,
 }
 
-/// The items with the SYSMOD behind them.
+/// The items, followed by the SYSMOD.
 fn with_current(mut whole: Vec<Item>, current: Option<Begun>) -> Result<Vec<Item>, AllocError>
     ensures { IfOk result (λ found. items found.items ≡ items_of (record {
       whole = items whole.items;
@@ -119,7 +118,7 @@ fn with_change(current: Option<Begun>, change: ElemChange) -> Result<Option<Begu
 }
 
 impl SoFar {
-    /// What no statement makes: no item, and no SYSMOD that is begun.
+    /// What no statement makes: no item, and no SYSMOD that has begun.
     pub fn new(alloc: Global) -> SoFar
         ensures { so_far result ≡ nothing }
     {
@@ -129,7 +128,7 @@ impl SoFar {
         }
     }
 
-    /// What they make with one statement more. The error comes where memory runs out.
+    /// What they make with one more statement.
     pub fn and(self, alloc: Global, statement: Statement) -> Result<SoFar, AllocError>
         requires { Suits (begun_in self.current) (statement_of statement) }
         ensures { IfOk result (λ next. so_far next ≡ after (so_far self) (statement_of statement)) }
@@ -170,7 +169,7 @@ impl SoFar {
         }
     }
 
-    /// The items. The error comes where memory runs out.
+    /// The items.
     pub fn into_items(self) -> Result<Vec<Item>, AllocError>
         ensures { IfOk result (λ found. items found.items ≡ items_of (so_far self)) }
     {

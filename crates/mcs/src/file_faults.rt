@@ -1,4 +1,4 @@
-//! The statements of a file, and where a fault of one of them stands.
+//! The statements of a file, and where a bad one is.
 ghost use Rattle.std.specs.Prelude.{◌≡◌, IfOk, IfErr};
 ghost use Rattle.terms.specs.Records.{HasRecords};
 ghost use Rattle.mcs.specs.FileFaults.{error_at, IsFileError};
@@ -8,7 +8,7 @@ use crate::fault::StatementError;
 use rec80::{Groups, records};
 use terms::StatementCode;
 
-/// The error of a file whose statement at the record of this number has this one.
+/// The error of a file whose statement at the record of this number has this error.
 pub fn error_at(number: usize, error: StatementError) -> McsError
     ensures { result ≡ error_at number error }
 {
@@ -18,8 +18,8 @@ pub fn error_at(number: usize, error: StatementError) -> McsError
     }
 }
 
-/// The statements of a file. `Fault` comes before all faults of theirs: `BadStatementForm` at the first bad record,
-/// else `WrongPlace` at record 1, if no statement begins there. `Memory` never comes.
+/// The statements of a file. A `Fault` here precedes all faults of the statements: `BadStatementForm` at the first bad
+/// record, otherwise `WrongPlace` at record 1 if no statement begins there. It never returns `Memory`.
 pub fn statements(bytes: &[u8]) -> Result<Groups<'_>, McsError>
     ensures ok { IfOk result (λ groups. (groups.number ≡ 1) × HasRecords bytes.now groups.rest.now) }
     ensures fault { IfErr result (IsFileError bytes.now) }

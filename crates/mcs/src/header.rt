@@ -11,7 +11,7 @@ use fields::Id;
 use rec80::one;
 use terms::{Kind, StatementCode};
 
-/// What a header says. `Fault` is `BadStatementOperand` where it has anything but one id. `Memory` never comes.
+/// What a header says. `Fault` is `BadStatementOperand` if it has anything but one id. It never returns `Memory`.
 pub fn header_statement(
     current: &Option<Begun>,
     kind: Kind,

@@ -10,10 +10,10 @@ use crate::file_faults::{error_at, statements};
 use crate::hold_item::{HoldItem, read_item};
 use std::alloc::Global;
 
-/// The holds and releases of a hold file, in its order; the holds are external. `Memory` comes where memory runs out.
-/// `Fault` is `BadStatementForm` at the first bad record, wherever it stands; else `WrongPlace` at record 1, if no
-/// statement begins there; else the fault of the first faulty statement, at the record where this begins: `WrongPlace`
-/// also for any other known statement, and for text behind these.
+/// The holds and releases of a hold file, in its order; the holds are external. Returns `Memory` if memory runs out.
+/// `Fault` is `BadStatementForm` at the first bad record, wherever it is, or `WrongPlace` at record 1 if no statement
+/// begins there. Otherwise it is the fault of the first bad statement, at the record where the statement begins:
+/// `WrongPlace` also for any other known statement, and for text after a `++HOLD` or `++RELEASE`.
 pub fn read_hold(alloc: Global, bytes: &[u8]) -> Result<Vec<HoldItem>, McsError>
     ensures items { IfOk result (λ found. IsHoldFile bytes.now (items found.items)) }
     ensures good { (found : List AnyItem) → IsHoldFile bytes.now found → IfErr result (λ e. e ≡ Memory) }

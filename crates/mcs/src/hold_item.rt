@@ -56,8 +56,8 @@ fn release_item(known: &Known<'_>) -> Result<HoldItem, StatementError>
     }
 }
 
-/// What a statement of a hold file says. `Memory` comes where memory runs out, and `Fault` has the first that applies
-/// of `BadStatementForm` for its form, `UnknownStatementWord` for its word, `WrongPlace` for text behind it and for any
+/// What a statement of a hold file says. Returns `Memory` if memory runs out. `Fault` is the first that applies of
+/// `BadStatementForm` for its form, `UnknownStatementWord` for its word, `WrongPlace` for text after it and for any
 /// word but `++HOLD` and `++RELEASE`, `BadStatementOperand` for an operand, and `OverLimit` for a comment of more than
 /// 200 characters.
 pub(crate) fn read_item(alloc: Global, group: &Group<'_>) -> Result<HoldItem, StatementError>

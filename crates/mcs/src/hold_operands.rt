@@ -1,4 +1,4 @@
-//! `++HOLD` and `++RELEASE`, whichever file they stand in.
+//! `++HOLD` and `++RELEASE`, in either file.
 ghost use Rattle.std.specs.Prelude.{◌≡◌, ◌↔◌, List, IsTrue, IfOk, IfErr, IfSome, IfNone, OnErr};
 ghost use Rattle.terms.specs.Types.{Hold as AnyHold, Release as AnyRelease};
 ghost use Rattle.terms.specs.Statement.{Piece};
@@ -29,7 +29,7 @@ const HOLD_OPERANDS: &[&[u8]] = &[
 /// The operands of `++RELEASE`.
 const RELEASE_OPERANDS: &[&[u8]] = &[b"ERROR", b"SYSTEM", b"USER", b"FMID", b"REASON"];
 
-/// The characters that a comment has at most.
+/// The greatest number of characters in a comment.
 const LONGEST_COMMENT: usize = 200;
 
 /// What `++RELEASE` says: the key of a hold, and an FMID that is not compared.
@@ -79,8 +79,8 @@ fn read_key(known: &Known<'_>, words: &[Word<'_>]) -> Option<Release>
     })
 }
 
-/// What a `++RELEASE` says. The error comes where an operand is unknown, comes twice, has not its form or is missing: a
-/// `++RELEASE` has an id, one of ERROR, SYSTEM and USER, FMID and REASON.
+/// What a `++RELEASE` says: an id, one of ERROR, SYSTEM and USER, FMID and REASON. Returns an error if an operand is
+/// unknown, repeated, missing or of a bad form.
 pub fn release_of_operands(known: &Known<'_>) -> Result<Release, BadOperand>
     ensures ok { (rest : List Piece) → IsRead rest known.now.operands
         → IfOk result (λ r. (ws : List grammar.Word) × grammar.HasWords rest ws
@@ -98,9 +98,9 @@ pub fn release_of_operands(known: &Known<'_>) -> Result<Release, BadOperand>
     }
 }
 
-/// What a `++HOLD` says, in a SYSMOD or in a hold file. A long comment is read too. `Memory` comes where memory runs
-/// out, `Bad` where an operand is unknown, comes twice, has not its form or is missing: a `++HOLD` has an id, one of
-/// ERROR, SYSTEM and USER, FMID and REASON.
+/// What a `++HOLD` says, in a SYSMOD or in a hold file: an id, one of ERROR, SYSTEM and USER, FMID and REASON, and
+/// perhaps more. It reads a long comment too. Returns `Memory` if memory runs out, and `Bad` if an operand is unknown,
+/// repeated, missing or of a bad form.
 pub fn hold_of_operands(
     alloc: Global,
     known: &Known<'_>,

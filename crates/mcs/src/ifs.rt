@@ -36,7 +36,7 @@ struct IfLists<'a> {
     req: Word<'a>,
 }
 
-/// FMID, THEN and REQ, in this order, and nothing else.
+/// FMID, THEN and REQ, in this order and nothing else.
 fn read_lists<'a>(words: &[Word<'a>]) -> Option<IfLists<'a>>
     ensures some { IfSome result (λ l. (words_of words.now
         ≡ word_of l.fmid ∷ grammar.plain (codes "THEN") ∷ word_of l.req ∷ [])
@@ -109,9 +109,9 @@ fn is_within(begun: &Begun, condition: &IfReq) -> bool
     has_place && condition.req.len() <= 1000
 }
 
-/// What an `++IF` says. `Memory` comes where memory runs out. `Fault` is `BadStatementOperand` where no SYSMOD is
-/// begun, where it has not FMID, THEN and REQ in this order, each in its form, and where REQ names the SYSMOD itself;
-/// and `OverLimit` where the last `++VER` has 100 `++IF`s already, or REQ has more than 1,000 ids.
+/// What an `++IF` says. Returns `Memory` if memory runs out. `Fault` is `BadStatementOperand` if no SYSMOD has begun,
+/// if it lacks FMID, THEN and REQ in this order, each in its form, or if REQ names the SYSMOD itself. It is `OverLimit`
+/// if the last `++VER` has 100 `++IF`s already, or REQ has more than 1,000 ids.
 pub fn if_statement(
     alloc: Global,
     current: &Option<Begun>,

@@ -1,4 +1,4 @@
-//! `++HOLD` within a SYSMOD.
+//! `++HOLD` inside a SYSMOD.
 ghost use Rattle.std.specs.Prelude.{◌≡◌, ◌↔◌, List, IsTrue, IfOk, IfErr};
 ghost use Rattle.terms.specs.declared.statement_words.StatementWord.TheVariants as word;
 ghost use Rattle.terms.specs.declared.kinds.HoldKind.TheVariants.{System};
@@ -48,9 +48,9 @@ fn read_own_hold(alloc: Global, sysmod: &Sysmod, known: &Known<'_>) -> Result<Ho
     Ok(hold)
 }
 
-/// What a `++HOLD` in a SYSMOD says. `Memory` comes where memory runs out. `Fault` is `BadStatementOperand` where no
-/// SYSMOD is begun, where an operand is unknown, comes twice, has not its form or is missing, and where it is no SYSTEM
-/// hold of this SYSMOD; and `OverLimit` where its comment has more than 200 characters.
+/// What a `++HOLD` in a SYSMOD says. Returns `Memory` if memory runs out. `Fault` is `BadStatementOperand` if no SYSMOD
+/// has begun, if an operand is unknown, repeated, missing or of a bad form, or if the hold is not a SYSTEM hold on this
+/// SYSMOD. It is `OverLimit` if its comment has more than 200 characters.
 pub fn hold_statement(
     alloc: Global,
     current: &Option<Begun>,

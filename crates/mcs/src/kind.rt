@@ -8,7 +8,7 @@ ghost use Rattle.mcs.specs.Holds.{kind_from};
 use rec80::{Word, flag, operand};
 use terms::HoldKind;
 
-/// The kind whose word alone is there.
+/// The kind of the only kind word.
 fn kind_from(error: bool, system: bool, user: bool) -> Option<HoldKind>
     ensures { result ≡ kind_from error system user }
 {
@@ -20,7 +20,7 @@ fn kind_from(error: bool, system: bool, user: bool) -> Option<HoldKind>
     }
 }
 
-/// The kind of a hold, whose word stands among the operands.
+/// The kind of a hold, whose word is one of the operands.
 pub fn kind_word(words: &[Word<'_>]) -> Option<HoldKind>
     ensures some { IfSome result (λ kind. HasKind (words_of words.now) kind) }
     ensures none { IfNone result ((kind : AnyKind)

@@ -1,9 +1,9 @@
-//! PTFIN and hold files: their items, or their first fault.
-//! A PTFIN is the SYSMODs and assignments that the grammar relates it to, or it has a first fault, with record and
-//! code; a hold file is its holds and releases, or has such a fault. No file has both. One half reads a statement by
-//! itself: its word, and for each word a module with its operands, limits and inline text. The other half goes through
-//! a file: what may follow what, what the statements make so far, and which fault comes first. When `Memory` comes is
-//! not said.
+//! PTFIN and hold files: their items, or their first fault. A PTFIN consists of the SYSMODs and assignments to which
+//! the grammar relates it, or it has a first fault, with record and code. A hold file consists of its holds and
+//! releases, or has such a fault. No file has both. One half of the crate reads a single statement: its word, and in a
+//! module for each word its operands, limits and inline text. The other half goes through a file: which statement may
+//! follow which, what the statements make so far, and which fault comes first. Every call that allocates returns an
+//! error if memory runs out; no contract says when.
 #![tactic(auto)]
 
 mod assign;

@@ -10,7 +10,7 @@ use rec80::{OperandError, Word, ids, operand, required};
 use std::alloc::Global;
 use terms::HoldKind;
 
-/// Whether the reason is one of a hold of the kind.
+/// Whether the reason may be that of a hold of the kind.
 fn suits_kind(kind: HoldKind, reason: Reason) -> bool
     ensures { IsTrue result ↔ IsReason kind reason }
 {
@@ -20,7 +20,7 @@ fn suits_kind(kind: HoldKind, reason: Reason) -> bool
     }
 }
 
-/// The reason that must be there, of a hold of the kind.
+/// The reason, which must be present, of a hold of the kind.
 pub fn required_reason(kind: HoldKind, words: &[Word<'_>], name: &[u8]) -> Option<Reason>
     ensures some { IfSome result (λ v. HasRequired (IsReason kind) (operand name.now (words_of words.now)) v) }
     ensures form { IfSome result (λ v. IsReason kind v) }
@@ -36,8 +36,8 @@ pub fn required_reason(kind: HoldKind, words: &[Word<'_>], name: &[u8]) -> Optio
     Some(reason)
 }
 
-/// The ids of an operand, none where it is absent. `Memory` comes where memory runs out, `Bad` where the operand is
-/// there and has no list of ids, or one of them twice.
+/// The ids of an operand, none if it is absent. Returns `Memory` if memory runs out, and `Bad` if the operand is
+/// present and has no list of ids, or has an id twice.
 pub fn listed_ids(alloc: Global, words: &[Word<'_>], name: &[u8]) -> Result<IdList, OperandError>
     ensures ok { IfOk result (λ ids. HasTexts IsId (operand name.now (words_of words.now)) ids) }
     ensures bad { IfErr result (λ e. Excludes e ((ids : List (List ℕ))

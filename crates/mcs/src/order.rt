@@ -33,7 +33,7 @@ fn changed_type(word: StatementWord) -> Option<ElemType>
     }
 }
 
-/// Whether a statement of the word may stand there.
+/// Whether a statement of the word may come next.
 fn may_stand(current: &Option<Begun>, word: StatementWord) -> bool
     ensures { IsTrue result ↔ MayStand (sysmod_in (begun_in current.now)) word }
 {
@@ -56,10 +56,10 @@ fn may_stand(current: &Option<Begun>, word: StatementWord) -> bool
     }
 }
 
-/// The operand that names an FMID where it stands once.
+/// The operand that names an FMID if it occurs once.
 const FMID: &[&[u8]] = &[b"FMID"];
 
-/// The id that FMID names, whatever else stands among the operands.
+/// The id that FMID names, whatever other operands there are.
 fn named_fmid(operands: &Operands<'_>) -> Option<Id>
     ensures some { (rest : List Piece) → IsRead rest operands.now → IfSome result (NamesFmid rest) }
     ensures none { (rest : List Piece) → IsRead rest operands.now
@@ -85,7 +85,7 @@ fn has_fmid(ver: &Ver, named: Option<Id>) -> bool
     }
 }
 
-/// Whether the `++VER`, in a SYSMOD of the kind, leaves no place for one of the SREL and FMID.
+/// Whether the `++VER`, in a SYSMOD of the kind, excludes another one of the SREL and FMID.
 fn is_like(kind: Kind, ver: &Ver, srel: Srel, named: Option<Id>) -> bool
     ensures { IsTrue result ↔ ((ver.now.srel ≡ srel) × ((kind ≡ Function) ⊎ IsSomeAnd ver.now.fmid
         (λ f. named ≡ Some f))) }
@@ -93,7 +93,7 @@ fn is_like(kind: Kind, ver: &Ver, srel: Srel, named: Option<Id>) -> bool
     ver.srel == srel && (matches!(kind, Kind::Function) || has_fmid(ver, named))
 }
 
-/// Whether one of the `++VER`s, in a SYSMOD of the kind, leaves no place for one of the SREL and FMID.
+/// Whether one of the `++VER`s, in a SYSMOD of the kind, excludes another one of the SREL and FMID.
 fn has_like(kind: Kind, vers: &[Ver], srel: Srel, named: Option<Id>) -> bool
     ensures { IsTrue result ↔ Any (λ v. (v.srel ≡ srel) × ((kind ≡ Function) ⊎ IsSomeAnd v.fmid
         (λ f. named ≡ Some f))) vers.now }
@@ -130,7 +130,7 @@ fn is_second(sysmod: &Sysmod, known: &Known<'_>) -> bool
     }
 }
 
-/// Whether the statement is out of order behind the statements so far.
+/// Whether the statement is out of order after the statements so far.
 pub fn is_misplaced(current: &Option<Begun>, later: &[Record], known: &Known<'_>) -> bool
     ensures { (rest : List Piece) → IsRead rest known.now.operands → IsTrue result ↔ ((why : Disorder)
         × IsMisplaced (sysmod_in (begun_in current.now)) later.now known.now.word (own_list known.now) rest

@@ -11,9 +11,9 @@ use crate::file_faults::{error_at, statements};
 use crate::statement::read_statement;
 use std::alloc::Global;
 
-/// The items of a PTFIN, in the order of the file. `Memory` comes where memory runs out. `Fault` is `BadStatementForm`
-/// at the first bad record, wherever it stands; else `WrongPlace` at record 1, if no statement begins there; else the
-/// fault of the first faulty statement, at the record where this begins.
+/// The items of a PTFIN, in the order of the file. Returns `Memory` if memory runs out. `Fault` is `BadStatementForm`
+/// at the first bad record, wherever it is, or `WrongPlace` at record 1 if no statement begins there. Otherwise it is
+/// the fault of the first bad statement, at the record where the statement begins.
 pub fn read_ptfin(alloc: Global, bytes: &[u8]) -> Result<Vec<Item>, McsError>
     ensures items { IfOk result (λ found. IsPtfin bytes.now (items found.items)) }
     ensures good { (found : List AnyItem) → IsPtfin bytes.now found → IfErr result (λ e. e ≡ Memory) }

@@ -4,7 +4,7 @@ use fields::Id;
 use sysmods_values::{ElemChange, Hold, IfReq, Ver};
 use terms::Kind;
 
-/// What one statement says. A `++VER` stands here without its `++IF`s.
+/// What one statement says. A `++VER` is without its `++IF`s here.
 #[derive(Drop)]
 pub enum Statement {
     Header(Kind, Id),

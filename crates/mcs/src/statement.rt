@@ -1,4 +1,4 @@
-//! One statement of a PTFIN, behind those before it.
+//! One statement of a PTFIN, after those before it.
 ghost use Rattle.std.specs.Prelude.{◌≢◌, All, IfOk, IfErr};
 ghost use Rattle.terms.specs.declared.statement_words.StatementWord.TheVariants as word;
 ghost use Rattle.terms.specs.Records.{IsRecord};
@@ -45,8 +45,8 @@ fn said_by(
     }
 }
 
-/// What a statement says behind those so far. `Memory` comes where memory runs out, and `Fault` has the first that
-/// applies of `BadStatementForm` for its form, `UnknownStatementWord` for its word, `WrongPlace` for its place, and of
+/// What a statement says after those so far. Returns `Memory` if memory runs out. `Fault` is the first that applies of
+/// `BadStatementForm` for its form, `UnknownStatementWord` for its word, `WrongPlace` for its place,
 /// `BadStatementOperand` for an operand, `OverLimit` for a limit and `BadText` for its text.
 pub fn read_statement(
     alloc: Global,

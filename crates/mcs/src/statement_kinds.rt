@@ -1,4 +1,4 @@
-//! The words that statements begin with.
+//! The words with which statements begin.
 ghost use Rattle.std.specs.Prelude.{◌≡◌, ◌≢◌, ◌++◌, codes, IfSome, IfNone};
 ghost use Rattle.terms.specs.declared.statement_words.StatementWord.{StatementWord as AnyWord};
 ghost use Rattle.terms.specs.Statements.{statement_text};
@@ -7,7 +7,7 @@ ghost use Rattle.mcs.specs.KnownWords.{IsFixed};
 use fields::spelling::{read_kind, read_type};
 use terms::StatementWord;
 
-/// The word without a kind or a type that is spelled so behind `++`.
+/// The word, without a kind or a type, that is spelled so after `++`.
 fn fixed_word(rest: &[u8]) -> Option<StatementWord>
     ensures found { IfSome result (λ w. statement_text w ≡ codes "++" ++ rest.now) }
     ensures none { IfNone result ((w : AnyWord) → IsFixed w → statement_text w ≢ codes "++" ++ rest.now) }

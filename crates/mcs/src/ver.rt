@@ -123,7 +123,7 @@ fn made_of(alloc: Global, srel: Srel, fmid: Option<Id>, lists: VerLists) -> Ver
     }
 }
 
-/// The `++VER` of these operands, which are known ones.
+/// The `++VER` of these operands, all of which are known.
 fn read_ver(
     alloc: Global,
     sysmod: &Sysmod,
@@ -171,10 +171,9 @@ fn is_within(sysmod: &Sysmod, ver: &Ver) -> bool
         && ver.del.len() <= 1000
 }
 
-/// What a `++VER` says. `Memory` comes where memory runs out. `Fault` is `BadStatementOperand` where no SYSMOD is
-/// begun, where an operand is unknown, comes twice or has not its form, where service has no FMID or has NPRE or
-/// DELETE, and where an operand names the SYSMOD itself; and `OverLimit` where the SYSMOD has 8 `++VER`s already, or a
-/// list has more than 1,000 ids.
+/// What a `++VER` says. Returns `Memory` if memory runs out. `Fault` is `BadStatementOperand` if no SYSMOD has begun,
+/// if an operand is unknown, repeated or of a bad form, if service has no FMID or has NPRE or DELETE, or if an operand
+/// names the SYSMOD itself. It is `OverLimit` if the SYSMOD has 8 `++VER`s already, or a list has more than 1,000 ids.
 pub fn ver_statement(
     alloc: Global,
     current: &Option<Begun>,

@@ -19,12 +19,12 @@ pub(crate) fn record(text: &str) -> Record {
     record
 }
 
-/// What a case reads, and what is wanted of that, which stands behind an arrow.
+/// What a case reads, and what it should give, which follows an arrow.
 pub(crate) fn case(line: &str) -> Result<(&str, &str), &'static str> {
     line.split_once(" => ").ok_or("no arrow in a case")
 }
 
-/// The records of a file of these cards, with a bar between two, and none where there is no text.
+/// The records of a file of these cards, with a bar between two, or none for an empty text.
 pub(crate) fn file_of(alloc: Global, cards: &str) -> Result<Vec<u8>, AllocError> {
     let mut bytes = Vec::new(alloc);
     if cards.is_empty() {
@@ -46,7 +46,7 @@ pub(crate) fn name(text: &[u8]) -> Result<Name, &'static str> {
     Name::read(text).ok_or("no name")
 }
 
-/// A text of up to 240 bytes. What does not fit is left out.
+/// A text of up to 240 bytes. It drops what does not fit.
 #[derive(Clone, Copy)]
 pub(crate) struct Spelled {
     bytes: [u8; 240],
@@ -70,7 +70,7 @@ impl Spelled {
         }
     }
 
-    /// Each word behind a blank.
+    /// Each word after a blank.
     pub(crate) fn put_words(&mut self, words: &[&[u8]]) {
         for word in words {
             self.put(b" ");
@@ -86,7 +86,7 @@ impl Spelled {
         self.put(&[b'0' + (number % 10) as u8]);
     }
 
-    /// The ids in parentheses behind the name, where there are any.
+    /// The ids in parentheses after the name, if there are any.
     pub(crate) fn put_ids(&mut self, name: &[u8], ids: &IdList) {
         if ids.is_empty() {
             return;

@@ -17,7 +17,7 @@ fn operand_in<'a>(alloc: Global, cards: &'a [Record], name: &[u8]) -> Option<Wor
     operand(operands.only()?, name)
 }
 
-/// Whether the operand is there, and what its list is as ids, as sources and as the name of a zone, where it is that.
+/// Whether there is such an operand, and its list as ids, as sources and as the name of a zone, if it is that.
 fn taken(alloc: Global, cards: &[Record], name: &[u8]) -> Spelled {
     let mut spelled = Spelled::new();
     let found = operand_in(alloc, cards, name);
@@ -74,7 +74,7 @@ fn operands_are_found_by_name(rt: HostRuntime) -> Result<(), Fail> {
     Ok(())
 }
 
-/// Files, with a semicolon between two, by their cards, with a bar between two; and the commands of each, or the record
+/// Files, with a semicolon between two, by their cards, with a bar between two, and the commands of each, or the record
 /// and the code of its first fault.
 const FILES: &str = "\
 SET BDY(GLOBAL). => SET GLOBAL all;

@@ -21,7 +21,7 @@ A => SCRNZ
 PUT2401$RSU2404#PUT2401$RSU2404#PUT2401$RSU2404#PUT2401$RSU2404# => S
 ";
 
-/// Texts that no field has.
+/// Texts that are no field's.
 const NO_FIELDS: &[&str] = &[
     "24.000",
     "PUT2401$RSU2404#PUT2401$RSU2404#PUT2401$RSU2404#PUT2401$RSU2404#A",
@@ -71,7 +71,7 @@ fn a_date_is_spelled(rt: HostRuntime) {
     assert_eq!(rt; YyDdd::new(2024, 138).as_bytes(), b"24.138".as_slice());
 }
 
-/// Puts the ids in and takes them out in this order, and answers how often one was new.
+/// Puts the ids in and takes them out in this order, and returns how often one was new.
 fn filled(list: &mut IdList, ids: &[Id]) -> Result<usize, AllocError> {
     let mut count = 0usize;
     for id in ids {

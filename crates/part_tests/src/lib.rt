@@ -1,6 +1,6 @@
-//! Tests of the parts below the jobs: what the readers of fields, texts, records, commands and statements answer, by
-//! tables of cards and of what is read from them; which candidates stay, who causes failures, and sets that grow;
-//! and what is so of ids in a zone, as `smpe why` tells it. There is no code here but tests.
+//! Tests of the parts below the jobs: what the readers of fields, texts, records, commands and statements return, by
+//! tables of cards and results; which candidates stay and which ones cause failures; sets that grow; and what `smpe
+//! why` tells about ids in a zone. The crate contains only tests.
 #![tactic(auto)]
 
 #[cfg(test)]

@@ -76,7 +76,7 @@ fn put_items(spelled: &mut Spelled, items: &[Item]) {
     }
 }
 
-/// What is read of these cards.
+/// What is read from these cards.
 fn received(alloc: Global, bytes: &[u8]) -> Spelled {
     let mut spelled = Spelled::new();
     match read_ptfin(alloc, bytes) {
@@ -86,7 +86,7 @@ fn received(alloc: Global, bytes: &[u8]) -> Spelled {
     spelled
 }
 
-/// The files of a case, with a semicolon between two, are read as it says behind the cards in front.
+/// The files of a case, with a semicolon between two, are read as it says after the cards in front.
 fn check_case(rt: &impl Abort, alloc: Global, front: &str, line: &str) -> Result<(), Fail> {
     let (files, wanted) = case(line)?;
     for cards in files.split(';') {
@@ -104,10 +104,10 @@ fn check(rt: &impl Abort, alloc: Global, front: &str, cases: &str) -> Result<(),
     Ok(())
 }
 
-/// A header and a `++VER`, in front of more cards.
+/// A header and a `++VER`, which precede more cards.
 const BEGUN: &str = "++PTF(UA00001).|++VER(Z038) FMID(HAA1100).|";
 
-/// A SYSMOD with as many `++VER`s as one may have.
+/// A SYSMOD with the greatest number of `++VER`s.
 const EIGHT: &str = "++PTF(UA00001).|++VER(Z038) FMID(HAA1100).|++VER(C150) FMID(HAA1100).|\
     ++VER(Z038) FMID(HAA1200).|++VER(C150) FMID(HAA1200).|++VER(Z038) FMID(HAA1300).|\
     ++VER(C150) FMID(HAA1300).|++VER(Z038) FMID(HAA1400).|++VER(C150) FMID(HAA1400).";
@@ -130,7 +130,7 @@ ASSIGN A UA00009;ASSIGN PUT2401$ UA00009;ASSIGN PUT2401$RSU2404#PUT2401$RSU2404#
 UA00009;
 ";
 
-/// Cards behind a header and a `++VER`, and their items.
+/// Cards after a header and a `++VER`, and their items.
 const CONTINUED: &str = "\
 ++IF FMID(HBB1100) THEN REQ(UA00003,| UA00002).|++VER(C150) FMID(HAA1100).|++IF FMID(HCC1100) THEN REQ(UA00004). => \
 PTF UA00001 C150 HAA1100 IF HCC1100 REQ(UA00004 ) Z038 HAA1100 IF HBB1100 REQ(UA00002 UA00003 );
@@ -160,7 +160,7 @@ const BAD: &str = "\
 ++FUNCTION(HAA1200).|++VER(Z038) FMID(HAA1100).|++VER(P001) FMID(HAA1100).|++VER(Z038) FMID(HBB1100). => 4 Mc4
 ";
 
-/// Statements behind a header and a `++VER`, and the record and the code of the fault.
+/// Statements after a header and a `++VER`, and the record and the code of the fault.
 const THIRD: &str = "\
 ++PTX(UA00001). => 3 Mc2
 ++VER(Z038) FMID(HAA1100) FMID(HAA1100).;++VER(Z038) FMID(HAA1200) FMID(HAA1100). => 3 Mc3
@@ -176,8 +176,8 @@ const THIRD: &str = "\
 ++MACUPD(M1).;++MAC(M1) DISTLIB(A) SYSLIB(B). => 3 Mc5
 ";
 
-/// Nothing behind as many `++VER`s as a SYSMOD may have, or one more, and their items, or the record and the code of
-/// the fault.
+/// Nothing after the greatest number of `++VER`s of a SYSMOD, or one more, and their items, or the record and the code
+/// of the fault.
 const NINTH: &str = "\
 \x20=> PTF UA00001 C150 HAA1100 C150 HAA1200 C150 HAA1300 C150 HAA1400 Z038 HAA1100 Z038 HAA1200 Z038 HAA1300 Z038 \
 HAA1400;

@@ -8,7 +8,7 @@ use rec80::{
 use std::alloc::{AllocError, Global};
 use std::test::Fail;
 
-/// Each member with its own list in parentheses and a semicolon; a `?` where there is no member.
+/// Each member with its own list in parentheses and a semicolon; a `?` for anything else.
 fn put_members(spelled: &mut Spelled, list: &Text<'_>) {
     let mut members = list.members();
     for _ in 0..9 {
@@ -28,7 +28,7 @@ fn put_members(spelled: &mut Spelled, list: &Text<'_>) {
     }
 }
 
-/// Each word with its members in parentheses and a blank; a `?` where there is no word.
+/// Each word with its members in parentheses and a blank; a `?` for anything else.
 fn put_words(spelled: &mut Spelled, mut words: Words<'_>) {
     for _ in 0..9 {
         match words.next_word() {
@@ -107,7 +107,7 @@ fn put_groups(spelled: &mut Spelled, mut groups: Groups<'_>) {
     }
 }
 
-/// How many records each of a file's statements has.
+/// The number of records of each of a file's statements.
 fn grouped(cards: &[Record]) -> Spelled {
     let mut spelled = Spelled::new();
     match (Records { all: cards }).groups() {
@@ -150,7 +150,7 @@ fn bytes_outside_records_are_told(rt: HostRuntime) {
     assert!(rt; records(&[b' '; 160]).is_ok_and(|found| found.all.len() == 2));
 }
 
-/// Cards, with a bar between two, and the words of their commands, each behind the number of its record, or the first
+/// Cards, with a bar between two, and the words of their commands, each after the number of its record, or the first
 /// fault.
 const COMMANDS: &str = "\
 SET BDY(TGT1)., /* . */| , | => 1 SET BDY(TGT1;)
@@ -199,7 +199,7 @@ fn commands_have_words_or_a_fault(rt: HostRuntime) -> Result<(), Fail> {
     Ok(())
 }
 
-/// A letter for each piece, and the characters that stand in no word.
+/// A letter for each piece, and the characters that belong to no word.
 fn put_pieces(spelled: &mut Spelled, mut words: Words<'_>) {
     for _ in 0..9 {
         match words.next_piece() {
@@ -227,7 +227,7 @@ fn pieces_are_words_lists_and_strays(rt: HostRuntime) {
     assert_eq!(rt; pieces_of("APPLY CHECK -, (A) CHECK.").text(), "WW-LW");
 }
 
-/// The lines of the list of the statement's first word, and the first byte of the last one, if they are there.
+/// The lines of the list of the statement's first word, and the first byte of the last one, if there are any.
 fn put_lines(spelled: &mut Spelled, records: &[Record]) -> Option<()> {
     let mut words = statement(&Group { number: 1, records }).ok()?;
     let text = words.next_word().ok()??.list?;

@@ -1,9 +1,9 @@
-//! The greatest set that supports itself, who causes failures, and the least set that grows.
+//! The greatest set that supports itself, the causers of failures, and the least set that grows.
 use solve::{Need, Rule, Rules, Solver, Sweep, System, SystemError, Worklist, causers, least};
 use std::alloc::{AllocError, Global};
 use std::process::Abort;
 
-/// A list of candidates with their needs: who needs which of these.
+/// A list of candidates with their needs: which candidate needs one of which others.
 type Needs<'a> = &'a [(u32, &'a [u32])];
 
 fn add_need(alloc: Global, s: &mut System, of: u32, any: &[u32]) -> Result<(), SystemError> {
@@ -54,7 +54,7 @@ const CASES: [Case<'static>; 6] = [
         strikes: 1,
         causers: &[&[2], &[2], &[2]],
     },
-    // a circle, and one that leans on it
+    // a ring, and one that depends on it
     Case {
         eligible: &[true, true, true],
         needs: &[(0, &[1]), (1, &[0]), (2, &[0])],
@@ -70,7 +70,7 @@ const CASES: [Case<'static>; 6] = [
         strikes: 0,
         causers: &[&[], &[1], &[]],
     },
-    // the same need from two, which nothing serves in the end
+    // the same need of two candidates, which nothing serves in the end
     Case {
         eligible: &[true, true, true, true],
         needs: &[(0, &[2]), (1, &[2]), (2, &[])],
@@ -119,7 +119,7 @@ fn candidates_stay_or_fail_by_their_causers(rt: HostRuntime) -> Result<(), Syste
     Ok(())
 }
 
-/// The needs of a chain: each of so many candidates needs the one before it, and the first one `start`.
+/// The needs of a chain: each of so many candidates needs the one before it, and the first one needs `start`.
 fn chain(alloc: Global, n: u32, start: &[u32]) -> Result<Vec<Need>, AllocError> {
     let mut needs = Vec::new(alloc);
     for of in 0..n {
@@ -131,8 +131,8 @@ fn chain(alloc: Global, n: u32, start: &[u32]) -> Result<Vec<Need>, AllocError> 
     Ok(needs)
 }
 
-/// How many of so many eligible candidates stay in a chain with this start, how many strikes that takes, and whether both
-/// solvers agree.
+/// How many of so many eligible candidates stay in a chain with this start, how many strikes that takes, and whether
+/// both solvers agree.
 fn chained(alloc: Global, n: u32, start: &[u32]) -> Result<(usize, u128, bool), SystemError> {
     let eligible = vec![in alloc; true; n as usize]?;
     let s = System::from_needs(eligible, chain(alloc, n, start)?)?;
@@ -190,7 +190,7 @@ fn add_rule(alloc: Global, s: &mut Rules, these: &[u32], that: u32) -> Result<()
     Ok(())
 }
 
-/// Four numbers, of which the first is there, and rules for the others.
+/// Four numbers, the first of which is in the start, and rules for the others.
 fn rules(alloc: Global) -> Result<Rules, SystemError> {
     let mut rules = Rules::new(alloc, &[true, false, false])?;
     rules.add_number(false)?;

@@ -1,4 +1,4 @@
-//! Global zones and zones for the tests, and what is told of ids in them.
+//! Global zones and zones for the tests, and what is told about ids in them.
 
 use crate::cards::file_of;
 use fields::{Id, IdList, Name, Srel, YyDdd, ZoneName};
@@ -94,7 +94,7 @@ pub(crate) fn zone(entries: Table<Entry>, elements: Table<Element>) -> Result<Zo
     Ok(zone.ok_or("no zone")?)
 }
 
-/// What is told of these ids, and its code.
+/// What is told about these ids, and its code.
 fn told(
     alloc: Global,
     global: &GlobalZone,
@@ -110,7 +110,7 @@ fn told(
     Ok((text, code))
 }
 
-/// A global zone by its cards, with a bar between two, and what must be told of ids in it.
+/// A global zone by its cards, with a bar between two, and what must be told about ids in it.
 pub(crate) struct Wanted {
     pub(crate) cards: &'static str,
     pub(crate) holds: &'static str,
@@ -118,7 +118,7 @@ pub(crate) struct Wanted {
     pub(crate) code: u8,
 }
 
-/// The first line of two texts that differs, of each. Behind the end of one stands no line.
+/// The first line in which two texts differ, of each text. After the end of one there is no line.
 pub(crate) fn first_difference<'a>(
     got: &'a str,
     wanted: &'a str,
@@ -133,7 +133,7 @@ pub(crate) fn first_difference<'a>(
     (None, wanted_lines.next())
 }
 
-/// A failure, unless this is told of these ids in the zone.
+/// A failure, unless this is told about these ids in the zone.
 pub(crate) fn check(alloc: Global, zone: &Zone, ids: &[Id], wanted: &Wanted) -> Result<(), Fail> {
     let global = global(alloc, wanted.cards, wanted.holds)?;
     let (text, code) = told(alloc, &global, zone, ids)?;

@@ -1,4 +1,4 @@
-//! A PTF that may be applied, its function, and an id of which nothing is known.
+//! A PTF that may be applied, its function, and an unknown id.
 
 use crate::cards::{id, name};
 use crate::why_cards::{Wanted, check, element, put_entries, zone};

@@ -1,4 +1,4 @@
--- Members of a list that are left.
+-- The remaining members of a list.
 use Rattle.std.specs.Prelude.{◌≡◌, ℕ, Bool, true, false, List, ◌++◌, ◌==◌}
 use Rattle.terms.specs.Forms.{AreBlanks}
 use Rattle.terms.specs.Words.{Stops, HasMembers, HasMore}
@@ -6,7 +6,7 @@ use Rattle.terms.specs.Words as grammar
 use Rattle.rec80.specs.declared.members.Members.{Members}
 use Rattle.rec80.specs.Cursors.{text_of}
 
--- all the blanks that the text begins with
+-- all the blanks with which the text begins
 pub record SkipsBlanks (text after : List ℕ) : Type 0 where
   pub gap : List ℕ
   pub text_is : text ≡ gap ++ after
@@ -17,7 +17,7 @@ abbrev pub HasLeft : Bool → List ℕ → List grammar.Word → Type 0
 HasLeft true text ms = HasMembers text ms
 HasLeft false text ms = HasMore text ms
 
--- the text that is left
+-- the remaining text
 abbrev pub members_text : Members → List ℕ
 members_text m = text_of m.rest
 

@@ -1,4 +1,4 @@
--- The pieces of this crate as those of the grammar, and why none begins at a place.
+-- The pieces of this crate as those of the grammar, and why no piece begins at a place.
 use Rattle.std.specs.Prelude.{◌≡◌, ℕ, false, List, [], ◌∷◌}
 use Rattle.terms.specs.Statement.{TakesPiece, TheWord, TheList, is_solid, OpensComment, BreaksPairs}
 use Rattle.terms.specs.Statement as grammar
@@ -19,7 +19,7 @@ pub record TakesGap (text after : List ℕ) : Type 0 where
   pub takes : TakesPiece text piece after
   pub is_gap : is_solid piece ≡ false
 
--- what the text begins with in place of a piece
+-- what the text begins with instead of a piece
 abbrev pub StopsAt : Stop → List ℕ → Type 0
 StopsAt End text = text ≡ []
 StopsAt Period text = (after : List ℕ) × (text ≡ 46 ∷ after)

@@ -10,7 +10,7 @@ use Rattle.rec80.specs.Cursors.{rest_of, text_of}
 abbrev pub group_of : Group → groups.Group
 group_of g = record { number = g.number; records = g.records.now }
 
--- the text from here on, up to the period and behind it
+-- the text from here on, before and after the period
 abbrev pub left_of : Words → List ℕ
 left_of words = rest_of words.rest
 

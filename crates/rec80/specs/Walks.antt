@@ -1,4 +1,4 @@
--- Ways over the pieces of a text: over gaps, to where no piece begins, and over a whole statement.
+-- Walks over the pieces of a text: over gaps, to a place where no piece begins, and over a whole statement.
 use Rattle.std.specs.Prelude.{◌≡◌, ℕ, List, [], ◌∷◌, ◌++◌}
 use Rattle.terms.specs.Statement.{Piece, HasPieces, solid, followed, IsPlace, IsIdle, OpensComment, BreaksPairs}
 use Rattle.terms.specs.Statement as statement
@@ -9,7 +9,7 @@ use Rattle.rec80.specs.declared.error.StmtError.{StmtError}
 use Rattle.rec80.specs.declared.error.StmtError.TheVariants.{NoPeriod, OpenComment, BadParens, TextAfterPeriod}
 use Rattle.rec80.specs.Cursors.{rest_of, IsIn}
 
--- all the gaps that the text begins with
+-- all the gaps with which the text begins
 pub record SkipsGaps (text after : List ℕ) : Type 0 where
   pub gap : List Piece
   pub has_pieces : HasPieces text gap after
@@ -19,7 +19,7 @@ pub record SkipsGaps (text after : List ℕ) : Type 0 where
 abbrev pub Walks : List ℕ → List ℕ → Type 0
 Walks text after = (ps : List Piece) × HasPieces text ps after
 
--- Behind these pieces the period comes, and the tail and the inline text behind it.
+-- The period follows these pieces, and the tail and the inline text follow the period.
 pub record EndsFrom (from : Cursor) (pieces : List Piece) (tail : List ℕ) (inline : List (List ℕ)) : Type 0 where
   pub has_pieces : HasPieces (rest_of from) pieces (46 ∷ tail ++ followed inline)
   pub place : (records : List (List ℕ)) → IsIn records from → (before : List (List ℕ))

@@ -23,7 +23,7 @@ pub fn is_among(names: &[&[u8]], text: &[u8]) -> bool
     is_one_of(names, text)
 }
 
-/// Whether the list has members of these names, and nothing else.
+/// Whether the list consists of members of these names.
 pub fn are_members(names: &[&[u8]], list: &Text<'_>) -> bool
     ensures named { result ≡ true → (ms : List grammar.Word) × HasMembers (text_of list.now) ms
         × AreNamed (map (λ name. name.now) names.now) ms }

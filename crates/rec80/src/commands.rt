@@ -1,4 +1,4 @@
-//! The commands of a command file, one behind the other.
+//! The commands of a command file, one after the other.
 ghost use Rattle.std.specs.Prelude.{◌≡◌, ◌<◌, ◌+◌, ◌^◌, List, [], length, IfOk, IfErr, IfSome, IfNone, OnErr};
 ghost use Rattle.terms.specs.Statement.{Piece, HasSolid, IsIdle, joined};
 ghost use Rattle.terms.specs.CommandCuts.{TakesCommand, IsCutFault};
@@ -18,7 +18,7 @@ pub struct CommandWords<'a> {
     pub words: Words<'a>,
 }
 
-/// The command that begins in this record is at fault, or a comment between commands that is left open there.
+/// The command that begins in this record has a fault, or a comment between commands that begins there is not closed.
 #[derive(Clone, Copy, Debug, PartialEq, Eq, Error)]
 #[error("the command in record {number}: {why}")]
 pub struct CommandError {
@@ -26,7 +26,7 @@ pub struct CommandError {
     pub why: StmtError,
 }
 
-/// The commands that are left, in records the first of which has this number.
+/// The remaining commands, in records the first of which has this number.
 #[derive(Clone, Copy, Debug)]
 pub struct Commands<'a> {
     pub number: usize,
@@ -50,8 +50,8 @@ impl<'a> Records<'a> {
 impl<'a> Commands<'a> {
     ghost use Rattle.rec80.specs.Views.{left_of};
 
-    /// Takes the next command. Behind the last one there is none. The error comes where the form of the command is at
-    /// fault, or where a comment between commands is not closed, and changes nothing.
+    /// Takes the next command, if there is one. Returns an error, and changes nothing, if the form of the command is
+    /// bad or a comment between commands is not closed.
     pub fn next_command(&mut self) -> Result<Option<CommandWords<'a>>, CommandError>
         ensures command { IfOk result (λ found. IfSome found (λ x. (pieces : List Piece)
             × TakesCommand self.old.number self.old.rest.now pieces x.number self.new.number self.new.rest.now

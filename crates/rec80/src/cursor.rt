@@ -6,8 +6,7 @@ ghost use Rattle.rec80.specs.Cursors.{rest_of, IsAhead, text_of};
 use crate::record_files::Record;
 use crate::text::Text;
 
-/// A place in columns 1 to 72 of records, between which one blank stands: what is left of a line, and the later
-/// records.
+/// A place in columns 1 to 72 of records, which are joined by one blank: the rest of a line, and the later records.
 #[derive(Clone, Copy, Debug)]
 pub(crate) struct Cursor<'a> {
     pub line: &'a [u8],
@@ -22,7 +21,7 @@ pub fn columns(card: &Record) -> &[u8]
 }
 
 impl<'a> Cursor<'a> {
-    /// The next byte, and the place behind it.
+    /// The next byte, and the place after it.
     pub fn next_byte(&self) -> Option<(u8, Cursor<'a>)>
         ensures text { MatchOption result (rest_of self.now ≡ []) (λ x. rest_of self.now ≡ x.0 ∷ rest_of x.1) }
         ensures ahead { IfSome result (λ x. IsAhead self.now x.1) }
@@ -54,7 +53,7 @@ impl<'a> Cursor<'a> {
         self.next_byte().is_none()
     }
 
-    /// The text of so many bytes from here on, or as many as there are.
+    /// The text of so many bytes from here on, or of as many as there are.
     pub fn text(&self, len: usize) -> Text<'a>
         ensures { text_of result ≡ take len (rest_of self.now) }
     {

@@ -11,13 +11,13 @@ pub enum RecError {
     /// The file ends inside this record.
     #[error("record {record} is cut short")]
     ShortRecord { record: usize },
-    /// A byte there is none of 0x20 to 0x7E.
+    /// A byte outside 0x20 to 0x7E.
     #[error("record {record} has a bad byte in column {column}")]
     BadByte { record: usize, column: usize },
 }
 
 impl RecError {
-    /// The record at fault.
+    /// The bad record.
     pub fn record(&self) -> usize
         ensures { result ≡ rec_fault_record (rec_fault self.now) }
     {
@@ -36,10 +36,10 @@ pub enum StmtError {
     NoPeriod,
     #[error("a comment is not closed")]
     OpenComment,
-    /// A parenthesis without its partner, or a third level of them.
+    /// A parenthesis lacks its partner, or there is a third level of them.
     #[error("parentheses do not pair or nest too deep")]
     BadParens,
-    /// In the record of the period more than blanks and comments follows it.
+    /// More than blanks and comments follow the period in its record.
     #[error("text after the period")]
     TextAfterPeriod,
 }

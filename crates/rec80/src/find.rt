@@ -23,7 +23,7 @@ fn first<'w, 'a>(words: &'w [Word<'a>], name: &[u8]) -> Option<&'w Word<'a>>
     words.iter().find(|word| word.word == name)
 }
 
-/// The operand of that name among the words, if it is there.
+/// The operand of that name among the words, if there is one.
 pub fn operand<'a>(words: &[Word<'a>], name: &[u8]) -> Option<Word<'a>>
     ensures { option_map word_of result ≡ operand name.now (words_of words.now) }
 {
@@ -43,7 +43,7 @@ fn is_twice(words: &[Word<'_>], name: &[u8]) -> bool
     count_of(words, name) >= 2
 }
 
-/// Whether one of the names is there twice.
+/// Whether one of the names occurs twice.
 pub(crate) fn any_twice(words: &[Word<'_>], names: &[&[u8]]) -> bool
     ensures { result ≡ list_any (λ name. is_often 2 (map (λ w. w.word) (words_of words.now)) name.now) names.now }
 {
@@ -57,14 +57,14 @@ fn are_known(words: &[Word<'_>], names: &[&[u8]]) -> bool
     words.iter().all(|word| is_among(names, word.word))
 }
 
-/// Whether the words are operands of these names alone, each at most once.
+/// Whether the words are operands of these names only, each at most once.
 pub(crate) fn are_operands(words: &[Word<'_>], names: &[&[u8]]) -> bool
     ensures { IsTrue result ↔ AreOperands (map (λ name. name.now) names.now) (words_of words.now) }
 {
     are_known(words, names) && !any_twice(words, names)
 }
 
-/// Takes the next member. There is none behind the last one, and none where something else follows.
+/// Takes the next member, if there is one. It returns none too if something else follows.
 fn take_member<'a>(left: &mut Members<'a>) -> Option<Word<'a>>
     ensures member { IfSome result (λ m. (ms : List grammar.Word) → LeavesMembers left.old ms
         → (more : List grammar.Word) × (ms ≡ word_of m ∷ more) × LeavesMembers left.new more) }
@@ -77,8 +77,8 @@ fn take_member<'a>(left: &mut Members<'a>) -> Option<Word<'a>>
     found
 }
 
-/// The member of that name in a list, if it is there. It is open what this answers where the text is no
-/// list of members.
+/// The member of that name in a list, if there is one. If the text is not a list of members, the answer may be
+/// anything.
 pub fn named_member<'a>(list: &Text<'a>, name: &[u8]) -> Option<Word<'a>>
     ensures { (ms : List grammar.Word) → HasMembers (text_of list.now) ms
         → option_map word_of result ≡ operand name.now ms }

@@ -7,20 +7,20 @@ ghost use Rattle.terms.specs.Groups.{begins_statement, starts_outside, IsGroup, 
 use crate::record_files::{Record, Records};
 use thiserror::Error;
 
-/// The first record of a file begins no statement.
+/// The first record of a file does not begin a statement.
 #[derive(Clone, Copy, Debug, PartialEq, Eq, Error)]
 #[error("the first record begins no statement")]
 pub struct StartsOutside;
 
-/// The records of one statement: the one that begins it, and those before the next one. Its number counts from 1 in the
-/// file.
+/// The records of one statement: the one that begins it, and those before the next statement. Its number counts from 1
+/// in the file.
 #[derive(Clone, Copy, Debug)]
 pub struct Group<'a> {
     pub number: usize,
     pub records: &'a [Record],
 }
 
-/// The statements that are left, the first of which begins at record `number`.
+/// The remaining statements, the first of which begins at record `number`.
 #[derive(Clone, Copy, Debug)]
 pub struct Groups<'a> {
     pub number: usize,
@@ -60,7 +60,7 @@ fn split_group(records: &[Record]) -> (&[Record], &[Record])
 }
 
 impl<'a> Records<'a> {
-    /// Walks the statements of a PTFIN or hold file. The error comes where the first record begins none.
+    /// Walks the statements of a PTFIN or hold file. Returns an error if the first record does not begin one.
     pub fn groups(&self) -> Result<Groups<'a>, StartsOutside>
         ensures ok { IfOk result (λ groups. (groups.number ≡ 1) × (groups.rest.now ≡ self.now.all.now)) }
         ensures outside { IsErr result ↔ IsTrue (starts_outside self.now.all.now) }
@@ -80,7 +80,7 @@ impl<'a> Records<'a> {
 impl<'a> Groups<'a> {
     ghost use Rattle.rec80.specs.Views.{group_of};
 
-    /// Takes the next statement. Behind the last one there is none.
+    /// Takes the next statement, if there is one.
     pub fn next_group(&mut self) -> Option<Group<'a>>
         ensures group { IfSome result (λ g. TakesGroup self.old.number self.old.rest.now
             (group_of g) self.new.number self.new.rest.now) }

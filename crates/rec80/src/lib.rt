@@ -1,11 +1,10 @@
-//! Files of 80-byte records: their statements and commands, the words of these, as slices of the file, and the
-//! operands among the words. Only lists of values take memory.
-//! A file is these records, or has this first fault (`records`). Groups, statements, commands, words, members and
-//! inline records are the grammar's, or the named fault (`next_group`, `statement`, `next_command`, `next_word`,
-//! `members`).
-//! The words are read once, by `operands`, whatever stands among them. Of them `operand` is the operand of a name, and
-//! of a list's members `named_member` is. A flag, a list's only member, and a list without doubles, in rising order,
-//! are read just where the word has that form.
+//! Files of 80-byte records: their statements and commands, the words of these as slices of the file, and the operands
+//! among the words. Only lists of values take memory, and they return an error if it runs out. A file consists of these
+//! records, or has this first fault (`records`). Groups, statements, commands, words, members and inline records are
+//! those of the grammar, or the call returns the named fault (`next_group`, `statement`, `next_command`, `next_word`,
+//! `members`). `operands` reads the words once, whatever else there is. `operand` finds the operand of a name among
+//! them, and `named_member` a member of a list. A flag, a list's only member, and a list without duplicates, in rising
+//! order, are read exactly if the word has that form.
 #![tactic(auto)]
 
 mod among;

@@ -1,4 +1,4 @@
-//! The members of a list, one behind the other.
+//! The members of a list, one after the other.
 ghost use Rattle.std.specs.Prelude.{◌≡◌, ◌<◌, length, ◌++◌, ℕ, false, List, Option, [], ◌∷◌, All, true, IfOk, IfSome};
 ghost use Rattle.std.specs.Prelude.{IfNone, OnErr, MatchOption, option_map};
 ghost use Rattle.terms.specs.Words.{is_inner_byte, TakesInner, Stops, IsBefore, TakesNext};
@@ -13,7 +13,7 @@ use crate::members::{Members, NoMembers, split_member};
 use crate::text::Text;
 use crate::words::Word;
 
-/// What follows the blanks.
+/// The text after the blanks.
 fn behind_blanks<'a>(text: &Text<'a>) -> Text<'a>
     ensures { SkipsBlanks (text_of text.now) (text_of result) }
 {
@@ -27,7 +27,7 @@ fn behind_blanks<'a>(text: &Text<'a>) -> Text<'a>
     at
 }
 
-/// What comes before the first parenthesis, and what follows.
+/// The text before the first parenthesis, and the text after it.
 fn split_inner<'a>(inside: &Text<'a>) -> (Text<'a>, Text<'a>)
     ensures cut { text_of inside.now ≡ text_of result.0 ++ text_of result.1 }
     ensures each { All (λ b. is_inner_byte b ≡ true) (text_of result.0) }
@@ -45,7 +45,7 @@ fn split_inner<'a>(inside: &Text<'a>) -> (Text<'a>, Text<'a>)
     (inside.front(len), at)
 }
 
-/// What follows the byte, if the text begins with it.
+/// The text after the byte, if it begins with the byte.
 fn behind_byte<'a>(text: &Text<'a>, byte: u8) -> Option<Text<'a>>
     ensures found { IfSome result (λ next. text_of text.now ≡ byte ∷ text_of next) }
     ensures none { IfNone result ((next : List ℕ) → text_of text.now ≡ byte ∷ next → ⊥) }
@@ -54,7 +54,7 @@ fn behind_byte<'a>(text: &Text<'a>, byte: u8) -> Option<Text<'a>>
     if first == byte { Some(next) } else { None }
 }
 
-/// A member's own list, if it has one, and what follows. None: a list begins and does not close.
+/// A member's own list, if it has one, and the text after it. None if a list begins and is not closed.
 fn own_list<'a>(behind: &Text<'a>) -> Option<(Option<Text<'a>>, Text<'a>)>
     ensures list { IfSome result (λ x. TakesInner (text_of behind.now) (option_map text_of x.0) (text_of x.1)) }
     ensures none { IfNone result ((list : Option (List ℕ)) (after : List ℕ)
@@ -71,7 +71,7 @@ fn own_list<'a>(behind: &Text<'a>) -> Option<(Option<Text<'a>>, Text<'a>)>
     Some((Some(list), after))
 }
 
-/// Where the next member begins, if one may begin there.
+/// The place where the next member begins, if one may begin there.
 fn member_start<'a>(rest: &Text<'a>, first: bool) -> Option<Text<'a>>
     ensures start { IfSome result (λ t. (gap : List ℕ) × (text_of rest.now ≡ gap ++ text_of t) × IsBefore first gap) }
     ensures only { (gap next : List ℕ) → text_of rest.now ≡ gap ++ next → IsBefore first gap → BeginsMember next
@@ -90,7 +90,7 @@ fn member_start<'a>(rest: &Text<'a>, first: bool) -> Option<Text<'a>>
     Some(dark)
 }
 
-/// The next member, and what follows it.
+/// The next member, and the text after it.
 fn member_in<'a>(rest: &Text<'a>, first: bool) -> Option<(Word<'a>, Text<'a>)>
     ensures member { IfSome result (λ x. TakesNext first (text_of rest.now) (word_of x.0) (text_of x.1)) }
     ensures none { IfNone result ((m : grammar.Word) (after : List ℕ) → TakesNext first (text_of rest.now) m after
@@ -117,8 +117,8 @@ fn is_blank(rest: &Text) -> bool
 }
 
 impl<'a> Members<'a> {
-    /// Takes the next member, with its own list. Behind the last one there is none. The error comes where what is left
-    /// is no list of members from its first one on, and changes nothing.
+    /// Takes the next member with its own list, if there is one. Returns an error, and changes nothing, if the
+    /// remaining text is not a list of members.
     pub fn next_member(&mut self) -> Result<Option<Word<'a>>, NoMembers>
         ensures member { IfOk result (λ found. IfSome found (λ m. (ms : List grammar.Word)
             → LeavesMembers self.new ms → LeavesMembers self.old (word_of m ∷ ms))) }

@@ -1,7 +1,7 @@
-//! The values that may stand in a list.
+//! The values that a list may have as members.
 use fields::{Class, Field, HoldDate, Id, Name, Reason, Source, Srel, ZoneName};
 
-/// A value that may stand in a list, as its only member or among others.
+/// A value that a list may have, as its only member or among others.
 pub trait Member: Field {
     ghost use Rattle.std.specs.Prelude.{◌≡◌, ◌↔◌, ℕ, List, IsSome, IfSome};
     ghost use Rattle.std.specs.Ordering.{nat_cmp};
@@ -11,7 +11,7 @@ pub trait Member: Field {
 
     ghost text: { Self → List ℕ };
 
-    /// The value whose text it is.
+    /// The value of this text.
     fn read(bytes: &[u8]) -> Option<Self>
         ensures good { IsSome result ↔ form bytes.now }
         ensures same { IfSome result (λ read. text read ≡ bytes.now) };

@@ -1,4 +1,4 @@
-//! A member of a list, and the members that are left.
+//! A member of a list, and the remaining members.
 ghost use Rattle.std.specs.Prelude.{◌≡◌, ◌==◌, ℕ, List, Option, true, IfSome, IfNone};
 ghost use Rattle.std.specs.List.{prefix_len};
 ghost use Rattle.terms.specs.Words.{is_member_byte, TakesRun, HasMembers};
@@ -9,12 +9,13 @@ use crate::text::Text;
 use crate::words::Word;
 use thiserror::Error;
 
-/// No list of members: it is empty, a comma leads or trails, two stand side by side, or members are not separated.
+/// Not a list of members: it is empty, begins or ends with a comma, has two commas side by side, or members that are
+/// not separated.
 #[derive(Clone, Copy, Debug, PartialEq, Eq, Error)]
 #[error("no list of members")]
 pub struct NoMembers;
 
-/// The members of a list that are left.
+/// The remaining members of a list.
 #[derive(Clone, Copy, Debug)]
 pub struct Members<'a> {
     pub(crate) rest: Text<'a>,
@@ -36,7 +37,7 @@ fn member_len(line: &[u8]) -> usize
         .count()
 }
 
-/// The member that begins here, and what follows it. No member runs over the end of a record.
+/// The member that begins here, and the text after it. No member continues in the next record.
 pub(crate) fn split_member<'a>(text: &Text<'a>) -> Option<(&'a [u8], Text<'a>)>
     ensures run { IfSome result (λ x. TakesRun (text_of text.now) x.0.now (text_of x.1)) }
     ensures none { IfNone result ((word after : List ℕ) → TakesRun (text_of text.now) word after → ⊥) }

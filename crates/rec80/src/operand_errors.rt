@@ -8,7 +8,7 @@ use thiserror::Error;
 #[error("a bad operand")]
 pub struct BadOperand;
 
-/// Why no value is read that takes memory.
+/// Why a value that takes memory is not read.
 #[derive(Clone, Copy, Debug, PartialEq, Eq, Error)]
 pub enum OperandError {
     #[error("out of memory")]

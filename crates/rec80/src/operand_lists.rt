@@ -1,4 +1,4 @@
-//! Lists without doubles: in rising order, or as they stand.
+//! Lists without duplicates: in rising order, or in the order of the file.
 ghost use Rattle.std.specs.Prelude.{ℕ, List, map, IfOk, IfErr};
 ghost use Rattle.terms.specs.Forms.{IsId};
 ghost use Rattle.terms.specs.Operands.{HasListed, HasSorted};
@@ -12,8 +12,8 @@ use crate::words::Word;
 use fields::{Id, IdList, Rising};
 use std::alloc::Global;
 
-/// The members of the word's list in rising order. `Memory` comes where memory runs out, `Bad` where the word has no
-/// list of such members, or one stands there twice.
+/// The members of the word's list in rising order. Returns `Memory` if memory runs out, and `Bad` if the word has no
+/// list of such members or a member occurs twice.
 pub fn rising<T: Member>(alloc: Global, word: &Word<'_>) -> Result<Rising<T>, OperandError>
     ensures sorted { IfOk result (λ list. HasSorted T.form (word_of word.now) (map T.text list)) }
     ensures bad { IfErr result (λ e. Excludes e ((values : List (List ℕ))
@@ -31,8 +31,8 @@ pub fn rising<T: Member>(alloc: Global, word: &Word<'_>) -> Result<Rising<T>, Op
     Ok(rising)
 }
 
-/// The members of the word's list, as they stand. `Memory` comes where memory runs out, `Bad` where the word has no
-/// list of such members, or one stands there twice.
+/// The members of the word's list, in the order of the file. Returns `Memory` if memory runs out, and `Bad` if the word
+/// has no list of such members or a member occurs twice.
 pub fn listed<T: Member>(alloc: Global, word: &Word<'_>) -> Result<Vec<T>, OperandError>
     ensures listed { IfOk result (λ list. HasListed T.form (word_of word.now) (map T.text list.items)) }
     ensures bad { IfErr result (λ e. Excludes e ((values : List (List ℕ))
@@ -50,8 +50,8 @@ pub fn listed<T: Member>(alloc: Global, word: &Word<'_>) -> Result<Vec<T>, Opera
     Ok(read)
 }
 
-/// The ids of the word's list, as they stand. `Memory` comes where memory runs out, `Bad` where the word has no list of
-/// ids, or one stands there twice.
+/// The ids of the word's list, in the order of the file. Returns `Memory` if memory runs out, and `Bad` if the word has
+/// no list of ids or an id occurs twice.
 pub fn listed_ids(alloc: Global, word: &Word<'_>) -> Result<Vec<Id>, OperandError>
     ensures listed { IfOk result (λ list. HasListed IsId (word_of word.now) list.items) }
     ensures bad { IfErr result (λ e. Excludes e ((values : List (List ℕ)) × HasListed IsId (word_of word.now) values)) }
@@ -59,8 +59,8 @@ pub fn listed_ids(alloc: Global, word: &Word<'_>) -> Result<Vec<Id>, OperandErro
     listed::<Id>(alloc, word)
 }
 
-/// The ids of the word's list in rising order. `Memory` comes where memory runs out, `Bad` where the word has no list
-/// of ids, or one stands there twice.
+/// The ids of the word's list in rising order. Returns `Memory` if memory runs out, and `Bad` if the word has no list
+/// of ids or an id occurs twice.
 pub fn ids(alloc: Global, word: &Word<'_>) -> Result<IdList, OperandError>
     ensures sorted { IfOk result (λ list. HasSorted IsId (word_of word.now) list) }
     ensures bad { IfErr result (λ e. Excludes e ((values : List (List ℕ)) × HasSorted IsId (word_of word.now) values)) }

@@ -22,8 +22,8 @@ fn read_member<T: Member>(member: &Word<'_>) -> Option<T>
     T::read(member.word)
 }
 
-/// The members of a list, in its order. `Memory` comes where memory runs out, `Bad` where the text is no list of such
-/// members.
+/// The members of a list, in its order. Returns `Memory` if memory runs out, and `Bad` if the text is not a list of
+/// such members.
 pub(crate) fn read_members<T: Member>(
     alloc: Global,
     list: &Text<'_>,

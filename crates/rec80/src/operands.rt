@@ -15,17 +15,17 @@ use crate::text::Text;
 use crate::words::{NoWord, Word, Words};
 use std::alloc::{AllocError, Global};
 
-/// The operands of a statement or a command: the words that are left of it, in the order of the file, each with the
-/// list right behind it.
+/// The operands of a statement or a command: its remaining words, in the order of the file, each with the list that
+/// directly follows it.
 #[derive(Drop)]
 pub struct Operands<'a> {
     pub(crate) words: Vec<Word<'a>>,
-    /// Whether nothing else stands there.
+    /// Whether there is nothing besides words and their lists.
     pub(crate) alone: bool,
 }
 
 impl<'a> Operands<'a> {
-    /// Takes in what comes next: a word, or what stands in place of one.
+    /// Takes in the next piece: a word, or what is there instead of one.
     fn add(&mut self, found: Result<Word<'a>, NoWord>) -> Result<(), AllocError>
         ensures word { OnOk result (IfOk found.entry (λ w. (self.new.words.items ≡ self.old.words.items ++ w ∷ [])
             × (self.new.alone ≡ self.old.alone))) }
@@ -40,14 +40,14 @@ impl<'a> Operands<'a> {
         Ok(())
     }
 
-    /// Whether nothing is there.
+    /// Whether there is nothing at all.
     pub fn is_empty(&self) -> bool
         ensures { (pieces : List Piece) → IsRead pieces self.now → IsTrue result ↔ (pieces ≡ []) }
     {
         self.alone && self.words.is_empty()
     }
 
-    /// The words, where nothing else stands there.
+    /// The words, if there is nothing else.
     pub fn only(&self) -> Option<&[Word<'a>]>
         ensures some { IfSome result (λ ws. (pieces : List Piece) → IsRead pieces self.now
             → HasWords pieces (words_of ws.now)) }
@@ -60,7 +60,7 @@ impl<'a> Operands<'a> {
         Some(self.words.as_slice())
     }
 
-    /// The words, where they are operands of these names alone, each at most once, and nothing else stands there.
+    /// The words, if they are operands of these names only, each at most once, and there is nothing else.
     pub fn named(&self, names: &[&[u8]]) -> Option<&[Word<'a>]>
         ensures words { IfSome result (λ ws. (pieces : List Piece) → IsRead pieces self.now
             → HasWords pieces (words_of ws.now)) }
@@ -77,14 +77,14 @@ impl<'a> Operands<'a> {
         Some(words)
     }
 
-    /// Whether a word of that name is there, whatever else is.
+    /// Whether there is a word of that name, whatever else there is.
     pub fn is_there(&self, name: &[u8]) -> bool
         ensures { (pieces : List Piece) → IsRead pieces self.now → result ≡ is_often 1 (words_in pieces) name.now }
     {
         operand(self.words.as_slice(), name).is_some()
     }
 
-    /// Whether one of the names is there twice, whatever else is.
+    /// Whether one of the names occurs twice, whatever else there is.
     pub fn has_twice(&self, names: &[&[u8]]) -> bool
         ensures { (pieces : List Piece) → IsRead pieces self.now
             → result ≡ list_any (λ name. is_often 2 (words_in pieces) name.now) names.now }
@@ -92,7 +92,7 @@ impl<'a> Operands<'a> {
         any_twice(self.words.as_slice(), names)
     }
 
-    /// The list right behind the first word of that name, whatever else is there.
+    /// The list that directly follows the first word of that name, whatever else there is.
     pub fn list_behind(&self, name: &[u8]) -> Option<Text<'a>>
         ensures { (pieces : List Piece) → IsRead pieces self.now
             → option_map text_of result ≡ list_behind name.now pieces }
@@ -105,7 +105,7 @@ impl<'a> Operands<'a> {
 }
 
 impl<'a> Words<'a> {
-    /// The operands, which are all that is left. The error comes where memory runs out.
+    /// The operands in the rest of a statement or a command.
     pub fn operands(&self, alloc: Global) -> Result<Operands<'a>, AllocError>
         ensures { (pieces : List Piece) → HasSolid (left_of self.now) pieces → IfOk result (IsRead pieces) }
     {

@@ -11,7 +11,7 @@ use crate::cursor::Cursor;
 use crate::scan::{behind_both, behind_comment, behind_parens};
 use crate::text::Text;
 
-/// A part of a statement or a command: a word, a list in parentheses, or any other character but a blank or a comma.
+/// A part of a statement or a command: a word, a list in parentheses, or any other character except a blank or a comma.
 #[derive(Clone, Copy, Debug)]
 pub enum Piece<'a> {
     Word(&'a [u8]),
@@ -28,7 +28,7 @@ pub enum Stop {
     BadParens,
 }
 
-/// The place behind one blank, comma or comment.
+/// The place after one blank, comma or comment.
 #[tactic(auto, using(crate::proofs::Places::ahead_trans))]
 pub fn behind_gap<'a>(at: &Cursor<'a>) -> Option<Cursor<'a>>
     ensures gap { IfSome result (λ x. TakesGap (rest_of at.now) (rest_of x)) }
@@ -54,7 +54,7 @@ fn is_part_of_word(byte: u8) -> bool
         || byte == b'+'
 }
 
-/// How many bytes of a word come first.
+/// The length of the word that comes first.
 fn word_len(line: &[u8]) -> usize
     ensures { result ≡ prefix_len is_word_byte line.now }
 {
@@ -63,7 +63,7 @@ fn word_len(line: &[u8]) -> usize
         .count()
 }
 
-/// The word that begins here, and the place behind it. No word runs over the end of a record.
+/// The word that begins here, and the place after it. No word continues in the next record.
 fn split_word<'a>(at: &Cursor<'a>) -> (&'a [u8], Cursor<'a>)
     requires { is_word_byte (slice_index (rest_of at.now) 0) ≡ true }
     ensures word { TakesPiece (rest_of at.now) (TheWord result.0.now) (rest_of result.1) }
@@ -79,7 +79,7 @@ fn split_word<'a>(at: &Cursor<'a>) -> (&'a [u8], Cursor<'a>)
     )
 }
 
-/// The piece that begins here, and the place behind it. The error tells why none begins: `End` where nothing is left,
+/// The piece that begins here, and the place after it. The error says why none begins: `End` if nothing is left,
 /// `Period` at a period, `OpenComment` at a comment that is not closed, and `BadParens` at a parenthesis that has no
 /// partner or holds a third level.
 pub fn solid_piece<'a>(at: &Cursor<'a>) -> Result<(Piece<'a>, Cursor<'a>), Stop>

@@ -12,8 +12,8 @@ fn is_printable(byte: u8) -> bool
     0x20 <= byte && byte <= 0x7E
 }
 
-/// The records of a file. `BadByte` comes where a whole record has a bad byte, at the first one, and `ShortRecord`
-/// where none has, but the file ends inside a record.
+/// The records of a file. Returns `BadByte` at the first whole record with a bad byte, or `ShortRecord` if there is no
+/// such record but the file ends inside one.
 pub fn records(bytes: &[u8]) -> Result<Records<'_>, RecError>
     ensures ok { IfOk result (λ found. HasRecords bytes.now found.all.now) }
     ensures good { (records : List (List ℕ)) → HasRecords bytes.now records → IsOk result }

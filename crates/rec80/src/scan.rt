@@ -1,4 +1,4 @@
-//! Where a comment and a list in parentheses come to their end.
+//! Where a comment or a list in parentheses ends.
 ghost use Rattle.std.specs.Prelude.{◌≡◌, ◌<◌, ◌&&◌, ◌==◌, ◌∷◌, ◌++◌, false, slice_index};
 ghost use Rattle.std.specs.Prelude.{is_some, MatchOption, IfSome, Some, None};
 ghost use Rattle.terms.specs.Statement.{behind_close, behind_list};
@@ -7,7 +7,7 @@ ghost use Rattle.rec80.specs.Cursors.{rest_of, IsAhead, text_of};
 use crate::cursor::Cursor;
 use crate::text::Text;
 
-/// The place behind two bytes, where this byte and the next one are these two.
+/// The place after two bytes, if these are the given two.
 pub fn behind_both<'a>(byte: u8, next: &Cursor<'a>, first: u8, second: u8) -> Option<Cursor<'a>>
     requires { 0 < second }
     ensures found { is_some result ≡ (byte == first && slice_index (rest_of next.now) 0 == second) }
@@ -21,7 +21,7 @@ pub fn behind_both<'a>(byte: u8, next: &Cursor<'a>, first: u8, second: u8) -> Op
     if other == second { Some(after) } else { None }
 }
 
-/// The place behind the first `*/`.
+/// The place after the first `*/`.
 #[tactic(auto, using(crate::proofs::Places::ahead_trans))]
 pub fn behind_comment<'a>(inside: &Cursor<'a>) -> Option<Cursor<'a>>
     ensures end { MatchOption result (behind_close (rest_of inside.now) ≡ None)
@@ -38,7 +38,7 @@ pub fn behind_comment<'a>(inside: &Cursor<'a>) -> Option<Cursor<'a>>
     None
 }
 
-/// The text up to the parenthesis that closes it, and the place behind that. None: it is not closed, or a third one
+/// The text up to the parenthesis that closes it, and the place after that. None if it is not closed, or if a third one
 /// opens.
 pub fn behind_parens<'a>(inside: &Cursor<'a>) -> Option<(Text<'a>, Cursor<'a>)>
     ensures end { MatchOption result (behind_list false (rest_of inside.now) ≡ None)

@@ -10,7 +10,7 @@ use crate::member::Member;
 use crate::operand_errors::BadOperand;
 use crate::words::Word;
 
-/// Whether an operand that has no list is there. The error comes where it has one.
+/// Whether there is an operand of that name, which has no list. Returns an error if it has one.
 pub fn flag(found: &Option<Word<'_>>) -> Result<bool, BadOperand>
     ensures ok { IfOk result (λ flag. HasFlag (option_map word_of found.now) flag) }
     ensures bad { OnErr result ((flag : Bool) → HasFlag (option_map word_of found.now) flag → ⊥) }
@@ -50,7 +50,7 @@ fn one_member<'a>(word: &Word<'a>) -> Option<&'a [u8]>
     Some(member.word)
 }
 
-/// The value that is all there is in the word's list.
+/// The value that is the only member of the word's list.
 pub fn one<T: Member>(word: &Word<'_>) -> Option<T>
     ensures one { IfSome result (λ value. HasOwn T.form (word_of word.now).list (T.text value)) }
     ensures none { IfNone result ((value : List ℕ) → HasOwn T.form (word_of word.now).list value → ⊥) }
@@ -61,7 +61,7 @@ pub fn one<T: Member>(word: &Word<'_>) -> Option<T>
     T::read(member)
 }
 
-/// The value of an operand that must be there.
+/// The value of an operand that must be present.
 pub fn required<T: Member>(words: &[Word<'_>], name: &[u8]) -> Option<T>
     ensures some { IfSome result (λ value. HasRequired T.form (operand name.now (words_of words.now)) (T.text value)) }
     ensures none { IfNone result ((value : List ℕ)
@@ -73,7 +73,8 @@ pub fn required<T: Member>(words: &[Word<'_>], name: &[u8]) -> Option<T>
     one::<T>(&word)
 }
 
-/// The value of an operand that may be absent. The error comes where it is there, and has no list of one such value.
+/// The value of an operand that may be absent. Returns an error if it is present and has no list of exactly one such
+/// value.
 pub fn optional<T: Member>(words: &[Word<'_>], name: &[u8]) -> Result<Option<T>, BadOperand>
     ensures ok { IfOk result (λ found. HasOptional T.form (operand name.now (words_of words.now))
         (option_map T.text found)) }

@@ -12,7 +12,7 @@ use crate::record_files::Record;
 use crate::walk::inline_behind;
 use crate::words::Words;
 
-/// The place where the records begin, if there are any.
+/// The beginning of the records, if there are any.
 pub fn start<'a>(records: &'a [Record]) -> Option<Cursor<'a>>
     ensures text { IfSome result (λ x. rest_of x ≡ joined records.now) }
     ensures place { IfSome result (λ x. IsIn records.now x) }
@@ -25,9 +25,9 @@ pub fn start<'a>(records: &'a [Record]) -> Option<Cursor<'a>>
     })
 }
 
-/// The words and the inline records of a statement. `NoPeriod` comes where it ends without its period, `OpenComment`
-/// where a comment before that is not closed, `BadParens` where a parenthesis has no partner or a third level opens,
-/// and `TextAfterPeriod` where more than blanks and comments follows the period in its record.
+/// The words and the inline records of a statement. Returns `NoPeriod` if it has no period, `OpenComment` if a comment
+/// before the period is not closed, `BadParens` if a parenthesis has no partner or a third level opens, and
+/// `TextAfterPeriod` if more than blanks and comments follow the period in its record.
 pub fn statement<'a>(group: &Group<'a>) -> Result<Words<'a>, StmtError>
     ensures ok { IfOk result (λ words. (pieces : List Piece) × IsStatement group.now.records.now pieces words.inline.now
         × HasSolid (left_of words) pieces) }

@@ -1,11 +1,11 @@
-//! The text in parentheses, over as many records as it takes.
+//! The text in parentheses, which may run over several records.
 ghost use Rattle.std.specs.Prelude.{◌≡◌, ◌≤◌, [], ◌∷◌, ◌++◌, true, false, length, take, MatchOption};
 ghost use Rattle.rec80.specs.Cursors.{text_of, line_of};
 
 use crate::cursor::{Cursor, columns};
 use crate::record_files::Record;
 
-/// The text in a pair of parentheses. It may run over several records, between which one blank stands.
+/// The text in a pair of parentheses. The records that it runs over are joined by one blank.
 #[derive(Clone, Copy, Debug)]
 pub struct Text<'a> {
     pub(crate) line: &'a [u8],
@@ -14,14 +14,14 @@ pub struct Text<'a> {
 }
 
 impl<'a> Text<'a> {
-    /// What stands in the first record.
+    /// The part in the first record.
     pub fn line(&self) -> &'a [u8]
         ensures { result.now ≡ line_of self.now }
     {
         self.line
     }
 
-    /// The text from the next record on, if it goes on there.
+    /// The text from the next record on, if it continues there.
     pub fn next_line(&self) -> Option<Text<'a>>
         ensures { MatchOption result (text_of self.now ≡ line_of self.now)
             (λ next. text_of self.now ≡ line_of self.now ++ 32 ∷ text_of next) }
@@ -37,7 +37,7 @@ impl<'a> Text<'a> {
         Some(next.text(self.more - 1))
     }
 
-    /// The first byte, and what follows it.
+    /// The first byte, and the text after it.
     pub fn next_byte(&self) -> Option<(u8, Text<'a>)>
         ensures { MatchOption result (text_of self.now ≡ []) (λ x. text_of self.now ≡ x.0 ∷ text_of x.1) }
     {

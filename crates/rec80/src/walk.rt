@@ -1,4 +1,4 @@
-//! Where a statement or a command comes to its end, and what follows it.
+//! Where a statement or a command ends, and what follows it.
 ghost use Rattle.std.specs.Prelude.{◌≡◌, IfOk, IfErr, IsTrue, ℕ, List, false};
 ghost use Rattle.terms.specs.Statement.{IsIdle, Piece};
 ghost use Rattle.rec80.specs.Cursors.{rest_of, IsAhead};
@@ -10,7 +10,7 @@ use crate::error::StmtError;
 use crate::piece::{Stop, behind_gap, solid_piece};
 use crate::record_files::Record;
 
-/// The place behind the gaps that begin here.
+/// The place after the gaps that begin here.
 pub fn behind_gaps<'a>(at: &Cursor<'a>) -> Cursor<'a>
     ensures gaps { SkipsGaps (rest_of at.now) (rest_of result) }
     ensures ahead { IsAhead at.now result }
@@ -22,7 +22,7 @@ pub fn behind_gaps<'a>(at: &Cursor<'a>) -> Cursor<'a>
     place
 }
 
-/// Where the pieces that begin here come to their end, and why.
+/// Where the pieces that begin here end, and why.
 pub fn first_stop<'a>(from: &Cursor<'a>) -> (Cursor<'a>, Stop)
     ensures walks { Walks (rest_of from.now) (rest_of result.0) }
     ensures stop { StopsAt result.1 (rest_of result.0) }
@@ -37,7 +37,7 @@ pub fn first_stop<'a>(from: &Cursor<'a>) -> (Cursor<'a>, Stop)
     }
 }
 
-/// Whether only blanks and whole comments stand in the rest of a record.
+/// Whether the rest of a record has only blanks and whole comments.
 fn is_idle(tail: &[u8]) -> bool
     ensures idle { IsTrue result → IsIdle tail.now }
     ensures text { result ≡ false → IsIdle tail.now → ⊥ }
@@ -49,9 +49,9 @@ fn is_idle(tail: &[u8]) -> bool
     end.is_end()
 }
 
-/// The records behind the one in which the statement ends that begins here. `NoPeriod` comes where it ends without its
-/// period, `OpenComment` where a comment before that is not closed, `BadParens` where a parenthesis has no partner or a
-/// third level opens, and `TextAfterPeriod` where more than blanks and comments follows the period in its record.
+/// The records after the one in which the statement that begins here ends. Returns `NoPeriod` if it has no period,
+/// `OpenComment` if a comment before the period is not closed, `BadParens` if a parenthesis has no partner or a third
+/// level opens, and `TextAfterPeriod` if more than blanks and comments follow the period in its record.
 pub fn inline_behind<'a>(from: &Cursor<'a>) -> Result<&'a [Record], StmtError>
     ensures ok { IfOk result (λ inline. (ps : List Piece) × (tail : List ℕ) × EndsFrom from.now ps tail inline.now
         × IsIdle tail) }

@@ -22,19 +22,19 @@ pub struct Word<'a> {
     pub list: Option<Text<'a>>,
 }
 
-/// A character that stands in no word, or a list without a word before it.
+/// A character that belongs to no word, or a list without a word before it.
 #[derive(Clone, Copy, Debug, PartialEq, Eq, Error)]
 #[error("a stray character, or a list without a word")]
 pub struct NoWord;
 
-/// The words of a statement or a command that are left, and its inline records.
+/// The remaining words of a statement or a command, and its inline records.
 #[derive(Clone, Copy, Debug)]
 pub struct Words<'a> {
     pub(crate) rest: Cursor<'a>,
     pub inline: &'a [Record],
 }
 
-/// The list that begins here, and the place behind it.
+/// The list that begins here, and the place after it.
 fn own_list<'a>(at: &Cursor<'a>) -> Option<(Text<'a>, Cursor<'a>)>
     ensures list { IfSome result (λ x. TakesPiece (rest_of at.now) (TheList (text_of x.0)) (rest_of x.1)) }
     ensures none { IfNone result ((list after : List ℕ) → TakesPiece (rest_of at.now) (TheList list) after → ⊥) }
@@ -47,8 +47,8 @@ fn own_list<'a>(at: &Cursor<'a>) -> Option<(Text<'a>, Cursor<'a>)>
 }
 
 impl<'a> Words<'a> {
-    /// Takes the next word, with its list. Behind the last one there is none. The error comes where a character that
-    /// stands in no word is next, or a list without a word before it, and changes nothing.
+    /// Takes the next word with its list, if there is one. Returns an error, and changes nothing, if a character that
+    /// belongs to no word comes next, or a list without a word before it.
     pub fn next_word(&mut self) -> Result<Option<Word<'a>>, NoWord>
         ensures word { (pieces : List AnyPiece) → HasSolid (left_of self.old) pieces
             → IfOk result (λ found. IfSome found (λ w. (rest : List AnyPiece) × TakesWord pieces (word_of w) rest
@@ -81,7 +81,7 @@ impl<'a> Words<'a> {
         Ok(Some(Word { word, list: None }))
     }
 
-    /// Takes the next word, with its list, or the piece that stands in place of one. Behind the last one there is none.
+    /// Takes the next word with its list, or the piece that is there instead of one, if there is any.
     pub(crate) fn next_operand(&mut self) -> Option<Result<Word<'a>, NoWord>>
         ensures word { (pieces : List AnyPiece) → HasSolid (left_of self.old) pieces
             → IfSome result (λ found. IfOk found (λ w. (rest : List AnyPiece) × TakesWord pieces (word_of w) rest
@@ -104,7 +104,7 @@ impl<'a> Words<'a> {
         Some(Ok(word))
     }
 
-    /// Takes the next word, list or other character. Behind the last one there is none.
+    /// Takes the next word, list or other character, if there is one.
     pub fn next_piece(&mut self) -> Option<Piece<'a>>
         ensures piece { (pieces : List AnyPiece) → HasSolid (left_of self.old) pieces
             → MatchOption result (pieces ≡ []) (λ p. (rest : List AnyPiece) × (pieces ≡ piece_of p ∷ rest)

@@ -19,6 +19,6 @@ abbrev pub open_on : Global → Zone → Id → List OpenError
 open_on g zone x =
     map (λ h. an_open x h.reason) (filter (λ h. not (is_supplied zone h.reason)) (holds_of g Error x))
 
--- those on an entry, if it is applied and superseded by nothing
+-- those on an entry, if it is applied and not superseded
 abbrev pub open_in : Global → Zone → Entry → List OpenError
 open_in g zone e = if is_current e then open_on g zone e.id else []

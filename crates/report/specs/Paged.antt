@@ -1,10 +1,10 @@
--- What went onto a page, and from there to its sink.
+-- What is on a page, and what has gone from there to its sink.
 use Rattle.std.specs.Prelude.{◌≡◌, ℕ, List, ◌++◌, Option, Bool, true, false}
 use Rattle.std.specs.Io.KnownBytes.{Appends, Keeps}
 use Rattle.report.specs.declared.sink.Sink.{Ghosts}
 use Rattle.report.specs.declared.page.Page.{Page}
 
--- which sink it is, what that has taken, and what waits to go there
+-- which sink it is, what that has taken, and what still waits to go there
 pub record Held : Type 0 where
   pub name : ℕ
   pub taken : Option (List ℕ)
@@ -23,17 +23,17 @@ pub record MovedPart (old new : Held) (text : List ℕ) : Type 0 where
   pub text_is : old.waiting ++ text ≡ piece ++ lost
   pub bytes : Appends old.taken new.taken piece
 
--- A sink that had not failed is well, or has failed since.
+-- A sink that had not failed is still well, or has failed since.
 abbrev pub Moves : Held → Held → Bool → List ℕ → Type 0
 Moves old new false text = Moved old new text
 Moves old new true text = MovedPart old new text
 
--- A text was put on a page. A sink that had failed took nothing and stays failed.
+-- A text was put on a page. A sink that had failed took nothing and remains failed.
 abbrev pub Writes : Held → Bool → Held → Bool → List ℕ → Type 0
 Writes old true new failed text = (failed ≡ true) × Keeps old.taken new.taken
 Writes old false new failed text = Moves old new failed text
 
--- the same, and the page has its sink still
+-- the same, and the page still has its sink
 pub record OnPage (old : Held) (had_failed : Bool) (new : Held) (failed : Bool) (text : List ℕ) : Type 0 where
   pub same_reference : new.name ≡ old.name
   pub writes : Writes old had_failed new failed text

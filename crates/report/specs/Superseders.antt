@@ -1,4 +1,4 @@
--- Who names whom in SUP.
+-- Which SYSMODs name which ids in SUP.
 use Rattle.std.specs.Prelude.{Contains}
 use Rattle.std.specs.Ordering.{nat_cmp}
 use Rattle.std.specs.Cmp.Lexicographic.{slice_cmp}

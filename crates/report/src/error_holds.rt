@@ -51,7 +51,7 @@ fn append_holds(
     Ok(())
 }
 
-// Whether it is applied and superseded by nothing.
+// Whether it is applied and not superseded.
 fn is_current(entry: &Entry) -> bool
     ensures { result ≡ is_current entry.now }
 {

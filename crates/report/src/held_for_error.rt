@@ -11,7 +11,7 @@ use sysmods::GlobalZone;
 use terms::CommandWord;
 use zones::{Zone, choose};
 
-// A line for each hold, with what resolves its reason. Where nothing is held, nothing is searched.
+// A line for each hold, with the SYSMODs that resolve its reason. Without holds it searches nothing.
 fn lines_of(
     alloc: Global,
     global: &GlobalZone,
@@ -38,7 +38,7 @@ fn lines_of(
     Ok(lines)
 }
 
-/// REPORT ERRSYSMODS of the zone of this name. An error comes where memory runs out.
+/// REPORT ERRSYSMODS of the zone of this name.
 pub fn errsysmods(
     alloc: Global,
     zone_name: ZoneName,

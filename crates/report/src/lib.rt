@@ -1,9 +1,9 @@
-//! Reports: what commands print, as values and as bytes, and the sinks that take these.
-//! An `Outcome` is a command's lines before they are text. Written, it hands the sink its text, or a beginning of it
-//! where the sink has failed, and answers the highest code of the lines. That takes no memory from the heap: pieces of
-//! lines wait on a page of fixed size, and LIST's lines are made of the zone that its outcome refers to. What REPORT
-//! ERRSYSMODS prints is found here too: the ERROR holds that a zone leaves open, each with the received SYSMODs that
-//! resolve it.
+//! Reports: what commands print, as values and as bytes, and the sinks that take these. An `Outcome` is a command's
+//! lines before they become text. Writing it hands the sink its text, or a beginning of it if the sink fails, and
+//! returns the highest code of the lines. That takes no memory from the heap: pieces of lines wait on a page of fixed
+//! size, and LIST's lines are made from the zone to which its outcome refers. The crate also finds what REPORT
+//! ERRSYSMODS prints: the ERROR holds that a zone leaves open, each with the received SYSMODs that resolve it. Every
+//! call that allocates returns `AllocError` if memory runs out.
 #![tactic(auto)]
 
 mod error_holds;

@@ -1,4 +1,4 @@
-//! Words, and lines that are made of them.
+//! Words, and lines that consist of them.
 ghost use Rattle.std.specs.Prelude.{◌<◌, ◌∷◌, length, map};
 ghost use Rattle.machine.specs.Report.{words_line, list_text};
 ghost use Rattle.report.specs.Paged.{Paged};
@@ -15,18 +15,18 @@ pub(crate) enum LineWord<'a> {
     Of(&'a [u8]),
     /// The word, or `-`.
     Optional(Option<&'a [u8]>),
-    /// The first word where it is so, else the second.
+    /// The first word if it is so, otherwise the second.
     If(bool, &'static [u8], &'static [u8]),
-    /// In so many places, with blanks behind it.
+    /// Padded with blanks to so many places.
     Left(usize, &'a [u8]),
     Number(usize),
-    /// With commas between them, or `-`.
+    /// Joined by commas, or `-`.
     Ids(&'a [Id]),
-    /// With commas between them, or `-`.
+    /// Joined by commas, or `-`.
     Sources(&'a [Source]),
 }
 
-// Ids with commas between them, or `-`.
+// Ids joined by commas, or `-`.
 fn put_ids<W: Sink>(ids: &[Id], page: &mut Page<'_, W>)
     ensures { Paged W.Sink page.old page.new (list_text ids.now) }
 {
@@ -41,7 +41,7 @@ fn put_ids<W: Sink>(ids: &[Id], page: &mut Page<'_, W>)
     }
 }
 
-// Sources with commas between them, or `-`.
+// Sources joined by commas, or `-`.
 fn put_sources<W: Sink>(sources: &[Source], page: &mut Page<'_, W>)
     ensures { Paged W.Sink page.old page.new (list_text sources.now) }
 {

@@ -1,4 +1,4 @@
-//! What commands print, before it is text.
+//! What commands print, before it becomes text.
 
 use fields::{Id, Reason, Source, ZoneName};
 use judge_system::Failure;
@@ -6,7 +6,7 @@ use sysmods::GlobalZone;
 use terms::{CommandCode, CommandWord, HoldKind, IdRefusal, Kind, StatementCode};
 use zones::Zone;
 
-/// The first line of a report. Of SET the boundary is the zone that it names.
+/// The first line of a report. For SET the boundary is the zone that it names.
 #[derive(Clone, Copy, Debug)]
 pub struct Header {
     pub word: CommandWord,
@@ -17,9 +17,9 @@ pub struct Header {
 /// Why a command was refused.
 #[derive(Clone, Copy, Debug)]
 pub enum Refusal {
-    /// `Cm1`: no SET came before it.
+    /// `Cm1`: no SET precedes it.
     NoBoundary,
-    /// `Cm2`: SET names no zone.
+    /// `Cm2`: SET names an undefined zone.
     NoZone,
     /// `Cm3`: the boundary suits other commands.
     WrongKind,
@@ -29,7 +29,7 @@ pub enum Refusal {
     BadHoldFile { number: usize, code: StatementCode },
 }
 
-/// What stands behind the id of a status line.
+/// What follows the id in a status line.
 #[derive(Clone, Copy, Debug)]
 pub enum Place {
     Kind(Kind),
@@ -70,7 +70,7 @@ pub enum ReportLine {
     },
     /// RECEIVE, APPLY or ACCEPT had no status line.
     Nothing,
-    /// An ERROR hold on what is applied, with the ids that resolve it, rising.
+    /// An ERROR hold on an applied SYSMOD, with the ids that resolve it, rising.
     Errsysmod {
         id: Id,
         reason: Reason,
@@ -78,7 +78,8 @@ pub enum ReportLine {
     },
 }
 
-/// What a command prints, or the one line that a faulty command file leaves of its job. LIST prints what it refers to.
+/// What a command prints, or the one line that a bad command file leaves of its job. LIST prints what its outcome
+/// refers to.
 #[derive(Drop)]
 pub enum Outcome<'a> {
     Ran {

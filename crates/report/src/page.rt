@@ -1,4 +1,4 @@
-//! The page that a report is put on, before it goes out.
+//! The page on which a report waits before it goes out.
 ghost use Rattle.std.specs.Prelude.{◌≡◌, ◌<◌, ◌≤◌, [], length, is_err};
 ghost use Rattle.report.specs.Paged.{Paged};
 
@@ -26,8 +26,8 @@ impl<'a, W: Sink> Page<'a, W> {
         }
     }
 
-    /// Puts a piece of a text on the page. Where it has no room left, what waits goes out first; a piece that is longer
-    /// than a page goes out behind it.
+    /// Puts a piece of a text on the page. If it does not fit, what waits goes out first. A piece that is longer than a
+    /// page follows directly.
     pub(crate) fn put(&mut self, piece: &[u8])
         ensures paged { Paged W.Sink self.old self.new piece.now }
         ensures some { 0 < length piece.now → length piece.now ≤ 8192 → 0 < length self.new.waiting.items }

@@ -4,8 +4,7 @@ ghost use Rattle.report.specs.Sent.{Sent};
 
 use crate::sink::{Sink, WriteFault};
 
-/// Writes all of a piece, in as many writes as the sink needs. The error comes where a write fails; a beginning went
-/// out then.
+/// Writes all of a piece, in as many writes as the sink needs. After an error a beginning has gone out.
 pub fn write_all<W: Sink>(piece: &[u8], w: &mut W) -> Result<(), WriteFault>
     ensures sends { Sent W.Sink w.old w.new piece.now }
     ensures after { 0 < length piece.now → W.has_failed w.new ≡ is_err result }
@@ -19,8 +18,8 @@ pub fn write_all<W: Sink>(piece: &[u8], w: &mut W) -> Result<(), WriteFault>
     Ok(())
 }
 
-/// Writes a piece of a text. Whether it went out is told by the sink's next write, since a sink that has failed takes
-/// no more.
+/// Writes a piece of a text. The sink's next write says whether it went out, since a sink that has failed takes no
+/// more.
 pub fn put<W: Sink>(piece: &[u8], w: &mut W)
     ensures { Sent W.Sink w.old w.new piece.now }
 {

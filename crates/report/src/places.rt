@@ -1,4 +1,4 @@
-//! What stands behind the id of a line.
+//! What follows the id in a line.
 ghost use Rattle.std.specs.Prelude.{◌≡◌};
 ghost use Rattle.machine.specs.Receiving.{place_of};
 ghost use Rattle.report.specs.Views.{place_view};

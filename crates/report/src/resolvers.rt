@@ -1,4 +1,4 @@
-//! What resolves a reason: it itself, and all that supersede it.
+//! What resolves a reason: the reason itself, and all SYSMODs that supersede it.
 ghost use Rattle.std.specs.Prelude.{◌≡◌, ◌↔◌, ◌⊎◌, Contains, IfOk, IsTrue};
 ghost use Rattle.terms.specs.Types.{Id as AnId};
 ghost use Rattle.terms.specs.Choice.{sup_of};
@@ -16,7 +16,7 @@ use sysmods::VerChoice;
 /// For each id the SYSMODs that name it in SUP.
 pub(crate) type Superseders = Lists<Id, Id>;
 
-// What the `++VER` of a SYSMOD that counts names in SUP.
+// What the counting `++VER` of a SYSMOD names in SUP.
 fn sup<'a>(vers: &VerChoice<'a>, id: Id) -> &'a [Id]
     ensures { result.now ≡ sup_of (choice vers.now) id }
 {
@@ -26,7 +26,7 @@ fn sup<'a>(vers: &VerChoice<'a>, id: Id) -> &'a [Id]
     }
 }
 
-/// Who names whom in SUP, by the `++VER`s that count.
+/// Which SYSMODs name which ids in SUP, by the `++VER`s that count.
 pub(crate) fn all_superseders(
     alloc: Global,
     vers: &VerChoice<'_>,
@@ -40,7 +40,7 @@ pub(crate) fn all_superseders(
     Ok(all)
 }
 
-/// The received SYSMODs with a `++VER` for the SREL that are the reason or supersede it. Each id is gone through once.
+/// The received SYSMODs with a `++VER` for the SREL that are the reason or supersede it. It goes through each id once.
 pub(crate) fn resolvers(
     alloc: Global,
     vers: &VerChoice<'_>,

@@ -13,13 +13,13 @@ pub struct WriteFault;
 
 /// Takes bytes until a write fails, and none from then on.
 pub trait Sink {
-    /// The bytes taken, where the sink tells them.
+    /// The bytes taken, if the sink reveals them.
     ghost taken: { Self → Option (List ℕ) };
 
     /// Whether a write has failed.
     ghost has_failed: { Self → Bool };
 
-    /// Takes the first bytes of a piece, at least one if it has any, and answers how many. Fails if the write does, and
+    /// Takes the first bytes of a piece, at least one if it has any, and returns how many. Fails if the write does, and
     /// at each call from then on.
     fn write(&mut self, piece: &[u8]) -> Result<usize, WriteFault>
         ensures some { 0 < length piece.now → IfOk result (λ n. 0 < n) }
@@ -30,14 +30,12 @@ pub trait Sink {
         ensures after { has_failed self.new ≡ is_err result };
 }
 
-/// A sink over any writer. It knows of its bytes what the writer says of them; an error, or a write that takes 0 bytes,
-/// is a failure.
-//
-// What no contract says: that a failure was the writer's. Of a write, `Write` of std tells only the bytes that the
-// writer holds, where it tells them at all (`contents`; standard output and standard error do not): nothing relates a
-// writer before and after a write that failed. Where the bytes are told, a piece that was taken is no failure here
-// (`none`), and after a failure the writer is left alone (`still`); but a sink that fails without asking its writer
-// would meet the contract.
+/// A sink over any writer. It knows of its bytes what the writer reveals. An error, or a write that takes 0 bytes, is a
+/// failure.
+// No contract says that a failure was the writer's. `Write` of std reveals only the bytes that the writer holds, and
+// some writers, as standard output, do not even reveal those (`contents`). Nothing relates a writer before and after a
+// write that failed. If the bytes are revealed, a piece that was taken is no failure here (`none`), and after a failure
+// the writer is left alone (`still`). But a sink that fails without asking its writer would meet the contract.
 #[derive(Drop)]
 pub struct Out<W> {
     writer: W,

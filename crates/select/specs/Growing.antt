@@ -1,4 +1,4 @@
--- What GROUP and GROUPEXTEND ask for beside the start.
+-- What GROUP and GROUPEXTEND ask for besides the start.
 use Rattle.std.specs.Prelude.{◌≡◌, ◌⊎◌, ◌++◌, ◌-◌, ◌||◌, ◌&&◌, Bool, not, List, [], ◌∷◌, filter, map, Contains}
 use Rattle.std.specs.Prelude.{IsTrue, slice_get, if◌then◌else◌}
 use Rattle.std.specs.List.{flat_map, list_any}
@@ -15,11 +15,11 @@ use Rattle.sysmods.specs.Namers.{namers_for, function_namers}
 use Rattle.select.specs.Scopes.{Selecting, is_open_in, is_start_in, is_growing_start_in, IsClosed}
 use Rattle.select.specs.Scopes.{needed_in, open_reasons_in, received_vers, vers_in, sups_in, is_for_and_fits}
 
--- y will do for z: it is z, or under GROUPEXTEND supersedes it
+-- y is as good as z: it is z, or under GROUPEXTEND supersedes it
 abbrev pub WillDo : Selecting → Id → Id → Type 0
 WillDo scope y z = (y ≡ z) ⊎ (IsTrue scope.selection.groupextend × Reaches (sups_in scope) y z)
 
--- It is asked for: in every closed pair all that is open and will do for it grows.
+-- It is asked for: in every closed pair all that is open and as good as it grows.
 abbrev pub IsAsked : Selecting → Id → Type 0
 IsAsked scope z =
     (cands growing : Id → Bool) → IsClosed scope cands growing
@@ -29,21 +29,21 @@ IsAsked scope z =
 abbrev pub is_open_among : Selecting → List Id → Id → Bool
 is_open_among scope seen x = is_in seen x && is_open_in scope x
 
--- a candidate, as far as these ids are asked for: one of the start, or one that is asked for and open
+-- a candidate, if these ids are asked for: one of the start, or one that is asked for and open
 abbrev pub taken_up : Selecting → List Id → Id → Bool
 taken_up scope seen x = is_start_in scope x || is_open_among scope seen x
 
--- one that grows, as far as these ids are asked for
+-- one that grows, if these ids are asked for
 abbrev pub has_grown : Selecting → List Id → Id → Bool
 has_grown scope seen x = is_growing_start_in scope x || is_open_among scope seen x
 
--- what a growing one asks for where these are candidates: its needed ids, under GROUPEXTEND its open reasons too
+-- what a growing one asks for if these are candidates: its needed ids, and under GROUPEXTEND its open reasons
 abbrev pub asked_by : Selecting → (Id → Bool) → Id → List Id
 asked_by scope cands x =
     needed_in scope cands x ++ (if scope.selection.groupextend then open_reasons_in scope x else [])
 
--- What is seen is asked for. It has all that the growing ones among the start and those done ask for, and under
--- GROUPEXTEND those that supersede one of those done.
+-- What has been seen is asked for. It includes all that the growing ones among the start and among the finished ones
+-- ask for, and under GROUPEXTEND those that supersede a finished one.
 pub record HasAsked (scope : Selecting) (done seen : List Id) : Type 0 where
   pub sound : (z : Id) → Contains seen z → IsAsked scope z
   pub asked : (x z : Id) → IsTrue (has_grown scope done x) → Contains (asked_by scope (taken_up scope done) x) z
@@ -51,7 +51,7 @@ pub record HasAsked (scope : Selecting) (done seen : List Id) : Type 0 where
   pub over : (y z : Id) → IsTrue scope.selection.groupextend → Contains done z → Contains (sups_in scope y) z
       → Contains seen y
 
--- All of them are asked for: what all growing ones ask for, where all that is asked for and open is a candidate.
+-- All of them are asked for: what all growing ones ask for, if all that is asked for and open is a candidate.
 abbrev pub AreAsked : Selecting → List Id → Type 0
 AreAsked scope seen = HasAsked scope seen seen
 
@@ -95,7 +95,7 @@ stated scope x =
 abbrev pub reasons : Selecting → Id → List Id
 reasons scope x = if scope.selection.groupextend then map (λ h. h.reason) (holds_of scope.global Error x) else []
 
--- what it asks for by itself, as far as these ids are asked for
+-- what it asks for by itself, if these ids are asked for
 abbrev pub own_asked : Selecting → List Id → Id → List Id
 own_asked scope seen x =
     open_fmids scope.zone (fmids_for scope.global scope.zone.srel x)
@@ -107,7 +107,7 @@ own_asked scope seen x =
 abbrev pub fitting_namers : Selecting → List Id → Id → List Ver
 fitting_namers scope seen f = fitting scope (taken_up scope seen) (filter (has_grown scope seen) (namers_in scope f))
 
--- what those ask for by the function: all that a ++VER requires whose FMID it is, and what ++IFs for it do
+-- what those ask for because of the function: all that a ++VER with this FMID requires, and what ++IFs for it require
 abbrev pub asked_by_namers : Selecting → List Id → Id → List Id
 asked_by_namers scope seen f =
     filter (λ z. not (is_supplied scope.zone z))
@@ -115,8 +115,8 @@ asked_by_namers scope seen f =
     (filter (λ v. is_in (at_most_one v.fmid) f) (fitting_namers scope seen f))
     ++ required_for f (fitting_namers scope seen f))
 
--- What comes to be asked for once an open id is: what it asks for by itself, unless it grew from the start, and what
--- others ask for by it, unless it was a candidate from the start.
+-- What is asked for once an open id is: what it asks for by itself, unless it grew from the start, and what others ask
+-- for because of it, unless it was a candidate from the start.
 abbrev pub brought_by : Selecting → List Id → Id → List Id
 brought_by scope seen x =
     if is_growing_start_in scope x then []
@@ -128,7 +128,7 @@ superseders scope z =
     if scope.selection.groupextend then filter (λ y. is_in (sups_in scope y) z)
     (namers_for scope.global.sysmods scope.zone.srel z) else []
 
--- what comes to be asked for once an id is: if it is open, what it brings, and those that supersede it
+-- what is asked for once an id is: if it is open what it brings, and in any case those that supersede it
 abbrev pub next_asked : Selecting → List Id → Id → List Id
 next_asked scope seen z = (if is_open_in scope z then brought_by scope seen z else []) ++ superseders scope z
 

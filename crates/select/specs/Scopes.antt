@@ -1,4 +1,4 @@
--- What an APPLY chooses from and by, and the rules of the candidates over it.
+-- What an APPLY chooses from, by which operands, and the rules for its candidates.
 use Rattle.std.specs.Prelude.{◌&&◌, ◌++◌, Bool, List, []}
 use Rattle.std.specs.Option.{option_map_or}
 use Rattle.std.specs.Str.{bytes_eq}
@@ -8,7 +8,7 @@ use Rattle.terms.specs.Choice.{vers_of, fits}
 use Rattle.terms.specs.Candidates.{is_installable, is_open, is_mass_chosen, is_start, is_growing_start, IsClosedPair}
 use Rattle.terms.specs.Candidates.{needed_ids, open_reasons, sups_for}
 
--- the global zone, the zone that the SYSMODs go to, and the operands that choose among them
+-- the global zone, the zone into which the SYSMODs go, and the operands that choose among them
 pub record Selecting : Type 0 where
   pub global : Global
   pub zone : Zone

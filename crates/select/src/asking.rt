@@ -174,7 +174,7 @@ impl<'a> Asked<'a> {
         self.scope.is_applied(function) || self.has_taken_up(function)
     }
 
-    // Whether it has no FMID, or one that is there.
+    // Whether it has no FMID, or one that is applied or a candidate.
     fn has_fmid_there(&self, ver: &Ver) -> bool
         ensures { result ≡ fits self.now.scope.now.zone (taken_up self.now.scope.now self.now.seen.now.keys) ver.now }
     {
@@ -184,7 +184,7 @@ impl<'a> Asked<'a> {
         }
     }
 
-    // Whether it is for the zone's SREL, and its FMID is there.
+    // Whether it is for the zone's SREL, and its FMID is applied or a candidate.
     fn fits(&self, ver: &Ver) -> bool
         ensures { result
             ≡ is_for_and_fits self.now.scope.now.zone (taken_up self.now.scope.now self.now.seen.now.keys) ver.now }
@@ -203,7 +203,7 @@ impl<'a> Asked<'a> {
             .collect(alloc)
     }
 
-    // What they require by `++IF`s whose function is there.
+    // What they require by `++IF`s whose function is applied or a candidate.
     fn required_by_ifs(&self, alloc: Global, vers: &[&Ver]) -> Result<Vec<Id>, AllocError>
         ensures { IfOk result (λ ids. ids.items
             ≡ reqs_where (is_there self.now.scope.now self.now.seen.now.keys) (flat_map (λ v. v.now.ifs) vers.now)) }
@@ -217,7 +217,7 @@ impl<'a> Asked<'a> {
             .collect(alloc)
     }
 
-    /// What these `++VER`s require: by PRE, by REQ, and by `++IF`s whose function is there.
+    /// What these `++VER`s require: by PRE, by REQ, and by `++IF`s whose function is applied or a candidate.
     pub(crate) fn required_of(&self, alloc: Global, vers: &[&Ver]) -> Result<Vec<Id>, AllocError>
         ensures { IfOk result (λ ids. ids.items
             ≡ flat_map (λ v. v.now.pre) vers.now ++ flat_map (λ v. v.now.req) vers.now

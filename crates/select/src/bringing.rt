@@ -1,5 +1,5 @@
-//! What comes to be asked for once an id is: what it asks for by itself, what those that name it as a function ask for
-//! by it, and those that supersede it.
+//! What is asked for once an id is: what it asks for by itself, what those that name it as a function ask for because
+//! of it, and those that supersede it.
 ghost use Rattle.std.specs.Prelude.{◌≡◌, filter, map, IfOk};
 ghost use Rattle.std.specs.List.{flat_map};
 ghost use Rattle.std.specs.Str.{bytes_eq};
@@ -94,7 +94,8 @@ impl<'a> Asked<'a> {
         self.fitting(alloc, grown.as_slice())
     }
 
-    // What those ask for by the function: all that a `++VER` requires whose FMID it is, and what `++IF`s for it do.
+    // What those ask for because of the function: all that a `++VER` with this FMID requires, and what `++IF`s for it
+    // require.
     fn asked_by_namers(&self, alloc: Global, function: Id) -> Result<Vec<Id>, AllocError>
         ensures { IfOk result (λ found. found.items
             ≡ asked_by_namers self.now.scope.now self.now.seen.now.keys function) }
@@ -107,8 +108,8 @@ impl<'a> Asked<'a> {
         self.scope.unsupplied(alloc, ids.as_slice())
     }
 
-    // What comes to be asked for once the open id is. One that grew from the start has been asked, and one that was a
-    // candidate from the start was there when others were.
+    // What is asked for once the open id is. One that grew from the start has been asked already, and one that was a
+    // candidate from the start was known when others were asked.
     fn brought_by(&self, alloc: Global, id: Id) -> Result<Vec<Id>, AllocError>
         ensures { IfOk result (λ found. found.items ≡ brought_by self.now.scope.now self.now.seen.now.keys id) }
     {
@@ -124,7 +125,7 @@ impl<'a> Asked<'a> {
         Ok(found)
     }
 
-    /// What comes to be asked for once the id is.
+    /// What is asked for once the id is.
     pub(crate) fn next(&self, alloc: Global, id: Id) -> Result<Vec<Id>, AllocError>
         ensures { IfOk result (λ found. found.items ≡ next_asked self.now.scope.now self.now.seen.now.keys id) }
     {

@@ -105,7 +105,7 @@ fn names_none(selection: &Selection) -> bool
     selection.select.is_empty() && selection.group.is_empty()
 }
 
-/// Whether the mass choice is made: a filter is given, or neither SELECT nor GROUP.
+/// Whether the command chooses by mass: it has a filter, or neither SELECT nor GROUP.
 pub(crate) fn has_mass_choice(selection: &Selection) -> bool
     ensures { result ≡ has_mass_choice selection.now }
 {

@@ -1,8 +1,7 @@
-//! What GROUP and GROUPEXTEND ask for beside the start.
-//! The search goes once through the ids that are asked for, open or not, and each brings others. A requisite can have
-//! several premises: that one SYSMOD grows, that the FMID of the `++VER` is a candidate, and that the function of the
-//! `++IF` is. It is asked for when the last of them is met: once a function is a candidate, those that grow and name it
-//! are asked again by the `++VER`s that name it.
+//! What GROUP and GROUPEXTEND ask for besides the start. The search goes once through the ids that are asked for, open
+//! or not, and each brings others. A requisite can have several premises: that one SYSMOD grows, that the FMID of the
+//! `++VER` is a candidate, and that the function of the `++IF` is one. It is asked for when the last of them is met:
+//! once a function is a candidate, those that grow and name it are asked again by the `++VER`s that name it.
 ghost use Rattle.std.specs.Prelude.{◌≡◌, ◌↔◌, [], Contains, IsTrue, IfOk, OnOk};
 ghost use Rattle.std.specs.List.{flat_map};
 ghost use Rattle.terms.specs.Types.{Id as AnId};
@@ -26,7 +25,7 @@ fn see_all(ids: &[Id], seen: &mut IndexSet<Id>) -> Result<(), AllocError>
     Ok(())
 }
 
-// What comes to be asked for once the id is comes in.
+// What is asked for once the id is, is added.
 fn see_next(
     alloc: Global,
     scope: &Selecting,
@@ -64,7 +63,7 @@ fn see_first(
     Ok(())
 }
 
-// What those of the start bring that bring others in.
+// What those of the start ask for that bring others in.
 fn asked_by_start(
     alloc: Global,
     scope: &Selecting,

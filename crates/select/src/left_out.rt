@@ -1,4 +1,4 @@
-//! Why ids that SELECT and GROUP name are no candidates.
+//! Why ids that SELECT and GROUP name are not candidates.
 ghost use Rattle.std.specs.Prelude.{◌≡◌, ◌↔◌, ◌++◌, ◌||◌, not, Some, Contains, IfOk, OnOk, map};
 ghost use Rattle.std.specs.List.{filter_map};
 ghost use Rattle.std.specs.Option.{option_to_list};
@@ -53,7 +53,7 @@ fn push_with_reason(
     Ok(())
 }
 
-// The ids that have a reason, each with it.
+// The ids that have a reason, each with its reason.
 fn with_reasons(
     alloc: Global,
     scope: &Selecting,

@@ -1,4 +1,4 @@
-//! What is open to an APPLY.
+//! What is open for an APPLY.
 ghost use Rattle.std.specs.Prelude.{◌≡◌, ◌&&◌, not, filter, is_some, option_copied, IfOk};
 ghost use Rattle.std.specs.List.{list_any};
 ghost use Rattle.std.specs.Str.{bytes_eq};
@@ -14,7 +14,7 @@ use sysmods::{GlobalZone, has_ver, numbered_ver};
 use sysmods_values::Ver;
 use zones::Zone;
 
-/// What an APPLY chooses from and by.
+/// What an APPLY chooses from, and by which operands.
 #[derive(Drop)]
 pub(crate) struct Selecting<'a> {
     pub(crate) global: &'a GlobalZone,

@@ -78,7 +78,7 @@ fn received_ids(alloc: Global, global: &GlobalZone) -> Result<Vec<Id>, AllocErro
     Ok(ids)
 }
 
-// The ids that may be in the start: those named, or all received ones where the mass choice is made.
+// The ids that may be in the start: those named, or all received ones if the command chooses by mass.
 fn ids_in_question(alloc: Global, scope: &Selecting) -> Result<Vec<Id>, AllocError>
     ensures { IfOk result (λ ids. (x : AnId) → IsTrue (is_start_in scope.now x) → Contains ids.items x) }
 {
@@ -98,7 +98,7 @@ fn among(alloc: Global, scope: &Selecting, ids: &[Id]) -> Result<Vec<Id>, AllocE
         .collect(alloc)
 }
 
-/// The open ids that the mass choice, SELECT or GROUP names. Some may stand twice.
+/// The open ids that the mass choice, SELECT or GROUP names. Some may occur twice.
 pub(crate) fn start(alloc: Global, scope: &Selecting) -> Result<Vec<Id>, AllocError>
     ensures { IfOk result (λ start. (x : AnId) → Contains start.items x ↔ IsTrue (is_start_in scope.now x)) }
 {

@@ -1,4 +1,4 @@
--- By which edits the tables follow, and what the calls of the global zone answer.
+-- The edits by which the tables follow, and what the calls of the global zone return.
 use Rattle.std.specs.Prelude.{◌≡◌, List, [], ◌∷◌, map, Option, None, Some, option_map, Result, Ok, Err, Vec}
 use Rattle.std.specs.declared.alloc.Global.{Global as AnyGlobal}
 use Rattle.terms.specs.declared.kinds.HoldKind.{HoldKind}
@@ -23,7 +23,7 @@ IsOfReject (RemoveSysmod x) = Unit {0}
 IsOfReject (RemoveHold x kind reason) = Unit {0}
 IsOfReject _ = ⊥
 
--- what RECEIVE answers of a SYSMOD, unless memory runs out
+-- what RECEIVE returns for a SYSMOD, unless memory runs out
 abbrev pub answer_of : Global → Result (Unit {0}) Refused → Option (Result Global rule.ReceiveFault)
 answer_of new (Ok done) = Some (Ok new)
 answer_of new (Err why) = option_map (λ fault. Err fault) (fault_of why)
@@ -38,17 +38,17 @@ AreEditsOf s edits =
 abbrev pub head_of : Sysmod → Sysmod
 head_of s = record s { vers = []; changes = []; holds = [] }
 
--- what writes the sources of a SYSMOD that is received
+-- the edits that write the sources of a received SYSMOD
 abbrev pub source_edits : Option Sysmod → List GlobalEdit
 source_edits None = []
 source_edits (Some s) = ReplaceSources (head_of s) ∷ []
 
--- what a release answers
+-- what a release returns
 abbrev pub release_answer : Global → Result (Unit {0}) ReleaseError → Result Global rule.ReleaseFault
 release_answer new (Ok done) = Ok new
 release_answer new (Err why) = Err (release_fault why)
 
--- what removes a hold that is released
+-- the edit that removes a hold that is released
 abbrev pub release_edits : Id → HoldKind → Text → Result (Unit {0}) ReleaseError → List GlobalEdit
 release_edits x kind reason (Ok done) = RemoveHold x kind reason ∷ []
 release_edits x kind reason (Err why) = []

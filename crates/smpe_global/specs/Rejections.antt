@@ -1,4 +1,4 @@
--- What the ids make of the global zone, and by which edits the tables follow.
+-- How the ids change the global zone, and by which edits the tables follow.
 use Rattle.std.specs.Prelude.{◌≡◌, List, [], ◌∷◌, ◌++◌, map, filter, All}
 use Rattle.std.specs.List.{list_any}
 use Rattle.indexmap.specs.IndexMap.{IndexMap, values}
@@ -17,7 +17,7 @@ use Rattle.sysmods.specs.declared.edit.GlobalEdit.TheVariants.{RemoveHold, Remov
 use Rattle.sysmods.specs.Edits.{after_edits}
 use Rattle.smpe_global.specs.Edits.{IsOfReject}
 
--- Some zone of the map has an id applied just where one of the named zones has.
+-- Some zone of the map has an id applied exactly if one of the named zones has.
 abbrev pub AppliesAlike : {S : Type 0} → IndexMap Text Zone S → List NamedZone → Type 0
 AppliesAlike zones named = (x : Id) → list_any (λ z. is_applied z.zone x) named ≡ list_any (λ zone. is_applied zone x)
     (values zones)
@@ -29,7 +29,7 @@ removal h = RemoveHold h.id h.kind h.reason
 abbrev pub edits_of : Global → Id → List GlobalEdit
 edits_of g x = RemoveSysmod x ∷ map removal (filter (λ h. h.internal) (holds_of g System x))
 
--- The id is rejected or refused, and the edits, behind those before, are REJECT's and lead where it does, whatever
+-- The id is rejected or refused. The edits, after those before, are REJECT's and lead to the same zone, whatever
 -- SYSMODs state.
 pub record IsAnswered {S : Type 0} (zones : IndexMap Text Zone S) (g : Global) (x : Id) (new : Global)
     (edits later : List GlobalEdit) (status : Status) : Type 0 where
@@ -48,7 +48,7 @@ pub record AreRejected {S : Type 0} (zones : IndexMap Text Zone S) (g : Global) 
   pub rejects : All IsOfReject edits
   pub after : (stated : Global) → after_edits stated edits g ≡ new
 
--- One id, behind what was written and printed before.
+-- One id, after what was written and printed before.
 pub record IsRejected {S : Type 0} (zones : IndexMap Text Zone S) (g : Global) (x : Id) (new : Global)
     (edits later : List GlobalEdit) (lines printed : List ReportLine) : Type 0 where
   pub own : List GlobalEdit

@@ -1,4 +1,4 @@
--- What items make of the global zone, and what is written and printed of them.
+-- How items change the global zone, and what is written and printed about them.
 use Rattle.std.specs.Prelude.{◌≡◌, List, ◌++◌, map, All}
 use Rattle.terms.specs.Types.{Global}
 use Rattle.machine.specs.Outcome as machine
@@ -9,9 +9,9 @@ use Rattle.sysmods.specs.Edits.{StatesThose, EachFits, after_edits}
 use Rattle.smpe_global.specs.declared.taken.Taken.{Taken}
 use Rattle.smpe_global.specs.Edits.{IsOfReceive}
 
--- The global zone g has become new, in which what SYSMODs state stays, and of that these lines are printed. The edits
--- are RECEIVE's. Over any global zone in which what those of new state stands, they fit and lead there too. Edits and
--- lines stand behind those that were there.
+-- The global zone g has become new, in which the statements of SYSMODs stay, and these lines are printed about it. The
+-- edits are RECEIVE's. Over any global zone that contains the statements of those of new, they fit and lead there too.
+-- Edits and lines follow those that were there.
 pub record IsTaken (Prints : Global → List machine.Line → Type 0) (g new : Global) (was is : Taken) : Type 0 where
   pub own : List GlobalEdit
   pub edits_are : is.edits.items ≡ was.edits.items ++ own

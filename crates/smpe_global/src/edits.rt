@@ -7,7 +7,7 @@ use std::alloc::{AllocError, Global};
 use sysmods::GlobalEdit;
 use sysmods_values::Sysmod;
 
-/// What writes a SYSMOD that is received and its holds.
+/// The edits that write a received SYSMOD and its holds.
 pub(crate) fn edits_of(alloc: Global, sysmod: &Sysmod) -> Result<Vec<GlobalEdit>, AllocError>
     ensures { IfOk result (λ edits. AreEditsOf sysmod.now edits.items) }
 {

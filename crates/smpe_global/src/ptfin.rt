@@ -105,8 +105,8 @@ fn take_items(
     Ok(())
 }
 
-/// Takes the items in, in their order, and adds the source to each SYSMOD that is received. The error comes where
-/// memory runs out, and the global zone may have some of them then.
+/// Takes the items in, in their order, and adds the source to each SYSMOD that is received. After an error the global
+/// zone may have some of them.
 pub fn receive(
     alloc: Global,
     global: &mut GlobalZone,

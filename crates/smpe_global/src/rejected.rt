@@ -21,7 +21,7 @@ use sysmods::{GlobalEdit, GlobalZone};
 use terms::IdRefusal;
 use zones::Zone;
 
-/// What a REJECT writes, the first edit first, and its lines.
+/// What a REJECT writes, in order, and its lines.
 #[derive(Drop)]
 pub struct Rejected {
     pub edits: Vec<GlobalEdit>,
@@ -73,8 +73,7 @@ fn reject_one(
     Ok(())
 }
 
-/// Rejects the ids, in their order, each unless it is applied in one of the zones. The error comes where memory runs
-/// out, and some may be gone then.
+/// Rejects the ids, in their order, each unless it is applied in one of the zones. After an error some may be gone.
 pub fn reject(
     alloc: Global,
     global: &mut GlobalZone,

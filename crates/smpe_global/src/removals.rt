@@ -25,7 +25,7 @@ fn append_hold_removals(
     Ok(())
 }
 
-/// Appends what takes a SYSMOD and the internal holds on it out of the tables.
+/// Appends the edits that remove a SYSMOD and the internal holds on it from the tables.
 pub(crate) fn write_rejected(
     edits: &mut Vec<GlobalEdit>,
     global: &GlobalZone,

@@ -5,7 +5,7 @@ use report::ReportLine;
 use std::alloc::Global;
 use sysmods::GlobalEdit;
 
-/// What a RECEIVE writes, the first edit first, and its lines.
+/// What a RECEIVE writes, in order, and its lines.
 #[derive(Drop)]
 pub struct Taken {
     pub edits: Vec<GlobalEdit>,

@@ -1,4 +1,4 @@
-//! Rows that stand for no state, under jobs and under the definition of a zone: what was reported is there, and every
+//! Rows that stand for no state, under jobs and under the definition of a zone: what was reported is stored, and every
 //! other row is as it was.
 
 use crate::checked::CHECKED;
@@ -12,7 +12,7 @@ use store::Store;
 use store_schema::StoreError;
 use terms::ZoneKind;
 
-/// Statements, behind each of which the rows of the global zone stand for none. A job meets them as it begins, and the
+/// Statements; after each of them the rows of the global zone stand for none. A job meets them as it begins, but the
 /// definition of a zone does not.
 const GLOBAL: &[&str] = &[
     "UPDATE sysmod SET kind = 'function'",
@@ -25,14 +25,14 @@ const GLOBAL: &[&str] = &[
     "INSERT INTO hold (id, kind, reason, fmid, internal) VALUES ('UA00024', 'USER', 'mine', 'HAA1100', 0)",
 ];
 
-/// The same of the target zone, which a SET meets.
+/// The same for the target zone, which a SET meets.
 const TARGET: &[&str] = &[
     "UPDATE entry SET date = '24.000'",
     "UPDATE zelem SET fmid = ''",
     "INSERT INTO chosen (zone, id, n) VALUES ('TGT1', 'UA00024', 2)",
 ];
 
-/// The same of the zones, which a SET and the definition of a zone meet.
+/// The same for the zones, which a SET and the definition of a zone meet.
 const ZONES: &[&str] = &[
     "UPDATE zone SET kind = 'TARGET' WHERE name = 'TGT1'",
     "UPDATE zone SET related = NULL WHERE name = 'TGT1'",
@@ -84,7 +84,7 @@ fn run<S: Alter>(conn: &mut Connection<S>, sql: &str) -> Result<(), Fail> {
     Ok(())
 }
 
-/// A database in which the function is installed, and then a row is spoilt.
+/// A database in which the function is installed and then one row is damaged.
 fn spoilt<S: Alter + Drop>(
     alloc: Global,
     conn: Connection<S>,
@@ -123,7 +123,7 @@ fn run_job_over<S: Alter>(alloc: Global, store: &mut Store<S>, wanted: &str) -> 
     }
 }
 
-/// Defines a zone, which must be so, or must end by `Sf3`.
+/// Defines a zone, which must succeed, or must end by `Sf3`.
 fn define_over<S: Alter>(store: &mut Store<S>, is_defined: bool) -> Result<(), Fail> {
     let name = zone_name(b"NEW1")?;
     let srel = Srel::read(b"Z038").ok_or("no SREL")?;
@@ -140,7 +140,7 @@ fn define_over<S: Alter>(store: &mut Store<S>, is_defined: bool) -> Result<(), F
 enum Act {
     /// The job, which must report this and then end by `Sf3`.
     Run(&'static str),
-    /// The definition of a zone, which must be so, or must end by `Sf3`.
+    /// The definition of a zone, which must succeed, or must end by `Sf3`.
     Define(bool),
 }
 
@@ -151,7 +151,7 @@ fn act_on<S: Alter>(alloc: Global, store: &mut Store<S>, act: Act) -> Result<(),
     }
 }
 
-/// All rows behind it.
+/// All rows after it.
 fn rows_behind<S: Alter + Drop>(
     alloc: Global,
     conn: Connection<S>,
@@ -163,7 +163,7 @@ fn rows_behind<S: Alter + Drop>(
     lines_of(alloc, &mut store.close(), &TABLES)
 }
 
-/// Behind each of these edits it leaves the rows as these statements do.
+/// After each of these edits it leaves the rows as these statements do.
 fn check_each(alloc: Global, edits: &[&str], act: Act, written: &[&str]) -> Result<(), Fail> {
     for bad in edits {
         let got = rows_behind(alloc, in_memory(alloc)?, bad, act)?;

@@ -1,4 +1,4 @@
-//! A job that commits twice, and after how many of the two the zones are as they are found.
+//! A job that commits twice, and after how many of the two commits the zones are as they are found.
 
 use smpe::JobError;
 use smpe_play::{FIX, JOB, JobStep, compare, opened, run_step};
@@ -80,7 +80,7 @@ pub(crate) fn commits_of(commands: usize) -> usize {
     }
 }
 
-/// A failure where this is no beginning of the whole report.
+/// A failure if this is not a beginning of the whole report.
 pub(crate) fn is_beginning(report: &[u8]) -> Result<(), Fail> {
     let mut left = report;
     for text in REPORTS {
@@ -111,16 +111,16 @@ pub(crate) fn performed<S: Alter>(
     Err(Fail::from("the zones are those of too few commits"))
 }
 
-/// What a run under a fault came to.
+/// How a run under a fault ended.
 #[derive(Clone, Copy, PartialEq, Eq)]
 pub(crate) enum Ended {
     /// It was not disturbed.
     Well,
-    /// A fault of the store, or want of memory, was told.
+    /// It reported a fault of the store, or that memory ran out.
     Stopped,
 }
 
-/// A job or an opening ends well, or by a fault of the store or want of memory.
+/// A job or an opening succeeds, or ends by a fault of the store or because memory ran out.
 pub(crate) fn stopped_by(error: StoreError) -> Result<Ended, Fail> {
     match error {
         StoreError::Fault | StoreError::Memory => Ok(Ended::Stopped),
@@ -128,7 +128,7 @@ pub(crate) fn stopped_by(error: StoreError) -> Result<Ended, Fail> {
     }
 }
 
-/// Opens the store over the connection, runs the job and appends what it prints; gives the connection back as it is.
+/// Opens the store over the connection, runs the job and appends what it prints. Returns the connection as it is.
 pub(crate) fn run_over<S: Alter + Drop>(
     alloc: Global,
     conn: Connection<S>,
@@ -157,7 +157,8 @@ fn run_in<S: Alter + Drop>(
     Ok((store.close(), how))
 }
 
-/// The zones over the connection, opened again, are those after a beginning that holds each reported command.
+/// The zones over the connection, opened again, are those after a beginning of the commands that includes each reported
+/// one.
 pub(crate) fn check_found<S: Alter + Drop>(
     alloc: Global,
     conn: Connection<S>,

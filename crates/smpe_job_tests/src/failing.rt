@@ -1,4 +1,4 @@
-//! Disks that fail at some call and come back: what was reported is there, and no command is there in part.
+//! Disks that fail at some call and come back: what was reported is stored, and no command is stored in part.
 
 ghost use Rattle.std.specs.Prelude.{IsTrue};
 
@@ -54,7 +54,7 @@ fn check_on<D: Crash + Drop>(alloc: Global, files: Files<D>) -> Result<Ended, Fa
     Ok(how)
 }
 
-/// The same, where one of the connection's disks fails at the next of so many calls.
+/// The same with one of the connection's disks failing at the next of so many calls.
 fn check_over<D: Crash + Drop>(
     alloc: Global,
     conn: Connection<FileStore<D>>,

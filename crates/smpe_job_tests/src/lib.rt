@@ -1,5 +1,5 @@
 //! First and refused jobs, RECEIVE, REJECT, LIST and REPORT, lists of jobs, disks that fail and come back, rows that
-//! stand for no state, and the program's words and lines. There is no code here but tests.
+//! stand for no state, and the program's words and lines. The crate contains only tests.
 #![tactic(auto)]
 
 #[cfg(test)]

@@ -1,4 +1,4 @@
-//! A connection whose queries may take so many steps: what was reported is there, and no command is there in part.
+//! A connection with a limit on the steps of a query: what was reported is stored, and no command is stored in part.
 
 use crate::checked::{Ended, check_found, run_over};
 use smpe_play::{in_memory, installed, new_files};
@@ -21,7 +21,7 @@ fn run_limited<S: Alter + Drop>(
     Ok(how)
 }
 
-/// The same in memory and over files: it ends well where both do.
+/// The same in memory and over files: whether both succeed.
 fn run_both(alloc: Global, steps: u64) -> Result<Ended, Fail> {
     let how = run_limited(alloc, in_memory(alloc)?, steps)?;
     let on_disks = run_limited(alloc, new_files(alloc)?, steps)?;

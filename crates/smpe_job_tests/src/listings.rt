@@ -66,7 +66,7 @@ fn a_listing_has_what_the_zone_has(rt: HostRuntime) -> Result<(), Fail> {
 }
 
 /// A zone with something in each column: a superseded and a deleted entry, a waived requisite, an update, two types of
-/// elements; and the global zone with a source and with a hold of each mark.
+/// elements. And the global zone with a source and with a hold of each mark.
 const COLUMNS: &[Case] = &[
     Case {
         shows: "a listing has a column for all that a zone knows",

@@ -23,14 +23,14 @@ fn srel(text: &[u8]) -> Result<Srel, Fail> {
     Ok(Srel::read(text).ok_or("no SREL")?)
 }
 
-/// A failure, unless both lists of answers are one.
+/// A failure, unless both lists of answers are the same.
 fn compare_answers(alloc: Global, got: &[Answer], wanted: &[Answer]) -> Result<(), Fail> {
     let got = format!(in alloc; "{got:?}")?;
     let wanted = format!(in alloc; "{wanted:?}")?;
     compare("answers", got.as_bytes(), wanted.as_str())
 }
 
-/// Runs the jobs in one call over new files, and compares what they print and answer.
+/// Runs the jobs in one call over new files, and compares what they print and return.
 fn run(alloc: Global, jobs: &[Job<'_>], wanted: &str, answers: &[Answer]) -> Result<(), Fail> {
     let mut store = opened(alloc, new_files(alloc)?, "jobs in one call")?;
     let mut report = Vec::new(alloc);
@@ -39,7 +39,7 @@ fn run(alloc: Global, jobs: &[Job<'_>], wanted: &str, answers: &[Answer]) -> Res
     compare_answers(alloc, got.as_slice(), answers)
 }
 
-/// Two jobs behind the definitions of three zones.
+/// Two jobs after the definitions of three zones.
 fn define_and_run<'a>(
     alloc: Global,
     receive: &'a [u8],
@@ -105,17 +105,17 @@ fn zones_are_refused(rt: HostRuntime) -> Result<(), Fail> {
     let other_system = srel(b"C150")?;
     let jobs = [
         zone(permanent, ZoneKind::Distribution, system, None),
-        // The name is there, or is GLOBAL.
+        // The name exists already, or is GLOBAL.
         zone(permanent, ZoneKind::Distribution, system, None),
         zone(global, ZoneKind::Distribution, system, None),
-        // There is no related zone, it is missing, or none may be.
+        // There is no related zone, it is missing, or there may be none.
         zone(running, ZoneKind::Target, system, None),
         zone(running, ZoneKind::Target, system, Some(missing)),
         zone(missing, ZoneKind::Distribution, system, Some(permanent)),
         // It has another SREL.
         zone(running, ZoneKind::Target, other_system, Some(permanent)),
         zone(running, ZoneKind::Target, system, Some(permanent)),
-        // It has its target zone already.
+        // It has a target zone already.
         zone(second, ZoneKind::Target, system, Some(permanent)),
     ];
     run(

@@ -6,7 +6,7 @@ use smpe_play::compare;
 use std::alloc::Global;
 use std::test::Fail;
 
-/// Words behind the program's name, with a blank between two, and the values that they ask for.
+/// Words after the program's name, with a blank between two, and the values for which they ask.
 const ASKED: &[(&str, &str)] = &[
     (
         "zone --db F --name DLB1 --kind distribution --srel Z038",
@@ -44,7 +44,7 @@ const ASKED: &[(&str, &str)] = &[
     ("migrate --db F", "F"),
 ];
 
-/// Words that `clap` refuses, or answers itself.
+/// Words that `clap` refuses, or to which it responds itself.
 const CLAP: &[&str] = &[
     "check --srel Z038",
     "check --ptfin P",

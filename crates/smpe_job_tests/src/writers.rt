@@ -1,5 +1,5 @@
-//! A writer that takes so many bytes and no more: what went out is a beginning of the report, and each command before
-//! the one that it was cut in is there, with that one.
+//! A writer that takes so many bytes and no more: what went out is a beginning of the report, and each command up to
+//! the one in which it was cut is stored.
 
 use crate::checked::{AGAIN, CHECKED, REPORTS, commits_of, performed, whole_reports};
 use report::Out;
@@ -11,7 +11,7 @@ use std::io::{self, ErrorKind, Write};
 use std::test::Fail;
 use store::Store;
 
-/// Takes so many bytes, and then none, or answers an error.
+/// Takes so many bytes, and then none, or returns an error.
 #[derive(Drop)]
 struct Cut {
     taken: Vec<u8>,
@@ -90,7 +90,7 @@ fn cut_at<S: Alter + Drop>(
     };
     let answer = run_cut(alloc, &mut store, &mut writer)?;
     compare_cut(wanted, left, writer.taken.as_slice(), answer)?;
-    // The command that the report was cut in is there too.
+    // The command in which the report was cut is stored too.
     let commands = whole_reports(left).saturating_add(1);
     let count = performed(alloc, &mut store, 0)?;
     if count != commits_of(commands) {
@@ -102,7 +102,7 @@ fn cut_at<S: Alter + Drop>(
     Ok(store)
 }
 
-/// The job once more with a sound writer, over a store in which both its commits are made.
+/// The job once more with a sound writer, over a store in which both its commits were made.
 fn again<S: Alter + Drop>(alloc: Global, mut store: Store<S>) -> Result<(), Fail> {
     let mut writer = Cut {
         taken: Vec::new(alloc),

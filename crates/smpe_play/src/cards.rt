@@ -1,14 +1,14 @@
-//! Jobs as text cards, and those that many cases begin with.
+//! Jobs as text cards, and the jobs with which many cases begin.
 
 /// A job, with a card in each line of its files, and what it prints and answers.
 #[derive(Clone, Copy)]
 pub struct JobStep {
-    /// What is done, as a failure says it.
+    /// What is done, in the words of a failure.
     pub name: &'static str,
     pub cntl: &'static str,
     /// SYSMODs, a text for each.
     pub ptfin: &'static [&'static str],
-    /// What stands behind the last record of the PTFIN.
+    /// What follows the last record of the PTFIN.
     pub rest: &'static str,
     pub hold: &'static str,
     pub report: &'static str,
@@ -29,7 +29,7 @@ pub const JOB: JobStep = JobStep {
 /// Jobs one after the other over a new database with two zones.
 #[derive(Clone, Copy)]
 pub struct Case {
-    /// What is so, as a failure says it.
+    /// What is so, in the words of a failure.
     pub shows: &'static str,
     pub steps: &'static [JobStep],
 }
@@ -42,10 +42,10 @@ pub const FUNCTION: &str =
 /// A fix for the first function.
 pub const FIX: &str = "++PTF(UA00024).\n++VER(Z038) FMID(HAA1100).";
 
-/// A job of which something fails.
+/// A job in which something fails.
 pub const FAILING: JobStep = JobStep { code: 8, ..JOB };
 
-/// A job of which a command is refused.
+/// A job in which a command is refused.
 pub const REFUSED: JobStep = JobStep { code: 12, ..JOB };
 
 /// A job that receives SYSMODs.
@@ -84,7 +84,7 @@ pub const FUNCTION_INSTALLED: JobStep = JobStep {
     ..JOB
 };
 
-/// The function comes in and is applied.
+/// The function is received and applied.
 pub(crate) const BEGINNING: &[JobStep] = &[FUNCTION_RECEIVED, FUNCTION_INSTALLED];
 
 pub const RIVAL_RECEIVED: JobStep = JobStep {

@@ -1,4 +1,4 @@
-//! How jobs are run over a store, and what they print is compared.
+//! Running jobs over a store, and comparing what they print.
 
 use fields::{Srel, YyDdd, ZoneName};
 use report::Out;
@@ -9,7 +9,7 @@ use std::test::Fail;
 use store::Store;
 use terms::ZoneKind;
 
-/// The number of the first line of two texts that differs, and the line of each. Behind the end of one stands no line.
+/// The number of the first line in which two texts differ, and the line of each. After the end of one there is no line.
 pub(crate) fn first_difference<'a>(
     got: &'a str,
     wanted: &'a str,
@@ -26,7 +26,7 @@ pub(crate) fn first_difference<'a>(
     (number, None, wanted_lines.next())
 }
 
-/// A failure with this name and the first lines that differ, where the text that was got is not what was wanted.
+/// A failure with this name and the first lines that differ, if the two texts differ.
 pub fn compare(name: &str, got: &[u8], wanted: &str) -> Result<(), Fail> {
     if got == wanted.as_bytes() {
         return Ok(());
@@ -36,7 +36,7 @@ pub fn compare(name: &str, got: &[u8], wanted: &str) -> Result<(), Fail> {
     Err(Fail::new(format_args!("{name}: line {number}: got {got:?}, wanted {wanted:?}")))
 }
 
-/// A card with this text, in which a tab leads to column 73.
+/// A card with this text; a tab leads to column 73.
 fn card(text: &str) -> [u8; 80] {
     let mut card = [b' '; 80];
     let mut column: usize = 0;
@@ -51,7 +51,7 @@ fn card(text: &str) -> [u8; 80] {
     card
 }
 
-/// Appends a card for each line of the text, and none where there is no text. A tab leads to column 73.
+/// Appends a card for each line of the text, or none for an empty text. A tab leads to column 73.
 pub fn put_cards(bytes: &mut Vec<u8>, text: &str) -> Result<(), Fail> {
     if text.is_empty() {
         return Ok(());

@@ -1,5 +1,5 @@
-//! How jobs are played for tests: as text cards against a store in memory and against files on disks in memory, with
-//! what each job prints and answers compared. It has the jobs that many cases begin with.
+//! Playing jobs for tests: as text cards against a store in memory and against files on disks in memory, comparing what
+//! each job prints and returns. It has the jobs with which many cases begin.
 #![tactic(auto)]
 
 mod cards;

@@ -1,4 +1,4 @@
-//! How cases are played, step by step.
+//! Playing cases, step by step.
 
 use crate::cards::{BEGINNING, Case, JobStep};
 use crate::disks::{in_memory, new_files, opened, reopened};
@@ -13,7 +13,7 @@ use std::alloc::Global;
 use std::test::Fail;
 use store::Store;
 
-/// Where a step is played, as a failure says it.
+/// Where a step is played, in the words of a failure.
 #[derive(Clone, Copy)]
 pub struct StepPlace {
     /// What the step's case shows.
@@ -44,7 +44,7 @@ pub fn run_step<S: Alter>(
     Ok(run_printing(alloc, store, &jobs, report))
 }
 
-/// A failure, unless the step printed and answered what it must.
+/// A failure, unless the step printed and returned what it must.
 fn check(step: &JobStep, place: StepPlace, report: &[u8], answers: &[Answer]) -> Result<(), Fail> {
     let code = match answers {
         [Answer::Code(code)] => Some(*code),
@@ -104,7 +104,7 @@ fn play_all<S: Alter, P: Plays>(
     Ok(())
 }
 
-/// Plays a step that stands in no case.
+/// Plays a step that belongs to no case.
 pub fn play<S: Alter>(alloc: Global, store: &mut Store<S>, step: &JobStep) -> Result<(), Fail> {
     let shows = "a step alone";
     step.play_at(alloc, store, StepPlace { shows, disk: "" })
@@ -186,7 +186,7 @@ fn play_closed<P: Plays>(
     Ok(conn)
 }
 
-/// Files in which the function is applied, which were closed and opened again before each job.
+/// Files in which the function is applied, closed and reopened before each job.
 pub fn installed_files(alloc: Global) -> Result<Connection<FileStore<Memory>>, Fail> {
     play_closed(alloc, &[], BEGINNING, "the function is applied")
 }
@@ -261,7 +261,7 @@ fn play_after(alloc: Global, before: &[JobStep], cases: &[Case]) -> Result<(), F
 }
 
 /// Plays each case in memory and on disks in memory: over one store, and over one for each step, for which the files
-/// are closed and opened again. A failure says which step of which case it was, on which disk.
+/// are closed and reopened. A failure says which step of which case it was, and on which disk.
 pub fn play_cases(alloc: Global, cases: &[Case]) -> Result<(), Fail> {
     play_after(alloc, &[], cases)
 }

@@ -1,4 +1,4 @@
--- What APPLY and ACCEPT decide of the candidates of a setting.
+-- What APPLY and ACCEPT decide about the candidates of a setting.
 use Rattle.std.specs.Prelude.{List}
 use Rattle.terms.specs.Types.{Id}
 use Rattle.terms.specs.Tests.{Setting, Fails, IsEligible, AreSurvivors}
@@ -6,7 +6,7 @@ use Rattle.terms.specs.Needs.{Needs, Serves}
 use Rattle.machine.specs.Outcome.{Failure}
 use Rattle.judge_system.specs.Decided.{AreDecided}
 
--- which of them are kept, and why each other one is not; what is needed depends on the survivors
+-- which of them are kept, and why each other one is not; the needs depend on the survivors
 pub record IsDecided (s : Setting) (kept : List Id) (failed : List (Id × Failure)) : Type 0 where
   pub survivors : List Id
   pub are_survivors : AreSurvivors s survivors

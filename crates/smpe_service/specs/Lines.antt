@@ -11,7 +11,7 @@ use Rattle.machine.specs.Restoring.{HasRestoreStatus}
 use Rattle.judge_system.specs.declared.failure.Failure.{Failure}
 use Rattle.judge_system.specs.Views.{failure_view}
 
--- what becomes of an id of the list
+-- the status of an id of the list
 abbrev pub status_in : List Id → List (Id × Failure) → Id → Status
 status_in kept failed x = if is_in kept x then Restored
     else option_map_or (λ f. Failed (failure_view f.1)) (find (λ f. bytes_eq f.0 x) failed) NotApplied

@@ -1,4 +1,4 @@
--- What becomes of ids, before it is lines.
+-- The statuses of ids, before they become lines.
 use Rattle.std.specs.Prelude.{◌≡◌, List, ◌++◌, map, IsPermutation, if◌then◌else◌}
 use Rattle.std.specs.List.Sorted.{IsSortedByKey}
 use Rattle.std.specs.Ordering.{nat_cmp}
@@ -17,7 +17,7 @@ use Rattle.report.specs.Views.{status_view}
 abbrev pub said : Id × reported.Status → Id × Status
 said p = (p.0, status_view p.1)
 
--- the status of a kept id: installed in this kind of zone where it takes effect, else superseded
+-- the status of a kept id: installed in this kind of zone if it takes effect, otherwise superseded
 abbrev pub kept_status : ZoneKind → List Id → Id → Status
 kept_status kind effective x = if is_in effective x then installed_status kind else Superseded
 

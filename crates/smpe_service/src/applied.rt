@@ -33,9 +33,8 @@ pub struct InstallChange {
     pub lines: Vec<ReportLine>,
 }
 
-/// Installs what is selected into the zone, less what BYPASS leaves out of account: APPLY in a target zone, ACCEPT in a
-/// distribution zone, which looks at the related target zone. Whether the command checks alone is its caller's matter.
-/// The error comes where memory runs out.
+/// Installs what is selected into the zone, except for what BYPASS covers: APPLY in a target zone, ACCEPT in a
+/// distribution zone, which also looks at the related target zone. The caller decides whether the command only checks.
 pub fn apply(
     alloc: Global,
     global: &GlobalZone,
@@ -89,7 +88,7 @@ pub fn apply(
     })
 }
 
-// Installs the kept SYSMODs by these `++VER`s. What is known of who is over whom goes on.
+// Installs the kept SYSMODs by these `++VER`s, with the pairs of ids that are known to be over each other.
 fn install_kept(
     alloc: Global,
     vers: &VerChoice<'_>,

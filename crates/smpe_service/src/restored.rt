@@ -23,8 +23,8 @@ pub struct Restored {
     pub lines: Vec<ReportLine>,
 }
 
-/// Takes SYSMODs of the list off the target zone, back to what its distribution zone holds. Whether the command checks
-/// alone is its caller's matter. An error comes where memory runs out.
+/// Takes SYSMODs of the list off the target zone, back to the level of its distribution zone. The caller decides
+/// whether the command only checks.
 pub fn restore(
     alloc: Global,
     global: &GlobalZone,

@@ -14,7 +14,7 @@ use report::{ReportLine, Status, place_of};
 use std::alloc::{AllocError, Global};
 use sysmods::GlobalZone;
 
-/// A line for each id of the list, of which some are kept and some failed.
+/// A line for each id of the list, some of which are kept and some failed.
 pub(crate) fn lines_of(
     alloc: Global,
     global: &GlobalZone,

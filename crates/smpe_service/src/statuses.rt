@@ -1,4 +1,4 @@
-//! What becomes of each id.
+//! The status of each id.
 ghost use Rattle.std.specs.Prelude.{◌≡◌, ◌++◌, map, IfOk, OnOk};
 ghost use Rattle.machine.specs.Installing.{installed_status, not_chosen_status};
 ghost use Rattle.report.specs.Views.{status_view};
@@ -21,7 +21,7 @@ fn installed_status(kind: ZoneKind) -> Status
     }
 }
 
-/// The status of a kept id, of which those take effect that stand in the list.
+/// The status of a kept id; those in the list take effect.
 fn kept_status(kind: ZoneKind, effective: &IdList, id: Id) -> Status
     ensures { status_view result ≡ kept_status kind effective.now id }
 {
@@ -85,8 +85,8 @@ fn push_left_out(
     Ok(())
 }
 
-/// The statuses of all ids that have one: of those that are kept for this kind of zone, of which some take effect, of
-/// those that failed, and of those that were left out.
+/// The statuses of all ids that have one: for this kind of zone those that are kept, some of which take effect, those
+/// that failed, and those that were left out.
 pub(crate) fn statuses(
     alloc: Global,
     kind: ZoneKind,

@@ -1,4 +1,4 @@
--- Where APPLY, ACCEPT and RESTORE run, what they look at, and what they come to before it is committed.
+-- Where APPLY, ACCEPT and RESTORE run, what they look at, and what they decide before the commit.
 use Rattle.std.specs.Prelude.{◌≡◌, Bool, false, List, Option, None, Some, Result, Ok, Err, if◌then◌else◌}
 use Rattle.std.specs.Option.{option_and_then}
 use Rattle.std.specs.Str.{bytes_eq}
@@ -24,12 +24,12 @@ abbrev pub install_command : ZoneKind → Install → Command
 install_command Target i = Apply i
 install_command Distribution i = Accept i
 
--- the zone that it looks at besides: ACCEPT at the related target zone
+-- the other zone at which it looks: ACCEPT at the related target zone
 abbrev pub related_for : ZoneKind → List NamedZone → Text → Option Zone
 related_for Target zones = λ name. None
 related_for Distribution zones = target_of zones
 
--- The session has the zone that the command looks at besides, under this name.
+-- The session has the other zone at which the command looks, under this name.
 pub record HasRelated (s : State) (at : Session) (kind : ZoneKind) (related : Option Text) : Type 0 where
   pub session : IsSessionOf s at
   pub is_related : (name : Text) → s.boundary ≡ Some name
@@ -43,13 +43,13 @@ pub record IsPlace (s : State) (at : Session) (kind : ZoneKind) (name : Text) (z
   pub kind_is : zone.kind ≡ kind
   pub fits : unless_at (at_kind kind s) s ≡ None
 
--- It is this zone, or else the command is refused.
+-- It is this zone, or otherwise the command is refused.
 abbrev pub HasPlace : State → Session → ZoneKind → {V : Type 0} → (V → Text) → (V → Zone) → Result V Refusal → Type 0
 HasPlace s at kind name zone (Ok v) = IsPlace s at kind (name v) (zone v)
 HasPlace s at kind name zone (Err why) = unless_at (at_kind kind s) s ≡ Some (refusal_view why)
 
--- The command changes this zone of the session so and has this outcome. Where it checks alone, the state stays; else a
--- change of a zone is its own.
+-- The command changes this zone of the session in this way and has this outcome. If it only checks, the state stays.
+-- Otherwise a change of a zone is its own.
 pub record ChangesZone (date : Text) (files : Files) (c : Command) (s : State) (at : Session) (name : Text)
     (delta : ZoneDelta) (check : Bool) (outcome : Outcome) : Type 0 where
   pub zone : Zone

@@ -1,4 +1,4 @@
--- What RECEIVE finds in its files, and what it makes of the global zone.
+-- What RECEIVE finds in its files, and how it changes the global zone.
 use Rattle.std.specs.Prelude.{◌≡◌, All, List, ◌++◌, Option, Result, Ok, Err}
 use Rattle.terms.specs.Types.{Text, Global, Item, HoldItem, ReceiveWhat, Receive}
 use Rattle.terms.specs.Ptfin.{IsPtfin}
@@ -14,7 +14,7 @@ use Rattle.sysmods.specs.declared.edit.GlobalEdit.{GlobalEdit}
 use Rattle.sysmods.specs.Edits.{EachFits, after_edits}
 use Rattle.smpe_global.specs.Edits.{IsOfReceive}
 
--- The files have these items, or else RECEIVE is refused so.
+-- The files have these items, or otherwise RECEIVE is refused in this way.
 abbrev pub HasFound : Files → ReceiveWhat → {V : Type 0} → (V → List Item) → (V → List HoldItem) → Result V Refusal
     → Type 0
 HasFound files what items holds (Ok v) =
@@ -23,7 +23,7 @@ HasFound files what items holds (Err why) =
     (s : State) → Takes files s what s (Refused (header_of (Receive what) s.boundary) (refusal_view why))
 
 -- The items of PTFIN, and then those of the hold file, lead from g to new and print these lines. The edits are
--- RECEIVE's, and lead there too, since what SYSMODs state stands in new.
+-- RECEIVE's, and lead there too, since new has the statements of the SYSMODs.
 pub record AreTaken (source : Option Text) (items : List Item) (holds : List HoldItem) (g new : Global)
     (edits : List GlobalEdit) (lines : List Line) : Type 0 where
   pub middle : Global

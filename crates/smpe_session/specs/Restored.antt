@@ -1,4 +1,4 @@
--- The zone that RESTORE looks at besides.
+-- The other zone at which RESTORE looks.
 use Rattle.std.specs.Prelude.{◌≡◌, Option, Some}
 use Rattle.std.specs.Option.{option_and_then}
 use Rattle.std.specs.Str.{bytes_eq}

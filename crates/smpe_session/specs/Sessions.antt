@@ -16,7 +16,7 @@ use Rattle.smpe_session.specs.declared.session.Session.{Session}
 use Rattle.smpe_session.specs.declared.session.Performed.{Performed}
 use Rattle.smpe_session.specs.declared.session.Performed.TheVariants.{Told, Lists}
 
--- The session has the state's global zone and boundary, and zones of the state, among them the one that the boundary
+-- The session has the state's global zone and boundary, and zones of the state, including the one that the boundary
 -- names.
 pub record IsSessionOf (s : State) (at : Session) : Type 0 where
   pub global : at.global ≡ s.global
@@ -26,17 +26,17 @@ pub record IsSessionOf (s : State) (at : Session) : Type 0 where
 
 -- A call began at `old`, and has ended.
 module _ {S : Type 0} (g : Ghosts S) (old at : Held S) (s : State) where
-  -- The job has begun, and the tables stand for what they stood for; or its beginning has failed.
+  -- The job has begun, and the tables stand for what they stood for, or its beginning has failed.
   abbrev pub HasBegun : Result Session StoreError → Type 0
   HasBegun result = ActEnded g old at s Begin
       (λ session. IsSessionOf (record s { boundary = None }) session × Keeps g at s) result
 
-  -- The command is performed, the tables stand for what it led to, and so does the session; or it has failed.
+  -- The command is performed, the tables stand for its result, and so does the session, or it has failed.
   abbrev pub HasPerformed : Session → Text → Files → Command → Result Outcome StoreError → Type 0
   HasPerformed session date files c result = ActEnded g old at s (Perform date files c) (λ outcome. (t : State)
       × Performs date files s c t (outcome_view outcome) × IsSessionOf t session × Keeps g at t) result
 
-  -- So it is; or it is a LIST, before which and after which the state is the same.
+  -- This is so, or it is a LIST, before and after which the state is the same.
   abbrev pub HasDone : Session → Text → Files → Command → Result Performed StoreError → Type 0
   HasDone session date files c (Ok (Told outcome)) = HasPerformed session date files c (Ok outcome)
   HasDone session date files c (Ok (Lists text)) = (c ≡ ListZone text) × IsSessionOf s session × Keeps g at s
@@ -48,7 +48,7 @@ LooksOnly (ListZone text) = Unit {0}
 LooksOnly Report = Unit {0}
 LooksOnly _ = ⊥
 
--- the outcome, where there is one, is told
+-- the outcome, if there is one, is told
 abbrev pub told : Result Outcome StoreError → Result Performed StoreError
 told (Ok outcome) = Ok (Told outcome)
 told (Err error) = Err error

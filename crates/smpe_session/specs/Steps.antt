@@ -1,4 +1,4 @@
--- What a session knows of zones.
+-- What a session knows about zones.
 use Rattle.std.specs.Prelude.{◌≡◌, ◌⊎◌, IsTrue, All, Bool, ◌||◌, IsSome, is_some, List}
 use Rattle.std.specs.Str.{bytes_eq}
 use Rattle.indexmap.specs.IndexMap.{get}
@@ -17,7 +17,7 @@ pub record IsSought (s : State) (at : Session) (name : Text) (answer : Bool) : T
   pub found : answer ≡ is_known s.zones name
   pub here : IsTrue answer → (name ≡ global_name) ⊎ IsSome (get bytes_eq at.zones name)
 
--- The session knows of each name whether there is such a zone, and has those that are there.
+-- The session knows for each name whether there is such a zone, and has those that exist.
 pub record AreSought (s : State) (at : Session) (names : List Text) : Type 0 where
   pub session : IsSessionOf s at
   pub here : All (λ name. IsTrue (is_known s.zones name) → (name ≡ global_name) ⊎ IsSome (get bytes_eq at.zones name))

@@ -11,7 +11,7 @@ use Rattle.store.specs.declared.change.Change.TheVariants.{Zone, Global}
 use Rattle.smpe_session.specs.declared.session.Performed.{Performed}
 use Rattle.smpe_session.specs.declared.session.Performed.TheVariants.{Told, Lists}
 
--- The zone that is changed is the boundary, which the header names.
+-- The zone that changes is the boundary, which the header names.
 abbrev pub IsAtBoundary : Change → Header → Type 0
 IsAtBoundary (Zone name delta) header = header.boundary ≡ Some name
 IsAtBoundary (Global stated edits) header = header.boundary ≡ Some global_name

@@ -1,4 +1,4 @@
-//! Where commands run, and why one can't at this boundary.
+//! Where commands run, and why one cannot run at this boundary.
 ghost use Rattle.std.specs.Prelude.{◌≡◌, None, Some, IfOk, option_copied, option_map};
 ghost use Rattle.std.specs.Option.{option_and_then};
 ghost use Rattle.std.specs.Str.{bytes_eq};
@@ -16,7 +16,7 @@ use report::Refusal;
 use terms::ZoneKind;
 use zones::Zone;
 
-/// Why a command of the global zone can't run at this boundary.
+/// Why a command of the global zone cannot run at this boundary.
 pub(crate) fn unless_global(boundary: Option<ZoneName>) -> Option<Refusal>
     ensures refused { (s : State) → s.boundary ≡ boundary
         → option_map refusal_view result ≡ unless_at (at_global s) s }
@@ -39,7 +39,7 @@ pub(crate) struct BoundaryZone<'a> {
 }
 
 impl Session {
-    /// The zone of the boundary, where it is of this kind.
+    /// The zone of the boundary, if it is of this kind.
     pub(crate) fn place(&self, kind: ZoneKind) -> Result<BoundaryZone<'_>, Refusal>
         ensures named { IfOk result (λ v. self.now.boundary ≡ Some v.name) }
         ensures has { (s : State) → IsSessionOf s self.now → IsInventory (kept s)

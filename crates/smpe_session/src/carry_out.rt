@@ -21,9 +21,9 @@ use store::{Change, Store, StoreError};
 use zones::ZoneDelta;
 
 impl Session {
-    /// The header names the zone. Under CHECK nothing changes. Else its change is made ready and committed, and then
-    /// the session's zone changes, which takes no memory: it is never ahead of the tables. A job whose commit fails
-    /// ends there, and its session with it.
+    /// The header names the zone. Under CHECK nothing changes. Otherwise the change is made ready and committed, and
+    /// then the session's zone changes, which takes no memory. So the session is never ahead of the tables. A job whose
+    /// commit fails ends there, and its session with it.
     pub(crate) fn carry_out<S: Alter>(
         &mut self,
         alloc: Global,
@@ -49,7 +49,7 @@ impl Session {
             return Ok(Outcome::Ran { header, lines });
         }
         let Some(zone) = self.zones.get_mut(&name) else {
-            // What is planned is planned for a zone that the session has.
+            // The plan is for a zone that the session has.
             let refusal = Refusal::WrongKind;
             return Ok(Outcome::Refused { header, refusal });
         };

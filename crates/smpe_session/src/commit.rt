@@ -10,7 +10,7 @@ ghost use Rattle.smpe_session.specs.Uses.{UsesStore};
 use sqlite::Alter;
 use store::{Change, Store, StoreError};
 
-/// Commits what leads from one state to another, and hands this answer back once that is done.
+/// Commits what leads from one state to another, and then returns this answer.
 pub(crate) fn commit_change<S: Alter, T: Drop>(
     store: &mut Store<S>,
     change: &Change<'_>,

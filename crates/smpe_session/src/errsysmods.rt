@@ -1,4 +1,5 @@
-//! REPORT ERRSYSMODS: what in the zone of the boundary is held for error, and what would resolve that.
+//! REPORT ERRSYSMODS: the SYSMODs in the zone of the boundary that are held for error, and what would resolve the
+//! holds.
 ghost use Rattle.std.specs.Prelude.{IfOk};
 ghost use Rattle.terms.specs.Types.{Text, Report};
 ghost use Rattle.machine.specs.State.{State};

@@ -1,4 +1,4 @@
-//! APPLY and ACCEPT: what is selected comes into the zone of the boundary.
+//! APPLY and ACCEPT: the selected SYSMODs go into the zone of the boundary.
 ghost use Rattle.std.specs.Prelude.{◌≡◌, false, IfOk};
 ghost use Rattle.terms.specs.Types.{Install as AnInstall};
 ghost use Rattle.machine.specs.Outcome.{header_of};
@@ -42,8 +42,8 @@ fn header(kind: ZoneKind, boundary: Option<ZoneName>, check: bool) -> Header
 }
 
 impl Session {
-    /// The name of the zone that the command looks at besides, if there is one: ACCEPT at the target zone that names
-    /// the zone of the boundary as its related one. It is loaded.
+    /// The name of the other zone at which the command looks, if there is one: ACCEPT at the target zone whose related
+    /// zone is that of the boundary. The call loads it.
     fn seek_related<S: Alter>(
         &mut self,
         store: &mut Store<S>,

@@ -6,7 +6,7 @@ ghost use Rattle.report.specs.Views.{line_view};
 use report::ReportLine;
 use std::alloc::AllocError;
 
-/// Where there is no line, one that says so.
+/// The lines, or one that says that there is none.
 pub(crate) fn or_nothing(mut lines: Vec<ReportLine>) -> Result<Vec<ReportLine>, AllocError>
     ensures { IfOk result (λ all. map line_view all.items ≡ or_nothing (map line_view lines.items)) }
 {

@@ -1,4 +1,4 @@
-//! LIST: what the zone of the boundary holds.
+//! LIST: the contents of the zone of the boundary.
 ghost use Rattle.terms.specs.Types.{Text, ListZone};
 ghost use Rattle.machine.specs.State.{State};
 ghost use Rattle.machine.specs.Machine.{Files, Performs};
@@ -11,7 +11,8 @@ use report::{Header, Outcome, Refusal};
 use terms::CommandWord;
 
 impl Session {
-    /// The outcome of a LIST, which refers to what the session has in memory. With `text` it has the elements' records.
+    /// The outcome of a LIST, which refers to what the session has in memory. With `text` it includes the elements'
+    /// records.
     pub fn list(&self, text: bool) -> Outcome<'_>
         ensures performs { (s : State) → IsSessionOf s self.now
             → (date : Text) (files : Files) → Performs date files s (ListZone text) s (outcome_view result) }
@@ -36,7 +37,7 @@ impl Session {
         }
         match self.zones.get(&name) {
             Some(zone) => Outcome::Listed { header, zone, text },
-            // The zone of the boundary is always there.
+            // The zone of the boundary always exists.
             None => Outcome::Refused {
                 header,
                 refusal: Refusal::WrongKind,

@@ -1,4 +1,4 @@
-//! RECEIVE: the items of PTFIN and of the hold file come into the global zone.
+//! RECEIVE: the items of PTFIN and of the hold file go into the global zone.
 ghost use Rattle.std.specs.Prelude.{All, IfOk, IfSome, map};
 ghost use Rattle.terms.specs.Types.{Text, Receive};
 ghost use Rattle.terms.specs.Forms.{IsSource};

@@ -17,7 +17,7 @@ pub(crate) struct ReceiveItems {
     pub holds: Vec<HoldItem>,
 }
 
-/// The items of both files, none of one that is not read. A fault of PTFIN comes before one of the hold file.
+/// The items of both files; a file that is not read has none. A fault of PTFIN comes before one of the hold file.
 pub(crate) fn read_files(
     alloc: Global,
     files: &Files<'_>,

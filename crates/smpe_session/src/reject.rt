@@ -1,4 +1,4 @@
-//! REJECT: SYSMODs leave the global zone that no zone has applied.
+//! REJECT: SYSMODs that no zone has applied leave the global zone.
 ghost use Rattle.std.specs.Prelude.{IfOk};
 ghost use Rattle.terms.specs.Types.{Text, Reject};
 ghost use Rattle.machine.specs.Machine.{Files};

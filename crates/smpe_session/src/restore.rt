@@ -1,4 +1,4 @@
-//! RESTORE: SYSMODs go off the target zone of the boundary, back to what its distribution zone holds.
+//! RESTORE: SYSMODs leave the target zone of the boundary, which goes back to the level of its distribution zone.
 ghost use Rattle.std.specs.Prelude.{◌≡◌, false, IfOk};
 ghost use Rattle.terms.specs.Types.{Text, Restore};
 ghost use Rattle.fields.specs.Choices.{restore_list_of};
@@ -20,7 +20,7 @@ use store::{Store, StoreError};
 use terms::{CommandWord, ZoneKind};
 
 impl Session {
-    /// The name of the zone to which that of the boundary is related, if it is to one. It is loaded.
+    /// The name of the zone to which that of the boundary is related, if there is one. The call loads it.
     fn seek_accepted<S: Alter>(
         &mut self,
         store: &mut Store<S>,

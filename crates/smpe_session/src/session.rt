@@ -23,9 +23,9 @@ use sysmods::GlobalZone;
 use terms::ZoneKind;
 use zones::Zone;
 
-/// What a job has in memory of what the tables hold: the global zone, and the zones that its commands have looked at so
-/// far. Those are what a SET has named, what an ACCEPT or RESTORE has looked at besides the zone of the boundary, and
-/// after a REJECT all. And its boundary.
+/// What a job has in memory of the tables: the global zone, its boundary, and the zones at which its commands have
+/// looked so far. These are the zones that a SET has named, other zones at which an ACCEPT or RESTORE has looked, and
+/// after a REJECT all zones.
 #[derive(Drop)]
 pub struct Session {
     pub(crate) global: GlobalZone,
@@ -33,7 +33,7 @@ pub struct Session {
     pub(crate) boundary: Option<ZoneName>,
 }
 
-/// What a command comes to.
+/// The result of a command.
 #[derive(Drop)]
 pub enum Performed {
     /// Its outcome.
@@ -49,8 +49,8 @@ fn told(ended: Result<Outcome<'static>, StoreError>) -> Result<Performed, StoreE
 }
 
 impl Session {
-    /// A job begins: the global zone is loaded, and there is no boundary. `Memory` comes where memory runs out, `Fault`
-    /// where the database fails, and `NoState` where the rows stand for no state.
+    /// Begins a job: it loads the global zone, and there is no boundary. Returns `Memory` if memory runs out, `Fault`
+    /// if the database fails, and `NoState` if the rows stand for no state.
     pub fn begin<S: Alter>(alloc: Global, store: &mut Store<S>) -> Result<Session, StoreError>
         ensures uses { UsesStore S.Store store.old store.new (λ _. ⊥)
             (λ s ended. HasBegun S.Store store.old store.new s ended) result }
@@ -66,9 +66,9 @@ impl Session {
         })
     }
 
-    /// Performs a command, which is committed before it is told of. `Memory` comes where memory runs out, `Fault` where
-    /// the database fails, and `NoState` where a zone is loaded whose rows stand for none. No command of the job may
-    /// follow then: the session's global zone may be ahead of the tables.
+    /// Performs a command and commits it before it returns. Returns `Memory` if memory runs out, `Fault` if the
+    /// database fails, and `NoState` if it loads a zone whose rows stand for none. After an error no command of the job
+    /// may follow: the session's global zone may be ahead of the tables.
     pub fn perform<S: Alter>(
         &mut self,
         alloc: Global,

@@ -19,7 +19,7 @@ use store::{Store, StoreError};
 use terms::CommandWord;
 
 impl Session {
-    /// Whether SET may name it. A zone that it names is loaded once a job.
+    /// Whether SET may name it. A zone that SET names is loaded once in a job.
     pub(crate) fn seek<S: Alter>(
         &mut self,
         store: &mut Store<S>,

@@ -1,4 +1,4 @@
-//! What ACCEPT asks of the related target zone.
+//! What ACCEPT demands of the related target zone.
 
 use smpe_play::{Case, FAILING, JOB, JobStep, RECEIVING, play_installed};
 use std::test::Fail;

@@ -15,9 +15,9 @@ const LEN: u32 = 5_000;
 enum Chain {
     /// Each has the one before it as PRE.
     Back,
-    /// Each has the one behind it as REQ, and the last one the first.
+    /// Each has the next one as REQ, and the last one the first.
     Circle,
-    /// Each has the one behind it as PRE, and the last one what is not received.
+    /// Each has the next one as PRE, and the last one an id that is not received.
     Open,
 }
 
@@ -49,14 +49,14 @@ fn ptfin(alloc: Global, chain: Chain, first: u32) -> Result<Vec<u8>, Fail> {
     Ok(bytes)
 }
 
-/// What is said of each PTF.
+/// What is said about each PTF.
 #[derive(Clone, Copy)]
 enum Said {
     Received,
     Applied,
     /// The first one is held, and all others need the one before them.
     HeldFirst,
-    /// All need the one behind them.
+    /// All need the next one.
     OpenEnd,
 }
 
@@ -90,7 +90,7 @@ fn report(alloc: Global, front: &str, said: Said, first: u32, back: &str) -> Res
 /// A chain that is received with a hold file, and what an APPLY makes of it.
 #[derive(Clone, Copy)]
 struct Links {
-    /// What is so, as a failure says it.
+    /// What is so, in the words of a failure.
     shows: &'static str,
     chain: Chain,
     hold: &'static str,

@@ -1,4 +1,4 @@
-//! Bytes and statements that no reader may take.
+//! Bytes and statements that no reader may accept.
 
 use smpe_play::{Case, JobStep, RECEIVE, REFUSED, play_cases};
 use std::test::Fail;

@@ -1,5 +1,5 @@
-//! Jobs of APPLY, ACCEPT and RESTORE, line by line; hostile files, and long chains of SYSMODs. There is no code here
-//! but tests.
+//! Jobs of APPLY, ACCEPT and RESTORE, line by line; hostile files, and long chains of SYSMODs. The crate contains only
+//! tests.
 #![tactic(auto)]
 
 #[cfg(test)]

@@ -1,4 +1,4 @@
-//! A list that is too long, and a zone of 1,000 entries and 1,000 elements, of which one PTF changes one row.
+//! A list that is too long, and a zone of 1,000 entries and 1,000 elements, in which one PTF changes one row.
 
 use crate::generated::run_job;
 use smpe_play::{
@@ -18,7 +18,7 @@ fn put_ids(alloc: Global, bytes: &mut Vec<u8>, count: u32) -> Result<(), Fail> {
     Ok(())
 }
 
-/// A PTF whose `++VER` is good but for its PRE of 1,001 ids.
+/// A PTF whose `++VER` is good except for its PRE of 1,001 ids.
 fn long_list(alloc: Global) -> Result<Vec<u8>, Fail> {
     let mut bytes = card_file(alloc, "++PTF(UA00001).\n++VER(Z038) FMID(HAA1100) PRE(")?;
     put_ids(alloc, &mut bytes, 1_001)?;
@@ -68,7 +68,7 @@ fn many(alloc: Global) -> Result<Vec<u8>, Fail> {
     Ok(bytes)
 }
 
-/// A report of these first lines, and what is said of each PTF.
+/// A report of these first lines, and what is said about each PTF.
 fn said(alloc: Global, front: &str, word: &str) -> Result<String, Fail> {
     let mut text = String::new(alloc);
     text.push_str(front)?;

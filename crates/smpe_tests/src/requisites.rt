@@ -1,4 +1,4 @@
-//! Requisites that are open, bypassed, mutual, and those of an `++IF`.
+//! Requisites that are open, bypassed or mutual, and those of an `++IF`.
 
 use smpe_play::{Case, FAILING, JOB, JobStep, LISTING, RECEIVING, play_installed};
 use std::test::Fail;

@@ -5,7 +5,7 @@ use smpe_play::{
 };
 use std::test::Fail;
 
-// The fix requires one that is not there where it serves the second function.
+// The fix requires one that is not received if it serves the second function.
 const FOR_BOTH_RECEIVED: JobStep = JobStep {
     name: "a second function comes in, and a fix for both",
     ptfin: &[
@@ -125,8 +125,8 @@ const FOR_THREE_RECEIVED: JobStep = JobStep {
     ..RECEIVING
 };
 
-/// Where none of the functions is applied: the first counts where none is a candidate; GROUP brings in all three, and
-/// with them what all three require; a candidate alone decides.
+/// If none of the functions is applied, the first one counts as long as none is a candidate. GROUP brings in all three,
+/// and with them what all three require. A candidate alone decides.
 const BEFORE: JobStep = JobStep {
     name: "the fix is looked at before any function is applied",
     cntl: "SET BDY(TGT1).\nAPPLY SELECT(UA00050) CHECK.\nAPPLY GROUP(UA00050) CHECK.\n\
@@ -139,8 +139,8 @@ const BEFORE: JobStep = JobStep {
     ..FAILING
 };
 
-/// Where the third is: GROUP brings in what it requires, and no other function; FORFMID takes by any FMID; an `++IF`
-/// is that of its own `++VER`.
+/// If the third one is applied, GROUP brings in what it requires, and no other function. FORFMID selects by any FMID.
+/// An `++IF` belongs to its own `++VER`.
 const BESIDE_THE_THIRD: JobStep = JobStep {
     name: "the fix is looked at beside the third function",
     cntl: "SET BDY(TGT1).\nAPPLY SELECT(HFF1400).\nAPPLY GROUP(UA00050) CHECK.\n\

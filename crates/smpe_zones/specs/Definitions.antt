@@ -52,7 +52,7 @@ pub record HasCourse {S U : Type 0} (g : Ghosts S) (old new : Held S) (d : ZoneD
   pub done : OnOk result (CommitsOnce g old new (NewZone d.name d.kind d.srel d.related) result)
   pub refused : IsTrue (is_refused result) → OnlyLoads g old new
 
--- how an error of the store is told
+-- the definition's error for an error of the store
 abbrev pub zone_error : StoreError → ZoneError
 zone_error store.Memory = Memory
 zone_error error = Store error

@@ -15,17 +15,17 @@ use Rattle.store.specs.View.{TablesIfOpen, Leaves}
 use Rattle.store.specs.declared.change.Change.{Change}
 use Rattle.smpe_zones.specs.Kept.{kept, Keeps, IsAfter, LeadsOn}
 
--- A moment of a store and a later one. Where the disk is clean at the later one, it was clean before; no failure of the
+-- A moment of a store and a later one. If the disk is clean at the later one, it was clean before. No failure of the
 -- disk is forgotten, and the limit on steps is the same.
 pub record Follows {S : Type 0} (g : Ghosts S) (old new : Held S) : Type 0 where
   pub clean : HasCleanDisk (state g new) → HasCleanDisk (state g old)
   pub faults : (state g old).faults ≤ (state g new).faults
   pub limit : new.step_limit ≡ old.step_limit
 
--- ---- whatever the tables are
+-- ---- whatever the tables hold
 
--- The call has loaded, or made one of its own changes besides, or failed to. Where it tells of no state, by the error
--- `absent`, it has done nothing, and there is none. It never tells of another schema, which would be the error `other`.
+-- The call has loaded, or made one of its own changes besides, or failed to. If it reports no state, by the error
+-- `absent`, it has done nothing, and there is none. It never reports another schema, by the error `other`.
 pub record GoesOnce {S X E : Type 0} (g : Ghosts S) (old new : Held S) (IsMine : Change → Type 0) (absent other : E)
     (result : Result X E) : Type 0 where
   pub follows : Follows g old new
@@ -33,7 +33,7 @@ pub record GoesOnce {S X E : Type 0} (g : Ghosts S) (old new : Held S) (IsMine :
   pub none : HasCleanDisk (state g new) → IsErrOf result absent → FoundNoState g old new
   pub which : ¬ IsErrOf result other
 
--- ---- where the tables stood for a state
+-- ---- if the tables stood for a state
 
 -- The store still keeps the state, but a fault may have shut the connection. A crash leaves the state, or one of
 -- `More`.
@@ -42,7 +42,7 @@ pub record StillKeeps {S : Type 0} (g : Ghosts S) (at : Held S) (s : State) (Mor
   pub crash : Leaves g at (λ c. (c ≡ kept s) ⊎ More c)
 
 -- A call began at `old`, and has ended. `IsMine` says which changes it could make, and `More` what a crash may leave of
--- them where it failed.
+-- them if it failed.
 module _ {S : Type 0} (g : Ghosts S) (old at : Held S) (s : State) (More : Inventory → Type 0)
     (IsMine : Change → Type 0) where
   -- It met a fault. The cause is since its beginning, while the tables stood for the state.
@@ -50,18 +50,18 @@ module _ {S : Type 0} (g : Ghosts S) (old at : Held S) (s : State) (More : Inven
     pub still : StillKeeps g at s More
     pub cause : HasCause g old at (kept s) IsMine
 
-  -- It failed: for want of memory, or by a fault. No other error comes, where the tables stood for a state.
+  -- It failed because memory ran out, or by a fault. If the tables stood for a state there is no other error.
   abbrev pub HasFailed : StoreError → Type 0
   HasFailed Fault = IsFaulted
   HasFailed Memory = StillKeeps g at s More
   HasFailed _ = ⊥
 
-  -- It is done, and this is so of its answer; or it failed.
+  -- It is done, and this is true of its answer, or it failed.
   abbrev pub HasEnded : {X : Type 0} → (X → Type 0) → Result X StoreError → Type 0
   HasEnded IsDone (Ok x) = IsDone x
   HasEnded IsDone (Err error) = HasFailed error
 
--- A load that began at `old` has ended: what it found is so, and the store keeps the state.
+-- A load that began at `old` has ended: this is true of what it found, and the store keeps the state.
 abbrev pub HasLoaded : {S : Type 0} → Ghosts S → Held S → Held S → State → {X : Type 0} → (X → Type 0)
     → Result X StoreError → Type 0
 HasLoaded g old at s Found result = HasEnded g old at s (λ _. ⊥) (λ _. ⊥) (λ x. Found x × Keeps g at s) result
@@ -76,7 +76,7 @@ HasCommitted g old at s t change answer result =
 abbrev pub ActFailed : {S : Type 0} → Ghosts S → Held S → Held S → State → Act → StoreError → Type 0
 ActFailed g old at s a error = HasFailed g old at s (IsAfter s a) (LeadsOn s a) error
 
--- An act is done so, or has failed.
+-- An act is done in this way, or has failed.
 abbrev pub ActEnded : {S : Type 0} → Ghosts S → Held S → Held S → State → Act → {X : Type 0} → (X → Type 0)
     → Result X StoreError → Type 0
 ActEnded g old at s a IsDone result = HasEnded g old at s (IsAfter s a) (LeadsOn s a) IsDone result

@@ -1,4 +1,4 @@
--- The faults of a definition, looked for among the heads of the zones that are there.
+-- The faults of a definition, found among the heads of the existing zones.
 use Rattle.std.specs.Prelude.{◌&&◌, ◌||◌, Bool, false, not, List, length, find, Option, None, Some, is_some}
 use Rattle.std.specs.Prelude.{nat_le, if◌then◌else◌}
 use Rattle.std.specs.List.{list_any}

@@ -1,4 +1,4 @@
--- What a store keeps of the machine's state: all but the boundary.
+-- What a store keeps of the machine's state: all except the boundary.
 use Rattle.std.specs.Prelude.{◌≡◌, List, Some}
 use Rattle.sqlite.specs.Store.{Ghosts}
 use Rattle.sqlite.specs.Held.{Held}

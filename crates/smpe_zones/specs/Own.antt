@@ -12,7 +12,7 @@ abbrev pub IsReceived : Change → Type 0
 IsReceived (Global stated edits) = All IsOfReceive edits.items
 IsReceived _ = ⊥
 
--- one that removes SYSMODs and holds alone
+-- one that only removes SYSMODs and holds
 abbrev pub IsRejected : Change → Type 0
 IsRejected (Global stated edits) = All IsOfReject edits.items
 IsRejected _ = ⊥
@@ -22,7 +22,7 @@ abbrev pub IsOfZone : Change → Type 0
 IsOfZone (Zone name delta) = (zone : AZone) × IsDelta delta × KnowsStood zone delta
 IsOfZone _ = ⊥
 
--- RECEIVE and REJECT change the global zone, and APPLY, ACCEPT and RESTORE another one, unless they check alone. SET,
+-- RECEIVE and REJECT change the global zone, and APPLY, ACCEPT and RESTORE another one, unless they only check. SET,
 -- LIST and REPORT change nothing.
 abbrev pub IsOwnOf : Command → Change → Type 0
 IsOwnOf (Receive what) change = IsReceived change

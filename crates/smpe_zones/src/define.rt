@@ -1,4 +1,4 @@
-//! A zone is defined in the store.
+//! The definition of a zone in the store.
 ghost use Rattle.sqlite.specs.Held.{state};
 ghost use Rattle.sqlite.specs.State.{HasCleanDisk};
 ghost use Rattle.machine.specs.State.{State};
@@ -13,9 +13,9 @@ use std::alloc::Global;
 use store::{Change, Store};
 use terms::ZoneKind;
 
-/// Adds a zone without entries. `Refused` has the first that applies of `NameTaken`, `WrongRelated`, `OtherSrel` and
-/// `TooMany`; `Memory` comes where memory runs out, and `Store` has `Fault` where the database fails, or `NoState`
-/// where the rows of zones stand for none.
+/// Adds a zone without entries. `Refused` is the first that applies of `NameTaken`, `WrongRelated`, `OtherSrel` and
+/// `TooMany`. Returns `Memory` if memory runs out. `Store` is `Fault` if the database fails, or `NoState` if the rows
+/// of zones stand for none.
 pub fn define_zone<S: Alter>(
     store: &mut Store<S>,
     name: ZoneName,

@@ -3,13 +3,14 @@
 use store::StoreError;
 use thiserror::Error;
 
-/// The refusals, in the order in which they are looked for.
+/// The refusals, in the order in which they are checked.
 #[derive(Clone, Copy, Debug, PartialEq, Eq, Error)]
 pub enum ZoneFault {
-    /// The name is there, or is GLOBAL.
+    /// The name exists already, or is GLOBAL.
     #[error("Zn1")]
     NameTaken,
-    /// A target zone wants a distribution zone that is related to none, and a distribution zone wants no related zone.
+    /// A target zone needs a distribution zone to which no other one is related, and a distribution zone has no related
+    /// zone.
     #[error("Zn2")]
     WrongRelated,
     /// The SRELs differ.

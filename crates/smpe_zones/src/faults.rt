@@ -11,7 +11,7 @@ use fields::{Srel, ZoneName};
 use store::ZoneHead;
 use terms::ZoneKind;
 
-// More zones than these can't be defined.
+// No more zones than these can be defined.
 const MOST_ZONES: usize = 64;
 
 fn named(heads: &[ZoneHead], name: ZoneName) -> Option<&ZoneHead>
@@ -86,7 +86,7 @@ fn is_taken(heads: &[ZoneHead], name: ZoneName) -> bool
     name.as_bytes() == b"GLOBAL".as_slice() || named(heads, name).is_some()
 }
 
-/// Why a zone can't be defined among the zones of these heads, if it can't. Its name and its SREL have their forms.
+/// Why a zone cannot be defined among the zones of these heads, if it cannot. Its name and its SREL have their forms.
 pub(crate) fn first_fault(
     heads: &[ZoneHead],
     name: ZoneName,

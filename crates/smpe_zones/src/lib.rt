@@ -1,8 +1,7 @@
-//! The definition of a zone.
-//! `define_zone` leads to the machine's state, or answers the first fault that applies and changes nothing.
-//! After want of memory or a fault of the store, which has a cause, the tables stand for the state before. Whatever the
-//! tables are (`course`), it has loaded, or added this zone besides; a refusal and the answer `NoState` have changed
-//! nothing.
+//! The definition of a zone. `define_zone` leads to the machine's state, or returns the first fault that applies and
+//! changes nothing. If memory runs out or the store fails, which has a cause, the tables stand for the old state.
+//! Whatever the tables hold (`course`), it has loaded, or added this zone besides. A refusal and the answer `NoState`
+//! have changed nothing.
 #![tactic(auto)]
 
 mod define;

@@ -8,7 +8,7 @@ use Rattle.solve.specs.declared.worklist.Board.{Board}
 use Rattle.solve.specs.Parts.{HasEvery, IsWithin, count_of}
 use Rattle.solve.specs.Rows.{row_at, times, one_if}
 
--- a need that nothing serves stands past the end
+-- a need that no number serves is past the end
 abbrev pub need_at : List Need → ℕ → Need
 need_at needs k = slice_index_or needs k (record { of = 0; any = [] })
 
@@ -20,11 +20,11 @@ AreServed needs served = (x k : ℕ) → times k (row_at served x) ≡ times x (
 abbrev pub eligible_in : System → Need → ℕ
 eligible_in p d = count_by (holds p.eligible) d.any
 
--- a candidate that stands, and each strike of it that waits, count as one
+-- a living candidate counts as one, and so does each strike that is still due for it
 abbrev pub weight : List Bool → List ℕ → ℕ → ℕ
 weight standing dropped x = one_if (holds standing x) + times x dropped
 
--- x does not stand any more, and waits for its strikes if it stood
+-- x no longer lives; if it did, its strikes are now due
 pub record IsDrop (x : ℕ) (standing : List Bool) (dropped : List ℕ) (standing' : List Bool) (dropped' : List ℕ) :
     Type 0 where
   pub size : length standing' ≡ length standing
@@ -34,7 +34,8 @@ pub record IsDrop (x : ℕ) (standing : List Bool) (dropped : List ℕ) (standin
   pub total : count_of standing' + length dropped' ≡ count_of standing + length dropped
   pub members : (n : ℕ) → x < n → All (λ y. y < n) dropped → All (λ y. y < n) dropped'
 
--- The strikes still due are on these needs. Of a settled need with no living member the candidate does not stand.
+-- The strikes that are still due are on these needs. The candidate of a settled need with no living member does not
+-- live.
 pub record IsSearch (p : System) (due : List ℕ) (settled : ℕ → Type 0) (standing : List Bool) (living dropped : List ℕ)
     (strikes room : ℕ) : Type 0 where
   pub size : length standing ≡ p.size
@@ -60,6 +61,6 @@ abbrev pub SettledBelow : System → ℕ → Board → Type 0
 SettledBelow p k b = IsSearch p [] (λ j. j < k) b.standing.items b.living.items b.dropped.items b.count.strikes
     b.dropped.cap
 
--- how many candidates stand or wait for their strikes
+-- how many candidates live or have strikes that are still due
 abbrev pub open_in : Board → ℕ
 open_in b = count_of b.standing.items + length b.dropped.items

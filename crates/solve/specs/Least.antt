@@ -1,8 +1,9 @@
--- A set that grows: it holds its start, and by each rule one number more once it holds all that the rule asks for.
+-- A set that grows: it contains its start, and by each rule one more number once it contains all that the rule asks
+-- for.
 use Rattle.std.specs.Prelude.{◌≡◌, ◌<◌, ◌↔◌, ℕ, Bool, not, List, length, map, All, AllPairs, IsTrue}
 use Rattle.solve.specs.System.{System, Need, holds}
 
--- where all of these are in the set, that is
+-- if all of these are in the set, that one is
 pub record Rule : Type 0 where
   pub these : List ℕ
   pub that : ℕ
@@ -18,7 +19,7 @@ pub record IsRule (size : ℕ) (r : Rule) : Type 0 where
   pub rising : AllPairs (λ a b. a < b) r.these
   pub that : r.that < size
 
--- The set holds the start, and what each rule adds to it.
+-- The set contains the start, and what each rule adds to it.
 pub record IsClosed (g : Growth) (set : ℕ → Bool) : Type 0 where
   pub start : (x : ℕ) → IsTrue (holds g.start x) → IsTrue (set x)
   pub rules : All (λ r. All (λ y. IsTrue (set y)) r.these → IsTrue (set r.that)) g.rules
@@ -32,10 +33,10 @@ pub record IsLeast (g : Growth) (flags : List Bool) : Type 0 where
   pub size : length flags ≡ length g.start
   pub members : (x : ℕ) → IsTrue (holds flags x) ↔ IsGrown g x
 
--- a need read as a rule: the candidate is out where all that serve the need are out
+-- a need read as a rule: the candidate is out if all that serve the need are out
 abbrev pub rule_of : Need → Rule
 rule_of d = record { these = d.any; that = d.of }
 
--- what a system's sets leave out grows: it starts with what is not eligible
+-- The numbers outside a system's sets grow: they start with those that are not eligible.
 abbrev pub growth_of : System → Growth
 growth_of p = record { start = map not p.eligible; rules = map rule_of p.needs }

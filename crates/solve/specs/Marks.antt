@@ -19,11 +19,11 @@ AreClear marks = (x : ℕ) → holds marks x ≡ false
 abbrev pub IsListOf : List Bool → List ℕ → Type 0
 IsListOf marks list = (x : ℕ) → times x list ≡ one_if (holds marks x)
 
--- whether a number stands in the list
+-- whether a number is in the list
 abbrev pub is_in : List ℕ → ℕ → Bool
 is_in list x = list_any (λ y. y == x) list
 
--- What a row adds to the marks, and behind the list of the marked.
+-- What a row adds to the marks, and at the end to the list of the marked.
 pub record IsMarked (row : List ℕ) (old new : List Bool) (list more : List ℕ) : Type 0 where
   pub marks : (x : ℕ) → holds new x ≡ (holds old x || is_in row x)
   pub front : take (length list) more ≡ list

@@ -6,7 +6,7 @@ use Rattle.std.specs.declared.alloc.Global.{Global}
 abbrev pub row_at : {X : Type 0} → List (Vec X Global) → ℕ → List X
 row_at rows x = slice_index_or (map (λ row. row.items) rows) x []
 
--- how often a number stands in a list
+-- how often a number occurs in a list
 abbrev pub times : ℕ → List ℕ → ℕ
 times x xs = count_by (λ y. y == x) xs
 

@@ -25,7 +25,7 @@ fn bare_needs(alloc: Global, s: &System) -> Result<Vec<bool>, AllocError>
     Ok(bare)
 }
 
-/// Whether a candidate has failed for a reason of its own: it is not eligible, or nobody serves a need of it.
+/// Whether a candidate has failed for a reason of its own: it is not eligible, or no candidate serves one of its needs.
 fn is_root(s: &System, kept: &[bool], bare: &[bool], x: u32) -> bool
     requires x { x < s.now.size }
     requires kept { length kept.now ≡ s.now.size }
@@ -50,7 +50,7 @@ fn leads_to(alloc: Global, s: &System, kept: &[bool]) -> Result<Vec<Vec<u32>>, A
     Ok(leads)
 }
 
-/// Marks the members of a row, and adds to the list those that were not marked.
+/// Marks the members of a row, and adds those that were not marked to the list.
 fn mark_row(row: &[u32], marks: &mut [bool], list: &mut Vec<u32>) -> Result<(), AllocError>
     requires { All (λ x. x < length marks.old) row.now }
     ensures { OnOk result (IsMarked row.now marks.old marks.new list.old.items list.new.items) }
@@ -64,7 +64,7 @@ fn mark_row(row: &[u32], marks: &mut [bool], list: &mut Vec<u32>) -> Result<(), 
     Ok(())
 }
 
-/// Takes the marks of a list away.
+/// Removes the marks of a list.
 fn clear(marks: &mut [bool], list: &[u32])
     requires { All (λ x. x < length marks.old) list.now }
     ensures { (x : ℕ) → holds marks.new x ≡ (holds marks.old x && not (is_in list.now x)) }
@@ -74,7 +74,7 @@ fn clear(marks: &mut [bool], list: &[u32])
     }
 }
 
-/// The candidates that reach y, each once: a search from y backwards.
+/// The candidates from which steps lead to y, each once: a search backwards from y.
 fn reaching(
     alloc: Global,
     leads: &[Vec<u32>],
@@ -104,8 +104,8 @@ fn reaching(
     Ok(list)
 }
 
-/// For each candidate its causers, rising: the roots that it reaches. A kept candidate has none, and nobody has any if
-/// the set is that of a system of another size.
+/// For each candidate its causers, rising: the roots to which steps lead from it. A kept candidate has none. No
+/// candidate has any if the set is that of a system of another size.
 pub fn causers(alloc: Global, s: &System, kept: &Kept) -> Result<Vec<Vec<u32>>, AllocError>
     ensures size { IfOk result (λ rows. length rows.items ≡ s.now.size) }
     ensures exact { IfOk result (λ rows. length kept.now ≡ s.now.size → (x y : ℕ) →

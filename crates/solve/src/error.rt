@@ -35,7 +35,7 @@ impl<T: Drop> From<AllocFailed<T>> for SystemError {
     }
 }
 
-/// A caller whose own systems have good needs may take "too many" for want of memory.
+/// A caller whose own systems have good needs may treat "too many" as a lack of memory.
 impl From<SystemError> for AllocError {
     fn from(_e: SystemError) -> AllocError {
         AllocError

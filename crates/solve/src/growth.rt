@@ -1,4 +1,4 @@
-//! The least set that holds its start and is closed under rules.
+//! The least set that contains its start and is closed under rules.
 ghost use Rattle.std.specs.Prelude.{◌≡◌, ◌++◌, ◌∷◌, [], ◌↔◌, IfOk, OnOk, OnErr, IsTrue, length, map};
 ghost use Rattle.std.specs.Prelude.{not};
 ghost use Rattle.solve.specs.Least.{IsRule, IsLeast};
@@ -11,17 +11,17 @@ use crate::worklist::Worklist;
 use std::alloc::{AllocError, Global};
 use std::marker::Model;
 
-/// Once a set holds all of `these`, it holds `that`.
+/// Once a set contains all of `these`, it contains `that`.
 #[derive(Drop)]
 pub struct Rule {
     pub these: Vec<u32>,
     pub that: u32,
 }
 
-/// The numbers that a set starts with, and the rules by which it grows.
+/// The numbers with which a set starts, and the rules by which it grows.
 ///
-/// What stays out of the least such set is a greatest one: a number is eligible if the set does not
-/// start with it, and stays out while one of `these` is out in each rule for it.
+/// The complement of the least such set is a greatest one: a number is eligible if the set does not start with it, and
+/// stays out while one of `these` is out in each rule for it.
 #[derive(Drop)]
 pub struct Rules {
     outside: System,
@@ -38,7 +38,7 @@ impl Model for Rules {
     ghost invariant = { λ r. IsSystem r.outside };
 }
 
-/// The flags the other way round.
+/// The flags, negated.
 fn turned(alloc: Global, flags: &[bool]) -> Result<Vec<bool>, AllocError>
     ensures { IfOk result (λ turned. turned.items ≡ map not flags.now) }
 {
@@ -62,7 +62,7 @@ impl Rules {
         self.outside.size()
     }
 
-    /// Adds a number, the next one, and whether the set starts with it. An error changes nothing.
+    /// Adds the next number, and whether the set starts with it. An error changes nothing.
     pub fn add_number(&mut self, starts: bool) -> Result<(), SystemError>
         ensures ok { OnOk result (self.new ≡ record self.old { start = self.old.start ++ starts ∷ [] }) }
         ensures err { OnErr result (self.new ≡ self.old) }
@@ -70,14 +70,14 @@ impl Rules {
         self.outside.add_candidate(!starts)
     }
 
-    /// Whether a rule may be added: it is about numbers that are there, and its list rises.
+    /// Whether a rule may be added: it is about numbers below `len`, and its list rises.
     pub fn admits(&self, these: &[u32], that: u32) -> bool
         ensures { IsTrue result ↔ IsRule (length self.now.start) (record { these = these.now; that = that }) }
     {
         self.outside.admits(that, these)
     }
 
-    /// Adds a rule. `admits` tests what is asked of it. An error changes nothing.
+    /// Adds a rule; `admits` tests whether it may. An error changes nothing.
     pub fn add_rule(&mut self, rule: Rule) -> Result<(), AllocError>
         requires { IsRule (length self.old.start) (as_rule rule) }
         ensures ok { OnOk result (self.new ≡ record self.old { rules = self.old.rules ++ as_rule rule ∷ [] }) }
@@ -90,7 +90,7 @@ impl Rules {
     }
 }
 
-/// The least set that holds its start and is closed under the rules.
+/// The least set that contains its start and is closed under the rules.
 pub fn least(alloc: Global, rules: &Rules) -> Result<Vec<bool>, AllocError>
     ensures { IfOk result (λ set. IsLeast rules.now set.items) }
 {

@@ -1,7 +1,8 @@
-//! Who stands of numbered candidates, of which each needs others: numbers alone, without ids or zones.
-//! Every `Solver` answers the union of all self-supporting sets, `least` what all closed sets share, and `causers` the
-//! roots that a failed candidate leads to. `Worklist::count` has its strikes exact and its turns bounded; the raising of
-//! `turns` in every loop body is seen in the code. Every call that allocates returns an error if memory runs out.
+//! Which of some numbered candidates, each of which needs others, support each other. The crate knows only numbers, no
+//! ids and no zones. Every `Solver` returns the union of all self-supporting sets, `least` what all closed sets have in
+//! common, and `causers` the roots to which a failed candidate leads. `Worklist::count` has its strikes exact and its
+//! turns bounded; that each loop body raises `turns` shows only in the code. Every call that allocates returns an error
+//! if memory runs out.
 #![tactic(auto)]
 
 mod causes;

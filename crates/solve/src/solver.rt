@@ -1,4 +1,4 @@
-//! Who gives the kept set of a system.
+//! How the kept set of a system is found.
 ghost use Rattle.std.specs.Prelude.{IfOk};
 ghost use Rattle.solve.specs.System.{AreKept};
 
@@ -6,7 +6,7 @@ use crate::sets::Kept;
 use crate::system::System;
 use std::alloc::{AllocError, Global};
 
-/// Gives the kept set of a system.
+/// A way to find the kept set of a system.
 pub trait Solver {
     /// The union of all self-supporting sets.
     fn greatest(&self, alloc: Global, s: &System) -> Result<Kept, AllocError>

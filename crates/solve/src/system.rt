@@ -147,7 +147,7 @@ impl System {
         is_need(self.size, of, any)
     }
 
-    /// Adds a need. `admits` tests what is asked of it. An error changes nothing.
+    /// Adds a need; `admits` tests whether it may. An error changes nothing.
     pub fn add_need(&mut self, need: Need) -> Result<(), AllocError>
         requires { IsNeed self.old.size (numbered need) }
         ensures ok { OnOk result (self.new

@@ -1,4 +1,4 @@
-//! The kept set by following each candidate that falls, with a count of the work.
+//! The kept set, found by following each candidate that falls, with a count of the work.
 ghost use Rattle.std.specs.Prelude.{◌≡◌, ◌<◌, ◌≤◌, ◌+◌, ◌^◌, ◌++◌, ◌∷◌, [], ℕ, List, IfOk, OnOk, length, All};
 ghost use Rattle.std.specs.Prelude.{count_by, replicate};
 ghost use Rattle.solve.specs.System.{AreKept, holds, pairs_of, strikes_of, most_turns};
@@ -15,16 +15,16 @@ use std::alloc::{AllocError, Global};
 pub struct Count {
     /// How often the count of a need's living members was lowered.
     pub strikes: u128,
-    /// How often a loop went through its body, also while the needs were indexed.
+    /// How often a loop went through its body, including the loops that index the needs.
     pub turns: u128,
 }
 
-/// Counts for each need its living members, and follows each drop to the needs that it strikes.
+/// Counts the living members of each need, and follows each drop to the needs that it strikes.
 #[derive(Clone, Copy, Debug)]
 pub struct Worklist;
 
-/// The candidates that stand, how many living members each need has, and the candidates that fell and are yet to be
-/// struck off the needs that they serve.
+/// The living candidates, the number of living members of each need, and the fallen candidates whose strikes are still
+/// due.
 #[derive(Drop)]
 struct Board {
     standing: Vec<bool>,
@@ -34,7 +34,7 @@ struct Board {
 }
 
 impl Board {
-    /// Drops a candidate, if it stands. There is room for all that may be dropped.
+    /// Drops a candidate, if it lives. There is room for all that may be dropped.
     fn drop_candidate(&mut self, x: u32)
         requires x { x < length self.old.standing.items }
         requires room { open_in self.old ≤ self.old.dropped.cap }
@@ -68,7 +68,7 @@ impl Board {
         }
     }
 
-    /// Makes the strikes of one dropped candidate: `row` names the needs that it serves.
+    /// Makes the strikes of one dropped candidate; `row` lists the needs that it serves.
     fn strike_row(&mut self, s: &System, row: &[usize])
         requires row { All (λ k. k < length s.now.needs) row.now }
         requires board { AtRest s.now row.now self.old }
@@ -85,7 +85,7 @@ impl Board {
         }
     }
 
-    /// Drops the candidates whose needs no eligible one serves.
+    /// Drops the candidates with a need that no eligible candidate serves.
     fn drop_unserved(&mut self, s: &System)
         requires board { SettledBelow s.now 0 self.old }
         requires turns { self.old.count.turns + length s.now.needs < 2 ^ 128 }
@@ -102,7 +102,7 @@ impl Board {
         }
     }
 
-    /// Makes the strikes of all dropped candidates, and of those that are dropped by them.
+    /// Makes the strikes of all dropped candidates, and of those that are dropped in turn.
     fn run(&mut self, s: &System, served: &[Vec<usize>])
         requires served { AreServed s.now.needs served.now }
         requires size { length served.now ≡ s.now.size }
@@ -121,7 +121,7 @@ impl Board {
     }
 }
 
-/// Puts a need into the row of each candidate that serves it. How many of these are eligible.
+/// Puts a need into the row of each candidate that serves it, and returns how many of these are eligible.
 fn add_served(
     eligible: &[bool],
     any: &[u32],

@@ -11,7 +11,7 @@ use Rattle.std.specs.BTreeMap.{BTreeMap, get}
 abbrev pub Lists : Type 0 → Type 0 → Type 0
 Lists K V = BTreeMap K (Vec V Heap)
 
--- what one of these items has to do with a key and a value
+-- the contribution of one of these items to a key and a value
 abbrev pub OneOf : {X K V : Type 0} → List X → (X → K → V → Type 0) → K → V → Type 0
 OneOf {X} xs P k y = (x : X) × Contains xs x × P x k y
 
@@ -20,7 +20,7 @@ module _ {K V : Type 0} (cmp : K → K → Ordering) where
   abbrev pub listed : Lists K V → K → List V
   listed all k = option_map_or (λ v. v.items) (get cmp all k) []
 
-  -- each key that is there has a value
+  -- each key in the lists has a value
   abbrev pub AreSome : Lists K V → Type 0
   AreSome all = (k : K) (v : Vec V Heap) → get cmp all k ≡ Some v → v.items ≢ []
 
@@ -33,12 +33,12 @@ module _ {K V : Type 0} (cmp : K → K → Ordering) where
   abbrev pub once_each : List K → V → K → List V
   once_each ks x q = flat_map (λ k. if is_eq (cmp k q) then x ∷ [] else []) ks
 
-  -- each key has x more, once for each time that it is among these
+  -- each key gets x once more for each time that it is among these keys
   pub record AddsToAll (ks : List K) (x : V) (old new : Lists K V) : Type 0 where
     pub list : (q : K) → listed new q ≡ listed old q ++ once_each ks x q
     pub some : AreSome old → AreSome new
 
-  -- in any order, each key has the values that it had, and these more
+  -- in any order, each key has the values that it had, and these besides
   abbrev pub Gains : Lists K V → Lists K V → (K → V → Type 0) → Type 0
   Gains old new More = (k : K) (y : V) → Contains (listed new k) y ↔ (Contains (listed old k) y ⊎ More k y)
 

@@ -1,16 +1,16 @@
-//! Copies of what owns memory.
+//! Copies of values that own memory.
 ghost use Rattle.std.specs.Prelude.{◌≡◌, IfOk};
 
 use std::alloc::{AllocError, Global};
 
-/// What can be copied where memory lasts.
+/// A value that can be copied if there is enough memory.
 pub trait TryClone: Drop {
-    /// A copy. The error comes where memory runs out.
+    /// A copy.
     fn try_clone(&self, alloc: Global) -> Result<Self, AllocError>
         ensures { IfOk result (λ copy. copy ≡ self.now) };
 }
 
-/// A copy of each item. The error comes where memory runs out.
+/// A copy of each item.
 pub fn copied<T: TryClone>(alloc: Global, items: &[T]) -> Result<Vec<T>, AllocError>
     ensures { IfOk result (λ copies. copies.items ≡ items.now) }
 {

@@ -12,7 +12,7 @@ use std::alloc::{AllocError, Global};
 use std::collections::VecDeque;
 use std::mem;
 
-/// What a change does at a key: it puts an item there, or what stands there goes.
+/// What a change does at a key: it puts an item there, or removes the one that is there.
 #[derive(Drop)]
 pub enum Edit<T, K> {
     Put(T),
@@ -43,7 +43,7 @@ impl<T: Keyed + TryClone> TryClone for Edit<T, T::Key> {
     }
 }
 
-/// Makes the edits. What stays and what is put is moved, into the room. Nothing of it takes memory.
+/// Makes the edits. Items that stay or are put are moved into the room, so this takes no memory.
 pub(crate) fn make_edits<T: Keyed + Drop>(
     items: &mut Vec<T>,
     edits: Vec<Edit<T, T::Key>>,
@@ -65,7 +65,7 @@ pub(crate) fn make_edits<T: Keyed + Drop>(
     move_all(rest, items);
 }
 
-// Takes the first item, if it stands before the key.
+// Takes the first item, if it comes before the key.
 fn pop_before<T: Keyed>(rest: &mut VecDeque<T>, key: T::Key) -> Option<T>
     requires { Rises T.Key.cmp T.key_of rest.old.items }
     ensures some { IfSome result (λ x. (rest.old.items ≡ x ∷ rest.new.items)
@@ -81,7 +81,7 @@ fn pop_before<T: Keyed>(rest: &mut VecDeque<T>, key: T::Key) -> Option<T>
     }
 }
 
-// Moves what stands before the key.
+// Moves the items before the key.
 fn move_before<T: Keyed + Drop>(rest: &mut VecDeque<T>, new: &mut Vec<T>, key: T::Key)
     requires rises { Rises T.Key.cmp T.key_of rest.old.items }
     requires room { vec_len new.old + deque_len rest.old ≤ vec_capacity new.old }
@@ -97,7 +97,7 @@ fn move_before<T: Keyed + Drop>(rest: &mut VecDeque<T>, new: &mut Vec<T>, key: T
     }
 }
 
-// What has the key goes, where nothing stands before it.
+// Removes the item of the key, if no item is before it.
 fn drop_at<T: Keyed + Drop>(rest: &mut VecDeque<T>, key: T::Key)
     requires rises { Rises T.Key.cmp T.key_of rest.old.items }
     requires none { before T.Key.cmp T.key_of key rest.old.items ≡ [] }
@@ -112,7 +112,7 @@ fn drop_at<T: Keyed + Drop>(rest: &mut VecDeque<T>, key: T::Key)
     }
 }
 
-// Moves all that is left.
+// Moves all items that are left.
 fn move_all<T: Drop>(mut rest: VecDeque<T>, new: &mut Vec<T>)
     requires { vec_len new.old + deque_len rest ≤ vec_capacity new.old }
     ensures { new.new.items ≡ new.old.items ++ rest.items }
@@ -122,7 +122,7 @@ fn move_all<T: Drop>(mut rest: VecDeque<T>, new: &mut Vec<T>)
     }
 }
 
-// Adds what the edit puts, if it puts anything.
+// Adds the item that the edit puts, if it puts one.
 fn put<T: Keyed + Drop>(new: &mut Vec<T>, edit: Edit<T, T::Key>)
     requires { vec_len new.old < vec_capacity new.old }
     ensures items { new.new.items ≡ new.old.items ++ option_to_list (edit_put edit) }

@@ -1,20 +1,20 @@
-//! What stands under a key, and lists that rise by their keys.
+//! Items with a key, and lists that rise by their keys.
 ghost use Rattle.std.specs.Prelude.{◌≡◌, ◌<◌, ◌≤◌, ◌↔◌, length, take, drop, IsTrue, All, IfOk, IfErr};
 ghost use Rattle.std.specs.Ordering.{is_lt};
 ghost use Rattle.terms.specs.Rising.{Rises, Splits, StandsAt};
 
-/// What stands under a key.
+/// An item with a key.
 pub trait Keyed {
     type Key: Ord + Copy;
 
     ghost key_of: { Self → Self.Key };
 
-    /// The key that it stands under.
+    /// The item's key.
     fn key(&self) -> Self::Key
         ensures { result ≡ key_of self.now };
 }
 
-/// Where the item of the key is. The error comes where there is none, and is the place where one would come in.
+/// The place of the item with the key. If there is none, the error is the place where it would come in.
 pub fn place<T: Keyed>(items: &[T], key: T::Key) -> Result<usize, usize>
     requires { Rises T.Key.cmp T.key_of items.now }
     ensures found { IfOk result
@@ -26,7 +26,7 @@ pub fn place<T: Keyed>(items: &[T], key: T::Key) -> Result<usize, usize>
     items.binary_search_by_key(&key, |item| item.key())
 }
 
-/// Whether all items stand before the key.
+/// Whether all items come before the key.
 pub(crate) fn stands_last<T: Keyed>(items: &[T], key: T::Key) -> bool
     requires { Rises T.Key.cmp T.key_of items.now }
     ensures { IsTrue result ↔ All (λ x. IsTrue (is_lt (T.Key.cmp (T.key_of x) key))) items.now }

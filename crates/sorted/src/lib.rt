@@ -1,4 +1,6 @@
-//! Tables: items in the order of their keys, no key twice. Lists by keys: for each key some values.
+//! Tables: items in the order of their keys, no key twice. Lists by keys: for each key some values. Every call that
+//! allocates returns `AllocError` if memory runs out, and then leaves what it would have changed as it was, unless its
+//! comment says otherwise.
 #![tactic(auto)]
 
 mod copies;

@@ -8,7 +8,7 @@ use std::collections::BTreeMap;
 /// For each key some values.
 pub type Lists<K, V> = BTreeMap<K, Vec<V>>;
 
-/// Adds the value behind those of the key. The error comes where memory runs out.
+/// Adds the value after those of the key.
 pub fn add<K: Ord + Copy, V: Drop>(
     alloc: Global,
     lists: &mut Lists<K, V>,
@@ -25,8 +25,8 @@ pub fn add<K: Ord + Copy, V: Drop>(
     Ok(())
 }
 
-/// Adds the value once for each of these keys, behind those of the key. The error comes where memory runs out, and some
-/// keys may have the value then.
+/// Adds the value once for each of these keys, after those of the key. If memory runs out, some of the keys may have
+/// the value.
 pub fn add_to_all<K: Ord + Copy, V: Copy>(
     alloc: Global,
     lists: &mut Lists<K, V>,

@@ -1,4 +1,4 @@
-//! A list with edits made, beside the list.
+//! A list after edits, beside the old list.
 ghost use Rattle.std.specs.Prelude.{◌≡◌, ◌++◌, [], IfOk, OnOk};
 ghost use Rattle.std.specs.Option.{option_to_list};
 ghost use Rattle.terms.specs.Rising.{Rises, before, behind};
@@ -9,7 +9,7 @@ use crate::edits::Edit;
 use crate::keyed::Keyed;
 use std::alloc::{AllocError, Global};
 
-/// The items with the edits made. It goes over both once, and copies what stays and what is put.
+/// The items after the edits. It goes over both once, and copies the items that stay and those that are put.
 pub(crate) fn edited_copy<T: Keyed + TryClone>(
     alloc: Global,
     items: &[T],
@@ -67,7 +67,7 @@ fn past<T: Keyed>(items: &[T], key: T::Key) -> &[T]
     if first.key() == key { others } else { items }
 }
 
-/// Copies what the edit puts, if it puts something.
+/// Copies the item that the edit puts, if it puts one.
 fn copy_put<T: Keyed + TryClone>(
     alloc: Global,
     edit: &Edit<T, T::Key>,

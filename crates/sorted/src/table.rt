@@ -30,7 +30,7 @@ impl<T: Keyed + Drop> Model for Table<T> {
     ghost invariant = { λ a. Rises T.Key.cmp T.key_of a.items.items };
 }
 
-/// Edits that can be made of a table without memory: copies of them, and room for what comes of them.
+/// Edits that can be made of a table without memory: copies of them, and room for the result.
 #[derive(Drop)]
 pub struct Prepared<T: Keyed + Drop> {
     edits: Table<Edit<T, T::Key>>,
@@ -58,7 +58,7 @@ impl<T: Keyed + Drop> Table<T> {
         }
     }
 
-    /// The table of these items, if no two of them have one key. It sorts them.
+    /// The table of these items, if no two of them have the same key. It sorts them.
     pub fn from_vec(mut items: Vec<T>) -> Option<Self>
         ensures same { IfSome result (λ table. IsPermutation items.items table) }
         ensures rising { IfSome result (λ table. Rises T.Key.cmp T.key_of table) }
@@ -98,8 +98,7 @@ impl<T: Keyed + Drop> Table<T> {
         }
     }
 
-    /// The item comes in at its place, where it takes the place of one of its key. The error comes where memory runs
-    /// out, and changes nothing.
+    /// Puts the item at its place, instead of one of the same key.
     pub fn put(&mut self, item: T) -> Result<(), AllocError>
         ensures ok { OnOk result (self.new ≡ with_item T.Key.cmp T.key_of self.old item) }
         ensures err { OnErr result (self.new ≡ self.old) }
@@ -116,8 +115,7 @@ impl<T: Keyed + Drop> Table<T> {
         }
     }
 
-    /// Adds an item whose key is behind all others, and answers whether it is. The error comes where memory runs out,
-    /// and changes nothing.
+    /// Adds an item whose key comes after all others. Returns whether it does.
     pub fn push_last(&mut self, item: T) -> Result<bool, AllocError>
         ensures fits { IfOk result
             (λ fits. IsTrue fits
@@ -135,7 +133,7 @@ impl<T: Keyed + Drop> Table<T> {
 }
 
 impl<T: Keyed + TryClone> Table<T> {
-    /// A table of the same items. The error comes where memory runs out.
+    /// A table of the same items.
     pub fn try_clone(&self, alloc: Global) -> Result<Self, AllocError>
         ensures { IfOk result (λ copy. copy ≡ self.now) }
     {
@@ -144,8 +142,7 @@ impl<T: Keyed + TryClone> Table<T> {
         })
     }
 
-    /// A table of its own with these edits made, in time that goes with the number of items and edits. The error comes
-    /// where memory runs out.
+    /// A new table after these edits, in time proportional to the number of items and edits.
     pub fn edited(&self, alloc: Global, edits: &Table<Edit<T, T::Key>>) -> Result<Self, AllocError>
         ensures { IfOk result (λ new. new ≡ edited T.Key.cmp T.key_of self.now edits.now) }
     {
@@ -153,7 +150,7 @@ impl<T: Keyed + TryClone> Table<T> {
         Ok(Table { items })
     }
 
-    /// These edits, ready to be made of this table. The error comes where memory runs out.
+    /// These edits, ready to be made of this table.
     pub fn prepare(
         &self,
         alloc: Global,
@@ -168,8 +165,8 @@ impl<T: Keyed + TryClone> Table<T> {
         })
     }
 
-    /// Makes the edits, in time that goes with the number of items and edits. What stays and what an edit puts is
-    /// moved, and nothing takes memory.
+    /// Makes the edits, in time proportional to the number of items and edits. Items that stay or are put are moved, so
+    /// this takes no memory.
     pub fn edit(&mut self, prepared: Prepared<T>)
         requires { length self.old + length prepared.edits ≤ prepared.room }
         ensures { self.new ≡ edited T.Key.cmp T.key_of self.old prepared.edits }

@@ -25,18 +25,19 @@ use Rattle.store_zones.specs.Zones.{empty_zone}
 use Rattle.store.specs.declared.change.Change.{Change}
 use Rattle.store.specs.declared.change.Change.TheVariants.{NewZone, Zone, Global}
 
--- An edit of an entry of the zone of this name. Under its id stood one that was installed by this number, or none.
+-- An edit of an entry of the zone of this name. The old entry of its id, if there was one, was installed by this
+-- number.
 abbrev pub entry_calls : Text → Edit Entry Id × Option ℕ → List Call
 entry_calls name (Put entry, stood) = put_entry_calls name stood entry
 entry_calls name (Remove id, stood) = remove_entry_calls name stood id
 
--- an edit of an element, and whether one stood under its type and name
+-- an edit of an element, and whether there was an old one
 abbrev pub element_calls : Text → Edit Element (ElemType × Text) × Bool → List Call
 element_calls name (Put element, stood) = put_element_calls name stood element
 element_calls name (Remove key, stood) = remove_element_calls name key.0 key.1
 
--- Statements that ran, and SYSMODs that came behind them and are not written yet: they wait for others, since one
--- statement puts rows of several.
+-- The statements that ran, and the SYSMODs that came after them and are not written yet. They wait for others, because
+-- one statement puts rows of several SYSMODs.
 abbrev pub Course : Type 0
 Course = List Call × List Sysmod
 
@@ -44,7 +45,7 @@ Course = List Call × List Sysmod
 abbrev pub most_wait : ℕ
 most_wait = 256
 
--- Where so many wait, they are written, so that there is room for one more.
+-- If so many wait, they are written, so that there is room for one more.
 abbrev pub with_room : Course → Course
 with_room (calls, waiting) =
     if length waiting == most_wait then (calls ++ insert_sysmods_calls waiting, []) else (calls, waiting)
@@ -61,7 +62,7 @@ behind_waiting (calls, waiting) more = (calls ++ (insert_sysmods_calls waiting +
 abbrev pub with_calls : Course → List Call → Course
 with_calls (calls, waiting) more = (calls ++ more, waiting)
 
--- an edit of the global zone, where what the SYSMODs state stands in this one
+-- an edit of the global zone; this zone has the statements of its SYSMODs
 abbrev pub with_edit : AGlobal → Course → GlobalEdit → Course
 with_edit stated course (PutHold hold) = with_calls course (put_hold_calls hold)
 with_edit stated course (RemoveHold id kind reason) = with_calls course (remove_hold_calls id kind reason)

@@ -14,8 +14,8 @@ abbrev pub IsLater : {S : Type 0} → Ghosts S → Held S → Held S → Type 0
 IsLater g old new = ((state g old).faults ≤ (state g new).faults) × (new.step_limit ≡ old.step_limit)
 
 -- A call began at `old` and ended at `at`. At some moment, not earlier than its beginning, the tables of the open
--- connection stood for the inventory. Nothing was committed from there to the end. And from there to the end the disk
--- failed or refused; or there is a limit on steps, which a query may have met; or the database refused a statement of
+-- connection stood for the inventory. From that moment to the end nothing was committed. In the same time the disk
+-- failed or refused, or there is a limit on steps, which a query may have met, or the database refused a statement of
 -- the commit of one of the call's own changes.
 pub record HasCause {S : Type 0} (g : Ghosts S) (old at : Held S) (i : Inventory) (IsOwn : Change → Type 0) : Type 0
   where

@@ -1,4 +1,4 @@
--- What a change makes of the inventory for which the tables stand.
+-- How a change changes the inventory for which the tables stand.
 use Rattle.std.specs.Prelude.{◌≡◌, List, ◌∷◌, ◌++◌}
 use Rattle.terms.specs.Types.{Zone as AZone, NamedZone}
 use Rattle.zones_maps.specs.Delta.{IsDelta, IsChanged, KnowsStood}

@@ -7,7 +7,7 @@ use Rattle.sqlite.specs.State.{HasCleanDisk, KeepsCommit, Survives}
 use Rattle.store_rows.specs.Calls.{Call, Ran}
 
 module _ {S : Type 0} (g : Ghosts S) (calls : List Call) (old : Held S) where
-  -- The statements ran, the first of them first, in a transaction that was begun here.
+  -- The statements ran, in their order, in a transaction that was begun here.
   abbrev pub RanInside : Held S → Type 0
   RanInside last = Ran g calls (record old { in_transaction = true }) last
 
@@ -23,8 +23,8 @@ module _ {S : Type 0} (g : Ghosts S) (calls : List Call) (old : Held S) where
     pub is_open : IsTrue (state g new).is_open
     pub committed : (state g new).committed ≡ (state g last).now
 
-  -- An answer has committed what the statements made, and an error has committed nothing. A crash leaves what it could
-  -- leave before, or what the statements made.
+  -- After success the commit holds what the statements made, and after an error nothing is committed. A crash leaves
+  -- what it could leave before, or what the statements made.
   pub record OnlyCommits (new : Held S) {X E : Type 0} (result : Result X E) : Type 0 where
     pub made : HasCleanDisk (state g new) → OnOk result (CommitsWritten new)
     pub kept : HasCleanDisk (state g new) → OnErr result (KeepsCommit (state g old) (state g new))

@@ -1,4 +1,4 @@
--- How a call goes over a store, whatever its tables are: they need not stand for anything.
+-- How a call goes over a store, whatever its tables hold: they need not stand for anything.
 use Rattle.std.specs.Prelude.{◌⊎◌, Result, OnOk}
 use Rattle.sqlite.specs.Store.{Ghosts}
 use Rattle.sqlite.specs.Held.{Held, state}
@@ -9,8 +9,8 @@ use Rattle.store.specs.Calls.{calls_of}
 use Rattle.store.specs.Commits.{OnlyCommits}
 
 module _ {S : Type 0} (g : Ghosts S) (old new : Held S) where
-  -- It has loaded, and nothing else. An answer has left all as it was, and an error what was last committed. A crash
-  -- has no new outcome.
+  -- It has only loaded. After success all is as it was, and after an error what was last committed is. A crash has no
+  -- new outcome.
   pub record LoadsAlone {X E : Type 0} (result : Result X E) : Type 0 where
     pub same : OnOk result (OnlyLoads g old new)
     pub kept : HasCleanDisk (state g new) → KeepsCommit (state g old) (state g new)

@@ -25,9 +25,9 @@ abbrev pub told : {X : Type 0} → Result X ReadError → Result X StoreError
 told (Ok x) = Ok x
 told (Err e) = Err (store_error e)
 
--- What is answered is so of the inventory that the tables stand for. They go on to stand for it, after an error where
--- the connection is still open, and a crash leaves nothing that it could not have left before. An answer changes
--- nothing, nor does the error that tells of no state: it comes only where there is none. A fault has a cause.
+-- The answer is that of the inventory for which the tables stand. They still stand for it, after an error if the
+-- connection is still open, and a crash leaves nothing that it could not have left before. An answer changes nothing.
+-- Nor does the error for no state, which is returned only if there is none. A fault has a cause.
 pub record Loads {S X : Type 0} (g : Ghosts S) (old new : Held S) (Found : Inventory → X → Type 0)
     (result : Result X StoreError) : Type 0 where
   pub found : HasCleanDisk (state g new) → (i : Inventory) → Tables g old i → IfOk result (Found i)

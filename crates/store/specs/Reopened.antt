@@ -7,7 +7,7 @@ use Rattle.store_schema.specs.Inventory.{Inventory}
 use Rattle.store.specs.View.{Tables, IsFound}
 
 -- A connection that shows what the store last committed finds its inventory. By sqlite's `finds_again` an open of the
--- files that a close gave back shows that.
+-- files that a close returned shows that.
 abbrev pub FindsAgain : {S T : Type 0} → Ghosts S → Ghosts T → Type 0
 FindsAgain {S} {T} g h =
     (old : Held S) (new : Held T) (i : Inventory) → HasCleanDisk (state g old) → Tables g old i → IsLive (state h new)

@@ -1,4 +1,4 @@
--- What callers see of a store: the inventory that its tables stand for, and what a crash leaves.
+-- What callers see of a store: the inventory for which its tables stand, and what a crash leaves.
 use Rattle.std.specs.Prelude.{◌≡◌, IsTrue}
 use Rattle.sqlite.specs.Store.{Ghosts}
 use Rattle.sqlite.specs.Schema.{Schema}
@@ -12,8 +12,8 @@ use Rattle.store_schema.specs.Stands.{StandsFor, IsStateOf}
 use Rattle.store_schema.specs.Tables.{store_schema}
 
 module _ {S : Type 0} (g : Ghosts S) (at : Held S) where
-  -- The connection is open, and its tables stand for the inventory. It claims nothing where the disk has returned other
-  -- than what was written.
+  -- The connection is open, and its tables stand for the inventory. It claims nothing if the disk has returned anything
+  -- but what was written.
   abbrev pub Tables : Inventory → Type 0
   Tables i = HasCleanDisk (state g at) → IsTrue (state g at).is_open × StandsFor i (state g at).committed
 
@@ -21,7 +21,7 @@ module _ {S : Type 0} (g : Ghosts S) (at : Held S) where
   abbrev pub IsFound : Inventory → Type 0
   IsFound i = HasCleanDisk (state g at) → IsTrue (state g at).is_open → IsStateOf i (state g at).committed
 
-  -- the same, under whichever schema
+  -- the same, under any schema
   abbrev pub IsEarlierFound : Inventory → Type 0
   IsEarlierFound i =
       HasCleanDisk (state g at) → IsTrue (state g at).is_open → IsEarlierStateOf i (state g at).committed
@@ -43,19 +43,19 @@ module _ {S : Type 0} (g : Ghosts S) (at : Held S) where
       → (schema : Schema) × IsDatabase (record { schema = schema; trees = db })
       × IsStateOf i (record { schema = schema; trees = db })
 
-  -- the same, under whichever schema
+  -- the same, under any schema
   abbrev pub LeavesEarlier : Inventory → Type 0
   LeavesEarlier i =
       (db : Trees) → MayLeave db
       → (schema : Schema) × IsDatabase (record { schema = schema; trees = db })
       × IsEarlierStateOf i (record { schema = schema; trees = db })
 
-  -- A fault may have shut the connection. Where it has not, the tables stand for the inventory, and a crash leaves it.
+  -- A fault may have shut the connection. If it has not, the tables stand for the inventory, and a crash leaves it.
   abbrev pub TablesIfOpen : Inventory → Type 0
   TablesIfOpen i = IsTrue (state g at).is_open → Tables i × Leaves (λ c. c ≡ i)
 
 -- The second connection is open and shows what a crash may leave at this moment of the first, which a fault may have
--- shut. An open shows that, of files that hold what such a crash left: that is sqlite's `next_run`.
+-- shut. An open of files that hold what such a crash left shows that: it is sqlite's `next_run`.
 pub record ShowsLeft {S T : Type 0} (g : Ghosts S) (at : Held S) (h : Ghosts T) (again : Held T) : Type 0 where
   pub live : IsLive (state h again)
   pub is_open : IsTrue (state h again).is_open

@@ -1,4 +1,4 @@
--- What edits make of the tables, where SYSMODs wait that they do not hold yet.
+-- What edits make of the tables if some SYSMODs still wait.
 use Rattle.std.specs.Prelude.{◌≡◌, List, Result, OnOk}
 use Rattle.sqlite.specs.Store.{Ghosts}
 use Rattle.sqlite.specs.Effect.{Database}
@@ -15,21 +15,21 @@ use Rattle.store_sysmods.specs.declared.sysmod_rows.SysmodRows.{SysmodRows}
 use Rattle.store_sysmods.specs.Sysmods.{AreNew, AreWaitingRows, with_sysmods}
 use Rattle.store.specs.Calls.{Course}
 
--- the inventory's rows, but for those of SYSMODs that wait: these come to it last
+-- the inventory's rows, except those of SYSMODs that wait, which were added last
 abbrev pub HoldsBut : List Sysmod → Inventory → Database → Type 0
 HoldsBut ss i db =
     (global : Global) × AreNew ss global × (with_sysmods ss global ≡ i.global)
     × HasContents store_schema (rows_of (record i { global = global })) db
 
--- where the tables held an inventory's rows but for some, and its global zone fits, they hold those of the inventory
--- with the new one, but for those that wait then
+-- if the tables held an inventory's rows except some, and its global zone fits, they hold those of the inventory with
+-- the new one, except those that wait then
 abbrev pub ChangesBut : {S : Type 0} → Ghosts S → Held S → Held S → List Sysmod → List Sysmod → (Global → Type 0)
     → (Global → Global) → Type 0
 ChangesBut g old new before after Fits make =
     (i : Inventory) → Fits i.global
     → Leads g old new (HoldsBut before i) (HoldsBut after (record i { global = make i.global }))
 
--- Where some waited, these statements ran, these wait now, and so the inventory has changed.
+-- Some SYSMODs waited, these statements ran, these SYSMODs wait now, and the inventory has changed in this way.
 pub record Waits {S : Type 0} (g : Ghosts S) (before : List Sysmod) (course : Course) (Fits : Global → Type 0)
     (make : Global → Global) (old new : Held S) (rows : SysmodRows) (result : Result (Unit {0}) Error) : Type 0 where
   pub runs : RunsInside g course.0 old new result

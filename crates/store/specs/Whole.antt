@@ -23,13 +23,13 @@ pub record HoldsLists (schema : Schema) (contents : Contents) (sysmods : List Sy
   pub hold_rows : IsPermutation (map hold_row holds) (contents hold.tree)
   pub hold_forms : AllByRecursion HasHoldForms holds
 
--- and they are a global zone's
+-- and they are those of a global zone
 pub record HoldsGlobal (schema : Schema) (contents : Contents) (global : Global) : Type 0 where
   pub lists : HoldsLists schema contents global.sysmods global.holds
   pub whole : IsGlobal global
 
--- The rows that a connection shows in the tables of SYSMODs and of holds are this global zone's. Those of zones may
--- stand for nothing.
+-- The rows that a connection shows in the tables of SYSMODs and of holds are those of this global zone. Those of zones
+-- may stand for nothing.
 abbrev pub ShowsGlobal : {S : Type 0} → Ghosts S → Held S → Global → Type 0
 ShowsGlobal g at global =
     (contents : Contents) → HasContents store_schema contents (state g at).now → HoldsGlobal Third contents global

@@ -1,4 +1,4 @@
--- What is written in the transaction of a commit, and what the commit makes of the database.
+-- What is written in the transaction of a commit, and how the commit changes the database.
 use Rattle.std.specs.Prelude.{◌≡◌, List, [], ◌∷◌, IsTrue}
 use Rattle.std.specs.Ordering.{nat_cmp}
 use Rattle.std.specs.Cmp.Lexicographic.{slice_cmp}
@@ -22,33 +22,33 @@ use Rattle.store_zones.specs.Zones.{HasEntry, HasElement}
 use Rattle.store.specs.declared.change.Change.{Change}
 use Rattle.store.specs.Changes.{Makes}
 
--- the zone's entries after the edits, the first of them first
+-- the zone's entries after the edits, in their order
 abbrev pub entries_after : List Entry → List (Edit Entry Id) → List Entry
 entries_after entries edits = edited (slice_cmp nat_cmp) (λ (e : Entry). e.id) entries edits
 
 abbrev pub elements_after : List Element → List (Edit Element (ElemType × Text)) → List Element
 elements_after elements edits = edited element_cmp element_key elements edits
 
--- the zone's entries are edited so
+-- the zone's entries are edited in this way
 abbrev pub HasEditedEntries : List (Edit Entry Id) → Zone → Zone → Type 0
 HasEditedEntries edits old new = new ≡ record old { entries = entries_after old.entries edits }
 
--- and so its elements
+-- and its elements in this way
 abbrev pub HasEditedElements : List (Edit Element (ElemType × Text)) → Zone → Zone → Type 0
 HasEditedElements edits old new = new ≡ record old { elements = elements_after old.elements edits }
 
--- An entry is edited where the zone still has what this one had under the edit's id.
+-- An entry is edited, if the zone still has what this one had at the edit's id.
 pub record EditsEntry (zone : Zone) (edit : Edit Entry Id) (old new : Zone) : Type 0 where
   pub was : HasEntry (edit_key (λ e. e.id) edit) (entry_of zone (edit_key (λ e. e.id) edit)) old
   pub is : HasEditedEntries (edit ∷ []) old new
 
--- So is an element.
+-- The same for an element.
 pub record EditsElement (zone : Zone) (edit : Edit Element (ElemType × Text)) (old new : Zone) : Type 0 where
   pub was : HasElement (edit_key element_key edit).0 (edit_key element_key edit).1
       (element_of zone (edit_key element_key edit).0 (edit_key element_key edit).1) old
   pub is : HasEditedElements (edit ∷ []) old new
 
--- The edits, which rise, are done to the entries of a zone that has those of this one.
+-- The edits, which rise, are made to the entries of a zone that has those of this one.
 pub record EditsEntries (zone : Zone) (edits : List (Edit Entry Id)) (old new : Zone) : Type 0 where
   pub is_zone : IsZone zone
   pub rises : Rises (slice_cmp nat_cmp) (edit_key (λ e. e.id)) edits

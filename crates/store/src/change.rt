@@ -10,8 +10,9 @@ use zones_maps::ZoneDelta;
 pub enum Change<'a> {
     /// A zone with no entries is added.
     NewZone(ZoneName, ZoneKind, Srel, Option<ZoneName>),
-    /// Entries and elements of the zone of this name are put and removed. The delta knows what stands at their keys.
+    /// Puts and removes entries and elements of the zone of this name. The delta knows what the zone has at their keys.
     Zone(ZoneName, ZoneDelta),
-    /// The global zone is edited, by the first edit first. What the SYSMODs that are received state stands in this one.
+    /// Makes these edits of the global zone, in their order. This zone has the statements of the SYSMODs that are
+    /// received.
     Global(&'a GlobalZone, Vec<GlobalEdit>),
 }

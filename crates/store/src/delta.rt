@@ -1,4 +1,4 @@
-//! What a delta puts and removes, written in a transaction that is open.
+//! What a delta puts and removes, written in an open transaction.
 
 ghost use Rattle.std.specs.Prelude.{◌≡◌, OnOk, map};
 ghost use Rattle.std.specs.List.{flat_map, zip};
@@ -54,7 +54,7 @@ fn edit_element<S: Alter>(
     }
 }
 
-// Makes each edit of an entry, beside which is what stood.
+// Makes each edit of an entry, given what the zone had at its key.
 fn edit_entries<S: Alter>(
     alloc: Global,
     tx: &mut Transaction<'_, S>,
@@ -74,7 +74,7 @@ fn edit_entries<S: Alter>(
     Ok(())
 }
 
-// Makes each edit of an element, beside which is whether one stood.
+// Makes each edit of an element, given whether the zone had one at its key.
 fn edit_elements<S: Alter>(
     alloc: Global,
     tx: &mut Transaction<'_, S>,
@@ -94,7 +94,7 @@ fn edit_elements<S: Alter>(
     Ok(())
 }
 
-/// Writes the rows of the edits alone, of the zone that has this name, if the delta knows what stands there.
+/// Writes only the rows of the edits, in the zone of this name, if the delta knows what that has at their keys.
 pub(crate) fn write_delta<S: Alter>(
     alloc: Global,
     tx: &mut Transaction<'_, S>,

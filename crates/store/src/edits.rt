@@ -1,5 +1,5 @@
-//! Edits of the global zone, written in a transaction that is open. SYSMODs that come wait for others, so that one
-//! statement puts rows of several.
+//! Edits of the global zone, written in an open transaction. SYSMODs that come wait for others, so that one statement
+//! puts rows of several.
 
 ghost use Rattle.std.specs.Prelude.{◌≡◌, false, List, [], OnOk};
 ghost use Rattle.terms.specs.Global.{with_sysmod};
@@ -25,7 +25,7 @@ use sysmods_values::Sysmod;
 /// How many SYSMODs wait at most.
 const MOST_WAIT: usize = 256;
 
-// Writes those that wait.
+// Writes the SYSMODs that wait.
 fn write_waiting<S: Alter>(
     alloc: Global,
     tx: &mut Transaction<'_, S>,
@@ -40,7 +40,7 @@ fn write_waiting<S: Alter>(
     Ok(())
 }
 
-// Where there are as many as may wait, they are written.
+// If the greatest number wait, writes them.
 fn make_room<S: Alter>(
     alloc: Global,
     tx: &mut Transaction<'_, S>,

@@ -29,8 +29,8 @@ pub struct GlobalLists {
     pub holds: Vec<Hold>,
 }
 
-/// The SYSMODs and holds of a database of this schema. `BadRow` comes where the rows stand for no such lists, `Memory`
-/// where memory is short, and `Fault` where the disk fails or the tables are others.
+/// The SYSMODs and holds of a database of this schema. Returns `BadRow` if the rows stand for no such lists, `Memory`
+/// if memory runs out, and `Fault` if the disk fails or the tables are others.
 pub fn load_lists<S: Alter>(
     alloc: Global,
     conn: &mut Connection<S>,
@@ -51,8 +51,8 @@ pub fn load_lists<S: Alter>(
     Ok(GlobalLists { sysmods, holds })
 }
 
-/// The global zone of these, if they are one. `BadRow` comes where they are none, `Memory` where memory runs out, and
-/// `Fault` never.
+/// The global zone of these lists, if they are those of one. Returns `BadRow` if they are not, `Memory` if memory runs
+/// out, and never `Fault`.
 pub fn joined(alloc: Global, lists: GlobalLists) -> Result<GlobalZone, ReadError>
     ensures same { IfOk result (λ global. global ≡ a_global lists.sysmods.items lists.holds.items) }
     ensures whole { OnOk result (IsGlobal (a_global lists.sysmods.items lists.holds.items)) }

@@ -1,10 +1,10 @@
-//! The store: a connection whose tables stand for an inventory, and changes of it, each in one
-//! transaction.
-//! After `commit` the tables stand for the changed inventory, and a crash leaves that one; after an error they stand
-//! for the one before, and a crash leaves one of the two. Also where the tables stand for no inventory, a commit makes
-//! its statements and nothing else, or nothing, and a global zone that is loaded is that of its rows. What is loaded is
-//! the inventory's. A `Fault` has a cause in its call: the disk failed, or for a commit the database refused one of its
-//! statements. No contract says when `Memory` comes. `found_again` is a law of what the next open finds.
+//! The store: a connection whose tables stand for an inventory, and changes of it, each in one transaction. After
+//! `commit` the tables stand for the changed inventory, and a crash leaves that one. After an error they stand for the
+//! old one, and a crash leaves one of the two. Even if the tables stand for no inventory, a commit makes its statements
+//! and nothing else, or nothing, and a global zone that is loaded is that of its rows. What is loaded is the
+//! inventory's. A `Fault` has a cause in its call: the disk failed, or for a commit the database refused one of its
+//! statements. Every call that allocates returns `Memory` if memory runs out; no contract says when. `found_again` is a
+//! law about what the next open finds.
 #![tactic(auto)]
 
 mod change;

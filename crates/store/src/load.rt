@@ -1,4 +1,4 @@
-//! What a store's tables hold, read back.
+//! The contents of a store's tables, read back.
 
 ghost use Rattle.std.specs.Prelude.{◌≡◌, map, IfOk};
 ghost use Rattle.sqlite.specs.Held.{state};
@@ -17,7 +17,7 @@ use store_zones::ZoneHead;
 use sysmods::GlobalZone;
 use zones_maps::Zone;
 
-/// How an error of reading is told: rows that stand for nothing stand for no state.
+/// The error for a reading that failed: rows that stand for nothing stand for no state.
 fn store_error(error: ReadError) -> StoreError
     ensures { result ≡ store_error error }
 {
@@ -28,7 +28,7 @@ fn store_error(error: ReadError) -> StoreError
     }
 }
 
-/// How an answer of reading is told: `Memory` and `Fault` stay, and for `BadRow` `NoState` comes.
+/// The answer for a reading: `Memory` and `Fault` stay, and `BadRow` becomes `NoState`.
 pub fn told<T>(read: Result<T, ReadError>) -> Result<T, StoreError>
     ensures { result ≡ told read }
 {
@@ -39,43 +39,43 @@ pub fn told<T>(read: Result<T, ReadError>) -> Result<T, StoreError>
 }
 
 impl<S: Alter> Store<S> {
-    /// The global zone, also where the rows of zones stand for none. `Memory` comes where memory runs out, `Fault`
-    /// where the database fails, and `NoState` where the rows of the global zone stand for none.
+    /// The global zone, even if the rows of zones stand for none. Returns `Memory` if memory runs out, `Fault` if the
+    /// database fails, and `NoState` if the rows of the global zone stand for none.
     pub fn load_global(&mut self) -> Result<GlobalZone, StoreError>
         ensures loads { Loads S.Store self.old self.new (λ i global. global ≡ i.global) result }
         ensures rows { HasCleanDisk (state S.Store self.new) → IfOk result (ShowsGlobal S.Store self.old) }
     {
-        // In no transaction, the connection shows what it last committed.
+        // Outside a transaction, the connection shows what it last committed.
         prove!(self.conn.is_autocommit());
         told(load_global(self.alloc, &mut self.conn))
     }
 
-    /// The zone of this name, if there is one. `Memory` comes where memory runs out, `Fault` where the database fails,
-    /// and `NoState` where its rows stand for none.
+    /// The zone of this name, if there is one. Returns `Memory` if memory runs out, `Fault` if the database fails, and
+    /// `NoState` if its rows stand for none.
     pub fn load_zone(&mut self, name: ZoneName) -> Result<Option<Zone>, StoreError>
         ensures { Loads S.Store self.old self.new (λ i zone. zone ≡ zone_in i name) result }
     {
-        // In no transaction, the connection shows what it last committed.
+        // Outside a transaction, the connection shows what it last committed.
         prove!(self.conn.is_autocommit());
         told(store_zones::load_zone(self.alloc, &mut self.conn, Schema::Third, name))
     }
 
-    /// All zones without their entries and elements, rising by name. `Memory` comes where memory runs out, `Fault`
-    /// where the database fails, and `NoState` where the rows stand for no zones that are related as they must be.
+    /// All zones without their entries and elements, rising by name. Returns `Memory` if memory runs out, `Fault` if
+    /// the database fails, and `NoState` if the rows stand for no zones that are related as they must be.
     pub fn zone_heads(&mut self) -> Result<Vec<ZoneHead>, StoreError>
         ensures { Loads S.Store self.old self.new (λ i heads. heads.items ≡ map head_of i.zones) result }
     {
-        // In no transaction, the connection shows what it last committed.
+        // Outside a transaction, the connection shows what it last committed.
         prove!(self.conn.is_autocommit());
         told(store_zones::zone_heads(self.alloc, &mut self.conn))
     }
 
-    /// The names of all zones, rising. `Memory` comes where memory runs out, `Fault` where the database fails, and
-    /// `NoState` where the rows stand for no zones that are related as they must be.
+    /// The names of all zones, rising. Returns `Memory` if memory runs out, `Fault` if the database fails, and
+    /// `NoState` if the rows stand for no zones that are related as they must be.
     pub fn zone_names(&mut self) -> Result<Vec<ZoneName>, StoreError>
         ensures { Loads S.Store self.old self.new (λ i names. names.items ≡ map (λ z. z.name) i.zones) result }
     {
-        // In no transaction, the connection shows what it last committed.
+        // Outside a transaction, the connection shows what it last committed.
         prove!(self.conn.is_autocommit());
         told(store_zones::zone_names(self.alloc, &mut self.conn))
     }

@@ -22,7 +22,7 @@ use std::alloc::Global;
 use std::marker::Model;
 use store_schema::{StoreError, set_up};
 
-/// A connection to a database whose tables are the store's. No transaction is under way.
+/// A connection to a database whose tables are the store's, outside any transaction.
 pub struct Store<S: Alter> {
     pub(crate) conn: Connection<S>,
     pub(crate) alloc: Global,
@@ -48,10 +48,10 @@ impl<S: Alter> Model for Store<S> {
 }
 
 impl<S: Alter> Store<S> {
-    /// Makes the tables in a database that has none, and knows those of another schema. The error hands the connection
-    /// back: `OtherSchema` comes where `meta` gives another number than the store's, `NoState` where the tables are
-    /// else not the store's, `Fault` where the database fails or has tables but no `meta` with its columns, and
-    /// `Memory` where memory runs out.
+    /// Creates the tables in a database that has none, and recognizes those of another schema. The error returns the
+    /// connection: `OtherSchema` if `meta` gives another number than the store's, `NoState` if the tables otherwise are
+    /// not the store's, `Fault` if the database fails or has tables but no `meta` with its columns, and `Memory` if
+    /// memory runs out.
     pub fn open(
         alloc: Global,
         mut conn: Connection<S>,
@@ -78,7 +78,7 @@ impl<S: Alter> Store<S> {
             (IsSetUp (state S.Store conn).now)) }
         ensures mode { IfErr result (λ e. e.0.in_transaction ≡ false) }
     {
-        // In no transaction, the connection shows what it last committed.
+        // Outside a transaction, the connection shows what it last committed.
         prove!(conn.is_autocommit());
         match set_up(alloc, &mut conn) {
             Ok(()) => Ok(Store { conn, alloc }),
@@ -86,8 +86,8 @@ impl<S: Alter> Store<S> {
         }
     }
 
-    /// The store over a connection whose tables are known to be the store's: `open` is for all others. What the tables
-    /// stand for is the caller's to know.
+    /// The store over a connection whose tables are known to be the store's; use `open` for all others. The caller
+    /// knows what the tables stand for.
     pub fn over(alloc: Global, conn: Connection<S>) -> Store<S>
         requires { conn.in_transaction ≡ false }
         ensures { result ≡ conn }
@@ -95,9 +95,9 @@ impl<S: Alter> Store<S> {
         Store { conn, alloc }
     }
 
-    /// Makes the change in one transaction. It writes the rows that change, and loads none. `Memory` comes where memory
-    /// runs out, and `Fault` where the disk fails or the database refuses a row; the tables then stand for what they
-    /// stood for.
+    /// Makes the change in one transaction. It writes the rows that change, and loads none. Returns `Memory` if memory
+    /// runs out, and `Fault` if the disk fails or the database refuses a row. The tables then stand for what they stood
+    /// for before.
     pub fn commit(&mut self, change: &Change<'_>) -> Result<(), StoreError>
         ensures only { OnlyCommits S.Store (calls_of change.now) self.old self.new result }
         ensures ok { OnOk result ((i j : Inventory) → Makes change.now i j → IsInventory j → Tables S.Store self.old i
@@ -116,13 +116,13 @@ impl<S: Alter> Store<S> {
             → HasCause S.Store self.old self.new i (λ own. own ≡ change.now) }
         ensures clean { HasCleanDisk (state S.Store self.new) → HasCleanDisk (state S.Store self.old) }
     {
-        // In no transaction, the connection shows what it last committed.
+        // Outside a transaction, the connection shows what it last committed.
         prove!(self.conn.is_autocommit());
         commit_change(self.alloc, &mut self.conn, change)?;
         Ok(())
     }
 
-    /// The connection, with what was committed.
+    /// The connection, with all that was committed.
     pub fn close(self) -> Connection<S>
         ensures same { result ≡ self }
         ensures found { (i : Inventory) → TablesIfOpen S.Store self i → IsFound S.Store result i }

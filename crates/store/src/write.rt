@@ -52,7 +52,7 @@ pub(crate) fn commit_change<S: Alter>(
         (IsChangeOutcome S.Store conn.old change.now) }
     ensures mode { conn.new.in_transaction ≡ false }
 {
-    // In no transaction, the connection shows what it last committed.
+    // Outside a transaction, the connection shows what it last committed.
     prove!(conn.is_autocommit());
     let mut tx = conn.transaction();
     write(alloc, &mut tx, change)?;

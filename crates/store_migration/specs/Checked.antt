@@ -1,4 +1,4 @@
--- What is read of the tables of a schema, before they become the store's.
+-- What is read from the tables of a schema before they become the store's.
 use Rattle.std.specs.Prelude.{◌≡◌, List, map, Vec, Result, IfOk, OnOk, IsErrOf}
 use Rattle.std.specs.declared.alloc.Global.{Global as AnyGlobal}
 use Rattle.sqlite.specs.Effect.{IsDatabase}
@@ -22,7 +22,7 @@ use Rattle.store_zones.specs.Held.{HoldsHeads}
 use Rattle.store_migration.specs.Migrated.{HasRowids}
 use Rattle.store.specs.Whole.{HoldsZones}
 
--- An answer has the SYSMODs whose sources are moved, and the tables stand for an inventory. Bad rows stand for none.
+-- The answer has the SYSMODs whose sources move, and the tables stand for an inventory. Bad rows stand for none.
 pub record Checks {S : Type 0} (g : Ghosts S) (schema : Schema) (old new : Held S)
     (result : Result (Vec Head AnyGlobal) ReadError) : Type 0 where
   pub found : HasCleanDisk (state g new) → (i : Inventory) → StandsUnder schema i (state g old).now

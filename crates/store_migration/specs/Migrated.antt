@@ -1,4 +1,4 @@
--- How a migration ends, and what is found behind it.
+-- How a migration ends, and what is found after it.
 use Rattle.std.specs.Prelude.{◌≡◌, ◌⊎◌, false, IsTrue, ◌∷◌, map, Result, OnOk, OnErr, IsErrOf}
 use Rattle.std.specs.List.{AllByRecursion}
 use Rattle.sqlite.specs.Store.{Ghosts}
@@ -19,13 +19,13 @@ use Rattle.store_schema.specs.Stands.{StandsFor}
 use Rattle.store_schema.specs.Tables.{store_schema}
 use Rattle.store.specs.View.{Tables, IsFound, IsEarlierFound, Leaves, LeavesEarlier, ShowsLeft}
 
--- The tables stand for no state: they are a schema's, and their rows stand for none, or they are no schema's, though
--- meta gives `schema` no number but theirs.
+-- The tables stand for no state: they are a schema's, and their rows stand for none, or they are no schema's, although
+-- meta gives `schema` only numbers of schemas.
 pub record HasNoEarlierState (at : State) : Type 0 where
   pub none : (i : Inventory) → ¬ IsEarlierStateOf i at.now
   pub which : ((r : Schema) × HasTablesUnder r at.now) ⊎ HasNoSchema at
 
--- No two rows of a table have one rowid. So it is in each database, though no clause of a connection says it.
+-- No two rows of a table have the same rowid. This is true in each database, though no clause of a connection says it.
 abbrev pub HasRowids : Database → Type 0
 HasRowids db = AllByRecursion (λ t. AreNumbered (map (λ r. rowid r ∷ shown t r) (db.trees t.tree))) db.schema.tables
 
@@ -35,9 +35,9 @@ IsTakenOver was db = HasRowids was
     → (i : Inventory) × IsEarlierStateOf i was × StandsFor i (record { schema = store_schema; trees = db })
 
 module _ {S : Type 0} (g : Ghosts S) (conn : Held S) where
-  -- The database stood for an inventory, and whatever it stood for, the store's tables do, and a crash leaves it. Where
-  -- the tables were the store's already, nothing is changed. At no moment could a crash leave anything but what it
-  -- could leave before, and the store's tables with all of what was there.
+  -- The database stood for an inventory. Whatever it stood for, the store's tables now stand for, and a crash leaves
+  -- that. If the tables were the store's already, nothing has changed. At no moment could a crash leave anything but
+  -- what it could leave before, or the store's tables with all that was there.
   pub record Migrated (store : Held S) : Type 0 where
     pub stood : HasCleanDisk (state g store) → HasRowids (state g conn).now
         → (i : Inventory) × IsEarlierStateOf i (state g conn).now
@@ -47,8 +47,8 @@ module _ {S : Type 0} (g : Ghosts S) (conn : Held S) where
         → IsUnchanged (state g conn) (state g store)
     pub crash : Survives (state g conn) (state g store) (IsTakenOver (state g conn).now)
 
-  -- The migration failed, for this reason, and what was last committed is there as before. Nothing was written where
-  -- the reason is what was found. A crash leaves what was found, under its own schema or under the store's.
+  -- The migration failed, for this reason, and what was last committed is unchanged. If the reason is what it found, it
+  -- wrote nothing. A crash leaves what was found, under its own schema or under the store's.
   pub record Unmigrated (left : Held S) (why : StoreError) : Type 0 where
     pub other : HasCleanDisk (state g left) → why ≡ OtherSchema → HasUnknownNumber (state g conn)
     pub none : HasCleanDisk (state g left) → why ≡ NoState → HasNoEarlierState (state g conn)
@@ -59,7 +59,7 @@ module _ {S : Type 0} (g : Ghosts S) (conn : Held S) where
     pub crash : Survives (state g conn) (state g left) (IsTakenOver (state g conn).now)
     pub mode : left.in_transaction ≡ false
 
--- So a migration goes over a connection that sees what it last committed.
+-- This is how a migration goes over a connection that sees what it last committed.
 pub record Migrates {S X : Type 0} (g : Ghosts S) (old new : Held S) (result : Result X StoreError) : Type 0 where
   pub stood : HasCleanDisk (state g new) → OnOk result (HasRowids (state g old).now
       → (i : Inventory) × IsEarlierStateOf i (state g old).now)
@@ -79,14 +79,14 @@ pub record Migrates {S X : Type 0} (g : Ghosts S) (old new : Held S) (result : R
   pub mode : new.in_transaction ≡ false
 
 module _ {S T : Type 0} (g : Ghosts S) (h : Ghosts T) where
-  -- Behind a migration that failed, whether or not a fault shut the connection, the next one finds what this one found.
+  -- After a migration that failed, whether or not a fault shut the connection, the next one finds what this one found.
   abbrev pub NextMigrationFinds : Type 0
   NextMigrationFinds =
       (conn left : Held S) (again : Held T) (why : StoreError) (i : Inventory) → Unmigrated g conn left why
       → IsTrue (state g conn).is_open → IsEarlierFound g conn i → ShowsLeft g left h again
       → ∥ IsEarlierFound h again i ∥₁
 
-  -- Behind one that was made, the next open finds it.
+  -- After one that succeeded, the next open finds its result.
   abbrev pub NextOpenFinds : Type 0
   NextOpenFinds =
       (conn store : Held S) (again : Held T) (i : Inventory) → Migrated g conn store → IsEarlierFound g conn i

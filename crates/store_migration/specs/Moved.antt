@@ -24,11 +24,11 @@ head_of s = record { id = s.id; kind = s.kind; sources = s.sources }
 abbrev pub bare_row : Head → Row
 bare_row h = value.Text h.id ∷ value.Text (kind_text h.kind) ∷ ids [] ∷ []
 
--- the table of sources has one more
+-- the table of sources has one more row
 abbrev pub with_source : Id → Contents → Text → Contents
 with_source x contents name = in_table source (with_row (source_row x name)) contents
 
--- the table of sources has those of the SYSMOD too, and its own row has none
+-- the table of sources also has those of the SYSMOD, and the SYSMOD's own row has none
 abbrev pub with_moved : Contents → Head → Contents
 with_moved contents h =
     in_table sysmod (in_place (value.Text h.id ∷ []) (bare_row h)) (fold (with_source h.id) contents h.sources)

@@ -1,4 +1,4 @@
--- What becomes of a database of each schema.
+-- What a database of each schema becomes.
 use Rattle.std.specs.Prelude.{◌≡◌, List, [], map}
 use Rattle.sqlite.specs.Effect.{Database}
 use Rattle.sqlite.specs.Schema.{Schema as SqliteSchema}
@@ -12,7 +12,7 @@ use Rattle.store_schema.specs.declared.schema.Schema.TheVariants.{First, Second,
 use Rattle.store_migration.specs.Moved.{head_of}
 use Rattle.store_migration.specs.declared.head.Head.{Head}
 
--- those of the SYSMODs whose sources are moved: all of schema 1
+-- those of the SYSMODs whose sources move: under schema 1 all
 abbrev pub moved_heads : Schema → List Sysmod → List Head
 moved_heads First sysmods = map head_of sysmods
 moved_heads Second sysmods = []
@@ -22,7 +22,7 @@ abbrev pub heads_under : Schema → Inventory → List Head
 heads_under schema i = moved_heads schema i.global.sysmods
 
 module _ (schema : Schema) (heads : List Head) (was : Database) where
-  -- Whatever the tables of the schema stood for, where these were its SYSMODs, the store's tables stand for.
+  -- If these were its SYSMODs, the store's tables stand for whatever the tables of the schema stood for.
   abbrev pub Takes : Database → Type 0
   Takes db = (i : Inventory) → heads ≡ heads_under schema i → StandsUnder schema i was → StandsFor i db
 

@@ -1,4 +1,4 @@
-//! All rows of a schema's tables, read to know that they stand for a state.
+//! All rows of a schema's tables, read to make sure that they stand for a state.
 
 ghost use Rattle.std.specs.Prelude.{◌≡◌, List, Some, OnOk, IfOk, IsErrOf, IsSome, IsTrue};
 ghost use Rattle.sqlite.specs.Held.{state};
@@ -23,7 +23,7 @@ use store_rows::ReadError;
 use store_schema::Schema;
 use store_zones::{ZoneHead, load_zone, zone_heads};
 
-// The global zone is let go, but for what is moved.
+// The global zone is dropped, except for what moves.
 fn check_global<S: Alter>(
     alloc: Global,
     conn: &mut Connection<S>,
@@ -96,7 +96,7 @@ fn check_zones<S: Alter>(
     check_each(alloc, conn, schema, heads.as_slice())
 }
 
-/// Reads all rows, and answers what is moved of them.
+/// Reads all rows, and returns what moves.
 pub(crate) fn check_all<S: Alter>(
     alloc: Global,
     conn: &mut Connection<S>,

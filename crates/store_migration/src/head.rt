@@ -1,4 +1,4 @@
-//! SYSMODs as their own rows have them.
+//! SYSMODs as in their own rows.
 
 ghost use Rattle.std.specs.Prelude.{◌≡◌, map, IfOk};
 ghost use Rattle.store_migration.specs.Moved.{head_of as the_head};
@@ -10,7 +10,7 @@ use store_schema::Schema;
 use sysmods_values::Sysmod;
 use terms::Kind;
 
-/// A SYSMOD as its own row of schema 1 has it.
+/// A SYSMOD as in its own row of schema 1.
 #[derive(Drop)]
 pub struct Head {
     pub id: Id,
@@ -39,8 +39,7 @@ fn all_heads(alloc: Global, sysmods: &[Sysmod]) -> Result<Vec<Head>, AllocError>
     Ok(heads)
 }
 
-/// What is moved of all SYSMODs, which these are, where the tables are those of the schema. The error comes where
-/// memory runs out.
+/// What moves of all SYSMODs, which are these, if the tables are those of the schema.
 pub fn heads_of(alloc: Global, schema: Schema, sysmods: &[Sysmod]) -> Result<Vec<Head>, AllocError>
     ensures { IfOk result (λ heads. heads.items ≡ moved_heads schema sysmods.now) }
 {

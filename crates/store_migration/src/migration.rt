@@ -1,4 +1,4 @@
-//! The tables of an earlier schema, taken over to the store's.
+//! The migration of the tables of an earlier schema.
 
 ghost use Rattle.std.specs.Prelude.{◌≡◌, false, IfOk, IfErr};
 ghost use Rattle.sqlite.specs.Held.{state};
@@ -24,7 +24,7 @@ fn migrated<S: Alter>(alloc: Global, conn: &mut Connection<S>) -> Result<(), Sto
     requires { conn.old.in_transaction ≡ false }
     ensures { Migrates S.Store conn.old conn.new result }
 {
-    // Outside a transaction, what the connection shows is what it last committed.
+    // Outside a transaction, the connection shows what it last committed.
     prove!(conn.is_autocommit());
     attest(conn);
     let Some(schema) = found_schema(alloc, conn)? else {
@@ -40,11 +40,11 @@ fn migrated<S: Alter>(alloc: Global, conn: &mut Connection<S>) -> Result<(), Sto
     }
 }
 
-/// Takes the tables of an earlier schema over to the store's, in one transaction, and makes them in a database that has
-/// none. Before that all rows are read, those of one zone at a time, so that bad ones stay as they are. Like
-/// `Store::open` it hands the connection back with its error: `OtherSchema` comes where `meta` gives a number that no
-/// schema has, `NoState` where the tables are else those of no schema, or the rows stand for no state, `Fault` where
-/// the database fails or has tables but no `meta` with its columns, and `Memory` where memory runs out.
+/// Migrates the tables of an earlier schema to the store's, in one transaction, and creates them in a database that has
+/// none. Before that it reads all rows, those of one zone at a time, so that bad ones stay as they are. Like
+/// `Store::open` it returns the connection with its error: `OtherSchema` if `meta` gives a number that no schema has,
+/// `NoState` if the tables otherwise are those of no schema, or the rows stand for no state, `Fault` if the database
+/// fails or has tables but no `meta` with its columns, and `Memory` if memory runs out.
 pub fn migrate<S: Alter>(
     alloc: Global,
     mut conn: Connection<S>,
@@ -53,7 +53,7 @@ pub fn migrate<S: Alter>(
     ensures ok { IfOk result (Migrated S.Store conn) }
     ensures err { IfErr result (λ e. Unmigrated S.Store conn e.0 e.1) }
 {
-    // Outside a transaction, what the connection shows is what it last committed.
+    // Outside a transaction, the connection shows what it last committed.
     prove!(conn.is_autocommit());
     match migrated(alloc, &mut conn) {
         Ok(()) => Ok(Store::over(alloc, conn)),

@@ -1,4 +1,4 @@
-//! The whole, in one transaction.
+//! The whole migration, in one transaction.
 
 ghost use Rattle.std.specs.Prelude.{◌≡◌, false, IsTrue, OnOk, OnErr};
 ghost use Rattle.sqlite.specs.Held.{state};
@@ -22,8 +22,8 @@ fn write<S: Alter>(tx: &mut Transaction<'_, S>, schema: Schema, heads: &[Head]) 
     write_number(tx)
 }
 
-/// Makes the tables of the schema the store's. Of schema 1 the sources of all SYSMODs are moved, which these are. An
-/// error comes where the database refuses a table or a row, where the disk fails or memory is short.
+/// Makes the tables of the schema the store's. Under schema 1 it moves the sources of all SYSMODs, which are these.
+/// Returns an error if the database refuses a table or a row, if the disk fails or if memory runs out.
 pub fn take_over<S: Alter>(
     conn: &mut Connection<S>,
     schema: Schema,

@@ -15,7 +15,7 @@ use Rattle.store_rows.specs.Reads.{HasFailed}
 abbrev pub Call : Type 0
 Call = List ℕ × Row
 
--- how many rows one INSERT puts, where there are so many
+-- how many rows one INSERT puts, if there are that many
 abbrev pub many : ℕ
 many = 16
 
@@ -28,22 +28,22 @@ runs (suc n) rows = take many rows ∷ runs n (drop many rows)
 abbrev pub columns_of : List Row → Row
 columns_of = flat_map (λ (row : Row). row)
 
--- INSERTs of these rows, whose columns are the parameters: first as many rows at a time by one text, and then those
--- that are left, one at a time by another.
+-- INSERTs of these rows, whose columns are the parameters: first so many rows at a time by one text, and then the
+-- remaining ones, one at a time, by another.
 abbrev pub puts : List ℕ → List ℕ → List Row → List Call
 puts some one rows =
     let n = length rows / many in
     map (λ run. (some, columns_of run)) (runs n rows) ++ map (λ row. (one, row)) (drop (n * many) rows)
 
 module _ {S : Type 0} (g : Ghosts S) where
-  -- each of them ran, the first of them first
+  -- each of them ran, in their order
   abbrev pub Ran : List Call → Held S → Held S → Type 0
   Ran [] old new = new ≡ old
   Ran (call ∷ more) old new =
       (mid : Held S) × (count : ℕ) × Executes call.0 call.1 (state g old) (state g mid) (Ok count) × Ran more mid new
 
-  -- Those before one of them ran, under the same limit on steps, and the database refused that one, or has no room for
-  -- its row.
+  -- Those before one of them ran, under the same limit on steps. The database refused that one, or has no room for its
+  -- row.
   pub record RefusedCall (calls : List Call) (old new : Held S) (error : Error) : Type 0 where
     pub before : List Call
     pub call : Call
@@ -55,13 +55,13 @@ module _ {S : Type 0} (g : Ghosts S) where
     pub refused : ExecutesInside 0 call.0 call.1 (state g at) (state g new) (Err error)
     pub left : IsUnchanged (state g at) (state g new) ⊎ (error ≡ SqliteFailure TooBig)
 
-  -- They ran; or memory was short, the database failed, or refused one of them.
+  -- They ran, or memory ran out, the database failed, or it refused one of them.
   abbrev pub RunsThrough : List Call → Held S → Held S → {X : Type 0} → Result X Error → Type 0
   RunsThrough calls old new (Ok x) = Ran calls old new × IsTrue new.in_transaction
   RunsThrough calls old new (Err e) =
       (e ≡ SqliteFailure OutOfMemory) ⊎ (HasFailed (state g old) (state g new) ⊎ RefusedCall calls old new e)
 
-  -- so it is in a transaction
+  -- this is so in a transaction
   abbrev pub RunsInside : List Call → Held S → Held S → {X : Type 0} → Result X Error → Type 0
   RunsInside calls old new result =
       HasCleanDisk (state g new) → IsTrue old.in_transaction → RunsThrough calls old new result

@@ -23,12 +23,12 @@ module _ {S : Type 0} (g : Ghosts S) (old new : Held S) where
   abbrev pub Leads : (Database → Type 0) → (Database → Type 0) → Type 0
   Leads P Q = HasCleanDisk (state g new) → P (state g old).now → Q (state g new).now
 
-  -- whatever the database stands for, it comes to stand for what the function makes of that
+  -- whatever the database stands for, it then stands for the function's value of that
   abbrev pub Turns : {X : Type 0} → (X → Database → Type 0) → (X → X) → Type 0
   Turns {X} Stands make = HasCleanDisk (state g new) → (x : X) → Stands x (state g old).now
       → Stands (make x) (state g new).now
 
--- The transaction is of the same connection, in which nothing is committed, and no crash has a new outcome.
+-- The transaction is on the same connection, in which nothing is committed, and no crash has a new outcome.
 pub record Continues {S : Type 0} (g : Ghosts S) (old new : Transaction S) : Type 0 where
   pub same_reference : new.conn.ghost_name ≡ old.conn.ghost_name
   pub inside : StaysInside g old.conn.now new.conn.now

@@ -1,4 +1,4 @@
--- What a call leaves that reads rows and writes none, and why it fails.
+-- What a call that only reads rows leaves, and why it fails.
 use Rattle.std.specs.Prelude.{◌≡◌, ◌⊎◌, false, IsSome, Result, OnOk, IsErrOf}
 use Rattle.sqlite.specs.Store.{Ghosts}
 use Rattle.sqlite.specs.Schema.{Schema}
@@ -10,12 +10,12 @@ use Rattle.sqlite_disk.specs.Disk.{MoreFaults}
 abbrev pub HasFailed : State → State → Type 0
 HasFailed old new = MoreFaults old.faults new.faults ⊎ (old.is_open ≡ false)
 
--- why a query fails that suits the tables: so, or by a limit on the steps that a query may take
+-- why a query that suits the tables fails: for one of these reasons, or because of a limit on the steps of a query
 abbrev pub FailsToRead : State → State → Type 0
 FailsToRead old new = HasFailed old new ⊎ IsSome old.step_limit
 
--- An answer leaves all as it was, and so does the error that tells of bad rows. Any other error leaves what was last
--- committed. The error that tells of a fault has a cause, where the tables are those of the schema. A crash has no new
+-- After an answer all is as it was, and so it is after the error for bad rows. After any other error what was last
+-- committed is as it was. The error for a fault has a cause, if the tables are those of the schema. A crash has no new
 -- outcome.
 pub record OnlyReads {S X E : Type 0} (g : Ghosts S) (schema : Schema) (bad_row fault : E) (old new : Held S)
     (result : Result X E) : Type 0 where

@@ -12,17 +12,17 @@ use Rattle.sqlite_schema.specs.Rules.{equal}
 use Rattle.sqlite.specs.Effect.{Database, IsDatabase}
 use Rattle.store_rows.specs.Numbered.{AreNumbered}
 
--- the values of a row in the columns of its table, each NULL past the row's end
+-- the values of a row in the columns of its table, with NULL past the row's end
 abbrev pub shown : Table → Row → Row
 shown table r = map (column r) (range_with_len 1 (length table.columns))
 
--- whether the first columns are those of the key, by SQL's `=`
+-- whether the first columns equal those of the key, by SQL's `=`
 abbrev pub has_key : Row → Row → Bool
 has_key [] cells = true
 has_key (k ∷ key) [] = false
 has_key (k ∷ key) (c ∷ cells) = equal Binary c k && has_key key cells
 
--- The table holds these rows in some order, and no two of its rows have one rowid.
+-- The table holds these rows in some order, and no two of its rows have the same rowid.
 pub record AreRows (table : Table) (held rows : List Row) : Type 0 where
   pub same : IsPermutation held (map (shown table) rows)
   pub numbered : AreNumbered (map (λ r. rowid r ∷ shown table r) rows)
@@ -37,7 +37,7 @@ pub record HasContents (schema : Schema) (contents : Contents) (db : Database) :
   pub sound : IsDatabase db
   pub tables : AllByRecursion (λ t. AreRows t (contents t.tree) (db.trees t.tree)) schema.tables
 
--- the rows of one table become what the function makes of them
+-- the rows of one table become the function's value of them
 abbrev pub in_table : Table → (List Row → List Row) → Contents → Contents
 in_table table make contents t = if t == table.tree then make (contents t) else contents t
 
@@ -57,15 +57,15 @@ with_row row rows = row ∷ rows
 abbrev pub with_rows : List Row → List Row → List Row
 with_rows news rows = news ++ rows
 
--- the rows that have not the key
+-- the rows that do not have the key
 abbrev pub without : Row → List Row → List Row
 without key rows = filter (λ r. not (has_key key r)) rows
 
--- the table's rows without those that have the key, and one more
+-- the table's rows, with one row instead of those that have the key
 abbrev pub with_put : Table → Row → Row → Contents → Contents
 with_put table key row contents = in_table table (with_row row) (in_table table (without key) contents)
 
--- the rows, with this one in place of each that has the key
+-- the rows, with this one instead of each that has the key
 abbrev pub in_place : Row → Row → List Row → List Row
 in_place key row rows = map (λ r. if has_key key r then row else r) rows
 

@@ -1,4 +1,4 @@
--- What a statement's text means under a schema, where it writes the rows of one table or reads them.
+-- What the text of a statement that writes or reads the rows of one table means under a schema.
 use Rattle.std.specs.Prelude.{◌≡◌, ◌≢◌, ◌≤◌, ◌+◌, ◌==◌, ◌||◌, ℕ, zero, suc, Bool, true, false, not, pos, negsuc, List}
 use Rattle.std.specs.Prelude.{[], ◌∷◌, ◌++◌, ◌-◌, map, filter, length, take, replicate, slice_get, Some, None, IfSome}
 use Rattle.std.specs.Prelude.{Result, Ok, Err}
@@ -35,7 +35,7 @@ use Rattle.sqlite_schema.specs.Rules.{parent_key, guards}
 use Rattle.sqlite_rules.specs.Lists.{Has}
 use Rattle.sqlite_value.specs.Keys.{first_key, plain}
 
--- each value is one that its column keeps as it is
+-- each value is one that its column stores unchanged
 abbrev pub SuitColumns : List Column → Row → Type 0
 SuitColumns [] [] = Unit {0}
 SuitColumns [] (v ∷ values) = ⊥
@@ -47,7 +47,7 @@ abbrev pub key_tests : ℕ → ℕ → List Term
 key_tests from zero = []
 key_tests from (suc n) = op2 (Compare Eq Binary) (col 1 (from + 1)) (col 0 from) ∷ key_tests (from + 1) n
 
--- the rows of one table that pass the tests, with a cut at no row
+-- the rows of one table that pass the tests; no row cuts them off
 abbrev pub scan_by : ℕ → List Term → List Term → List (Term × Key) → Query
 scan_by tree tests project order = record {
   from = inner tree end;
@@ -61,13 +61,13 @@ scan_by tree tests project order = record {
   offset = lit (Int (pos 0));
 }
 
--- the table is there, and its tree is no other table's
+-- the table exists, and its tree is no other table's
 pub record IsTableOf (schema : Schema) (at : ℕ) (table : Table) : Type 0 where
   pub found : slice_get schema.tables at ≡ Some table
   pub alone : list_all (λ (t : Table). not (t.tree == table.tree) || (length t.columns == length table.columns))
       schema.tables ≡ true
 
--- rows of so many columns, each with a rowid to be chosen, whose columns are the parameters from one on
+-- rows of so many columns, each with a rowid of the database's choice, whose columns are the parameters from one on
 abbrev pub given_rows : ℕ → ℕ → ℕ → List Term
 given_rows width from zero = []
 given_rows width from (suc n) =
@@ -82,7 +82,7 @@ pub record PutsIn (schema : Schema) (at : ℕ) (table : Table) (count : ℕ) (sq
   pub uncounted : table.is_counted ≡ false
   pub timeless : table.stamps.terms ≡ []
 
--- DELETE of the rows whose first columns are so many parameters, which sets off no action of a foreign key
+-- DELETE of the rows whose first columns are so many parameters, which triggers no action of a foreign key
 pub record DeletesByKey (schema : Schema) (at : ℕ) (table : Table) (width : ℕ) (sql : List ℕ) : Type 0 where
   pub there : IsTableOf schema at table
   pub command : command_of (understood schema sql) ≡ Delete at
@@ -91,13 +91,13 @@ pub record DeletesByKey (schema : Schema) (at : ℕ) (table : Table) (width : �
   pub plain : IsPlain (understood schema sql)
   pub free : (olds : List Row) → works schema Enforced 0 table.tree olds [] ≡ []
 
--- what an UPDATE of a table's rows sets off
+-- what an UPDATE of a table's rows triggers
 abbrev pub works_of_update : Schema → ℕ → List Row → List Row → List Work
 works_of_update schema tree olds news =
     flat_map (λ child. filter_map (λ ref. work_by 0 tree (pairs olds news) child ref (deed_for Enforced false ref)
     (parent_key schema.tables ref)) child.references) schema.tables
 
--- UPDATE of the rows whose first columns are so many parameters, where the parameters are the new row
+-- UPDATE of the rows whose first columns are so many parameters; the parameters are the new row
 pub record PutsInPlace (schema : Schema) (at : ℕ) (table : Table) (width : ℕ) (sql : List ℕ) : Type 0 where
   pub there : IsTableOf schema at table
   pub command : command_of (understood schema sql)
@@ -110,7 +110,7 @@ pub record PutsInPlace (schema : Schema) (at : ℕ) (table : Table) (width : ℕ
   pub narrow : width ≤ length table.columns
   pub free : (olds news : List Row) → works_of_update schema table.tree olds news ≡ []
 
--- The row whose rowid follows the parameters keeps its first columns, so many. The others it takes from the row that
+-- The row whose rowid follows the parameters keeps so many of its first columns. It takes the others from the row that
 -- follows its rowid, `excluded`.
 abbrev pub excluded : Table → ℕ → Query
 excluded table width =
@@ -123,23 +123,23 @@ excluded table width =
 abbrev pub Columns : Type 0
 Columns = List ℕ × Order
 
--- the first columns, so many, which compare as they are
+-- so many of the first columns, which compare as they are
 abbrev pub first_columns : ℕ → Columns
 first_columns width = (range_with_len 1 width, plain)
 
--- the keys of which no two rows of the table have the same
+-- the keys that no two rows of the table share
 abbrev pub unique_keys : Schema → Table → List Columns
 unique_keys schema table = map {B = Columns} (λ i. (i.columns, i.order)) (filter (λ i. guards i table) schema.indexes)
 
--- ON CONFLICT with the row that has the first columns of the new one, so many, that row is updated.
+-- ON CONFLICT with the row that has so many first columns of the new one, it updates that row.
 abbrev pub by_key : Table → ℕ → Upsert
 by_key table width = record {
   target = Some (range_with_len 1 width);
   update = Some (record { lets = []; body = excluded table width });
 }
 
--- INSERT of one row, whose columns are the parameters; or an UPDATE of the row that has its first columns, so many.
--- These are of texts, and no others are unique.
+-- INSERT of one row, whose columns are the parameters, or an UPDATE of the row that has so many of its first columns.
+-- These columns are texts, and no others are unique.
 pub record PutsByKey (schema : Schema) (at : ℕ) (table : Table) (width : ℕ) (sql : List ℕ) : Type 0 where
   pub there : IsTableOf schema at table
   pub command : command_of (understood schema sql) ≡ InsertOr at Abort
@@ -154,8 +154,8 @@ pub record PutsByKey (schema : Schema) (at : ℕ) (table : Table) (width : ℕ) 
   pub narrow : width ≤ length table.columns
   pub free : (olds news : List Row) → works_of_update schema table.tree olds news ≡ []
 
--- a foreign key's action on these old rows: it deletes the rows of one of these tables whose first column is an old
--- row's
+-- a foreign key's action on these old rows: it deletes the rows of one of these tables whose first column is that of an
+-- old row
 pub record IsCascade (children : List Table) (olds : List Row) (w : Work) : Type 0 where
   pub child : Has children w.child
   pub columns : w.ref.columns ≡ 1 ∷ []
@@ -164,7 +164,7 @@ pub record IsCascade (children : List Table) (olds : List Row) (w : Work) : Type
   pub shallow : w.depth ≡ 0
   pub moves : w.moves ≡ pairs olds []
 
--- DELETE of the rows whose first column is the parameter, which sets off the deletion of rows of other tables that
+-- DELETE of the rows whose first column is the parameter, which triggers the deletion of rows of other tables that
 -- refer to it
 pub record TakesOutParent (schema : Schema) (at : ℕ) (table : Table) (children : List Table) (sql : List ℕ) :
     Type 0 where

@@ -1,4 +1,4 @@
--- How an error of the database is told: it blames no row.
+-- How an error of the database is reported: it blames no row.
 use Rattle.sqlite.specs.declared.error.Error.{Error}
 use Rattle.sqlite.specs.declared.error.Error.TheVariants.{SqliteFailure}
 use Rattle.sqlite.specs.declared.error.ErrorCode.TheVariants.{OutOfMemory}

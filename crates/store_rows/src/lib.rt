@@ -1,6 +1,6 @@
-//! The rows of tables as lists in any order, and what statements make of them. It names no table.
-//! A statement's contract says what the tables hold then and what stays inside the transaction; and its commit's, what
-//! that and a crash leave.
+//! The rows of tables as lists in any order, and what statements make of them. It names no table. A statement's
+//! contract says what the tables hold afterwards, and what stays inside the transaction. The contract of the commit
+//! says what the commit and a crash leave. Every call that allocates returns an error if memory runs out.
 #![tactic(auto)]
 
 mod columns;

@@ -22,22 +22,21 @@ use std::alloc::Global;
 pub trait FromRow {
     type Item: Drop;
 
-    // The columns that an item is written as.
+    // The columns that represent an item.
     ghost row_of: { Self.Item → List SqlValue };
 
-    // Whether the item has the forms that are looked for in a row.
+    // Whether the item has the forms that a row must show.
     ghost has_form: { Self.Item → Type 0 };
 
-    /// What the row stands for. `BadRow` comes where it stands for nothing, `Memory` where memory runs out, and `Fault`
-    /// never.
+    /// The item of the row. Returns `BadRow` if it stands for none, and `Memory` if memory runs out, but never `Fault`.
     fn read(alloc: Global, row: &Row) -> Result<Self::Item, ReadError>
         ensures read { IfOk result (λ item. (row.now ≡ row_of item) × has_form item) }
         ensures none { IsErrOf result ReadError.BadRow → (item : Self.Item) → has_form item → row.now ≢ row_of item }
         ensures fault { IsErrOf result ReadError.Fault → ⊥ };
 }
 
-/// What the rows that the query finds stand for, whose first columns are the key. `BadRow` comes where a row stands for
-/// nothing, `Memory` where memory is short, and `Fault` where the disk fails or the database refuses the query.
+/// The items of the rows that the query finds; their first columns are the key. Returns `BadRow` if a row stands for no
+/// item, `Memory` if memory runs out, and `Fault` if the disk fails or the database refuses the query.
 pub fn load<S: Alter, T: FromRow>(
     alloc: Global,
     conn: &mut Connection<S>,

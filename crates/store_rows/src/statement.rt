@@ -1,4 +1,4 @@
-//! The statements that write rows, each in a transaction that is open.
+//! The statements that write rows, each in an open transaction.
 
 ghost use Rattle.std.specs.Prelude.{◌≡◌, ◌∷◌, [], ℕ, List, map, length, take, Ok, OnOk, IfOk};
 ghost use Rattle.std.specs.List.{AllByRecursion};
@@ -70,9 +70,9 @@ fn insert_run<S: Alter>(
     run(tx, sql, values.as_slice())
 }
 
-/// Puts these rows too into the table that the texts name: by the first text so many at a time as go into one
-/// statement, and by the second those that are left, one at a time. An error comes where the database refuses a
-/// statement, as for a row whose key is there, where the disk fails or memory is short.
+/// Adds these rows to the table that the texts name. The first text puts as many rows at a time as go into one
+/// statement, and the second puts the remaining ones, one at a time. Returns an error if the database refuses a
+/// statement, as for a row whose key exists already, if the disk fails or if memory runs out.
 pub fn insert_rows<S: Alter>(
     alloc: Global,
     tx: &mut Transaction<'_, S>,
@@ -103,8 +103,8 @@ pub fn insert_rows<S: Alter>(
     Ok(())
 }
 
-/// Puts one more row into the table that the text names, whose columns are the parameters. An error comes where the
-/// database refuses the statement, as for a row whose key is there, where the disk fails or memory is short.
+/// Adds one row, whose columns are the parameters, to the table that the text names. Returns an error if the database
+/// refuses the statement, as for a row whose key exists already, if the disk fails or if memory runs out.
 pub fn insert<S: Alter>(
     tx: &mut Transaction<'_, S>,
     sql: &str,
@@ -120,8 +120,8 @@ pub fn insert<S: Alter>(
     run(tx, sql, row)
 }
 
-/// Takes out of the table that the text names the rows whose first columns are the parameters. An error comes where the
-/// database refuses the statement, where the disk fails or memory is short.
+/// Removes from the table that the text names the rows whose first columns are the parameters. Returns an error if the
+/// database refuses the statement, if the disk fails or if memory runs out.
 pub fn remove<S: Alter>(
     tx: &mut Transaction<'_, S>,
     sql: &str,
@@ -137,10 +137,10 @@ pub fn remove<S: Alter>(
     run(tx, sql, key)
 }
 
-/// Puts a row, whose columns are the parameters, into the table that the text names. Where a row has its key, that row
-/// is updated and keeps its rowid; `INSERT OR REPLACE` would take it out, and might take out the row of another key,
-/// whose rowid the new one gets. An error comes where the database refuses the statement, where the disk fails or
-/// memory is short.
+/// Puts a row, whose columns are the parameters, into the table that the text names. If a row has its key, that row is
+/// updated and keeps its rowid. `INSERT OR REPLACE` would remove it, and might also remove the row of another key whose
+/// rowid the new one gets. Returns an error if the database refuses the statement, if the disk fails or if memory runs
+/// out.
 pub fn put<S: Alter>(
     tx: &mut Transaction<'_, S>,
     sql: &str,
@@ -156,9 +156,9 @@ pub fn put<S: Alter>(
     run(tx, sql, row)
 }
 
-/// Puts the parameters, as the columns of a row, in place of each row of the table that the text
-/// names whose first columns are so many of the parameters. Rows that refer to it stay, where a removal would take
-/// them along. An error comes where the database refuses the statement, where the disk fails or memory is short.
+/// Puts the parameters, as the columns of a row, in place of each row of the table that the text names whose first
+/// columns are so many of the parameters. Rows that refer to it stay; a removal would take them along. Returns an error
+/// if the database refuses the statement, if the disk fails or if memory runs out.
 pub fn replace<S: Alter>(
     tx: &mut Transaction<'_, S>,
     sql: &str,
@@ -174,9 +174,9 @@ pub fn replace<S: Alter>(
     run(tx, sql, columns)
 }
 
-/// Takes out of the table that the text names the rows whose first column is the one parameter,
-/// where the tables that refer to it hold no row of theirs. An error comes where the database refuses the statement,
-/// where the disk fails or memory is short.
+/// Removes from the table that the text names the rows whose first column is the one parameter, if the tables that
+/// refer to it hold no row of theirs. Returns an error if the database refuses the statement, if the disk fails or if
+/// memory runs out.
 pub fn remove_parent<S: Alter>(
     tx: &mut Transaction<'_, S>,
     sql: &str,

@@ -1,4 +1,4 @@
--- The tables while they are made.
+-- The tables while they are being created.
 use Rattle.std.specs.Prelude.{◌≡◌, ◌==◌, if◌then◌else◌, List, []}
 use Rattle.std.specs.List.{list_any}
 use Rattle.sqlite.specs.Table.{Table}
@@ -14,6 +14,6 @@ IsBlank db = db.schema ≡ schema_of []
 abbrev pub HasTables : List Table → Database → Type 0
 HasTables tables = HasContents (schema_of tables) (λ _. [])
 
--- these tables have no rows, and the others those that they have
+-- these tables have no rows, and the others keep their rows
 abbrev pub with_new : List Table → Contents → Contents
 with_new tables contents tree = if list_any (λ (t : Table). t.tree == tree) tables then [] else contents tree

@@ -1,4 +1,4 @@
--- What the tables of earlier schemas stand for. They are read to be migrated, and for nothing else.
+-- What the tables of earlier schemas stand for. They are read only to be migrated.
 use Rattle.std.specs.Prelude.{◌≡◌, ◌≤◌, ◌⊎◌, ℤ, List, [], ◌∷◌, ◌++◌, map, length, pos, All, IfSome}
 use Rattle.std.specs.List.{flat_map}
 use Rattle.sqlite.specs.declared.types.Value.TheVariants as value
@@ -19,12 +19,12 @@ use Rattle.store_schema.specs.Stands.{rows_in, shared_tables_of, StandsFor, IsSt
 use Rattle.store_schema.specs.declared.schema.Schema.{Schema}
 use Rattle.store_schema.specs.declared.schema.Schema.TheVariants.{First, Second, Third}
 
--- No SYSMOD has two ++VERs of one SREL, and each entry was installed by the first.
+-- No SYSMOD has two ++VERs of one SREL, and each entry was installed by the first one.
 pub record IsOfEarlier (i : Inventory) : Type 0 where
   pub singles : All (λ s. IsRising (map (λ v. v.srel) s.vers)) i.global.sysmods
   pub firsts : All (λ z. All (λ e. IfSome e.applied (λ a. a.number ≡ 1)) z.zone.entries) i.zones
 
--- Under schema 1 the sources of a SYSMOD stand in its row, joined by commas.
+-- Under schema 1 the sources of a SYSMOD are in its row, joined by commas.
 abbrev pub first_sysmod_row : Sysmod → Row
 first_sysmod_row s = value.Text s.id ∷ value.Text (kind_text s.kind) ∷ ids s.sources ∷ []
 
@@ -34,7 +34,7 @@ first_rows_of i = rows_in (
     ∷ (sysmod, map first_sysmod_row i.global.sysmods)
     ∷ shared_tables_of i)
 
--- and had 8 characters at most
+-- and had at most 8 characters
 abbrev pub HasShortSources : Sysmod → Type 0
 HasShortSources s = All (λ name. length name ≤ 8) s.sources
 
@@ -72,7 +72,7 @@ missing_tables First = source ∷ morever ∷ moreif ∷ chosen ∷ []
 missing_tables Second = morever ∷ moreif ∷ chosen ∷ []
 missing_tables Third = []
 
--- that schema as SQLite has it, and its number
+-- that schema as SQLite stores it, and its number
 abbrev pub schema_under : Schema → SqliteSchema
 schema_under r = schema_of (tables_under r)
 
@@ -86,10 +86,10 @@ StandsUnder First = StandsForFirst
 StandsUnder Second = StandsForSecond
 StandsUnder Third = StandsFor
 
--- what the database stands for, under whichever schema its tables are
+-- what the database stands for, whichever schema its tables have
 abbrev pub IsEarlierStateOf : Inventory → Database → Type 0
 IsEarlierStateOf i db = IsStateOf i db ⊎ StandsForFirst i db ⊎ StandsForSecond i db
 
--- A database has one state at most, also under earlier schemas.
+-- A database has at most one state, also under earlier schemas.
 abbrev pub HasOneEarlierState : Type 0
 HasOneEarlierState = (db : Database) (i j : Inventory) → IsEarlierStateOf i db → IsEarlierStateOf j db → i ≡ j

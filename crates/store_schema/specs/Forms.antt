@@ -1,4 +1,4 @@
--- The forms of what is kept: of a SYSMOD's fields as its statements have them, and of a zone's entries.
+-- The forms of what is stored: of a SYSMOD's fields as its statements have them, and of a zone's entries.
 use Rattle.std.specs.Prelude.{◌≡◌, ◌≢◌, ◌≤◌, ◌<◌, ◌^◌, Bool, false, List, [], ◌∷◌, ◌++◌, length, reverse, All, AllPairs}
 use Rattle.std.specs.Prelude.{Contains, Some, IfSome, IsSome, IsTrue, IsFalse, ◌&&◌, ◌||◌, ◌==◌, nat_lt, nat_le}
 use Rattle.terms.specs.declared.kinds.Kind.{Kind}
@@ -18,7 +18,7 @@ pub record AreSorted (form : Text → Type 0) (ids : List Text) : Type 0 where
   pub each : All form ids
   pub rising : IsRising ids
 
--- rising ids, among which the SYSMOD's own is not
+-- rising ids that do not include the SYSMOD's own
 pub record AreOthers (x : Id) (ids : List Id) : Type 0 where
   pub listed : AreSorted IsId ids
   pub others : ¬ Contains ids x
@@ -33,7 +33,7 @@ IsTextOf Mac text = AreRecords text × IsNumbered text
 IsTextOf Src text = AreRecords text × IsNumbered text
 IsTextOf _ text = AreRecords text
 
--- there is ++MACUPD and ++SRCUPD
+-- ++MACUPD and ++SRCUPD exist
 abbrev pub TakesUpdates : ElemType → Type 0
 TakesUpdates Mac = Unit {0}
 TakesUpdates Src = Unit {0}
@@ -45,7 +45,7 @@ pub record HasIfForms (x : Id) (i : IfReq) : Type 0 where
   pub req : AreOthers x i.req
   pub some : i.req ≢ []
 
--- FMID may be absent in a function alone, and NPRE and DELETE stand there alone.
+-- Only a function may have no FMID, and only a function has NPRE and DELETE.
 abbrev pub VerSuitsKind : Kind → Ver → Type 0
 VerSuitsKind Function v = Unit {0}
 VerSuitsKind _ v = IsSome v.fmid × (v.npre ≡ []) × (v.del ≡ [])
@@ -62,7 +62,7 @@ pub record HasVerForms (kind : Kind) (x : Id) (v : Ver) : Type 0 where
   pub ifs : All (HasIfForms x) v.ifs
   pub suits : VerSuitsKind kind v
 
--- a replacement has a record at least; no function has an update
+-- a replacement has at least one record; no function has an update
 abbrev pub HasActionForms : Kind → ElemType → Text → Action → Type 0
 HasActionForms kind type name (Replaces distlib syslib text) = IsName distlib × IsName syslib × IsTextOf type text
     × (text ≢ [])
@@ -80,8 +80,8 @@ is_change_before a b =
     nat_lt (type_number a.elem_type) (type_number b.elem_type)
     || ((type_number a.elem_type == type_number b.elem_type) && is_before a.name b.name)
 
--- Of two ++VERs one is not for an earlier SREL than the one before it. Where they are for one SREL, which no function
--- has, they are for two FMIDs.
+-- Of two ++VERs the later one is not for an earlier SREL. If they are for one SREL, as in no function, they are for two
+-- FMIDs.
 pub record AreVersApart (kind : Kind) (v w : Ver) : Type 0 where
   pub srels : IsFalse (is_before w.srel v.srel)
   pub service : v.srel ≡ w.srel → kind ≢ Function
@@ -98,7 +98,7 @@ pub record HasSysmodForms (s : Sysmod) : Type 0 where
   pub changes : All (HasChangeForms s.kind) s.changes
   pub elements : AllPairs (λ a b. IsTrue (is_change_before a b)) s.changes
 
--- Each parenthesis in it has its partner, and no pair stands in another: in parentheses of its own, it ends where the
+-- Each parenthesis in it has its partner, and no pair is inside another: in parentheses of its own, it ends where the
 -- text does.
 abbrev pub IsPaired : Text → Type 0
 IsPaired text = behind_list false (text ++ 41 ∷ []) ≡ Some []
@@ -121,13 +121,13 @@ pub record HasHoldForms (h : Hold) : Type 0 where
   pub date : IfSome h.date IsDate
   pub comment : IfSome h.comment IsComment
 
--- The number counts from 1. No ++VER need have it, since the SYSMOD need not be received.
+-- The number counts from 1. It need not be that of a ++VER, since the SYSMOD need not be received.
 pub record HasAppliedForms (a : Applied) : Type 0 where
   pub date : IsDottedDate a.date
   pub least : 1 ≤ a.number
   pub most : a.number < 2 ^ 63
 
--- a SYSMOD entry; only what is applied has waived requisites
+-- a SYSMOD entry; only one that is applied has waived requisites
 pub record HasEntryForms (e : Entry) : Type 0 where
   pub id : IsId e.id
   pub applied : IfSome e.applied HasAppliedForms
@@ -146,7 +146,7 @@ pub record HasElementForms (e : Element) : Type 0 where
   pub syslib : IsName e.syslib
   pub text : IsTextOf e.elem_type e.text
 
--- a zone's SREL and entries; the names of related zones are the inventory's
+-- a zone's SREL and entries; the names of related zones belong to the inventory
 pub record HasZoneForms (z : Zone) : Type 0 where
   pub srel : IsSrel z.srel
   pub entries : All HasEntryForms z.entries

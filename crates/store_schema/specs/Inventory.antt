@@ -1,4 +1,4 @@
--- What the tables hold, and the invariants that it keeps (SMP/E Reference: the zones of a CSI and their entries).
+-- What the tables hold, and its invariants (SMP/E Reference: the zones of a CSI and their entries).
 use Rattle.std.specs.Prelude.{◌≡◌, ◌≢◌, List, [], map, All, AllPairs, Contains, IfSome, Option, None, Some, codes}
 use Rattle.terms.specs.declared.kinds.ZoneKind.{ZoneKind}
 use Rattle.terms.specs.declared.kinds.ZoneKind.TheVariants.{Target, Distribution}
@@ -21,17 +21,17 @@ abbrev pub HasDistribution : List NamedZone → Text → Text → Type 0
 HasDistribution zones name srel =
     (z : NamedZone) × Contains zones z × (z.name ≡ name) × (z.zone.kind ≡ Distribution) × (z.zone.srel ≡ srel)
 
--- A target zone names a distribution zone of its SREL, and a distribution zone names none.
+-- A target zone names a distribution zone of its SREL. A distribution zone names none.
 abbrev pub IsRelated : List NamedZone → ZoneKind → Text → Option Text → Type 0
 IsRelated zones Target srel None = ⊥
 IsRelated zones Target srel (Some name) = HasDistribution zones name srel
 IsRelated zones Distribution srel related = related ≡ None
 
--- no zone names what another one names
+-- no zone names the related zone of another one
 abbrev pub AreApart : NamedZone → NamedZone → Type 0
 AreApart a b = IfSome a.zone.related (λ name. b.zone.related ≢ Some name)
 
--- a zone by itself: it has a name of its own, and its entries are in order
+-- a single zone: it has a name of its own, and its entries are in order
 pub record IsZoneNamed (z : NamedZone) : Type 0 where
   pub name : IsZoneName z.name
   pub not_global : z.name ≢ codes "GLOBAL"

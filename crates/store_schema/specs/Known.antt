@@ -1,4 +1,4 @@
--- What is found in a database that has tables already.
+-- What is found in a database that already has tables.
 use Rattle.std.specs.Prelude.{◌≡◌, ℕ, ℤ, List, [], ◌∷◌, Contains, codes, pos, Ok}
 use Rattle.std.specs.List.{Any}
 use Rattle.sqlite.specs.declared.error.Error.{Error}
@@ -19,13 +19,12 @@ use Rattle.store_schema.specs.Earlier.{schema_under, number_under, IsEarlierStat
 use Rattle.store_schema.specs.declared.schema.Schema.{Schema}
 use Rattle.store_schema.specs.declared.schema.Schema.TheVariants.{Third}
 
--- how an error of the database is told
+-- how an error of the database is reported
 abbrev pub told : Error → StoreError
 told (SqliteFailure OutOfMemory) = Memory
 told _ = Fault
 
--- the query for what meta says, which has a meaning under any schema with a table or a view of that name that has these
--- columns
+-- the query for what meta says; it has a meaning under any schema with a table or a view of that name and these columns
 abbrev pub select_meta : List ℕ
 select_meta = codes "SELECT k, v FROM meta"
 
@@ -62,20 +61,20 @@ pub record HasNumberBut (numbers : List ℤ) (at : State) : Type 0 where
   pub shown : Shown select_meta [] at at rows
   pub other : Any (GivesOther numbers) rows
 
--- and it gives `schema` no number but these
+-- and it gives `schema` no other number than these
 pub record HasNumbersAmong (numbers : List ℤ) (at : State) : Type 0 where
   pub rows : List Row
   pub shown : Shown select_meta [] at at rows
   pub no_other : ¬ Any (GivesOther numbers) rows
 
--- the tables are another schema's than the store's, or than any schema's
+-- the tables are those of another schema than the store's, or than any schema of the store
 abbrev pub HasOtherNumber : State → Type 0
 HasOtherNumber = HasNumberBut own_numbers
 
 abbrev pub HasUnknownNumber : State → Type 0
 HasUnknownNumber = HasNumberBut known_numbers
 
--- the tables are those of the schema, and so is their number
+-- the tables are those of the schema, and their number is its number
 pub record HasTablesUnder (r : Schema) (db : Database) : Type 0 where
   pub schema : db.schema ≡ schema_under r
   pub number : AreRows meta (setting_row (number_under r) ∷ []) (db.trees meta.tree)
@@ -92,7 +91,8 @@ pub record HasNoState (at : State) : Type 0 where
   pub shown : Shown select_meta [] at at rows
   pub no_other : ¬ Any (GivesOther own_numbers) rows
 
--- There are tables and they are no schema's, though meta gives `schema` no number but theirs. They stand for no state.
+-- There are tables and they are those of no schema, though meta gives `schema` only numbers of schemas. They stand for
+-- no state.
 pub record HasNoSchema (at : State) : Type 0 where
   pub none : (i : Inventory) → ¬ IsEarlierStateOf i at.now
   pub not_known : (r : Schema) → ¬ HasTablesUnder r at.now
@@ -100,6 +100,6 @@ pub record HasNoSchema (at : State) : Type 0 where
   pub shown : Shown select_meta [] at at rows
   pub no_other : ¬ Any (GivesOther known_numbers) rows
 
--- the text ran and gave a count
+-- the text ran and returned a count
 abbrev pub HasRun : List ℕ → State → State → Type 0
 HasRun sql old new = (count : ℕ) × Executes sql [] old new (Ok count)

@@ -1,4 +1,4 @@
--- The rows that an inventory is written as.
+-- The rows that represent an inventory.
 use Rattle.std.specs.Prelude.{◌+◌, ◌==◌, ℕ, ℤ, Bool, not, List, [], ◌∷◌, ◌++◌, length, map, filter, codes, pos}
 use Rattle.std.specs.Prelude.{if◌then◌else◌}
 use Rattle.std.specs.List.{concat, flat_map, enumerate_from, join_with_byte}
@@ -13,7 +13,7 @@ use Rattle.terms.specs.Types.{Element, NamedZone}
 use Rattle.terms.specs.Lookups.{date_of}
 use Rattle.terms.specs.Spelling.{kind_text, hold_text, type_text, zone_kind_text}
 
--- a list of ids as a text: joined by commas, and the empty text where there is none
+-- a list of ids as a text: joined by commas, and empty for no ids
 abbrev pub ids : List Id → Value
 ids list = value.Text (join_with_byte 44 list)
 
@@ -44,7 +44,7 @@ ver_row x v =
     value.Text x ∷ value.Text v.srel ∷ or_null value.Text v.fmid ∷ ids v.pre ∷ ids v.req ∷ ids v.sup ∷ ids v.npre ∷ ids
     v.del ∷ []
 
--- a further ++VER of an SREL, and its number; no such one has NPRE or DELETE
+-- a further ++VER of an SREL, and its number; it has neither NPRE nor DELETE
 abbrev pub morever_row : Id → ℕ × Ver → Row
 morever_row x v =
     value.Text x ∷ value.Text v.1.srel ∷ value.Int (pos v.0) ∷ or_null value.Text v.1.fmid ∷ ids v.1.pre ∷ ids v.1.req
@@ -85,7 +85,7 @@ entry_row zone e =
     value.Text zone ∷ value.Text e.id ∷ or_null value.Text (date_of e) ∷ ids e.supby ∷ or_null value.Text e.delby ∷ ids
     e.waived ∷ []
 
--- by which ++VER the zone has applied the SYSMOD
+-- the ++VER by which the zone has applied the SYSMOD
 abbrev pub chosen_row : Text → Id → ℕ → Row
 chosen_row zone x n = value.Text zone ∷ value.Text x ∷ value.Int (pos n) ∷ []
 
@@ -94,11 +94,11 @@ zelem_row zone e =
     value.Text zone ∷ value.Text (type_text e.elem_type) ∷ value.Text e.name ∷ value.Text e.fmid ∷ value.Text e.rmid
     ∷ ids e.umids ∷ value.Text e.distlib ∷ value.Text e.syslib ∷ records e.text ∷ []
 
--- The number of a ++VER behind these others: it counts among those of its SREL, from 1.
+-- The number of a ++VER after these others: it counts among those of its SREL, from 1.
 abbrev pub number_behind : List Ver → Ver → ℕ
 number_behind front v = length (filter (λ w. bytes_eq w.srel v.srel) front) + 1
 
--- ++VERs that stand behind others, each with its number
+-- ++VERs that follow others, each with its number
 abbrev pub numbered_behind : List Ver → List Ver → List (ℕ × Ver)
 numbered_behind front [] = []
 numbered_behind front (v ∷ vs) = (number_behind front v, v) ∷ numbered_behind (front ++ v ∷ []) vs
@@ -140,7 +140,7 @@ entries_of z = map (entry_row z.name) z.zone.entries
 abbrev pub zelems_of : NamedZone → List Row
 zelems_of z = map (zelem_row z.name) z.zone.elements
 
--- Where an entry was not installed by the first ++VER there is a row for it.
+-- If an entry was not installed by the first ++VER, there is a row for it.
 abbrev pub chosen_in : Text → Entry → List Row
 chosen_in zone e =
     option_map_or (λ a. if a.number == 1 then [] else chosen_row zone e.id a.number ∷ []) e.applied []

@@ -13,7 +13,7 @@ use Rattle.store_schema.specs.Inventory.{Inventory, IsInventory, empty_inventory
 use Rattle.store_schema.specs.Rows.{number_row, sysmod_row, vers_of, ifreqs_of, hold_row, elems_of, zone_row}
 use Rattle.store_schema.specs.Rows.{entries_of, zelems_of, sources_of, morevers_of, moreifs_of, chosen_of}
 
--- what the tables hold that stand alike under all schemas of the store
+-- the contents of the tables that are the same under all schemas of the store
 abbrev pub shared_tables_of : Inventory → List (Table × List Row)
 shared_tables_of i =
     (ver, flat_map vers_of i.global.sysmods)
@@ -50,7 +50,7 @@ pub record StandsFor (i : Inventory) (db : Database) : Type 0 where
   pub tables : HasContents store_schema (rows_of i) db
   pub inventory : IsInventory i
 
--- A database without tables and views is an empty inventory.
+-- A database without tables and views stands for an empty inventory.
 abbrev pub IsStateOf : Inventory → Database → Type 0
 IsStateOf i db = (IsBlank db × (i ≡ empty_inventory)) ⊎ StandsFor i db
 
@@ -58,6 +58,6 @@ IsStateOf i db = (IsBlank db × (i ≡ empty_inventory)) ⊎ StandsFor i db
 abbrev pub IsSetUp : Database → Trees → Type 0
 IsSetUp was db = IsBlank was × StandsFor empty_inventory (record { schema = store_schema; trees = db })
 
--- A database has one state at most.
+-- A database has at most one state.
 abbrev pub HasOneState : Type 0
 HasOneState = (db : Database) (i j : Inventory) → IsStateOf i db → IsStateOf j db → i ≡ j

@@ -1,4 +1,4 @@
--- The tables of the store, in the order in which they are made.
+-- The tables of the store, in the order in which they are created.
 use Rattle.std.specs.Prelude.{◌+◌, true, false, [], ◌∷◌, None, map, codes, List, ℕ}
 use Rattle.sqlite.specs.Collation.TheVariants.{Binary}
 use Rattle.sqlite.specs.declared.types.Value.TheVariants.{Null}
@@ -14,7 +14,7 @@ use Rattle.sqlite_catalog.specs.Listing.{automatic}
 use Rattle.sqlite.specs.Kind.{Kind}
 use Rattle.sqlite.specs.Kind.TheVariants.{Integer, Text, Blob}
 
--- a column that is not null, or may be
+-- a column that is NOT NULL, or may be NULL
 abbrev pub filled : List ℕ → Kind → Column
 filled name kind = record {
   name = name;
@@ -90,7 +90,7 @@ ifreq = table_of (codes "ifreq") 6
     ∷ filled (codes "req") Text ∷ [])
     (1 ∷ 2 ∷ 3 ∷ []) (refers_to (codes "sysmod") (codes "id") Cascade ∷ [])
 
--- holds, whose SYSMOD need not be received
+-- holds; their SYSMOD need not be received
 abbrev pub hold : Table
 hold = table_of (codes "hold") 8
     (filled (codes "id") Text ∷ filled (codes "kind") Text ∷ filled (codes "reason") Text ∷ filled (codes "fmid") Text
@@ -140,14 +140,14 @@ morever = table_of (codes "morever") 20
     ∷ filled (codes "pre") Text ∷ filled (codes "req") Text ∷ filled (codes "sup") Text ∷ [])
     (1 ∷ 2 ∷ 3 ∷ []) (refers_to (codes "sysmod") (codes "id") Cascade ∷ [])
 
--- the ++IFs of these, of the ++VER that `v` counts
+-- the ++IFs of these; `v` is the number of the ++VER
 abbrev pub moreif : Table
 moreif = table_of (codes "moreif") 22
     (filled (codes "id") Text ∷ filled (codes "srel") Text ∷ filled (codes "v") Integer ∷ filled (codes "n") Integer
     ∷ filled (codes "fmid") Text ∷ filled (codes "req") Text ∷ [])
     (1 ∷ 2 ∷ 3 ∷ 4 ∷ []) (refers_to (codes "sysmod") (codes "id") Cascade ∷ [])
 
--- by which ++VER of the zone's SREL an entry was installed, where it was not the first
+-- the ++VER of the zone's SREL by which an entry was installed, if it was not the first
 abbrev pub chosen : Table
 chosen = table_of (codes "chosen") 24
     (filled (codes "zone") Text ∷ filled (codes "id") Text ∷ filled (codes "n") Integer ∷ [])

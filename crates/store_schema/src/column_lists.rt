@@ -1,4 +1,4 @@
-//! Lists of ids and of records, as a column has them and as values.
+//! Lists of ids and of records, as columns and as values.
 
 ghost use Rattle.std.specs.Prelude.{◌≡◌, ◌≢◌, ◌==◌, ℕ, List, map, IfOk, IsErrOf};
 ghost use Rattle.std.specs.List.{concat, join_with_byte};
@@ -14,7 +14,7 @@ use std::alloc::{AllocError, Global};
 use store_rows::{ReadError, blob, text};
 use text80::{Line, RECORD, lines_of};
 
-/// The ids, with a comma between each two. The error comes where memory runs out.
+/// The ids, joined by commas.
 pub fn joined_ids(alloc: Global, ids: &[Id]) -> Result<Vec<u8>, AllocError>
     ensures { IfOk result (λ text. text.items ≡ join_with_byte 44 ids.now) }
 {
@@ -74,7 +74,7 @@ fn source_list(alloc: Global, parts: &[&[u8]]) -> Result<SourceList, ReadError>
     Ok(list)
 }
 
-/// The ids of a list that rises. `Memory` comes where memory runs out, `BadRow` where the column has no such list.
+/// The ids of a rising list. Returns `Memory` if memory runs out, and `BadRow` if the column has no such list.
 pub fn ids_in(alloc: Global, row: &Row, at: usize) -> Result<IdList, ReadError>
     ensures some { IfOk result (λ list. (column row.now at ≡ ids list) × AreSorted IsId list) }
     ensures none { IsErrOf result ReadError.BadRow → (list : List (List ℕ)) → AreSorted IsId list
@@ -88,7 +88,7 @@ pub fn ids_in(alloc: Global, row: &Row, at: usize) -> Result<IdList, ReadError>
     id_list(alloc, &parts)
 }
 
-/// The sources of a list that rises. `Memory` comes where memory runs out, `BadRow` where the column has no such list.
+/// The sources of a rising list. Returns `Memory` if memory runs out, and `BadRow` if the column has no such list.
 pub fn sources_in(alloc: Global, row: &Row, at: usize) -> Result<SourceList, ReadError>
     ensures some { IfOk result (λ list. (column row.now at ≡ ids list) × AreSorted IsSource list) }
     ensures none { IsErrOf result ReadError.BadRow → (list : List (List ℕ)) → AreSorted IsSource list
@@ -102,7 +102,7 @@ pub fn sources_in(alloc: Global, row: &Row, at: usize) -> Result<SourceList, Rea
     source_list(alloc, &parts)
 }
 
-/// The records that the bytes are, if they are no part of one.
+/// The records of the bytes, if these end with a whole record.
 fn lines_in(alloc: Global, bytes: &[u8]) -> Result<Vec<Line>, ReadError>
     ensures some { IfOk result (λ lines. (bytes.now ≡ concat lines.items) × AreRecords lines.items) }
     ensures none { IsErrOf result ReadError.BadRow → (lines : List (List ℕ)) → AreRecords lines
@@ -115,8 +115,8 @@ fn lines_in(alloc: Global, bytes: &[u8]) -> Result<Vec<Line>, ReadError>
     Ok(lines_of(alloc, bytes)?)
 }
 
-/// The records of a text, one after the other in a blob. `Memory` comes where memory runs out, `BadRow` where the
-/// column has no blob, or one of no whole records.
+/// The records of a text, one after the other in a blob. Returns `Memory` if memory runs out, and `BadRow` if the
+/// column has no blob, or one that does not end with a whole record.
 pub fn records_in(alloc: Global, row: &Row, at: usize) -> Result<Vec<Line>, ReadError>
     ensures some { IfOk result (λ lines. (column row.now at ≡ records lines.items) × AreRecords lines.items) }
     ensures none { IsErrOf result ReadError.BadRow → (lines : List (List ℕ)) → AreRecords lines

@@ -1,4 +1,4 @@
-//! The statements that make the tables, each in a transaction that is open.
+//! The statements that create the tables, each in an open transaction.
 
 ghost use Rattle.std.specs.Prelude.{◌∷◌, [], OnOk};
 ghost use Rattle.sqlite.specs.Held.{state};
@@ -112,7 +112,7 @@ pub(crate) fn add_source<S: Alter>(tx: &mut Transaction<'_, S>) -> Result<(), Er
     )
 }
 
-/// Further `++VER`s of one SREL with their `++IF`s, and which of them was chosen.
+/// Further `++VER`s of one SREL with their `++IF`s, and which of them installed an entry.
 fn add_more<S: Alter>(tx: &mut Transaction<'_, S>) -> Result<(), Error>
     ensures continues { Continues S.Store tx.old tx.new }
     ensures ok { OnOk result ((contents : Contents) → Leads S.Store tx.old.conn.now tx.new.conn.now
@@ -138,8 +138,8 @@ fn add_more<S: Alter>(tx: &mut Transaction<'_, S>) -> Result<(), Error>
     )
 }
 
-/// Makes the tables of the store that the schema has not, in a transaction that is open. The rows of the others stay.
-/// An error comes where the database refuses a table, as one that is there, where the disk fails or memory is short.
+/// Creates the tables of the store that the schema lacks, in an open transaction. The rows of the others stay. Returns
+/// an error if the database refuses a table, as one that exists already, if the disk fails or if memory runs out.
 pub fn add_tables<S: Alter>(tx: &mut Transaction<'_, S>, schema: Schema) -> Result<(), Error>
     ensures continues { Continues S.Store tx.old tx.new }
     ensures ok { OnOk result ((contents : Contents) → Leads S.Store tx.old.conn.now tx.new.conn.now

@@ -12,15 +12,15 @@ use store_rows::ReadError;
 use terms::ElemType;
 use text80::{Line, Numbered};
 
-/// Whether there are updates of elements of this type, whose texts are numbered.
+/// Whether elements of this type have updates, and so numbered texts.
 pub fn is_updated(elem_type: ElemType) -> bool
     ensures { IsTrue result ↔ TakesUpdates elem_type }
 {
     matches!(elem_type, ElemType::Mac | ElemType::Src)
 }
 
-/// The records of an element of this type: those of macros and sources are numbered. `Memory` comes where memory runs
-/// out, `BadRow` where the column has no such records.
+/// The records of an element of this type: those of macros and sources are numbered. Returns `Memory` if memory runs
+/// out, and `BadRow` if the column has no such records.
 pub fn element_text_in(
     alloc: Global,
     row: &Row,

@@ -1,4 +1,4 @@
-//! Why a store does not answer.
+//! Why a call of the store fails.
 
 use sqlite::ErrorCode;
 use std::alloc::AllocError;

@@ -1,4 +1,4 @@
-//! The tables that a database has already.
+//! The tables that a database already has.
 
 ghost use Rattle.std.specs.Prelude.{◌≡◌, false, IsTrue, OnOk, OnErr, IsErrOf};
 ghost use Rattle.sqlite.specs.Held.{state};
@@ -17,7 +17,7 @@ use crate::tables::{create, is_blank, is_schema_under};
 use sqlite::{Alter, Connection};
 use std::alloc::Global;
 
-/// Knows the store's tables by all that they are.
+/// Recognizes the store's tables by all that they are.
 fn check_own<S: Alter>(alloc: Global, conn: &mut Connection<S>) -> Result<(), StoreError>
     ensures ours { HasCleanDisk (state S.Store conn.new) → OnOk result (HasOwnTables (state S.Store conn.old).now) }
     ensures none { HasCleanDisk (state S.Store conn.new) → IsErrOf result StoreError.NoState
@@ -34,7 +34,7 @@ fn check_own<S: Alter>(alloc: Global, conn: &mut Connection<S>) -> Result<(), St
     check_number(conn, Schema::Third)
 }
 
-/// Knows the store's tables by their number, and then by all that they are.
+/// Recognizes the store's tables by their number, and then by all that they are.
 fn check<S: Alter>(alloc: Global, conn: &mut Connection<S>) -> Result<(), StoreError>
     ensures ours { HasCleanDisk (state S.Store conn.new) → OnOk result (HasOwnTables (state S.Store conn.old).now) }
     ensures other { HasCleanDisk (state S.Store conn.new) → IsErrOf result StoreError.OtherSchema
@@ -50,10 +50,10 @@ fn check<S: Alter>(alloc: Global, conn: &mut Connection<S>) -> Result<(), StoreE
     check_own(alloc, conn)
 }
 
-/// Makes the tables in a database that has none, and knows those of another. It changes nothing where they are the
-/// store's, and nothing where it fails. `OtherSchema` comes where `meta` gives another number than the store's,
-/// `NoState` where the tables are else not the store's, `Fault` where the database fails or has tables but no `meta`
-/// with its columns, and `Memory` where memory runs out.
+/// Creates the tables in a database that has none, and recognizes those of another. It changes nothing if they are the
+/// store's, or if it fails. Returns `OtherSchema` if `meta` gives another number than the store's, `NoState` if the
+/// tables otherwise are not the store's, `Fault` if the database fails or has tables but no `meta` with its columns,
+/// and `Memory` if memory runs out.
 pub fn set_up<S: Alter>(alloc: Global, conn: &mut Connection<S>) -> Result<(), StoreError>
     requires { conn.old.in_transaction ≡ false }
     ensures stands { HasCleanDisk (state S.Store conn.new) → OnOk result
@@ -74,7 +74,7 @@ pub fn set_up<S: Alter>(alloc: Global, conn: &mut Connection<S>) -> Result<(), S
     ensures crash { Survives (state S.Store conn.old) (state S.Store conn.new) (IsSetUp (state S.Store conn.old).now) }
     ensures mode { conn.new.in_transaction ≡ false }
 {
-    // In no transaction, the connection shows what it last committed.
+    // Outside a transaction, the connection shows what it last committed.
     prove!(conn.is_autocommit());
     if !is_blank(conn.schema()) {
         return check(alloc, conn);

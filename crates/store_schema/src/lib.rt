@@ -1,12 +1,11 @@
-//! The tables of the store in a SQL database: what they are, what their rows stand for, the calls that make them in an
-//! empty database and know them in another, and the columns of their rows as values.
-//! On a clean disk, `set_up` makes them in one commit, or keeps them, or tells another number or other tables apart.
-//! `found_schema` also knows the tables of earlier schemas, and `add_tables` makes what they lack. No two states have
-//! the same rows, under one schema or another (`one_state`, `one_earlier_state`).
-//! Of a column that is read as a value, `Some` and `Ok` say that it has the value, `None` and `BadRow` that it has
-//! none.
-//! `load_listed` answers what the rows of a table stand for that a query asks for, and `BadRow` only where they stand
-//! for nothing, under each schema that has the table.
+//! The tables of the store in a SQL database: what they are, which states their rows stand for, the calls that create
+//! them in an empty database and recognize them in another, and the columns of their rows as values. On a clean disk,
+//! `set_up` creates them in one commit, or keeps them, or reports another number or other tables. `found_schema` also
+//! recognizes the tables of earlier schemas, and `add_tables` creates those that they lack. No two states have the same
+//! rows, under one schema or another (`one_state`, `one_earlier_state`). For a column that is read as a value, `Some`
+//! and `Ok` mean that it has the value, `None` and `BadRow` that it has none. `load_listed` returns what the rows of a
+//! table that a query asks for stand for, and `BadRow` only if they stand for nothing, under each schema that has the
+//! table. Every call that allocates returns an error if memory runs out.
 #![tactic(auto)]
 
 mod column_lists;

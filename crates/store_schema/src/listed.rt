@@ -17,7 +17,7 @@ use sqlite_value::value::ValueRef;
 use std::alloc::Global;
 use store_rows::{FromRow, ReadError, load};
 
-/// A query of the rows of one table, by so many of their first columns.
+/// A query for the rows of one table, by so many of their first columns.
 pub trait Query {
     ghost use Rattle.std.specs.Prelude.{◌≡◌, ℕ};
     ghost use Rattle.sqlite.specs.Table.{Table};
@@ -37,7 +37,7 @@ pub trait Query {
     // The schemas that have the table.
     ghost knows: { Schema → Type 0 };
 
-    /// Its SQL, which has one meaning under all schemas that have the table. A row says all of its item.
+    /// Its SQL, which has one meaning under all schemas that have the table. A row represents its item completely.
     fn sql() -> &'static str
         ensures reads { (r : Schema) → knows r → ReadsRows (schema_under r) table width result.now }
         ensures there { (r : Schema) → knows r → IsTableOf (schema_under r) at table }
@@ -46,8 +46,8 @@ pub trait Query {
             → Self.Rows.row_of a ≡ Self.Rows.row_of b → a ≡ b };
 }
 
-/// What the rows that the query asks for stand for, whose first columns are the key. `BadRow` comes where a row stands
-/// for nothing, `Memory` where memory is short, and `Fault` where the disk fails or the tables are others.
+/// What the rows that the query asks for stand for; their first columns are the key. Returns `BadRow` if a row stands
+/// for nothing, `Memory` if memory runs out, and `Fault` if the disk fails or the tables are others.
 pub fn load_listed<S: Alter, Q: Query>(
     alloc: Global,
     conn: &mut Connection<S>,

@@ -105,7 +105,7 @@ fn has_other_number(rows: &[Row], numbers: &[i64]) -> bool
     false
 }
 
-/// Knows that `meta` gives the schema no number but these.
+/// Establishes that `meta` gives the schema no number but these.
 pub(crate) fn check_numbers<S: Alter>(
     conn: &mut Connection<S>,
     numbers: &[i64],
@@ -134,7 +134,7 @@ fn is_number(rows: &[Row], schema: Schema) -> bool
     rows.len() == 1 && gives_own_number(&rows[0], schema)
 }
 
-/// Knows the number of a schema, where the tables are its own.
+/// Establishes the number of a schema, if the tables are its own.
 pub(crate) fn check_number<S: Alter>(
     conn: &mut Connection<S>,
     schema: Schema,

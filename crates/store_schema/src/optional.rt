@@ -1,4 +1,4 @@
-//! Columns that have a value as its text, or NULL.
+//! Columns whose value is a text or NULL.
 
 ghost use Rattle.std.specs.Prelude.{◌≡◌, ◌≢◌, ℕ, List, Option, IfSome, IfNone};
 ghost use Rattle.sqlite.specs.declared.types.Value.TheVariants.{Text};
@@ -11,7 +11,7 @@ use sqlite::Row;
 use sqlite_value::value::ValueRef;
 use store_rows::optional_text;
 
-/// A value that a column has as its text.
+/// A value that a column stores as its text.
 pub trait TextValue: Sized {
     ghost use Rattle.std.specs.Prelude.{◌≡◌, ◌↔◌, ℕ, List, IsSome, IfSome};
 
@@ -125,7 +125,7 @@ impl TextValue for HoldDate {
     }
 }
 
-/// The value in a column, or none where that is NULL.
+/// The value in a column, or none if it is NULL.
 pub fn optional_in<T: TextValue>(row: &Row, at: usize) -> Option<Option<T>>
     ensures some { IfSome result (λ value. (column row.now at ≡ or_null (λ v. Text (T.text v)) value)
         × IfSome value (λ v. T.form (T.text v))) }

@@ -1,5 +1,5 @@
-//! Whether two schemas of a SQL database are the same. It compares all but expressions: a schema with
-//! a CHECK, a DEFAULT or a view is never told to be another's equal.
+//! Whether two schemas of a SQL database are the same. It compares everything except expressions: a schema with a
+//! CHECK, a DEFAULT or a view equals no other one.
 
 mod column;
 mod key;
@@ -11,8 +11,7 @@ ghost use Rattle.store_schema.specs.Plain.{IsPlain};
 use crate::same::table::{same_indexes, same_tables};
 use sqlite_schema::schema::Schema;
 
-/// Whether the two are the same. A schema with an expression, a default or a view is not even the
-/// same as itself.
+/// Whether the two are the same. A schema with an expression, a default or a view does not even equal itself.
 pub(crate) fn same_schema(a: &Schema, b: &Schema) -> bool
     ensures same { IsTrue result → a.now ≡ b.now }
     ensures found { IsPlain a.now → a.now ≡ b.now → IsTrue result }

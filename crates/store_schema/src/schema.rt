@@ -1,4 +1,4 @@
-//! Which schema the tables of a database are of.
+//! The schema that the tables of a database have.
 
 ghost use Rattle.std.specs.Prelude.{◌≡◌};
 ghost use Rattle.store_schema.specs.Earlier.{number_under};

@@ -1,4 +1,4 @@
-//! The schema that the tables of a database are of, earlier ones too.
+//! The schema that the tables of a database have, earlier ones included.
 
 ghost use Rattle.std.specs.Prelude.{◌≡◌, false, IfOk, IfSome, IfNone, IsErrOf};
 ghost use Rattle.sqlite.specs.Held.{state};
@@ -15,7 +15,7 @@ use crate::tables::{is_blank, schema_with};
 use sqlite::{Alter, Connection};
 use std::alloc::Global;
 
-/// Knows the tables of a schema by all that they are.
+/// Recognizes the tables of a schema by all that they are.
 fn schema_by_tables<S: Alter>(alloc: Global, conn: &mut Connection<S>) -> Result<Schema, StoreError>
     ensures known { HasCleanDisk (state S.Store conn.new) → IfOk result
         (λ schema. HasTablesUnder schema (state S.Store conn.old).now) }
@@ -34,7 +34,7 @@ fn schema_by_tables<S: Alter>(alloc: Global, conn: &mut Connection<S>) -> Result
     Ok(schema)
 }
 
-/// The schema of the tables, whatever number the database has.
+/// The schema of the tables, whatever number the database gives.
 fn known_schema<S: Alter>(alloc: Global, conn: &mut Connection<S>) -> Result<Schema, StoreError>
     ensures known { HasCleanDisk (state S.Store conn.new) → IfOk result
         (λ schema. HasTablesUnder schema (state S.Store conn.old).now) }
@@ -51,9 +51,9 @@ fn known_schema<S: Alter>(alloc: Global, conn: &mut Connection<S>) -> Result<Sch
     schema_by_tables(alloc, conn)
 }
 
-/// The schema that the tables are of, and none where there are no tables and views. It changes nothing. `OtherSchema`
-/// comes where `meta` gives a number that no schema has, `NoState` where the tables are else those of no schema,
-/// `Fault` where the database fails or has tables but no `meta` with its columns, and `Memory` where memory runs out.
+/// The schema of the tables, or none if there are no tables and views. It changes nothing. Returns `OtherSchema` if
+/// `meta` gives a number that no schema has, `NoState` if the tables otherwise are those of no schema, `Fault` if the
+/// database fails or has tables but no `meta` with its columns, and `Memory` if memory runs out.
 pub fn found_schema<S: Alter>(
     alloc: Global,
     conn: &mut Connection<S>,

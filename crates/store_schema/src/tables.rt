@@ -1,4 +1,4 @@
-//! The tables, made in one transaction, and the schema that those of a database are of.
+//! The tables, created in one transaction, and the schema that those of a database have.
 
 ghost use Rattle.std.specs.Prelude.{◌≡◌, ◌≢◌, ◌↔◌, ◌∷◌, [], false, IsTrue, OnOk, OnErr, IfOk, IfSome, IfNone};
 ghost use Rattle.sqlite.specs.Held.{state};
@@ -42,7 +42,7 @@ fn make_under<S: Alter>(tx: &mut Transaction<'_, S>, schema: Schema) -> Result<(
     }
 }
 
-/// Makes the tables, and writes the number of their schema, in a database that has none.
+/// Creates the tables, and writes the number of their schema, in a database that has none.
 pub(crate) fn create<S: Alter>(conn: &mut Connection<S>) -> Result<(), Error>
     requires { conn.old.in_transaction ≡ false }
     ensures made { HasCleanDisk (state S.Store conn.new) → OnOk result
@@ -62,14 +62,14 @@ pub(crate) fn create<S: Alter>(conn: &mut Connection<S>) -> Result<(), Error>
     tx.commit()
 }
 
-/// Whether there is nothing in the database.
+/// Whether the database is empty.
 pub(crate) fn is_blank(held: &SqliteSchema) -> bool
     ensures { IsTrue result ↔ (held.now ≡ schema_of []) }
 {
     held.tables.is_empty() && held.indexes.is_empty() && held.views.is_empty()
 }
 
-/// Makes the tables of a schema in a database that has none.
+/// Creates the tables of a schema in a database that has none.
 fn create_under<S: Alter>(conn: &mut Connection<S>, schema: Schema) -> Result<(), Error>
     requires { conn.old.in_transaction ≡ false }
     ensures made { HasCleanDisk (state S.Store conn.new) → OnOk result
@@ -80,7 +80,7 @@ fn create_under<S: Alter>(conn: &mut Connection<S>, schema: Schema) -> Result<()
     tx.commit()
 }
 
-/// Whether the tables are those of the schema, by those that it makes in memory.
+/// Whether the tables are those of the schema. It compares them with those that the schema creates in memory.
 pub(crate) fn is_schema_under(
     alloc: Global,
     held: &SqliteSchema,
@@ -93,7 +93,7 @@ pub(crate) fn is_schema_under(
     Ok(same_schema(held, conn.schema()))
 }
 
-/// The schema that the tables are of.
+/// The schema of the tables.
 pub(crate) fn schema_with(alloc: Global, held: &SqliteSchema) -> Result<Option<Schema>, Error>
     ensures some { IfOk result (λ found. IfSome found (λ schema. held.now ≡ schema_under schema)) }
     ensures none { IfOk result (λ found. IfNone found ((schema : SchemaOf) → held.now ≢ schema_under schema)) }

@@ -1,4 +1,4 @@
--- Rows that one table has, or of which one has some and another the others.
+-- Rows that are all in one table, or some in one table and the rest in another.
 use Rattle.std.specs.Prelude.{◌≡◌, ◌++◌, List, Result, map, IfOk, IsErrOf, IsPermutation}
 use Rattle.std.specs.List.{AllByRecursion}
 use Rattle.sqlite.specs.Store.{Ghosts}
@@ -13,7 +13,7 @@ use Rattle.store_schema.specs.declared.schema.Schema.{Schema}
 use Rattle.store_schema.specs.declared.schema.Schema.TheVariants.{Third}
 use Rattle.store_schema.specs.Earlier.{schema_under}
 
--- The first table holds these, the other table those, and both together are the rows.
+-- The first table holds these, the other table holds those, and both together are the rows.
 pub record AreOfBoth {X : Type 0} (row_of further_row_of : X → Row) (HasForm HasFurtherForm : X → Type 0)
     (held further_held : List Row) (firsts furthers rows : List X) : Type 0 where
   pub firsts_forms : AllByRecursion HasForm firsts
@@ -22,7 +22,7 @@ pub record AreOfBoth {X : Type 0} (row_of further_row_of : X → Row) (HasForm H
   pub furthers_are : IsPermutation (map further_row_of furthers) further_held
   pub all : IsPermutation (firsts ++ furthers) rows
 
--- they are those of both tables under schema 3, and those of the first before it
+-- they are those of both tables under schema 3, and those of the first under earlier schemas
 abbrev pub AreRowsIn : {X : Type 0} → Schema → (X → Row) → (X → Row) → (X → Type 0) → (X → Type 0) → List Row
     → List Row → List X → Type 0
 AreRowsIn {X} Third row_of further_row_of HasForm HasFurtherForm held further_held rows =
@@ -31,8 +31,8 @@ AreRowsIn {X} Third row_of further_row_of HasForm HasFurtherForm held further_he
 AreRowsIn _ row_of further_row_of HasForm HasFurtherForm held further_held rows =
     AllByRecursion HasForm rows × IsPermutation (map row_of rows) held
 
--- The tables hold what it answers. Where they hold the rows of a list that rises it answers this list; a row is bad
--- where they are those of none.
+-- The tables hold what the call returns. If they hold the rows of a rising list it returns this list. It reports a bad
+-- row if they hold the rows of none.
 pub record LoadsRows {S X Y : Type 0} (g : Ghosts S) (r : Schema) (items : Y → List X)
     (AreHeld : List X → Contents → Type 0) (Rise : List X → Type 0) (old new : Held S) (result : Result Y ReadError) :
     Type 0 where

@@ -17,8 +17,8 @@ abbrev pub MayDo : Kind → Action → Type 0
 MayDo Function (Updates text) = ⊥
 MayDo kind action = Unit {0}
 
--- What the rows of a SYSMOD do not show one by one: it has one to eight ++VERs, which suit its kind and are apart; its
--- element statements suit its kind and rise by type and name.
+-- What single rows of a SYSMOD do not show: it has one to eight ++VERs, which suit its kind and differ; its element
+-- statements suit its kind and rise by type and name.
 pub record IsBuilt (s : Sysmod) : Type 0 where
   pub some : s.vers ≢ []
   pub suits : All (VerSuitsKind s.kind) s.vers
@@ -38,7 +38,7 @@ sysmod_from h vers changes = record {
   holds = [];
 }
 
--- the tables begin with the rows of the SYSMOD, and with another's then
+-- the tables begin with the rows of the SYSMOD, and the rows of another follow
 pub record BeginsWithSysmod (h : HeadRow) (s : Sysmod) (vers : List VerRow) (ifs : List IfRow) (elems : List ElemRow)
     (vers' : List VerRow) (ifs' : List IfRow) (elems' : List ElemRow) : Type 0 where
   pub same : s ≡ sysmod_from h s.vers s.changes

@@ -40,13 +40,13 @@ all_ifs sysmods = flat_map (λ s. ifs_of s.id (numbered_behind [] s.vers)) sysmo
 abbrev pub all_elems : List Sysmod → List ElemRow
 all_elems sysmods = flat_map (λ s. elem_rows s.id s.changes) sysmods
 
--- What is seen of the SYSMODs as a whole. They rise by their ids.
+-- The properties of the list of SYSMODs. They rise by their ids.
 pub record AreWhole (sysmods : List Sysmod) : Type 0 where
   pub built : AllByRecursion IsBuilt sysmods
   pub ids : Rises (slice_cmp nat_cmp) (λ s. s.id) sysmods
   pub none_carried : AllByRecursion (λ s. s.holds ≡ []) sysmods
 
--- The SYSMODs have the forms that their rows show under the schema, and those that are seen of each as a whole.
+-- The SYSMODs have the forms that their rows show under the schema, and those that only a whole SYSMOD shows.
 pub record AreFormed (schema : Schema) (sysmods : List Sysmod) : Type 0 where
   pub heads : AllByRecursion (HasFormsUnder schema) (map head_of sysmods)
   pub vers : AllByRecursion HasVerRowForms (all_vers sysmods)
@@ -54,14 +54,14 @@ pub record AreFormed (schema : Schema) (sysmods : List Sysmod) : Type 0 where
   pub elems : AllByRecursion HasElemRowForms (all_elems sysmods)
   pub whole : AreWhole sysmods
 
--- what the tables hold of SYSMODs but their statements: under schema 1 each row has the sources, later they have a
--- table of their own
+-- The rows of SYSMODs without their statements: under schema 1 each row has the sources, later the sources have a table
+-- of their own.
 abbrev pub AreHeadRowsOf : Schema → List Sysmod → Contents → Type 0
 AreHeadRowsOf First sysmods contents = IsPermutation (map first_sysmod_row sysmods) (contents sysmod.tree)
 AreHeadRowsOf _ sysmods contents = IsPermutation (map sysmod_row sysmods) (contents sysmod.tree)
     × IsPermutation (flat_map sources_of sysmods) (contents source.tree)
 
--- Under schema 3 there are tables of further ++VERs for one SREL. Under those before no SYSMOD has two.
+-- Under schema 3 there are tables of further ++VERs for one SREL. Under earlier schemas no SYSMOD has two.
 abbrev pub AreMoreRowsOf : Schema → List Sysmod → Contents → Type 0
 AreMoreRowsOf Third sysmods contents = IsPermutation (flat_map morevers_of sysmods) (contents morever.tree)
     × IsPermutation (flat_map moreifs_of sysmods) (contents moreif.tree)

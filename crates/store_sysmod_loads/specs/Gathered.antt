@@ -1,4 +1,4 @@
--- All rows of SYSMODs that were read.
+-- All rows of SYSMODs that have been read.
 use Rattle.std.specs.Prelude.{◌≡◌, not, List, [], map, filter, IsPermutation}
 use Rattle.std.specs.List.{AllByRecursion}
 use Rattle.terms.specs.Types.{Sysmod}
@@ -20,13 +20,13 @@ use Rattle.store_sysmods.specs.MoreIfs.{row_of_more_if}
 use Rattle.store_sysmod_loads.specs.Joined.{bare_of, all_sources}
 use Rattle.store_sysmod_loads.specs.Flats.{head_of, all_vers, all_ifs, all_elems, AreWhole}
 
--- the tables hold the heads, with their sources or apart from them, and no others
+-- the tables hold the heads, with their sources or separate from them, and no others
 abbrev pub HoldHeads : Schema → List HeadRow → Contents → Type 0
 HoldHeads First heads contents = IsPermutation (map row_of_head heads) (contents sysmod.tree)
 HoldHeads _ heads contents = IsPermutation (map row_of_bare (map bare_of heads)) (contents sysmod.tree)
     × IsPermutation (map row_of_source (all_sources heads)) (contents source.tree)
 
--- the tables hold the rows of further ++VERs, where they are there, or else there is none
+-- the tables hold the rows of further ++VERs if they exist, and otherwise there are none
 abbrev pub HoldMoreVers : Schema → List VerRow → Contents → Type 0
 HoldMoreVers Third rows contents = IsPermutation (map row_of_more_ver rows) (contents morever.tree)
 HoldMoreVers _ rows contents = rows ≡ []
@@ -57,7 +57,7 @@ pub record HaveForms (schema : Schema) (rows : FlatRows) : Type 0 where
   pub ifs : AllByRecursion HasIfRowForms rows.ifs.items
   pub elems : AllByRecursion HasElemRowForms rows.elems.items
 
--- they are those of the SYSMODs
+-- they are the rows of the SYSMODs
 pub record HasRows (rows : FlatRows) (sysmods : List Sysmod) : Type 0 where
   pub heads : rows.heads.items ≡ map head_of sysmods
   pub vers : rows.vers.items ≡ all_vers sysmods

@@ -1,4 +1,4 @@
--- Heads of SYSMODs, whose sources stand in a table of their own.
+-- Heads of SYSMODs, whose sources are in a table of their own.
 use Rattle.std.specs.Prelude.{◌≡◌, List, [], ◌∷◌}
 use Rattle.std.specs.List.{flat_map}
 use Rattle.store_sysmods.specs.declared.head.HeadRow.{HeadRow}

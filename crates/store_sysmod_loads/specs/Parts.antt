@@ -1,4 +1,4 @@
--- What a call leaves that reads part of the rows of SYSMODs.
+-- What a call that reads some of the rows of SYSMODs leaves.
 use Rattle.std.specs.Prelude.{List, Result, IfOk, IsErrOf}
 use Rattle.sqlite.specs.Store.{Ghosts}
 use Rattle.sqlite.specs.Held.{Held, state}
@@ -12,8 +12,8 @@ use Rattle.store_schema.specs.declared.schema.Schema.{Schema}
 use Rattle.store_schema.specs.Earlier.{schema_under}
 use Rattle.store_sysmod_loads.specs.Flats.{AreFormed, AreRowsOf}
 
--- The tables hold what it answers. Where they hold the rows of SYSMODs it answers, and what these have; a row is bad
--- where they are those of none.
+-- The tables hold what the call returns. If they hold the rows of SYSMODs it returns the parts of these. It reports a
+-- bad row if they hold the rows of none.
 pub record LoadsPart {S X : Type 0} (g : Ghosts S) (r : Schema) (Holds : X → Contents → Type 0)
     (Has : X → List Sysmod → Type 0) (old new : Held S) (result : Result X ReadError) : Type 0 where
   pub found : HasCleanDisk (state g new) → (contents : Contents)

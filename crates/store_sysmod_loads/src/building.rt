@@ -1,4 +1,4 @@
-//! SYSMODs put together of their rows.
+//! SYSMODs put together from their rows.
 
 ghost use Rattle.std.specs.Prelude.{◌≡◌, ◌≢◌, ◌≤◌, ◌↔◌, List, [], ◌∷◌, length, All, AllPairs, IsTrue, IfOk};
 ghost use Rattle.std.specs.Prelude.{IsErrOf};
@@ -31,7 +31,7 @@ fn suits_kind(kind: Kind, ver: &Ver) -> bool
     }
 }
 
-/// Whether a SYSMOD of this kind may do so.
+/// Whether a SYSMOD of this kind may have such a statement.
 fn may_do(kind: Kind, change: &ElemChange) -> bool
     ensures { IsTrue result ↔ MayDo kind change.now.action }
 {
@@ -54,7 +54,7 @@ fn may_share(kind: Kind, fmid: Option<Id>, other: Option<Id>) -> bool
     kind != Kind::Function && fmid != other
 }
 
-/// Whether the second `++VER` may stand behind the first in a SYSMOD of this kind.
+/// Whether the second `++VER` may follow the first in a SYSMOD of this kind.
 fn is_apart(kind: Kind, ver: &Ver, other: &Ver) -> bool
     ensures { IsTrue result ↔ AreVersApart kind ver.now other.now }
 {

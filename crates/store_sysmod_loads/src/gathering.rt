@@ -1,4 +1,4 @@
-//! The statements of a SYSMOD, taken off the front of rows that are sorted.
+//! The statements of a SYSMOD, taken off the front of sorted rows.
 
 ghost use Rattle.std.specs.Prelude.{◌≡◌, ◌≤◌, ◌<◌, ◌↔◌, List, [], ◌∷◌, length, IsTrue, IfOk, IfSome, IfNone};
 ghost use Rattle.std.specs.Prelude.{IsErrOf};
@@ -17,7 +17,7 @@ use store_rows::ReadError;
 use store_sysmods::{ElemRow, IfRow, SourceRow, VerRow, number_behind};
 use sysmods_values::{ElemChange, IfReq, Ver};
 
-/// A row that belongs to another.
+/// A row that belongs to another row.
 pub(crate) trait Child: Drop {
     type Parent: Copy;
 
@@ -83,7 +83,7 @@ pub(crate) fn next_of<T: Drop>(rows: &mut VecDeque<T>) -> Option<T>
     rows.pop_front()
 }
 
-/// Whether the first row is of the parent.
+/// Whether the first row belongs to the parent.
 fn begins<T: Child>(rows: &VecDeque<T>, parent: T::Parent) -> bool
     ensures { IsTrue result ↔ Begins T.parent_of parent rows.now.items }
 {
@@ -93,7 +93,7 @@ fn begins<T: Child>(rows: &VecDeque<T>, parent: T::Parent) -> bool
     }
 }
 
-/// Takes the first row, if it is of the parent.
+/// Takes the first row, if it belongs to the parent.
 pub(crate) fn pop_of<T: Child>(rows: &mut VecDeque<T>, parent: T::Parent) -> Option<T>
     ensures some { IfSome result (λ row. (rows.old.items ≡ row ∷ rows.new.items) × (T.parent_of row ≡ parent)) }
     ensures none { IfNone result ((rows.new.items ≡ rows.old.items) × StandsApart T.parent_of parent rows.old.items) }
@@ -146,7 +146,7 @@ fn with_ifs(ver: Ver, ifs: Vec<IfReq>) -> Ver
     }
 }
 
-/// The `++VER` with its `++IF`s, which are taken.
+/// The `++VER` with its `++IF`s, which it takes.
 fn filled(alloc: Global, ifs: &mut VecDeque<IfRow>, id: Id, row: VerRow) -> Result<Ver, ReadError>
     ensures same { IfOk result (λ ver. ver ≡ record row.ver { ifs = ver.ifs }) }
     ensures taken { IfOk result (λ ver. HasIfs id row.ver.srel row.number 1 ifs.old.items ver.ifs ifs.new.items) }
@@ -161,14 +161,14 @@ fn filled(alloc: Global, ifs: &mut VecDeque<IfRow>, id: Id, row: VerRow) -> Resu
     Ok(with_ifs(row.ver, found))
 }
 
-/// Whether the row has the number that comes next behind these `++VER`s, of which there are fewer than eight.
+/// Whether the row has the next number after these `++VER`s, of which there are fewer than eight.
 fn comes_next(vers: &[Ver], row: &VerRow) -> bool
     ensures { IsTrue result ↔ (length vers.now < 8) × (row.now.number ≡ number_behind vers.now row.now.ver) }
 {
     vers.len() < 8 && row.number == number_behind(vers, &row.ver) as u64
 }
 
-/// Takes the `++VER`s of a SYSMOD, eight at most, with their `++IF`s.
+/// Takes the `++VER`s of a SYSMOD, at most eight, with their `++IF`s.
 pub(crate) fn take_vers(
     alloc: Global,
     rows: &mut VecDeque<VerRow>,

@@ -1,4 +1,4 @@
-//! Heads of SYSMODs joined with their sources, which stand in a table of their own.
+//! Heads of SYSMODs joined with their sources, which are in a table of their own.
 
 ghost use Rattle.std.specs.Prelude.{◌≡◌, List, IfOk, IsErrOf};
 ghost use Rattle.terms.specs.Types as terms;
@@ -36,7 +36,7 @@ fn take_sources(
     Ok(names)
 }
 
-/// The heads with their sources, all of which are taken.
+/// The heads with their sources. It takes all sources.
 pub(crate) fn joined(
     alloc: Global,
     mut bare: VecDeque<BareHead>,

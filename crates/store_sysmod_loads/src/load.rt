@@ -17,10 +17,10 @@ use store_rows::ReadError;
 use store_schema::Schema;
 use sysmods_values::Sysmod;
 
-/// All SYSMODs with their sources, `++VER`s, `++IF`s and element statements, by their ids, in the
-/// tables of the schema. A row that belongs to no other is bad, and so is a `++VER` or an `++IF` whose
-/// number is not the next. `BadRow` comes where a row is bad, `Memory` where memory is short, and `Fault` where the
-/// disk fails or the tables are others.
+/// All SYSMODs with their sources, `++VER`s, `++IF`s and element statements, by their ids, from the tables of the
+/// schema. A row that belongs to no other is bad, and so is a `++VER` or an `++IF` whose number is not the next one.
+/// Returns `BadRow` if a row is bad, `Memory` if memory runs out, and `Fault` if the disk fails or the tables are
+/// others.
 pub fn load_sysmods<S: Alter>(
     alloc: Global,
     conn: &mut Connection<S>,

@@ -1,5 +1,5 @@
-//! The rows of `++VER`s and of `++IF`s: a table has those of the first `++VER`s for each SREL, and another those of the
-//! further ones.
+//! The rows of `++VER`s and of `++IF`s: one table has those of the first `++VER`s for each SREL, and another those of
+//! the further ones.
 
 ghost use Rattle.std.specs.Prelude.{◌≡◌, ◌⊎◌, ◌++◌, List, IfOk, IsErrOf, IsPermutation};
 ghost use Rattle.std.specs.List.{AllByRecursion};
@@ -18,7 +18,7 @@ use store_rows::{FromRow, ReadError};
 use store_schema::{Query, Schema, load_listed};
 use store_sysmods::{IfRow, Ifs, Listed, MoreIfs, MoreVers, VerRow, Vers, by_keys, load_sorted};
 
-/// A row of which two tables have some each, of the same keys, where the second came with schema 3.
+/// A row of which each of two tables has some, with the same keys; the second table came with schema 3.
 pub(crate) trait InTwo: Drop {
     ghost use Rattle.std.specs.Prelude.{◌≡◌};
     ghost use Rattle.store_schema.specs.declared.schema.Schema.{Schema as ARelease};
@@ -106,8 +106,8 @@ fn load_both<S: Alter, T: InTwo>(
     Ok(rows)
 }
 
-/// What the rows that the tables of the schema have stand for, by their keys. Under an earlier schema each `++VER` is
-/// the first for its SREL.
+/// What the rows in the tables of the schema stand for, by their keys. Under an earlier schema each `++VER` is the
+/// first for its SREL.
 pub(crate) fn load_parted<S: Alter, T: InTwo>(
     alloc: Global,
     conn: &mut Connection<S>,

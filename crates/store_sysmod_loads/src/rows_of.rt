@@ -1,4 +1,4 @@
-//! All rows of SYSMODs, and the SYSMODs that they are.
+//! All rows of SYSMODs, and the SYSMODs for which they stand.
 
 ghost use Rattle.std.specs.Prelude.{◌≡◌, List, map, IfOk, IsErrOf, IsPermutation};
 ghost use Rattle.std.specs.List.{AllByRecursion};

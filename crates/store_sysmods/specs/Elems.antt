@@ -42,6 +42,6 @@ lines_of (Updates lines) = lines
 abbrev pub row_of_elem : ElemRow → Row
 row_of_elem r = elem_row r.id r.change
 
--- the forms that a row of a statement of any SYSMOD shows by itself; a PTF's may have most
+-- the forms that a single row shows, for a statement of any SYSMOD; a PTF may have most of them
 abbrev pub HasElemRowForms : ElemRow → Type 0
 HasElemRowForms r = IsId r.id × HasChangeForms Ptf r.change

@@ -33,7 +33,7 @@ row_of_head h = value.Text h.id ∷ value.Text (kind_text h.kind) ∷ ids h.sour
 abbrev pub row_of_bare : BareHead → Row
 row_of_bare h = value.Text h.id ∷ value.Text (kind_text h.kind) ∷ ids [] ∷ []
 
--- the forms that a row shows by itself
+-- the forms that a single row shows
 abbrev pub HasBareForms : BareHead → Type 0
 HasBareForms h = IsId h.id
 

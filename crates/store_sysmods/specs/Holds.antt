@@ -25,7 +25,7 @@ key_row id kind reason = value.Text id ∷ value.Text (hold_text kind) ∷ value
 abbrev pub hold_key : Hold → Row
 hold_key h = key_row h.id h.kind h.reason
 
--- a hold is put in the place of the one that has its key
+-- a hold is put in place of the one that has its key
 abbrev pub put_hold_calls : Hold → List Call
 put_hold_calls h = (put_hold, hold_row h) ∷ []
 

@@ -32,7 +32,7 @@ row_of_if r = ifreq_row r.id r.srel (r.number, r.ifreq)
 abbrev pub is_first_if : IfRow → Bool
 is_first_if r = r.place == 1
 
--- the forms that a row of an ++IF of any ++VER shows by itself
+-- the forms that a single row shows, for an ++IF of any ++VER
 abbrev pub HasIfRowForms : IfRow → Type 0
 HasIfRowForms r = IsId r.id × IsSrel r.srel × HasIfForms r.id r.ifreq
 

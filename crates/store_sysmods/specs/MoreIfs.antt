@@ -27,6 +27,6 @@ further_ifs x v = if not (is_first v) then map (moreif_row x v.1.srel v.0) (enum
 abbrev pub row_of_more_if : IfRow → Row
 row_of_more_if r = moreif_row r.id r.srel r.place (r.number, r.ifreq)
 
--- the forms that a row shows by itself
+-- the forms that a single row shows
 abbrev pub HasFurtherIfForms : IfRow → Type 0
 HasFurtherIfForms r = HasIfRowForms r × (1 < r.place)

@@ -26,6 +26,6 @@ further_row x v = if not (is_first v) then morever_row x v ∷ [] else []
 abbrev pub row_of_more_ver : VerRow → Row
 row_of_more_ver r = morever_row r.id (r.number, r.ver)
 
--- the forms that a row shows by itself; a further ++VER is in no function
+-- the forms that a single row shows; no function has a further ++VER
 abbrev pub HasFurtherForms : VerRow → Type 0
 HasFurtherForms r = HasVerRowForms r × (1 < r.number) × (r.ver.npre ≡ []) × (r.ver.del ≡ [])

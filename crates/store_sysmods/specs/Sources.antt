@@ -21,6 +21,6 @@ delete_sources = DELETE.now
 abbrev pub row_of_source : SourceRow → Row
 row_of_source r = source_row r.id r.name
 
--- the forms that a row shows by itself
+-- the forms that a single row shows
 abbrev pub HasSourceForms : SourceRow → Type 0
 HasSourceForms r = IsId r.id × IsSource r.name

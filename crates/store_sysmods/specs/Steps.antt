@@ -1,4 +1,4 @@
--- What a call inside a transaction does: which statements it runs, and what they make of the tables.
+-- What a call inside a transaction does: which statements it runs, and how they change the tables.
 use Rattle.std.specs.Prelude.{ℕ, List, Result, OnOk}
 use Rattle.sqlite.specs.Store.{Ghosts}
 use Rattle.sqlite.specs.Order.{Row}
@@ -10,7 +10,7 @@ use Rattle.store_rows.specs.Inside.{Continues, Turns}
 use Rattle.store_rows.specs.Rows.{Contents, HasContents, in_table, with_rows}
 use Rattle.store_schema.specs.Tables.{store_schema}
 
--- The statements ran, and made this of what the tables held; or one of them failed, or memory was short. Nothing is
+-- The statements ran and changed what the tables held in this way, or one of them failed or memory ran out. Nothing is
 -- committed.
 pub record RunsCalls {S X : Type 0} (g : Ghosts S) (calls : List Call) (make : Contents → Contents)
     (old new : Transaction S)
@@ -19,7 +19,7 @@ pub record RunsCalls {S X : Type 0} (g : Ghosts S) (calls : List Call) (make : C
   pub runs : RunsInside g calls old.conn.now new.conn.now result
   pub ok : OnOk result (Turns g old.conn.now new.conn.now (HasContents store_schema) make)
 
--- the rows were put by the two texts, and the table holds them too
+-- the rows were put by the two texts, and the table holds them besides
 abbrev pub Puts : {S X : Type 0} → Ghosts S → List ℕ → List ℕ → Table → List Row → Transaction S → Transaction S
     → Result X Error → Type 0
 Puts g some one table rows old new result =

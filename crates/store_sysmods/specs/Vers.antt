@@ -42,7 +42,7 @@ row_of_ver r = ver_row r.id r.ver
 abbrev pub is_first_row : VerRow → Bool
 is_first_row r = r.number == 1
 
--- the forms that a row of a ++VER of any SYSMOD shows by itself; a function's may have most
+-- the forms that a single row shows, for a ++VER of any SYSMOD; a function may have most of them
 abbrev pub HasVerRowForms : VerRow → Type 0
 HasVerRowForms r = IsId r.id × HasVerForms Function r.id r.ver × (r.ver.ifs ≡ [])
 

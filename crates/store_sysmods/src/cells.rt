@@ -1,4 +1,4 @@
-//! Columns that several tables have.
+//! Columns that several tables share.
 
 ghost use Rattle.std.specs.Prelude.{◌≡◌, ◌≢◌, ◌<◌, ℕ, List, [], Option, pos, IfOk, IfSome, IfNone, IsErrOf};
 ghost use Rattle.sqlite.specs.declared.types.Value.TheVariants.{Int, Text};
@@ -14,7 +14,7 @@ use std::alloc::Global;
 use store_rows::{ReadError, whole};
 use store_schema::{ids_in, optional_in};
 
-/// Ids, of which the SYSMOD's own is none.
+/// Ids that do not include the SYSMOD's own.
 pub(crate) fn others_in(alloc: Global, row: &Row, at: usize, id: Id) -> Result<IdList, ReadError>
     ensures some { IfOk result (λ list. (column row.now at ≡ ids list) × AreOthers id list) }
     ensures none { IsErrOf result ReadError.BadRow → (list : List (List ℕ)) → AreOthers id list
@@ -28,7 +28,7 @@ pub(crate) fn others_in(alloc: Global, row: &Row, at: usize, id: Id) -> Result<I
     Ok(list)
 }
 
-/// The requisites of an `++IF`: ids of others, one at least.
+/// The requisites of an `++IF`: ids of others, at least one.
 pub(crate) fn requisites_in(
     alloc: Global,
     row: &Row,

@@ -62,7 +62,7 @@ pub struct ElemRow {
     pub change: ElemChange,
 }
 
-/// The records of a replacement, of which there is one at least.
+/// The records of a replacement, at least one.
 fn replacement_in(
     alloc: Global,
     row: &Row,

@@ -72,7 +72,7 @@ fn are_short(names: &[Source]) -> bool
     names.iter().all(|name| is_short(*name))
 }
 
-/// The sources of schema 1, which had 8 characters at most.
+/// The sources of schema 1, which had at most 8 characters.
 fn short_sources_in(alloc: Global, row: &Row, at: usize) -> Result<SourceList, ReadError>
     ensures some { IfOk result (λ names. (column row.now at ≡ ids names) × AreSorted IsSource names × AreShort names) }
     ensures none { IsErrOf result ReadError.BadRow → (names : List (List ℕ)) → AreSorted IsSource names
@@ -247,7 +247,7 @@ pub(crate) fn row_of(alloc: Global, sysmod: &Sysmod) -> Result<Cells, AllocError
     cells_of(alloc, &[id, kind, sources])
 }
 
-/// Takes out the SYSMOD's own row, where the tables that refer to it hold none of the SYSMOD.
+/// Removes the SYSMOD's own row, if the tables that refer to it hold none of the SYSMOD.
 pub(crate) fn remove_row<S: Alter>(tx: &mut Transaction<'_, S>, id: Id) -> Result<(), Error>
     ensures continues { Continues S.Store tx.old tx.new }
     ensures calls { RunsInside S.Store ((delete_sysmod, sysmod_key id) ∷ []) tx.old.conn.now tx.new.conn.now result }

@@ -180,8 +180,8 @@ impl Listed for HoldReader {
     ghost whole = { refl };
 }
 
-/// All holds, by id, kind and reason. `BadRow` comes where a row is no hold, `Memory` where memory is short, and
-/// `Fault` where the disk fails or the tables are others.
+/// All holds, by id, kind and reason. Returns `BadRow` if a row is not a hold, `Memory` if memory runs out, and `Fault`
+/// if the disk fails or the tables are others.
 pub fn load_holds<S: Alter>(alloc: Global, conn: &mut Connection<S>) -> Result<Vec<Hold>, ReadError>
     ensures found { HasCleanDisk (state S.Store conn.new) → (r : Schema) (contents : Contents)
         → HasContents (schema_under r) contents (state S.Store conn.old).now
@@ -221,7 +221,7 @@ fn flag_value(flag: bool) -> ValueRef<'static>
     ValueRef::Int(0)
 }
 
-/// Takes out the hold that has the key, if there is one. An error comes where the disk fails or memory is short.
+/// Removes the hold that has the key, if there is one. Returns an error if the disk fails or memory runs out.
 pub fn remove_hold<S: Alter>(
     tx: &mut Transaction<'_, S>,
     id: Id,
@@ -241,8 +241,7 @@ pub fn remove_hold<S: Alter>(
     remove(tx, DELETE, &key)
 }
 
-/// Puts the hold in place of the one that has its key, if there is one. An error comes where the disk fails or memory
-/// is short.
+/// Puts the hold, instead of one of the same key. Returns an error if the disk fails or memory runs out.
 pub fn put_hold<S: Alter>(tx: &mut Transaction<'_, S>, hold: &Hold) -> Result<(), Error>
     ensures continues { Continues S.Store tx.old tx.new }
     ensures calls { RunsInside S.Store (put_hold_calls hold.now) tx.old.conn.now tx.new.conn.now result }

@@ -4,10 +4,10 @@ ghost use Rattle.std.specs.Prelude.{◌↔◌, ◌&&◌, nat_le, reverse, IsTrue
 ghost use Rattle.terms.specs.Forms.{BeginsDark};
 ghost use Rattle.store_schema.specs.Forms.{IsComment, IsPaired};
 
-/// The characters that a comment has at most.
+/// The greatest number of characters in a comment.
 const LONGEST: usize = 200;
 
-/// Whether a character stands first that is no blank.
+/// Whether the first character is not a blank.
 fn begins_dark(text: &[u8]) -> bool
     ensures { IsTrue result ↔ BeginsDark text.now }
 {
@@ -17,7 +17,7 @@ fn begins_dark(text: &[u8]) -> bool
     }
 }
 
-/// Whether a character stands last that is no blank.
+/// Whether the last character is not a blank.
 fn ends_dark(text: &[u8]) -> bool
     ensures { IsTrue result ↔ BeginsDark (reverse text.now) }
 {
@@ -33,7 +33,7 @@ fn is_printable(text: &[u8]) -> bool
     text.iter().all(|byte| (b' '..=b'~').contains(byte))
 }
 
-/// Whether each parenthesis has its partner, and no pair stands in another.
+/// Whether each parenthesis has its partner, and no pair is inside another.
 fn is_paired(text: &[u8]) -> bool
     ensures { IsTrue result ↔ IsPaired text.now }
 {
@@ -54,7 +54,7 @@ fn is_paired(text: &[u8]) -> bool
     !inner
 }
 
-/// Whether the text is a comment: printable characters, 200 at most, with no blank at an end and with paired
+/// Whether the text is a comment: printable characters, at most 200, with no blank at an end and with paired
 /// parentheses.
 pub(crate) fn is_comment(text: &[u8]) -> bool
     ensures { IsTrue result ↔ IsComment text.now }

@@ -38,7 +38,7 @@ const DELETE: &str = "DELETE FROM ifreq WHERE id = ?1";
 
 // ---- as it is read
 
-/// An `++IF` and its number in a `++VER` of the SYSMOD: in the one of this place among those for this SREL.
+/// An `++IF` and its number in a `++VER` of the SYSMOD, the one at this place among those for this SREL.
 #[derive(Drop)]
 pub struct IfRow {
     pub id: Id,

@@ -1,4 +1,4 @@
-//! The rows of the items of a list, each of which may count those before it.
+//! The rows of the items of a list. Those of an item may count the items before it.
 
 ghost use Rattle.std.specs.Prelude.{◌≡◌, ◌+◌, ◌<◌, ◌^◌, ◌++◌, length, map, [], OnOk};
 ghost use Rattle.store_rows.specs.Rows.{as_bound};
@@ -7,7 +7,7 @@ ghost use Rattle.store_sysmods.specs.Behind.{rows_behind};
 use sqlite_value::row::Row as Cells;
 use std::alloc::AllocError;
 
-/// Which rows of one table an item has, behind others of its list.
+/// The rows of one table for an item that follows others of its list.
 pub(crate) trait Rows {
     ghost use Rattle.std.specs.Prelude.{◌≡◌, ◌+◌, ◌<◌, ◌^◌, ◌++◌, List, length, map, OnOk};
     ghost use Rattle.sqlite.specs.Order.{Row};

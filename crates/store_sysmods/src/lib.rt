@@ -1,10 +1,10 @@
 //! The tables of the global zone: received SYSMODs, with their sources, `++VER`s, `++IF`s and element statements, and
-//! holds, external ones and those of SYSMODs. A module for each table has all that is said of it alone: its statements,
-//! and its row as it is read and as it is written.
-//! Inside a transaction, inserting SYSMODs, replacing the sources of one and removing it, and a hold that is put in or
-//! taken out, change the SYSMODs and holds that the tables stand for so, and nothing else. `load_holds` answers the
-//! holds in their order, under each schema, and refuses a row only where the rows stand for none; so does `load_sorted`
-//! with the rows of any other table.
+//! holds, external ones and those of SYSMODs. A module for each table has everything about that table: its statements,
+//! and its row as it is read and written. Inside a transaction, the calls that insert SYSMODs, replace the sources of
+//! one, remove one, put a hold or remove one change the SYSMODs and holds for which the tables stand in this way, and
+//! nothing else. `load_holds` returns the holds in their order, under each schema, and refuses a row only if the rows
+//! stand for none. `load_sorted` does the same for the rows of any other table. Every call that allocates returns an
+//! error if memory runs out.
 #![tactic(auto)]
 
 mod cells;

@@ -15,7 +15,7 @@ use std::alloc::Global;
 use store_rows::{FromRow, ReadError};
 use store_schema::{Query, load_listed};
 
-/// A query of a whole table, whose rows keys tell apart.
+/// A query for a whole table, whose rows have different keys.
 pub trait Listed: Query {
     ghost use Rattle.std.specs.Prelude.{◌≡◌};
 
@@ -23,7 +23,7 @@ pub trait Listed: Query {
 
     ghost key_of: { Self.Rows.Item → Self.Key };
 
-    /// The key of what a row stands for.
+    /// The key of the item that a row stands for.
     fn key(item: &<Self::Rows as FromRow>::Item) -> Self::Key
         ensures { result ≡ key_of item.now };
 
@@ -42,8 +42,8 @@ pub fn by_keys<T: Listed>(
     items
 }
 
-/// What the rows of the table stand for, by their keys. `BadRow` comes where a row stands for nothing, `Memory` where
-/// memory is short, and `Fault` where the disk fails or the tables are others.
+/// The items of the table's rows, by their keys. Returns `BadRow` if a row stands for no item, `Memory` if memory runs
+/// out, and `Fault` if the disk fails or the tables are others.
 pub fn load_sorted<S: Alter, T: Listed>(
     alloc: Global,
     conn: &mut Connection<S>,

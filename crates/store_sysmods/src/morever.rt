@@ -115,7 +115,7 @@ impl Query for MoreVers {
 
 // ---- as it is written
 
-// The row of the `++VER` of this number, of whose lists these are the texts. It has no others.
+// The row of the `++VER` of this number; these are the texts of its only lists.
 fn row_of<'a>(
     alloc: Global,
     id: &'a Id,

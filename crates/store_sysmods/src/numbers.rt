@@ -14,7 +14,7 @@ fn count_of(vers: &[Ver], srel: Srel) -> usize
     vers.iter().filter(|ver| ver.srel == srel).count()
 }
 
-/// The number of the `++VER` behind these others, among those of its SREL.
+/// The number of the `++VER` after these others, among those of its SREL.
 pub fn number_behind(front: &[Ver], ver: &Ver) -> usize
     ensures same { result ≡ number_behind front.now ver.now }
     ensures most { result ≤ length front.now + 1 }

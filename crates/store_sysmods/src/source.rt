@@ -117,8 +117,8 @@ impl Listed for Sources {
 
 // ---- as it is written
 
-/// Adds the row of a source. An error comes where the SYSMOD is not received, where it has the source, where the disk
-/// fails or memory is short.
+/// Adds the row of a source. Returns an error if the SYSMOD is not received or has the source already, if the disk
+/// fails or if memory runs out.
 pub fn insert_source<'a, S: Alter>(
     tx: &mut Transaction<'_, S>,
     id: &'a Id,

@@ -1,4 +1,4 @@
-//! SYSMODs, whose rows stand in a table of their own and in those that refer to it.
+//! SYSMODs, whose rows are in a table of their own and in those that refer to it.
 
 ghost use Rattle.std.specs.Prelude.{◌≡◌, List, [], ◌∷◌, ◌++◌, length, OnOk};
 ghost use Rattle.terms.specs.Types.{Sysmod as ASysmod};
@@ -25,7 +25,7 @@ use std::alloc::{AllocError, Global};
 use store_rows::insert_rows;
 use sysmods_values::Sysmod;
 
-/// The rows of SYSMODs that wait to be written, table after table, so that one statement puts those of several.
+/// The rows of SYSMODs that wait to be written, table after table, so that one statement puts those of several SYSMODs.
 #[derive(Drop)]
 pub struct SysmodRows {
     sysmods: Vec<Cells>,
@@ -52,14 +52,14 @@ impl SysmodRows {
         }
     }
 
-    /// How many SYSMODs they are of.
+    /// The number of these SYSMODs.
     pub fn len(&self) -> usize
         ensures { (ss : List ASysmod) → AreWaitingRows self.now ss → result ≡ length ss }
     {
         self.sysmods.len()
     }
 
-    /// Adds the rows of the SYSMOD, of these sources in place of its own, of its `++VER`s with their `++IF`s, and of
+    /// Adds the rows of the SYSMOD, with these sources instead of its own, of its `++VER`s with their `++IF`s, and of
     /// its element statements. Its holds have a table of their own.
     pub fn push(
         &mut self,
@@ -86,8 +86,8 @@ impl SysmodRows {
     }
 }
 
-/// Adds the rows of SYSMODs, which are not there. An error comes where the disk fails, where memory is short, and where
-/// the database refuses a row: that of a SYSMOD whose id is received, or one of two of one key.
+/// Adds the rows of SYSMODs that are not received. Returns an error if the disk fails, if memory runs out, or if the
+/// database refuses a row: one of a SYSMOD whose id is received, or one of two with the same key.
 pub fn insert_sysmods<S: Alter>(
     alloc: Global,
     tx: &mut Transaction<'_, S>,
@@ -117,9 +117,9 @@ pub fn insert_sysmods<S: Alter>(
     insert_rows(alloc, tx, moreif::INSERT_MANY, moreif::INSERT, moreifs)
 }
 
-/// Puts the rows of the SYSMOD's sources in place of those that are there. Where it is not received and has a source,
-/// the database refuses the first of them, and of two that are the same the second. Any other error comes of the disk,
-/// or of memory that is short.
+/// Puts the rows of the SYSMOD's sources in place of those that exist. If the SYSMOD is not received and has a source,
+/// the database refuses the first one; of two equal sources it refuses the second. Any other error means that the disk
+/// failed or that memory ran out.
 pub fn replace_sources<S: Alter>(
     alloc: Global,
     tx: &mut Transaction<'_, S>,
@@ -148,8 +148,8 @@ pub fn replace_sources<S: Alter>(
     )
 }
 
-/// Takes out the SYSMOD of the id, if there is one, with all its rows. The holds on it stay. An error comes where the
-/// disk fails or memory is short.
+/// Removes the SYSMOD of the id, if there is one, with all its rows. The holds on it stay. Returns an error if the disk
+/// fails or memory runs out.
 pub fn remove_sysmod<S: Alter>(tx: &mut Transaction<'_, S>, id: Id) -> Result<(), Error>
     ensures continues { Continues S.Store tx.old tx.new }
     ensures calls { RunsInside S.Store (remove_sysmod_calls id) tx.old.conn.now tx.new.conn.now result }

@@ -1,4 +1,4 @@
-//! The table of `++VER`s, of which a SYSMOD has one for each SREL here: the first.
+//! The table of `++VER`s: here a SYSMOD has one for each SREL, the first.
 
 ghost use Rattle.std.specs.Prelude.{◌≡◌, ◌≢◌, [], ◌∷◌, IfOk, IsErrOf};
 ghost use Rattle.store_rows.specs.Rows.{as_bound, in_table, without};

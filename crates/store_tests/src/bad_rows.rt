@@ -1,4 +1,4 @@
-//! Rows edited by hand that stand for no state, table by table.
+//! Rows edited by hand so that they stand for no state, table by table.
 
 mod columns;
 mod element_rows;
@@ -17,11 +17,11 @@ use std::test::Fail;
 use store::Store;
 use store_schema::StoreError;
 
-/// What is loaded of a store.
+/// What is loaded from a store.
 #[derive(Clone, Copy)]
 enum Part {
     Global,
-    /// The global zone, once there are further `++VER`s too.
+    /// The global zone, with further `++VER`s.
     Further,
     Zone,
     Names,
@@ -55,7 +55,7 @@ fn fault<S: Alter + Drop>(
     }
 }
 
-/// The known rows, those of further `++VER`s among them where the part needs them.
+/// The known rows, including those of further `++VER`s if the part needs them.
 fn known_for(alloc: Global, part: Part) -> Result<Connection<MemStore>, Fail> {
     match part {
         Part::Further => known_with(alloc, FURTHER),
@@ -70,7 +70,7 @@ fn edited(alloc: Global, sql: &str, part: Part) -> Result<Connection<MemStore>, 
     Ok(conn)
 }
 
-/// This is told of the part, or nothing is, behind each of these edits of the known rows.
+/// The part gives this answer after each of these edits of the known rows.
 fn check(
     alloc: Global,
     edits: &[&str],
@@ -86,8 +86,7 @@ fn check(
     Ok(())
 }
 
-/// This is told of the part, or nothing is, once the statement with this value, made of the text, has changed the
-/// known rows.
+/// The part gives this answer once the statement with this value, made from the text, has changed the known rows.
 fn check_with(
     alloc: Global,
     sql: &str,
@@ -105,7 +104,7 @@ fn check_with(
     Err(Fail::new(format_args!("{sql} {text}: got {got:?}, wanted {wanted:?}")))
 }
 
-/// Edits that move only within what may stand: loops of REQ and of several SRELs are free.
+/// Edits that stay within what is allowed: loops of REQ and of several SRELs may exist.
 const GOOD: &[&str] = &[
     "UPDATE ver SET req = 'UAA0001' WHERE id = 'LLL0001'",
     "UPDATE ver SET req = 'LLL0001' WHERE id = 'UAA0001' AND srel = 'Z038'",

@@ -1,4 +1,4 @@
-//! Removals, sources in place of others, and what a commit leaves alone.
+//! Removals, sources that replace others, and what a commit leaves alone.
 
 use crate::known::{
     commit, commit_edits, commit_zone, compare, doubled, known_with, lines, loaded, opened, run,
@@ -57,7 +57,7 @@ const LEFT: &str =
         FROM hold UNION ALL SELECT zone||' '||id FROM entry UNION ALL SELECT zone||' '||name FROM zelem WHERE type \
         = 'MAC' ORDER BY 1";
 
-/// What is left of the known rows.
+/// The rows that are left of the known ones.
 fn left<S: Alter + Drop>(alloc: Global, known: Connection<S>) -> Result<String, Fail> {
     let mut store = opened(alloc, known)?;
     commit_all(alloc, &mut store)?;
@@ -76,7 +76,7 @@ fn rows_go_and_are_replaced(rt: HostRuntime) -> Result<(), Fail> {
     compare("what is left", got.as_str(), LEFT_LINES)
 }
 
-/// What is told of the entries and elements of TGT1 for a zone that is not there.
+/// The answer for entries and elements of TGT1 in an undefined zone.
 fn told_of_no_zone<S: Alter>(
     alloc: Global,
     store: &mut Store<S>,
@@ -132,7 +132,7 @@ fn put_applied(alloc: Global, id: Id, applied: Option<Applied>) -> Result<ZoneEd
     Ok(edits)
 }
 
-/// The rows of all entries but that one, and of all elements, by their places.
+/// The rows of all entries except that one, and of all elements, by their places.
 const OTHERS: &str =
     "SELECT rowid||' '||zone||' '||id||' '||ifnull(date, '-') FROM entry WHERE id <> 'U100500' UNION ALL SELECT \
         rowid||' '||zone||' '||type||' '||name FROM zelem";

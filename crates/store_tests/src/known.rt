@@ -14,13 +14,13 @@ use sysmods::GlobalZone;
 use text80::RECORD;
 use zones_maps::{Zone, ZoneDelta, ZoneEdits};
 
-/// The sources of the SYSMODs, of which each has a row.
+/// The sources of the SYSMODs; each has a row.
 pub(crate) const SOURCES: &[&str] = &[
     "INSERT INTO source (id, name) VALUES \
         ('HAA1200', 'PUT2401'), ('HAA1200', 'SMCREC01'), ('UAA0001', 'PUT2401')",
 ];
 
-/// By which `++VER` an entry was installed, which no earlier schema tells.
+/// The `++VER` by which an entry was installed, which no earlier schema records.
 pub(crate) const CHOSEN: &[&str] = &[
     "INSERT INTO chosen (zone, id, n) VALUES ('TGT1', 'UAA0001', 2)",
 ];
@@ -95,7 +95,7 @@ const TEXTS: &[(&str, &str)] = &[
     ),
 ];
 
-/// A record with this text, in which a tab leads to column 73.
+/// A record with this text; a tab leads to column 73.
 fn record(text: &str) -> [u8; RECORD] {
     let mut record = [b' '; RECORD];
     let mut column: usize = 0;
@@ -110,7 +110,7 @@ fn record(text: &str) -> [u8; RECORD] {
     record
 }
 
-/// A record for each line of the text, and none where there is no text. A tab leads to column 73.
+/// A record for each line of the text, or none for an empty text. A tab leads to column 73.
 pub(crate) fn records(alloc: Global, text: &str) -> Result<Vec<u8>, Fail> {
     let mut bytes = Vec::new(alloc);
     if text.is_empty() {
@@ -122,7 +122,7 @@ pub(crate) fn records(alloc: Global, text: &str) -> Result<Vec<u8>, Fail> {
     Ok(bytes)
 }
 
-/// The first line of two texts that differs, of each. Behind the end of one stands no line.
+/// The first line in which two texts differ, of each text. After the end of one there is no line.
 pub(crate) fn first_difference<'a>(
     got: &'a str,
     wanted: &'a str,
@@ -137,7 +137,7 @@ pub(crate) fn first_difference<'a>(
     (None, wanted_lines.next())
 }
 
-/// A failure with this name and the first lines that differ, where the text that was got is not what was wanted.
+/// A failure with this name and the first lines that differ, if the two texts differ.
 pub(crate) fn compare(name: &str, got: &str, wanted: &str) -> Result<(), Fail> {
     if got == wanted {
         return Ok(());
@@ -180,7 +180,7 @@ pub(crate) fn run_all<S: Alter>(conn: &mut Connection<S>, all: &[&str]) -> Resul
     Ok(())
 }
 
-/// Writes into tables that are empty all rows but those of sources.
+/// Writes all rows except those of sources into empty tables.
 pub(crate) fn fill_first<S: Alter>(alloc: Global, conn: &mut Connection<S>) -> Result<(), Fail> {
     run_all(conn, ROWS)?;
     fill_texts(alloc, conn)?;
@@ -196,7 +196,7 @@ fn fill_texts<S: Alter>(alloc: Global, conn: &mut Connection<S>) -> Result<(), F
     Ok(())
 }
 
-/// Commits a change, which must go well.
+/// Commits a change, which must succeed.
 pub(crate) fn commit<S: Alter>(store: &mut Store<S>, change: &Change<'_>) -> Result<(), Fail> {
     Ok(store.commit(change)?)
 }
@@ -218,7 +218,7 @@ pub(crate) fn commit_zone<S: Alter>(
     commit(store, &Change::Zone(name, delta))
 }
 
-/// Commits edits of the global zone that insert no SYSMOD, so that it is stated nowhere.
+/// Commits edits of the global zone that insert no SYSMOD, so that no statements are needed.
 pub(crate) fn commit_edits<S: Alter>(
     alloc: Global,
     store: &mut Store<S>,
@@ -268,7 +268,7 @@ pub(crate) fn opened<S: Alter + Drop>(
     }
 }
 
-/// The store over a database without tables, whose tables are given these rows.
+/// The store over a database without tables, whose tables get these rows.
 pub(crate) fn filled<S: Alter + Drop>(
     alloc: Global,
     conn: Connection<S>,
@@ -284,7 +284,7 @@ pub(crate) fn in_memory(alloc: Global) -> Result<Connection<MemStore>, Fail> {
     Ok(Connection::open_in_memory(alloc)?)
 }
 
-/// The known rows in memory, and these besides.
+/// The known rows in memory, and these as well.
 pub(crate) fn known_with(alloc: Global, more: &[&str]) -> Result<Connection<MemStore>, Fail> {
     let mut conn = filled(alloc, in_memory(alloc)?)?;
     run_all(&mut conn, more)?;

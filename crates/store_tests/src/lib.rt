@@ -1,5 +1,5 @@
-//! Tests of stores: what is committed is loaded again, rows that stand for no state are told, a commit leaves the other
-//! rows alone, and a database of an earlier schema is taken over.
+//! Tests of stores: what is committed is loaded again, rows that stand for no state are reported, a commit leaves the
+//! other rows alone, and a database of an earlier schema is migrated.
 #![tactic(auto)]
 
 #[cfg(test)]

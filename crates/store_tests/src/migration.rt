@@ -1,4 +1,4 @@
-//! Databases of earlier schemas: taken over whole, or left as they are.
+//! Databases of earlier schemas: migrated whole, or left as they are.
 
 ghost use Rattle.std.specs.Prelude.{IsTrue};
 
@@ -14,7 +14,7 @@ use std::test::Fail;
 use store_migration::migrate;
 use store_schema::StoreError;
 
-/// The tables of schema 1, as programs before release 1.0.0 made them.
+/// The tables of schema 1, as programs before release 1.0.0 created them.
 const FIRST: &str =
     "CREATE TABLE meta (k TEXT NOT NULL, v INTEGER NOT NULL, PRIMARY KEY (k)) STRICT; CREATE TABLE sysmod (id TEXT \
     NOT NULL, kind TEXT NOT NULL, sources TEXT NOT NULL, PRIMARY KEY (id)) STRICT; CREATE TABLE ver (id TEXT NOT \
@@ -33,7 +33,7 @@ const FIRST: &str =
     NULL, distlib TEXT NOT NULL, syslib TEXT NOT NULL, text BLOB NOT NULL, PRIMARY KEY (zone, type, name), FOREIGN \
     KEY (zone) REFERENCES zone (name)) STRICT; INSERT INTO meta (k, v) VALUES ('schema', 1)";
 
-/// What schema 2 has besides.
+/// What schema 2 has in addition.
 const SECOND: &str =
     "CREATE TABLE source (id TEXT NOT NULL, name TEXT NOT NULL, PRIMARY KEY (id, name), \
     FOREIGN KEY (id) REFERENCES sysmod (id) ON DELETE CASCADE) STRICT; \
@@ -45,7 +45,7 @@ const JOINED: &[&str] = &[
     "UPDATE sysmod SET sources = 'PUT2401' WHERE id = 'UAA0001'",
 ];
 
-/// The known rows under an earlier schema: behind these statements, with these sources.
+/// The known rows under an earlier schema: after these statements, with these sources.
 fn earlier<S: Alter + Drop>(
     alloc: Global,
     mut conn: Connection<S>,
@@ -65,7 +65,7 @@ fn first<S: Alter + Drop>(alloc: Global, conn: Connection<S>) -> Result<Connecti
     earlier(alloc, conn, &[FIRST], JOINED)
 }
 
-/// The connection behind a migration, and how it ended.
+/// The connection after a migration, and how it ended.
 fn migrated<S: Alter + Drop>(
     alloc: Global,
     conn: Connection<S>,
@@ -79,7 +79,7 @@ fn migrated<S: Alter + Drop>(
     }
 }
 
-/// All rows behind a migration that must go well.
+/// All rows after a migration that must succeed.
 fn rows_taken<S: Alter + Drop>(alloc: Global, conn: Connection<S>) -> Result<String, Fail> {
     let (mut conn, fault) = migrated(alloc, conn)?;
     match fault {
@@ -94,7 +94,7 @@ fn own_rows(alloc: Global) -> Result<String, Fail> {
     all_lines(alloc, &mut conn)
 }
 
-/// All rows behind a migration are the store's own.
+/// All rows after a migration are the store's own.
 fn check_taken<S: Alter + Drop>(
     alloc: Global,
     name: &str,
@@ -128,7 +128,7 @@ fn files_are_closed_and_opened_between(rt: HostRuntime) -> Result<(), Fail> {
     check_taken(alloc, "migrated twice", again(alloc, conn)?)
 }
 
-/// Edits of a database of schema 1 after which its rows stand for no state, in whatever zone they are.
+/// Edits of a database of schema 1 after which its rows stand for no state, in whichever zone they are.
 const BAD: &[&str] = &[
     "UPDATE sysmod SET sources = 'PUT240123' WHERE id = 'UAA0001'",
     "UPDATE sysmod SET sources = 'PUT2402,PUT2401' WHERE id = 'UAA0001'",
@@ -152,12 +152,12 @@ const BAD: &[&str] = &[
 /// Edits after which the number is no schema's.
 const UNKNOWN: &[&str] = &["UPDATE meta SET v = 0", "UPDATE meta SET v = 4"];
 
-/// The rows of schema 1, but for sources.
+/// The rows of schema 1, except those of sources.
 const LEFT: &str =
     "SELECT k||' '||v FROM meta UNION ALL SELECT id||' '||kind||' '||sources FROM sysmod UNION ALL SELECT \
         name||' '||kind FROM zone UNION ALL SELECT zone||' '||id FROM entry ORDER BY 1";
 
-/// What is told of the database with this edit, and whether its rows stay.
+/// The answer for the database with this edit, and whether its rows stay.
 fn told_of(alloc: Global, sql: &str) -> Result<(Option<StoreError>, bool), Fail> {
     let mut conn = first(alloc, in_memory(alloc)?)?;
     conn.execute_batch(sql)?;
@@ -167,7 +167,7 @@ fn told_of(alloc: Global, sql: &str) -> Result<(Option<StoreError>, bool), Fail>
     Ok((fault, before.as_str() == after.as_str()))
 }
 
-/// This is told of the database with each of these edits, and its rows stay.
+/// The database gives this answer with each of these edits, and its rows stay.
 fn check_told(alloc: Global, edits: &[&str], wanted: StoreError) -> Result<(), Fail> {
     for sql in edits {
         let (told, is_same) = told_of(alloc, sql)?;
@@ -186,7 +186,7 @@ fn other_databases_stay_as_they_are(rt: HostRuntime) -> Result<(), Fail> {
     check_told(rt.alloc(), UNKNOWN, StoreError::OtherSchema)
 }
 
-/// Migrates over these files, and gives them back as they are, with whether it went well.
+/// Migrates over these files, and returns them as they are, with whether it succeeded.
 fn migrated_on<D: Disk + Drop>(alloc: Global, files: Files<D>) -> Result<(Files<D>, bool), Fail>
     requires log { IsTrue (D.Disk.is_usable files.log) }
     requires db { IsTrue (D.Disk.is_usable files.db) }
@@ -200,7 +200,7 @@ fn migrated_on<D: Disk + Drop>(alloc: Global, files: Files<D>) -> Result<(Files<
     }
 }
 
-/// The disks come back; a second migration finds all rows, and so do those whom the first one told that it went well.
+/// The disks come back. A second migration finds all rows, and so does anyone to whom the first one reported success.
 fn rows_behind<D: Crash + Drop>(alloc: Global, mut files: Files<D>) -> Result<String, Fail> {
     files.log.crash();
     files.db.crash();
@@ -210,7 +210,7 @@ fn rows_behind<D: Crash + Drop>(alloc: Global, mut files: Files<D>) -> Result<St
     }
 }
 
-/// The rows behind a migration over disks that fail at the next of so many calls, and whether it went well.
+/// The rows after a migration over disks that fail at the next of so many calls, and whether it succeeded.
 fn over_fused(alloc: Global, in_log: u64, in_db: u64) -> Result<(String, bool), Fail> {
     let Files { log, db } = close(first(alloc, new_files(alloc)?)?)?;
     let log = Fuse::new(log, in_log);
@@ -219,7 +219,7 @@ fn over_fused(alloc: Global, in_log: u64, in_db: u64) -> Result<(String, bool), 
     Ok((rows_behind(alloc, files)?, went_well))
 }
 
-/// Whether a migration with so many calls or steps went well. The rows behind it must be these.
+/// Whether a migration with so many calls or steps succeeded. The rows after it must be these.
 fn went_well(count: u64, behind: (String, bool), wanted: &str) -> Result<bool, Fail> {
     let (rows, went_well) = behind;
     if rows.as_str() == wanted {
@@ -244,8 +244,8 @@ fn no_row_is_lost_where_a_disk_fails(rt: HostRuntime) -> Result<(), Fail> {
     Err(Fail::from("the migration does not end with ten thousand calls of a disk"))
 }
 
-/// The rows once a migration with so many steps for each query has ended, and another without a limit; and whether the
-/// first went well.
+/// The rows once a migration with so many steps for each query has ended, and another without a limit, and whether the
+/// first one succeeded.
 fn with_limit(alloc: Global, steps: u64) -> Result<(String, bool), Fail> {
     let mut conn = first(alloc, in_memory(alloc)?)?;
     conn.set_step_limit(Some(steps));

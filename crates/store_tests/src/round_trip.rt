@@ -53,7 +53,7 @@ fn add_hold(alloc: Global, edits: &mut Vec<GlobalEdit>, hold: &Hold) -> Result<(
     Ok(())
 }
 
-/// Each SYSMOD, and behind it the holds on it.
+/// Each SYSMOD, followed by the holds on it.
 fn add_sysmods(
     alloc: Global,
     edits: &mut Vec<GlobalEdit>,
@@ -81,7 +81,7 @@ fn add_all(alloc: Global, edits: &mut Vec<GlobalEdit>, global: &GlobalZone) -> R
     Ok(())
 }
 
-/// The edits by which an empty global zone becomes this one.
+/// The edits that make this global zone from an empty one.
 fn edits_to(alloc: Global, global: &GlobalZone) -> Result<Change<'_>, Fail> {
     let mut edits = Vec::new(alloc);
     add_all(alloc, &mut edits, global)?;
@@ -142,7 +142,7 @@ fn copy_all<S: Alter, T: Alter>(
     Ok(())
 }
 
-/// What becomes of a database without tables when all that another holds is committed to it.
+/// A database without tables after all that another one holds is committed to it.
 fn copied<S: Alter + Drop, T: Alter + Drop>(
     alloc: Global,
     from: Connection<S>,
@@ -168,7 +168,7 @@ fn rows_of_copy<S: Alter + Drop>(alloc: Global, from: Connection<S>) -> Result<S
     all_lines(alloc, &mut conn)
 }
 
-/// What it holds is copied into files, and from there into memory.
+/// Its contents are copied into files, and from there into memory.
 fn copy_twice(alloc: Global, name: &str, mut conn: Connection<MemStore>) -> Result<(), Fail> {
     let rows = all_lines(alloc, &mut conn)?;
     let copy = rows_of_copy(alloc, in_files(alloc, conn)?)?;
@@ -221,7 +221,7 @@ const AGAIN: &[&str] = &[
         internal FROM hold WHERE id >= 'U1' AND id < 'U2'",
 ];
 
-/// The known rows, and 512 SYSMODs besides.
+/// The known rows, and 512 SYSMODs in addition.
 fn many_sysmods(alloc: Global) -> Result<Connection<MemStore>, Fail> {
     let mut conn = known_with(alloc, FIRST)?;
     for sql in AGAIN {
@@ -235,13 +235,13 @@ fn many_sysmods_come_in_one_commit(rt: HostRuntime) -> Result<(), Fail> {
     copy_twice(rt.alloc(), "512 SYSMODs", many_sysmods(rt.alloc())?)
 }
 
-/// The rows of one SYSMOD and of those beside it.
+/// The rows of one SYSMOD and of those next to it.
 const BESIDE: &str =
     "SELECT id||' '||kind FROM sysmod WHERE id >= 'U100099' AND id <= 'U100101' UNION ALL SELECT id||' '||name FROM \
         source WHERE id >= 'U100099' AND id <= 'U100101' UNION ALL SELECT id||' '||reason FROM hold WHERE id >= \
         'U100099' AND id <= 'U100101' ORDER BY 1";
 
-/// The one goes, or has one source in place of two.
+/// The one goes, or has one source instead of two.
 fn edit_of_one(alloc: Global, goes: bool) -> Result<GlobalEdit, Fail> {
     let id = Id::read(b"U100100").ok_or("no id")?;
     if goes {
@@ -252,7 +252,7 @@ fn edit_of_one(alloc: Global, goes: bool) -> Result<GlobalEdit, Fail> {
     Ok(GlobalEdit::ReplaceSources(sysmod))
 }
 
-/// Edits by which all SYSMODs come, and behind them that of the one.
+/// Edits that insert all SYSMODs, and then the edit of the one.
 fn come_and_change(
     alloc: Global,
     global: &GlobalZone,

@@ -20,17 +20,17 @@ number_calls zone id old new =
     if new == old then [] else if new == 1 then (delete_chosen, entry_key zone id) ∷ []
     else (if old == 1 then insert_chosen else put_chosen, chosen_row zone id new) ∷ []
 
--- An entry of the zone of this name is put. Under its id stood one that was installed by this number, or none.
+-- An entry of the zone of this name is put. The old one of its id, if there was one, was installed by this number.
 abbrev pub put_entry_calls : Text → Option ℕ → Entry → List Call
 put_entry_calls zone stood e =
     (if is_some stood then put_entry else insert_entry, entry_row zone e)
     ∷ number_calls zone e.id (number_before stood) (number_of e)
 
--- the entry of the id, which was installed by this number, goes, if there is one
+-- the entry of the id, if there was one, goes; it was installed by this number
 abbrev pub remove_entry_calls : Text → Option ℕ → Id → List Call
 remove_entry_calls zone stood id = (delete_entry, entry_key zone id) ∷ number_calls zone id (number_before stood) 1
 
--- an element of the zone of this name is put, whether or not one stood under its type and name
+-- an element of the zone of this name is put, whether or not there was an old one
 abbrev pub put_element_calls : Text → Bool → Element → List Call
 put_element_calls zone stood e = (if stood then put_element else insert_element, zelem_row zone e) ∷ []
 

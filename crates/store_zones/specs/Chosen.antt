@@ -1,4 +1,4 @@
--- The table of the ++VERs by which entries were installed. Where it was the first, there is no row.
+-- The table of the ++VERs by which entries were installed. If it was the first, there is no row.
 use Rattle.std.specs.Prelude.{◌≤◌, ◌<◌, ◌^◌, ℕ, List, Option, unwrap_or}
 use Rattle.sqlite.specs.Order.{Row}
 use Rattle.terms.specs.Forms.{IsId, IsZoneName}
@@ -20,7 +20,7 @@ put_chosen = PUT.now
 abbrev pub delete_chosen : List ℕ
 delete_chosen = DELETE.now
 
--- the number of what stood under an id, and 1 if nothing did
+-- the number of the old entry of an id, or 1 if there was none
 abbrev pub number_before : Option ℕ → ℕ
 number_before stood = unwrap_or stood 1
 
@@ -30,7 +30,7 @@ number_row zone n = chosen_row zone n.id n.number
 abbrev pub row_of_number : ZoneRow EntryNumber → Row
 row_of_number r = number_row r.zone r.item
 
--- a number that is not 1, and that a column can hold
+-- a number that is not 1 and fits into a column
 pub record HasNumberForms (r : ZoneRow EntryNumber) : Type 0 where
   pub zone : IsZoneName r.zone
   pub id : IsId r.item.id

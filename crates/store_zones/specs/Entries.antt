@@ -21,7 +21,7 @@ put_entry = PUT.now
 abbrev pub delete_entry : List ℕ
 delete_entry = DELETE.now
 
--- the zone and the id of an entry as columns, by which its number has its row too
+-- the zone and the id of an entry as columns, by which its number also has its row
 abbrev pub entry_key : Text → Id → Row
 entry_key zone id = value.Text zone ∷ value.Text id ∷ []
 
@@ -32,7 +32,7 @@ row_of_entry r = entry_row r.zone r.item
 abbrev pub IsFirst : Entry → Type 0
 IsFirst e = IfSome e.applied (λ a. a.number ≡ 1)
 
--- What an entry is there for is looked for in the whole zone. The row has no number, so that it is 1.
+-- Only the whole zone shows why an entry exists. The row has no number, so that it is 1.
 pub record HasEntryRowForms (r : ZoneRow Entry) : Type 0 where
   pub zone : IsZoneName r.zone
   pub id : IsId r.item.id

@@ -11,15 +11,15 @@ use Rattle.store_zones.specs.declared.head.ZoneHead.{ZoneHead}
 abbrev pub zone_in : Inventory → Text → Option Zone
 zone_in i name = option_map (λ z. z.zone) (find (λ z. bytes_eq z.name name) i.zones)
 
--- all of a zone but its entries and elements
+-- all of a zone except its entries and elements
 abbrev pub head_in : Text → Zone → ZoneHead
 head_in name zone = record { name = name; kind = zone.kind; srel = zone.srel; related = zone.related }
 
 abbrev pub head_of : NamedZone → ZoneHead
 head_of z = head_in z.name z.zone
 
--- what a zone asks of its parts: no entry is empty or waives what is not applied, and a target zone alone names a
--- related zone
+-- what a zone demands of its parts: no entry is empty, none waives requisites without being applied, and only a target
+-- zone names a related zone
 abbrev pub MayBeZone : ZoneKind → Option Text → List Entry → Type 0
 MayBeZone kind related entries =
     All (λ e. IsTrue (has_content e)) entries × All (λ e. IsTrue (waives_applied e)) entries

@@ -22,7 +22,7 @@ abbrev pub head_row : ZoneHead → Row
 head_row h = value.Text h.name ∷ value.Text (zone_kind_text h.kind) ∷ value.Text h.srel ∷ or_null value.Text h.related ∷
     []
 
--- A target zone alone names a related zone.
+-- Only a target zone names a related zone.
 pub record HasHeadForms (h : ZoneHead) : Type 0 where
   pub name : IsZoneName h.name
   pub srel : IsSrel h.srel

@@ -46,13 +46,13 @@ pub record HoldsZone (contents : Contents) (z : NamedZone) : Type 0 where
   pub forms : IsZoneNamed z
   pub related : IfSome z.zone.related IsZoneName
 
--- By which ++VER each entry was installed. Under earlier schemas it was the first.
+-- The ++VER by which each entry was installed. Under earlier schemas it was the first.
 abbrev pub HoldsNumbers : Schema → Contents → NamedZone → Type 0
 HoldsNumbers First contents z = All IsFirst z.zone.entries
 HoldsNumbers Second contents z = All IsFirst z.zone.entries
 HoldsNumbers Third contents z = IsPermutation (chosen_of z) (rows_named z.name tables.chosen contents)
 
--- all that the tables of the schema hold of a name, which may be no zone's
+-- all that the tables of the schema hold for a name, which need not be that of a zone
 abbrev pub HoldsUnder : Schema → Contents → Text → Option Zone → Type 0
 HoldsUnder r contents name None = rows_named name tables.zone contents ≡ []
 HoldsUnder r contents name (Some zone) =

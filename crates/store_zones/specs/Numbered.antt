@@ -14,7 +14,7 @@ renumbered e n = record e { applied = option_map (λ a. an_applied a.date n) e.a
 abbrev pub as_first : Entry → Entry
 as_first e = renumbered e 1
 
--- its number, where that is not 1
+-- its number, unless that is 1
 abbrev pub number_in : Entry → List EntryNumber
 number_in e =
     option_map_or (λ a. if a.number == 1 then [] else record { id = e.id; number = a.number } ∷ []) e.applied []
@@ -37,7 +37,7 @@ abbrev pub with_first : Entry → List EntryNumber → Entry
 with_first e [] = e
 with_first e (n ∷ ns) = if is_number_of e n then renumbered e n.number else e
 
--- and what is left of them
+-- and the remaining numbers
 abbrev pub behind_first : Entry → List EntryNumber → List EntryNumber
 behind_first e [] = []
 behind_first e (n ∷ ns) = if is_number_of e n then ns else n ∷ ns

@@ -1,4 +1,4 @@
--- What the heads of zones say of each other.
+-- What the heads of zones say about each other.
 use Rattle.std.specs.Prelude.{◌≡◌, ◌≢◌, List, All, AllPairs, IfSome, Some}
 use Rattle.std.specs.List.{Any}
 use Rattle.terms.specs.declared.kinds.ZoneKind.TheVariants.{Distribution}
@@ -17,7 +17,7 @@ IsRelatedAmong heads h = IfSome h.related (λ name. Any (IsDistributionOf name h
 abbrev pub HeadsAreApart : ZoneHead → ZoneHead → Type 0
 HeadsAreApart a b = IfSome a.related (λ name. b.related ≢ Some name)
 
--- Each related zone is there, and no two zones name one.
+-- Each related zone exists, and no two zones name the same one.
 pub record AreRelated (heads : List ZoneHead) : Type 0 where
   pub related : All (IsRelatedAmong heads) heads
   pub apart : AllPairs HeadsAreApart heads

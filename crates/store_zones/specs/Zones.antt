@@ -1,4 +1,4 @@
--- What a change of one zone's entries or elements makes of the inventory.
+-- How a change of one zone's entries or elements changes the inventory.
 use Rattle.std.specs.Prelude.{◌≡◌, ◌≢◌, ◌&&◌, ◌==◌, not, ℕ, Bool, List, ◌∷◌, ◌++◌, filter, Option, [], is_some}
 use Rattle.std.specs.Prelude.{IsPermutation, if◌then◌else◌}
 use Rattle.std.specs.List.{AllByRecursion}
@@ -21,17 +21,17 @@ use Rattle.store_zones.specs.Chosen.{number_before}
 use Rattle.store_zones.specs.Elements.{element_key}
 use Rattle.store_zones.specs.Entries.{entry_key}
 
--- one more row, in place of those of its key where one stood
+-- one more row, instead of those of its key if there was one
 abbrev pub rows_with : Bool → Row → Row → List Row → List Row
 rows_with stood key row rows = row ∷ (if stood then without key rows else rows)
 
--- what `chosen` holds when the number of the entry of this id has become another
+-- the rows of `chosen` after the number of the entry of this id has changed
 abbrev pub numbered : Text → Id → ℕ → ℕ → List Row → List Row
 numbered zone id old new rows =
     if new == old then rows else if new == 1 then without (entry_key zone id) rows
     else rows_with (not (old == 1)) (entry_key zone id) (chosen_row zone id new) rows
 
--- `entry` has the row of the entry, and `chosen` its number, in place of what stood under its id
+-- `entry` has the row of the entry, and `chosen` its number, instead of the old ones
 abbrev pub with_entry : Text → Option ℕ → Entry → Contents → Contents
 with_entry zone stood e contents =
     in_table chosen (numbered zone e.id (number_before stood) (number_of e))
@@ -55,7 +55,7 @@ pub record IsZoneChange (name : Text) (old new : Zone) (i j : Inventory) : Type 
   pub is : j ≡ record { global = i.global; zones = before ++ record { name = name; zone = new } ∷ after }
   pub others : AllByRecursion (λ z. z.name ≢ name) (before ++ after)
 
--- the zone has this entry of the id and no other of it, or none
+-- the zone has this entry of the id and no other, or none
 abbrev pub HasEntry : Id → Option Entry → Zone → Type 0
 HasEntry id stood zone = filter (λ e. bytes_eq e.id id) zone.entries ≡ option_to_list stood
 
@@ -67,7 +67,7 @@ entries_but id entries = filter (λ e. not (bytes_eq e.id id)) entries
 abbrev pub is_element : ElemType → Text → Element → Bool
 is_element type name e = (type_number e.elem_type == type_number type) && bytes_eq e.name name
 
--- the zone has this element of the type and name and no other of it, or none
+-- the zone has this element of the type and name and no other, or none
 abbrev pub HasElement : ElemType → Text → Option Element → Zone → Type 0
 HasElement type name stood zone = filter (is_element type name) zone.elements ≡ option_to_list stood
 
@@ -75,19 +75,19 @@ HasElement type name stood zone = filter (is_element type name) zone.elements �
 abbrev pub elements_but : ElemType → Text → List Element → List Element
 elements_but type name elements = filter (λ e. not (is_element type name e)) elements
 
--- the entry in place of the one of its id, which is this; what order they are in is left open
+-- the entry instead of the one of its id, which is this; their order is open
 pub record HasPutEntry (stood : Option Entry) (put : Entry) (old new : Zone) : Type 0 where
   pub was : HasEntry put.id stood old
   pub rest : new ≡ record old { entries = new.entries }
   pub entries : IsPermutation new.entries (put ∷ entries_but put.id old.entries)
 
--- no entry of the id, where this was there
+-- no entry of the id; this was the old one
 pub record HasRemovedEntry (stood : Option Entry) (id : Id) (old new : Zone) : Type 0 where
   pub was : HasEntry id stood old
   pub rest : new ≡ record old { entries = new.entries }
   pub entries : IsPermutation new.entries (entries_but id old.entries)
 
--- the element in place of the one of its type and name, which is this
+-- the element instead of the one of its type and name, which is this
 pub record HasPutElement (stood : Option Element) (element : Element) (old new : Zone) : Type 0 where
   pub was : HasElement element.elem_type element.name stood old
   pub rest : new ≡ record old { elements = new.elements }
@@ -98,7 +98,8 @@ pub record HasRemovedElement (type : ElemType) (name : Text) (old new : Zone) : 
   pub rest : new ≡ record old { elements = new.elements }
   pub elements : IsPermutation new.elements (elements_but type name old.elements)
 
--- where the tables held an inventory's rows, and its zone of this name changes so, they hold those of the new inventory
+-- if the tables held an inventory's rows, and its zone of this name changes in this way, they hold those of the new
+-- inventory
 abbrev pub ChangesZone : {S : Type 0} → Ghosts S → Held S → Held S → Text → (Zone → Zone → Type 0) → Type 0
 ChangesZone g old new name Changes =
     (i j : Inventory) (was is : Zone) → IsZoneChange name was is i j → Changes was is
@@ -112,7 +113,7 @@ empty_zone name kind srel related = record {
       record { kind = kind; srel = srel; related = related; entries = []; elements = [] };
 }
 
--- where the tables held an inventory's rows, they hold those of the inventory that has one more zone, in any place
+-- if the tables held an inventory's rows, they hold those of the inventory that has one more zone, in any place
 abbrev pub AddsZone : {S : Type 0} → Ghosts S → Held S → Held S → NamedZone → Type 0
 AddsZone g old new zone =
     (global : Global) (before after : List NamedZone)

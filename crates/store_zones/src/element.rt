@@ -42,8 +42,8 @@ const PUT: &str = "INSERT INTO zelem (zone, type, name, fmid, rmid, umid, distli
 
 const DELETE: &str = "DELETE FROM zelem WHERE zone = ?1 AND type = ?2 AND name = ?3";
 
-/// Puts the element into the zone, in place of the one of its type and name, if one stands there. An error comes if one
-/// stands there after all, if there is no such zone, if the disk fails or memory is short.
+/// Puts the element into the zone, instead of the one of its type and name, if there is one. Returns an error if the
+/// zone has one after all, if there is no such zone, if the disk fails or if memory runs out.
 pub fn put_element<S: Alter>(
     alloc: Global,
     tx: &mut Transaction<'_, S>,
@@ -64,8 +64,8 @@ pub fn put_element<S: Alter>(
     put_row(tx, &zone, stood, element, umids.as_slice(), text.as_slice())
 }
 
-// Puts the element's row, of whose UMIDs and records these are the bytes, in place of that of the element which stood,
-// if one did.
+// Puts the element's row, with these bytes of its UMIDs and records, instead of that of the old element, if there was
+// one.
 fn put_row<S: Alter>(
     tx: &mut Transaction<'_, S>,
     zone: &ZoneName,
@@ -99,8 +99,8 @@ fn put_row<S: Alter>(
     insert(tx, INSERT, &row)
 }
 
-/// Takes the element of the type and name out of the zone, if there is one. An error comes where the disk fails or
-/// memory is short.
+/// Removes the element of the type and name from the zone, if there is one. Returns an error if the disk fails or
+/// memory runs out.
 pub fn remove_element<S: Alter>(
     tx: &mut Transaction<'_, S>,
     zone: ZoneName,

@@ -45,8 +45,8 @@ const PUT: &str = "INSERT INTO entry (zone, id, date, supby, delby, waived) \
 
 const DELETE: &str = "DELETE FROM entry WHERE zone = ?1 AND id = ?2";
 
-/// Puts the entry into the zone. Under its id stands one that was installed by this `++VER`, or none. An error comes if
-/// one stands there after all, if there is no such zone, if the disk fails or memory is short.
+/// Puts the entry into the zone. The old one of its id, if there is one, was installed by this `++VER`. Returns an
+/// error if the zone has one after all, if there is no such zone, if the disk fails or if memory runs out.
 pub fn put_entry<S: Alter>(
     alloc: Global,
     tx: &mut Transaction<'_, S>,
@@ -91,7 +91,7 @@ fn date_value(applied: &Option<Applied>) -> ValueRef<'_>
     }
 }
 
-// Puts the entry's row, of whose lists these are the texts, in place of that of the entry which stood, if one did.
+// Puts the entry's row, with these texts of its lists, instead of that of the old entry, if there was one.
 fn put_row<S: Alter>(
     tx: &mut Transaction<'_, S>,
     zone: &ZoneName,
@@ -139,8 +139,8 @@ fn remove_row<S: Alter>(tx: &mut Transaction<'_, S>, zone: &ZoneName, id: &Id) -
     remove(tx, DELETE, &key)
 }
 
-/// Takes the entry of the id, which was installed by this `++VER`, out of the zone, if there is one. An error comes if
-/// the disk fails or memory is short.
+/// Removes the entry of the id, which was installed by this `++VER`, from the zone, if there is one. Returns an error
+/// if the disk fails or memory runs out.
 pub fn remove_entry<S: Alter>(
     tx: &mut Transaction<'_, S>,
     zone: ZoneName,
@@ -207,7 +207,7 @@ impl FromRow for Entries {
     }
 }
 
-// When it was applied, or NULL. The row has no number, which is 1 until that of another table is found.
+// When it was applied, or NULL. The row has no number, so it is 1 until that of another table is found.
 fn applied_in(row: &Row, at: usize) -> Option<Option<Applied>>
     ensures some { IfSome result (λ applied. (column row.now at ≡ or_null Text (option_map (λ a. a.date) applied))
         × IfSome applied HasAppliedForms × IfSome applied (λ a. a.number ≡ 1)) }

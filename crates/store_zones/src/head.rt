@@ -201,9 +201,9 @@ pub(crate) fn zone_head<S: Alter>(
     at_most_one(heads.as_slice())
 }
 
-/// The heads of all zones, by name. A target zone names a distribution zone of its SREL, which no
-/// other names. `BadRow` comes where a row is no head, or the rows are not related so, `Memory` where memory is short,
-/// and `Fault` where the disk fails or the tables are others.
+/// The heads of all zones, by name. A target zone names a distribution zone of its SREL that no other one names.
+/// Returns `BadRow` if a row is not a head, or the rows are not related in this way, `Memory` if memory runs out, and
+/// `Fault` if the disk fails or the tables are others.
 pub fn zone_heads<S: Alter>(
     alloc: Global,
     conn: &mut Connection<S>,
@@ -237,8 +237,8 @@ fn names_of(alloc: Global, heads: &[ZoneHead]) -> Result<Vec<ZoneName>, AllocErr
     Ok(names)
 }
 
-/// The names of all zones, rising. `BadRow` comes where `zone_heads` has it, `Memory` where memory is short, and
-/// `Fault` where the disk fails or the tables are others.
+/// The names of all zones, rising. Returns `BadRow` if `zone_heads` does, `Memory` if memory runs out, and `Fault` if
+/// the disk fails or the tables are others.
 pub fn zone_names<S: Alter>(
     alloc: Global,
     conn: &mut Connection<S>,
@@ -257,8 +257,8 @@ pub fn zone_names<S: Alter>(
 
 // ---- as it is written
 
-/// Adds a zone that has no entries. An error comes where there is a zone of its name, where the disk fails or memory is
-/// short.
+/// Adds a zone that has no entries. Returns an error if there is a zone of its name, if the disk fails or if memory
+/// runs out.
 pub fn insert_zone<S: Alter>(
     tx: &mut Transaction<'_, S>,
     name: ZoneName,

@@ -1,4 +1,4 @@
-//! The table of `++VER`s by which entries were installed, where that was not the first of its SREL.
+//! The table of `++VER`s by which entries were installed, if that was not the first of its SREL.
 
 ghost use Rattle.std.specs.Prelude.{◌≡◌, ◌<◌, ◌^◌, [], ◌∷◌, OnOk, ◌≢◌, ◌≤◌, ℕ, pos, IfOk, IfSome};
 ghost use Rattle.std.specs.Prelude.{IfNone, IsErrOf};
@@ -35,7 +35,7 @@ const PUT: &str = "INSERT INTO chosen (zone, id, n) VALUES (?1, ?2, ?3) \
 
 const DELETE: &str = "DELETE FROM chosen WHERE zone = ?1 AND id = ?2";
 
-/// The number of what stood under an id.
+/// The number of the old entry of an id.
 pub(crate) fn number_before(stood: Option<VerNumber>) -> usize
     ensures { result ≡ number_before stood }
 {
@@ -64,7 +64,7 @@ fn insert_row<'a, S: Alter>(
     insert(tx, INSERT, &row)
 }
 
-// Puts the row of the entry of this id, in place of the one that it has.
+// Puts the row of the entry of this id, instead of the one that it has.
 fn put_row<'a, S: Alter>(
     tx: &mut Transaction<'_, S>,
     zone: &'a ZoneName,
@@ -144,7 +144,7 @@ impl Keyed for EntryNumber {
     }
 }
 
-// A number that is not 1. It counts from there.
+// A number that is not 1, which is where numbers begin.
 fn number_in(row: &Row, at: usize) -> Option<VerNumber>
     ensures some { IfSome result (λ n. (column row.now at ≡ Int (pos n)) × (2 ≤ n) × (n < 2 ^ 63)) }
     ensures none { IfNone result ((n : ℕ) → 2 ≤ n → column row.now at ≢ Int (pos n)) }

@@ -1,4 +1,4 @@
-//! What stands in a zone, from the rows of a table that name the zone.
+//! The contents of a zone, from the rows of a table that name the zone.
 
 ghost use Rattle.std.specs.Prelude.{List, IfOk, IsErrOf};
 ghost use Rattle.sqlite.specs.Held.{state};
@@ -18,7 +18,7 @@ use std::alloc::Global;
 use store_rows::{FromRow, ReadError};
 use store_schema::{Query, load_listed};
 
-/// What stands in a zone by its keys, and the query of its rows, whose first column is the name of the zone.
+/// What a zone contains, by its keys, and the query for its rows, whose first column is the name of the zone.
 pub(crate) trait ZoneItem: Keyed + Drop {
     ghost use Rattle.std.specs.Prelude.{◌≡◌, ◌∷◌, drop};
     ghost use Rattle.sqlite.specs.declared.types.Value.TheVariants.{Text};

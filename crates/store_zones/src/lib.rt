@@ -1,12 +1,11 @@
 //! The tables of zones: the zones, their SYSMOD entries with the numbers of their `++VER`s, and their element entries.
-//! A module for each table (`head`, `entry`, `chosen`, `element`) has all that is said of it alone: its statements,
-//! and its row as it is read and as it is written.
-//! Inside a transaction, an entry or an element that is put in or taken out, or a zone that is added, changes what the
-//! tables stand for so, and nothing else.
-//! A zone that is loaded, and the heads and names of all zones, are those of the inventory that stands for the rows,
-//! under each schema, and a row is refused only where none does. What is answered says which rows the tables hold of
-//! the zone, or of all zones. Nobody looks for entries, their numbers and elements of a zone that is not there: foreign
-//! keys keep them out.
+//! A module for each table (`head`, `entry`, `chosen`, `element`) has everything about that table: its statements, and
+//! its row as it is read and written. Inside a transaction, putting or removing an entry or an element, or adding a
+//! zone, changes what the tables stand for in this way, and nothing else. A zone that is loaded, and the heads and
+//! names of all zones, are those of the inventory for which the rows stand, under each schema. A row is refused only if
+//! there is no such inventory. The answer says which rows the tables hold for the zone, or for all zones. No call looks
+//! for entries, their numbers and elements of an undefined zone: foreign keys keep them out. Every call that allocates
+//! returns an error if memory runs out.
 #![tactic(auto)]
 
 mod element;

@@ -1,4 +1,4 @@
-//! Entries joined with their numbers, which stand in a table of their own where they are not 1.
+//! Entries joined with their numbers, which are in a table of their own if they are not 1.
 
 ghost use Rattle.std.specs.Prelude.{◌≡◌, ◌≢◌, [], ◌∷◌, IfOk, IfSome, IfNone, IsErrOf, option_map};
 ghost use Rattle.terms.specs.Types.{an_applied};
@@ -85,7 +85,7 @@ fn with_numbers(
     Ok(all)
 }
 
-/// The entries with their numbers, of which each is that of an applied one.
+/// The entries with their numbers, each of which is that of an applied entry.
 pub(crate) fn numbered(
     alloc: Global,
     entries: Table<Entry>,

@@ -1,4 +1,4 @@
-//! What the heads of zones say of each other.
+//! What the heads of zones say about each other.
 
 ghost use Rattle.std.specs.Prelude.{◌≡◌, ◌↔◌, IsTrue, All, AllPairs, IfOk, IsErrOf};
 ghost use Rattle.std.specs.List.{Any};
@@ -65,7 +65,7 @@ fn are_apart(heads: &[ZoneHead]) -> bool
     true
 }
 
-/// The heads, if each related zone is there and no two zones name one.
+/// The heads, if each related zone exists and no two zones name the same one.
 pub(crate) fn only_related(heads: Vec<ZoneHead>) -> Result<Vec<ZoneHead>, ReadError>
     ensures same { IfOk result (λ same. same.items ≡ heads.items) }
     ensures related { IfOk result (λ same. AreRelated same.items) }

@@ -23,7 +23,7 @@ use store_rows::ReadError;
 use store_schema::Schema;
 use zones_maps::{Element, Entry, Zone};
 
-/// The zone of these parts, if they may stand in one.
+/// The zone of these parts, if they may be in one.
 fn join(head: ZoneHead, entries: Table<Entry>, elements: Table<Element>) -> Result<Zone, ReadError>
     ensures same { IfOk result (λ zone. zone ≡ a_zone head.kind head.srel head.related entries elements) }
     ensures may_be { IfOk result (λ zone. MayBeZone head.kind head.related entries) }
@@ -36,7 +36,7 @@ fn join(head: ZoneHead, entries: Table<Entry>, elements: Table<Element>) -> Resu
     }
 }
 
-/// The entries of the zone of this name with their numbers, where the tables are those of this schema.
+/// The entries of the zone of this name with their numbers, if the tables are those of this schema.
 fn load_numbered<S: Alter>(
     alloc: Global,
     conn: &mut Connection<S>,
@@ -83,7 +83,7 @@ fn load_rest<S: Alter>(
     join(head, entries, elements)
 }
 
-/// The zone of this name, where the tables are those of this schema.
+/// The zone of this name, if the tables are those of this schema.
 fn load_under<S: Alter>(
     alloc: Global,
     conn: &mut Connection<S>,
@@ -104,9 +104,9 @@ fn load_under<S: Alter>(
     Ok(Some(load_rest(alloc, conn, schema, head)?))
 }
 
-/// The zone of this name, if there is one, where the tables are those of this schema. Under earlier schemas each entry
-/// was installed by the first `++VER` of the SREL. `BadRow` comes where its rows stand for no zone, `Memory` where
-/// memory is short, and `Fault` where the disk fails or the tables are others.
+/// The zone of this name, if there is one, in the tables of this schema. Under earlier schemas each entry was installed
+/// by the first `++VER` of the SREL. Returns `BadRow` if its rows stand for no zone, `Memory` if memory runs out, and
+/// `Fault` if the disk fails or the tables are others.
 pub fn load_zone<S: Alter>(
     alloc: Global,
     conn: &mut Connection<S>,

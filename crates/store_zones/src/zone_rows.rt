@@ -1,4 +1,4 @@
-//! Rows that name their zone, and what stands in it by its keys.
+//! Rows that name their zone, and its contents by their keys.
 
 ghost use Rattle.std.specs.Prelude.{◌≡◌, List, map, IfOk, IsErrOf, IsPermutation};
 ghost use Rattle.terms.specs.Rising.{Rises};
@@ -8,7 +8,7 @@ use sorted::{Keyed, Table};
 use std::alloc::{AllocError, Global};
 use store_rows::ReadError;
 
-/// What stands in a zone, and the name of the zone.
+/// An item of a zone, and the name of the zone.
 #[derive(Drop)]
 pub(crate) struct ZoneRow<T> {
     pub zone: ZoneName,
@@ -25,7 +25,7 @@ fn without_zone<T: Drop>(alloc: Global, rows: Vec<ZoneRow<T>>) -> Result<Vec<T>,
     Ok(items)
 }
 
-/// The items by their keys, if no two have one.
+/// The items by their keys, if no two have the same key.
 pub(crate) fn table_of<T: Keyed + Drop>(items: Vec<T>) -> Result<Table<T>, ReadError>
     ensures same { IfOk result (λ table. IsPermutation items.items table) }
     ensures rise { IfOk result (λ table. Rises T.Key.cmp T.key_of table) }
@@ -39,7 +39,7 @@ pub(crate) fn table_of<T: Keyed + Drop>(items: Vec<T>) -> Result<Table<T>, ReadE
     }
 }
 
-/// What the rows name as one zone's, by its keys.
+/// What the rows say belongs to one zone, by its keys.
 pub(crate) fn zone_table<T: Keyed + Drop>(
     alloc: Global,
     rows: Vec<ZoneRow<T>>,

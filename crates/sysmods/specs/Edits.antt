@@ -12,7 +12,7 @@ use Rattle.sysmods.specs.declared.edit.GlobalEdit.{GlobalEdit}
 use Rattle.sysmods.specs.declared.edit.GlobalEdit.TheVariants.{PutHold, RemoveHold, InsertSysmod, ReplaceSources}
 use Rattle.sysmods.specs.declared.edit.GlobalEdit.TheVariants.{RemoveSysmod}
 
--- the hold at its place, where it takes the place of the one of its key
+-- the hold at its place, instead of one of the same key
 abbrev pub with_hold : Hold → Global → Global
 with_hold h g = record g { holds = with_item hold_cmp (λ (o : Hold). o) g.holds h }
 
@@ -21,7 +21,7 @@ abbrev pub stated_with : Global → Id → List Text → Global → Global
 stated_with stated x sources g =
     option_map_or (λ (s : Sysmod). with_sysmod g (record s { sources = sources })) (sysmod_of stated x) g
 
--- What an edit makes of the global zone. What the SYSMODs state stands in `stated`.
+-- What an edit makes of the global zone. The statements of the SYSMODs are those in `stated`.
 abbrev pub after_edit : Global → Global → GlobalEdit → Global
 after_edit stated g (PutHold h) = with_hold h g
 after_edit stated g (RemoveHold x kind reason) = without_hold x kind reason g
@@ -49,7 +49,7 @@ abbrev pub EachFits : Global → List GlobalEdit → Global → Type 0
 EachFits stated edits g = (k : ℕ) (edit : GlobalEdit) → k < length edits → edit ≡ get_or edits k edit
     → Fits (after_edits stated (take k edits) g) edit
 
--- Each SYSMOD of the global zone is one of `later` too, and states the same there: its sources alone may be others.
+-- Each SYSMOD of the global zone is also one of `later`, and states the same there; only its sources may differ.
 abbrev pub StatesThose : Global → Global → Type 0
 StatesThose later g = (x : Id) (s : Sysmod) → sysmod_of g x ≡ Some s
     → (sources : List Text) × (sysmod_of later x ≡ Some (record s { sources = sources }))

@@ -1,4 +1,4 @@
--- How the received SYSMODs are held: in a map by id, with an index.
+-- How the received SYSMODs are kept: in a map by id, with an index.
 use Rattle.std.specs.Prelude.{◌≡◌, List, [], All, find, Option}
 use Rattle.std.specs.List.{AllByRecursion}
 use Rattle.std.specs.List.Sorted.{IsStrictlySortedBy}
@@ -10,7 +10,7 @@ use Rattle.terms.specs.Types.{Id, Sysmod, Global}
 use Rattle.terms.specs.Global.{IsSysmod}
 use Rattle.sysmods.specs.Index.{Sets, IsIndexed}
 
--- each SYSMOD stands under its id
+-- each SYSMOD is kept under its id
 abbrev pub IsKeyed : List (Id × Sysmod) → Type 0
 IsKeyed entries = AllByRecursion (λ e. e.1.id ≡ e.0) entries
 

@@ -14,26 +14,26 @@ use Rattle.terms.specs.Global.{named, named_functions}
 abbrev pub Sets : Type 0
 Sets = BTreeMap Id (BTreeSet Id)
 
--- whether y stands among those that name z
+-- whether y is among those that name z
 abbrev pub has : Sets → Id → Id → Bool
 has sets z y = option_map_or (λ s. contains (slice_cmp nat_cmp) s y) (get (slice_cmp nat_cmp) sets z) false
 
--- y stands among those that name each id which passes
+-- y is among those that name each id which passes the test
 abbrev pub HasAll : Sets → Id → (Id → Bool) → Type 0
 HasAll sets y test = (z : Id) → IsTrue (test z) → IsTrue (has sets z y)
 
--- nothing goes
+-- nothing is removed
 abbrev pub Grows : Sets → Sets → Type 0
 Grows old new = (z y : Id) → IsTrue (has old z y) → IsTrue (has new z y)
 
--- nothing goes but x
+-- only x is removed
 abbrev pub KeepsOthers : Id → Sets → Sets → Type 0
 KeepsOthers x old new = (z y : Id) → bytes_eq x y ≡ false → IsTrue (has old z y) → IsTrue (has new z y)
 
--- whether the ++VER names the id in any way in which the index knows it: in PRE, SUP, FMID, DELETE or an ++IF
+-- whether the ++VER names the id in any way that the index records: in PRE, SUP, FMID, DELETE or an ++IF
 abbrev pub mentions : Ver → Id → Bool
 mentions v z = is_in (named v) z || is_in (named_functions v) z
 
--- the SYSMOD stands among those that name each id which one of its ++VERs names
+-- the SYSMOD is among those that name each id which one of its ++VERs names
 abbrev pub IsIndexed : Sets → Sysmod → Type 0
 IsIndexed sets s = HasAll sets s.id (λ z. list_any (λ v. mentions v z) s.vers)

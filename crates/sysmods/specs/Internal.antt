@@ -15,7 +15,7 @@ use Rattle.sysmods.specs.Keys.{key_cmp, behind_kind}
 abbrev pub goes_on : HoldKey → HoldKey → Bool
 goes_on from k = range_contains key_cmp (Included from) (Excluded (behind_kind from.id User)) k
 
--- the hold at the key is internal, and none of the id between is
+-- the hold at the key is internal, and no hold of the id before it is
 pub record IsFirstInternal (es : List (HoldKey × Hold)) (from k : HoldKey) : Type 0 where
   pub on : goes_on from k ≡ true
   pub hold : Hold

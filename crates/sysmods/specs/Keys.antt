@@ -17,7 +17,7 @@ use Rattle.sysmods.specs.declared.key.HoldKey.{HoldKey}
 abbrev pub key_of : terms.Hold → HoldKey
 key_of h = record { id = h.id; kind = h.kind; place = At h.reason }
 
--- the ends are before and behind all reasons
+-- the two ends come before and after all reasons
 abbrev pub place_number : HoldPlace → ℕ
 place_number First = 0
 place_number (At reason) = 1
@@ -45,7 +45,7 @@ key_cmp_total =
     (then_total (on_total (λ (k : HoldKey). place_number k.place) nat_cmp_total)
     (on_total (λ (k : HoldKey). place_text k.place) nat_list_cmp_total)))
 
--- before all holds of the id and kind, and behind them
+-- before all holds of the id and kind, and after them
 abbrev pub before_kind : terms.Id → HoldKind → HoldKey
 before_kind x kind = record { id = x; kind = kind; place = First }
 

@@ -1,4 +1,4 @@
--- What becomes of the list of all holds.
+-- Changes of the list of all holds.
 use Rattle.std.specs.Prelude.{List, Option, find, fold, ◌&&◌, ◌==◌, Bool}
 use Rattle.std.specs.Str.{bytes_eq}
 use Rattle.terms.specs.declared.kinds.HoldKind.{HoldKind}
@@ -10,7 +10,7 @@ use Rattle.terms.specs.Rising.{with_item}
 abbrev pub held : List Hold → Id → HoldKind → Text → Option Hold
 held holds x kind reason = find (has_key x kind reason) holds
 
--- The hold takes its place by its key. Where one was there it is replaced, and its mark as internal stays.
+-- The hold takes its place by its key. It replaces a hold of this key, whose mark as internal stays.
 abbrev pub with_hold : List Hold → Hold → List Hold
 with_hold holds h = with_item hold_cmp (λ o. o) holds (marked (held holds h.id h.kind h.reason) h)
 

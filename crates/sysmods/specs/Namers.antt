@@ -1,4 +1,4 @@
--- Who names an id: in the ++VERs for one SREL, or as a function.
+-- The SYSMODs that name an id: in the ++VERs for one SREL, or as a function.
 use Rattle.std.specs.Prelude.{◌++◌, ◌&&◌, Bool, false, List, [], ◌∷◌, map, filter, if◌then◌else◌}
 use Rattle.std.specs.List.{list_any}
 use Rattle.std.specs.Option.{option_map_or}

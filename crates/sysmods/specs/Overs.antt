@@ -1,4 +1,4 @@
--- Pairs of ids of which the first is known to be over the second.
+-- Pairs of ids, the first of which is known to be over the second.
 use Rattle.std.specs.Prelude.{◌&&◌, Bool, List, All}
 use Rattle.std.specs.List.{list_any}
 use Rattle.std.specs.Str.{bytes_eq}
@@ -6,7 +6,7 @@ use Rattle.terms.specs.Types.{Id}
 use Rattle.terms.specs.Choice.{Choice}
 use Rattle.terms.specs.Over.{IsOver}
 
--- they are
+-- the first of each pair is over the second
 abbrev pub AreOver : Choice → List (Id × Id) → Type 0
 AreOver c pairs = All (λ p. IsOver c p.0 p.1) pairs
 

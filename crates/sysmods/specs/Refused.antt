@@ -6,7 +6,7 @@ use Rattle.terms.specs.Global as rule
 use Rattle.sysmods.specs.declared.refused.Refused.{Refused}
 use Rattle.sysmods.specs.declared.refused.Refused.TheVariants.{AlreadyReceived, MakesLoop, WrongRole, NoRoom, Memory}
 
--- the fault that an error stands for: want of memory is none of the SYSMOD's
+-- the fault that an error stands for; running out of memory is not a fault of the SYSMOD
 abbrev pub fault_of : Refused → Option ReceiveFault
 fault_of AlreadyReceived = Some rule.AlreadyReceived
 fault_of MakesLoop = Some rule.MakesLoop
@@ -14,10 +14,10 @@ fault_of WrongRole = Some rule.WrongRole
 fault_of NoRoom = Some rule.NoRoom
 fault_of Memory = None
 
--- none applies
+-- no fault applies
 abbrev pub HasNoFault : Global → Sysmod → Type 0
 HasNoFault g s = (f : ReceiveFault) → ¬ HasFault g s f
 
--- A fault that the error stands for is the first that applies.
+-- A fault for which the error stands is the first that applies.
 abbrev pub IsRefused : Global → Sysmod → Refused → Type 0
 IsRefused g s why = IfSome (fault_of why) (RefusedBy g s)

@@ -9,7 +9,7 @@ use fields::{Attest, Id};
 use std::marker::Model;
 
 /// The walk from an id to its FMID, and on from FMID to FMID, by the `++VER`s that count. A contract sees it as the
-/// list of the ids that are left.
+/// list of the remaining ids.
 #[derive(Drop)]
 pub struct Chain<'a, 'b> {
     vers: &'a VerChoice<'b>,

@@ -1,20 +1,20 @@
-//! Edits of the global zone, by which tables follow it.
+//! Edits of the global zone, by which the tables follow it.
 
 use fields::{Id, Reason, Source};
 use sysmods_values::{Hold, Sysmod};
 use terms::HoldKind;
 
-/// An edit of the global zone. What a SYSMOD states is long and never changes, so no edit carries it: it stands in the
-/// global zone to which all of the edits lead.
+/// An edit of the global zone. The statements of a SYSMOD are long and never change, so no edit carries them. They are
+/// in the global zone to which all the edits lead.
 #[derive(Drop)]
 pub enum GlobalEdit {
-    /// The hold stands in place of the one of its key, if there is one.
+    /// Puts the hold, instead of one of the same key.
     PutHold(Hold),
     RemoveHold(Id, HoldKind, Reason),
-    /// The SYSMOD of this id is received, with these sources. Its holds are put by edits of their own.
+    /// The SYSMOD of this id is received, with these sources. Other edits put its holds.
     InsertSysmod(Id, Vec<Source>),
-    /// The received SYSMOD of this id, which has this kind, has these sources.
+    /// The received SYSMOD of this id, which has this kind, gets these sources.
     ReplaceSources(Sysmod),
-    /// The SYSMOD goes, and the holds on it stay.
+    /// The SYSMOD goes, but the holds on it stay.
     RemoveSysmod(Id),
 }

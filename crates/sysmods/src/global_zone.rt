@@ -28,14 +28,14 @@ use sysmods_values::{Hold, Sysmod};
 use terms::{HoldKind, Kind};
 use thiserror::Error;
 
-/// Why a SYSMOD is not rejected. Whether a zone has it applied is asked where the zones are.
+/// Why a SYSMOD is not rejected. This does not say whether a zone has it applied.
 #[derive(Clone, Copy, Debug, PartialEq, Eq, Error)]
 pub enum RejectError {
     #[error("the SYSMOD is not received")]
     NotReceived,
 }
 
-/// The global zone: what was received. SYSMODs rise by id, and holds by id, kind and reason.
+/// The global zone: all that was received. SYSMODs rise by id, and holds by id, kind and reason.
 #[derive(Drop)]
 pub struct GlobalZone {
     sysmods: Received,
@@ -77,7 +77,7 @@ impl GlobalZone {
         }
     }
 
-    /// The global zone of these SYSMODs and holds, if they are those of one. The error comes where memory runs out.
+    /// The global zone of these SYSMODs and holds, if they are those of one.
     pub fn from_parts(
         alloc: Global,
         sysmods: Vec<Sysmod>,
@@ -141,16 +141,16 @@ impl GlobalZone {
         self.sysmods.get(id).is_some()
     }
 
-    /// Appends the ids of the received SYSMODs that name the id in PRE, SUP or FMID of a `++VER` for the
-    /// SREL. It looks at those alone that name it in some way. The error comes where memory runs out.
+    /// Appends the ids of the received SYSMODs that name the id in PRE, SUP or FMID of a `++VER` for the SREL. It looks
+    /// only at SYSMODs that name the id in some way.
     pub fn append_namers(&self, srel: Srel, id: Id, found: &mut Vec<Id>) -> Result<(), AllocError>
         ensures { OnOk result (found.new.items ≡ found.old.items ++ namers_for self.now.sysmods srel id) }
     {
         self.sysmods.append_namers(srel, id, found)
     }
 
-    /// Appends the ids of the received SYSMODs that name the id as a function: in DELETE, in FMID or in an
-    /// `++IF`. It looks at those alone that name it in some way. The error comes where memory runs out.
+    /// Appends the ids of the received SYSMODs that name the id as a function: in DELETE, in FMID or in an `++IF`. It
+    /// looks only at SYSMODs that name the id in some way.
     pub fn append_function_namers(&self, id: Id, found: &mut Vec<Id>) -> Result<(), AllocError>
         ensures { OnOk result (found.new.items ≡ found.old.items ++ function_namers self.now.sysmods id) }
     {
@@ -182,8 +182,8 @@ impl GlobalZone {
         self.holds.of(id, kind)
     }
 
-    /// RECEIVE of a SYSMOD: it comes in, and its holds among the others, unless a fault refuses it. The error is the
-    /// first fault, or that memory ran out, and then nothing changes.
+    /// RECEIVE of a SYSMOD. It takes the SYSMOD in, with its holds, unless a fault refuses it. The error is the first
+    /// fault, or that memory ran out, and then nothing changes.
     pub fn receive(&mut self, alloc: Global, sysmod: Sysmod) -> Result<(), Refused>
         ensures ok { OnOk result (Receives self.old sysmod (Ok self.new)) }
         ensures refused { IfErr result (IsRefused self.old sysmod) }
@@ -195,8 +195,7 @@ impl GlobalZone {
         Ok(())
     }
 
-    /// Puts a hold in place of the one of its key, whose mark as internal stays. The error comes where memory runs out,
-    /// and changes nothing.
+    /// Puts a hold instead of one of the same key, whose mark as internal stays.
     pub fn hold(&mut self, hold: Hold) -> Result<Placed, AllocError>
         requires { IsTrue hold.internal → (hold.kind ≡ System) × IsTrue (is_received self.old hold.id) }
         ensures placed { IfOk result
@@ -207,8 +206,8 @@ impl GlobalZone {
         self.holds.put(hold)
     }
 
-    /// Takes away a hold that is not internal. `NoHold` comes where no hold has the key, `Internal` where the hold is
-    /// internal, and then nothing changes.
+    /// Takes away a hold that is not internal. Returns `NoHold` if no hold has the key, and `Internal` if the hold is
+    /// internal, and then changes nothing.
     pub fn release(&mut self, id: Id, kind: HoldKind, reason: Reason) -> Result<(), ReleaseError>
         ensures ok { OnOk result
             ((fmid : AnId) → released self.old (a_release id kind reason fmid) ≡ Ok self.new) }
@@ -220,8 +219,7 @@ impl GlobalZone {
         self.holds.release(id, kind, reason)
     }
 
-    /// Gives a received SYSMOD the source, and answers whether the id is received. If it is not, nothing
-    /// changes. The error comes where memory runs out, and changes nothing.
+    /// Gives a received SYSMOD the source, and returns whether the id is received. If it is not, nothing changes.
     pub fn assign(&mut self, source: Source, id: Id) -> Result<bool, AllocError>
         ensures received { IfOk result (λ there. there ≡ is_received self.old id) }
         ensures ok { OnOk result (self.new ≡ assigned self.old source id) }
@@ -232,8 +230,8 @@ impl GlobalZone {
         Ok(there)
     }
 
-    /// Takes a received SYSMOD out, and with it the holds on it that are marked as internal. `NotReceived` comes where
-    /// no SYSMOD of the id is received, and then nothing changes.
+    /// Takes a received SYSMOD out, and with it the holds on it that are marked as internal. Returns `NotReceived`, and
+    /// changes nothing, if no SYSMOD of the id is received.
     pub fn reject(&mut self, id: Id) -> Result<(), RejectError>
         ensures received { IsOk result ↔ IsTrue (is_received self.old id) }
         ensures ok { OnOk result (self.new ≡ without_sysmod self.old id) }

@@ -21,7 +21,7 @@ use sysmods_values::Hold;
 use terms::HoldKind;
 use thiserror::Error;
 
-/// Whether a hold is new or took the place of one.
+/// Whether a hold is new or has replaced one.
 #[derive(Clone, Copy, Debug, PartialEq, Eq)]
 pub enum Placed {
     New,
@@ -37,7 +37,7 @@ pub enum ReleaseError {
     Internal,
 }
 
-/// Holds by id, kind and reason, one for each. A contract sees them as their list in that order.
+/// Holds by id, kind and reason, at most one for each key. A contract sees them as their list in that order.
 #[derive(Drop)]
 pub struct Holds {
     map: BTreeMap<HoldKey, Hold>,
@@ -67,7 +67,7 @@ impl Holds {
         }
     }
 
-    /// These holds, if they rise by id, kind and reason, no key twice. The error comes where memory runs out.
+    /// These holds, if they rise by id, kind and reason, no key twice.
     pub fn from_vec(alloc: Global, holds: Vec<Hold>) -> Result<Option<Self>, AllocError>
         ensures some { IfOk result (λ made. IfSome made (λ all. all ≡ holds.items)) }
         ensures none { IfOk result (λ made. IsSome made ↔ Rises hold_cmp (λ h. h) holds.items) }
@@ -127,8 +127,7 @@ impl Holds {
         Iter::new(self.map.range(first..last))
     }
 
-    /// Puts a hold in place of the one of its key, whose mark as internal stays. The error comes where memory runs out,
-    /// and changes nothing.
+    /// Puts a hold instead of one of the same key, whose mark as internal stays.
     pub fn put(&mut self, hold: Hold) -> Result<Placed, AllocError>
         ensures placed { IfOk result
             (λ placed. placed ≡ (if is_some (held self.old hold.id hold.kind hold.reason) then Placed.Replaced else
@@ -142,7 +141,7 @@ impl Holds {
         }
     }
 
-    /// Puts one hold after another. The error comes where memory runs out, and then none has come in.
+    /// Puts one hold after another. If memory runs out, it puts none.
     pub fn put_all(&mut self, alloc: Global, holds: Vec<Hold>) -> Result<(), AllocError>
         ensures ok { OnOk result (self.new ≡ with_holds self.old holds.items) }
         ensures err { OnErr result (self.new ≡ self.old) }
@@ -157,8 +156,8 @@ impl Holds {
         }
     }
 
-    /// Takes away a hold that is not internal. `NoHold` comes where no hold has the key, `Internal` where the hold is
-    /// internal, and then nothing changes.
+    /// Takes away a hold that is not internal. Returns `NoHold` if no hold has the key, and `Internal` if the hold is
+    /// internal, and then changes nothing.
     pub fn release(&mut self, id: Id, kind: HoldKind, reason: Reason) -> Result<(), ReleaseError>
         ensures no_hold { (result ≡ Err ReleaseError.NoHold) ↔ (held self.old id kind reason ≡ None) }
         ensures internal { (result ≡ Err ReleaseError.Internal)
@@ -191,7 +190,7 @@ impl Holds {
         }
     }
 
-    /// Puts a hold, and answers what takes that back.
+    /// Puts a hold, and returns what undoes that.
     pub(crate) fn exchange(&mut self, hold: Hold) -> Result<Undo, AllocError>
         ensures undo { IfOk result (λ undo. is_restoring undo ≡ is_some (held self.old hold.id hold.kind hold.reason)) }
         ensures back { IfOk result (Undoes self.old self.new) }
@@ -206,7 +205,7 @@ impl Holds {
         Ok(Undo::Restore(old))
     }
 
-    /// Takes one change back. A key that is there takes no memory.
+    /// Undoes one change. A key that is present takes no memory.
     pub(crate) fn take_back(&mut self, undo: Undo)
         ensures { (old : List terms.Hold) → Undoes old self.old undo → self.new ≡ old }
     {
@@ -235,7 +234,7 @@ fn next_internal(map: &BTreeMap<HoldKey, Hold>, from: HoldKey) -> Option<HoldKey
     None
 }
 
-// The hold with the mark that the one before it hands on.
+// The hold with the mark that it takes over from the one before.
 fn marked(mut hold: Hold, was: Option<&Hold>) -> Hold
     ensures { result ≡ marked (option_copied was.entry) hold }
 {

@@ -1,4 +1,4 @@
-//! For each id the ids of those that name it.
+//! For each id, the ids of the SYSMODs that name it.
 ghost use Rattle.std.specs.Prelude.{IsTrue, map, OnOk};
 ghost use Rattle.terms.specs.Lookups.{at_most_one, is_in};
 ghost use Rattle.sysmods.specs.Index.{has, HasAll, Grows, IsIndexed, KeepsOthers, mentions};
@@ -8,7 +8,7 @@ use std::alloc::{AllocError, Global};
 use std::collections::{BTreeMap, BTreeSet};
 use sysmods_values::{IfReq, Sysmod, Ver};
 
-/// An id that is named may have others beside those that name it: who uses the index asks them.
+/// The entry of an id may contain more ids than those that name it, so a user of the index looks at each of them.
 #[derive(Drop)]
 pub(crate) struct Index {
     pub(crate) sets: BTreeMap<Id, BTreeSet<Id>>,
@@ -79,7 +79,7 @@ impl Index {
         Ok(())
     }
 
-    /// Adds the SYSMOD to those of each id that it names. It adds some of them where memory runs out.
+    /// Adds the SYSMOD to the entry of each id that it names. If memory runs out, it has added some of them.
     pub(crate) fn insert_sysmod(&mut self, sysmod: &Sysmod) -> Result<(), AllocError>
         ensures has { OnOk result (IsIndexed self.new.sets sysmod.now) }
         ensures grows { Grows self.old.sets self.new.sets }
@@ -126,7 +126,7 @@ impl Index {
         }
     }
 
-    /// Takes the SYSMOD out from those of each id that it names.
+    /// Removes the SYSMOD from the entry of each id that it names.
     pub(crate) fn remove_sysmod(&mut self, sysmod: &Sysmod)
         ensures { KeepsOthers sysmod.now.id self.old.sets self.new.sets }
     {

@@ -9,7 +9,7 @@ use std::collections::btree_map::Range;
 use std::marker::Model;
 use sysmods_values::Hold;
 
-/// Holds in the order of their keys. A contract sees it as the list of those that are left.
+/// Holds in the order of their keys. A contract sees it as the list of the remaining holds.
 #[derive(Drop)]
 pub struct Iter<'a> {
     entries: Range<'a, HoldKey, Hold>,

@@ -1,4 +1,4 @@
-//! The keys by which holds are found.
+//! The keys of holds.
 ghost use Rattle.std.specs.Prelude.{◌≡◌, Some, refl};
 ghost use Rattle.std.specs.Cmp.{partial_order_from_total, eq_by_cmp_equiv, partial_equiv_from_equiv};
 ghost use Rattle.std.specs.Ordering.{as_partial_cmp, eq_by_cmp};
@@ -8,7 +8,7 @@ use std::cmp::Ordering;
 use sysmods_values::Hold;
 use terms::HoldKind;
 
-/// A place among the holds of an id and a kind: that of a reason, or an end, where no hold is.
+/// A place among the holds of an id and a kind: that of a reason, or one of the two ends, where there is no hold.
 #[derive(Clone, Copy, Debug, PartialEq, Eq, PartialOrd, Ord)]
 pub(crate) enum HoldPlace {
     First,

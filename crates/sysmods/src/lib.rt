@@ -1,10 +1,12 @@
-//! The global zone: the received SYSMODs and the holds, and who is over, supersedes and owns among them.
-//! One half is the zone and its changes. SYSMODs stand by id, with an index of who names whom, and holds by id, kind
-//! and reason. A `GlobalZone` keeps `IsGlobal`; each change of it is the definition's, so is the fault that refuses a
-//! SYSMOD, and where a change fails, nothing changes. Two lists make a global zone just where they are those of one.
-//! The other half asks who leads to whom, for a zone's SREL and by the one `++VER` of each SYSMOD that counts
-//! (`VerChoice`): who is over an id and what it supersedes, by a search, and the chain of its FMIDs, by a walk. `Overs`
-//! keeps what it has found. Both halves use the same searches in a graph of ids. Times are measured only.
+//! The global zone: the received SYSMODs and the holds, and which of them are over, supersede and own which. One half
+//! is the zone and its changes. SYSMODs are ordered by id, with an index of those that name each id, and holds by id,
+//! kind and reason. A `GlobalZone` keeps `IsGlobal`. Each change of it is the definition's, and so is the fault that
+//! refuses a SYSMOD. If a change fails, nothing changes. Two lists make a global zone exactly if they are those of one.
+//! The other half follows what SYSMODs name, for a zone's SREL and by the one `++VER` of each SYSMOD that counts
+//! (`VerChoice`): a search finds which ids are over an id and which it supersedes, and a walk finds the chain of its
+//! FMIDs. `Overs` keeps what it has found. Both halves use the same searches in a graph of ids. Their times are
+//! measured, not proved. Every call that allocates returns `AllocError`, or the `Memory` of its error, if memory runs
+//! out, and then changes nothing, unless its comment says otherwise.
 #![tactic(auto)]
 
 mod chain;

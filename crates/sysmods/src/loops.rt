@@ -34,8 +34,8 @@ fn leads_back(
     leads_from_both_ends(alloc, &naming, &namers, sysmod.id, sysmod.id)
 }
 
-/// Whether there is a loop with the SYSMOD, where there was none. It searches only where the SYSMOD is
-/// named by a received one, or by itself.
+/// Whether there is a loop with the SYSMOD, if there was none without it. It searches only if a received SYSMOD, or the
+/// new one itself, names the new one.
 pub(crate) fn makes_loop(
     alloc: Global,
     received: &Received,

@@ -9,7 +9,7 @@ use fields::{Id, Srel};
 use std::alloc::AllocError;
 use sysmods_values::Sysmod;
 
-/// The received SYSMODs, and one more in place of one of its id.
+/// The received SYSMODs, and one more instead of one of its id.
 #[derive(Clone, Copy)]
 pub(crate) struct Naming<'a> {
     pub(crate) received: &'a Received,
@@ -34,7 +34,7 @@ impl Names for Naming<'_> {
     }
 }
 
-/// Who names an id, among the received SYSMODs and one more.
+/// The SYSMODs that name an id, among the received ones and one more.
 #[derive(Clone, Copy)]
 pub(crate) struct Namers<'a> {
     pub(crate) received: &'a Received,

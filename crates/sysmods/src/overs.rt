@@ -1,4 +1,4 @@
-//! Who is over whom, with what was found before: along a chain of PREs or SUPs each search is short.
+//! Which ids are over which, with what was found before: along a chain of PREs or SUPs each search is short.
 ghost use Rattle.std.specs.Prelude.{◌≡◌, ◌↔◌, ◌||◌, IsTrue, IfOk};
 ghost use Rattle.terms.specs.Choice.{pre_of, sup_of};
 ghost use Rattle.terms.specs.Over.{IsOver};
@@ -19,8 +19,8 @@ pub struct Overs<'a, 'b> {
     known: IndexSet<(Id, Id)>,
 }
 
-/// The pairs of ids that an `Overs` has found, the first over the second, without the choice of `++VER`s that they are
-/// of. A contract sees their list.
+/// The pairs of ids that an `Overs` has found, the first over the second, without the choice of `++VER`s by which they
+/// are. A contract sees their list.
 #[derive(Drop)]
 pub struct KnownOvers {
     pairs: IndexSet<(Id, Id)>,
@@ -59,7 +59,7 @@ impl<'a, 'b> Overs<'a, 'b> {
         }
     }
 
-    /// Goes on with the pairs that another `Overs` of the same choice has found.
+    /// Continues with the pairs that another `Overs` of the same choice has found.
     pub fn resume(vers: &'a VerChoice<'b>, known: KnownOvers) -> Self
         requires { AreOver (choice vers.now) known }
         ensures { result ≡ vers.now }
@@ -70,7 +70,7 @@ impl<'a, 'b> Overs<'a, 'b> {
         }
     }
 
-    /// The pairs that it has found: `resume` goes on with them.
+    /// The pairs that it has found, for `resume`.
     pub fn into_known(self) -> KnownOvers
         ensures { AreOver (choice self.entry) result }
     {
@@ -84,8 +84,7 @@ impl<'a, 'b> Overs<'a, 'b> {
         self.vers
     }
 
-    /// Whether x is over z: a list leads from x to z by PRE, SUP and FMID. The error comes where memory runs out, and
-    /// it may be asked again then.
+    /// Whether x is over z: PRE, SUP and FMID lead from x to z. After an error it may be asked again.
     pub fn over(&mut self, alloc: Global, x: Id, z: Id) -> Result<bool, AllocError>
         ensures over { IfOk result (λ over. IsTrue over ↔ IsOver (choice self.old) x z) }
         ensures same { self.new ≡ self.old }
@@ -113,7 +112,7 @@ fn is_one_known(known: &IndexSet<(Id, Id)>, ids: &[Id], z: Id) -> bool
     ids.iter().any(|id| is_known(known, *id, z))
 }
 
-// Whether x names one in PRE or SUP that is known to be over z.
+// Whether x names in PRE or SUP an id that is known to be over z.
 fn follows_known(vers: &VerChoice<'_>, known: &IndexSet<(Id, Id)>, x: Id, z: Id) -> bool
     ensures { result ≡ (is_one_known known.now.keys (pre_of (choice vers.now) x) z
         || is_one_known known.now.keys (sup_of (choice vers.now) x) z) }
@@ -126,7 +125,7 @@ fn follows_known(vers: &VerChoice<'_>, known: &IndexSet<(Id, Id)>, x: Id, z: Id)
     }
 }
 
-// Whether x is over z, by what is known or by a search.
+// Whether x is over z, by a known pair or by a search.
 fn finds(
     alloc: Global,
     vers: &VerChoice<'_>,

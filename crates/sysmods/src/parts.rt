@@ -1,4 +1,4 @@
-//! The SYSMODs and holds of a global zone, out of lists.
+//! The SYSMODs and holds of a global zone, from lists.
 ghost use Rattle.std.specs.Prelude.{◌≡◌, ◌↔◌, ◌++◌, [], ◌∷◌, All, IsTrue, IsSome, IfOk, IfSome, false, is_some};
 ghost use Rattle.std.specs.Ordering.{is_lt, nat_cmp};
 ghost use Rattle.std.specs.Cmp.Lexicographic.{slice_cmp};
@@ -39,7 +39,7 @@ pub(crate) fn received_from(
     Ok(Some(received))
 }
 
-/// Takes in a SYSMOD that stands behind all others, if they are those of a global zone with it.
+/// Takes in a SYSMOD that comes after all others, if they are those of a global zone with it.
 fn push_last(alloc: Global, received: &mut Received, sysmod: Sysmod) -> Result<bool, AllocError>
     requires global { IsGlobal (zone_of received.old) }
     requires last { All (λ s. IsTrue (is_lt (slice_cmp nat_cmp s.id sysmod.id))) received.old }
@@ -58,7 +58,7 @@ fn push_last(alloc: Global, received: &mut Received, sysmod: Sysmod) -> Result<b
     Ok(true)
 }
 
-// `false` for a fault of the SYSMOD; an error if memory ran out.
+// `false` for a fault of the SYSMOD, and an error if memory ran out.
 fn unfit(why: Refused) -> Result<bool, AllocError>
     ensures { IfOk result (λ fits. (fits ≡ false) × IsTrue (is_some (fault_of why))) }
 {

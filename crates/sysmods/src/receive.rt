@@ -19,8 +19,8 @@ use sysmods_values::Sysmod;
 /// How many SYSMODs may be received.
 const MOST: usize = 65_535;
 
-/// Whether the SYSMOD may be received. The error is the first fault by which RECEIVE refuses it. The caller keeps that
-/// the received SYSMODs have no loop and that their roles fit: a SYSMOD without a fault keeps both.
+/// Whether the SYSMOD may be received. The error is the first fault for which RECEIVE refuses it. The caller ensures
+/// that the received SYSMODs have no loop and that their roles fit; a SYSMOD without a fault preserves both.
 pub(crate) fn receivable(alloc: Global, received: &Received, sysmod: &Sysmod) -> Result<(), Refused>
     requires no_loop { ¬ HasLoop (zone_of received.now) }
     requires roles { RolesFit (zone_of received.now) }
@@ -42,8 +42,8 @@ pub(crate) fn receivable(alloc: Global, received: &Received, sysmod: &Sysmod) ->
     Ok(())
 }
 
-/// Takes a new SYSMOD in, and its holds among the others. After an error neither came in: the SYSMOD comes first, since
-/// taking it out again takes no memory.
+/// Takes a new SYSMOD in, and its holds among the others. After an error it has taken in neither. The SYSMOD comes
+/// first, since taking it out again takes no memory.
 pub(crate) fn take_in(
     sysmods: &mut Received,
     holds: &mut Holds,

@@ -84,8 +84,7 @@ impl Received {
         self.by_id.values()
     }
 
-    /// Takes a SYSMOD in. Where one of its id is there already, it comes back. The error comes where memory runs out,
-    /// and changes nothing.
+    /// Takes a SYSMOD in. If there is one of its id already, it returns the SYSMOD instead.
     pub fn insert(&mut self, sysmod: Sysmod) -> Result<Option<Sysmod>, AllocError>
         ensures back { IfOk result (λ back. back ≡ (if is_some (found self.old sysmod.id) then Some sysmod else None)) }
         ensures ok { OnOk result (self.new ≡ (if is_some (found self.old sysmod.id) then self.old else with_item
@@ -117,8 +116,7 @@ impl Received {
         }
     }
 
-    /// Gives the SYSMOD of this id the source, where it is there. The error comes where memory runs out, and changes
-    /// nothing.
+    /// Gives the SYSMOD of this id the source, if there is one.
     pub fn insert_source(&mut self, id: Id, source: Source) -> Result<(), AllocError>
         ensures ok { OnOk result (self.new ≡ map (λ s. if bytes_eq s.id id then with_source source s else s) self.old) }
         ensures err { OnErr result (self.new ≡ self.old) }
@@ -155,8 +153,8 @@ impl Received {
         }
     }
 
-    /// Whether a received SYSMOD names the id in PRE, SUP or FMID of one of its `++VER`s. It looks at
-    /// those alone that name it in some way.
+    /// Whether a received SYSMOD names the id in PRE, SUP or FMID of one of its `++VER`s. It looks only at SYSMODs that
+    /// name the id in some way.
     pub fn is_named(&self, id: Id) -> bool
         ensures { result ≡ list_any (λ s. list_any (λ v. is_in (named v) id) s.vers) self.now }
     {
@@ -191,8 +189,8 @@ impl Received {
         Ok(())
     }
 
-    /// Appends the ids of the received SYSMODs that name the id in PRE, SUP or FMID of a `++VER` for
-    /// the SREL. It looks at those alone that name it in some way. The error comes where memory runs out.
+    /// Appends the ids of the received SYSMODs that name the id in PRE, SUP or FMID of a `++VER` for the SREL. It looks
+    /// only at SYSMODs that name the id in some way.
     pub fn append_namers(&self, srel: Srel, id: Id, found: &mut Vec<Id>) -> Result<(), AllocError>
         ensures { OnOk result (found.new.items ≡ found.old.items ++ namers_for self.now srel id) }
     {
@@ -220,8 +218,8 @@ impl Received {
         Ok(())
     }
 
-    /// Appends the ids of the received SYSMODs that name the id as a function: in DELETE, in FMID or in
-    /// an `++IF`. It looks at those alone that name it in some way. The error comes where memory runs out.
+    /// Appends the ids of the received SYSMODs that name the id as a function: in DELETE, in FMID or in an `++IF`. It
+    /// looks only at SYSMODs that name the id in some way.
     pub fn append_function_namers(&self, id: Id, found: &mut Vec<Id>) -> Result<(), AllocError>
         ensures { OnOk result (found.new.items ≡ found.old.items ++ function_namers self.now id) }
     {
@@ -231,7 +229,7 @@ impl Received {
         }
     }
 
-    /// Whether the id stands in the SUP of a received SYSMOD.
+    /// Whether the SUP of a received SYSMOD names the id.
     pub fn is_superseded(&self, id: Id) -> bool
         ensures { result ≡ list_any (λ s. list_any (λ v. is_in v.sup id) s.vers) self.now }
     {

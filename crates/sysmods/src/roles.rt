@@ -1,4 +1,4 @@
-//! Whether roles fit with one more SYSMOD: what it names as functions, and what names it.
+//! Whether roles fit with one more SYSMOD: with the functions that it names, and with the SYSMODs that name it.
 ghost use Rattle.std.specs.Prelude.{◌≡◌, ◌↔◌, All, IsTrue, None, map, not, if◌then◌else◌};
 ghost use Rattle.std.specs.List.{list_any};
 ghost use Rattle.terms.specs.Types.{is_function_kind};
@@ -97,7 +97,7 @@ fn own_fit(received: &Received, sysmod: &Sysmod) -> bool
         .all(|ver| ver_fits(received, sysmod, ver))
 }
 
-/// Whether no received SYSMOD names it in a role that is not its own.
+/// Whether every received SYSMOD that names it names it in its own role.
 fn others_fit(received: &Received, sysmod: &Sysmod) -> bool
     ensures { result ≡ (if is_function_kind sysmod.now.kind
         then not (list_any (λ s. list_any (λ v. is_in v.sup sysmod.now.id) s.vers) received.now)
@@ -110,7 +110,7 @@ fn others_fit(received: &Received, sysmod: &Sysmod) -> bool
     }
 }
 
-/// Whether roles fit with the SYSMOD, where they fitted without it.
+/// Whether roles fit with the SYSMOD, if they fitted without it.
 pub(crate) fn roles_fit(received: &Received, sysmod: &Sysmod) -> bool
     requires new { found received.now sysmod.now.id ≡ None }
     requires fit { RolesFit (zone_of received.now) }

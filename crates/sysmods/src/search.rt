@@ -9,16 +9,16 @@ use fields::{Id, IdList};
 use indexmap::IndexSet;
 use std::alloc::{AllocError, Global};
 
-/// A graph of ids: what each of them names.
+/// A graph of ids, given by the ids that each one names.
 pub trait Names {
     ghost named: { Self → List ℕ → List (List ℕ) };
 
-    /// Appends what the id names. One that is not known names nothing. The error comes where memory runs out.
+    /// Appends the ids that this one names. An unknown id names none.
     fn append_named(&self, id: Id, found: &mut Vec<Id>) -> Result<(), AllocError>
         ensures { OnOk result (found.new.items ≡ found.old.items ++ named self.now id) };
 }
 
-/// Adds what the id names to the ids that are seen. What `found` had is forgotten.
+/// Adds the ids that this one names to those seen. It forgets what `found` had.
 fn see_named<N: Names>(
     names: &N,
     id: Id,
@@ -35,7 +35,7 @@ fn see_named<N: Names>(
     Ok(())
 }
 
-/// Whether there is an id to stop at and it is seen.
+/// Whether there is an id at which to stop and it has been seen.
 fn is_met(seen: &IndexSet<Id>, stop: Option<&Id>) -> bool
     ensures { IsTrue result ↔ IsSomeAnd stop.entry (λ z. Contains seen.now.keys z.now) }
 {
@@ -45,7 +45,7 @@ fn is_met(seen: &IndexSet<Id>, stop: Option<&Id>) -> bool
     }
 }
 
-/// Goes through one of the ids that are seen.
+/// Goes through one of the ids that have been seen.
 fn go_on<N: Names>(
     names: &N,
     gone: usize,
@@ -60,8 +60,8 @@ fn go_on<N: Names>(
     Ok(())
 }
 
-/// The ids that x reaches, each where the search met it first: marks and queue at once. Once
-/// the one to stop at is seen, it goes no further.
+/// The ids that x reaches, each where the search met it first: the list serves both as marks and as a queue. Once the
+/// search has seen the id at which to stop, it goes no further.
 fn reached<N: Names>(
     alloc: Global,
     names: &N,
@@ -86,8 +86,8 @@ fn reached<N: Names>(
     Ok(seen)
 }
 
-/// Whether x leads to z by a list of ids, each naming the next, in one step or more. With z being x it
-/// is whether x stands in a loop. The error comes where memory runs out.
+/// Whether x leads to z: each id on the way names the next, in one step or more. If z is x, this says whether x is on a
+/// loop.
 pub fn leads<N: Names>(alloc: Global, names: &N, x: Id, z: Id) -> Result<bool, AllocError>
     ensures { IfOk result (λ found. IsTrue found ↔ Reaches (N.named names.now) x z) }
 {
@@ -102,9 +102,8 @@ fn have_met(ahead: &IndexSet<Id>, behind: &IndexSet<Id>, x: Id, z: Id) -> bool
     ahead.contains(&z) || behind.contains(&x)
 }
 
-/// Whether x leads to z, where `namers` gives for each id those that name it. It goes on from the end
-/// that has seen less, and stops once either end has seen the other one or has nothing left. The error comes where
-/// memory runs out.
+/// Whether x leads to z. `namers` gives for each id those that name it. The search continues from the end that has seen
+/// less, and stops once either end has seen the other one or has nothing left.
 pub fn leads_from_both_ends<F: Names, B: Names>(
     alloc: Global,
     names: &F,
@@ -137,7 +136,7 @@ pub fn leads_from_both_ends<F: Names, B: Names>(
     Ok(have_met(&ahead, &behind, x, z))
 }
 
-/// The ids that x leads to by such lists. The error comes where memory runs out.
+/// The ids to which x leads in this way.
 pub fn ends<N: Names>(alloc: Global, names: &N, x: Id) -> Result<IdList, AllocError>
     ensures { IfOk result (λ ends. (z : List ℕ) → Contains ends z ↔ Reaches (N.named names.now) x z) }
 {

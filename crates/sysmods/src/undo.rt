@@ -1,4 +1,4 @@
-//! Putting holds so that it can be taken back.
+//! Putting holds in a way that can be undone.
 ghost use Rattle.std.specs.Prelude.{◌≡◌, List, [], OnOk};
 ghost use Rattle.terms.specs.Types as terms;
 ghost use Rattle.sysmods.specs.Lists.{with_holds};
@@ -9,14 +9,14 @@ use crate::key::HoldKey;
 use std::alloc::AllocError;
 use sysmods_values::Hold;
 
-/// What takes the putting of a hold back: the new one goes, or the old one comes again.
+/// What undoes the putting of a hold: the new one goes, or the old one comes back.
 #[derive(Drop)]
 pub(crate) enum Undo {
     Remove(HoldKey),
     Restore(Hold),
 }
 
-/// Puts one hold after another, and what takes each back into the log.
+/// Puts one hold after another, and records in the log what undoes each.
 pub(crate) fn put_each(
     to: &mut Holds,
     holds: Vec<Hold>,
@@ -34,7 +34,7 @@ pub(crate) fn put_each(
     Ok(())
 }
 
-/// Takes changes back, the last one first.
+/// Undoes changes, the last one first.
 pub(crate) fn take_back(from: &mut Holds, mut log: Vec<Undo>)
     ensures { (old : List terms.Hold) → UndoesAll old from.old log.items → from.new ≡ old }
 {

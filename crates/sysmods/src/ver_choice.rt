@@ -31,8 +31,8 @@ impl Keyed for Pick {
     }
 }
 
-/// Gives each id its `++VER` that counts for a zone, of those for the zone's SREL: the one that it was installed by,
-/// or else one that fits. Where no number is picked it is the first.
+/// Gives each id its `++VER` that counts for a zone, among those for the zone's SREL: the one by which it was
+/// installed, or otherwise one that fits. If no number is picked, it is the first.
 #[derive(Drop)]
 pub struct VerChoice<'a> {
     global: &'a GlobalZone,
@@ -42,7 +42,7 @@ pub struct VerChoice<'a> {
 }
 
 impl<'a> VerChoice<'a> {
-    /// The choice of the `++VER`s for one SREL by these numbers, of which the kept ones come first.
+    /// The choice of the `++VER`s for one SREL by these numbers. The kept ones take precedence.
     pub fn new(global: &'a GlobalZone, srel: Srel, kept: Table<Pick>, fitting: Table<Pick>) -> Self
         ensures global { result.global.now ≡ global.now }
         ensures srel { result.srel ≡ srel }
@@ -57,7 +57,7 @@ impl<'a> VerChoice<'a> {
         }
     }
 
-    /// The global zone that it looks into.
+    /// The global zone of the SYSMODs.
     pub fn global(&self) -> &'a GlobalZone
         ensures { result.now ≡ self.now.global.now }
     {
@@ -95,7 +95,7 @@ impl<'a> VerChoice<'a> {
         self.ver(id)?.fmid
     }
 
-    /// The id that owns its elements: a function itself, else its FMID.
+    /// The id that owns its elements: a function owns its own, otherwise its FMID does.
     pub fn owner(&self, id: Id) -> Id
         ensures { result ≡ owner self.now.global.now (choice self.now) id }
     {
@@ -105,14 +105,14 @@ impl<'a> VerChoice<'a> {
         self.fmid(id).unwrap_or(id)
     }
 
-    /// The id, and all that the walk from FMID to FMID meets.
+    /// The id, and all ids on the walk from FMID to FMID.
     pub fn chain(&self, id: Id) -> Chain<'_, 'a>
         ensures { result ≡ chain self.now.global.now (choice self.now) id }
     {
         Chain::new(self, id)
     }
 
-    /// Whether its chain has one of these ids. Where there are none, the chain is not walked.
+    /// Whether its chain contains one of these ids. Without any, it does not walk the chain.
     pub fn meets(&self, id: Id, ids: &[Id]) -> bool
         ensures { result ≡ meets (chain self.now.global.now (choice self.now) id) ids.now }
     {
@@ -122,14 +122,14 @@ impl<'a> VerChoice<'a> {
         self.chain(id).any(|x| is_in(ids, x))
     }
 
-    /// Whether x is over z: a list leads from x to z by PRE, SUP and FMID. The error comes where memory runs out.
+    /// Whether x is over z: PRE, SUP and FMID lead from x to z.
     pub fn over(&self, alloc: Global, x: Id, z: Id) -> Result<bool, AllocError>
         ensures { IfOk result (λ over. IsTrue over ↔ IsOver (choice self.now) x z) }
     {
         leads(alloc, &AllNames { choice: self }, x, z)
     }
 
-    /// The ids that x supersedes, directly or through others. The error comes where memory runs out.
+    /// The ids that x supersedes, directly or through others.
     pub fn sup_all(&self, alloc: Global, x: Id) -> Result<IdList, AllocError>
         ensures { IfOk result (λ ids. (z : List ℕ) → Contains ids z ↔ Supersedes (choice self.now) x z) }
     {

@@ -10,6 +10,6 @@ with_sources id sources global = record global {
       (λ (s : Sysmod). if bytes_eq s.id id then record s { sources = sources } else s) global.sysmods;
 }
 
--- the global zone less the SYSMOD, with all holds
+-- the global zone without the SYSMOD, but with all holds
 abbrev pub less_sysmod : Id → Global → Global
 less_sysmod id global = record global { sysmods = filter (λ s. not (bytes_eq s.id id)) global.sysmods }

@@ -1,4 +1,4 @@
-//! A SYSMOD grows by the statements behind its header.
+//! A SYSMOD grows by the statements after its header.
 ghost use Rattle.std.specs.Prelude.{◌≡◌, ◌≤◌, ◌<◌, ◌&&◌, ◌==◌, ◌++◌, [], ◌∷◌, length, take, drop, position};
 ghost use Rattle.std.specs.Prelude.{IsTrue, IfOk, IfErr, OnOk, OnErr};
 ghost use Rattle.std.specs.List.{list_any};
@@ -18,7 +18,7 @@ use std::alloc::{AllocError, Global};
 use terms::{ElemType, Kind};
 
 impl Sysmod {
-    /// The SYSMOD of a header alone.
+    /// The SYSMOD of a header, without further statements.
     pub fn new(alloc: Global, kind: Kind, id: Id) -> Sysmod
         ensures { result ≡ (begun kind id).sysmod }
     {
@@ -40,8 +40,7 @@ impl Sysmod {
         self.changes.iter().any(|change| change.elem_type == elem_type && change.name == name)
     }
 
-    /// The `++VER` comes in behind those of its release and of earlier ones. The answer is its place. The error comes
-    /// where memory runs out.
+    /// Puts the `++VER` after those of its release and of earlier ones, and returns its place.
     pub fn insert_ver(&mut self, ver: Ver) -> Result<usize, AllocError>
         ensures ok { IfOk result (λ n. (n ≡ place_of ver self.old.vers)
             × (self.new ≡ record self.old { vers = with_ver_at n ver self.old.vers })) }
@@ -51,8 +50,7 @@ impl Sysmod {
         Ok(place)
     }
 
-    /// The `++IF` comes in behind those of the `++VER` at the place, where there is one. The error comes where memory
-    /// runs out.
+    /// Puts the `++IF` after those of the `++VER` at the place, if there is one.
     pub fn push_if(&mut self, place: usize, condition: IfReq) -> Result<(), AllocError>
         ensures ok { IfOk result (λ u. self.new
             ≡ record self.old { vers = with_if_at condition self.old.vers place }) }
@@ -63,7 +61,7 @@ impl Sysmod {
         Ok(())
     }
 
-    /// The hold comes in behind the others. The error comes where memory runs out, and changes nothing.
+    /// Puts the hold after the others.
     pub fn push_hold(&mut self, hold: Hold) -> Result<(), AllocError>
         requires { IsTrue hold.internal × (hold.kind ≡ System) × (hold.id ≡ self.old.id) }
         ensures ok { OnOk result (self.new ≡ record self.old { holds = self.old.holds ++ hold ∷ [] }) }
@@ -73,8 +71,7 @@ impl Sysmod {
         Ok(())
     }
 
-    /// The element statement comes in at its place, where it takes the place of one for its element. The error comes
-    /// where memory runs out, and changes nothing.
+    /// Puts the element statement at its place, instead of one for the same element.
     pub fn insert_change(&mut self, change: ElemChange) -> Result<(), AllocError>
         ensures ok { OnOk result (self.new ≡ record self.old {
           changes = with_item change_cmp
@@ -97,7 +94,7 @@ fn first_later(vers: &[Ver], srel: Srel) -> Option<usize>
     vers.iter().position(|ver| srel < ver.srel)
 }
 
-/// The place behind the `++VER`s of its release and of earlier ones.
+/// The place after the `++VER`s of its release and of earlier ones.
 fn ver_place(vers: &[Ver], ver: &Ver) -> usize
     ensures { result ≡ place_of ver.now vers.now }
 {
@@ -107,7 +104,7 @@ fn ver_place(vers: &[Ver], ver: &Ver) -> usize
     }
 }
 
-/// Where a statement for the element of this one stands, or would come in.
+/// The place of the statement for this one's element, or the place where it would come in.
 fn change_place(changes: &[ElemChange], change: &ElemChange) -> Result<usize, usize>
     requires { Rises change_cmp (λ c. c) changes.now }
     ensures found { IfOk result

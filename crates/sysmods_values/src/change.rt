@@ -8,7 +8,7 @@ use std::marker::Model;
 use terms::ElemType;
 use text80::{Line, Update};
 
-/// What an element statement does. An update has all records behind `++MACUPD` or `++SRCUPD`, `./` records too.
+/// What an element statement does. An update has all records after `++MACUPD` or `++SRCUPD`, including `./` records.
 #[derive(Drop)]
 pub enum Action {
     Replaces {

@@ -9,8 +9,8 @@ use std::cmp::Ordering;
 use std::marker::Model;
 use terms::HoldKind;
 
-/// A hold on a SYSMOD. Its key is the id, the kind and the reason, which of an ERROR hold is an id. It is internal if
-/// it came inside the SYSMOD.
+/// A hold on a SYSMOD. Its key is the id, the kind and the reason; the reason of an ERROR hold is an id. It is internal
+/// if it came inside the SYSMOD.
 #[derive(Drop)]
 pub struct Hold {
     pub id: Id,

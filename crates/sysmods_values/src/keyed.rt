@@ -1,4 +1,4 @@
-//! The keys of SYSMODs, of what stands in them, and of holds.
+//! The keys of SYSMODs, of their parts, and of holds.
 
 use crate::{ElemChange, Hold, Sysmod, Ver};
 use fields::{Id, Name, Reason, Srel};

@@ -1,6 +1,7 @@
-//! SYSMODs as they are received: their `++VER`s with `++IF`s, their holds and what they change.
-//! Contracts see the records of the definitions: which ids a SYSMOD names, supersedes and names as functions, and how
-//! it grows by one statement more (`insert_ver`, `push_if`, `push_hold`, `insert_change`).
+//! SYSMODs as they are received: their `++VER`s with `++IF`s, their holds and the elements that they change. Contracts
+//! see the records of the definitions: which ids a SYSMOD names, supersedes and names as functions, and how it grows by
+//! one more statement (`insert_ver`, `push_if`, `push_hold`, `insert_change`). Every call that allocates returns
+//! `AllocError` if memory runs out, and then changes nothing that it was to change.
 #![tactic(auto)]
 
 mod adding;

@@ -12,8 +12,8 @@ use std::marker::Model;
 use std::mem;
 use terms::Kind;
 
-/// A SYSMOD with its sources, its `++VER`s, its element statements by type and name, and,
-/// until it is received, the holds that came inside it.
+/// A SYSMOD with its sources, its `++VER`s, its element statements by type and name and, until it is received, the
+/// holds that came inside it.
 #[derive(Drop)]
 pub struct Sysmod {
     pub id: Id,
@@ -48,7 +48,7 @@ impl Attest for Sysmod {
 }
 
 impl Sysmod {
-    /// Adds a source. The error comes where memory runs out, and changes nothing.
+    /// Adds a source.
     pub fn insert_source(&mut self, source: Source) -> Result<(), AllocError>
         ensures ok { OnOk result (self.new ≡ with_source source self.old) }
         ensures err { OnErr result (self.new ≡ self.old) }
@@ -57,7 +57,7 @@ impl Sysmod {
         Ok(())
     }
 
-    /// Lays its holds aside.
+    /// Takes its holds out.
     pub fn take_holds(&mut self, alloc: Global) -> Vec<Hold>
         ensures holds { result.items ≡ self.old.holds }
         ensures rest { self.new ≡ record self.old { holds = [] } }
@@ -65,7 +65,7 @@ impl Sysmod {
         mem::replace(&mut self.holds, Vec::new(alloc))
     }
 
-    /// Appends the ids that its `++VER`s for the SREL name in PRE, SUP and FMID. The error comes where memory runs out.
+    /// Appends the ids that its `++VER`s for the SREL name in PRE, SUP and FMID.
     pub fn append_named(&self, srel: Srel, found: &mut Vec<Id>) -> Result<(), AllocError>
         ensures { OnOk result (found.new.items ≡ found.old.items ++ flat_map named (filter
             (λ v. bytes_eq v.srel srel) self.now.vers)) }
@@ -94,7 +94,7 @@ impl Sysmod {
             .any(|ver| ver.srel == srel && ver.names(id))
     }
 
-    /// Whether the id stands in the SUP of one of its `++VER`s.
+    /// Whether the SUP of one of its `++VER`s names the id.
     pub fn supersedes(&self, id: Id) -> bool
         ensures { result ≡ list_any (λ v. is_in v.sup id) self.now.vers }
     {

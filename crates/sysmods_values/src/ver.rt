@@ -7,7 +7,7 @@ use fields::{Id, IdList, Srel};
 use std::alloc::AllocError;
 use std::marker::Model;
 
-/// `++IF`: where the function is installed, these SYSMODs are required too.
+/// `++IF`: if the function is installed, these SYSMODs are required too.
 #[derive(Drop)]
 pub struct IfReq {
     pub function: Id,
@@ -22,7 +22,7 @@ impl Model for IfReq {
     ghost view = { λ a. record { function = a.function; req = a.req } };
 }
 
-/// `++VER`: the system release that it is for, and its operands. `DELETE` is `del`.
+/// `++VER`: its system release, and its operands. `DELETE` is `del`.
 #[derive(Drop)]
 pub struct Ver {
     pub srel: Srel,
@@ -53,7 +53,7 @@ impl Model for Ver {
 }
 
 impl Ver {
-    /// The `++IF` comes in behind the others. The error comes where memory runs out.
+    /// Puts the `++IF` after the others.
     pub(crate) fn push_if(&mut self, condition: IfReq) -> Result<(), AllocError>
         ensures ok { OnOk result (self.new ≡ record self.old { ifs = self.old.ifs ++ condition ∷ [] }) }
         ensures err { OnErr result (self.new ≡ self.old) }
@@ -62,7 +62,7 @@ impl Ver {
         Ok(())
     }
 
-    /// Appends the ids that it names in PRE, SUP and FMID. The error comes where memory runs out.
+    /// Appends the ids that it names in PRE, SUP and FMID.
     pub fn append_named(&self, found: &mut Vec<Id>) -> Result<(), AllocError>
         ensures { OnOk result (found.new.items ≡ found.old.items ++ named self.now) }
     {
@@ -103,7 +103,7 @@ impl Ver {
         self.lists(id) || self.has_fmid(id)
     }
 
-    /// Whether the id stands in its SUP.
+    /// Whether its SUP names the id.
     pub fn supersedes(&self, id: Id) -> bool
         ensures { result ≡ is_in self.now.sup id }
     {

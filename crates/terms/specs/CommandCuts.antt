@@ -1,14 +1,14 @@
--- The records of a command file, cut where commands end.
+-- The records of a command file, cut after each command.
 use Rattle.std.specs.Prelude.{◌≡◌, ◌+◌, ◌<◌, ℕ, true, List, [], ◌++◌, length}
 use Rattle.terms.specs.Types.{Text}
 use Rattle.terms.specs.Statement.{Piece, TakesPiece, HasPieces, is_solid, solid, joined, followed, IsPlace, Ends}
 use Rattle.terms.specs.Statement.{IsIdle, StFault, BreaksOff}
 
--- no blank, comma or whole comment comes first
+-- the text does not begin with a blank, a comma or a whole comment
 abbrev pub BeginsNoGap : Text → Type 0
 BeginsNoGap text = (p : Piece) (after : Text) → TakesPiece text p after → is_solid p ≡ true
 
--- The records count from n. Behind the gap, in the record of that number, something else begins.
+-- The records count from n. After the gap, in the record of that number, something else begins.
 pub record BeginsBehind (n : ℕ) (records : List (List ℕ)) (gap : List Piece) (number : ℕ) : Type 0 where
   pub before : List (List ℕ)
   pub line : Text
@@ -20,8 +20,8 @@ pub record BeginsBehind (n : ℕ) (records : List (List ℕ)) (gap : List Piece)
   pub no_gap : BeginsNoGap (line ++ followed later)
   pub number_is : number ≡ n + length before
 
--- The records, which count from n, begin with a command of these pieces, which begins in the record of that number.
--- It ends with its period, and only gaps stand behind that in its record. The rest counts from m.
+-- The records, which count from n, begin with a command of these pieces. It begins in the record of that number and
+-- ends with its period, and only gaps follow the period in its record. The rest counts from m.
 pub record TakesCommand (n : ℕ) (records : List (List ℕ)) (pieces : List Piece) (number : ℕ) (m : ℕ)
     (rest : List (List ℕ)) : Type 0 where
   pub gap : List Piece
@@ -33,7 +33,7 @@ pub record TakesCommand (n : ℕ) (records : List (List ℕ)) (pieces : List Pie
   pub pieces_are : pieces ≡ solid own
   pub next_is : m + length rest ≡ n + length records
 
--- The form of the command that begins in the record of that number is at fault, or a comment stays open there.
+-- The form of the command that begins in the record of that number is bad, or a comment is not closed there.
 pub record IsCutFault (n : ℕ) (records : List (List ℕ)) (number : ℕ) (why : StFault) : Type 0 where
   pub gap : List Piece
   pub own : List Piece

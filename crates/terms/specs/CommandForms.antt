@@ -22,13 +22,13 @@ install_operands =
     ∷ codes "SOURCEID" ∷ codes "FORFMID" ∷ codes "GROUP" ∷ codes "GROUPEXTEND" ∷ codes "BYPASS" ∷ codes "CHECK"
     ∷ []
 
--- the members of APPLY's BYPASS, which ACCEPT's has too
+-- the members of APPLY's BYPASS, all of which ACCEPT's BYPASS has too
 abbrev pub apply_members : List Text
 apply_members =
     codes "PRE" ∷ codes "REQ" ∷ codes "IFREQ" ∷ codes "ID" ∷ codes "HOLDERROR" ∷ codes "HOLDSYSTEM" ∷ codes "HOLDUSER"
     ∷ codes "HOLDCLASS" ∷ []
 
--- the members that the BYPASS of a command may have, of APPLY and ACCEPT alone
+-- the members that the BYPASS of a command may have; only APPLY and ACCEPT have one
 abbrev pub members_of : CommandWord → List Text
 members_of word.Apply = apply_members
 members_of word.Accept = codes "APPLYCHECK" ∷ apply_members
@@ -45,7 +45,7 @@ operands_of word.Restore = codes "SELECT" ∷ codes "GROUP" ∷ codes "CHECK" �
 operands_of word.List = codes "TEXT" ∷ []
 operands_of word.Report = codes "ERRSYSMODS" ∷ []
 
--- the word that a command begins with
+-- the word with which a command begins
 abbrev pub command_word : Command → CommandWord
 command_word (Set zone) = word.Set
 command_word (Receive what) = word.Receive
@@ -56,15 +56,15 @@ command_word (Restore ids check) = word.Restore
 command_word (ListZone text) = word.List
 command_word Report = word.Report
 
--- an operand with a list that is no longer than the limit; where it is absent, the list is empty
+-- an operand whose list is no longer than the limit; without the operand the list is empty
 abbrev pub HasShort : (Text → Type 0) → Option Word → List Text → Type 0
 HasShort form found values = HasTexts form found values × IsShort values
 
--- an operand with such a list that must be there
+-- an operand with such a list that must be present
 abbrev pub HasSome : (Text → Type 0) → Option Word → List Text → Type 0
 HasSome form found values = IsSomeAnd found (λ w. HasSorted form w values) × IsShort values
 
--- RECEIVE. SYSMODS has PTFIN read, HOLDDATA the hold file, and neither of the two means both.
+-- RECEIVE. With SYSMODS it reads PTFIN, with HOLDDATA the hold file, and with neither both.
 pub record HasReceive (words : List Word) (what : ReceiveWhat) : Type 0 where
   pub sysmods : Bool
   pub holddata : Bool
@@ -101,14 +101,14 @@ no_bypass = record {
   holdclass = [];
 }
 
--- the reasons of HOLDERROR, HOLDSYSTEM or HOLDUSER: all of them where the member has no list
+-- the reasons of HOLDERROR, HOLDSYSTEM or HOLDUSER: all of them if the member has no list
 abbrev pub HasReasons : HoldKind → Option Word → Reasons → Type 0
 HasReasons kind None reasons = reasons ≡ NoReason
 HasReasons kind (Some m) NoReason = ⊥
 HasReasons kind (Some m) AnyReason = m.list ≡ None
 HasReasons kind (Some m) (TheseReasons reasons) = HasSorted (IsReason kind) m reasons × IsShort reasons
 
--- the members of BYPASS, each with its own list where it has one
+-- the members of BYPASS, each with its own list if it has one
 pub record HasBypassed (members : List Word) (b : Bypass) : Type 0 where
   pub pre : HasFlag (operand (codes "PRE") members) b.pre
   pub req : HasFlag (operand (codes "REQ") members) b.req
@@ -120,14 +120,14 @@ pub record HasBypassed (members : List Word) (b : Bypass) : Type 0 where
   pub holduser : HasReasons User (operand (codes "HOLDUSER") members) b.holduser
   pub holdclass : HasShort IsClass (operand (codes "HOLDCLASS") members) b.holdclass
 
--- The text of BYPASS's list has members that the command may have, each at most once.
+-- The text of BYPASS's list consists of members that the command may have, each at most once.
 pub record IsBypassList (w : CommandWord) (text : Text) (b : Bypass) : Type 0 where
   pub members : List Word
   pub has_members : HasMembers text members
   pub are_members : AreOperands (members_of w) members
   pub has_bypassed : HasBypassed members b
 
--- BYPASS, which needs its list; where it is absent, nothing is bypassed
+-- BYPASS, which needs its list; without it nothing is bypassed
 abbrev pub HasBypass : CommandWord → Option Word → Bypass → Type 0
 HasBypass w None b = b ≡ no_bypass
 HasBypass w (Some found) b = IsSomeAnd found.list (λ text. IsBypassList w text b)
@@ -138,14 +138,14 @@ pub record HasInstall (w : CommandWord) (words : List Word) (i : Install) : Type
   pub bypass : HasBypass w (operand (codes "BYPASS") words) i.bypass
   pub check : HasFlag (operand (codes "CHECK") words) i.check
 
--- SELECT or GROUP of RESTORE, and not both
+-- SELECT or GROUP of RESTORE, but not both
 abbrev pub HasRestoreList : List Word → RestoreList → Type 0
 HasRestoreList words (RestoreSelect ids) =
     (operand (codes "GROUP") words ≡ None) × HasSome IsId (operand (codes "SELECT") words) ids
 HasRestoreList words (RestoreGroup ids) =
     (operand (codes "SELECT") words ≡ None) × HasSome IsId (operand (codes "GROUP") words) ids
 
--- the command has the values that these operands give it
+-- these operands give the command its values
 abbrev pub HasOperands : List Word → Command → Type 0
 HasOperands words (Set zone) = HasRequired IsZoneName (operand (codes "BDY") words) zone
 HasOperands words (Receive what) = HasReceive words what

@@ -29,29 +29,29 @@ BeginsWithCommands n records (c ∷ cs) m rest =
     (pieces : List Piece) × (number next : ℕ) × (after : List (List ℕ))
     × TakesCommand n records pieces number next after × IsCommand pieces c × BeginsWithCommands next after cs m rest
 
--- The file is these commands, with blanks and comments behind the last one.
+-- The file consists of these commands. Only blanks and comments follow the last one.
 abbrev pub IsCommandFile : List ℕ → List Command → Type 0
 IsCommandFile bytes cs = (records rest : List (List ℕ)) × (m : ℕ)
     × HasRecords bytes records × BeginsWithCommands 1 records cs m rest × IsIdle (joined rest)
 
--- The runs of word characters outside inner lists, empty ones among them. The first one goes on from `run`.
+-- The runs of word characters outside inner lists, empty ones included. The first one continues `run`.
 abbrev pub runs_from : Bool → Text → Text → List Text
 runs_from inner run [] = run ∷ []
 runs_from true run (b ∷ bs) = runs_from (not (b == 41)) run bs
 runs_from false run (b ∷ bs) =
     if is_word_byte b then runs_from false (run ++ b ∷ []) bs else run ∷ runs_from (b == 40) [] bs
 
--- the members in a list of BYPASS, whatever stands between them
+-- the members in a list of BYPASS, whatever separates them
 abbrev pub runs_in : Option Text → List Text
 runs_in None = []
 runs_in (Some list) = runs_from false [] list
 
--- whether a known operand of the command is there twice, or a member that its BYPASS may have
+-- whether a known operand of the command occurs twice, or a member that its BYPASS may have
 abbrev pub has_double : CommandWord → List Piece → Bool
 has_double w pieces = list_any (is_often 2 (words_in pieces)) (operands_of w)
     || list_any (is_often 2 (runs_in (list_behind (codes "BYPASS") pieces))) (members_of w)
 
--- RESTORE has both SELECT and GROUP, or none of them.
+-- RESTORE has both SELECT and GROUP, or neither of them.
 abbrev pub is_unchosen : CommandWord → List Piece → Bool
 is_unchosen word.Restore pieces =
     if is_often 1 (words_in pieces) (codes "SELECT") then is_often 1 (words_in pieces) (codes "GROUP")
@@ -62,8 +62,8 @@ is_unchosen _ pieces = false
 abbrev pub BeginsWith : List Piece → CommandWord → List Piece → Type 0
 BeginsWith pieces w rest = pieces ≡ TheWord (word_text w) ∷ rest
 
--- What is wrong with a command that ends well. The first that applies of UnknownCommand, OperandTwice, NoSingleList and
--- BadCommandOperand is answered.
+-- What is wrong with a command that has its period. The answer is the first that applies of UnknownCommand,
+-- OperandTwice, NoSingleList and BadCommandOperand.
 abbrev pub IsCommandFault : List Piece → CommandCode → Type 0
 IsCommandFault pieces UnknownCommand = (w : CommandWord) (rest : List Piece) → BeginsWith pieces w rest → ⊥
 IsCommandFault pieces OperandTwice = (w : CommandWord) × (rest : List Piece) × BeginsWith pieces w rest
@@ -83,7 +83,7 @@ IsNextFault n records fault =
     ⊎ ((pieces : List Piece) × (m : ℕ) × (rest : List (List ℕ)) × TakesCommand n records pieces fault.number m rest
     × IsCommandFault pieces fault.code)
 
--- The first fault of a command file: of its records, or of the command behind good ones.
+-- The first fault of a command file: of its records, or of the first command that is not good.
 abbrev pub IsCommandFileFault : List ℕ → CntlFault → Type 0
 IsCommandFileFault bytes fault =
     ((fault.code ≡ BadCommandForm) × (r : RecFault) × IsRecFault bytes r × (fault.number ≡ rec_fault_record r))

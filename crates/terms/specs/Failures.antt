@@ -1,5 +1,5 @@
--- Why candidates that are not kept are not: the needs that stay open, and the causers. APPLY and ACCEPT, and RESTORE,
--- each have their own eligible ids, needs and what serves a need. (Causers are this project's; SMP/E's CAUSER SYSMOD
+-- Why some candidates are not kept: the needs that stay open, and the causers. APPLY and ACCEPT, and RESTORE, each have
+-- their own eligible ids, needs and rule for what serves a need. (Causers are this project's; SMP/E's CAUSER SYSMOD
 -- report is their model.)
 use Rattle.std.specs.Prelude.{◌≡◌, ◌⊎◌, List, [], ◌∷◌, Contains}
 use Rattle.terms.specs.declared.codes.Test.{Test}
@@ -26,7 +26,7 @@ module _ (cands kept : List Id) (Eligible : Id → Type 0) (Needs : Id → NeedK
     pub cand : Contains cands x
     pub not_kept : ¬ Contains kept x
 
-  -- x needs z, and nothing kept serves that
+  -- x needs z, and no kept candidate serves that need
   pub record IsOpenNeed (x : Id) (kind : NeedKind) (z : Id) : Type 0 where
     pub needs : Needs x kind z
     pub unserved : (y : Id) → Contains kept y → ¬ Serves kind y z
@@ -46,12 +46,12 @@ module _ (cands kept : List Id) (Eligible : Id → Type 0) (Needs : Id → NeedK
   abbrev pub HasBareNeed : Id → Type 0
   HasBareNeed x = (kind : NeedKind) × (z : Id) × Needs x kind z × ((y : Id) → Contains cands y → ¬ Serves kind y z)
 
-  -- a root has failed for a reason of its own: it is not eligible, or nobody serves a need of it
+  -- A root has failed for a reason of its own: it is not eligible, or no candidate serves one of its needs.
   pub record IsRoot (x : Id) : Type 0 where
     pub failed : HasFailed x
     pub why : (¬ Eligible x) ⊎ HasBareNeed x
 
-  -- y is a root that x reaches, perhaps by no step
+  -- y is a root that steps from x reach, or is x itself
   pub record IsCauser (x y : Id) : Type 0 where
     pub root : IsRoot y
     pub steps : List Id

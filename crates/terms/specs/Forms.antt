@@ -6,7 +6,7 @@ use Rattle.terms.specs.declared.kinds.HoldKind.{HoldKind}
 use Rattle.terms.specs.declared.kinds.HoldKind.TheVariants.{Error, System, User}
 use Rattle.terms.specs.Types.{Text}
 
--- A to Z, 0 to 9, and the characters of ids and names: these and $ # @
+-- A to Z and 0 to 9; the characters of ids and names are these and $ # @
 abbrev pub is_letter : ℕ → Bool
 is_letter b = nat_le 65 b && nat_le b 90
 
@@ -16,7 +16,7 @@ is_digit b = nat_le 48 b && nat_le b 57
 abbrev pub is_id_byte : ℕ → Bool
 is_id_byte b = is_letter b || is_digit b || b == 36 || b == 35 || b == 64
 
--- a character of a word: these and +
+-- a character of a word: one of these or +
 abbrev pub is_word_byte : ℕ → Bool
 is_word_byte b = is_id_byte b || b == 43
 
@@ -30,7 +30,7 @@ IsId text = IsRun is_id_byte 7 7 text
 abbrev pub IsClass : Text → Type 0
 IsClass text = IsRun is_id_byte 1 7 text
 
--- an id where the hold is an ERROR hold
+-- an id if the hold is an ERROR hold
 abbrev pub IsReason : HoldKind → Text → Type 0
 IsReason Error text = IsId text
 IsReason System text = IsClass text
@@ -67,7 +67,7 @@ IsDottedDate text = IsRun is_digit 2 2 (take 2 text) × (slice_index text 2 ≡ 
 abbrev pub last_digit : ℕ → ℕ
 last_digit n = 48 + n % 10
 
--- a year's last two digits, a period, and the day of the year in three
+-- the last two digits of a year, a period, and the day of the year in three digits
 abbrev pub dotted_date : ℕ → ℕ → Text
 dotted_date year day =
     last_digit (year / 10) ∷ last_digit year ∷ 46 ∷ last_digit (day / 100) ∷ last_digit (day / 10) ∷ last_digit day ∷ []
@@ -75,12 +75,12 @@ dotted_date year day =
 abbrev pub AreBlanks : Text → Type 0
 AreBlanks text = All (λ b. b ≡ 32) text
 
--- there is a first byte, and it is no blank
+-- there is a first byte, and it is not a blank
 abbrev pub BeginsDark : Text → Type 0
 BeginsDark [] = ⊥
 BeginsDark (b ∷ bs) = b ≢ 32
 
--- the text without the blanks before and behind it, where something is left
+-- the text without the blanks at both ends, if anything is left
 abbrev pub IsTrimmed : Text → Text → Type 0
 IsTrimmed text cut = (left right : Text) × (text ≡ left ++ cut ++ right) × AreBlanks left × AreBlanks right
     × BeginsDark cut × BeginsDark (reverse cut)

@@ -1,4 +1,4 @@
--- What RECEIVE, its holds, releases and assignments, and REJECT do to the global zone.
+-- What RECEIVE with its holds, releases and assignments, and REJECT do to the global zone.
 use Rattle.std.specs.Prelude.{◌≡◌, ◌≤◌, ◌<◌, ◌+◌, ◌^◌, ◌&&◌, ◌||◌, ◌==◌, Bool, false, not, List, [], ◌++◌, length, map}
 use Rattle.std.specs.Prelude.{fold, filter, find, All, Option, None, Some, is_some, Result, Ok, Err, IsTrue}
 use Rattle.std.specs.Prelude.{if◌then◌else◌}
@@ -20,27 +20,27 @@ use Rattle.terms.specs.Over.{Reaches}
 abbrev pub named : Ver → List Id
 named v = v.pre ++ v.sup ++ at_most_one v.fmid
 
--- what all its ++VERs for one SREL name so
+-- what all its ++VERs for one SREL name in these operands
 abbrev pub names_for : Global → Text → Id → List Id
 names_for g srel x = flat_map named (vers_of g srel x)
 
--- In the ++VERs of some SREL a SYSMOD leads to itself. Loops of REQ are none of these.
+-- By the ++VERs of some SREL, a SYSMOD leads to itself. REQ makes no such loop.
 abbrev pub HasLoop : Global → Type 0
 HasLoop g = (srel : Text) × (x : Id) × Reaches (names_for g srel) x x
 
--- whether it is received and no function
+-- whether it is received and is not a function
 abbrev pub is_service : Global → Id → Bool
 is_service g x = is_received g x && not (is_function g x)
 
--- what a ++VER names as functions: in DELETE, FMID and ++IF FMID
+-- what a ++VER names as functions: in DELETE, in FMID and in the FMID of an ++IF
 abbrev pub named_functions : Ver → List Id
 named_functions v = v.del ++ at_most_one v.fmid ++ map (λ i. i.function) v.ifs
 
--- It supersedes no function, and what it names as functions is no other received SYSMOD.
+-- It supersedes no function, and it names no received SYSMOD of another type as a function.
 abbrev pub fits_roles : Global → Ver → Bool
 fits_roles g v = not (list_any (is_function g) v.sup) && not (list_any (is_service g) (named_functions v))
 
--- each received ++VER does
+-- this holds for each received ++VER
 abbrev pub RolesFit : Global → Type 0
 RolesFit g = All (λ s. All (λ v. IsTrue (fits_roles g v)) s.vers) g.sysmods
 
@@ -59,15 +59,15 @@ abbrev pub change_cmp : Change → Change → Ordering
 change_cmp a b = ordering_then (nat_cmp (type_number a.elem_type) (type_number b.elem_type))
     (slice_cmp nat_cmp a.name b.name)
 
--- Sources rise, and element statements rise by type and name, none twice. The holds that it carries are internal ones
--- of its own.
+-- The sources rise. The element statements rise by type and name, none twice. The holds that it carries are internal
+-- and on itself.
 pub record IsSysmod (s : Sysmod) : Type 0 where
   pub sources : Rises (slice_cmp nat_cmp) (λ t. t) s.sources
   pub changes : Rises change_cmp (λ c. c) s.changes
   pub holds : All (λ h. IsTrue h.internal × (h.kind ≡ System) × (h.id ≡ s.id)) s.holds
 
--- SYSMODs and holds are in order, none twice, and each SYSMOD is. There is no loop, and roles fit.
--- An internal hold is a SYSTEM hold of a received SYSMOD.
+-- SYSMODs and holds are in order, none twice, and each SYSMOD is well formed. There is no loop, and roles fit. An
+-- internal hold is a SYSTEM hold on a received SYSMOD.
 pub record IsGlobal (g : Global) : Type 0 where
   pub sysmods : Rises (slice_cmp nat_cmp) (λ s. s.id) g.sysmods
   pub holds : Rises hold_cmp (λ h. h) g.holds
@@ -81,15 +81,15 @@ pub record IsGlobal (g : Global) : Type 0 where
 abbrev pub hold_of : Global → Id → HoldKind → Text → Option Hold
 hold_of g x kind reason = find (has_key x kind reason) g.holds
 
--- whether the key is there already, so that a hold on it is REPLACED and not HELD
+-- whether there is a hold of the key already, so that a new one is REPLACED and not HELD
 abbrev pub is_replacing : Global → Hold → Bool
 is_replacing g h = is_some (hold_of g h.id h.kind h.reason)
 
--- the hold with its mark as internal, which a hold that was marked so hands on
+-- the hold with its mark as internal, which it takes over from a hold that had the mark
 abbrev pub marked : Option Hold → Hold → Hold
 marked was h = record h { internal = h.internal || option_map_or (λ old. old.internal) was false }
 
--- The hold takes its place by its key. Where one was there it is replaced, and its mark as internal stays.
+-- The hold takes its place by its key. It replaces a hold of this key, whose mark as internal stays.
 abbrev pub hold : Global → Hold → Global
 hold g h = record g { holds = with_item hold_cmp (λ o. o) g.holds (marked (hold_of g h.id h.kind h.reason) h) }
 
@@ -98,7 +98,7 @@ pub data ReleaseFault : Type 0 where
   NoHold : ReleaseFault
   Internal : ReleaseFault
 
--- the global zone less the hold of this key
+-- the global zone without the hold of this key
 abbrev pub without_hold : Id → HoldKind → Text → Global → Global
 without_hold x kind reason g = record g { holds = filter (λ h. not (has_key x kind reason h)) g.holds }
 
@@ -106,7 +106,7 @@ abbrev pub release_found : Global → Release → Option Hold → Result Global 
 release_found g r None = Err NoHold
 release_found g r (Some h) = if h.internal then Err Internal else Ok (without_hold r.id r.kind r.reason g)
 
--- ++RELEASE takes a hold away that is not internal.
+-- ++RELEASE takes away a hold that is not internal.
 abbrev pub release : Global → Release → Result Global ReleaseFault
 release g r = release_found g r (hold_of g r.id r.kind r.reason)
 
@@ -114,24 +114,24 @@ release g r = release_found g r (hold_of g r.id r.kind r.reason)
 abbrev pub with_source : Text → Sysmod → Sysmod
 with_source source s = record s { sources = with_item (slice_cmp nat_cmp) (λ t. t) s.sources source }
 
--- ++ASSIGN gives a received SYSMOD the source; of an id that is not received it changes nothing.
+-- ++ASSIGN gives a received SYSMOD the source. For an id that is not received it changes nothing.
 abbrev pub assign : Global → Text → Id → Global
 assign g source x =
     record g { sysmods = map (λ s. if bytes_eq s.id x then with_source source s else s) g.sysmods }
 
--- the SYSMOD at its place among the others, with its holds laid aside
+-- the SYSMOD at its place among the others; its holds are kept apart
 abbrev pub with_sysmod : Global → Sysmod → Global
 with_sysmod g s = record g { sysmods = with_item (slice_cmp nat_cmp) (λ r. r.id) g.sysmods (record s { holds = [] }) }
 
--- AlreadyReceived: the id is received. MakesLoop: it would close a loop. WrongRole: a function would be named where
--- only service may be, or service where only functions may. NoRoom: it would be the 65,536th.
+-- AlreadyReceived: the id is received. MakesLoop: it would close a loop. WrongRole: it would name a function where only
+-- service is allowed, or service where only a function is. NoRoom: it would be the 65,536th.
 pub data ReceiveFault : Type 0 where
   AlreadyReceived : ReceiveFault
   MakesLoop : ReceiveFault
   WrongRole : ReceiveFault
   NoRoom : ReceiveFault
 
--- the fault applies, whatever others do
+-- the fault applies, whether or not others do
 abbrev pub HasFault : Global → Sysmod → ReceiveFault → Type 0
 HasFault g s AlreadyReceived = IsTrue (is_received g s.id)
 HasFault g s MakesLoop = HasLoop (with_sysmod g s)
@@ -150,7 +150,7 @@ RefusedBy g s NoRoom = (¬ HasFault g s AlreadyReceived) × (¬ HasFault g s Mak
 abbrev pub received : Global → Sysmod → Global
 received g s = fold hold (with_sysmod g s) s.holds
 
--- what RECEIVE of one SYSMOD answers: the global zone with it where no fault applies, else the first
+-- what RECEIVE of one SYSMOD answers: the global zone with the SYSMOD if no fault applies, otherwise the first fault
 abbrev pub Receives : Global → Sysmod → Result Global ReceiveFault → Type 0
 Receives g s (Ok new) = ((f : ReceiveFault) → ¬ HasFault g s f) × (new ≡ received g s)
 Receives g s (Err f) = RefusedBy g s f
@@ -160,14 +160,14 @@ pub data RejectFault : Type 0 where
   AppliedSomewhere : RejectFault
   UnknownSysmod : RejectFault
 
--- the global zone less the SYSMOD and the internal holds on it
+-- the global zone without the SYSMOD and the internal holds on it
 abbrev pub without_sysmod : Global → Id → Global
 without_sysmod g x = record g {
   sysmods = filter (λ s. not (bytes_eq s.id x)) g.sysmods;
   holds = filter (λ h. not (h.internal && bytes_eq h.id x)) g.holds;
 }
 
--- REJECT: a received SYSMOD goes where it is applied nowhere, whatever SREL a zone has.
+-- REJECT removes a received SYSMOD that no zone of any SREL has applied.
 abbrev pub reject : Global → List NamedZone → Id → Result Global RejectFault
 reject g zones x =
     if not (is_received g x) then Err UnknownSysmod

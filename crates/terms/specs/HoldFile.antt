@@ -15,7 +15,7 @@ use Rattle.terms.specs.Words.{Word, HasWords}
 use Rattle.terms.specs.HoldStatements.{IsHoldOf, IsReleaseOf, HasShortComment}
 use Rattle.terms.specs.Ptfin.{IsKnown, IsUnknown, McsFault, IsFileFault}
 
--- ++HOLD and ++RELEASE alone stand in a hold file, and no text behind them.
+-- A hold file contains only ++HOLD and ++RELEASE, and no text follows them.
 abbrev pub StandsInHoldFile : StatementWord → Lines → Type 0
 StandsInHoldFile word.Hold inline = inline ≡ []
 StandsInHoldFile word.Release inline = inline ≡ []
@@ -34,13 +34,13 @@ abbrev pub IsWithin : HoldItem → Type 0
 IsWithin (AHold h) = HasShortComment h
 IsWithin (ARelease r) = Unit {0}
 
--- The records are this item, and nothing is at fault.
+-- The records are this item, and have no fault.
 abbrev pub IsGoodItem : Lines → HoldItem → Type 0
 IsGoodItem records item = (w : StatementWord) × (own : Option Text) × (rest : List Piece) × (inline : Lines)
     × IsKnown records w own rest inline × StandsInHoldFile w inline × HasItem w own rest item × IsWithin item
 
--- What is at fault with a statement. The first of BadStatementForm, UnknownStatementWord, WrongPlace,
--- BadStatementOperand and OverLimit is answered.
+-- What is wrong with a statement. The answer is the first that applies of BadStatementForm, UnknownStatementWord,
+-- WrongPlace, BadStatementOperand and OverLimit.
 abbrev pub IsItemFault : Lines → StatementCode → Type 0
 IsItemFault records BadStatementForm = (why : StFault) × IsStFault records why
 IsItemFault records UnknownStatementWord = IsUnknown records
@@ -61,16 +61,16 @@ BeginsWithItems n records (item ∷ more) m rest =
     (g : Group) × (next : ℕ) × (later : Lines) × TakesGroup n records g next later
     × IsGoodItem g.records item × BeginsWithItems next later more m rest
 
--- The file is these items.
+-- The file consists of these items.
 abbrev pub IsHoldFile : List ℕ → List HoldItem → Type 0
 IsHoldFile bytes items = (records : Lines) × (m : ℕ) × HasRecords bytes records × BeginsWithItems 1 records items m []
 
--- The next statement is at fault.
+-- The next statement has a fault.
 abbrev pub IsNextItemFault : ℕ → Lines → McsFault → Type 0
 IsNextItemFault n records fault = (g : Group) × (next : ℕ) × (later : Lines) × TakesGroup n records g next later
     × (fault.number ≡ g.number) × IsItemFault g.records fault.code
 
--- The first fault of the file: of its records, or of the statement behind good ones.
+-- The first fault of the file: of its records, or of the first statement that is not good.
 abbrev pub IsHoldFileFault : List ℕ → McsFault → Type 0
 IsHoldFileFault bytes fault = IsFileFault bytes fault
     ⊎ ((records : Lines) × (items : List HoldItem) × (m : ℕ) × (rest : Lines)

@@ -7,7 +7,7 @@ use Rattle.terms.specs.Forms.{IsId, IsReason, IsClass, IsDate, IsTrimmed}
 use Rattle.terms.specs.Words.{Word, plain}
 use Rattle.terms.specs.Operands.{operand, AreOperands, HasOwn, HasRequired, HasOptional}
 
--- one kind word stands among the operands, and has no list
+-- One of the operands is a kind word, and it has no list.
 pub record HasKind (operands : List Word) (kind : HoldKind) : Type 0 where
   pub there : operand (hold_text kind) operands ≡ Some (plain (hold_text kind))
   pub alone : (other : HoldKind) → other ≢ kind → operand (hold_text other) operands ≡ None
@@ -18,7 +18,7 @@ release_operands = codes "ERROR" ∷ codes "SYSTEM" ∷ codes "USER" ∷ codes "
 abbrev pub hold_operands : List Text
 hold_operands = release_operands ++ codes "CLASS" ∷ codes "DATE" ∷ codes "COMMENT" ∷ []
 
--- COMMENT(text): what stands in the parentheses, with the blanks at both ends cut. It is no list.
+-- COMMENT(text): the text in the parentheses, without the blanks at both ends. It is not a list.
 abbrev pub HasComment : Option Word → Option Text → Type 0
 HasComment None comment = comment ≡ None
 HasComment (Some w) comment = IsSomeAnd w.list (λ text. IsSomeAnd comment (λ cut. IsTrimmed text cut))

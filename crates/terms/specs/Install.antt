@@ -1,6 +1,6 @@
--- What APPLY and ACCEPT make of the zone, given the kept set.
--- (IBM z/OS SMP/E Commands, APPLY and ACCEPT processing; Reference, SYSMOD entry and element entry of target and
--- distribution zones. What DELETE takes out is this project's profile.)
+-- What APPLY and ACCEPT make of the zone, given the kept set. (IBM z/OS SMP/E Commands, APPLY and ACCEPT processing;
+-- Reference, SYSMOD entry and element entry of target and distribution zones. What DELETE takes out is this project's
+-- profile.)
 use Rattle.std.specs.Prelude.{◌≡◌, ◌≢◌, ◌⊎◌, ◌↔◌, ◌&&◌, ℕ, List, [], Option, None, Some, filter, is_some, IsTrue}
 use Rattle.std.specs.Prelude.{IsFalse, IfSome, Contains, slice_get, if◌then◌else◌}
 use Rattle.terms.specs.declared.kinds.ElemType.{ElemType}
@@ -24,7 +24,8 @@ pub record Installation : Type 0 where
   pub bypassed : List (Id × Id)
   pub date : Text
 
--- x is kept, and no other kept SYSMOD supersedes it: it becomes APPLIED or ACCEPTED. The others kept are SUPERSEDED.
+-- x is kept, and no other kept SYSMOD supersedes it: it becomes APPLIED or ACCEPTED. The other kept ones are
+-- SUPERSEDED.
 pub record TakesEffect (i : Installation) (x : Id) : Type 0 where
   pub kept : Contains i.kept x
   pub first : (y : Id) → Contains i.kept y → y ≢ x → ¬ Supersedes i.choice y x
@@ -37,15 +38,15 @@ applied_with i x = an_applied i.date (i.number x)
 abbrev pub cleared : Installation → Zone
 cleared i = zone_less i.global i.choice (deletions i.choice i.kept) i.zone
 
--- The kept SYSMODs that delete x. A function that is taken out is deleted by what meets its chain, any other id by what
--- names it.
+-- The kept SYSMODs that delete x. If x is a function that is taken out, they are those whose DELETE meets its chain;
+-- any other id is deleted by those whose DELETE names it.
 abbrev pub deleters : Installation → Id → List Id
 deleters i x =
     if is_function i.global x && is_taken_out i.global i.choice (deletions i.choice i.kept) i.zone x
     then filter (λ k. is_deleted i.global i.choice (del_of i.choice k) x) i.kept
     else filter (λ k. is_in (del_of i.choice k) x) i.kept
 
--- DELBY: what is there stays, else the least that deletes it
+-- DELBY: the value that is there stays; otherwise the least SYSMOD that deletes it
 unfoldable pub delby_after : Installation → Id → Option Id
 delby_after i x = if is_some (delby_of i.zone x) then delby_of i.zone x else slice_get (deleters i x) 0
 
@@ -62,15 +63,15 @@ replaced i r type name distlib syslib lines = record {
   text = lines;
 }
 
--- One element, by type and name.
+-- One element, given by its type and name.
 module _ (i : Installation) (type : ElemType) (name : Text) where
-  -- r is installed, replaces the element, and is over all other installed ones that replace it
+  -- r is installed, replaces the element, and is over all other installed SYSMODs that replace it
   pub record IsReplacer (r : Id) : Type 0 where
     pub installed : TakesEffect i r
     pub replaces : IsTrue (has_replacement i.global r type name)
     pub over : (y : Id) → TakesEffect i y → IsTrue (has_replacement i.global y type name) → y ≢ r → IsOver i.choice r y
 
-  -- what the updates build on: what the replacer makes of the element, else the element that the zone has
+  -- the base of the updates: what the replacer makes of the element, or the element that the zone has
   abbrev pub HasBase : Option Id → Element → Type 0
   HasBase (Some r) base =
       IsReplacer r
@@ -86,13 +87,13 @@ module _ (i : Installation) (type : ElemType) (name : Text) where
     pub updates : (h : Change) × (change_of i.global y type name ≡ Some h) × (h.action ≡ Updates update)
     pub over : IfSome replacer (λ r. IsOver i.choice y r)
 
-  -- y gives or deletes the number n, and is over each other updater that does
+  -- y gives or deletes the number n, and is over each other updater that does so
   pub record Decides (replacer : Option Id) (n : ℕ) (y : Id) (update : Lines) : Type 0 where
     pub updater : IsUpdater replacer y update
     pub touches : Touches update n
     pub over : (z : Id) (other : Lines) → IsUpdater replacer z other → Touches other n → z ≢ y → IsOver i.choice y z
 
-  -- The element has what its base has, the updaters as further UMIDs, and at each number what the deciding update says.
+  -- The element is its base with the updaters as further UMIDs. At each number it has what the deciding update says.
   pub record IsUpdated (replacer : Option Id) (base e : Element) : Type 0 where
     pub rest : e ≡ record base { umids = e.umids; text = e.text }
     pub rising : IsRising e.umids

@@ -1,4 +1,4 @@
--- What APPLY and ACCEPT decide, all together: the setting of a command, and its kept set.
+-- All that APPLY and ACCEPT decide: the setting of a command, and its kept set.
 use Rattle.std.specs.Prelude.{List, Option, Contains, ◌↔◌}
 use Rattle.terms.specs.Types.{Id, Global, Zone, Bypass}
 use Rattle.terms.specs.Lookups.{IsRising}
@@ -18,7 +18,7 @@ setting g zone related cands bypass = record {
   bypass = bypass;
 }
 
--- x stays: it is in a set of eligible candidates that supports itself
+-- x stays: some set of eligible candidates that supports itself contains x
 abbrev pub Stays : Setting → List Id → Id → Type 0
 Stays s survivors x = StaysKept (IsEligible s) (Needs s survivors) (Serves s.choice) x
 

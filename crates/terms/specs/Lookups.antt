@@ -22,11 +22,11 @@ abbrev pub at_most_one : {X : Type 0} → Option X → List X
 at_most_one None = []
 at_most_one (Some x) = x ∷ []
 
--- whether the id stands in the list
+-- whether the id is in the list
 abbrev pub is_in : List Id → Id → Bool
 is_in xs x = list_any (bytes_eq x) xs
 
--- whether some id stands in both lists
+-- whether the two lists share an id
 abbrev pub meets : List Id → List Id → Bool
 meets xs ys = list_any (λ x. is_in ys x) xs
 
@@ -66,11 +66,11 @@ has_change g x type name = is_some (change_of g x type name)
 abbrev pub holds_of : Global → HoldKind → Id → List Hold
 holds_of g kind x = filter (λ h. bytes_eq h.id x && (hold_number h.kind == hold_number kind)) g.holds
 
--- An entry is there for a date, for SUPBY or for DELBY.
+-- An entry exists because of a date, SUPBY or DELBY.
 abbrev pub has_content : Entry → Bool
 has_content e = is_some e.applied || not (is_nil e.supby) || is_some e.delby
 
--- Only what is applied waives anything.
+-- Only an applied SYSMOD waives anything.
 abbrev pub waives_applied : Entry → Bool
 waives_applied e = is_some e.applied || is_nil e.waived
 
@@ -78,19 +78,19 @@ waives_applied e = is_some e.applied || is_nil e.waived
 abbrev pub element_key : Element → ElemType × Text
 element_key e = (e.elem_type, e.name)
 
--- those of the element that a statement is about
+-- the type and name of the element that a statement changes
 abbrev pub change_key : Change → ElemType × Text
 change_key h = (h.elem_type, h.name)
 
--- the order of elements: by type and then by name
+-- the order of elements: by type, and then by name
 abbrev pub element_cmp : ElemType × Text → ElemType × Text → Ordering
 element_cmp a b = ordering_then (nat_cmp (type_number a.0) (type_number b.0)) (slice_cmp nat_cmp a.1 b.1)
 
--- whether the two are one type and one name
+-- whether both have one type and one name
 abbrev pub element_eq : ElemType × Text → ElemType × Text → Bool
 element_eq a b = (type_number a.0 == type_number b.0) && bytes_eq a.1 b.1
 
--- Entries and elements are in order, none twice. No entry is empty. A target zone alone names a related zone.
+-- Entries and elements are in order, none twice. No entry is empty. Only a target zone names a related zone.
 pub record IsZone (zone : Zone) : Type 0 where
   pub entries : Rises (slice_cmp nat_cmp) (λ e. e.id) zone.entries
   pub held : All (λ e. IsTrue (has_content e)) zone.entries
@@ -107,7 +107,7 @@ abbrev pub element_of : Zone → ElemType → Text → Option Element
 element_of zone type name = find (λ e. (type_number e.elem_type == type_number type) && bytes_eq e.name name)
     zone.elements
 
--- whether it is applied, in a distribution zone accepted. Nothing else supplies an FMID.
+-- whether it is applied, in a distribution zone accepted. Only an applied SYSMOD supplies an FMID.
 abbrev pub is_applied : Zone → Id → Bool
 is_applied zone x = option_map_or (λ e. is_some e.applied) (entry_of zone x) false
 

@@ -1,5 +1,5 @@
--- What a candidate of APPLY or ACCEPT needs, and who serves it.
--- (IBM z/OS SMP/E Reference, FMID, PRE and REQ of ++VER, ++IF, ++HOLD; Commands, BYPASS. ORPHAN is this project's.)
+-- What a candidate of APPLY or ACCEPT needs, and which candidates serve the need. (IBM z/OS SMP/E Reference, FMID, PRE
+-- and REQ of ++VER, ++IF, ++HOLD; Commands, BYPASS. ORPHAN is this project's.)
 use Rattle.std.specs.Prelude.{◌≡◌, ◌⊎◌, ◌&&◌, Bool, true, false, not, List, [], ◌++◌, filter, map, IsTrue, IsFalse}
 use Rattle.std.specs.Prelude.{Contains, if◌then◌else◌}
 use Rattle.std.specs.List.{list_any, flat_map}
@@ -18,12 +18,12 @@ use Rattle.terms.specs.Tests.{Setting, view_of, standing_holds}
 abbrev pub unwaived : Zone → Id → List Id → List Id
 unwaived zone w ids = filter (λ z. not (is_in (waived_of zone w) z)) ids
 
--- the requisites by ++IF of w whose function is applied, less what the function waives
+-- the requisites by ++IF of w whose function is applied, less those that the function waives
 abbrev pub binding_ifs : Choice → Zone → (Id → Bool) → Id → List Id
 binding_ifs c zone is_there w =
     flat_map (λ i. unwaived zone i.function i.req) (filter (λ i. is_there i.function) (ifs_of c w))
 
--- the requisites that hold w: PRE, REQ and those by ++IF, less what it waives
+-- the requisites that bind w: PRE, REQ and those by ++IF, less what it waives
 abbrev pub binding_ids : Choice → Zone → (Id → Bool) → Id → List Id
 binding_ids c zone is_there w = unwaived zone w (pre_of c w ++ req_of c w ++ binding_ifs c zone is_there w)
 
@@ -32,14 +32,15 @@ abbrev pub is_lost : Setting → List Id → Id → Bool
 is_lost s dels z =
     list_any (λ p. is_taken_out s.global s.choice dels s.zone p && supplies s.zone p z) (applied_ids s.zone)
 
--- ORPHAN: the requisites of SYSMODs that stay applied, as far as x's own DELETE takes their suppliers
+-- ORPHAN: the requisites of SYSMODs that stay applied, if x's own DELETE takes out the SYSMODs that supply them
 unfoldable pub orphans : Setting → Id → List Id
 orphans s x =
     let dels : List Id = del_of s.choice x in
     let staying : Zone = zone_less s.global s.choice dels s.zone in
     filter (is_lost s dels) (flat_map (binding_ids s.choice s.zone (is_applied staying)) (applied_ids staying))
 
--- what x asks for, supplied or not and bypassed or not; the reasons of ERROR holds less the bypassed holds
+-- All that x asks for, supplied or not and bypassed or not. The reasons of ERROR holds are left out if the hold is
+-- bypassed.
 abbrev pub asked : Setting → List Id → Id → NeedKind → List Id
 asked s survivors x Fmid = at_most_one (fmid_of s.choice x)
 asked s survivors x Pre = pre_of s.choice x
@@ -56,7 +57,7 @@ is_bypassed b Req = b.req
 is_bypassed b Ifreq = b.ifreq
 is_bypassed b _ = false
 
--- whether the zone meets a need of APPLY or ACCEPT: as an FMID only what is applied does
+-- whether the zone meets a need of APPLY or ACCEPT; only an applied SYSMOD meets one for an FMID
 abbrev pub is_met : Zone → NeedKind → Id → Bool
 is_met zone Fmid z = is_applied zone z
 is_met zone _ z = is_supplied zone z
@@ -65,21 +66,21 @@ is_met zone _ z = is_supplied zone z
 abbrev pub zone_left : Setting → List Id → Zone
 zone_left s survivors = zone_less s.global s.choice (deletions s.choice survivors) s.zone
 
--- x needs z: it asks for it, and neither BYPASS nor the zone less all deletions meets it
+-- x needs z: it asks for z, and neither BYPASS nor the zone less all deletions meets that
 pub record Needs (s : Setting) (survivors : List Id) (x : Id) (kind : NeedKind) (z : Id) : Type 0 where
   pub of : Contains s.cands x
   pub asks : Contains (asked s survivors x kind) z
   pub not_bypassed : IsFalse (is_bypassed s.bypass kind)
   pub not_met : IsFalse (is_met (zone_left s survivors) kind z)
 
--- whether what supersedes an id serves a need for it: not for an FMID, and not in RESTORE
+-- whether a SYSMOD that supersedes an id serves a need for it: not if it is an FMID, and not in RESTORE
 abbrev pub takes_superseder : NeedKind → Bool
 takes_superseder Fmid = false
 takes_superseder Elem = false
 takes_superseder Dep = false
 takes_superseder _ = true
 
--- y serves a need for z: it is z, or supersedes it where that serves
+-- y serves a need for z: y is z, or supersedes it if that serves the need
 abbrev pub Serves : Choice → NeedKind → Id → Id → Type 0
 Serves c kind y z = (y ≡ z) ⊎ (IsTrue (takes_superseder kind) × Supersedes c y z)
 

@@ -8,11 +8,11 @@ use Rattle.terms.specs.Statement.{Piece, TheWord, TheList}
 use Rattle.terms.specs.Lookups.{is_in, IsRising}
 use Rattle.terms.specs.Words.{Word, IsListOf, IsOneOf}
 
--- the operand of that name, if it is there
+-- the operand of that name, if there is one
 abbrev pub operand : Text → List Word → Option Word
 operand name words = find (λ w. bytes_eq w.word name) words
 
--- operands of these names alone, each at most once, in any order
+-- only operands of these names, each at most once, in any order
 pub record AreOperands (names : List Text) (words : List Word) : Type 0 where
   pub known : All (λ w. IsTrue (is_in names w.word)) words
   pub once : AllPairs (λ a b. a.word ≢ b.word) words
@@ -22,7 +22,7 @@ pub record AreSorted (texts sorted : List Text) : Type 0 where
   pub rising : IsRising sorted
   pub same : (x : Text) → Contains sorted x ↔ Contains texts x
 
--- a word's own list, where it has one, has this one member
+-- if the word has a list of its own, the list has this one member
 abbrev pub HasOwn : (Text → Type 0) → Option Text → Text → Type 0
 HasOwn form own value = IsSomeAnd own (λ text. IsOneOf form text value)
 
@@ -34,11 +34,11 @@ HasOne form w value = HasOwn form w.list value
 abbrev pub HasListed : (Text → Type 0) → Word → List Text → Type 0
 HasListed form w values = IsSomeAnd w.list (λ text. IsListOf form text values)
 
--- the word's list has these members, which rise here
+-- the word's list has these members, which are in rising order here
 abbrev pub HasSorted : (Text → Type 0) → Word → List Text → Type 0
 HasSorted form w values = (listed : List Text) × HasListed form w listed × AreSorted listed values
 
--- an operand that must be there
+-- an operand that must be present
 abbrev pub HasRequired : (Text → Type 0) → Option Word → Text → Type 0
 HasRequired form found value = IsSomeAnd found (λ w. HasOne form w value)
 
@@ -47,7 +47,7 @@ abbrev pub HasOptional : (Text → Type 0) → Option Word → Option Text → T
 HasOptional form None value = value ≡ None
 HasOptional form (Some w) value = IsSomeAnd value (λ text. HasOne form w text)
 
--- an operand with a list; where it is absent, the list is empty
+-- an operand with a list; without the operand the list is empty
 abbrev pub HasTexts : (Text → Type 0) → Option Word → List Text → Type 0
 HasTexts form None values = values ≡ []
 HasTexts form (Some w) values = HasSorted form w values
@@ -57,23 +57,23 @@ abbrev pub HasFlag : Option Word → Bool → Type 0
 HasFlag None flag = flag ≡ false
 HasFlag (Some w) flag = (flag ≡ true) × (w.list ≡ None)
 
--- the words outside parentheses, whatever else stands among the pieces
+-- the words outside parentheses, whatever else the pieces are
 abbrev pub words_in : List Piece → List Text
 words_in [] = []
 words_in (TheWord text ∷ ps) = text ∷ words_in ps
 words_in (_ ∷ ps) = words_in ps
 
--- the list that comes first, if one does
+-- the list, if the first piece is one
 abbrev pub leading_list : List Piece → Option Text
 leading_list (TheList list ∷ ps) = Some list
 leading_list _ = None
 
--- the list right behind the first word of that name, if there is one
+-- the list that directly follows the first word of that name, if there is one
 abbrev pub list_behind : Text → List Piece → Option Text
 list_behind name [] = None
 list_behind name (TheWord text ∷ ps) = if bytes_eq name text then leading_list ps else list_behind name ps
 list_behind name (_ ∷ ps) = list_behind name ps
 
--- whether the text is there so often, or more often
+-- whether the text occurs so often, or more often
 abbrev pub is_often : ℕ → List Text → Text → Bool
 is_often n texts name = nat_le n (count_by (bytes_eq name) texts)

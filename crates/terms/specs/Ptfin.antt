@@ -1,6 +1,6 @@
 -- PTFIN: the order of its statements, the SYSMODs and assignments that they make, and its first fault. (IBM z/OS SMP/E
--- Reference, MCS: a SYSMOD is a header, then ++VERs with their ++IFs, then holds, then elements; ++ASSIGN stands
--- between SYSMODs.)
+-- Reference, MCS: a SYSMOD is a header, then ++VERs with their ++IFs, then holds, then elements; ++ASSIGN comes between
+-- SYSMODs.)
 use Rattle.std.specs.Prelude.{◌≡◌, ◌≢◌, ◌≤◌, ◌<◌, ℕ, false, List, [], ◌∷◌, ◌++◌, length, All, Any, Option}
 use Rattle.std.specs.Prelude.{Some, None, IsSomeAnd, IfSome, option_map, ◌⊎◌, IsTrue, take, drop, slice_get, set}
 use Rattle.std.specs.Prelude.{codes}
@@ -34,7 +34,7 @@ pub record Begun : Type 0 where
   pub sysmod : Sysmod
   pub last : Option ℕ
 
--- What the statements so far make: items that are whole, and the SYSMOD that is begun.
+-- What the statements so far make: whole items, and the SYSMOD that has begun.
 pub record SoFar : Type 0 where
   pub whole : List Item
   pub current : Option Begun
@@ -51,7 +51,7 @@ begun kind id = record {
   last = None;
 }
 
--- the place of a ++VER among others: in front of the first of a later SREL, or behind all
+-- the place of a ++VER among others: before the first of a later SREL, or after all of them
 abbrev pub place_of : Ver → List Ver → ℕ
 place_of v vs = position_or_len (λ w. is_before v.srel w.srel) vs
 
@@ -59,7 +59,7 @@ place_of v vs = position_or_len (λ w. is_before v.srel w.srel) vs
 abbrev pub with_ver_at : ℕ → Ver → List Ver → List Ver
 with_ver_at n v vs = take n vs ++ v ∷ drop n vs
 
--- ++VERs are kept by SREL, those of one SREL in the order of the statements, and element statements by type and name.
+-- ++VERs are ordered by SREL, those of one SREL by their statements, and element statements by type and name.
 abbrev pub with_ver : Ver → Begun → Begun
 with_ver v b = record {
   sysmod = record b.sysmod { vers = with_ver_at (place_of v b.sysmod.vers) v b.sysmod.vers };
@@ -69,11 +69,11 @@ with_ver v b = record {
 abbrev pub with_change : Change → Begun → Begun
 with_change c b = record b { sysmod = record b.sysmod { changes = with_item change_cmp (λ x. x) b.sysmod.changes c } }
 
--- the ++VERs where the one at this place has an ++IF more, behind those that it has
+-- the ++VERs, with one more ++IF at the end of the ++VER at this place
 abbrev pub with_if_at : IfReq → List Ver → ℕ → List Ver
 with_if_at i vs n = option_map_or (λ v. set vs n (record v { ifs = v.ifs ++ i ∷ [] })) (slice_get vs n) vs
 
--- An ++IF belongs to the last ++VER, and a hold stands behind those that the SYSMOD has.
+-- An ++IF belongs to the last ++VER, and a hold follows those that the SYSMOD has.
 abbrev pub with_if : IfReq → Begun → Begun
 with_if i b = record b {
   sysmod = record b.sysmod { vers = option_map_or (with_if_at i b.sysmod.vers) b.last b.sysmod.vers };
@@ -86,7 +86,7 @@ last_of b = option_and_then (slice_get b.sysmod.vers) b.last
 abbrev pub with_hold : Hold → Begun → Begun
 with_hold h b = record b { sysmod = record b.sysmod { holds = b.sysmod.holds ++ h ∷ [] } }
 
--- what they make with one statement more
+-- what they make with one more statement
 abbrev pub after : SoFar → Statement → SoFar
 after c (SaysHeader kind id) = record { whole = items_of c; current = Some (begun kind id) }
 after c (SaysVer v) = record c { current = option_map (with_ver v) c.current }
@@ -98,8 +98,8 @@ after c (SaysChange x) = record c { current = option_map (with_change x) c.curre
 abbrev pub sysmod_in : Option Begun → Option Sysmod
 sysmod_in current = option_map (λ b. b.sysmod) current
 
--- A header and an ++ASSIGN may stand first, and behind a SYSMOD that has a ++VER. Behind a header come ++VERs, each
--- with its ++IFs, then holds, then elements. ++RELEASE stands in no PTFIN.
+-- A header and an ++ASSIGN may come first, and after a SYSMOD that has a ++VER. A header is followed by ++VERs, each
+-- with its ++IFs, then by holds, then by elements. ++RELEASE does not occur in PTFIN.
 abbrev pub MayStand : Option Sysmod → StatementWord → Type 0
 MayStand None (word.Header kind) = Unit {0}
 MayStand None word.Assign = Unit {0}
@@ -114,18 +114,19 @@ MayStand (Some s) (word.Replace type) = s.vers ≢ []
 MayStand (Some s) word.UpdateMac = s.vers ≢ []
 MayStand (Some s) word.UpdateSrc = s.vers ≢ []
 
--- FMID stands among the pieces once, whatever else does, and its list is this one id.
+-- FMID occurs once among the pieces, whatever else does, and its list is this one id.
 abbrev pub NamesFmid : List Piece → Id → Type 0
 NamesFmid rest f = (is_often 2 (words_in rest) (codes "FMID") ≡ false)
     × HasOwn IsId (list_behind (codes "FMID") rest) f
 
--- The SYSMOD has a ++VER of the SREL: in a function any, else one of the FMID that the pieces name.
+-- The SYSMOD has a ++VER of the SREL: for a function any, otherwise one of the FMID that the pieces name.
 abbrev pub HasVerLike : Sysmod → Text → List Piece → Type 0
 HasVerLike s srel rest = Any (λ v. (v.srel ≡ srel)
     × ((s.kind ≡ Function) ⊎ IsSomeAnd v.fmid (NamesFmid rest))) s.vers
 
 -- A second ++VER of one SREL in a function, one of the same SREL and FMID in another SYSMOD, or a second change of one
--- element, be it replaced or updated. The statement word's own list and its FMID say so, whatever else stands there.
+-- element, be it replaced or updated. The statement word's own list and its FMID decide this, whatever else the
+-- statement has.
 abbrev pub IsSecond : Sysmod → StatementWord → Option Text → List Piece → Type 0
 IsSecond s word.Ver own rest = (srel : Text) × HasOwn IsSrel own srel × HasVerLike s srel rest
 IsSecond s w own rest = (name : Text) × HasOwn IsName own name × Any
@@ -148,7 +149,7 @@ pub data Disorder : Type 0 where
   Second : Disorder
   UpdateInFunction : Disorder
 
--- A statement behind which `later` records follow is out of order behind the statements so far.
+-- After the statements so far, a statement that `later` records follow is out of order.
 abbrev pub IsMisplaced : Option Sysmod → Lines → StatementWord → Option Text → List Piece → Lines → Disorder → Type 0
 IsMisplaced current later w own rest inline CannotStand = ¬ MayStand current w
 IsMisplaced current later w own rest inline LastHeader = IsHeader w × (later ≡ [])
@@ -165,7 +166,7 @@ abbrev pub HasValue : Option Sysmod → StatementWord → Option Text → List P
 HasValue current w own rest inline s = (operands : List Word) × HasWords rest operands
     × Says current w own operands inline s
 
--- the limits of a statement behind those before it
+-- the limits of a statement after those before it
 abbrev pub IsWithin : Option Begun → Statement → Lines → Type 0
 IsWithin current (SaysHeader kind id) inline = Unit {0}
 IsWithin current (SaysVer v) inline = IfSome current (λ b. length b.sysmod.vers < 8) × All IsShort (lists_of v)
@@ -179,7 +180,7 @@ abbrev pub HasGoodText : Statement → Type 0
 HasGoodText (SaysChange c) = IsActionOf c.elem_type c.name c.action
 HasGoodText _ = Unit {0}
 
--- The statement of this word, its own list and its rest says so, and nothing is at fault.
+-- The statement of this word, its own list and its rest says so, and has no fault.
 pub record IsGood (current : Option Begun) (later : Lines) (w : StatementWord) (own : Option Text) (rest : List Piece)
     (inline : Lines) (s : Statement) : Type 0 where
   pub placed : IsPlaced (sysmod_in current) later w own rest inline
@@ -187,8 +188,8 @@ pub record IsGood (current : Option Begun) (later : Lines) (w : StatementWord) (
   pub within : IsWithin current s inline
   pub text : HasGoodText s
 
--- What is at fault with a statement of a known word. The first of WrongPlace, BadStatementOperand, OverLimit and
--- BadText is answered.
+-- What is wrong with a statement of a known word. The answer is the first that applies of WrongPlace,
+-- BadStatementOperand, OverLimit and BadText.
 abbrev pub IsFault : Option Begun → Lines → StatementWord → Option Text → List Piece → Lines → StatementCode → Type 0
 IsFault current later w own rest inline WrongPlace = (why : Disorder) × IsMisplaced
     (sysmod_in current) later w own rest inline why
@@ -210,7 +211,7 @@ pub record IsKnown (records : Lines) (w : StatementWord) (own : Option Text) (re
   pub statement : IsStatement records pieces inline
   pub begins : TakesWord pieces (record { word = statement_text w; list = own }) rest
 
--- the records are a statement that begins with no known word
+-- the records are a statement that begins with an unknown word
 pub record IsUnknown (records : Lines) : Type 0 where
   pub pieces : List Piece
   pub inline : Lines
@@ -218,13 +219,13 @@ pub record IsUnknown (records : Lines) : Type 0 where
   pub unknown : (w : StatementWord) (own : Option Text) (rest : List Piece)
       → ¬ TakesWord pieces (record { word = statement_text w; list = own }) rest
 
--- The records are this statement, and nothing is at fault.
+-- The records are this statement, and have no fault.
 abbrev pub IsGoodStatement : Option Begun → Lines → Lines → Statement → Type 0
 IsGoodStatement current later records s = (w : StatementWord) × (own : Option Text) × (rest : List Piece)
     × (inline : Lines)
     × IsKnown records w own rest inline × IsGood current later w own rest inline s
 
--- What is at fault with a statement. Its form (BadStatementForm) and its word (UnknownStatementWord) come first.
+-- What is wrong with a statement. Its form (BadStatementForm) and its word (UnknownStatementWord) come first.
 abbrev pub IsStatementFault : Option Begun → Lines → Lines → StatementCode → Type 0
 IsStatementFault current later records BadStatementForm = (why : StFault) × IsStFault records why
 IsStatementFault current later records UnknownStatementWord = IsUnknown records
@@ -232,15 +233,15 @@ IsStatementFault current later records code = (w : StatementWord) × (own : Opti
     × (inline : Lines)
     × IsKnown records w own rest inline × IsFault current later w own rest inline code
 
--- Behind c, the records that count from n begin with these statements. They make d, and the rest follows, which counts
--- from m.
+-- After c, the records that count from n begin with these statements. The statements make d, and the rest follows,
+-- which counts from m.
 abbrev pub BeginsWithStatements : SoFar → ℕ → Lines → List Statement → SoFar → ℕ → Lines → Type 0
 BeginsWithStatements c n records [] d m rest = (c ≡ d) × (n ≡ m) × (records ≡ rest)
 BeginsWithStatements c n records (s ∷ ss) d m rest =
     (g : Group) × (next : ℕ) × (later : Lines) × TakesGroup n records g next later
     × IsGoodStatement c.current later g.records s × BeginsWithStatements (after c s) next later ss d m rest
 
--- The file is these items.
+-- The file consists of these items.
 abbrev pub IsPtfin : List ℕ → List Item → Type 0
 IsPtfin bytes items = (records : Lines) × (ss : List Statement) × (d : SoFar) × (m : ℕ)
     × HasRecords bytes records × BeginsWithStatements nothing 1 records ss d m [] × (items ≡ items_of d)
@@ -257,12 +258,12 @@ IsFileFault bytes fault =
     ⊎ ((fault.code ≡ WrongPlace) × (fault.number ≡ 1) × (records : Lines) × HasRecords bytes records
     × IsTrue (starts_outside records))
 
--- The next statement, behind those that make c, is at fault.
+-- After the statements that make c, the next one has a fault.
 abbrev pub IsNextFault : SoFar → ℕ → Lines → McsFault → Type 0
 IsNextFault c n records fault = (g : Group) × (next : ℕ) × (later : Lines) × TakesGroup n records g next later
     × (fault.number ≡ g.number) × IsStatementFault c.current later g.records fault.code
 
--- The first fault of the file: of its records, or of the statement behind good ones.
+-- The first fault of the file: of its records, or of the first statement that is not good.
 abbrev pub IsPtfinFault : List ℕ → McsFault → Type 0
 IsPtfinFault bytes fault = IsFileFault bytes fault
     ⊎ ((records : Lines) × (ss : List Statement) × (d : SoFar) × (m : ℕ) × (rest : Lines)

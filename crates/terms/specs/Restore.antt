@@ -25,7 +25,7 @@ pub record Restoring : Type 0 where
   pub zone : Zone
   pub accepted : Zone
 
--- ELEM: the other SYSMOD y, which is applied and not accepted, has a change for an element that x changes too
+-- ELEM: the other SYSMOD y is applied and not accepted, and changes an element that x changes too
 pub record NeedsElem (r : Restoring) (x y : Id) : Type 0 where
   pub other : y ≢ x
   pub applied : IsTrue (is_applied r.zone y)
@@ -36,7 +36,8 @@ pub record NeedsElem (r : Restoring) (x y : Id) : Type 0 where
 abbrev pub is_supplied_outside : Restoring → (Id → Bool) → Id → Bool
 is_supplied_outside r listed z = list_any (λ p. not (listed p) && supplies r.zone p z) (applied_ids r.zone)
 
--- DEP: y is another, applied, and has x as FMID or a requisite that x supplies and none outside the list
+-- DEP: y is another applied SYSMOD, and its FMID is x, or x supplies a requisite of y that no SYSMOD outside the list
+-- supplies
 pub record NeedsDep (r : Restoring) (listed : Id → Bool) (x y : Id) : Type 0 where
   pub other : y ≢ x
   pub applied : IsTrue (is_applied r.zone y)
@@ -44,32 +45,32 @@ pub record NeedsDep (r : Restoring) (listed : Id → Bool) (x y : Id) : Type 0 w
       ⊎ Any (λ z. IsTrue (supplies r.zone x z) × IsFalse (is_supplied_outside r listed z))
       (binding_ids r.choice r.zone (is_applied r.zone) y)
 
--- what an applied x needs, with the list as it is
+-- what an applied x needs, given the list
 abbrev pub NeedsInRestore : Restoring → (Id → Bool) → Id → NeedKind → Id → Type 0
 NeedsInRestore r listed x Elem y = IsTrue (is_applied r.zone x) × NeedsElem r x y
 NeedsInRestore r listed x Dep y = IsTrue (is_applied r.zone x) × NeedsDep r listed x y
 NeedsInRestore r listed x _ y = ⊥
 
--- The set holds GROUP's ids and what its members need.
+-- The set contains GROUP's ids and what its members need.
 pub record IsClosedList (r : Restoring) (ids : List Id) (listed : Id → Bool) : Type 0 where
   pub start : (x : Id) → Contains ids x → IsTrue (listed x)
   pub grown : (x y : Id) (kind : NeedKind) → IsTrue (listed x) → NeedsInRestore r listed x kind y → IsTrue (listed y)
 
--- the list: SELECT's ids, or what all closed sets of GROUP share
+-- the list: SELECT's ids, or what all closed sets of GROUP have in common
 abbrev pub IsListed : Restoring → RestoreList → Id → Type 0
 IsListed r (RestoreSelect ids) x = Contains ids x
 IsListed r (RestoreGroup ids) x = (listed : Id → Bool) → IsClosedList r ids listed → IsTrue (listed x)
 
--- the list, rising
+-- the list, in rising order
 pub record AreListed (r : Restoring) (what : RestoreList) (ids : List Id) : Type 0 where
   pub rising : IsRising ids
   pub members : (x : Id) → Contains ids x ↔ IsListed r what x
 
--- The applied ids of the list are candidates, the others get NOTAPPLIED.
+-- The applied ids of the list are candidates. The others get NOTAPPLIED.
 abbrev pub restore_candidates : Restoring → List Id → List Id
 restore_candidates r ids = filter (is_applied r.zone) ids
 
--- AlreadyAccepted: the distribution zone supplies it, so it is accepted
+-- AlreadyAccepted: the distribution zone supplies it
 abbrev pub IsAlreadyAccepted : Restoring → Id → Type 0
 IsAlreadyAccepted r x = IsTrue (is_supplied r.accepted x)
 
@@ -94,8 +95,8 @@ are_alike a b e = not (list_any (λ y. not (is_alike a b y)) (e.rmid ∷ e.umids
 abbrev pub may_return : Restoring → Element → Bool
 may_return r e = are_applied r.zone e && are_alike r.zone r.accepted e
 
--- OtherLevel: the distribution zone has an element of it under an FMID, an RMID or a UMID that the target zone has
--- not applied, or under an RMID or a UMID that the zones have applied by two ++VERs
+-- OtherLevel: the distribution zone has an element of it under an FMID, an RMID or a UMID that the target zone has not
+-- applied, or under an RMID or a UMID that the two zones have applied by different ++VERs
 abbrev pub ChangesOtherLevel : Restoring → Id → Type 0
 ChangesOtherLevel r x =
     Any (λ h. IsFalse (option_map_or (may_return r) (element_of r.accepted h.elem_type h.name) true))
@@ -108,17 +109,17 @@ FailsRestore r x HasDelete = ComesWithDelete r x
 FailsRestore r x OtherLevel = ChangesOtherLevel r x
 FailsRestore r x _ = ⊥
 
--- a candidate that passes them
+-- a candidate that passes these tests
 pub record MayBeRestored (r : Restoring) (ids : List Id) (x : Id) : Type 0 where
   pub cand : Contains (restore_candidates r ids) x
   pub passes : (test : Test) → ¬ FailsRestore r x test
 
--- x is taken off: it is in a set of these that supports itself
+-- x is taken off: some set of such candidates that supports itself contains it
 abbrev pub IsRestored : Restoring → List Id → Id → Type 0
 IsRestored r ids x = StaysKept (MayBeRestored r ids) (NeedsInRestore r (is_in ids)) (Serves r.choice) x
 
--- The target zone afterwards. A kept SYSMOD is applied no more, waives nothing and leaves every SUPBY. The elements of
--- what is taken off are the distribution zone's, or go where it has none.
+-- The target zone afterwards. A kept SYSMOD is no longer applied, waives nothing and leaves every SUPBY. The elements
+-- that the removed SYSMODs change become those of the distribution zone, or go if it has none.
 pub record Restores (r : Restoring) (kept : List Id) (new : Zone) : Type 0 where
   pub rest : new ≡ record r.zone { entries = new.entries; elements = new.elements }
   pub is_zone : IsZone new

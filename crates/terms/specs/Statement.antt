@@ -6,7 +6,7 @@ use Rattle.terms.specs.Types.{Text}
 use Rattle.terms.specs.Records.{front}
 use Rattle.terms.specs.Forms.{is_word_byte}
 
--- Columns 1 to 72 of the records, each behind one blank.
+-- Columns 1 to 72 of the records, each after one blank.
 abbrev pub followed : List (List ℕ) → Text
 followed records = flat_map (λ r. 32 ∷ front r) records
 
@@ -15,7 +15,7 @@ abbrev pub joined : List (List ℕ) → Text
 joined [] = []
 joined (r ∷ rs) = front r ++ followed rs
 
--- A part of a text outside parentheses: a word, parentheses with what is in them, a blank or a comma, a comment, or any
+-- A part of a text outside parentheses: a word, parentheses with their contents, a blank or a comma, a comment, or any
 -- other character.
 pub data Piece : Type 0 where
   TheWord : Text → Piece
@@ -28,7 +28,7 @@ pub data Piece : Type 0 where
 abbrev pub is_blank : ℕ → Bool
 is_blank b = b == 32 || b == 44
 
--- a character that stands in no word and is no blank, parenthesis or period
+-- a character that belongs to no word and is not a blank, a parenthesis or a period
 abbrev pub is_stray : ℕ → Bool
 is_stray b = not (is_word_byte b || is_blank b || b == 40 || b == 41 || b == 46)
 
@@ -36,7 +36,7 @@ is_stray b = not (is_word_byte b || is_blank b || b == 40 || b == 41 || b == 46)
 abbrev pub IsWord : Text → Type 0
 IsWord text = (0 < length text) × All (λ b. IsTrue (is_word_byte b)) text
 
--- no word character comes first
+-- the text does not begin with a word character
 abbrev pub BeginsNoWord : Text → Type 0
 BeginsNoWord [] = Unit {0}
 BeginsNoWord (b ∷ bs) = is_word_byte b ≡ false
@@ -46,8 +46,8 @@ abbrev pub behind_close : Text → Option Text
 behind_close [] = None
 behind_close (b ∷ bs) = if b == 42 && slice_index bs 0 == 47 then Some (drop 1 bs) else behind_close bs
 
--- What follows the parenthesis that closes a list, inside which one more may be open. None: there is none, or a third
--- one opens.
+-- The text after the parenthesis that closes a list, inside which one more may be open. None if there is no such
+-- parenthesis, or if a third one opens.
 abbrev pub behind_list : Bool → Text → Option Text
 behind_list inner [] = None
 behind_list inner (b ∷ bs) =
@@ -55,7 +55,7 @@ behind_list inner (b ∷ bs) =
     else if b == 41 then (if inner then behind_list false bs else Some bs)
     else behind_list inner bs
 
--- The text begins with the piece, which goes as far as it can. Inside parentheses `/*` is plain text.
+-- The text begins with the piece, which is as long as it can be. Inside parentheses `/*` is plain text.
 abbrev pub TakesPiece : Text → Piece → Text → Type 0
 TakesPiece text (TheWord word) after = (text ≡ word ++ after) × IsWord word × BeginsNoWord after
 TakesPiece text (TheList list) after = (text ≡ 40 ∷ list ++ 41 ∷ after)
@@ -64,7 +64,7 @@ TakesPiece text Blank after = (b : ℕ) × (text ≡ b ∷ after) × IsTrue (is_
 TakesPiece text Comment after = (inside : Text) × (text ≡ 47 ∷ 42 ∷ inside) × (behind_close inside ≡ Some after)
 TakesPiece text (Stray b) after = (text ≡ b ∷ after) × IsTrue (is_stray b) × (b ≡ 47 → slice_index after 0 ≢ 42)
 
--- The text begins with these pieces, and the rest follows. No period is among them.
+-- The text begins with these pieces, and the rest follows. None of the pieces is a period.
 abbrev pub HasPieces : Text → List Piece → Text → Type 0
 HasPieces text [] rest = text ≡ rest
 HasPieces text (p ∷ ps) rest = (after : Text) × TakesPiece text p after × HasPieces after ps rest
@@ -89,7 +89,7 @@ IsIdle text = (ps : List Piece) × HasPieces text ps [] × (solid ps ≡ [])
 abbrev pub HasSolid : Text → List Piece → Type 0
 HasSolid text pieces = (ps : List Piece) × (rest : Text) × HasPieces text ps (46 ∷ rest) × (pieces ≡ solid ps)
 
--- A place in the records: behind these ones it is in one whose columns 1 to 72 end in the line, and the later ones
+-- A place in the records: after these ones it is in a record whose columns 1 to 72 end in the line, and the later ones
 -- follow.
 pub record IsPlace (records before : List (List ℕ)) (line : Text) (later : List (List ℕ)) : Type 0 where
   pub at : List ℕ
@@ -97,7 +97,7 @@ pub record IsPlace (records before : List (List ℕ)) (line : Text) (later : Lis
   pub records_are : records ≡ before ++ at ∷ later
   pub line_is : front at ≡ head ++ line
 
--- The pieces go up to the first period. The tail stands behind it in its record, and the later records are inline text.
+-- The pieces go up to the first period. The tail follows it in its record, and the later records are inline text.
 pub record Ends (records : List (List ℕ)) (pieces : List Piece) (tail : Text) (inline : List (List ℕ)) : Type 0 where
   pub before : List (List ℕ)
   pub place : IsPlace records before (46 ∷ tail) inline
@@ -108,8 +108,8 @@ abbrev pub IsStatement : List (List ℕ) → List Piece → List (List ℕ) → 
 IsStatement records pieces inline =
     (ps : List Piece) × (tail : Text) × Ends records ps tail inline × IsIdle tail × (pieces ≡ solid ps)
 
--- NoPeriod: nothing ends it. OpenComment: a comment stays open. BadParens: a parenthesis without its partner, or a
--- third level of them. TextAfterPeriod: more than gaps stand behind its period.
+-- NoPeriod: nothing ends it. OpenComment: a comment is not closed. BadParens: a parenthesis lacks its partner, or there
+-- is a third level of them. TextAfterPeriod: more than gaps follow its period.
 pub data StFault : Type 0 where
   NoPeriod : StFault
   OpenComment : StFault
@@ -120,12 +120,11 @@ pub data StFault : Type 0 where
 abbrev pub OpensComment : Text → Type 0
 OpensComment text = (inside : Text) × (text ≡ 47 ∷ 42 ∷ inside) × (behind_close inside ≡ None)
 
--- A closing parenthesis comes that none opened, or an opening one that has no good closing one.
+-- There is a closing parenthesis that none opened, or an opening one without a good closing one.
 abbrev pub BreaksPairs : Text → Type 0
 BreaksPairs text = (after : Text) × ((text ≡ 41 ∷ after) ⊎ ((text ≡ 40 ∷ after) × (behind_list false after ≡ None)))
 
--- After these pieces the records have no period, an open comment, or bad parentheses. Or their period has text after
--- it.
+-- After these pieces the records have no period, an open comment or bad parentheses. Or text follows their period.
 abbrev pub BreaksOff : List (List ℕ) → List Piece → StFault → Type 0
 BreaksOff records ps NoPeriod = HasPieces (joined records) ps []
 BreaksOff records ps OpenComment = (rest : Text) × HasPieces (joined records) ps rest × OpensComment rest
@@ -133,6 +132,6 @@ BreaksOff records ps BadParens = (rest : Text) × HasPieces (joined records) ps 
 BreaksOff records ps TextAfterPeriod = (tail : Text) × (inline : List (List ℕ)) × Ends records ps tail inline
     × (IsIdle tail → ⊥)
 
--- the fault of the records, behind good pieces
+-- the fault of the records, after good pieces
 abbrev pub IsStFault : List (List ℕ) → StFault → Type 0
 IsStFault records why = (ps : List Piece) × BreaksOff records ps why

@@ -37,7 +37,7 @@ changed_type word.UpdateMac = Some Mac
 changed_type word.UpdateSrc = Some Src
 changed_type _ = None
 
--- What one statement of PTFIN says. A ++VER stands here without its ++IFs.
+-- What one statement of PTFIN says. A ++VER is without its ++IFs here.
 pub data Statement : Type 0 where
   SaysHeader : Kind → Id → Statement
   SaysVer : Ver → Statement
@@ -53,7 +53,7 @@ IsHeaderOf own operands id = HasOwn IsId own id × (operands ≡ [])
 abbrev pub ver_operands : List Text
 ver_operands = codes "FMID" ∷ codes "PRE" ∷ codes "REQ" ∷ codes "SUP" ∷ codes "NPRE" ∷ codes "DELETE" ∷ []
 
--- A function may do without FMID, and it alone has NPRE and DELETE.
+-- A function needs no FMID, and only a function has NPRE and DELETE.
 abbrev pub SuitsKind : Kind → List Word → Type 0
 SuitsKind Function operands = Unit {0}
 SuitsKind _ operands =
@@ -64,8 +64,7 @@ SuitsKind _ operands =
 abbrev pub lists_of : Ver → List (List Id)
 lists_of v = v.pre ∷ v.req ∷ v.sup ∷ v.npre ∷ v.del ∷ []
 
--- ++VER(srel) [FMID(id)] [PRE(ids)] [REQ(ids)] [SUP(ids)] [NPRE(ids)] [DELETE(ids)], where no operand names the SYSMOD
--- itself
+-- ++VER(srel) [FMID(id)] [PRE(ids)] [REQ(ids)] [SUP(ids)] [NPRE(ids)] [DELETE(ids)]; no operand names the SYSMOD itself
 pub record IsVerOf (s : Sysmod) (own : Option Text) (operands : List Word) (v : Ver) : Type 0 where
   pub srel : HasOwn IsSrel own v.srel
   pub are_operands : AreOperands ver_operands operands
@@ -80,7 +79,7 @@ pub record IsVerOf (s : Sysmod) (own : Option Text) (operands : List Word) (v : 
   pub others : All (λ ids. ¬ Contains ids s.id) (lists_of v)
   pub no_ifs : v.ifs ≡ []
 
--- ++IF FMID(id) THEN REQ(ids): no other order will do. The FMID may be the SYSMOD itself; the list does not name it.
+-- ++IF FMID(id) THEN REQ(ids), in this order only. The FMID may be the SYSMOD itself. The list does not name it.
 pub record IsIfOf (s : Sysmod) (own : Option Text) (operands : List Word) (i : IfReq) : Type 0 where
   pub fmid : Word
   pub req : Word
@@ -92,14 +91,14 @@ pub record IsIfOf (s : Sysmod) (own : Option Text) (operands : List Word) (i : I
   pub ids : HasSorted IsId req i.req
   pub others : ¬ Contains i.req s.id
 
--- ++HOLD inside a SYSMOD: a SYSTEM hold of its own, which is internal
+-- ++HOLD inside a SYSMOD: an internal SYSTEM hold on the SYSMOD itself
 pub record IsOwnHoldOf (s : Sysmod) (own : Option Text) (operands : List Word) (h : Hold) : Type 0 where
   pub hold : IsHoldOf own operands h
   pub kind : h.kind ≡ System
   pub own_id : h.id ≡ s.id
   pub internal : IsTrue h.internal
 
--- ++ASSIGN SOURCEID(source) TO(ids), the ids as they stand
+-- ++ASSIGN SOURCEID(source) TO(ids), the ids in the order of the statement
 pub record IsAssignOf (own : Option Text) (operands : List Word) (a : Assign) : Type 0 where
   pub no_list : own ≡ None
   pub are_operands : AreOperands (codes "SOURCEID" ∷ codes "TO" ∷ []) operands
@@ -123,7 +122,7 @@ pub record IsChangeOf (w : StatementWord) (own : Option Text) (operands : List W
   pub name : HasOwn IsName own c.name
   pub action : HasAction w operands inline c.action
 
--- What the statement of this word says behind a SYSMOD's statements, or outside a SYSMOD.
+-- What the statement of this word says after a SYSMOD's statements, or outside a SYSMOD.
 abbrev pub Says : Option Sysmod → StatementWord → Option Text → List Word → Lines → Statement → Type 0
 Says current w own operands inline (SaysHeader kind id) = (w ≡ word.Header kind) × IsHeaderOf own operands id
 Says current w own operands inline (SaysVer v) = (w ≡ word.Ver) × IsSomeAnd current (λ s. IsVerOf s own operands v)

@@ -1,6 +1,6 @@
--- The tests that a candidate of APPLY or ACCEPT passes or fails before any need of it is looked at.
--- (IBM z/OS SMP/E Commands, APPLY and ACCEPT processing, and BYPASS; Reference, ++HOLD, NPRE and DELETE of ++VER.
--- Their order and numbers are this project's profile.)
+-- The tests that a candidate of APPLY or ACCEPT passes or fails before its needs are considered. (IBM z/OS SMP/E
+-- Commands, APPLY and ACCEPT processing, and BYPASS; Reference, ++HOLD, NPRE and DELETE of ++VER. Their order and
+-- numbers are this project's profile.)
 use Rattle.std.specs.Prelude.{◌≡◌, ◌≢◌, ◌⊎◌, ◌↔◌, ◌≤◌, ◌&&◌, ◌||◌, Bool, true, false, not, List, [], ◌∷◌, Option, None}
 use Rattle.std.specs.Prelude.{Some, filter, length, IsTrue, IsFalse, Contains}
 use Rattle.std.specs.Option.{option_map_or}
@@ -19,7 +19,7 @@ use Rattle.terms.specs.Over.{IsOver, owner}
 use Rattle.terms.specs.Changes.{has_replacement, has_update}
 use Rattle.terms.specs.Deleted.{is_deleted, view}
 
--- what an APPLY or ACCEPT looks at: for ACCEPT the related target zone too, where there is one
+-- what an APPLY or ACCEPT looks at: ACCEPT also at the related target zone, if there is one
 pub record Setting : Type 0 where
   pub global : Global
   pub choice : Choice
@@ -50,19 +50,20 @@ reasons_of b User = b.holduser
 abbrev pub is_bypassed_hold : Bypass → Hold → Bool
 is_bypassed_hold b h = covers (reasons_of b h.kind) h.reason || option_map_or (is_in b.holdclass) h.class false
 
--- the holds of a kind that stand against it
+-- the holds of a kind that keep it off
 abbrev pub standing_holds : Setting → HoldKind → Id → List Hold
 standing_holds s kind x = filter (λ h. not (is_bypassed_hold s.bypass h)) (holds_of s.global kind x)
 
--- HeldBySystem: a SYSTEM hold stands against it
+-- HeldBySystem: a SYSTEM hold keeps it off
 abbrev pub IsHeldBySystem : Setting → Id → Type 0
 IsHeldBySystem s x = standing_holds s System x ≢ []
 
--- HeldByUser: a USER hold stands against it
+-- HeldByUser: a USER hold keeps it off
 abbrev pub IsHeldByUser : Setting → Id → Type 0
 IsHeldByUser s x = standing_holds s User x ≢ []
 
--- ForbiddenByNpre: its NPRE names what is applied in its view, or the NPRE of a function that is applied there names it
+-- ForbiddenByNpre: its NPRE names a SYSMOD that is applied in its view, or the NPRE of a function that is applied there
+-- names it
 abbrev pub IsForbiddenByNpre : Setting → Id → Type 0
 IsForbiddenByNpre s x = (y : Id) × IsTrue (is_applied (view_of s x) y)
     × (Contains (npre_of s.choice x) y ⊎ (IsTrue (is_function s.global y) × Contains (npre_of s.choice y) x))
@@ -76,8 +77,8 @@ ChangesInView s x e = (type : ElemType) × (name : Text)
 abbrev pub ChangesOwnedByAnother : Setting → Id → Type 0
 ChangesOwnedByAnother s x = (e : Element) × ChangesInView s x e × (e.fmid ≢ owner_of s x)
 
--- Regression: an element that it changes has an RMID or UMID in its view that it is not over; BYPASS(ID) leaves
--- this test out
+-- Regression: an element that it changes has in its view an RMID or UMID that it is not over. BYPASS(ID) leaves this
+-- test out.
 abbrev pub Regresses : Setting → Id → Type 0
 Regresses s x = IsFalse s.bypass.same_id
     × ((e : Element) × (z : Id) × ChangesInView s x e × Contains (e.rmid ∷ e.umids) z × ¬ IsOver s.choice x z)
@@ -87,13 +88,13 @@ abbrev pub has_candidate_base : Setting → Id → ElemType → Text → Bool
 has_candidate_base s x type name =
     option_map_or (λ f. is_in s.cands f && has_replacement s.global f type name) (fmid_of s.choice x) false
 
--- NothingToUpdate: it has an update for what its view lacks, and no replacement of that comes with its FMID as a
--- candidate
+-- NothingToUpdate: it updates an element that its view lacks, and no replacement of the element comes with its FMID as
+-- a candidate
 abbrev pub HasNothingToUpdate : Setting → Id → Type 0
 HasNothingToUpdate s x = (type : ElemType) × (name : Text) × IsTrue (has_update s.global x type name)
     × (element_of (view_of s x) type name ≡ None) × IsFalse (has_candidate_base s x type name)
 
--- NotInTarget, for ACCEPT: no related target zone has applied it; BYPASS(APPLYCHECK) leaves this test out
+-- NotInTarget, for ACCEPT: no related target zone has applied it. BYPASS(APPLYCHECK) leaves this test out.
 abbrev pub IsNotInTarget : Setting → Id → Type 0
 IsNotInTarget s x =
     (s.zone.kind ≡ Distribution)
@@ -104,7 +105,7 @@ IsNotInTarget s x =
 abbrev pub HasSeveralFit : Setting → Id → Type 0
 HasSeveralFit s x = 2 ≤ length (filter (fits s.zone (is_in s.cands)) (vers_of s.global s.zone.srel x))
 
--- It fails a test that looks at it alone.
+-- It fails a test that looks only at the candidate itself.
 abbrev pub FailsAlone : Setting → Id → Test → Type 0
 FailsAlone s x HeldBySystem = IsHeldBySystem s x
 FailsAlone s x HeldByUser = IsHeldByUser s x
@@ -120,12 +121,12 @@ FailsAlone s x _ = ⊥
 abbrev pub PassesAlone : Setting → Id → Type 0
 PassesAlone s x = Contains s.cands x × ((test : Test) → ¬ FailsAlone s x test)
 
--- ChainDeleted: among those that pass these, a DELETE names it or an id of its chain; that DELETE may be its own
+-- ChainDeleted: a DELETE of those that pass these tests names it or an id of its chain; the DELETE may be its own
 abbrev pub IsChainDeleted : Setting → Id → Type 0
 IsChainDeleted s x = PassesAlone s x
     × ((y : Id) × PassesAlone s y × IsTrue (is_deleted s.global s.choice (del_of s.choice y) x))
 
--- a survivor: it passes these, and no DELETE takes it
+-- a survivor: it passes these tests, and no DELETE takes it out
 abbrev pub Survives : Setting → Id → Type 0
 Survives s x = PassesAlone s x × ¬ IsChainDeleted s x
 
@@ -139,11 +140,11 @@ abbrev pub ShareElement : Global → Id → Id → Type 0
 ShareElement g x y = (type : ElemType) × (name : Text) × IsTrue (has_change g x type name)
     × IsTrue (has_change g y type name)
 
--- they have two owners, or over does not order them
+-- they have two owners, or neither is over the other
 abbrev pub MayNotShare : Setting → Id → Id → Type 0
 MayNotShare s x y = (owner_of s x ≢ owner_of s y) ⊎ ((¬ IsOver s.choice x y) × (¬ IsOver s.choice y x))
 
--- one names the other in NPRE, or they stand apart and share an element
+-- one names the other in NPRE, or they are unordered and share an element
 abbrev pub Clash : Setting → Id → Id → Type 0
 Clash s x y =
     Contains (npre_of s.choice x) y ⊎ Contains (npre_of s.choice y) x ⊎ (ShareElement s.global x y × MayNotShare s x y)
@@ -152,11 +153,11 @@ Clash s x y =
 abbrev pub IsInClash : Setting → Id → Type 0
 IsInClash s x = Survives s x × ((y : Id) × Survives s y × (x ≢ y) × Clash s x y)
 
--- a survivor that clashes with none
+-- a survivor that clashes with no other one
 abbrev pub IsEligible : Setting → Id → Type 0
 IsEligible s x = Survives s x × ¬ IsInClash s x
 
--- a candidate of APPLY or ACCEPT fails the test; three tests are RESTORE's alone
+-- a candidate of APPLY or ACCEPT fails the test; RESTORE has three tests of its own
 abbrev pub Fails : Setting → Id → Test → Type 0
 Fails s x ChainDeleted = IsChainDeleted s x
 Fails s x InClash = IsInClash s x

@@ -22,7 +22,7 @@ Id = List ℕ
 abbrev pub Lines : Type 0
 Lines = List (List ℕ)
 
--- the numbers by which kinds and types are told apart and ordered
+-- the numbers that tell kinds and types apart and order them
 abbrev pub kind_number : Kind → ℕ
 kind_number Function = 0
 kind_number Ptf = 1
@@ -47,7 +47,7 @@ abbrev pub zone_number : ZoneKind → ℕ
 zone_number Target = 0
 zone_number Distribution = 1
 
--- the kinds that rules single out
+-- the kinds that rules mention by name
 abbrev pub is_function_kind : Kind → Bool
 is_function_kind Function = true
 is_function_kind Ptf = false
@@ -83,7 +83,7 @@ pub record Ver : Type 0 where
   pub del : List Id
   pub ifs : List IfReq
 
--- ++HOLD. Its key is id, kind and reason. It is internal if it came inside a SYSMOD.
+-- ++HOLD. Its key is its id, kind and reason. It is internal if it came inside a SYSMOD.
 pub record Hold : Type 0 where
   pub id : Id
   pub kind : HoldKind
@@ -105,7 +105,7 @@ pub record Change : Type 0 where
   pub name : Text
   pub action : Action
 
--- a SYSMOD. Its internal holds stand here while it is read, and in the global zone they stand among the holds.
+-- A SYSMOD. While it is read its internal holds are here; in the global zone they are among the holds.
 pub record Sysmod : Type 0 where
   pub id : Id
   pub kind : Kind
@@ -122,8 +122,8 @@ pub record Global : Type 0 where
 abbrev pub a_global : List Sysmod → List Hold → Global
 a_global sysmods holds = record { sysmods = sysmods; holds = holds }
 
--- that a zone has applied a SYSMOD: the date of APPLY or ACCEPT, and the number of the ++VER that counted, among those
--- of the SYSMOD for the zone's SREL
+-- A zone has applied a SYSMOD: the date of APPLY or ACCEPT, and the number of the ++VER that counted, among those of
+-- the SYSMOD for the zone's SREL.
 pub record Applied : Type 0 where
   pub date : Text
   pub number : ℕ
@@ -167,7 +167,7 @@ pub record NamedZone : Type 0 where
   pub name : Text
   pub zone : Zone
 
--- ++ASSIGN: the ids stand as the statement has them
+-- ++ASSIGN: the ids in the order of the statement
 pub record Assign : Type 0 where
   pub source : Text
   pub to : List Id
@@ -189,13 +189,13 @@ pub data HoldItem : Type 0 where
   AHold : Hold → HoldItem
   ARelease : Release → HoldItem
 
--- the reasons that HOLDERROR, HOLDSYSTEM or HOLDUSER cover: none, all, or the listed ones
+-- the reasons that HOLDERROR, HOLDSYSTEM or HOLDUSER cover: none, all, or those in the list
 pub data Reasons : Type 0 where
   NoReason : Reasons
   AnyReason : Reasons
   TheseReasons : List Text → Reasons
 
--- BYPASS, with nothing in it where the command has none (`ID` is `same_id`)
+-- BYPASS, which is empty if the command has none (`ID` is `same_id`)
 pub record Bypass : Type 0 where
   pub pre : Bool
   pub req : Bool
@@ -207,7 +207,7 @@ pub record Bypass : Type 0 where
   pub holduser : Reasons
   pub holdclass : List Text
 
--- what APPLY and ACCEPT choose: an operand that is absent is an empty list
+-- what APPLY and ACCEPT choose: an absent operand is an empty list
 pub record Selection : Type 0 where
   pub functions : Bool
   pub ptfs : Bool

@@ -18,23 +18,23 @@ list_pieces (Some list) = TheList list ∷ []
 abbrev pub word_pieces : Word → List Piece
 word_pieces w = TheWord w.word ∷ list_pieces w.list
 
--- The pieces, gaps left out, are these words and nothing else: no other character, and no list without a word before
+-- The pieces, without the gaps, are these words and nothing else: no other character, and no list without a word before
 -- it.
 abbrev pub HasWords : List Piece → List Word → Type 0
 HasWords pieces words = pieces ≡ flat_map word_pieces words
 
--- no list comes first
+-- the pieces do not begin with a list
 abbrev pub BeginsNoList : List Piece → Type 0
 BeginsNoList [] = Unit {0}
 BeginsNoList (TheList list ∷ ps) = ⊥
 BeginsNoList (_ ∷ ps) = Unit {0}
 
--- The pieces begin with the word and its list. Where it has none, none follows.
+-- The pieces begin with the word and its list. If it has no list, none follows.
 pub record TakesWord (pieces : List Piece) (w : Word) (rest : List Piece) : Type 0 where
   pub pieces_are : pieces ≡ word_pieces w ++ rest
   pub ends : w.list ≡ None → BeginsNoList rest
 
--- They begin with no word: with a list, or with another character.
+-- They do not begin with a word, but with a list or another character.
 abbrev pub BeginsNoWords : List Piece → Type 0
 BeginsNoWords [] = ⊥
 BeginsNoWords (TheWord word ∷ ps) = ⊥
@@ -47,29 +47,29 @@ is_member_byte b = not (b == 32 || b == 44 || b == 40 || b == 41)
 abbrev pub is_inner_byte : ℕ → Bool
 is_inner_byte b = not (b == 40 || b == 41)
 
--- nothing, or a character first that fails the test
+-- nothing follows, or a character that fails the test
 abbrev pub Stops : (ℕ → Bool) → Text → Type 0
 Stops test [] = Unit {0}
 Stops test (b ∷ bs) = test b ≡ false
 
--- The text begins with the word, which goes as far as its characters do.
+-- The text begins with the word, which is as long as its characters allow.
 pub record TakesRun (text word after : Text) : Type 0 where
   pub text_is : text ≡ word ++ after
   pub some : 0 < length word
   pub each : All (λ b. is_member_byte b ≡ true) word
   pub ends : Stops is_member_byte after
 
--- A list comes, or blanks and a list.
+-- A list follows, perhaps after blanks.
 abbrev pub BeginsInner : Text → Type 0
 BeginsInner text = (gap rest : Text) × AreBlanks gap × (text ≡ gap ++ 40 ∷ rest)
 
--- a member's own list, where it has one
+-- a member's own list, if it has one
 abbrev pub TakesInner : Text → Option Text → Text → Type 0
 TakesInner text None after = (text ≡ after) × (BeginsInner text → ⊥)
 TakesInner text (Some list) after =
     (gap : Text) × AreBlanks gap × All (λ b. is_inner_byte b ≡ true) list × (text ≡ gap ++ (40 ∷ list ++ 41 ∷ after))
 
--- a member with its own list, which is one of BYPASS alone
+-- a member with its own list, which only BYPASS has
 abbrev pub TakesMember : Text → Word → Text → Type 0
 TakesMember text m after = (behind : Text) × TakesRun text m.word behind × TakesInner behind m.list after
 
@@ -78,16 +78,16 @@ abbrev pub IsSeparator : Text → Type 0
 IsSeparator text = ((0 < length text) × AreBlanks text)
     ⊎ ((left right : Text) × (text ≡ left ++ 44 ∷ right) × AreBlanks left × AreBlanks right)
 
--- what stands before the first member, and before a later one
+-- what precedes the first member, and what precedes a later one
 abbrev pub IsBefore : Bool → Text → Type 0
 IsBefore true gap = AreBlanks gap
 IsBefore false gap = IsSeparator gap
 
--- the first member, or a later one, with what stands before it
+-- the first member, or a later one, with what precedes it
 abbrev pub TakesNext : Bool → Text → Word → Text → Type 0
 TakesNext first text m after = (gap next : Text) × (text ≡ gap ++ next) × IsBefore first gap × TakesMember next m after
 
--- The text behind a member has these further ones.
+-- After a member the text has these further ones.
 abbrev pub HasMore : Text → List Word → Type 0
 HasMore text [] = AreBlanks text
 HasMore text (m ∷ ms) = (after : Text) × TakesNext false text m after × HasMore after ms

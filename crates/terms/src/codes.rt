@@ -1,6 +1,6 @@
 //! The codes that reports name: tests, needs, commands, and the faults of files.
 
-/// The words that commands begin with.
+/// The words with which commands begin.
 #[derive(Clone, Copy, Debug, PartialEq, Eq, PartialOrd, Ord, Hash)]
 pub enum CommandWord {
     Set,
@@ -16,15 +16,15 @@ pub enum CommandWord {
 /// What is wrong in a PTFIN or hold file, in the order of the codes `Mc1` to `Mc6`.
 #[derive(Clone, Copy, Debug, PartialEq, Eq, PartialOrd, Ord, Hash)]
 pub enum StatementCode {
-    /// A record, or how a statement is built.
+    /// A record, or the form of a statement.
     BadStatementForm,
-    /// The word that it begins with.
+    /// The word with which it begins.
     UnknownStatementWord,
     /// An operand.
     BadStatementOperand,
-    /// Its place among the others.
+    /// Its place among the other statements.
     WrongPlace,
-    /// The text behind it.
+    /// The text after it.
     BadText,
     /// One of the limits.
     OverLimit,
@@ -37,16 +37,16 @@ pub enum CommandCode {
     UnknownCommand,
     /// An operand, or a member of BYPASS.
     BadCommandOperand,
-    /// An operand, or a member of BYPASS, that comes again.
+    /// An operand, or a member of BYPASS, that occurs twice.
     OperandTwice,
-    /// RESTORE with both SELECT and GROUP, or without them.
+    /// RESTORE with both SELECT and GROUP, or with neither.
     NoSingleList,
-    /// A record, or how a command is built.
+    /// A record, or the form of a command.
     BadCommandForm,
 }
 
-/// The tests that a candidate passes or fails, each named for what fails it, in the order of the codes `J1` to `J13`:
-/// `AlreadyAccepted`, `HasDelete` and `OtherLevel` are RESTORE's, the others APPLY's and ACCEPT's.
+/// The tests that a candidate passes or fails, each named for the candidates that fail it, in the order of the codes
+/// `J1` to `J13`. `AlreadyAccepted`, `HasDelete` and `OtherLevel` belong to RESTORE, the others to APPLY and ACCEPT.
 #[derive(Clone, Copy, Debug, PartialEq, Eq, PartialOrd, Ord, Hash)]
 pub enum Test {
     HeldBySystem,
@@ -64,7 +64,7 @@ pub enum Test {
     SeveralFit,
 }
 
-/// What a candidate needs an id for, in the order of reports. ELEM and DEP are RESTORE's.
+/// Why a candidate needs an id, in the order of reports. ELEM and DEP belong to RESTORE.
 #[derive(Clone, Copy, Debug, PartialEq, Eq, PartialOrd, Ord, Hash)]
 pub enum NeedKind {
     Fmid,
@@ -82,9 +82,9 @@ pub enum NeedKind {
 pub enum IdRefusal {
     /// It would close a loop of PRE, SUP and FMID.
     MakesLoop,
-    /// A function would be named where only service may be, or service where only functions may.
+    /// It would name a function where only service is allowed, or service where only a function is.
     WrongRole,
-    /// As many are received as can be.
+    /// No more SYSMODs can be received.
     NoRoom,
     /// No hold has the key.
     NoHold,

@@ -29,7 +29,8 @@ pub enum ElemType {
     Proc,
 }
 
-/// APPLY works on a target zone, what runs; ACCEPT on a distribution zone, the level that RESTORE goes back to.
+/// APPLY works on a target zone, the running system. ACCEPT works on a distribution zone, the level to which RESTORE
+/// goes back.
 #[derive(Clone, Copy, Debug, PartialEq, Eq, PartialOrd, Ord, Hash)]
 pub enum ZoneKind {
     Target,

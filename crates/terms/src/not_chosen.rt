@@ -1,4 +1,4 @@
-//! Why an id that a command names is no candidate of it.
+//! Why an id that a command names is not one of its candidates.
 
 /// The status of an id that a command names and that is not one of its candidates. SELECT and GROUP name an id that is
 /// `Already` supplied, `Deleted`, `Missing` from the global zone, or has `NoVer` for the zone's SREL. RESTORE names an

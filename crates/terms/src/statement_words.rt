@@ -1,4 +1,4 @@
-//! The words that statements begin with.
+//! The words with which statements begin.
 
 use crate::kinds::{ElemType, Kind};
 

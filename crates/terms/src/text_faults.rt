@@ -13,13 +13,13 @@ pub enum TextCode {
     NoChangeRecord,
     /// The CHANGE record names another element.
     OtherElement,
-    /// Another `./` record is no good DELETE record.
+    /// Another `./` record is not a good DELETE record.
     BadDelete,
     /// The number of an update does not rise.
     UpdateOutOfOrder,
 }
 
-/// The first record of a text that is at fault, counted from 1.
+/// The first bad record of a text, counted from 1.
 #[derive(Clone, Copy, Debug, PartialEq, Eq, Error)]
 #[error("record {number} of the text is at fault")]
 pub struct TextFault {

@@ -7,23 +7,23 @@ use Rattle.text80.specs.declared.error.TextError.{TextError}
 use Rattle.text80.specs.declared.error.TextError.TheVariants.{Memory, Fault}
 use Rattle.text80.specs.Ranges.{AreRangesOf}
 
--- The first fault of an update, or want of memory.
+-- The first fault of an update, or that memory ran out.
 abbrev pub IsUpdateError : Text → Lines → TextError → Type 0
 IsUpdateError name records Memory = Unit {0}
 IsUpdateError name records (Fault fault) = IsUpdateFault name records fault
 
--- The first fault of the records behind the CHANGE record, or want of memory.
+-- The first fault of the records after the CHANGE record, or that memory ran out.
 abbrev pub IsRestError : Lines → TextError → Type 0
 IsRestError lines Memory = Unit {0}
 IsRestError lines (Fault fault) = IsFirstFault FollowChange HasRestFault 1 lines fault
 
--- A CHANGE record of this name stands before the rest.
+-- A CHANGE record of this name comes before the rest.
 pub record StandsBefore (name : Text) (records rest : Lines) : Type 0 where
   pub first : List ℕ
   pub records_are : records ≡ first ∷ rest
   pub change : IsChange name first
 
--- good records behind a CHANGE record, and what they delete
+-- good records after a CHANGE record, and what they delete
 pub record AreGood (lines : Lines) (ranges : List Range) : Type 0 where
   pub follow : FollowChange lines
   pub rising : IsNonDecreasingBy (λ r. r.low) ranges

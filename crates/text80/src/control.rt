@@ -12,7 +12,7 @@ pub struct Range {
     pub high: u32,
 }
 
-/// What follows the prefix.
+/// The text after the prefix.
 fn behind<'a>(text: &'a [u8], prefix: &[u8]) -> Option<&'a [u8]>
     ensures some { IfSome result (λ rest. text.now ≡ prefix.now ++ rest.now) }
     ensures none { IfNone result ((rest : List ℕ) → text.now ≢ prefix.now ++ rest) }
@@ -20,7 +20,7 @@ fn behind<'a>(text: &'a [u8], prefix: &[u8]) -> Option<&'a [u8]>
     text.strip_prefix(prefix)
 }
 
-/// The blanks that come first, and the rest.
+/// The leading blanks, and the rest.
 #[tactic(auto, using(crate::proofs::Cuts::cut_prefix, crate::proofs::Cuts::prefix_within))]
 fn split_blanks(text: &[u8]) -> (&[u8], &[u8])
     ensures { IsCut (λ b. b == 32) text.now result.0.now result.1.now }

@@ -3,7 +3,7 @@ use std::alloc::{AllocError, AllocFailed};
 use terms::TextFault;
 use thiserror::Error;
 
-/// Why an update is not read: want of memory, or the fault of its first bad record.
+/// Why an update is not read: memory ran out, or its first bad record has this fault.
 #[derive(Clone, Copy, Debug, PartialEq, Eq, Error)]
 pub enum TextError {
     #[error("out of memory")]

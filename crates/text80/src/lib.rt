@@ -1,6 +1,6 @@
-//! Texts of elements as records of 80 bytes: numbered texts, updates of them, and their merge.
-//! A text or an update is read just where it is one, else its first bad record is told. `merge` is the merge of the two
-//! maps. Seen in the code alone: it is one pass.
+//! Texts of elements as records of 80 bytes: numbered texts, updates of them, and their merge. A text or an update is
+//! read exactly if it is one, otherwise the call returns the first bad record. `merge` is the merge of the two maps. No
+//! contract says that it is one pass. Every call that allocates returns an error if memory runs out.
 #![tactic(auto)]
 
 mod control;

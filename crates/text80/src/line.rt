@@ -9,7 +9,7 @@ use std::marker::Model;
 /// The length of a record.
 pub const RECORD: usize = 80;
 
-/// How many columns of a record hold its text. The others hold its number.
+/// The columns of a record that hold its text. The others hold its number.
 pub(crate) const FRONT: usize = 72;
 
 /// A record of a text.
@@ -42,7 +42,7 @@ impl Line {
         &self.0
     }
 
-    /// The number in columns 73 to 80, if eight digits stand there.
+    /// The number in columns 73 to 80, if these are eight digits.
     pub fn number(&self) -> Option<u32>
         ensures some { IfSome result (λ n. IsNumberedLine self.now × (n ≡ number_of self.now)) }
         ensures bound { IfSome result (λ n. n < 100000000) }
@@ -87,7 +87,7 @@ pub(crate) fn number_in(text: &[u8]) -> Option<u32>
     Some(number)
 }
 
-/// The records that the bytes are, 80 each, one after the other. The error comes where memory runs out.
+/// The records of the bytes, 80 bytes each, one after the other.
 pub fn lines_of(alloc: Global, bytes: &[u8]) -> Result<Vec<Line>, AllocError>
     requires { length bytes.now % 80 ≡ 0 }
     ensures { IfOk result (λ lines. HasLines bytes.now lines.items) }
@@ -104,7 +104,7 @@ pub fn lines_of(alloc: Global, bytes: &[u8]) -> Result<Vec<Line>, AllocError>
     Ok(lines)
 }
 
-/// The bytes of the records, one after the other. The error comes where memory runs out.
+/// The bytes of the records, one after the other.
 pub fn bytes_of(alloc: Global, lines: &[Line]) -> Result<Vec<u8>, AllocError>
     ensures { IfOk result (λ bytes. HasLines bytes.items lines.now) }
 {

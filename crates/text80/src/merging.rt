@@ -1,4 +1,4 @@
-//! A numbered text with an update made in it.
+//! A numbered text after an update.
 ghost use Rattle.std.specs.Prelude.{◌<◌, List, IfOk, IfSome, IfNone, All, slice_get};
 ghost use Rattle.terms.specs.Texts.{IsMerge, IsNumberedLine};
 ghost use Rattle.text80.specs.declared.control.Range.{Range as DeletedRange};
@@ -10,8 +10,8 @@ use crate::numbered::Numbered;
 use crate::update::Update;
 use std::alloc::{AllocError, Global};
 
-/// The text with the update made: the update's record at each number that it gives, none at the
-/// others that it deletes, and elsewhere the old record. The error comes where memory runs out.
+/// The text after the update. At each number that the update gives it has the update's record, at the others that the
+/// update deletes none, and elsewhere the old record.
 pub fn merge(alloc: Global, old: &Numbered, update: &Update) -> Result<Numbered, AllocError>
     ensures { IfOk result (IsMerge old.now update.now) }
 {
@@ -52,7 +52,7 @@ fn split_below(lines: &[Line], number: u32) -> (&[Line], &[Line])
     (lines, &[])
 }
 
-/// The record of the number, if it stands first, and the records that are left.
+/// The record of the number, if it comes first, and the remaining records.
 fn split_number(lines: &[Line], number: u32) -> (Option<&Line>, &[Line])
     requires { All IsNumberedLine lines.now }
     ensures some { IfSome result.0 (λ line. StandsFirst number lines.now line.now result.1.now) }
@@ -64,8 +64,8 @@ fn split_number(lines: &[Line], number: u32) -> (Option<&Line>, &[Line])
     }
 }
 
-/// The ranges that begin above the number, and how far those before them reach: the numbers from
-/// this one on are deleted that are below `reach` or in a range that is left.
+/// The ranges that begin above the number, and the reach of those before them: of the numbers from this one on, the
+/// deleted ones are those below `reach` and those in a range that is left.
 fn sweep(ranges: &[Range], reach: u64, number: u32) -> (&[Range], u64)
     ensures swept { (all : List DeletedRange) → IsSwept all number ranges.now reach
         → IsSwept all number result.0.now result.1 }

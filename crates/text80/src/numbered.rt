@@ -26,7 +26,7 @@ impl Model for Numbered {
 }
 
 impl Numbered {
-    /// The text of no records.
+    /// An empty text.
     pub fn empty(alloc: Global) -> Numbered
         ensures { result ≡ [] }
     {
@@ -35,8 +35,8 @@ impl Numbered {
         }
     }
 
-    /// The records as a numbered text. The error tells the first bad record, counted from 1: `NoNumber` where it has no
-    /// number, `NumberOutOfOrder` where its number does not rise.
+    /// The records as a numbered text. The error names the first bad record, counted from 1: `NoNumber` if it has no
+    /// number, `NumberOutOfOrder` if its number does not rise.
     pub fn read(lines: Vec<Line>) -> Result<Numbered, TextFault>
         ensures text { IfOk result (λ text. text ≡ lines.items) }
         ensures fault { IfErr result (IsNumberedFault lines.items) }
@@ -54,7 +54,7 @@ impl Numbered {
         Ok(Numbered { lines })
     }
 
-    /// The records of a numbered text. Nothing is looked at again.
+    /// The records of a numbered text. It does not check them again.
     pub fn known(lines: Vec<Line>) -> Numbered
         requires { IsNumbered lines.items }
         ensures { result ≡ lines.items }
@@ -88,8 +88,8 @@ impl Clone for Numbered {
     }
 }
 
-/// The number of a record, which is not to be below the least one that may come. The error is `NoNumber` where it has
-/// none, and `disorder` where it is below.
+/// The number of a record, which must not be below the least that is allowed. The error is `NoNumber` if it has none,
+/// and `disorder` if it is below.
 pub(crate) fn rising_number(line: &Line, least: u32, disorder: TextCode) -> Result<u32, TextCode>
     ensures numbered { IfOk result (λ n. IsNumberedLine line.now × (n ≡ number_of line.now)) }
     ensures from { IfOk result (λ n. least ≤ n) }

@@ -13,7 +13,7 @@ use std::alloc::{AllocError, Global};
 use std::marker::Model;
 use terms::{TextCode, TextFault};
 
-/// An update of a numbered text: all its records as they stand, and what they delete.
+/// An update of a numbered text: all its records in their order, and what they delete.
 #[derive(Debug, Drop)]
 pub struct Update {
     records: Vec<Line>,
@@ -32,11 +32,11 @@ impl Model for Update {
 }
 
 impl Update {
-    /// The records, CHANGE and all, as an update of the element of this name. `Memory` comes where memory runs out.
-    /// `Fault` tells the first bad record, counted from 1. Of the first one it is `NoChangeRecord` where it is no
-    /// CHANGE, or there are no records, and `OtherElement` where it names another element; behind that it is `NoNumber`
-    /// where a record has no number, `BadDelete` where a `./` record is no DELETE, and `UpdateOutOfOrder` where a
-    /// number does not rise.
+    /// The records, with CHANGE, as an update of the element of this name. Returns `Memory` if memory runs out. `Fault`
+    /// names the first bad record, counted from 1. It is `NoChangeRecord` if the first record is not a CHANGE or there
+    /// are no records, and `OtherElement` if the first record names another element. After that it is `NoNumber` if a
+    /// record has no number, `BadDelete` if a `./` record is not a DELETE, and `UpdateOutOfOrder` if a number does not
+    /// rise.
     pub fn read(alloc: Global, records: Vec<Line>, name: &[u8]) -> Result<Update, TextError>
         ensures update { IfOk result (λ update. (update ≡ records.items) × IsUpdate name.now records.items) }
         ensures fault { IfErr result (IsUpdateError name.now records.items) }
@@ -54,7 +54,7 @@ impl Update {
         &self.records
     }
 
-    /// A copy of the records that the update gives. The error comes where memory runs out.
+    /// A copy of the records that the update gives.
     pub fn given(&self, alloc: Global) -> Result<Numbered, AllocError>
         ensures { IfOk result (λ given. given ≡ given_of self.now) }
     {
@@ -86,7 +86,7 @@ impl Clone for Update {
     }
 }
 
-/// The records behind a CHANGE record of this name.
+/// The records after a CHANGE record of this name.
 fn behind_change<'a>(records: &'a [Line], name: &[u8]) -> Result<&'a [Line], TextFault>
     ensures rest { IfOk result (λ rest. StandsBefore name.now records.now rest.now) }
     ensures fault { IfErr result (IsUpdateFault name.now records.now) }
@@ -110,7 +110,7 @@ fn behind_change<'a>(records: &'a [Line], name: &[u8]) -> Result<&'a [Line], Tex
     }
 }
 
-/// The ranges that the records behind the CHANGE record delete. These records count from 2.
+/// The ranges that the records after the CHANGE record delete. These records count from 2.
 fn ranges_of(alloc: Global, lines: &[Line]) -> Result<Vec<Range>, TextError>
     ensures good { IfOk result (λ ranges. AreGood lines.now ranges.items) }
     ensures fault { IfErr result (IsRestError lines.now) }

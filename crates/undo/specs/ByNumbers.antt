@@ -1,4 +1,4 @@
--- The steps with numbers in place of SYSMODs and elements.
+-- The steps with numbers instead of SYSMODs and elements.
 use Rattle.std.specs.Prelude.{◌≡◌, ◌↔◌, ◌<◌, ℕ, Bool, List, Some, [], ◌∷◌, ◌++◌, map, slice_get, Contains, IsTrue}
 use Rattle.terms.specs.Types.{Id}
 use Rattle.terms.specs.Lookups.{IsRising}
@@ -24,11 +24,11 @@ pub record AreNumberedRules (table : List Node) (steps : List Step) (rules : Lis
   pub there : (s : Step) → Contains steps s → (r : Rule) × Contains rules r × IsNumbered table s r
   pub only : (r : Rule) → Contains rules r → (s : Step) × Contains steps s × IsNumbered table s r
 
--- what a step is about
+-- the SYSMODs and elements of a step
 abbrev pub nodes_in : RustStep → List Node
 nodes_in s = s.these.items ++ s.that ∷ []
 
--- the table has all that a step is about
+-- the table contains all SYSMODs and elements of a step
 pub record Covers (table : List Node) (s : RustStep) : Type 0 where
   pub these : (n : Node) → Contains s.these.items n → Contains table n
   pub that : Contains table s.that
@@ -49,7 +49,7 @@ abbrev pub sysmod_in : Node → List Id
 sysmod_in (Sysmod x) = x ∷ []
 sysmod_in (Element type name) = []
 
--- the SYSMOD stands at the place and has the flag
+-- the SYSMOD is at the place and has the flag
 abbrev pub IsFlagged : List Node → List Bool → Id → ℕ → Type 0
 IsFlagged table flags x i = (slice_get table i ≡ Some (Sysmod x)) × IsTrue (holds flags i)
 

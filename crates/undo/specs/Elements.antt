@@ -1,4 +1,4 @@
--- Who changes which element.
+-- Which SYSMODs change which element.
 use Rattle.std.specs.Prelude.{◌≡◌, List, Contains, map}
 use Rattle.std.specs.List.{flat_map}
 use Rattle.sorted.specs.ElementKeys.{Key, key_cmp}
@@ -18,7 +18,7 @@ Changers = Lists Key Id
 abbrev pub ChangedBy : Global → Id → Key → Id → Type 0
 ChangedBy g x k y = Contains (changed_keys g x) k × (y ≡ x)
 
--- they are those of these SYSMODs
+-- they are the SYSMODs among these that change the element
 abbrev pub AreChangers : Global → List Id → Changers → Type 0
 AreChangers g ids all = Holds key_cmp all (OneOf ids (ChangedBy g))
 

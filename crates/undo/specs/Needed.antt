@@ -11,12 +11,12 @@ use Rattle.judge_system.specs.Said.{a_need}
 abbrev pub pair_need : NeedKind → Id × Id → RequisiteOf
 pair_need kind p = a_need p.0 kind p.1
 
--- the pairs have what candidates share an element with
+-- the pairs are of candidates that share an element
 abbrev pub HaveElem : Restoring → List Id → List (Id × Id) → Type 0
 HaveElem r cands pairs =
     (x y : Id) → y ≢ x → Contains {X = Id × Id} pairs (x, y) ↔ (Contains cands x × NeedsElem r x y)
 
--- and what depends on candidates
+-- the pairs are of candidates and what depends on them
 abbrev pub HaveDep : Restoring → List Id → List (Id × Id) → Type 0
 HaveDep r cands pairs =
     (x y : Id) → y ≢ x → Contains cands x → Contains {X = Id × Id} pairs (x, y) ↔ NeedsDep r (is_in cands) x y

@@ -1,4 +1,4 @@
--- The order of SYSMODs and elements: what it does not tell apart is one.
+-- The order of SYSMODs and elements: two that it does not tell apart are the same.
 use Rattle.std.proofs.Common.{◌≡◌, ◌∙◌, true, ap, ap₂, sym, true≢false}
 use Rattle.std.specs.Cmp.{unsigned_ties}
 use Rattle.std.specs.Cmp.Lexicographic.{slice_cmp}

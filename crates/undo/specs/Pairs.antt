@@ -1,4 +1,4 @@
--- Pairs of one of a list and another one.
+-- Pairs of a member of a list and another id.
 use Rattle.std.specs.Prelude.{◌≢◌, ◌↔◌, ◌&&◌, Bool, not, List, AllPairs, Contains, IsTrue}
 use Rattle.std.specs.Str.{bytes_eq}
 use Rattle.terms.specs.Types.{Id}

@@ -1,4 +1,4 @@
--- What RESTORE looks into, by the values of the code.
+-- What RESTORE looks at, by the values of the code.
 use Rattle.std.specs.Prelude.{List, [], not, filter}
 use Rattle.terms.specs.Types.{Id, Global, Zone}
 use Rattle.terms.specs.Choice.{counting}
@@ -8,13 +8,13 @@ use Rattle.sysmods.specs.declared.ver_choice.VerChoice.{VerChoice}
 use Rattle.sysmods.specs.Choices.{choice}
 use Rattle.undo.specs.declared.scope.RestoreScope.{RestoreScope}
 
--- a restore of the target zone from its distribution zone: no candidate can be installed, so none has a say in which
--- ++VERs count
+-- A restore of the target zone from its distribution zone. No candidate can be installed, so none affects which ++VERs
+-- count.
 abbrev pub restoring_from : Global → Zone → Zone → Restoring
 restoring_from g zone accepted =
     record { global = g; choice = counting g zone []; zone = zone; accepted = accepted }
 
--- the same, by the ++VERs that are known to count
+-- the same, with the ++VERs that are known to count
 abbrev pub restoring : VerChoice → Zone → Zone → Restoring
 restoring vers zone accepted =
     record { global = vers.global.now; choice = choice vers; zone = zone; accepted = accepted }

@@ -10,12 +10,12 @@ use Rattle.undo.specs.declared.nodes.Step.{Step as RustStep}
 use Rattle.undo.specs.Dependences.{dependences_of}
 use Rattle.undo.specs.Scopes.{unaccepted}
 
--- once all of these are there, that is
+-- once all of these are in the set, that one is
 pub record Step : Type 0 where
   pub these : List Node
   pub that : Node
 
--- a step without where its list lies in memory
+-- a step, apart from where its list is in memory
 abbrev pub as_step : RustStep → Step
 as_step s = record { these = s.these.items; that = s.that }
 
@@ -48,7 +48,7 @@ from_elements r y = map (from_element y) (changes_of r.global y)
 abbrev pub from_groups : Restoring → Id → List Step
 from_groups r y = flat_map (from_all y) (dependences_of r y)
 
--- the steps from and to the applied SYSMODs; what is accepted follows no element
+-- The steps from and to the applied SYSMODs. An accepted SYSMOD follows no element.
 abbrev pub all_steps : Restoring → List Step
 all_steps r =
     flat_map (to_elements r) (applied_ids r.zone) ++ flat_map (from_elements r) (unaccepted r)
@@ -59,7 +59,7 @@ abbrev pub is_start : List Id → Node → Bool
 is_start ids (Sysmod x) = is_in ids x
 is_start ids (Element type name) = false
 
--- The set holds GROUP's ids and is closed under the steps.
+-- The set contains GROUP's ids and is closed under the steps.
 pub record AreClosed (ids : List Id) (steps : List Step) (set : Node → Bool) : Type 0 where
   pub start : (n : Node) → IsTrue (is_start ids n) → IsTrue (set n)
   pub grown : (s : Step) → Contains steps s → ((m : Node) → Contains s.these m → IsTrue (set m)) → IsTrue (set s.that)

@@ -9,7 +9,7 @@ use Rattle.terms.specs.Lookups.{is_nil, changes_of, element_of, is_supplied}
 use Rattle.terms.specs.Choice.{del_of}
 use Rattle.terms.specs.Restore.{Restoring, may_return}
 
--- whether the distribution zone has the element, and the target zone can't take it in
+-- whether the distribution zone has the element, and the target zone cannot take it in
 abbrev pub is_behind : Restoring → Change → Bool
 is_behind r h = option_map_or (λ e. not (may_return r e)) (element_of r.accepted h.elem_type h.name) false
 

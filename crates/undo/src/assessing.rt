@@ -1,4 +1,4 @@
-//! What is said of the candidates of a RESTORE, by their ids.
+//! The assessment of the candidates of a RESTORE, by their ids.
 ghost use Rattle.std.specs.Prelude.{◌≡◌, List, All, IsTrue, IfOk};
 ghost use Rattle.terms.specs.Types.{Id as AnId};
 ghost use Rattle.terms.specs.Lookups.{is_applied};
@@ -15,8 +15,8 @@ use std::alloc::{AllocError, Global};
 use sysmods::VerChoice;
 use zones::Zone;
 
-/// Tests these applied SYSMODs by the `++VER`s that count, and finds what they need. Nobody supersedes what a RESTORE
-/// needs, and BYPASS covers nothing of it. What is said is so for each list of which they are the candidates.
+/// Tests these applied SYSMODs by the `++VER`s that count, and finds what they need. No SYSMOD supersedes what a
+/// RESTORE needs, and BYPASS covers none of it. The assessment holds for each list of which they are the candidates.
 pub(crate) fn assess(
     alloc: Global,
     vers: &VerChoice<'_>,

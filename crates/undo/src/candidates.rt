@@ -15,7 +15,7 @@ use terms::NotChosen;
 use zones::{Candidates, Zone};
 
 /// The SYSMODs that a RESTORE of this target zone may take off, and those of its list that are not applied there. With
-/// GROUP the list has all which the named ones need. The error comes where memory runs out.
+/// GROUP the list includes all that a RESTORE of the named ones needs.
 pub fn restore_candidates(
     alloc: Global,
     global: &GlobalZone,

@@ -1,4 +1,4 @@
-//! What an applied SYSMOD depends on: its function, and for each of its requisites those who supply it.
+//! What an applied SYSMOD depends on: its function, and for each of its requisites the SYSMODs that supply it.
 ghost use Rattle.std.specs.Prelude.{◌≡◌, filter, map, All, IsTrue, IfOk};
 ghost use Rattle.std.specs.List.{flat_map, list_all};
 ghost use Rattle.terms.specs.Lookups.{is_applied, is_in, supby_of};
@@ -30,7 +30,8 @@ fn suppliers(alloc: Global, zone: &Zone, id: Id) -> Result<Vec<Id>, AllocError>
     applied_among(alloc, zone, ids.as_slice())
 }
 
-/// The groups of applied SYSMODs on which it depends: it is to go as soon as all of one group go, if that has any.
+/// The groups of applied SYSMODs on which it depends: it has to go as soon as all members of one group go, if the group
+/// has any.
 pub(crate) fn dependences_of(
     alloc: Global,
     scope: &RestoreScope<'_, '_>,
@@ -56,7 +57,7 @@ fn are_listed(list: &IdList, ids: &[Id]) -> bool
     ids.iter().all(|id| list.contains(*id))
 }
 
-// The members of those groups that are in the list as a whole.
+// The members of those groups all of whose members are in the list.
 fn all_within(alloc: Global, list: &IdList, groups: &[Vec<Id>]) -> Result<Vec<Id>, AllocError>
     ensures { IfOk result (λ ids. ids.items
         ≡ flat_map (λ group. group.items) (filter (λ group. list_all (is_in list.now) group.items) groups.now)) }
@@ -69,7 +70,7 @@ fn all_within(alloc: Global, list: &IdList, groups: &[Vec<Id>]) -> Result<Vec<Id
         .collect(alloc)
 }
 
-/// The candidates, which are applied, with those that depend on them: on a group which are candidates as a whole.
+/// The candidates, which are applied, with those that depend on them: on a group whose members are all candidates.
 pub(crate) fn dep_pairs(
     alloc: Global,
     scope: &RestoreScope<'_, '_>,

@@ -1,4 +1,4 @@
-//! Who changes which element.
+//! Which SYSMODs change which element.
 ghost use Rattle.std.specs.Prelude.{◌≡◌, IfOk};
 ghost use Rattle.sorted.specs.ElementKeys.{key_cmp};
 ghost use Rattle.undo.specs.Elements.{AreChangers, changed_keys, sharers};
@@ -42,7 +42,7 @@ fn changers(alloc: Global, global: &GlobalZone, ids: &[Id]) -> Result<Changers, 
     Ok(changers)
 }
 
-// Those that change an element which the SYSMOD changes too.
+// Those that change an element that the SYSMOD changes too.
 fn sharers(
     alloc: Global,
     global: &GlobalZone,

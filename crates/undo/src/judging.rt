@@ -13,8 +13,8 @@ use std::alloc::{AllocError, Global};
 use sysmods::{GlobalZone, Overs};
 use zones::{Candidates, Zone, choose};
 
-/// Judges the candidates of a RESTORE of this target zone from its distribution zone: whom a `Solver` keeps of the
-/// system is taken off. It is so for each list of which they are the candidates. The error comes where memory runs out.
+/// Judges the candidates of a RESTORE of this target zone from its distribution zone. The command takes off the
+/// candidates that a `Solver` keeps of the system. This holds for each list of which they are the candidates.
 pub fn restore_system<'a>(
     alloc: Global,
     global: &'a GlobalZone,

@@ -1,9 +1,9 @@
-//! What RESTORE takes off its zone, in two parts.
-//! The candidates are the applied ids of its list: of SELECT's ids, or of the least closed list with GROUP's, where
-//! whatever all of some SYSMODs and elements bring in comes in with them. For candidates of any list and any two zones
-//! `restore_system` answers who fails which test and who needs what, and the numbered system of that; one pass over the
-//! applied SYSMODs notes who changes which element and who depends on whom. Whom any `solve::Solver` keeps of it is
-//! taken off, by `change::restore`.
+//! What RESTORE takes off its zone, in two parts. The candidates are the applied ids of its list: of SELECT's ids, or
+//! of the least closed list that contains GROUP's. In that list, some SYSMODs and elements together bring in others.
+//! For candidates of any list and any two zones, `restore_system` returns the tests that each one fails and what each
+//! one needs, and the numbered system of that. One pass over the applied SYSMODs records which ones change which
+//! element and which ones depend on which. `change::restore` takes off the candidates that a `solve::Solver` keeps.
+//! Every call that allocates returns `AllocError` if memory runs out.
 #![tactic(auto)]
 
 mod assessing;

@@ -13,7 +13,7 @@ use std::alloc::{AllocError, Global};
 use sysmods::GlobalZone;
 use zones::{Zone, choose};
 
-/// SELECT's ids, or GROUP's and all which they need, and what those need. The error comes where memory runs out.
+/// SELECT's ids, or GROUP's ids with all that a RESTORE of them needs, and all that those need.
 pub(crate) fn restore_list(
     alloc: Global,
     global: &GlobalZone,
@@ -33,7 +33,7 @@ pub(crate) fn restore_list(
     }
 }
 
-// GROUP's ids and all which they need.
+// GROUP's ids with all that a RESTORE of them needs, and all that those need.
 fn group_list(
     alloc: Global,
     global: &GlobalZone,

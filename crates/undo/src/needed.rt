@@ -31,8 +31,7 @@ fn add_needs(
     Ok(())
 }
 
-/// What these SYSMODs, which are applied, need in a RESTORE that names them and no others. The error comes where memory
-/// runs out.
+/// What these SYSMODs, which are applied, need in a RESTORE that names exactly them.
 pub fn needs_in_restore(
     alloc: Global,
     scope: &RestoreScope<'_, '_>,

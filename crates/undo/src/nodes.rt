@@ -1,4 +1,4 @@
-//! What GROUP's list grows over.
+//! The members of GROUP's list: SYSMODs and elements.
 ghost use Rattle.std.specs.Prelude.{◌≡◌, ◌++◌, ◌∷◌, [], map, IfOk, OnOk};
 ghost use Rattle.undo.specs.Steps.{as_steps, element_at};
 ghost use Rattle.undo.specs.declared.nodes.Node.TheVariants.{Sysmod};
@@ -21,7 +21,7 @@ impl Field for Node {
     ghost exact = { exact_nodes };
 }
 
-/// Once all of `these` are there, `that` is.
+/// Once the list contains all of `these`, it contains `that`.
 #[derive(Drop)]
 pub(crate) struct Step {
     pub(crate) these: Vec<Node>,

@@ -11,7 +11,7 @@ use fields::{Attest, Id, IdList, Rising};
 use solve::{Rules, least};
 use std::alloc::{AllocError, Global};
 
-// All that these ids and steps are about.
+// All SYSMODs and elements of these ids and steps.
 fn all_nodes(alloc: Global, ids: &IdList, steps: &[Step]) -> Result<Vec<Node>, AllocError>
     ensures { IfOk result (λ nodes. nodes.items ≡ map Sysmod ids.now ++ flat_map nodes_in steps.now) }
 {

@@ -1,4 +1,4 @@
-//! A step with numbers: the places of what it is about in a table.
+//! A step with numbers: the places of its SYSMODs and elements in a table.
 ghost use Rattle.std.specs.Prelude.{◌≡◌, ◌<◌, ◌^◌, Some, length, slice_get, Contains, IfOk};
 ghost use Rattle.solve.specs.Least.{IsRule};
 ghost use Rattle.solve.specs.Rules.{as_rule};
@@ -10,7 +10,7 @@ use fields::{Field, Rising};
 use solve::Rule;
 use std::alloc::{AllocError, Global};
 
-// The place of an item that stands in the list is its number.
+// The place of an item that is in the list is its number.
 fn number<T: Field>(table: &Rising<T>, item: T) -> u32
     requires there { Contains table.now item }
     requires few { length table.now < 2 ^ 32 }

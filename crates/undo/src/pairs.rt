@@ -3,7 +3,7 @@ ghost use Rattle.undo.specs.Pairs.{AreOwn};
 
 use fields::{Id, IdList};
 
-/// The pairs of one of the list and another one, each once.
+/// The pairs of a member of the list and another id, each once.
 pub(crate) fn own_pairs(ids: &IdList, mut pairs: Vec<(Id, Id)>) -> Vec<(Id, Id)>
     ensures { AreOwn ids.now pairs.items result.items }
 {

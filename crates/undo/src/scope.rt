@@ -1,4 +1,4 @@
-//! What RESTORE looks into.
+//! What RESTORE looks at.
 ghost use Rattle.std.specs.Prelude.{◌≡◌, ◌++◌, [], ◌∷◌, not, filter, map, is_some, IfOk, OnOk};
 ghost use Rattle.terms.specs.Lookups.{is_applied, is_supplied, applied_ids, changes_of};
 
@@ -8,8 +8,8 @@ use sysmods::{GlobalZone, VerChoice};
 use sysmods_values::ElemChange;
 use zones::{Entry, Zone};
 
-/// The `++VER`s that count, the target zone, its distribution zone, and the ids that are applied in the target zone,
-/// which `applied_ids` finds once for all that a RESTORE decides.
+/// The `++VER`s that count, the target zone, its distribution zone, and the ids that are applied in the target zone.
+/// `applied_ids` finds these once for all that a RESTORE decides.
 #[derive(Clone, Copy)]
 pub struct RestoreScope<'a, 'b> {
     pub vers: &'a VerChoice<'b>,

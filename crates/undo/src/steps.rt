@@ -20,8 +20,8 @@ fn push_from_all(alloc: Global, ids: &[Id], by: Id, steps: &mut Vec<Step>) -> Re
     Ok(())
 }
 
-/// From each applied SYSMOD to the elements that it changes, from these to those that the distribution zone does not
-/// supply, and from what a SYSMOD depends on to it.
+/// From each applied SYSMOD to the elements that it changes, from these to the SYSMODs that the distribution zone does
+/// not supply, and from what a SYSMOD depends on to it.
 pub(crate) fn all_steps(
     alloc: Global,
     scope: &RestoreScope<'_, '_>,

@@ -40,8 +40,8 @@ fn are_alike(zone: &Zone, other: &Zone, element: &Element) -> bool
     is_alike(zone, other, element.rmid) && !any_unlike(zone, other, element.umids.as_slice())
 }
 
-// Whether the target zone can take in the element of the distribution zone. An RMID or UMID that is alike in both is
-// applied, so of those that are to be applied only the FMID is left to ask for.
+// Whether the target zone can take in the element of the distribution zone. An RMID or UMID that is alike in both zones
+// is applied, so among the ids that must be applied only the FMID is left to test.
 #[tactic(auto, using(crate::proofs::Testing::returns_by))]
 fn may_return(scope: &RestoreScope<'_, '_>, element: &Element) -> bool
     ensures { result ≡ may_return (restoring_of scope.now) element.now }
@@ -49,7 +49,7 @@ fn may_return(scope: &RestoreScope<'_, '_>, element: &Element) -> bool
     scope.zone.is_applied(element.fmid) && are_alike(scope.zone, scope.accepted, element)
 }
 
-// Whether the distribution zone has the element of the statement, and the target zone can't take it in.
+// Whether the distribution zone has the element of the statement, and the target zone cannot take it in.
 fn is_behind(scope: &RestoreScope<'_, '_>, change: &ElemChange) -> bool
     ensures { result ≡ is_behind (restoring_of scope.now) change.now }
 {

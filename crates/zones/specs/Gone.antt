@@ -8,7 +8,7 @@ use Rattle.terms.specs.Needs.{unwaived, binding_ids}
 use Rattle.sysmods.specs.Choices.{choice}
 use Rattle.zones.specs.declared.taking.Taking.{Taking}
 
--- whether its chain meets the deletions
+-- whether its chain contains one of the deletions
 abbrev pub is_cut : Taking → Id → Bool
 is_cut t = is_deleted t.vers.now.global.now (choice t.vers.now) t.dels.now
 
@@ -20,7 +20,7 @@ is_gone t = is_taken_out t.vers.now.global.now (choice t.vers.now) t.dels.now t.
 abbrev pub stays : Taking → Id → Bool
 stays t = is_applied (zone_less t.vers.now.global.now (choice t.vers.now) t.dels.now t.zone.now)
 
--- whether the deletions take the id or an applied SYSMOD that supersedes it
+-- whether the deletions take out the id or an applied SYSMOD that supersedes it
 abbrev pub loses : Taking → Id → Bool
 loses t z = is_gone t z || list_any (is_gone t) (supby_of t.zone.now z)
 
@@ -28,11 +28,11 @@ loses t z = is_gone t z || list_any (is_gone t) (supby_of t.zone.now z)
 abbrev pub by_ifs : Taking → List IfReq → List Id
 by_ifs t ifs = flat_map (λ i. if stays t i.function then unwaived t.zone.now i.function i.req else []) ifs
 
--- the requisites that hold the SYSMOD
+-- the requisites that bind the SYSMOD
 abbrev pub binding_of : Taking → Id → List Id
 binding_of t = binding_ids (choice t.vers.now) t.zone.now (stays t)
 
--- what these entries' SYSMODs lose, as far as they stay applied
+-- what these entries' SYSMODs lose, if they stay applied
 abbrev pub lost_by : Taking → List Entry → List Id
 lost_by t es = flat_map
     (λ e. if is_some e.applied && not (is_gone t e.id) then filter (loses t) (binding_of t e.id) else []) es

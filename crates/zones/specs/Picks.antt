@@ -10,7 +10,7 @@ use Rattle.sysmods.specs.declared.ver_choice.Pick.{Pick}
 abbrev pub a_pick : Id → ℕ → Pick
 a_pick x number = record { id = x; number = number }
 
--- whether it is not the number of the first
+-- whether it is not the number of the first one
 abbrev pub is_further : Pick → Bool
 is_further p = nat_lt 1 p.number
 
@@ -18,7 +18,7 @@ is_further p = nat_lt 1 p.number
 abbrev pub kept_pick : Entry → Pick
 kept_pick e = a_pick e.id (option_map_or (λ a. a.number) e.applied 1)
 
--- the number of the first that fits, of what is not applied
+-- the number of the first that fits, for a SYSMOD that is not applied
 abbrev pub fitting_pick : Zone → List Id → Sysmod → Pick
 fitting_pick zone cands s =
     a_pick s.id (if is_applied zone s.id then 1

@@ -24,6 +24,6 @@ setting_with scope related = record {
   bypass = scope.bypass.now;
 }
 
--- the setting with no related zone: no need depends on that
+-- the setting without a related zone; no need depends on one
 abbrev pub setting_of : Scope → Setting
 setting_of scope = setting_with scope None

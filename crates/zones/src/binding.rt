@@ -1,4 +1,4 @@
-//! The requisites that hold an applied SYSMOD.
+//! The requisites that bind an applied SYSMOD.
 ghost use Rattle.std.specs.Prelude.{◌≡◌, ◌++◌, [], ◌∷◌, not, IfOk, OnOk, filter, if◌then◌else◌};
 ghost use Rattle.terms.specs.Lookups.{is_in, is_applied};
 ghost use Rattle.terms.specs.Needs.{unwaived, binding_ids};
@@ -13,8 +13,8 @@ use sysmods::VerChoice;
 use sysmods_values::{IfReq, Ver};
 use zones_maps::Zone;
 
-/// The requisites that hold a SYSMOD applied in the zone: its PRE and REQ and those by ++IF whose function is applied,
-/// less what it waives. The error comes where memory runs out.
+/// The requisites that bind a SYSMOD applied in the zone: its PRE and REQ and those by ++IF whose function is applied,
+/// less what it waives.
 pub fn requisites_held(
     alloc: Global,
     vers: &VerChoice<'_>,
@@ -72,7 +72,7 @@ fn push_by_ifs(taking: &Taking, ifs: &[IfReq], asked: &mut Vec<Id>) -> Result<()
     Ok(())
 }
 
-// Adds the ids of the `++IF` that its function does not waive, if that stays.
+// Adds the ids of the `++IF` that its function does not waive, if the function stays.
 fn push_by_if(taking: &Taking, condition: &IfReq, asked: &mut Vec<Id>) -> Result<(), AllocError>
     ensures { OnOk result (asked.new.items ≡ asked.old.items ++ (if stays taking.now condition.now.function
         then unwaived taking.now.zone.now condition.now.function condition.now.req else [])) }

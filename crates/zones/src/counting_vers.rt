@@ -14,8 +14,8 @@ use sysmods::{GlobalZone, Pick, VerChoice};
 use sysmods_values::{Sysmod, Ver};
 use zones_maps::{Entry, Zone};
 
-/// The `++VER`s that count in the zone for a command with these candidates. It goes over the entries and over the
-/// received SYSMODs once. The error comes where memory runs out.
+/// The `++VER`s that count in the zone for a command with these candidates. It goes once over the entries and once over
+/// the received SYSMODs.
 pub fn choose<'a>(
     alloc: Global,
     global: &'a GlobalZone,
@@ -62,7 +62,7 @@ fn push_further(pick: Pick, picks: &mut Vec<Pick>) -> Result<(), AllocError>
     Ok(())
 }
 
-// The number by which it was installed, if it was.
+// The number by which it was installed, if it was installed.
 fn kept_pick(entry: &Entry) -> Pick
     ensures { result ≡ kept_pick entry.now }
 {
@@ -86,7 +86,7 @@ fn kept_picks(alloc: Global, zone: &Zone) -> Result<Vec<Pick>, AllocError>
     Ok(picks)
 }
 
-// The place of the first that fits, among those for the zone's SREL.
+// The place of the first one that fits, among those for the zone's SREL.
 fn first_fitting(zone: &Zone, cands: &IdList, vers: &[Ver]) -> Option<usize>
     ensures { result ≡ position (fits zone.now (is_in cands.now))
         (filter (λ v. bytes_eq v.srel zone.now.srel) vers.now) }
@@ -97,7 +97,7 @@ fn first_fitting(zone: &Zone, cands: &IdList, vers: &[Ver]) -> Option<usize>
         .position(|ver| fits(zone, cands, ver))
 }
 
-// The number of that one, else of the first.
+// The number of that one, or otherwise of the first.
 fn fitting_number(zone: &Zone, cands: &IdList, vers: &[Ver]) -> VerNumber
     ensures { result ≡ unwrap_or (position (fits zone.now (is_in cands.now))
         (filter (λ v. bytes_eq v.srel zone.now.srel) vers.now)) 0 + 1 }
@@ -111,7 +111,7 @@ fn fitting_number(zone: &Zone, cands: &IdList, vers: &[Ver]) -> VerNumber
     }
 }
 
-// The number of what is not applied.
+// The number for a SYSMOD that is not applied.
 fn fitting_pick(zone: &Zone, cands: &IdList, sysmod: &Sysmod) -> Pick
     ensures { result ≡ fitting_pick zone.now cands.now sysmod.now }
 {

@@ -10,7 +10,7 @@ use fields::{Id, IdList};
 use std::alloc::{AllocError, Global};
 use sysmods::VerChoice;
 
-/// What these SYSMODs name in DELETE, in their order. The error comes where memory runs out.
+/// What these SYSMODs name in DELETE, in their order.
 pub fn deletions(alloc: Global, vers: &VerChoice<'_>, ids: &[Id]) -> Result<Vec<Id>, AllocError>
     ensures { IfOk result (λ dels. dels.items ≡ deletions (choice vers.now) ids.now) }
 {
@@ -21,8 +21,8 @@ pub fn deletions(alloc: Global, vers: &VerChoice<'_>, ids: &[Id]) -> Result<Vec<
     Ok(dels)
 }
 
-/// What the candidates in the chain of this one name in DELETE: its view is the zone less these. `all` is what all
-/// candidates name there: mostly nothing, and then no chain is walked. The error comes where memory runs out.
+/// What the candidates in the chain of this one name in DELETE. Its view is the zone less these. `all` is what all
+/// candidates name there. Usually that is nothing, and then it walks no chain.
 pub fn view_deletions(
     alloc: Global,
     vers: &VerChoice<'_>,

@@ -1,4 +1,4 @@
-//! An entry where some SYSMODs are gone.
+//! An entry after some SYSMODs are gone.
 ghost use Rattle.std.specs.Prelude.{◌≡◌, ◌++◌, [], ◌∷◌, not, IfOk, OnOk, filter};
 ghost use Rattle.terms.specs.Types.{Id as AnId};
 ghost use Rattle.terms.specs.Lookups.{is_in};
@@ -9,7 +9,7 @@ use sorted::TryClone;
 use std::alloc::{AllocError, Global};
 use zones_maps::Entry;
 
-/// What takes SYSMODs out of a zone.
+/// Something that takes SYSMODs out of a zone.
 pub trait TakesOut {
     ghost use Rattle.std.specs.Prelude.{Bool};
     ghost use Rattle.terms.specs.Types.{Id as AnId};
@@ -59,7 +59,7 @@ fn list_left<T: TakesOut>(alloc: Global, taking: &T, ids: &IdList) -> Result<IdL
     Ok(left)
 }
 
-/// The entry without what is taken out. The error comes where memory runs out.
+/// The entry after the SYSMODs that are taken out are gone.
 pub fn entry_less<T: TakesOut>(
     alloc: Global,
     taking: &T,

@@ -48,7 +48,7 @@ pub fn element_left<'a>(
     Some(element)
 }
 
-// Whether one of those that supersede it stays.
+// Whether one of the SYSMODs that supersede it stays.
 fn is_superseded(taking: &Taking, id: Id) -> bool
     ensures { result
         ≡ not (is_nil (filter (λ y. not (is_gone taking.now y)) (supby_of taking.now.zone.now id))) }

@@ -1,10 +1,11 @@
-//! How a command looks at a zone: which `++VER`s count in it, what is left of it where DELETE takes something out, and
-//! all that an install looks at.
-//! The `++VER` of a SYSMOD that counts is the one that it was installed by, or else the first that fits; one pass over
-//! entries and received SYSMODs finds all. What is left answers as a zone does, without a copy; by it are found the
-//! requisites that SYSMODs that stay lose by a DELETE. An install's `Scope` is the `++VER`s that count, the zone, the
-//! candidates and BYPASS, with the requisites and holds that it covers. One entry is made less some SYSMODs, whatever
-//! test tells these. All is as the definitions have it. Seen in the code alone: no zone is copied.
+//! How a command looks at a zone: which `++VER`s count in it, what is left of it after DELETE takes something out, and
+//! all that an install looks at. The `++VER` of a SYSMOD that counts is the one by which it was installed, or otherwise
+//! the first that fits; one pass over entries and received SYSMODs finds all of them. What is left answers the same
+//! questions as a zone, without a copy. From it follow the requisites that the remaining SYSMODs lose by a DELETE. An
+//! install's `Scope` is the `++VER`s that count, the zone, the candidates and BYPASS, with the requisites and holds
+//! that it covers. `entry_less` takes SYSMODs out of one entry, whatever test names them. All of this is as the
+//! definitions have it. No contract says that no zone is copied. Every call that allocates returns `AllocError` if
+//! memory runs out.
 #![tactic(auto)]
 
 mod binding;

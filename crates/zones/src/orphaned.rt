@@ -14,8 +14,7 @@ use std::alloc::{AllocError, Global};
 use sysmods::VerChoice;
 use zones_maps::{Entry, Zone};
 
-/// The requisites of SYSMODs that stay applied, as far as this one's own DELETE takes their suppliers. The error comes
-/// where memory runs out.
+/// The requisites of SYSMODs that stay applied, if this SYSMOD's own DELETE takes out the SYSMODs that supply them.
 pub fn orphans(
     alloc: Global,
     vers: &VerChoice<'_>,
@@ -62,7 +61,7 @@ fn push_lost_of(
     Ok(())
 }
 
-// Adds those that are lost.
+// Adds the requisites that are lost.
 fn push_lost(taking: &Taking, ids: &[Id], found: &mut Vec<Id>) -> Result<(), AllocError>
     ensures { OnOk result (found.new.items ≡ found.old.items ++ filter (loses taking.now) ids.now) }
 {

@@ -1,4 +1,4 @@
-//! What the needs of an APPLY are looked up in.
+//! Where the needs of an APPLY are looked up.
 ghost use Rattle.std.specs.Prelude.{◌≡◌, ◌||◌, option_copied};
 ghost use Rattle.terms.specs.Lookups.{IsRising};
 ghost use Rattle.terms.specs.declared.codes.NeedKind.TheVariants.{Pre, Req, Ifreq};

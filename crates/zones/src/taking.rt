@@ -9,7 +9,7 @@ use fields::Id;
 use sysmods::VerChoice;
 use zones_maps::Zone;
 
-/// Deletions and the zone that they take from.
+/// Deletions and the zone on which they act.
 #[derive(Clone, Copy)]
 pub(crate) struct Taking<'a, 'b> {
     pub(crate) vers: &'a VerChoice<'b>,
@@ -18,7 +18,7 @@ pub(crate) struct Taking<'a, 'b> {
 }
 
 impl<'a, 'b> Taking<'a, 'b> {
-    /// Whether its chain meets the deletions.
+    /// Whether its chain contains one of the deletions.
     pub(crate) fn deletes(&self, id: Id) -> bool
         ensures { result ≡ is_cut self.now id }
     {

@@ -17,7 +17,7 @@ pub record ZoneEdits : Type 0 where
   pub entries : List (Edit Entry Id)
   pub elements : List (Edit Element (ElemType × Text))
 
--- The edits rise by their keys, and what is put may stand in a zone.
+-- The edits rise by their keys, and what they put may be in a zone.
 pub record AreEdits (edits : ZoneEdits) : Type 0 where
   pub entries : Rises (slice_cmp nat_cmp) (edit_key (λ e. e.id)) edits.entries
   pub held : All (λ d. IfSome (edit_put d) (λ e. IsTrue (has_content e))) edits.entries
@@ -32,12 +32,12 @@ pub record IsEdited (edits : ZoneEdits) (old new : Zone) : Type 0 where
   pub elements : (type : ElemType) (name : Text) →
       element_of new type name ≡ after_edits element_eq element_key edits.elements old.elements (type, name)
 
--- by which of its ++VERs an entry is installed: 1 if it is not applied
+-- the number of the ++VER by which an entry is installed, or 1 if it is not applied
 abbrev pub number_of : Entry → ℕ
 number_of e = option_map_or (λ a. a.number) e.applied 1
 
--- edits of a zone, and what stood at the key of each: of an entry the number of its ++VER, of an element only that there
--- is one
+-- edits of a zone, and what the zone had at the key of each: for an entry the number of its ++VER, for an element only
+-- whether there was one
 pub record ZoneDelta : Type 0 where
   pub edits : ZoneEdits
   pub entries_stood : List (Option ℕ)

@@ -16,14 +16,14 @@ EntryEdit = Edit Entry Id
 abbrev pub ElementEdit : Type 0
 ElementEdit = Edit Element (ElemType × Text)
 
--- what an edit leaves at its key is not what the zone has there
+-- what an edit leaves at its key differs from what the zone has there
 abbrev pub ChangesEntry : Zone → EntryEdit → Type 0
 ChangesEntry zone d = edit_put d ≢ entry_of zone (edit_key (λ e. e.id) d)
 
 abbrev pub ChangesElement : Zone → ElementEdit → Type 0
 ChangesElement zone d = edit_put d ≢ element_of zone (edit_key element_key d).0 (edit_key element_key d).1
 
--- Each edit changes something: no put is of what the zone has, and no removal of what it has not.
+-- Each edit changes something: it puts nothing that the zone already has, and removes nothing that the zone lacks.
 pub record EachChanges (zone : Zone) (edits : ZoneEdits) : Type 0 where
   pub entries : All (ChangesEntry zone) edits.entries
   pub elements : All (ChangesElement zone) edits.elements
@@ -38,7 +38,7 @@ with_element_edit edits d = record edits {
   elements = with_item element_cmp (edit_key element_key) edits.elements d;
 }
 
--- the edit comes in, if it changes something
+-- the edit is added if it changes something
 abbrev pub AddsEntryEdit : Zone → EntryEdit → ZoneEdits → ZoneEdits → Type 0
 AddsEntryEdit zone d old new =
     ((new ≡ old) × (edit_put d ≡ entry_of zone (edit_key (λ e. e.id) d)))
@@ -49,11 +49,11 @@ AddsElementEdit zone d old new =
     ((new ≡ old) × (edit_put d ≡ element_of zone (edit_key element_key d).0 (edit_key element_key d).1))
     ⊎ ((new ≡ with_element_edit old d) × ChangesElement zone d)
 
--- what stands at a key after edits of the zone's elements
+-- the element at a key after edits of the zone's elements
 abbrev pub element_after : List ElementEdit → Zone → ElemType × Text → Option Element
 element_after edits zone k = after_edits element_eq element_key edits zone.elements k
 
--- The edits of elements that change something come in: at each key stands what all of them leave there.
+-- The edits of elements that change something are added: at each key is what all of the edits leave there.
 pub record HasEditedElements (zone : Zone) (edits : List ElementEdit) (old new : ZoneEdits) : Type 0 where
   pub entries : new.entries ≡ old.entries
   pub leaves : (k : ElemType × Text) → element_after new.elements zone k ≡ element_after edits zone k

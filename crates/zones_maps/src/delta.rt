@@ -11,7 +11,7 @@ use std::alloc::{AllocError, Global};
 use std::marker::Model;
 use terms::ElemType;
 
-/// Edits of a zone that know what stood at the key of each. Who writes them out needs no zone.
+/// Edits of a zone, with what the zone had at the key of each. To write them out one needs no zone.
 #[derive(Drop)]
 pub struct ZoneDelta {
     edits: ZoneEdits,
@@ -42,7 +42,7 @@ impl Attest for ZoneDelta {
 }
 
 impl ZoneDelta {
-    /// These edits of this zone. Each key is looked up in the zone once. The error comes where memory runs out.
+    /// These edits of this zone. It looks up each key in the zone once.
     pub fn of(alloc: Global, edits: ZoneEdits, zone: &Zone) -> Result<ZoneDelta, AllocError>
         ensures { IfOk result (λ d. (d.edits ≡ edits) × KnowsStood zone.now d) }
     {
@@ -55,36 +55,36 @@ impl ZoneDelta {
         })
     }
 
-    /// What is put and removed of entries, rising by id.
+    /// What it puts and removes of entries, rising by id.
     pub fn entries(&self) -> &[Edit<Entry, Id>]
         ensures { result.now ≡ self.now.edits.entries }
     {
         self.edits.entries()
     }
 
-    /// What is put and removed of elements, rising by type and name.
+    /// What it puts and removes of elements, rising by type and name.
     pub fn elements(&self) -> &[Edit<Element, (ElemType, Name)>]
         ensures { result.now ≡ self.now.edits.elements }
     {
         self.edits.elements()
     }
 
-    /// For each edit of an entry the number of the `++VER` of the entry that stood there, if one did.
+    /// For each edit of an entry, the number of the `++VER` of the old entry, if there was one.
     pub fn entries_stood(&self) -> &[Option<VerNumber>]
         ensures { result.now ≡ self.now.entries_stood }
     {
         self.entries_stood.as_slice()
     }
 
-    /// For each edit of an element whether one stood there.
+    /// For each edit of an element, whether there was an old one.
     pub fn elements_stood(&self) -> &[bool]
         ensures { result.now ≡ self.now.elements_stood }
     {
         self.elements_stood.as_slice()
     }
 
-    /// The zone as this delta changes it, beside the old one: it goes over both once, in order. What stays and what the
-    /// delta puts is copied. To change a zone in place, use `Zone::prepare` and `Zone::edit`.
+    /// The zone as this delta changes it, beside the old one. It goes over both once, in order, and copies what stays
+    /// and what the delta puts. To change a zone in place, use `Zone::prepare` and `Zone::edit`.
     pub fn apply(&self, alloc: Global, zone: &Zone) -> Result<Zone, AllocError>
         ensures { IfOk result (λ new. IsChanged self.now zone.now new) }
     {

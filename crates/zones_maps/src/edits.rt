@@ -14,7 +14,7 @@ use std::alloc::{AllocError, Global};
 use std::marker::Model;
 use terms::ElemType;
 
-/// Entries and elements that are put and removed, one edit at a key.
+/// What is put and removed of entries and elements, one edit for a key.
 #[derive(Drop)]
 pub struct ZoneEdits {
     entries: Table<Edit<Entry, Id>>,
@@ -58,14 +58,14 @@ impl ZoneEdits {
         }
     }
 
-    /// What is put and removed of entries, rising by id.
+    /// What they put and remove of entries, rising by id.
     pub fn entries(&self) -> &[Edit<Entry, Id>]
         ensures { result.now ≡ self.now.entries }
     {
         self.entries.as_slice()
     }
 
-    /// What is put and removed of elements, rising by type and name.
+    /// What they put and remove of elements, rising by type and name.
     pub fn elements(&self) -> &[Edit<Element, (ElemType, Name)>]
         ensures { result.now ≡ self.now.elements }
     {
@@ -84,8 +84,7 @@ impl ZoneEdits {
         &self.elements
     }
 
-    /// Puts an entry in place of the one of its id. At ids that rise it takes the least time. The error comes where
-    /// memory runs out, and changes nothing.
+    /// Puts an entry instead of the one of its id. It takes the least time if ids rise.
     pub fn put_entry(&mut self, entry: Entry) -> Result<(), AllocError>
         requires held { IsTrue (has_content entry) }
         requires waived { IsTrue (waives_applied entry) }
@@ -99,7 +98,7 @@ impl ZoneEdits {
         Ok(())
     }
 
-    /// The entry of this id goes. The error comes where memory runs out, and changes nothing.
+    /// Removes the entry of this id.
     pub fn remove_entry(&mut self, id: Id) -> Result<(), AllocError>
         ensures ok { OnOk result
             (self.new ≡ record self.old {
@@ -111,8 +110,7 @@ impl ZoneEdits {
         Ok(())
     }
 
-    /// Puts an element in place of the one of its type and name. The error comes where memory runs out, and changes
-    /// nothing.
+    /// Puts an element instead of the one of its type and name.
     pub fn put_element(&mut self, element: Element) -> Result<(), AllocError>
         ensures ok { OnOk result
             (self.new ≡ record self.old {
@@ -124,7 +122,7 @@ impl ZoneEdits {
         Ok(())
     }
 
-    /// The element of this type and name goes. The error comes where memory runs out, and changes nothing.
+    /// Removes the element of this type and name.
     pub fn remove_element(&mut self, elem_type: ElemType, name: Name) -> Result<(), AllocError>
         ensures ok { OnOk result
             (self.new ≡ record self.old {

@@ -1,4 +1,4 @@
-//! What a zone knows of a SYSMOD and of an element.
+//! What a zone records about a SYSMOD and about an element.
 ghost use Rattle.std.specs.Prelude.{◌≡◌};
 ghost use Rattle.terms.specs.Types.{an_applied};
 ghost use Rattle.terms.specs.Lookups.{has_content, waives_applied};
@@ -11,7 +11,7 @@ use std::marker::Model;
 use terms::ElemType;
 use text80::Line;
 
-/// That a zone has applied a SYSMOD: when, and by which of its `++VER`s for the zone's SREL, counted from 1.
+/// A zone has applied a SYSMOD: when, and by which of its `++VER`s for the zone's SREL, counted from 1.
 #[derive(Clone, Copy, Debug, PartialEq, Eq)]
 pub struct Applied {
     pub date: YyDdd,
@@ -66,14 +66,14 @@ impl Model for Entry {
 }
 
 impl Entry {
-    /// Whether it is there for a date, for SUPBY or for DELBY.
+    /// Whether it has a date, SUPBY or DELBY.
     pub fn has_content(&self) -> bool
         ensures { result ≡ has_content self.now }
     {
         self.applied.is_some() || !self.supby.is_empty() || self.delby.is_some()
     }
 
-    /// By which of its `++VER`s it is installed: the first, if it is not applied.
+    /// The number of the `++VER` by which it is installed: 1 if it is not applied.
     pub fn number(&self) -> VerNumber
         ensures { result ≡ number_of self.now }
     {
@@ -83,7 +83,7 @@ impl Entry {
         }
     }
 
-    /// Whether requisites are waived only of what is applied.
+    /// Whether it waives requisites only if it is applied.
     pub fn waives_applied(&self) -> bool
         ensures { result ≡ waives_applied self.now }
     {

@@ -4,7 +4,7 @@ ghost use Rattle.std.specs.Prelude.{◌≡◌, ◌↔◌, IsTrue, Some, option_c
 use crate::entries::{Element, Entry};
 use fields::IdList;
 
-/// Whether the two are one entry.
+/// Whether the two entries are the same.
 pub fn is_same_entry(a: &Entry, b: &Entry) -> bool
     ensures { IsTrue result ↔ (a.now ≡ b.now) }
 {
@@ -30,7 +30,7 @@ fn same_ids(a: &IdList, b: &IdList) -> bool
     a.as_slice() == b.as_slice()
 }
 
-/// Whether the two are one element, or none.
+/// Whether both are the same element, or neither exists.
 pub fn are_same(a: Option<&Element>, b: Option<&Element>) -> bool
     ensures { IsTrue result ↔ (option_copied a.entry ≡ option_copied b.entry) }
 {
@@ -40,7 +40,7 @@ pub fn are_same(a: Option<&Element>, b: Option<&Element>) -> bool
     }
 }
 
-/// Whether the element is there, and is the same.
+/// Whether the element exists, and is the same.
 pub fn is_element(a: &Element, b: Option<&Element>) -> bool
     ensures { IsTrue result ↔ (Some a.now ≡ option_copied b.entry) }
 {

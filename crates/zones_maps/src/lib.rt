@@ -1,6 +1,7 @@
-//! Target and distribution zones: the entries of SYSMODs and of elements, and how a zone changes.
-//! Look-ups are those of the definitions, and a changed zone has at each key what the delta leaves there. Seen in the
-//! code alone: what a delta does not put is moved and never copied.
+//! Target and distribution zones: the entries of SYSMODs and of elements, and how a zone changes. Look-ups are those of
+//! the definitions, and a changed zone has at each key what the delta leaves there. No contract says that what a delta
+//! does not put is moved and never copied. Every call that allocates returns `AllocError` if memory runs out, and then
+//! changes nothing.
 #![tactic(auto)]
 
 mod delta;

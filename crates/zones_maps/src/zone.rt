@@ -75,7 +75,7 @@ impl Attest for Zone {
 }
 
 impl Zone {
-    /// An empty zone. A target zone alone names a related zone.
+    /// An empty zone. Only a target zone names a related zone.
     pub fn new(alloc: Global, kind: ZoneKind, srel: Srel, related: Option<ZoneName>) -> Self
         requires { is_some related ≡ is_target kind }
         ensures { result ≡ a_zone kind srel related [] [] }
@@ -89,7 +89,7 @@ impl Zone {
         }
     }
 
-    /// The zone of these entries and elements, if they may stand in one.
+    /// The zone of these entries and elements, if they may be in one.
     pub fn from_tables(
         kind: ZoneKind,
         srel: Srel,
@@ -128,14 +128,14 @@ impl Zone {
         self.srel
     }
 
-    /// The name of the distribution zone that a target zone is related to.
+    /// The name of the distribution zone to which a target zone is related.
     pub fn related(&self) -> Option<ZoneName>
         ensures { result ≡ self.now.related }
     {
         self.related
     }
 
-    /// What holds of each entry's lists. The call only goes over the entries.
+    /// Facts about each entry's lists. The call only goes over the entries.
     pub fn known_lists(&self)
         ensures { All (λ e. IsRising e.supby × IsRising e.waived) self.now.entries }
     {
@@ -179,7 +179,7 @@ impl Zone {
         self.entry(id)?.applied
     }
 
-    /// Whether the id is applied, in a distribution zone accepted. Nothing else supplies an FMID.
+    /// Whether the id is applied, in a distribution zone accepted. Only an applied id supplies an FMID.
     pub fn is_applied(&self, id: Id) -> bool
         ensures { result ≡ is_applied self.now id }
     {
@@ -214,8 +214,7 @@ impl Zone {
         })
     }
 
-    /// Memory for this change of the zone: `edit` takes none then. Only what the delta puts is copied. The error comes
-    /// where memory runs out.
+    /// Memory for this change of the zone, so that `edit` takes none. It copies only what the delta puts.
     pub fn prepare(&self, alloc: Global, delta: &ZoneDelta) -> Result<PreparedZone, AllocError>
         ensures { IfOk result (IsReady self.now delta.now.edits) }
     {
@@ -227,8 +226,7 @@ impl Zone {
         })
     }
 
-    /// Changes the zone: what the delta puts comes in, and what it removes goes, in time that goes with the size of
-    /// both.
+    /// Changes the zone: puts and removes what the delta says, in time proportional to the size of both.
     pub fn edit(&mut self, prepared: PreparedZone)
         requires { HasRoom self.old prepared }
         ensures { IsEdited (delta_of prepared) self.old self.new }
@@ -240,7 +238,7 @@ impl Zone {
     }
 }
 
-// Whether each entry is there for something, and requisites are waived only of what is applied.
+// Whether each entry has a date, SUPBY or DELBY, and waives requisites only if it is applied.
 fn may_stand(entries: &[Entry]) -> bool
     ensures { IsTrue result
         ↔ (All (λ e. IsTrue (has_content e)) entries.now

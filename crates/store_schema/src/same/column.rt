@@ -1,4 +1,4 @@
-//! Columns, of which those with a default are not compared.
+//! Columns. Those with a default are not compared.
 
 ghost use Rattle.std.specs.Prelude.{◌≡◌, ◌↔◌, IsTrue};
 ghost use Rattle.std.specs.List.{AllByRecursion};

@@ -47,7 +47,7 @@ pub(crate) fn same_keys(a: &[Items<usize>], b: &[Items<usize>]) -> bool
     true
 }
 
-/// The column that is the rowid, if one is.
+/// The column that is the rowid, if there is one.
 pub(crate) fn same_rowid(a: &Option<usize>, b: &Option<usize>) -> bool
     ensures { IsTrue result ↔ (a.now ≡ b.now) }
 {

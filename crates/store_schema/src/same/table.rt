@@ -1,4 +1,4 @@
-//! Tables, of which those with an expression are not compared, and indexes.
+//! Tables and indexes. Tables with an expression are not compared.
 
 ghost use Rattle.std.specs.Prelude.{◌≡◌, ◌↔◌, [], IsTrue};
 ghost use Rattle.std.specs.List.{AllByRecursion};

@@ -1,11 +1,11 @@
-//! Columns of ids, of lists of ids and of names, with texts of no such form.
+//! Columns of ids, of lists of ids and of names, with texts that have no such form.
 
 use crate::bad_rows::{NO_STATE, Part, check_with};
 use sqlite_value::value::ValueRef;
 use std::alloc::Global;
 use std::test::Fail;
 
-/// Columns of one id each, by the statements that set them, and texts that are no id.
+/// Columns of one id each, by the statements that set them, and texts that are not ids.
 const IDS: &[&str] = &[
     "UPDATE ver SET fmid = ?1 WHERE id = 'AAA0003'",
     "UPDATE ifreq SET fmid = ?1 WHERE srel = 'Z039'",
@@ -24,7 +24,7 @@ const ZONE_IDS: &[&str] = &[
 
 const NO_IDS: &[&str] = &["UAA001", "UAA00011", "uaa0001", ""];
 
-/// Columns of lists of ids, and texts that are no list whose ids rise.
+/// Columns of lists of ids, and texts that are not lists of rising ids.
 const LISTS: &[&str] = &[
     "UPDATE ver SET pre = ?1 WHERE id = 'HAA1200'",
     "UPDATE ver SET req = ?1 WHERE id = 'HAA1200'",
@@ -55,7 +55,7 @@ const NO_LISTS: &[&str] = &[
     "-",
 ];
 
-/// Columns of names, and texts that are no name.
+/// Columns of names, and texts that are not names.
 const NAMES: &[&str] = &[
     "UPDATE elem SET name = ?1 WHERE type = 'CLIST'",
     "UPDATE elem SET distlib = ?1 WHERE type = 'CLIST'",
@@ -70,7 +70,7 @@ const ZONE_NAMES: &[&str] = &[
 
 const NO_NAMES: &[&str] = &["1CLS", "cls1", "LIBRARY01", "A B", "A,B", ""];
 
-/// Each of the texts is told in each of the columns.
+/// Each of the texts gives this answer in each of the columns.
 fn check_columns(alloc: Global, columns: &[&str], texts: &[&str], part: Part) -> Result<(), Fail> {
     for sql in columns {
         for text in texts {

@@ -41,7 +41,7 @@ const INSTALLED: &str = "UPDATE zelem SET text = ?1 WHERE zone = 'TGT1' AND type
 
 const NOWHERE: [bool; 3] = [false, false, false];
 
-/// Records, a line each, with the number behind a tab, and whether they are a text of a macro, an update of MAC1 and a
+/// Records, a line each, with the number after a tab, and whether they are a text of a macro, an update of MAC1 and a
 /// text of an installed source.
 const TEXTS: &[(&str, [bool; 3])] = &[
     ("", [false, false, true]),
@@ -63,7 +63,7 @@ const TEXTS: &[(&str, [bool; 3])] = &[
     ("./ CHANGE NAME=MAC1\n./ DELETE SEQ1=10,SEQ2=20", NOWHERE),
 ];
 
-/// The text is loaded, or told, where the statement puts its records.
+/// The text is loaded, or refused, wherever the statement puts its records.
 fn check_text(
     alloc: Global,
     sql: &str,

@@ -35,15 +35,15 @@ const HOLDS: &[&str] = &[
     "DELETE FROM sysmod WHERE id = 'UAA0001'",
 ];
 
-/// Comments as long as they may be, and of any printable characters.
+/// Comments of the greatest length, and of any printable characters.
 const GOOD_COMMENTS: &[&str] = &[
     "UPDATE hold SET comment = replace('XXXXXXXXXXXXXXXXXXXX', 'X', 'XXXXXXXXXX') WHERE kind = 'ERROR'",
     "UPDATE hold SET comment = '~' WHERE kind = 'ERROR'",
     "UPDATE hold SET comment = '(A) B ()' WHERE kind = 'ERROR'",
 ];
 
-/// Comments too long, empty, with blanks at an end, with characters that are not printable, and with parentheses that
-/// no statement has in its own.
+/// Comments that are too long, empty, have blanks at an end, characters that are not printable, or parentheses that no
+/// statement has in its own.
 const COMMENTS: &[&str] = &[
     "UPDATE hold SET comment = 'X' || replace('XXXXXXXXXXXXXXXXXXXX', 'X', 'XXXXXXXXXX') WHERE kind = 'ERROR'",
     "UPDATE hold SET comment = '' WHERE kind = 'ERROR'",

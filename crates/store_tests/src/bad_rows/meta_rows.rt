@@ -4,7 +4,7 @@ use crate::bad_rows::{NO_STATE, Part, check};
 use std::test::Fail;
 use store_schema::StoreError;
 
-/// The number of the schema, of which there is to be one, and a table less.
+/// The number of the schema, which must occur once, and a missing table.
 const META: &[&str] = &[
     "DELETE FROM meta",
     "UPDATE meta SET k = 'Schema'",
@@ -15,7 +15,7 @@ const META: &[&str] = &[
     "DROP TABLE meta; CREATE TABLE meta (w TEXT, v INTEGER, k TEXT); INSERT INTO meta (k, v) VALUES ('schema', 3)",
 ];
 
-/// Another number, whatever the tables are: those of earlier schemas too.
+/// Another number, whatever the tables are, even those of earlier schemas.
 const NUMBERS: &[&str] = &[
     "UPDATE meta SET v = 1",
     "UPDATE meta SET v = 2",
@@ -25,7 +25,7 @@ const NUMBERS: &[&str] = &[
     "DROP TABLE meta; CREATE TABLE meta (w TEXT, v INTEGER, k TEXT); INSERT INTO meta (k, v) VALUES ('schema', 2)",
 ];
 
-/// No number that can be asked for: there is no `meta`, or it has not both columns.
+/// No number to ask for: there is no `meta`, or it lacks one of the columns.
 const NUMBERLESS: &[&str] = &[
     "DROP TABLE meta",
     "DROP TABLE meta; CREATE VIEW meta AS SELECT 'schema' AS name, 3 AS v",

@@ -30,7 +30,7 @@ const SYSMODS: &[&str] = &[
     "DELETE FROM ver WHERE id = 'AAA0003'",
 ];
 
-/// SYSMODs that lead to themselves or have other roles than others give them.
+/// SYSMODs that lead to themselves, or whose roles differ from those that others give them.
 const BETWEEN: &[&str] = &[
     "UPDATE ver SET pre = 'LLL0001' WHERE id = 'UAA0001' AND srel = 'Z038'",
     "UPDATE ver SET sup = 'LLL0001' WHERE id = 'UAA0001' AND srel = 'Z038'",
@@ -66,7 +66,7 @@ const ONE_TOO_MANY: &str = "DELETE FROM sysmod WHERE id > 'M' AND id < 'M100005'
 
 const AS_MANY: &str = "DELETE FROM sysmod WHERE id > 'M' AND id < 'M100006'";
 
-/// The known rows and 65,536 SYSMODs more, once the statement has taken some out.
+/// The known rows and 65,536 further SYSMODs, once the statement has removed some.
 fn many_without(alloc: Global, sql: &str) -> Result<Connection<MemStore>, Fail> {
     let mut conn = known_with(alloc, &[FIRST])?;
     doubled(&mut conn, AGAIN, 16)?;

@@ -23,7 +23,7 @@ const VERS: &[&str] = &[
     "UPDATE sysmod SET kind = 'PTF' WHERE id = 'HAA1200'",
 ];
 
-/// Edits of further `++VER`s that move only within what may stand: eight `++VER`s in all, a further one for each of two
+/// Edits of further `++VER`s that stay within what is allowed: eight `++VER`s in all, a further one for each of two
 /// SRELs, and none.
 const GOOD_FURTHER: &[&str] = &[
     "UPDATE morever SET pre = '', req = '', sup = ''",
@@ -37,7 +37,7 @@ const GOOD_FURTHER: &[&str] = &[
     "DELETE FROM moreif; DELETE FROM morever",
 ];
 
-/// Further `++VER`s: their numbers and SRELs, by themselves, and beside others of their SYSMOD.
+/// Further `++VER`s: their numbers and SRELs, by themselves, and next to others of their SYSMOD.
 const MOREVERS: &[&str] = &[
     "UPDATE morever SET n = 0 WHERE n = 3; UPDATE moreif SET v = 0 WHERE v = 3",
     "UPDATE morever SET n = 1 WHERE n = 3; UPDATE moreif SET v = 1 WHERE v = 3",

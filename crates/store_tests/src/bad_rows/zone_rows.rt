@@ -36,7 +36,7 @@ const ZONE: &[&str] = &[
     "UPDATE zelem SET text = x'41' WHERE zone = 'TGT1' AND name = 'MAC2'",
 ];
 
-/// Zones, and what they say of each other.
+/// Zones, and what they say about each other.
 const ZONES: &[&str] = &[
     "UPDATE zone SET name = 'GLOBAL' WHERE name = 'DLB3'",
     "UPDATE zone SET name = '1DLB' WHERE name = 'DLB3'",
@@ -69,7 +69,7 @@ const GOOD_NUMBERS: &[&str] = &[
     "INSERT INTO chosen (zone, id, n) VALUES ('DLB1', 'HAA1100', 2)",
 ];
 
-/// Numbers below 2, and numbers of what is not applied or has no entry.
+/// Numbers below 2, and numbers of entries that are not applied or do not exist.
 const BAD_NUMBERS: &[&str] = &[
     "INSERT INTO chosen (zone, id, n) VALUES ('TGT1', 'UAA0001', 1)",
     "INSERT INTO chosen (zone, id, n) VALUES ('TGT1', 'UAA0001', 0)",
