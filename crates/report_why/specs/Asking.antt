@@ -1,4 +1,4 @@
--- What the facts of an id are looked up in, by the values of the code.
+-- Where the facts of an id are looked up, by the values of the code.
 use Rattle.std.specs.Prelude.{◌||◌, Bool}
 use Rattle.terms.specs.Types.{Id, Zone}
 use Rattle.terms.specs.Lookups.{is_in, is_applied}

@@ -11,11 +11,11 @@ use Rattle.report_why.specs.Facts.{StandingFact, EntryFact, VerFact, RequisiteFa
 use Rattle.report_why.specs.Facts.{TakesFact, NpreFact, ForbiddenFact, NeededFact}
 use Rattle.machine.specs.Report.{words_line, detail_line, left_in, optional_text, mark_text, entry_text}
 
--- a line behind four blanks
+-- a line after four blanks
 abbrev pub inner_line : List Text → Text
 inner_line words = 32 ∷ 32 ∷ detail_line words
 
--- the word where it is so, else -
+-- the word if it is so, otherwise -
 abbrev pub word_if : Bool → Text → Text
 word_if true word = word
 word_if false word = codes "-"
@@ -39,19 +39,19 @@ answer_word Waived = codes "WAIVED"
 answer_word ByItself = codes "ITSELF"
 answer_word (Open ids) = codes "OPEN"
 
--- an id a line; of none one line with -
+-- an id on each line; for no id one line with -
 abbrev pub id_lines : Text → List Id → Text
 id_lines word [] = inner_line (word ∷ codes "-" ∷ [])
 id_lines word (x ∷ xs) = flat_map (λ id. inner_line (word ∷ id ∷ [])) (x ∷ xs)
 
--- who supplies it, or who would serve it
+-- the SYSMODs that supply it, or that would serve it
 abbrev pub answer_lines : Answer → Text
 answer_lines (Supplied ids) = id_lines (codes "SUPPLIER") ids
 answer_lines Waived = []
 answer_lines ByItself = []
 answer_lines (Open ids) = id_lines (codes "CANDIDATE") ids
 
--- the function of an ++IF, and who states it
+-- the function of an ++IF, and the SYSMOD that states it
 abbrev pub condition_words : Option Id → Id → List Text
 condition_words None by = []
 condition_words (Some f) by = codes "FMID" ∷ f ∷ codes "BY" ∷ by ∷ []
@@ -90,7 +90,7 @@ owned_text false = codes "NOTOWNED"
 abbrev pub maker_line : Text → Maker → Text
 maker_line word m = inner_line (word ∷ m.id ∷ rank_text m.rank ∷ [])
 
--- what the zone has of an element, - where it has none
+-- what the zone has of an element, or - if it has none
 abbrev pub found_words : Option Found → List Text
 found_words None = codes "-" ∷ []
 found_words (Some f) = f.fmid ∷ owned_text f.owned ∷ []
@@ -125,7 +125,7 @@ fact_text (NeededFact y) = detail_line (codes "NEEDED" ∷ y ∷ [])
 abbrev pub facts_text : List Fact → Text
 facts_text facts = flat_map fact_text facts
 
--- 4 where nothing is known of an id
+-- 4 for an unknown id
 abbrev pub fact_code : Fact → ℕ
 fact_code (StandingFact x kind StandsMissing) = 4
 fact_code _ = 0

@@ -1,5 +1,5 @@
--- What is so of one id in a zone, and what an APPLY, ACCEPT or RESTORE of it would rest on.
--- The tests and needs are those of an install whose only candidate is this id, without BYPASS.
+-- The facts about one id in a zone, on which an APPLY, ACCEPT or RESTORE of it would rest. The tests and needs are
+-- those of an install whose only candidate is this id, without BYPASS.
 use Rattle.std.specs.Prelude.{◌≡◌, ◌≢◌, ◌↔◌, ◌+◌, ◌&&◌, ◌||◌, ◌==◌, ℕ, Bool, true, false, not, List, [], ◌∷◌, ◌++◌}
 use Rattle.std.specs.Prelude.{Option, None, Some, map, filter, option_map, is_some, Contains, IsTrue, IsFalse}
 use Rattle.std.specs.Prelude.{if◌then◌else◌}
@@ -28,12 +28,12 @@ use Rattle.terms.specs.CommandForms.{no_bypass}
 use Rattle.terms.specs.Judged.{setting}
 use Rattle.terms.specs.Restore.{NeedsInRestore}
 
--- what an install would look at that has this id as its only candidate, and no BYPASS
+-- what an install looks at if its only candidate is this id and it has no BYPASS
 abbrev pub alone : Global → Zone → Id → Setting
 alone g zone x = setting g zone None (x ∷ []) no_bypass
 
--- Where an id stands: applied (in a distribution zone accepted), superseded, deleted, received and none of these, or
--- nothing is known of it.
+-- The state of an id: applied (in a distribution zone accepted), superseded, deleted, received and none of these, or
+-- unknown.
 pub data Standing : Type 0 where
   StandsApplied : ZoneKind → Standing
   StandsSuperseded : Standing
@@ -49,8 +49,8 @@ standing g zone x =
     else if is_received g x then StandsReceived
     else StandsMissing
 
--- Something that an id asks for: of which kind, who states it, under which function an ++IF states it, and the id that
--- is asked for.
+-- Something that an id asks for: its kind, the SYSMOD that states it, the function of the ++IF that states it, and the
+-- id that is asked for.
 pub record Requisite : Type 0 where
   pub kind : NeedKind
   pub by : Id
@@ -72,12 +72,12 @@ stated_by y i = map (a_requisite Ifreq y (Some i.function)) i.req
 abbrev pub conditions_of : Choice → (Id → Bool) → Id → List Requisite
 conditions_of c is_there y = flat_map (stated_by y) (filter (λ i. is_there i.function) (ifs_of c y))
 
--- the applied SYSMODs of its view, but for x itself
+-- the applied SYSMODs of its view, except x itself
 abbrev pub others_applied : Setting → Id → List Id
 others_applied s x = filter (λ y. not (bytes_eq x y)) (applied_ids (view_of s x))
 
--- The requisites by ++IF, each with its function: x's own whose function is applied or x itself, and if x is a function
--- those that other applied SYSMODs state for it. (Their ids are what x asks for as IFREQ.)
+-- The requisites by ++IF, each with its function: those of x whose function is applied or x itself, and if x is a
+-- function those that other applied SYSMODs state for it. (Their ids are what x asks for as IFREQ.)
 abbrev pub conditions : Setting → Id → List Requisite
 conditions s x =
     conditions_of s.choice (λ f. is_applied (view_of s x) f || is_in s.cands f) x
@@ -88,7 +88,7 @@ pub record AreOrphans (s : Setting) (x : Id) (ids : List Id) : Type 0 where
   pub rising : IsRising ids
   pub members : (z : Id) → Contains ids z ↔ Contains (asked s (x ∷ []) x Orphan) z
 
--- all that x asks for, with these as ORPHAN, but for the reasons of ERROR holds
+-- all that x asks for, with these as ORPHAN, except the reasons of ERROR holds
 abbrev pub requisites : Setting → Id → List Id → List Requisite
 requisites s x lost =
     requisites_of s x Fmid ++ requisites_of s x Pre ++ requisites_of s x Req ++ conditions s x
@@ -101,31 +101,32 @@ is_waivable Req = true
 is_waivable Ifreq = true
 is_waivable _ = false
 
--- whether x is applied, and who states the requisite waives it, or the function for which it is stated
+-- whether x is applied, and the requisite is waived by the SYSMOD that states it or by the function for which it is
+-- stated
 abbrev pub is_waived : Zone → Id → Requisite → Bool
 is_waived zone x r =
     is_applied zone x && is_waivable r.kind
     && (is_in (waived_of zone r.by) r.id || option_map_or (λ f. is_in (waived_of zone f) r.id) r.function false)
 
--- who supplies what is asked for: as an FMID only what is applied does, else also what supersedes it
+-- the SYSMODs that supply what is asked for: for an FMID only an applied one, otherwise also one that supersedes it
 abbrev pub suppliers : Zone → NeedKind → Id → List Id
 suppliers zone Fmid z = if is_applied zone z then z ∷ [] else []
 suppliers zone _ z = (if is_applied zone z then z ∷ [] else []) ++ supby_of zone z
 
--- y is received, may be installed in the zone, and would serve it
+-- y is received, may be installed in the zone, and would serve the need
 pub record MayServe (s : Setting) (kind : NeedKind) (z y : Id) : Type 0 where
   pub installable : IsTrue (is_installable s.global s.zone y)
   pub serves : Serves s.choice kind y z
 
--- What becomes of something that x asks for: these SYSMODs supply it, it is waived, x would serve it itself, or it is
--- open, and these received SYSMODs would serve it.
+-- The answer to something that x asks for: these SYSMODs supply it, it is waived, x would serve it itself, or it is
+-- open and these received SYSMODs would serve it.
 pub data Answer : Type 0 where
   Supplied : List Id → Answer
   Waived : Answer
   ByItself : Answer
   Open : List Id → Answer
 
--- where x is installed, with what its DELETE takes out
+-- the zone into which x is installed, less what its DELETE takes out
 abbrev pub left_by : Setting → Id → Zone
 left_by s x = zone_left s (x ∷ [])
 
@@ -138,7 +139,7 @@ IsAnswer s x r (Open ids) =
     IsFalse (is_met (left_by s x) r.kind r.id) × IsFalse (is_waived s.zone x r) × (¬ MayServe s r.kind r.id x)
     × IsRising ids × ((y : Id) → Contains ids y ↔ MayServe s r.kind r.id y)
 
--- how a SYSMOD stands to one that made an element
+-- how a SYSMOD is related to one that made an element
 pub data Rank : Type 0 where
   Itself : Rank
   Over : Rank
@@ -149,7 +150,7 @@ IsRank c x z Itself = x ≡ z
 IsRank c x z Over = (x ≢ z) × IsOver c x z
 IsRank c x z NotOver = (x ≢ z) × ¬ IsOver c x z
 
--- a SYSMOD that made an element, and how x stands to it
+-- a SYSMOD that made an element, and how x is related to it
 pub record Maker : Type 0 where
   pub id : Id
   pub rank : Rank
@@ -166,13 +167,13 @@ pub record IsFound (s : Setting) (x : Id) (e : Element) (f : Found) : Type 0 whe
   pub owned : f.owned ≡ bytes_eq e.fmid (owner_of s x)
   pub makers : Beside (λ n z m. (m.id ≡ z) × IsRank s.choice x z m.rank) (e.rmid ∷ e.umids) (f.rmid ∷ f.umids)
 
--- the element that the zone has, or none
+-- the element in the zone, if it has one
 abbrev pub HasFound : Setting → Id → Option Element → Option Found → Type 0
 HasFound s x None f = f ≡ None
 HasFound s x (Some e) f = (found : Found) × (f ≡ Some found) × IsFound s x e found
 
 pub data Fact : Type 0 where
-  -- the id, its type where it is received, and where it stands
+  -- the id, its type if it is received, and its state
   StandingFact : Id → Option Kind → Standing → Fact
   -- its entry in a zone of this kind
   EntryFact : ZoneKind → Entry → Fact
@@ -180,11 +181,11 @@ pub data Fact : Type 0 where
   VerFact : ℕ → Option Id → Bool → Bool → Fact
   -- something that it asks for
   RequisiteFact : Requisite → Answer → Fact
-  -- a hold, and of an ERROR hold what becomes of its reason
+  -- a hold, and for an ERROR hold the answer to its reason
   HoldFact : Hold → Option Answer → Fact
-  -- an element that it replaces, or if not updates, as the zone has it
+  -- an element that it replaces, or otherwise updates, as the zone has it
   ElementFact : ElemType → Text → Bool → Option Found → Fact
-  -- an id that its DELETE names, and whether that is one of its own chain
+  -- an id that its DELETE names, and whether the id is in its own chain
   DeleteFact : Id → Bool → Fact
   -- an applied SYSMOD that its DELETE takes out
   TakesFact : Id → Fact
@@ -217,7 +218,7 @@ IsRequisiteFact s x r fact = (a : Answer) × (fact ≡ RequisiteFact r a) × IsA
 abbrev pub holds_on : Global → Id → List Hold
 holds_on g x = holds_of g Error x ++ holds_of g System x ++ holds_of g User x
 
--- of an ERROR hold the answer to its reason
+-- for an ERROR hold the answer to its reason
 abbrev pub HasResolution : Setting → Id → Hold → HoldKind → Option Answer → Type 0
 HasResolution s x h Error o = (a : Answer) × (o ≡ Some a) × IsAnswer s x (a_requisite HoldError x None h.reason) a
 HasResolution s x h _ o = o ≡ None
@@ -244,7 +245,7 @@ npre_facts s x =
     map (λ y. NpreFact y (is_applied (view_of s x) y)) (npre_of s.choice x)
     ++ map ForbiddenFact (filter (forbids s x) (applied_ids (view_of s x)))
 
--- y needs what x supplies, as a RESTORE of x alone would find. (No such need looks at the distribution zone.)
+-- y needs what x supplies, as a RESTORE of x alone would find. (Such a need does not depend on the distribution zone.)
 abbrev pub NeedsIt : Global → Zone → Id → Id → Type 0
 NeedsIt g zone x y =
     (accepted : Zone)

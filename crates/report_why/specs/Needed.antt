@@ -1,4 +1,4 @@
--- Who needs what an id supplies, by the values of the code.
+-- The SYSMODs that need what an id supplies, by the values of the code.
 use Rattle.std.specs.Prelude.{◌≡◌, ◌↔◌, List, [], ◌∷◌, map, Contains}
 use Rattle.std.specs.List.{flat_map}
 use Rattle.terms.specs.declared.codes.NeedKind.{NeedKind}
@@ -8,7 +8,7 @@ use Rattle.terms.specs.Lookups.{IsRising}
 use Rattle.judge_system.specs.declared.stated.RequisiteOf.{RequisiteOf}
 use Rattle.report_why.specs.Facts.{Fact, NeededFact, NeedsIt}
 
--- the id, where it is needed as DEP
+-- the id, if it is needed as DEP
 abbrev pub dep_in : NeedKind → Id → List Id
 dep_in Dep z = z ∷ []
 dep_in _ z = []

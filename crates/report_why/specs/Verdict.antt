@@ -1,4 +1,4 @@
--- What an APPLY or ACCEPT would make of an id, in words: what its line says, with what each failed test and each open
+-- What an APPLY or ACCEPT would make of an id, in words: what its line says, and what each failed test and each open
 -- need rests on. The words name the facts of the id.
 use Rattle.std.specs.Prelude.{◌&&◌, Bool, true, false, not, List, [], ◌∷◌, ◌++◌, Option, None, Some, codes, decimal}
 use Rattle.std.specs.Prelude.{if◌then◌else◌}
@@ -23,8 +23,8 @@ use Rattle.report_why.specs.FactText.{inner_line}
 
 -- ---- failed tests
 
--- what the test looks at: holds of this kind, the owner or the makers of an element, what is to be updated, DELETE,
--- NPRE, ++VERs, the related target zone
+-- what the test looks at: holds of this kind, the owner or the makers of an element, an element to update, DELETE,
+-- NPRE, ++VERs, or the related target zone
 abbrev pub by_hold : Test → HoldKind → Bool
 by_hold HeldBySystem System = true
 by_hold HeldByUser User = true
@@ -58,11 +58,11 @@ abbrev pub by_vers : Test → Bool
 by_vers SeveralFit = true
 by_vers _ = false
 
--- the word with a colon behind it
+-- the word, followed by a colon
 abbrev pub named : Text → Text
 named text = text ++ codes ":"
 
--- the lines of a hold, of an element that is there, and of one that is not
+-- the lines of a hold, of an element that exists, and of one that does not
 abbrev pub hold_reason : Test → Hold → Text
 hold_reason t h =
     if by_hold t h.kind then inner_line (test_text t ∷ hold_text h.kind ∷ codes "hold" ∷ h.reason ∷ []) else []
@@ -122,7 +122,7 @@ test_told facts t =
 
 -- ---- open needs
 
--- what the fact says becomes of what is needed
+-- the answer of the fact to what is needed
 abbrev pub answered : NeedKind → Id → Fact → Option Answer
 answered kind z (RequisiteFact r a) = if bytes_eq (need_text kind) (need_text r.kind) && bytes_eq z r.id then Some a else None
 answered kind z (HoldFact h o) = if bytes_eq (need_text kind) (need_text HoldError) && bytes_eq z h.reason then o else None
@@ -132,12 +132,12 @@ abbrev pub or_other : Option Answer → Option Answer → Option Answer
 or_other (Some a) other = Some a
 or_other None other = other
 
--- what the first fact that says so says of it
+-- the answer of the first fact that has one
 abbrev pub first_answer : NeedKind → Id → List Fact → Option Answer
 first_answer kind z [] = None
 first_answer kind z (f ∷ fs) = or_other (answered kind z f) (first_answer kind z fs)
 
--- who would supply it
+-- the SYSMODs that would supply it
 abbrev pub supply_words : Option Answer → List Text
 supply_words (Some ByItself) = codes "it supplies this itself" ∷ []
 supply_words (Some (Open (y ∷ ys))) = list_text (y ∷ ys) ∷ codes "would supply it" ∷ []
@@ -153,7 +153,7 @@ need_told facts n = need_line n (supply_words (first_answer n.kind n.id facts))
 
 -- ---- the verdict
 
--- a causer of a failure, but for x itself
+-- a causer of a failure, except x itself
 abbrev pub causer_told : Id → Id → Text
 causer_told x y = if bytes_eq x y then [] else inner_line (codes "CAUSER" ∷ y ∷ [])
 
@@ -161,7 +161,7 @@ abbrev pub failure_told : Id → List Fact → Failure → Text
 failure_told x facts f =
     flat_map (test_told facts) f.tests ++ flat_map (need_told facts) f.needs ++ flat_map (causer_told x) f.causers
 
--- what would become of it; an id that is no candidate has the word of its line
+-- the status that it would get; an id that is not a candidate has the word of its line
 abbrev pub verdict_word : Status → Text
 verdict_word Applied = codes "WOULD BE APPLIED"
 verdict_word Accepted = codes "WOULD BE ACCEPTED"
@@ -176,7 +176,7 @@ why_told x facts _ = []
 abbrev pub status_told : Id → List Fact → Status → Text
 status_told x facts status = detail_line (verdict_word status ∷ []) ++ why_told x facts status
 
--- what a line of APPLY or ACCEPT says of x; the lines of others say nothing of it
+-- what a line of APPLY or ACCEPT says about x; the lines of other ids say nothing about it
 abbrev pub verdict_told : Id → List Fact → Line → Text
 verdict_told x facts (StatusLine y place status) =
     if bytes_eq x y then status_told x facts status else []

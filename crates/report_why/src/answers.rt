@@ -1,4 +1,4 @@
-//! What becomes of something that an id asks for.
+//! The answer to something that an id asks for.
 ghost use Rattle.std.specs.Prelude.{◌≡◌, ◌↔◌, filter, ◌||◌, [], ◌∷◌, false, Contains, IsTrue, IfOk};
 ghost use Rattle.std.specs.Prelude.{if◌then◌else◌};
 ghost use Rattle.terms.specs.Types.{Id as AnId};
@@ -32,7 +32,7 @@ fn itself(alloc: Global, asking: &Asking<'_, '_>, id: Id) -> Result<Vec<Id>, All
     Ok(found)
 }
 
-// Who supplies it in what the id asked about leaves of the zone.
+// The SYSMODs that supply it in what the id in question leaves of the zone.
 fn suppliers(
     alloc: Global,
     asking: &Asking<'_, '_>,
@@ -68,7 +68,7 @@ fn is_waivable(kind: NeedKind) -> bool
     matches!(kind, NeedKind::Pre | NeedKind::Req | NeedKind::Ifreq)
 }
 
-// Whether the requisite of the id is waived: by who states it, or by the function for which it is stated.
+// Whether the requisite of the id is waived: by the SYSMOD that states it, or by the function for which it is stated.
 fn is_waived(zone: &Zone, id: Id, requisite: Requisite) -> bool
     ensures { result ≡ is_waived zone.now id requisite }
 {
@@ -124,7 +124,7 @@ fn installable(alloc: Global, asking: &Asking<'_, '_>) -> Result<Vec<Id>, AllocE
         .collect(alloc)
 }
 
-// The received SYSMODs that may be installed, and that serve.
+// The received SYSMODs that may be installed and that serve the need.
 fn candidates(
     alloc: Global,
     asking: &Asking<'_, '_>,
@@ -146,7 +146,7 @@ fn candidates(
     Ok(ids)
 }
 
-/// What becomes of what the id asks for. The error comes where memory runs out.
+/// The answer to what the id asks for.
 pub(crate) fn answer(
     alloc: Global,
     asking: &Asking<'_, '_>,

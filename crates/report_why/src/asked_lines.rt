@@ -1,4 +1,4 @@
-//! The lines of what an id asks for, and of the holds on it. An error comes where memory runs out.
+//! The lines of what an id asks for, and of the holds on it.
 ghost use Rattle.std.specs.Prelude.{◌≡◌, ◌++◌, option_map, OnOk};
 ghost use Rattle.std.specs.String.{string_bytes};
 ghost use Rattle.report_why.specs.Facts.{RequisiteFact, HoldFact};
@@ -13,7 +13,7 @@ use fields::spelling::{hold_text, need_text};
 use std::alloc::AllocError;
 use sysmods_values::Hold;
 
-// An id a line, or one line with `-`.
+// An id on each line, or one line with `-`.
 fn put_id_lines(word: &[u8], ids: &[Id], text: &mut Vec<u8>) -> Result<(), AllocError>
     ensures { OnOk result (text.new.items ≡ text.old.items ++ id_lines word.now ids.now) }
 {
@@ -30,7 +30,7 @@ fn put_id_lines(word: &[u8], ids: &[Id], text: &mut Vec<u8>) -> Result<(), Alloc
     Ok(())
 }
 
-// Who supplies it, or who would serve it.
+// The SYSMODs that supply it, or that would serve it.
 fn put_answer(answer: &Resolution, text: &mut Vec<u8>) -> Result<(), AllocError>
     ensures { OnOk result (text.new.items ≡ text.old.items ++ answer_lines (answer_view answer.now)) }
 {
@@ -42,7 +42,7 @@ fn put_answer(answer: &Resolution, text: &mut Vec<u8>) -> Result<(), AllocError>
     }
 }
 
-/// Appends something that is asked for, and what becomes of it.
+/// Appends something that is asked for, and its answer.
 pub(crate) fn put_requisite(
     requisite: &Requisite,
     answer: &Resolution,
@@ -87,7 +87,7 @@ fn put_comment(comment: &Option<String>, text: &mut Vec<u8>) -> Result<(), Alloc
     }
 }
 
-/// Appends a hold, and of an ERROR hold what becomes of its reason.
+/// Appends a hold, and for an ERROR hold the answer to its reason.
 pub(crate) fn put_hold(
     hold: &Hold,
     resolution: &Option<Resolution>,

@@ -1,4 +1,4 @@
-//! What the facts of an id are looked up in.
+//! Where the facts of an id are looked up.
 ghost use Rattle.std.specs.Prelude.{◌≡◌, [], ◌∷◌, filter, map};
 ghost use Rattle.terms.specs.Types.{Sysmod as ASysmod};
 ghost use Rattle.terms.specs.Lookups.{is_in, applied_ids};
@@ -9,8 +9,8 @@ ghost use Rattle.zones.specs.Scopes.{global_of, choice_of};
 use fields::Id;
 use zones::Scope;
 
-/// The id, what an install of it alone looks into, and beside that what its view lacks (`seen` are the deletions), what
-/// its own DELETE takes out (`dropped`), and the ids that are applied and received.
+/// The id, what an install of it alone looks at, what its view lacks (`seen` are the deletions), what its own DELETE
+/// takes out (`dropped`), and the ids that are applied and received.
 #[derive(Clone, Copy)]
 pub(crate) struct Asking<'a, 'b> {
     pub(crate) scope: Scope<'a, 'b>,

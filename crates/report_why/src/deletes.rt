@@ -28,7 +28,7 @@ fn dels<'a>(vers: &VerChoice<'a>, id: Id) -> &'a [Id]
     }
 }
 
-// Whether its chain has this id.
+// Whether its chain contains this id.
 fn is_in_chain(vers: &VerChoice<'_>, id: Id, other: Id) -> bool
     ensures { result ≡ is_in (chain vers.now.global.now (choice vers.now) id) other }
 {
@@ -51,7 +51,7 @@ fn taken_out(
         .collect(alloc)
 }
 
-/// What its DELETE names, and what that takes out. The error comes where memory runs out.
+/// What its DELETE names, and what that takes out.
 pub(crate) fn delete_facts(
     alloc: Global,
     asking: &Asking<'_, '_>,

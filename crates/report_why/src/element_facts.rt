@@ -18,7 +18,7 @@ use sysmods::{GlobalZone, VerChoice};
 use sysmods_values::{Action, ElemChange};
 use zones::Element;
 
-// A SYSMOD that made an element, and how the id stands to it.
+// A SYSMOD that made an element, and how the id is related to it.
 fn maker(alloc: Global, vers: &VerChoice<'_>, id: Id, other: Id) -> Result<Maker, AllocError>
     ensures { IfOk result (λ m. IsMaker (choice vers.now) id other m) }
 {
@@ -92,7 +92,7 @@ fn changes_of(global: &GlobalZone, id: Id) -> &[ElemChange]
     }
 }
 
-/// The elements that it changes. The error comes where memory runs out.
+/// The elements that it changes.
 pub(crate) fn element_facts(
     alloc: Global,
     asking: &Asking<'_, '_>,

@@ -1,4 +1,4 @@
-//! The lines of an element. An error comes where memory runs out.
+//! The lines of an element.
 ghost use Rattle.std.specs.Prelude.{◌≡◌, ◌++◌, option_map, OnOk};
 ghost use Rattle.report_why.specs.Facts.{ElementFact};
 ghost use Rattle.report_why.specs.FactText.{maker_line, fact_text};

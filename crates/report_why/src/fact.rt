@@ -1,4 +1,4 @@
-//! What is told of an id.
+//! What is told about an id.
 
 use fields::{Id, IdList, Name};
 use std::marker::Model;
@@ -6,7 +6,7 @@ use sysmods_values::Hold;
 use terms::{ElemType, Kind, NeedKind, ZoneKind};
 use zones::Entry;
 
-/// Where an id stands in a zone. `Received` is none of those before it.
+/// The state of an id in a zone. `Received` means none of the states before it.
 #[derive(Clone, Copy, Debug, PartialEq, Eq)]
 pub enum Standing {
     /// In a distribution zone it is accepted.
@@ -17,7 +17,7 @@ pub enum Standing {
     Missing,
 }
 
-/// Something that an id asks for, and who states it; the function is that of an `++IF`.
+/// Something that an id asks for, and the SYSMOD that states it; the function is that of an `++IF`.
 #[derive(Clone, Copy)]
 pub struct Requisite {
     pub kind: NeedKind,
@@ -36,19 +36,19 @@ impl Model for Requisite {
     ghost inverse = { λ r. record { kind = r.kind; by = r.by; function = r.function; id = r.id } };
 }
 
-/// What becomes of something that is asked for.
+/// The answer to something that is asked for.
 #[derive(Drop)]
 pub enum Resolution {
     /// These supply it.
     Supplied(Vec<Id>),
     Waived,
-    /// Whoever asks for it would serve it.
+    /// The id that asks for it would serve it.
     ByItself,
     /// These received SYSMODs would serve it.
     Open(IdList),
 }
 
-/// How a SYSMOD stands to one that made an element.
+/// How a SYSMOD is related to one that made an element.
 #[derive(Clone, Copy, Debug, PartialEq, Eq)]
 pub enum Rank {
     Itself,
@@ -56,14 +56,14 @@ pub enum Rank {
     NotOver,
 }
 
-/// The RMID or a UMID of an element, and how the SYSMOD in question stands to it.
+/// The RMID or a UMID of an element, and how the SYSMOD in question is related to it.
 #[derive(Clone, Copy)]
 pub struct Maker {
     pub id: Id,
     pub rank: Rank,
 }
 
-/// What the zone has of an element. It is `owned` where its owner is that of the SYSMOD in question.
+/// What the zone has of an element. It is `owned` if its owner is that of the SYSMOD in question.
 #[derive(Drop)]
 pub struct Found {
     pub fmid: Id,
@@ -103,7 +103,7 @@ pub enum Fact<'a> {
         requisite: Requisite,
         answer: Resolution,
     },
-    /// Of an ERROR hold, with what becomes of its reason.
+    /// For an ERROR hold with the answer to its reason.
     Hold {
         hold: &'a Hold,
         resolution: Option<Resolution>,

@@ -46,7 +46,7 @@ pub(crate) fn type_word(kind: Option<Kind>) -> &'static [u8]
     }
 }
 
-/// The word of what is applied: in a distribution zone it is accepted.
+/// The word for an applied SYSMOD: in a distribution zone it is accepted.
 pub(crate) fn applied_word(kind: ZoneKind) -> &'static [u8]
     ensures { result.now ≡ standing_text (StandsApplied kind) }
 {

@@ -25,7 +25,7 @@ use undo::applied_ids;
 use zones::{Scope, Zone, choose, deletions, view_deletions};
 
 /// The global zone and a zone, and what is found once for all ids: the ids that are applied and received, and the
-/// `++VER`s that count where there are no candidates.
+/// `++VER`s that count without candidates.
 #[derive(Clone, Copy)]
 struct Looking<'a, 'b> {
     global: &'a GlobalZone,
@@ -100,7 +100,7 @@ fn facts<'a>(alloc: Global, looking: &Looking<'a, '_>, id: Id) -> Result<Vec<Fac
     facts_alone(alloc, looking, &scope, id)
 }
 
-/// The facts of each of these ids in the zone, in their order. The error comes where memory runs out.
+/// The facts of each of these ids in the zone, in their order.
 pub fn facts_of<'a>(
     alloc: Global,
     global: &'a GlobalZone,

@@ -1,4 +1,4 @@
-//! What an id forbids by NPRE, and what forbids it.
+//! What an id forbids by NPRE, and which functions forbid it.
 ghost use Rattle.std.specs.Prelude.{◌≡◌, ◌&&◌, [], filter, map, IfOk};
 ghost use Rattle.terms.specs.Lookups.{is_applied};
 ghost use Rattle.terms.specs.Choice.{npre_of};
@@ -44,7 +44,7 @@ fn forbidding(alloc: Global, asking: &Asking<'_, '_>) -> Result<Vec<Id>, AllocEr
         .collect(alloc)
 }
 
-/// What its NPRE names, and the applied functions that forbid it. The error comes where memory runs out.
+/// What its NPRE names, and the applied functions that forbid it.
 pub(crate) fn npre_facts(
     alloc: Global,
     asking: &Asking<'_, '_>,

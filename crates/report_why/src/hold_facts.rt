@@ -16,7 +16,7 @@ use std::alloc::{AllocError, Global};
 use sysmods_values::Hold;
 use terms::{HoldKind, NeedKind};
 
-// What becomes of the reason of an ERROR hold, which is an id.
+// The answer to the reason of an ERROR hold, which is an id.
 fn error_resolution(
     alloc: Global,
     asking: &Asking<'_, '_>,
@@ -40,7 +40,7 @@ fn error_resolution(
     }
 }
 
-// What becomes of the reason, if it is an ERROR hold.
+// The answer to the reason, if it is an ERROR hold.
 fn resolution(
     alloc: Global,
     asking: &Asking<'_, '_>,
@@ -72,7 +72,7 @@ fn facts_of_kind<'a>(
     Ok(facts)
 }
 
-/// The holds on it, those for ERROR first. The error comes where memory runs out.
+/// The holds on it, those for ERROR first.
 pub(crate) fn hold_facts<'a>(
     alloc: Global,
     asking: &Asking<'_, 'a>,

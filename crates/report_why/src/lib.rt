@@ -1,8 +1,9 @@
-//! What is so of ids in a zone, and what an APPLY, ACCEPT or RESTORE of them would rest on.
-//! `facts_of` answers the facts of the definition, by the tests and needs of an install of each id alone. `put_facts`
-//! spells them, and `facts_code` is the status of the answer. `put_verdict` puts into words what the lines of an APPLY or
-//! ACCEPT say of an id, with the facts that each failed test and each open need rests on. Seen in the code alone: an id is one pass over the
-//! entries, and for each requisite that is open one over the received SYSMODs.
+//! The facts about ids in a zone, and what an APPLY, ACCEPT or RESTORE of them would rest on. `facts_of` returns the
+//! facts of the definition, by the tests and needs of an install of each id alone. `put_facts` spells them, and
+//! `facts_code` is the status of the answer. `put_verdict` puts into words what the lines of an APPLY or ACCEPT say
+//! about an id, with the facts on which each failed test and each open need rests. No contract says how much work that
+//! is: for each id one pass over the entries, and for each open requisite one over the received SYSMODs. Every call
+//! that allocates returns `AllocError` if memory runs out.
 #![tactic(auto)]
 
 mod answers;

@@ -1,4 +1,4 @@
-//! Lines of facts: words with a blank between each two. An error comes where memory runs out.
+//! Lines of facts: words separated by blanks.
 ghost use Rattle.std.specs.Prelude.{◌≡◌, ◌++◌, ◌∷◌, map, OnOk};
 ghost use Rattle.machine.specs.Report.{words_line, left_in, list_text};
 ghost use Rattle.report_why.specs.LineWords.{word_text};
@@ -12,14 +12,14 @@ use std::alloc::AllocError;
 #[derive(Clone, Copy)]
 pub(crate) enum FactWord<'a> {
     Of(&'a [u8]),
-    /// With a colon behind it.
+    /// Followed by a colon.
     Named(&'a [u8]),
-    /// The first word where it is so, else the second.
+    /// The first word if it is so, otherwise the second.
     If(bool, &'static [u8], &'static [u8]),
-    /// In so many places, with blanks behind it.
+    /// Padded with blanks to so many places.
     Left(usize, &'a [u8]),
     Number(usize),
-    /// With commas between them, or `-`.
+    /// Joined by commas, or `-`.
     Ids(&'a [Id]),
 }
 
@@ -38,7 +38,7 @@ fn put_named(word: &[u8], text: &mut Vec<u8>) -> Result<(), AllocError>
     put(b":", text)
 }
 
-// Appends the word, and blanks up to so many places.
+// Appends the word, padded with blanks to so many places.
 fn put_left(places: usize, word: &[u8], text: &mut Vec<u8>) -> Result<(), AllocError>
     ensures { OnOk result (text.new.items ≡ text.old.items ++ left_in places word.now) }
 {
@@ -49,7 +49,7 @@ fn put_left(places: usize, word: &[u8], text: &mut Vec<u8>) -> Result<(), AllocE
     Ok(())
 }
 
-// Appends the ids with commas between them, or `-`.
+// Appends the ids, joined by commas, or `-`.
 fn put_ids(ids: &[Id], text: &mut Vec<u8>) -> Result<(), AllocError>
     ensures { OnOk result (text.new.items ≡ text.old.items ++ list_text ids.now) }
 {

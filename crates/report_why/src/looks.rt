@@ -1,4 +1,4 @@
-//! Look-ups in what an id alone sees, and in what it leaves.
+//! Look-ups in what an id sees by itself, and in what it leaves.
 ghost use Rattle.std.specs.Prelude.{◌≡◌, not, filter, option_copied, IfOk};
 ghost use Rattle.terms.specs.Lookups.{is_applied, element_of, supby_of};
 ghost use Rattle.terms.specs.Needs.{is_met};
@@ -61,7 +61,7 @@ impl<'a, 'b> Asking<'a, 'b> {
             .collect(alloc)
     }
 
-    /// What supersedes the id in what it leaves of the zone. The error comes where memory runs out.
+    /// The SYSMODs that supersede the id in what it leaves of the zone.
     pub(crate) fn superseders(&self, alloc: Global, id: Id) -> Result<Vec<Id>, AllocError>
         ensures { IfOk result (λ ids. ids.items ≡ supby_of (left_in self.now) id) }
     {

@@ -26,7 +26,7 @@ fn push_dep(need: RequisiteOf, found: &mut Vec<Id>) -> Result<(), AllocError>
 }
 
 /// The applied SYSMODs that need what it supplies, as a RESTORE of it alone finds them. The `++VER`s are those that
-/// count where there are no candidates. The error comes where memory runs out.
+/// count without candidates.
 pub(crate) fn needed_facts(
     alloc: Global,
     vers: &VerChoice<'_>,

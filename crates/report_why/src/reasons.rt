@@ -1,4 +1,4 @@
-//! The lines of a failed test, by the facts that it rests on. An error comes where memory runs out.
+//! The lines of a failed test, by the facts on which it rests.
 ghost use Rattle.std.specs.Prelude.{◌≡◌, ◌++◌, map, option_map, OnOk};
 ghost use Rattle.report_why.specs.Facts.{ElementFact, VerFact, DeleteFact, NpreFact, ForbiddenFact};
 ghost use Rattle.report_why.specs.Verdict.{by_hold, by_npre, by_owner, by_makers, by_update, by_target, by_delete};
@@ -88,7 +88,7 @@ fn put_hold(test: Test, hold: &Hold, text: &mut Vec<u8>) -> Result<(), AllocErro
     put_words(b"   ", &words, text)
 }
 
-// Of a SYSMOD that made the element, unless the id is over it.
+// The line of a SYSMOD that made the element, unless the id is over it.
 fn put_maker<'a>(
     test: Test,
     elem_type: ElemType,
@@ -152,7 +152,7 @@ fn put_owner<'a>(
     put_words(b"   ", &words, text)
 }
 
-// Of an element that is there.
+// The lines of an element that exists.
 fn put_there<'a>(
     test: Test,
     elem_type: ElemType,
@@ -172,7 +172,7 @@ fn put_there<'a>(
     Ok(())
 }
 
-// Of an element that is not there.
+// The line of an element that does not exist.
 fn put_missing(
     test: Test,
     elem_type: ElemType,

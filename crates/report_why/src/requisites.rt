@@ -55,7 +55,7 @@ fn push_stated(by: Id, condition: &IfReq, found: &mut Vec<Requisite>) -> Result<
     Ok(())
 }
 
-// Adds what its own `++IF`s state whose function is there.
+// Adds what its own `++IF`s state whose function is applied or the id itself.
 fn push_own(
     asking: &Asking<'_, '_>,
     conditions: &[IfReq],
@@ -90,14 +90,14 @@ fn push_for(
     Ok(())
 }
 
-// Whether it is another SYSMOD than the id, which the view has applied.
+// Whether it is another SYSMOD than the id, and applied in its view.
 fn is_other_applied(asking: &Asking<'_, '_>, by: Id) -> bool
     ensures { result ≡ (is_applied (view_in asking.now) by && not (bytes_eq asking.now.id by)) }
 {
     asking.sees(by) && asking.id != by
 }
 
-// Adds what other SYSMODs of these, which the view has applied, state for the id as a function.
+// Adds what others of these SYSMODs, which are applied in the view, state for the id as a function.
 fn push_of_others(
     asking: &Asking<'_, '_>,
     ids: &[Id],
@@ -127,7 +127,7 @@ fn push_conditions(asking: &Asking<'_, '_>, found: &mut Vec<Requisite>) -> Resul
     push_of_others(asking, asking.applied, found)
 }
 
-// All that the id asks for, but for the reasons of ERROR holds.
+// All that the id asks for, except the reasons of ERROR holds.
 fn requisites(alloc: Global, asking: &Asking<'_, '_>) -> Result<Vec<Requisite>, AllocError>
     ensures { IfOk result (λ found. (lost : List AnId) × AreOrphans (setting_in asking.now) asking.now.id lost
         × (found.items ≡ requisites (setting_in asking.now) asking.now.id lost)) }
@@ -147,7 +147,7 @@ fn requisites(alloc: Global, asking: &Asking<'_, '_>) -> Result<Vec<Requisite>, 
     Ok(found)
 }
 
-/// What it asks for, and what becomes of that. The error comes where memory runs out.
+/// What it asks for, and the answer to that.
 pub(crate) fn requisite_facts(
     alloc: Global,
     asking: &Asking<'_, '_>,

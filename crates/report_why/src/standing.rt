@@ -1,4 +1,4 @@
-//! Where an id stands, and its entry.
+//! The state of an id, and its entry.
 ghost use Rattle.std.specs.Prelude.{◌≡◌, not, is_some, option_map, IfOk, map};
 ghost use Rattle.terms.specs.Lookups.{is_nil, sysmod_of, supby_of, delby_of};
 ghost use Rattle.report_why.specs.Facts.{standing, standing_facts};
@@ -55,7 +55,7 @@ fn kind_of(global: &GlobalZone, id: Id) -> Option<Kind>
     Some(sysmod.kind)
 }
 
-/// Where the id stands, and its entry if there is one. The error comes where memory runs out.
+/// The state of the id, and its entry if there is one.
 pub(crate) fn standing_facts<'a>(
     alloc: Global,
     global: &GlobalZone,

@@ -1,4 +1,4 @@
-//! The text of facts. An error comes where memory runs out.
+//! The text of facts.
 ghost use Rattle.std.specs.Prelude.{◌≡◌, ◌++◌, map, OnOk};
 ghost use Rattle.report_why.specs.Facts.{EntryFact, VerFact};
 ghost use Rattle.report_why.specs.FactText.{fact_text, facts_text as text_of, fact_code, facts_code as code_of};
@@ -104,7 +104,7 @@ fn put_fact(fact: &Fact<'_>, text: &mut Vec<u8>) -> Result<(), AllocError>
     }
 }
 
-/// Appends the lines of facts. The error comes where memory runs out.
+/// Appends the lines of facts.
 pub fn put_facts(facts: &[Fact<'_>], text: &mut Vec<u8>) -> Result<(), AllocError>
     ensures { OnOk result (text.new.items ≡ text.old.items ++ text_of (map fact_view facts.now)) }
 {
@@ -126,7 +126,7 @@ fn fact_code(fact: &Fact<'_>) -> u8
     }
 }
 
-/// The status of an answer: 4 where nothing is known of an id.
+/// The status of an answer: 4 for an unknown id.
 pub fn facts_code(facts: &[Fact<'_>]) -> u8
     ensures { result ≡ code_of (map fact_view facts.now) }
 {

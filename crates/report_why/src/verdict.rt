@@ -1,4 +1,4 @@
-//! What APPLY or ACCEPT would make of an id, in words. An error comes where memory runs out.
+//! What APPLY or ACCEPT would make of an id, in words.
 ghost use Rattle.std.specs.Prelude.{◌≡◌, ◌++◌, ◌∷◌, ◌&&◌, [], Some, map, option_map, OnOk};
 ghost use Rattle.std.specs.List.{flat_map};
 ghost use Rattle.std.specs.Str.{bytes_eq};
@@ -27,7 +27,7 @@ fn is_of(need: &OpenNeed, kind: NeedKind, id: &[u8]) -> bool
     need_text(need.kind) == need_text(kind) && need.id.as_bytes() == id
 }
 
-// What the fact says becomes of what is needed.
+// The answer of the fact to what is needed.
 fn answered<'f>(need: &OpenNeed, fact: &'f Fact<'_>) -> Option<&'f Resolution>
     ensures { option_map (λ a. answer_view a.now) result ≡ answered need.now.kind need.now.id (fact_view fact.now) }
 {
@@ -50,7 +50,7 @@ fn answered<'f>(need: &OpenNeed, fact: &'f Fact<'_>) -> Option<&'f Resolution>
     }
 }
 
-// What the first fact that says so says of what is needed.
+// The answer of the first fact that has one to what is needed.
 fn first_answer<'f>(need: &OpenNeed, facts: &'f [Fact<'_>]) -> Option<&'f Resolution>
     ensures { option_map (λ a. answer_view a.now) result ≡ first_answer need.now.kind need.now.id (map fact_view facts.now) }
 {
@@ -246,8 +246,7 @@ fn put_line<'a>(
     }
 }
 
-/// Appends what these lines of an APPLY or ACCEPT say of the id, in words that name its facts. The error comes where
-/// memory runs out.
+/// Appends what these lines of an APPLY or ACCEPT say about the id, in words that name its facts.
 pub fn put_verdict<'a>(
     id: Id,
     facts: &'a [Fact<'_>],

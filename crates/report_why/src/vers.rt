@@ -59,7 +59,7 @@ fn vers_of(global: &GlobalZone, id: Id) -> &[Ver]
     }
 }
 
-/// Its `++VER`s for the zone's SREL. The error comes where memory runs out.
+/// Its `++VER`s for the zone's SREL.
 pub(crate) fn ver_facts(
     alloc: Global,
     scope: &Scope<'_, '_>,

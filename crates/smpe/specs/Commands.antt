@@ -26,7 +26,8 @@ job_error store.Fault = Store store.Fault
 job_error store.OtherSchema = Store store.OtherSchema
 job_error store.NoState = Store store.NoState
 
--- The commands ran from s, with this as their greatest code, and the session is the job's at what they led to.
+-- The commands ran from s, with this as their greatest code, and the session is the job's at the state to which they
+-- led.
 abbrev pub EndsCommands : {S : Type 0} → Ghosts S → Held S → Held S → State → Session → Text → Files → List Command
     → Option (List ℕ) → Option (List ℕ) → Result ℕ JobError → Type 0
 EndsCommands g began at s session date files commands old new (Ok code) =

@@ -8,7 +8,7 @@ use Rattle.machine.specs.Report.{text}
 use Rattle.machine.specs.Runs.{Runs}
 use Rattle.report.specs.Sent.{WrotePart}
 
--- `Steps` says where an act leads, and with which outcomes: of the machine's states, or of a store.
+-- `Steps` says where an act leads, and with which outcomes: for the machine's states, or for a store.
 module _ {W : Type 0} (Steps : W → Act → W → List Outcome → Type 0) where
   -- The acts ran one after the other, and the sink took the report of each.
   pub record AllRan (start : W) (acts : List Act) (end : W) (old new : Option (List ℕ)) : Type 0 where
@@ -16,8 +16,8 @@ module _ {W : Type 0} (Steps : W → Act → W → List Outcome → Type 0) wher
     pub runs : Runs Steps start acts end outcomes
     pub appends : Appends old new (flat_map text outcomes)
 
-  -- Some first acts ran, and are reported. `Last` says how the call ended then, of what they led to, of what the sink
-  -- had taken, and of the acts that were left.
+  -- Some first acts ran, and are reported. `Last` says how the call ended then, given where they led, what the sink had
+  -- taken, and the remaining acts.
   pub record Course (Last : W → Option (List ℕ) → List Act → Type 0) (start : W) (acts : List Act)
       (old : Option (List ℕ)) : Type 0 where
     pub done : List Act
@@ -28,12 +28,12 @@ module _ {W : Type 0} (Steps : W → Act → W → List Outcome → Type 0) wher
     pub ran : AllRan start done before old had
     pub last : Last before had rest
 
-  -- The sink failed: the act ran, and of its report a beginning went out.
+  -- The sink failed: the act ran, and a beginning of its report went out.
   abbrev pub Unreported : (W → Type 0) → Option (List ℕ) → W → Option (List ℕ) → Act → Type 0
   Unreported IsLeft new before had act = (after : W) × (outcomes : List Outcome) × Steps before act after outcomes
       × IsLeft after × WrotePart had new (flat_map text outcomes)
 
--- It was the next act by which the call ended so.
+-- The call ended by the next act in this way.
 abbrev pub AtNext : {W : Type 0} → (W → Option (List ℕ) → Act → Type 0) → W → Option (List ℕ) → List Act → Type 0
 AtNext Ended before had [] = ⊥
 AtNext Ended before had (next ∷ rest) = Ended before had next

@@ -38,18 +38,18 @@ abbrev pub is_write : {X : Type 0} → Result X JobError → Bool
 is_write (Err Write) = true
 is_write _ = false
 
--- whether a report could not be written is what the result says, where the sink had not failed before
+-- whether the result says that a report could not be written, if the sink had not failed before
 abbrev pub TellsOfSink : Bool → Bool → {X : Type 0} → Result X JobError → Type 0
 TellsOfSink before after result = before ≡ false → after ≡ is_write result
 
--- All zones are closed of each inventory that the tables stand for, and of each that they stand for after a crash.
+-- All zones are closed in each inventory for which the tables stand, and in each for which they stand after a crash.
 pub record StaysClosed {S : Type 0} (g : Ghosts S) (at : Held S) : Type 0 where
   pub now : (i : Inventory) → IsTrue (state g at).is_open → StandsFor i (state g at).committed
       → AreClosed i.global i.zones
   pub crash : (db : Trees) → (state g at).may_leave db → (schema : Schema) (i : Inventory)
       → StandsFor i (record { schema = schema; trees = db }) → AreClosed i.global i.zones
 
--- Where the tables stood for a state whose zones are closed, they stay so.
+-- If the tables stood for a state whose zones are closed, they stay so.
 abbrev pub KeepsClosed : {S : Type 0} → Ghosts S → Held S → Held S → Type 0
 KeepsClosed g old new =
     HasCleanDisk (state g new) → (s : State) → Keeps g old s → AreClosed s.global s.zones → StaysClosed g new
@@ -62,14 +62,14 @@ IsAfterNext s (next ∷ rest) c = IsAfter s next c
 -- A call began at the store `began`, and left the store as it is now.
 module _ {S : Type 0} (g : Ghosts S) (began at : Held S) where
   module _ (new : Option (List ℕ)) where
-    -- The act met a fault: it had no effect, but that a crash may leave one, and no report. The cause is of this call,
-    -- and of this act.
+    -- The act met a fault: it had no effect, except that a crash may leave one, and no report. The cause is of this
+    -- call, and of this act.
     abbrev pub Faulted : State → Option (List ℕ) → Act → Type 0
     Faulted before had act = ActFailed g began at before act store.Fault × (had ≡ new)
 
-    -- The call ended by this error: for want of memory, at the next act, if there was one, or before that was begun; by
-    -- a fault of the store that the next act met; or by a fault of the sink. Where the connection is still open, the
-    -- store keeps what the acts led to that ran, and the caller may go on from there.
+    -- The call ended by this error: because memory ran out, at the next act, if there was one, or before that began; by
+    -- a fault of the store that the next act met; or by a fault of the sink. If the connection is still open, the store
+    -- keeps the result of the acts that ran, and the caller may go on from there.
     abbrev pub LastStep : JobError → State → Option (List ℕ) → List Act → Type 0
     LastStep Memory before had rest = StillKeeps g at before (IsAfterNext before rest) × (had ≡ new)
     LastStep (Store store.Fault) before had rest = AtNext Faulted before had rest
@@ -86,8 +86,7 @@ module _ {S : Type 0} (g : Ghosts S) (began at : Held S) (s : State) where
   abbrev pub EndsAmong : List machine.Job → Option (List ℕ) → Option (List ℕ) → JobError → Type 0
   EndsAmong jobs old new error = (acts : List Act) × AreFirstActs jobs acts × EndsEarly acts old new error
 
-  -- The job ran, and this is its answer: the tables stand for what it led to, a crash leaves that, and its bytes went
-  -- out.
+  -- The job ran, and this is its answer: the tables stand for its result, a crash leaves that, and its bytes went out.
   abbrev pub EndsJob : machine.Job → Option (List ℕ) → Option (List ℕ) → {V : Type 0} → (V → machine.Answer)
       → Result V JobError → Type 0
   EndsJob job old new answer (Ok v) =

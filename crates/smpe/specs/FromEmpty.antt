@@ -25,7 +25,7 @@ pub record IsNewStore {S : Type 0} (g : Ghosts S) (conn store : Held S) : Type 0
   pub leaves : (i : Inventory) → IsFound g conn i → Leaves g store (λ c. c ≡ i)
 
 -- Jobs with dates, names and SRELs of their forms were run over such a store, to their end or to an error. All zones
--- are closed of what the tables stand for then, and of what they stand for after a crash.
+-- are closed in what the tables stand for then, and in what they stand for after a crash.
 abbrev pub EndsClosed : {S : Type 0} → Ghosts S → Type 0
 EndsClosed {S} g =
     (conn began at : Held S) (jobs : List Job) (old new : Option (List ℕ)) (result : Result (List Answer) JobError)

@@ -1,4 +1,4 @@
--- How a call goes over a store, whatever its tables are: they need not stand for a state.
+-- How a call goes over a store, whatever its tables hold: they need not stand for a state.
 use Rattle.std.specs.Prelude.{◌≡◌, ◌⊎◌, ℕ, List, [], ◌∷◌, ◌++◌, map, Option, Result, Ok, Err}
 use Rattle.sqlite.specs.Store.{Ghosts}
 use Rattle.sqlite.specs.Held.{Held, state}
@@ -20,7 +20,7 @@ use Rattle.smpe.specs.Course.{AllRan, Course, Unreported, AtNext}
 use Rattle.smpe.specs.declared.error.JobError.{JobError}
 use Rattle.smpe.specs.declared.error.JobError.TheVariants.{Memory, Store, Write}
 
--- The acts of a job over a store: its beginning and its commands, if it has any. Where its command file is at fault, it
+-- The acts of a job over a store: its beginning and its commands, if it has any. If its command file has a fault, it
 -- does not even begin.
 abbrev pub Asks : Job → List Act → Type 0
 Asks (RunFiles date cntl files) acts =
@@ -37,9 +37,9 @@ AreFirstAsked (job ∷ more) acts =
 
 module _ {S : Type 0} (g : Ghosts S) where
   -- The store before an act that ran, the store after it, and what was reported. A job's beginning has found the rows
-  -- of a global zone, and has left the store as it was; the fault of a command file has not asked it. A command has its
-  -- own header. One that was refused has left the store as it was; one that ran, or the definition of a zone, has made
-  -- no more than one change of its own, a command of the zone that its header names.
+  -- of a global zone, and has left the store as it was. The fault of a command file has not asked the store. A command
+  -- has its own header. One that was refused has left the store as it was. One that ran, or the definition of a zone,
+  -- has made at most one change of its own, a command one of the zone that its header names.
   abbrev pub Passes : Held S → Act → Held S → List Outcome → Type 0
   Passes old Begin new outcomes = OnlyLoads g old new × (outcomes ≡ [])
       × (HasCleanDisk (state g new) → (global : terms.Global) × ShowsGlobal g old global)
@@ -60,8 +60,8 @@ module _ {S : Type 0} (g : Ghosts S) where
     Fails error before had act =
         GoesOver g before new (IsOwn act) {X = Unit {0}} (Err error) × (had ≡ taken')
 
-    -- Its error was this one. No state is there, if that is what it tells; and none tells of another schema. Or the
-    -- sink failed, and the store is as the act left it.
+    -- Its error was this one. If the error says that there is no state, there is none; and none says that the schema is
+    -- another. Or the sink failed, and the store is as the act left it.
     abbrev pub FailsBy : JobError → Held S → Option (List ℕ) → Act → Type 0
     FailsBy Memory before had act = Fails Memory before had act
     FailsBy (Store store.Fault) before had act = Fails (Store store.Fault) before had act
@@ -70,7 +70,7 @@ module _ {S : Type 0} (g : Ghosts S) where
     FailsBy (Store _) before had act = ⊥
     FailsBy Write before had act = Unreported Passes (λ after. after ≡ new) taken' before had act
 
-    -- The call ended by this error: by that of the next act, or for want of memory before that was begun.
+    -- The call ended by this error: by that of the next act, or because memory ran out before that began.
     abbrev pub LastCall : JobError → Held S → Option (List ℕ) → List Act → Type 0
     LastCall error before had rest =
         AtNext (FailsBy error) before had rest ⊎ ((error ≡ Memory) × (before ≡ new) × (had ≡ taken'))
@@ -80,13 +80,13 @@ module _ {S : Type 0} (g : Ghosts S) where
     abbrev pub GoesEarly : JobError → Type 0
     GoesEarly error = Course Passes (LastCall new taken' error) old acts taken
 
-    -- So commands go: to their end, with the greatest return code of what they reported, or to an error.
+    -- Commands go in this way: to their end, with the greatest return code of what they reported, or to an error.
     abbrev pub Goes : Result ℕ JobError → Type 0
     Goes (Ok code) = (passed : Passed old new acts taken taken') × (code ≡ job_code passed.outcomes)
     Goes (Err error) = GoesEarly error
 
-  -- What an answer tells of a job that reported these outcomes. Its return code is the greatest of theirs. A zone that
-  -- is defined was added in one commit, and one that is not defined has left the store as it was.
+  -- What an answer says about a job that reported these outcomes. Its return code is the greatest of theirs. A zone
+  -- that is defined was added in one commit, and one that is not defined has left the store as it was.
   abbrev pub Tells : Answer → Job → Held S → Held S → List Outcome → Type 0
   Tells answer (RunFiles date cntl files) old new outcomes = answer ≡ Code (job_code outcomes)
   Tells (Code n) (NewZone d) old new outcomes = ⊥
@@ -116,13 +116,13 @@ module _ {S : Type 0} (g : Ghosts S) where
     JobsStopped jobs taken taken' error =
         (acts : List Act) × AreFirstAsked jobs acts × GoesEarly old new acts taken taken' error
 
-    -- so a job goes, with these answers
+    -- a job goes in this way, with these answers
     abbrev pub JobGoes : Job → Option (List ℕ) → Option (List ℕ) → {X : Type 0} → (X → Answer) → Result X JobError
         → Type 0
     JobGoes job taken taken' answer (Ok x) = JobPassed old job new taken taken' (answer x)
     JobGoes job taken taken' answer (Err error) = JobsStopped (job ∷ []) taken taken' error
 
-    -- and so jobs
+    -- and so do jobs
     abbrev pub JobsGo : List Job → Option (List ℕ) → Option (List ℕ) → {X : Type 0} → (X → List Answer)
         → Result X JobError → Type 0
     JobsGo jobs taken taken' answers (Ok x) = JobsPassed old jobs new taken taken' (answers x)

@@ -3,7 +3,7 @@ use Rattle.std.specs.Prelude.{ℕ, List, ◌++◌, codes}
 use Rattle.terms.specs.Types.{Text}
 use Rattle.machine.specs.Report.{left_in}
 
--- a record each
+-- one record for each
 abbrev pub two_records : Text → Text → List ℕ
 two_records first second = left_in 80 first ++ left_in 80 second
 

@@ -53,7 +53,7 @@ job_text job.Write = codes "write"
 abbrev pub program_line : Text → Text
 program_line text = codes "smpe: " ++ (text ++ 10 ∷ [])
 
--- the line of a fault; where `clap` refused the words, its own text stands instead
+-- the line of a fault; if `clap` refused the words, its own text takes the place of the line
 abbrev pub fault_text : Fault → Text
 fault_text (Job why) = program_line (job_text why)
 fault_text (Arg arg.Memory) = program_line (codes "out of memory")

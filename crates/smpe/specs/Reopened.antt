@@ -1,4 +1,4 @@
--- What the next open of a database finds behind jobs that ended early, and what a caller goes on from.
+-- What the next open of a database finds after jobs that ended early, and from where a caller goes on.
 use Rattle.std.specs.Prelude.{◌≡◌, ◌⊎◌, ℕ, List, Option}
 use Rattle.sqlite.specs.Store.{Ghosts}
 use Rattle.sqlite.specs.Held.{Held, state}
@@ -25,10 +25,10 @@ module _ {T : Type 0} (h : Ghosts T) (again : Held T) where
   abbrev pub KeepsOne : (Inventory → Type 0) → Type 0
   KeepsOne Among = (c : Inventory) × Among c × Stands (Tables h again) (Leaves h again) c
 
--- `One` says of some inventories that one of them is found.
+-- `One` says about some inventories that one of them is found.
 module _ (One : (Inventory → Type 0) → Type 0) where
-  -- The call ended by this error, and found is what the acts led to that ran, or what the next one leads to. After a
-  -- fault of the sink, the next one ran, and found is what it led to.
+  -- The call ended by this error, and what is found is the result of the acts that ran, or of one act more. After a
+  -- fault of the sink, the next act ran, and what is found is its result.
   abbrev pub LastFound : Option (List ℕ) → JobError → State → Option (List ℕ) → List Act → Type 0
   LastFound new Memory before had rest = One (λ c. (c ≡ kept before) ⊎ IsAfterNext before rest c) × (had ≡ new)
   LastFound new (Store store.Fault) before had rest =
@@ -43,7 +43,7 @@ module _ (One : (Inventory → Type 0) → Type 0) where
   abbrev pub FindsAmong : State → List Job → Option (List ℕ) → Option (List ℕ) → JobError → Type 0
   FindsAmong s jobs old new error = (acts : List Act) × AreFirstActs jobs acts × FindsEarly s acts old new error
 
--- Behind jobs that ended early, whether or not a fault shut the connection, the next open finds the state of the
+-- After jobs that ended early, whether or not a fault shut the connection, the next open finds the state of the
 -- commands that were reported, or that of one command more.
 abbrev pub NextOpenFinds : {S T : Type 0} → Ghosts S → Ghosts T → Type 0
 NextOpenFinds {S} {T} g h =
@@ -51,10 +51,9 @@ NextOpenFinds {S} {T} g h =
     → EndsAmong g began at s jobs old new error → ShowsLeft g at h again
     → ∥ FindsAmong (ShowsOne h again) s jobs old new error ∥₁
 
--- The store was opened again behind what jobs had left of the first connection, and a caller may go on with it. It
--- keeps the state that the first one kept; and behind jobs that ended early, whether or not a fault shut the
--- connection, the state of the commands that were reported, or that of one command more. Which of them it is, a load
--- tells.
+-- The store was opened again after what jobs had left of the first connection, and a caller may go on with it. It keeps
+-- the state that the first one kept. After jobs that ended early, whether or not a fault shut the connection, it keeps
+-- the state of the commands that were reported, or that of one command more. A load tells which of them it is.
 pub record GoesOn {S T : Type 0} (g : Ghosts S) (at : Held S) (h : Ghosts T) (again : Held T) : Type 0 where
   pub clean : HasCleanDisk (state g at)
   pub same : (s : State) → Keeps g at s → ∥ Keeps h again s ∥₁

@@ -1,4 +1,4 @@
-//! A store that is opened again behind jobs that ended early.
+//! A store that is opened again after jobs that ended early.
 ghost use Rattle.std.specs.Prelude.{◌≡◌, false, IfOk};
 ghost use Rattle.smpe.specs.Reopened.{GoesOn};
 ghost use Rattle.sqlite.specs.Files.{file_state, over_files};
@@ -10,7 +10,7 @@ use sqlite_disk::Crash;
 use std::alloc::Global;
 use store::{Store, StoreError};
 
-/// Takes apart what is left of the connection, without a call of its disks, has these come back, and opens their files.
+/// Takes apart what is left of the connection, without a call of its disks, brings these back, and opens their files.
 fn connected_again<D: Crash + Drop>(
     alloc: Global,
     conn: Connection<FileStore<D>>,
@@ -29,9 +29,9 @@ fn connected_again<D: Crash + Drop>(
     }
 }
 
-/// Goes on behind jobs, also where a fault shut the connection: takes apart what is left of it, has its disks come
-/// back, and opens the store over their files again. The error hands the files back: `Memory` comes where memory runs
-/// out, `Fault` where the disks fail, and any other one where the tables were not the store's.
+/// Goes on after jobs, even if a fault shut the connection: takes apart what is left of it, brings its disks back, and
+/// opens the store over their files again. The error returns the files: `Memory` if memory runs out, `Fault` if the
+/// disks fail, and any other one if the tables were not the store's.
 pub fn reopened<D: Crash + Drop>(
     alloc: Global,
     conn: Connection<FileStore<D>>,

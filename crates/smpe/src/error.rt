@@ -10,7 +10,7 @@ use thiserror::Error;
 pub enum JobError {
     #[error("out of memory")]
     Memory,
-    /// A store fault: `Sf1`, `Sf3` where the tables stand for no state, or, of a store that was not opened, `Sf2`.
+    /// A store fault: `Sf1`, `Sf3` if the tables stand for no state, or, for a store that was not opened, `Sf2`.
     #[error("{0}")]
     Store(StoreError),
     /// The report could not be written.

@@ -48,7 +48,7 @@ fn run_command<S: Alter, W: Sink>(
     }
 }
 
-/// Performs commands one after the other, and answers the highest return code.
+/// Performs commands one after the other, and returns the highest return code.
 fn run_commands<S: Alter, W: Sink>(
     alloc: Global,
     session: &mut Session,
@@ -76,10 +76,10 @@ fn run_commands<S: Alter, W: Sink>(
     Ok(code)
 }
 
-/// Performs the commands of a command file over a PTFIN and a hold file, each committed first and reported after, and
-/// answers the highest return code. A command file at fault is reported too. `Memory` comes where memory runs out,
-/// `Write` where the report can't be written, and `Store` with `Fault` where the database fails, or with `NoState`
-/// where the rows stand for no state.
+/// Performs the commands of a command file over a PTFIN and a hold file, each committed first and reported after that,
+/// and returns the highest return code. It also reports a command file with a fault. Returns `Memory` if memory runs
+/// out, `Write` if the report cannot be written, and `Store` with `Fault` if the database fails, or with `NoState` if
+/// the rows stand for no state.
 pub fn run_job<S: Alter, W: Sink>(
     alloc: Global,
     store: &mut Store<S>,

@@ -46,7 +46,7 @@ pub enum Answer {
     Refused(ZoneFault),
 }
 
-/// Defines a zone, and answers how that ended.
+/// Defines a zone, and returns how that ended.
 fn define<S: Alter>(
     store: &mut Store<S>,
     name: ZoneName,
@@ -106,9 +106,9 @@ fn run_one<S: Alter, W: Sink>(
     }
 }
 
-/// Runs the jobs one after the other. A refused definition does not end the list, an error does: `Memory` comes where
-/// memory runs out, `Write` where the report can't be written, and `Store` with `Fault` where the database fails, or
-/// with `NoState` where the rows stand for no state.
+/// Runs the jobs one after the other. A refused definition does not end the list, but an error does: `Memory` if memory
+/// runs out, `Write` if the report cannot be written, and `Store` with `Fault` if the database fails, or with `NoState`
+/// if the rows stand for no state.
 pub fn run_jobs<S: Alter, W: Sink>(
     alloc: Global,
     store: &mut Store<S>,

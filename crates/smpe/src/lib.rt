@@ -1,12 +1,12 @@
-//! Jobs over a store, and what `smpe` is asked to do and tells of it.
-//! The headline is `run_jobs`: the bytes handed to the sink, the answers, and what the tables stand for are the
-//! machine's, or after an error those of some first commands; and whatever a crash leaves has in it each command that
-//! was reported. Zones that were closed stay so, also after an error and a crash (`closed`). The program's lines and
-//! its exit status are `zone_line` and `fault_line`. A fault of the database has a cause in the call that answers it;
-//! no contract says when want of memory comes. What the next open finds after an error is a law, `next_open_finds`, and
-//! that jobs over a new database end with closed zones is another one, `ends_closed`.
-//! Whatever the tables are (`course`), each command has loaded, or made one change of its own besides; and the answer
-//! that they stand for no state has changed nothing since the last command that was reported.
+//! Jobs over a store, and what `smpe` is asked to do and says about it. The headline is `run_jobs`: the bytes handed to
+//! the sink, the answers, and what the tables stand for are the machine's, or after an error those of some first
+//! commands. Whatever a crash leaves includes each command that was reported. Zones that were closed stay so, also
+//! after an error and a crash (`closed`). `zone_line` and `fault_line` are the program's lines and its exit status. A
+//! fault of the database has a cause in the call that returns it. No contract says when memory runs out. Two laws
+//! follow: what the next open finds after an error (`next_open_finds`), and that jobs over a new database end with
+//! closed zones (`ends_closed`). Whatever the tables hold (`course`), each command has loaded, or made one change of
+//! its own besides. If the answer is that they stand for no state, nothing has changed since the last command that was
+//! reported.
 #![tactic(auto)]
 
 mod again;

@@ -1,4 +1,4 @@
-//! The program's own lines: how the definition of a zone ended, and why nothing was run to its end.
+//! The program's own lines: how the definition of a zone ended, and why a run did not reach its end.
 ghost use Rattle.std.specs.Prelude.{◌≡◌, ◌<◌, ◌++◌, length, false, codes, is_err, IfOk};
 ghost use Rattle.report.specs.Sent.{Sent};
 ghost use Rattle.machine.specs.Machine.{Defined, NotDefined};
@@ -49,7 +49,7 @@ fn write_refused<W: Sink>(fault: ZoneFault, w: &mut W) -> Result<u8, WriteFault>
     Ok(12)
 }
 
-/// The program's status where this is the answer: of a job its return code.
+/// The program's status for this answer: for a job its return code.
 pub fn status_of(answer: &Answer) -> u8
     ensures { result ≡ answer_status (answer_of answer.now) }
 {
@@ -60,8 +60,8 @@ pub fn status_of(answer: &Answer) -> u8
     }
 }
 
-/// Writes the line of a defined or refused zone, and answers the program's status: of a job its return code, which has
-/// no line here. The error comes where the line can't be written.
+/// Writes the line of a defined or refused zone, and returns the program's status: for a job its return code, which has
+/// no line here. Returns an error if the line cannot be written.
 pub fn zone_line<W: Sink>(name: ZoneName, answer: &Answer, w: &mut W) -> Result<u8, WriteFault>
     ensures sends { Sent W.Sink w.old w.new (zone_text name (answer_of answer.now)) }
     ensures fault { W.has_failed w.old ≡ false → W.has_failed w.new ≡ is_err result }
@@ -75,8 +75,8 @@ pub fn zone_line<W: Sink>(name: ZoneName, answer: &Answer, w: &mut W) -> Result<
     }
 }
 
-/// Writes the line of a database that has the tables of this program's schema, and answers the program's status. The
-/// error comes where the line can't be written.
+/// Writes the line of a database that has the tables of this program's schema, and returns the program's status.
+/// Returns an error if the line cannot be written.
 pub fn migrated_line<W: Sink>(w: &mut W) -> Result<u8, WriteFault>
     ensures sends { Sent W.Sink w.old w.new migrated_text }
     ensures fault { W.has_failed w.new ≡ is_err result }
@@ -92,7 +92,7 @@ pub const FAULT_STATUS: u8 = 16;
 /// The faults of the program.
 #[derive(Debug, Drop, Error)]
 pub enum Fault<'a> {
-    /// A job's, also where its store was not opened.
+    /// That of a job, also if its store was not opened.
     #[error("{0}")]
     Job(JobError),
     #[error("{0}")]
@@ -166,8 +166,8 @@ fn write_fault<W: Sink>(fault: &Fault<'_>, w: &mut W) -> Result<(), WriteFault>
     }
 }
 
-/// Writes the line of a fault, and answers the program's status. The text of an error of `clap` is left to who has it.
-/// The error comes where the line can't be written.
+/// Writes the line of a fault, and returns the program's status. It leaves the text of an error of `clap` to the
+/// caller. Returns an error if the line cannot be written.
 pub fn fault_line<W: Sink>(fault: &Fault<'_>, w: &mut W) -> Result<u8, WriteFault>
     ensures sends { Sent W.Sink w.old w.new (fault_text fault.now) }
     ensures fault { W.has_failed w.old ≡ false → W.has_failed w.new ≡ is_err result }

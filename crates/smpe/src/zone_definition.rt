@@ -13,9 +13,9 @@ use sqlite::Alter;
 use store::Store;
 use terms::ZoneKind;
 
-/// Adds a zone without entries. `Refused` has the first that applies of `NameTaken`, `WrongRelated`, `OtherSrel` and
-/// `TooMany`; `Memory` comes where memory runs out, and `Store` has `Fault` where the database fails, or `NoState`
-/// where the rows of zones stand for none.
+/// Adds a zone without entries. `Refused` is the first that applies of `NameTaken`, `WrongRelated`, `OtherSrel` and
+/// `TooMany`. Returns `Memory` if memory runs out. `Store` is `Fault` if the database fails, or `NoState` if the rows
+/// of zones stand for none.
 pub fn define_zone<S: Alter>(
     store: &mut Store<S>,
     name: ZoneName,

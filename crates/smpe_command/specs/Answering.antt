@@ -1,4 +1,4 @@
--- The program: which status it answers, and what goes to which stream.
+-- The program: which status it returns, and what goes to which stream.
 use Rattle.std.specs.Prelude.{◌≡◌, ◌⊎◌, ℕ, Bool, false, true, List, Result, Ok, Err}
 use Rattle.clap.specs.Words.{kind_of}
 use Rattle.clap.specs.declared.error.kind.ErrorKind.{ErrorKind}
@@ -21,7 +21,7 @@ abbrev pub Shows : {H D : Type 0} → HostGhosts H D → H → Fault → H → T
 Shows host h (Arg (Clap error)) after = host.shows h error after
 Shows host h _ after = after ≡ h
 
--- what the words ask for is a text of `clap`'s, as for `--help` and `--version`
+-- the words ask for a text of `clap`'s, as `--help` and `--version` do
 abbrev pub is_text_kind : ErrorKind → Bool
 is_text_kind DisplayHelp = true
 is_text_kind DisplayVersion = true
@@ -37,24 +37,25 @@ Prints host h (Clap error) after = host.prints h error after
 Prints host h _ after = after ≡ h
 
 module _ {H D E : Type 0} (host : HostGhosts H D) (stderr : SinkGhosts E) where
-  -- A fault is told on standard error, and the status is 16, whether or not its line goes out.
+  -- A fault is reported on standard error, and the status is 16, whether or not its line goes out.
   abbrev pub Tells : H → E → Fault → ℕ → H → E → Type 0
   Tells h err fault status after err' =
       Shows host h fault after × Sent stderr err err' (fault_text fault) × (status ≡ fault_status)
 
-  -- The text that the words ask for is printed, and the status is 0; or their fault is told.
+  -- The text for which the words ask is printed, and the status is 0, or their fault is reported.
   abbrev pub TellsWords : H → E → ArgFault → ℕ → H → E → Type 0
   TellsWords h err fault status after err' =
       ((is_text fault ≡ true) × Prints host h fault after × (status ≡ 0) × (err' ≡ err))
       ⊎ ((is_text fault ≡ false) × Tells h err (Arg fault) status after err')
 
-  -- nothing is told of what ended well
+  -- nothing is reported about a success
   abbrev pub Ends : H → E → Result ℕ Fault → ℕ → H → E → Type 0
   Ends h err (Ok code) status after err' = (status ≡ code) × (after ≡ h) × (err' ≡ err)
   Ends h err (Err fault) status after err' = Tells h err fault status after err'
 
 module _ {H D O E : Type 0} (host : HostGhosts H D) (g : Ghosts D) (stdout : SinkGhosts O) (stderr : SinkGhosts E) where
-  -- What the words ask for is done, and told if it failed; or they ask for a text or have a fault, and nothing is done.
+  -- What the words ask for is done, and reported if it failed. Or they ask for a text or have a fault, and nothing is
+  -- done.
   abbrev pub Answers : List (List ℕ) → H → O → E → ℕ → H → O → E → Type 0
   Answers words h out err status after out' err' =
       ((asked : Invocation) × IsAsked words asked × (m : H) × (r : Result ℕ Fault)

@@ -12,7 +12,7 @@ use Rattle.smpe_invocation.specs.declared.fault.ArgFault.TheVariants.{BadOperand
 abbrev pub AreText : List (List ℕ) → Type 0
 AreText words = All IsUtf8 words
 
--- the words as they are shown: what is not UTF-8 is U+FFFD
+-- the words as they are shown: U+FFFD stands for what is not UTF-8
 abbrev pub shown : List (List ℕ) → List Text
 shown words = map utf8_lossy words
 
@@ -20,8 +20,8 @@ shown words = map utf8_lossy words
 abbrev pub IsAsked : List (List ℕ) → Invocation → Type 0
 IsAsked words asked = AreText words × IsRead words asked
 
--- The words ask for nothing, for this reason. A word that is not UTF-8 is a bad operand, where `clap` takes the words
--- as they are shown and they would ask for something.
+-- The words ask for nothing, for this reason. A word that is not UTF-8 is a bad operand if `clap` takes the words as
+-- they are shown and they would ask for something.
 abbrev pub IsUnasked : List (List ℕ) → ArgFault → Type 0
 IsUnasked words BadOperand = IsRefused (shown words) BadOperand
     ⊎ (¬ AreText words × ((asked : Invocation) × IsRead (shown words) asked))

@@ -1,4 +1,4 @@
--- A job over the database of a name, and what is asked of it.
+-- A job over the database of a name, and what is asked about it.
 use Rattle.std.specs.Prelude.{◌≡◌, ◌⊎◌, List, [], ◌∷◌, false, IsTrue, Result, Ok, Err}
 use Rattle.sqlite.specs.declared.error.Error.{Error}
 use Rattle.sqlite.specs.Store.{Ghosts}
@@ -32,8 +32,8 @@ use Rattle.smpe.specs.Going.{JobsGo}
 use Rattle.smpe_command.specs.declared.host.Host.{Ghosts as HostGhosts}
 
 module _ {H D : Type 0} (host : HostGhosts H D) (g : Ghosts D) where
-  -- The database could not be made the store's, for this reason, and was closed. So it was left: what was last
-  -- committed is there as before, and a crash leaves that, or the tables that were made in a database that had none.
+  -- The database could not be made the store's, for this reason, and was closed. It was left in this way: what was last
+  -- committed is as before, and a crash leaves that, or the tables that were created in a database that had none.
   pub record Unready (opened : H) (conn : Held D) (why : StoreError) (after : H) : Type 0 where
     pub left : Held D
     pub other : HasCleanDisk (state g left) → why ≡ OtherSchema → HasOtherNumber (state g conn)
@@ -50,8 +50,8 @@ module _ {H D : Type 0} (host : HostGhosts H D) (g : Ghosts D) where
   FailsToOpen h db why after = ((error : Error) × host.refuses h db error after × (why ≡ told error))
       ⊎ ((conn : Held D) × (opened : H) × host.opens h db conn opened × Unready opened conn why after)
 
-  -- The database of this name was opened. The store's tables, made where there were none, stand for what was found. A
-  -- database that was not blank is as it was, whatever its tables are.
+  -- The database of this name was opened. The store's tables, created if there were none, stand for what was found. A
+  -- database that was not blank is as it was, whatever its tables hold.
   pub record Opens (h : H) (db : Text) (store : Held D) (after : H) : Type 0 where
     pub conn : Held D
     pub opens : host.opens h db conn after
@@ -61,9 +61,9 @@ module _ {H D : Type 0} (host : HostGhosts H D) (g : Ghosts D) where
         → IsUnchanged (state g conn) (state g store)
     pub crash : Survives (state g conn) (state g store) (IsSetUp (state g conn).now)
 
-  -- The database of this name was opened, a job ended so over each state that it was found to stand for, and it was
-  -- closed. The cause of a fault is since the opening. Zones that were closed stay so. Whatever the tables are, the job
-  -- went so from the store that was opened.
+  -- The database of this name was opened, a job ended in this way over each state for which it was found to stand, and
+  -- it was closed. The cause of a fault is since the opening. Zones that were closed stay so. Whatever the tables hold,
+  -- the job went in this way from the store that was opened.
   pub record Works (h : H) (db : Text) (Ends : Held D → Held D → State → Type 0) (Goes : Held D → Held D → Type 0)
       (after : H) : Type 0 where
     pub begun : Held D
@@ -76,7 +76,8 @@ module _ {H D : Type 0} (host : HostGhosts H D) (g : Ghosts D) where
     pub goes : Goes begun store
     pub closes : host.closes opened store after
 
-  -- The jobs ran so over the database of this name, from the first one on, or it was not opened. They are answered so.
+  -- The jobs ran over the database of this name in this way, from the first one on, or it was not opened. These are
+  -- their answers.
   abbrev pub JobsOver : {O : Type 0} → SinkGhosts O → H → Text → List machine.Job → O → {V : Type 0}
       → (V → List machine.Answer) → Result V JobError → H → O → Type 0
   JobsOver sink h db jobs out answers r after out' =
@@ -92,15 +93,15 @@ module _ {H D : Type 0} (host : HostGhosts H D) (g : Ghosts D) where
   JobOver sink h db job out r after out' =
       JobsOver sink h db (job ∷ []) out (λ answer. answer_of answer ∷ []) r after out'
 
-  -- The database of this name was opened, and the global zone and the zone of that name were found so over each state
-  -- that it was found to stand for. Whatever the tables are, the call has loaded, and nothing else; and where it tells
-  -- of no state, there is none. Or it was not opened.
+  -- The database of this name was opened, and the global zone and the zone of that name were found over each state for
+  -- which it was found to stand. Whatever the tables hold, the call has only loaded; and if it reports no state, there
+  -- is none. Or the database was not opened.
   abbrev pub FoundOver : H → Text → Text → Result LoadedZones StoreError → H → Type 0
   FoundOver h db name r after = ((why : StoreError) × FailsToOpen h db why after × (r ≡ Err why))
       ⊎ Works h db (λ conn store s. HasLoaded g conn store s (IsFoundIn name (kept s)) r)
       (λ begun store. LoadsAlone g begun store r × TellsNoState g begun store r) after
 
-  -- The database of this name was opened, taken over to the store's schema or left as it was, and closed; or it was not
+  -- The database of this name was opened, migrated to the store's schema or left as it was, and closed; or it was not
   -- opened.
   abbrev pub MigratesOver : H → Text → Result (Unit {0}) StoreError → H → Type 0
   MigratesOver h db (Ok done) after =

@@ -1,4 +1,4 @@
--- In which order the files of a job are read, and which fault of theirs is told.
+-- In which order the files of a job are read, and which of their faults is reported.
 use Rattle.std.specs.Prelude.{◌≡◌, ◌≢◌, ◌⊎◌, ℕ, List, [], ◌∷◌, Option, Some, None, Result, Ok, Err}
 use Rattle.std.specs.IoError.{error_kind}
 use Rattle.std.specs.declared.io.Error.{Error}
@@ -9,14 +9,14 @@ use Rattle.smpe.specs.declared.messages.Fault.{Fault}
 use Rattle.smpe.specs.declared.messages.Fault.TheVariants.{Job, CannotRead}
 use Rattle.smpe_command.specs.declared.host.Host.{Ghosts}
 
--- how the error of a read is told
+-- how the error of a read is reported
 abbrev pub TellsRead : Text → Error → Fault → Type 0
 TellsRead name error (Job Memory) = error_kind error ≡ OutOfMemory
 TellsRead name error (CannotRead told) = (error_kind error ≢ OutOfMemory) × (told.now ≡ name)
 TellsRead name error _ = ⊥
 
 module _ {H D : Type 0} (host : Ghosts H D) where
-  -- The file of this name has these bytes, or is not read. A file that is left out has none.
+  -- The file of this name has these bytes, or is not read. An option that is left out counts as an empty file.
   abbrev pub Reads : H → Option Text → Result (List ℕ) Fault → H → Type 0
   Reads h None (Ok bytes) after = (bytes ≡ []) × (after ≡ h)
   Reads h None (Err fault) after = ⊥
@@ -24,7 +24,7 @@ module _ {H D : Type 0} (host : Ghosts H D) where
   Reads h (Some name) (Err fault) after =
       (error : Error) × host.withholds h name error after × TellsRead name error fault
 
-  -- The files are read one after the other, up to the first that can't be read.
+  -- The files are read one after the other, up to the first that cannot be read.
   abbrev pub ReadsAll : H → List (Option Text) → Result (List (List ℕ)) Fault → H → Type 0
   ReadsAll h [] (Ok files) after = (files ≡ []) × (after ≡ h)
   ReadsAll h [] (Err fault) after = ⊥

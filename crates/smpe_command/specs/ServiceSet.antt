@@ -39,27 +39,27 @@ set_jobs srel date cntl files =
     ∷ RunFiles date receive_records files ∷ RunFiles date cntl files ∷ []
 
 module _ {S : Type 0} (g : Ghosts S) (conn : Held S) where
-  -- The tables were not made by this connection, for this reason. Only one that has other tables already tells of
-  -- another schema, or of no state.
+  -- The connection did not create the tables, for this reason. Only one that already has other tables reports another
+  -- schema, or no state.
   pub record Unmade (why : StoreError) : Type 0 where
     pub left : Held S
     pub other : HasCleanDisk (state g left) → why ≡ OtherSchema → HasOtherNumber (state g conn)
     pub none : HasCleanDisk (state g left) → why ≡ NoState → HasNoState (state g conn)
 
-  -- It failed so, and nothing was printed.
+  -- It failed in this way, and printed nothing.
   abbrev pub FailsToMake : {O : Type 0} → O → {V : Type 0} → Result V JobError → O → Type 0
   FailsToMake out r out' = (why : StoreError) × Unmade why × (r ≡ Err (job_error why)) × (out' ≡ out)
 
-  -- The tables were made by it, or not; and where it has found an empty system, the jobs ran over that. The cause of a
-  -- fault is since it was handed over.
+  -- The connection created the tables, or it did not. If it found an empty system, the jobs ran over that. The cause of
+  -- a fault is since the connection was handed over.
   abbrev pub JobsOverNew : {O : Type 0} → SinkGhosts O → List machine.Job → O → {V : Type 0}
       → (V → List machine.Answer) → Result V JobError → O → Type 0
   JobsOverNew sink jobs out answers r out' = FailsToMake out r out'
       ⊎ ((store : Held S) × (HasCleanDisk (state g store) → IsFound g conn (kept empty_system)
       → EndsJobs g conn store empty_system jobs (sink.taken out) (sink.taken out') answers r))
 
--- The jobs ran over an empty system in memory, by a new connection without a limit on steps; or its tables were not
--- made; or memory was wanting for it. Then nothing was printed.
+-- The jobs ran over an empty system in memory, by a new connection without a limit on steps. Or its tables were not
+-- created, or memory ran out for it, and nothing was printed.
 abbrev pub JobsInMemory : {O : Type 0} → SinkGhosts O → List machine.Job → O → {V : Type 0}
     → (V → List machine.Answer) → Result V JobError → O → Type 0
 JobsInMemory sink jobs out answers r out' = ((r ≡ Err Memory) × (out' ≡ out))

@@ -1,4 +1,4 @@
--- What is done where something is asked for: the status, or the fault, and what was printed.
+-- What is done for a request: the status, or the fault, and what was printed.
 use Rattle.std.specs.Prelude.{◌≡◌, ◌⊎◌, ◌<◌, ℕ, length, List, [], ◌∷◌, max, Option, Some, None, option_map}
 use Rattle.std.specs.Prelude.{Result, Ok, Err, is_err, MatchResult}
 use Rattle.std.specs.String.{string_bytes}
@@ -55,27 +55,27 @@ abbrev pub tried_with : Option CommandJob → List ℕ → List ℕ
 tried_with None cntl = apply_records
 tried_with (Some commands) cntl = cntl
 
--- and on which date: where no file was given, nothing that is printed has it
+-- and on which date: without a file, nothing that is printed has it
 abbrev pub IsTriedOn : Option CommandJob → Text → Type 0
 IsTriedOn None date = Unit {0}
 IsTriedOn (Some commands) date = date ≡ commands.date
 
 module _ {O : Type 0} (sink : SinkGhosts O) (out out' : O) where
-  -- The answer's line goes to the sink, and the status is the answer's, or a fault where the line did not go out whole.
+  -- The answer's line goes to the sink, and the status is the answer's, or a fault if the line did not go out whole.
   abbrev pub TellsZone : Text → Result Answer JobError → Result ℕ JobError → Type 0
   TellsZone name (Ok answer) r = Sent sink out out' (zone_text name (answer_of answer))
       × (0 < length (zone_text name (answer_of answer)) → sink.has_failed out' ≡ is_err r)
       × MatchResult r (λ status. status ≡ answer_status (answer_of answer)) (λ error. error ≡ Write)
   TellsZone name (Err error) r = (r ≡ Err error) × (out' ≡ out)
 
-  -- The line of a database that was taken over goes to the sink, and the status is 0, or a fault as above.
+  -- The line of a migrated database goes to the sink, and the status is 0, or a fault as above.
   abbrev pub TellsMigrated : Result (Unit {0}) StoreError → Result ℕ JobError → Type 0
   TellsMigrated (Ok done) r = Sent sink out out' migrated_text × (sink.has_failed out' ≡ is_err r)
       × MatchResult r (λ status. status ≡ 0) (λ error. error ≡ Write)
   TellsMigrated (Err why) r = (r ≡ Err (job_error why)) × (out' ≡ out)
 
-  -- What is told of these ids where this was found goes to the sink, and the status is that of what is told, or a fault
-  -- as above; or memory was wanting for it, and nothing went out.
+  -- What is told about these ids, given what was found, goes to the sink, and the status is that of what is told, or a
+  -- fault as above. Or memory ran out for it, and nothing went out.
   abbrev pub TellsFound : List Text → Result LoadedZones StoreError → Result ℕ JobError → Type 0
   TellsFound ids (Ok found) r = ((r ≡ Err Memory) × (out' ≡ out))
       ⊎ ((told : Told) × IsTold found.global found.zone found.related ids told × Sent sink out out' told.text.items
@@ -90,7 +90,7 @@ module _ {H D O : Type 0} (host : HostGhosts H D) (g : Ghosts D) (sink : SinkGho
     ServesZone d r after out' = (answer : Result Answer JobError) × (m : O)
         × JobOver host g sink h db (NewZone d) out answer after m × TellsZone sink m out' d.name answer r
 
-    -- The files are read in this order, or the first that can't be read is told, and nothing else is done.
+    -- The files are read in this order, or the first that cannot be read is reported, and nothing else is done.
     abbrev pub ServesRun : Text → List (Option Text) → Result ℕ Fault → H → O → Type 0
     ServesRun date names r after out' =
         ((fault : Fault) × ReadsAll host h names (Err fault) after × (r ≡ Err fault) × (out' ≡ out))
@@ -99,14 +99,14 @@ module _ {H D O : Type 0} (host : HostGhosts H D) (g : Ghosts D) (sink : SinkGho
         × JobOver host g sink m db (RunFiles date cntl (record { ptfin = ptfin; holds = hold })) out answer after out'
         × (r ≡ status_told answer))
 
-    -- A listing is the job of its two commands, of whatever date, or memory was wanting for these.
+    -- A listing is the job of its two commands, on any date, or memory ran out for these.
     abbrev pub ServesList : Text → Result ℕ Fault → H → O → Type 0
     ServesList zone r after out' = ((r ≡ Err (Job Memory)) × (after ≡ h) × (out' ≡ out))
         ⊎ ((date : Text) × (answer : Result Answer JobError) × JobOver host g sink h db
         (RunFiles date (list_records zone) (record { ptfin = []; holds = [] })) out answer after out'
         × (r ≡ status_told answer))
 
-    -- The zone is looked for, and what is so of the ids is told.
+    -- The zone is looked for, and the facts about the ids are told.
     abbrev pub ServesWhy : Text → List Text → Result ℕ JobError → H → O → Type 0
     ServesWhy zone ids r after out' = (found : Result LoadedZones StoreError) × FoundOver host g h db zone found after
         × TellsFound sink out out' ids found r
@@ -116,15 +116,15 @@ module _ {H D O : Type 0} (host : HostGhosts H D) (g : Ghosts D) (sink : SinkGho
         × TellsMigrated sink out out' done r
 
 module _ {O : Type 0} (sink : SinkGhosts O) (out : O) (srel : Text) where
-  -- The jobs of a service set with these commands ran over an empty system in memory; or memory was wanting for the
-  -- command that receives it.
+  -- The jobs of a service set with these commands ran over an empty system in memory, or memory ran out for the command
+  -- that receives it.
   abbrev pub TriesWith : Text → List ℕ → Files → {V : Type 0} → (V → List machine.Answer) → Result V JobError → O
       → Type 0
   TriesWith date cntl files answers r out' = ((r ≡ Err Memory) × (out' ≡ out))
       ⊎ JobsInMemory sink (set_jobs srel date cntl files) out answers r out'
 
-  -- So a service set is tried with the commands that were given, on their date, or with those that apply all of it, on
-  -- whatever date.
+  -- A service set is tried with the commands that were given, on their date, or with those that apply all of it, on any
+  -- date.
   abbrev pub TriesSet : Option CommandJob → List ℕ → Files → {V : Type 0} → (V → List machine.Answer)
       → Result V JobError → O → Type 0
   TriesSet commands cntl files answers r out' = ((r ≡ Err Memory) × (out' ≡ out))
@@ -135,7 +135,7 @@ module _ {O : Type 0} (sink : SinkGhosts O) (out : O) (srel : Text) where
   ChecksSet commands cntl files r out' = (answers : Result (List machine.Answer) JobError)
       × TriesSet commands cntl files (λ all. all) answers out' × (r ≡ greatest_told answers)
 
--- The set's files are read, or the first that can't be read is told and nothing else done.
+-- The set's files are read, or the first that cannot be read is reported, and nothing else is done.
 abbrev pub ServesCheck : {H D O : Type 0} → HostGhosts H D → SinkGhosts O → H → O → Text → Option Text → Option Text
     → Option CommandJob → Result ℕ Fault → H → O → Type 0
 ServesCheck host sink h out srel ptfin hold commands r after out' =

@@ -8,7 +8,7 @@ ghost use Rattle.smpe_command.specs.Asking.{IsAsked, IsUnasked, shown};
 use smpe::{ArgFault, Invocation, invocation};
 use std::alloc::{AllocError, Global};
 
-/// What is asked for. A word that is not UTF-8 is a bad operand, where `clap` takes the words.
+/// What the words ask for. A word that is not UTF-8 is a bad operand if `clap` takes the words.
 pub(crate) fn asked(alloc: Global, words: &[Vec<u8>]) -> Result<Invocation, ArgFault>
     ensures ok { IfOk result (IsAsked (map (λ word. word.items) words.now)) }
     ensures err { IfErr result (IsUnasked (map (λ word. word.items) words.now)) }

@@ -1,4 +1,5 @@
-//! Jobs over the database of a name, and what is asked of it: it is closed behind them, also where it is refused.
+//! Jobs over the database of a name, and what is asked about it. The database is closed afterwards, even if it is
+//! refused.
 ghost use Rattle.std.specs.Prelude.{IfOk, IfErr};
 ghost use Rattle.smpe.specs.Ending.{job_of};
 ghost use Rattle.smpe_command.specs.Database.{FailsToOpen, FoundOver, JobOver, MigratesOver, Opens};
@@ -13,7 +14,7 @@ use std::slice;
 use store::{Store, StoreError};
 use store_migration::migrate;
 
-/// Runs the job, and answers how it ended.
+/// Runs the job, and returns how it ended.
 pub(crate) fn job_over<H: Host, O: Sink>(
     alloc: Global,
     host: &mut H,
@@ -44,7 +45,7 @@ pub(crate) fn found_over<H: Host>(
     found
 }
 
-/// Takes the tables of a database over to the store's schema.
+/// Migrates the tables of a database to the store's schema.
 pub(crate) fn migrate_over<H: Host>(alloc: Global, host: &mut H, db: &str) -> Result<(), StoreError>
     ensures { MigratesOver H.Host H.Disk.Store host.old db.now result host.new }
 {
@@ -61,7 +62,7 @@ pub(crate) fn migrate_over<H: Host>(alloc: Global, host: &mut H, db: &str) -> Re
     }
 }
 
-// Opens the database, or makes it. One that is refused is closed.
+// Opens the database, or creates it. One that is refused is closed.
 fn opened<H: Host>(alloc: Global, host: &mut H, db: &str) -> Result<Store<H::Disk>, StoreError>
     ensures ok { IfOk result (λ store. Opens H.Host H.Disk.Store host.old db.now store host.new) }
     ensures err { IfErr result (λ why. FailsToOpen H.Host H.Disk.Store host.old db.now why host.new) }

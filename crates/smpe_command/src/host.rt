@@ -11,7 +11,7 @@ use std::io;
 /// The surroundings of the program. Each ghost member relates them before a call, what was asked and answered, and them
 /// after it.
 pub trait Host {
-    /// Where a database is kept.
+    /// The place where a database is kept.
     type Disk: Alter + Drop;
 
     /// The file of this name was read, and has these bytes.
@@ -20,7 +20,7 @@ pub trait Host {
     /// The file of this name was not read, for this error.
     ghost withholds: { Self → List ℕ → ReadError → Self → Type 0 };
 
-    /// The database of this name was opened, or made, and this is the connection to it.
+    /// The database of this name was opened, or created, and this is the connection to it.
     ghost opens: { Self → List ℕ → Held Self.Disk → Self → Type 0 };
 
     /// The database of this name was not opened, for this error.
@@ -32,15 +32,15 @@ pub trait Host {
     /// The text of `clap`'s error was shown on standard error.
     ghost shows: { Self → WordsError → Self → Type 0 };
 
-    /// The text that `clap` has in place of an answer, as for `--help`, was shown on standard output.
+    /// The text that `clap` has instead of an answer, as for `--help`, was shown on standard output.
     ghost prints: { Self → WordsError → Self → Type 0 };
 
-    /// Reads a file whole. The error tells why it can't be read.
+    /// Reads a file whole. The error says why it cannot be read.
     fn read(&mut self, name: &str) -> io::Result<Vec<u8>>
         ensures ok { IfOk result (λ bytes. gives self.old name.now bytes.items self.new) }
         ensures err { IfErr result (λ error. withholds self.old name.now error self.new) };
 
-    /// Opens the database of this name, or makes it. The error tells why it can't be used.
+    /// Opens the database of this name, or creates it. The error says why it cannot be used.
     fn open(&mut self, name: &str) -> Result<Connection<Self::Disk>, sqlite::Error>
         ensures ok { IfOk result (λ conn. opens self.old name.now conn self.new) }
         ensures err { IfErr result (λ error. refuses self.old name.now error self.new) }

@@ -15,7 +15,7 @@ pub(crate) struct JobFiles {
     pub(crate) hold: Vec<u8>,
 }
 
-/// Reads the files of a job in this order, so that the first that cannot be read is told. One that is left out has no
+/// Reads the files of a job in this order, and reports the first that cannot be read. An option that is left out has no
 /// bytes.
 pub(crate) fn read_files<'a, H: Host>(
     alloc: Global,

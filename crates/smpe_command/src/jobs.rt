@@ -1,4 +1,4 @@
-//! What is asked for is done.
+//! What the words ask for is done.
 ghost use Rattle.std.specs.Prelude.{◌≡◌, [], ◌∷◌, Some, Result, option_map};
 ghost use Rattle.std.specs.String.{string_bytes};
 ghost use Rattle.machine.specs.Machine.{RunFiles};
@@ -23,7 +23,7 @@ use smpe_why::tell;
 use std::alloc::Global;
 use terms::ZoneKind;
 
-/// Does what is asked for, and answers the status.
+/// Does what the words ask for, and returns the status.
 pub(crate) fn served<'a, H: Host, O: Sink>(
     alloc: Global,
     host: &mut H,
@@ -158,7 +158,7 @@ fn run_files<H: Host, O: Sink>(
     Ok(status_of(&answer))
 }
 
-// All is made before any of it is written.
+// All of it is made before any of it is written.
 fn why<H: Host, O: Sink>(
     alloc: Global,
     host: &mut H,

@@ -1,9 +1,9 @@
-//! What the program makes of its command line.
-//! `command` reads the words, then the files, opens the database and runs the one job, writes what there is to write,
-//! and answers the status. Its contract says all of this of any surroundings (`Host`): which bytes become which
-//! argument, which answer becomes which status, which stream takes which line, and which fault is told first. A
-//! database that was opened is closed, also where it is refused; then nothing was committed or written. Nothing is said
-//! of `clap`'s texts, nor of when memory is wanting or a database that was opened is not made the store's.
+//! What the program makes of its command line. `command` reads the words, then the files, opens the database and runs
+//! the one job, writes what there is to write, and returns the status. Its contract says all of this about any
+//! surroundings (`Host`): which bytes become which argument, which answer becomes which status, which stream takes
+//! which line, and which fault is reported first. A database that was opened is closed, even if it is refused; then
+//! nothing was committed or written. No contract says anything about `clap`'s texts, or about when memory runs out or
+//! when a database that was opened is not made the store's.
 #![tactic(auto)]
 
 mod asked_words;

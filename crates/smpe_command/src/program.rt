@@ -1,4 +1,4 @@
-//! The program but for its input and output.
+//! The program except for its input and output.
 ghost use Rattle.std.specs.Prelude.{◌≡◌, map, IfOk, IfErr};
 ghost use Rattle.smpe_invocation.specs.declared.fault.ArgFault.TheVariants.{Memory};
 ghost use Rattle.smpe.specs.declared.messages.Fault.TheVariants.{Arg};
@@ -12,8 +12,8 @@ use report::Sink;
 use smpe::{ArgFault, FAULT_STATUS, Fault, fault_line};
 use std::alloc::{AllocError, Global};
 
-/// Does what the words ask for, of which the first is the program's name, and answers the status. Want of memory for
-/// the words themselves is a fault of the words; `--help` and `--version` are none.
+/// Does what the words ask for, the first of which is the program's name, and returns the status. If memory runs out
+/// for the words themselves, that is a fault of the words. `--help` and `--version` are no faults.
 pub fn command<H: Host, O: Sink, E: Sink>(
     alloc: Global,
     host: &mut H,
@@ -39,7 +39,7 @@ pub fn command<H: Host, O: Sink, E: Sink>(
     }
 }
 
-// Prints the text that the words ask for in place of an answer, or tells their fault.
+// Prints the text for which the words ask instead of an answer, or reports their fault.
 fn unasked<H: Host, E: Sink>(host: &mut H, fault: ArgFault, err: &mut E) -> u8
     ensures { TellsWords H.Host E.Sink host.old err.old fault result host.new err.new }
 {
@@ -55,7 +55,7 @@ fn unasked<H: Host, E: Sink>(host: &mut H, fault: ArgFault, err: &mut E) -> u8
     told(host, &Fault::Arg(fault), err)
 }
 
-// Tells a fault on standard error, and answers its status, also where nothing can be written there.
+// Reports a fault on standard error, and returns its status, even if nothing can be written there.
 fn told<H: Host, E: Sink>(host: &mut H, fault: &Fault<'_>, err: &mut E) -> u8
     ensures { Tells H.Host E.Sink host.old err.old fault.now result host.new err.new }
 {

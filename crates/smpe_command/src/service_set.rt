@@ -1,4 +1,4 @@
-//! What a service set would do in an empty system, which is kept in memory and gone behind the jobs.
+//! What a service set would do in an empty system, which is kept in memory and gone after the jobs.
 ghost use Rattle.std.specs.Prelude.{◌≡◌, map, false};
 ghost use Rattle.smpe.specs.Ending.{answer_of, job_of};
 ghost use Rattle.smpe_command.specs.ServiceSet.{JobsInMemory, JobsOverNew, receive_records, set_jobs};
@@ -13,7 +13,7 @@ use std::alloc::Global;
 use store::Store;
 use terms::ZoneKind;
 
-/// Tries the set with its commands, or with those that apply all of it; answers how each of the jobs ended.
+/// Tries the set with its commands, or with those that apply all of it, and returns how each of the jobs ended.
 pub(crate) fn tried<O: Sink>(
     alloc: Global,
     srel: Srel,
@@ -92,7 +92,7 @@ fn tried_in_memory<'a, O: Sink>(
     jobs_over_new(alloc, conn, &jobs, out)
 }
 
-// Over a connection that is let go behind the jobs.
+// Over a connection that is dropped after the jobs.
 fn jobs_over_new<S: Alter + Drop, O: Sink>(
     alloc: Global,
     conn: Connection<S>,

@@ -1,13 +1,13 @@
-//! The card that a code names, and the word in it that is at fault, as far as that can be told without the grammar.
+//! The card that a code names, and the wrong word in it, as far as that shows without the grammar.
 use fields::{Id, Srel, ZoneName};
 use std::alloc::{AllocError, Global};
 
 const RECORD: usize = 80;
 
-/// The columns of a card in which words stand.
+/// The columns of a card that have words.
 const COLUMNS: usize = 72;
 
-/// Words are sought in so many cards.
+/// It looks for words in so many cards.
 const CARDS: usize = 200;
 
 /// A word of a command or of a statement: an operand, or one in the parentheses of an operand.
@@ -17,7 +17,7 @@ struct CardWord {
     value: Option<String>,
 }
 
-/// Takes the bytes of cards, and has the words up to the period.
+/// Takes the bytes of cards, and finds the words up to the period.
 #[derive(Drop)]
 struct CardWords {
     alloc: Global,
@@ -125,7 +125,7 @@ fn shown(byte: u8) -> char {
     }
 }
 
-/// Whether a record, counted from 1, has a byte that is not ASCII, as nearly all of EBCDIC are.
+/// Whether a record, counted from 1, has a byte that is not ASCII, as nearly all bytes of EBCDIC are.
 pub(crate) fn is_foreign(file: &[u8], record: usize) -> bool {
     for byte in file.iter().skip(start_of(record)).take(RECORD) {
         if !byte.is_ascii() {
@@ -135,7 +135,7 @@ pub(crate) fn is_foreign(file: &[u8], record: usize) -> bool {
     false
 }
 
-/// The text of a record, counted from 1: what is not printable is shown as a question mark.
+/// The text of a record, counted from 1. A question mark stands for each character that is not printable.
 pub(crate) fn card_text(alloc: Global, file: &[u8], record: usize) -> Result<String, AllocError> {
     let mut text = String::new(alloc);
     for &byte in file.iter().skip(start_of(record)).take(RECORD) {
@@ -144,7 +144,7 @@ pub(crate) fn card_text(alloc: Global, file: &[u8], record: usize) -> Result<Str
     String::from_str(alloc, text.as_str().trim_end())
 }
 
-/// What is at fault in the command or statement that begins in the record.
+/// What is wrong with the command or statement that begins in the record.
 pub(crate) fn card_fault(
     alloc: Global,
     file: &[u8],
@@ -187,7 +187,7 @@ fn cause(code: &str) -> &'static str {
     }
 }
 
-// An operand that no command and no statement has, or a value that is no id or no zone name where one is wanted.
+// An operand that no command and no statement has, or a value that is not an id or a zone name although one is wanted.
 fn odd_word(alloc: Global, words: &[CardWord]) -> Result<Option<String>, AllocError> {
     for word in words.iter().skip(1) {
         let operand = word.operand.as_str();
@@ -233,7 +233,7 @@ fn doubled_word(alloc: Global, words: &[CardWord]) -> Result<Option<String>, All
     Ok(None)
 }
 
-// What takes ids alone, in commands and statements.
+// The operands of commands and statements that take only ids.
 fn takes_ids(operand: &str) -> bool {
     match operand {
         "SELECT" | "EXCLUDE" | "GROUP" | "FORFMID" | "FMID" | "PRE" | "REQ" | "NPRE" | "SUP" =>

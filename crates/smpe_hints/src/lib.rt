@@ -1,5 +1,5 @@
-//! What `smpe` says on standard error beside a report or behind a fault: which option has which value and what it
-//! should look like, which card is at fault, and which command ran in another zone than it was meant for. It makes
+//! What `smpe` says on standard error next to a report or after a fault: which option has which value and what it
+//! should look like, which card is wrong, and which command ran in another zone than it was meant for. The crate makes
 //! texts, and no contract says which.
 #![tactic(auto)]
 

@@ -1,4 +1,4 @@
-//! Which option has a value that has not its form.
+//! Which option has a value of a bad form.
 use fields::{Id, Srel, ZoneName};
 use smpe_invocation::read_date;
 use std::alloc::{AllocError, Global};
@@ -13,7 +13,7 @@ enum Form {
 }
 
 impl Form {
-    /// The form that the option asks for, if its value has one.
+    /// The form that the option demands, if it has a value.
     fn of(option: &str) -> Option<Form> {
         match option {
             "--name" | "--related" | "--zone" => Some(Form::ZoneName),
@@ -45,7 +45,7 @@ impl Form {
     }
 }
 
-/// The words as `clap` has taken them: the value of an option is the next word, or follows its `=`.
+/// The words as `clap` took them: the value of an option is the next word, or follows its `=`.
 #[derive(Clone, Copy)]
 struct Words<'a> {
     words: &'a [Vec<u8>],
@@ -77,12 +77,12 @@ impl<'a> Words<'a> {
     }
 }
 
-/// The value of an option, where the words have it.
+/// The value of an option, if the words have it.
 pub(crate) fn value_of<'a>(words: &'a [Vec<u8>], option: &str) -> Option<&'a str> {
     Words { words }.value(option)
 }
 
-/// What is wrong with the words, of which the first is the program's name, after `smpe: bad operand`.
+/// What is wrong with the words, the first of which is the program's name, after `smpe: bad operand`.
 pub fn operand_hint(alloc: Global, words: &[Vec<u8>]) -> Result<Option<String>, AllocError> {
     let words = Words { words };
     for place in 0..words.words.len() {
@@ -122,7 +122,7 @@ fn missing_hint(alloc: Global, words: Words<'_>) -> Result<Option<String>, Alloc
     Ok(None)
 }
 
-/// What is said of a job that has printed nothing.
+/// What to say about a job that has printed nothing.
 pub fn empty_hint(alloc: Global, words: &[Vec<u8>]) -> Result<Option<String>, AllocError> {
     let words = Words { words };
     match words.value("--cntl") {

@@ -1,9 +1,9 @@
-//! What a report tells of that needs more words.
+//! What in a report needs more words.
 use crate::card::{card_fault, card_text, is_foreign};
 use crate::operand::value_of;
 use std::alloc::{AllocError, Global};
 
-/// Of a line so many bytes are looked at.
+/// It looks at so many bytes of a line.
 const LONGEST: usize = 100;
 
 /// A file that was read.
@@ -30,13 +30,13 @@ enum Remark {
     },
     /// No zone of this name is defined.
     NoZone(String),
-    /// `why` was asked about a zone that is none.
+    /// `why` was asked about a zone that has no verdicts.
     NoZoneAsked,
     /// The related zone of a zone is at fault.
     Related,
 }
 
-/// Takes the bytes of a report, and tells what is to be said of it.
+/// Takes the bytes of a report, and finds what needs more words.
 #[derive(Drop)]
 pub struct ReportWatch {
     alloc: Global,
@@ -188,7 +188,7 @@ impl ReportWatch {
         Ok(())
     }
 
-    /// What there is to say, a line each, of a report that these words asked for over these files.
+    /// What to say, a line each, about a report for which these words asked over these files.
     pub fn hints(&self, words: &[Vec<u8>], files: &[ReadFile]) -> Result<Vec<String>, AllocError> {
         let mut lines = Vec::new(self.alloc);
         for remark in &self.remarks {

@@ -1,4 +1,4 @@
--- What `invocation` answers.
+-- What `invocation` returns.
 use Rattle.std.specs.Prelude.{◌≡◌, ◌≢◌, List, [], Option, Some, None}
 use Rattle.terms.specs.Types.{Text}
 use Rattle.clap.specs.Words.{App, IsAmong, Row, fault_of, kind_of, subcommand_of}
@@ -16,13 +16,13 @@ IsOfClap error Memory = kind_of error ≡ OutOfMemory
 IsOfClap error (Clap own) = (own ≡ error) × (kind_of error ≢ OutOfMemory)
 IsOfClap error BadOperand = ⊥
 
--- a bad operand, where nothing has what is asked for
+-- a bad operand, if no invocation has what is asked for
 abbrev pub Excludes : ArgFault → Type 0 → Type 0
 Excludes Memory P = Unit {0}
 Excludes (Clap error) P = ⊥
 Excludes BadOperand P = P → ⊥
 
--- the invocation has the values of the subcommand that was met
+-- the invocation has the values of the subcommand that was found
 abbrev pub IsMet : Option (Text × List Row) → Invocation → Type 0
 IsMet None invocation = ⊥
 IsMet (Some met) invocation = HasValues met invocation
@@ -32,8 +32,8 @@ abbrev pub IsRead : List Text → Invocation → Type 0
 IsRead words invocation = (app : App) × IsCommandLine app × (fault_of app words ≡ [])
     × IsMet (subcommand_of app words) invocation
 
--- want of memory; a fault of the words that `clap` names; or `clap` takes them, and no invocation has the values that
--- it finds
+-- memory ran out; or `clap` names a fault of the words; or `clap` takes them, and no invocation has the values that it
+-- finds
 abbrev pub IsRefused : List Text → ArgFault → Type 0
 IsRefused words Memory = Unit {0}
 IsRefused words (Clap error) = (app : App) × IsCommandLine app × IsAmong (kind_of error) (fault_of app words)

@@ -5,15 +5,15 @@ use Rattle.clap.specs.declared.builder.action.ArgAction.TheVariants.{Append}
 use Rattle.clap.specs.declared.builder.value_parser.ValueParser.{ValueParser}
 use Rattle.clap.specs.declared.builder.value_parser.ValueParser.TheVariants.{Names}
 
--- `--id TEXT`, which may be left out
+-- `--id TEXT`, which is optional
 abbrev pub option : Text → Rule
 option id = record (new_rule id) { long = Some id }
 
--- the same, which may not
+-- the same, but required
 abbrev pub needed : Text → Rule
 needed id = record (option id) { required = true }
 
--- one that may stand there more than once
+-- one that may be repeated
 abbrev pub repeated : Text → Rule
 repeated id = record (needed id) { action = Some Append }
 

@@ -12,7 +12,7 @@ AreDigits text = All (λ b. IsTrue (is_digit b)) text
 abbrev pub HasDateDigits : Text → Type 0
 HasDateDigits text = AreDigits (take 4 text) × AreDigits (take 2 (drop 5 text)) × AreDigits (take 2 (drop 8 text))
 
--- YYYY-MM-DD: digits, and a hyphen behind the year and behind the month
+-- YYYY-MM-DD: digits, and a hyphen after the year and after the month
 abbrev pub HasDateForm : Text → Type 0
 HasDateForm text = (length text ≡ 10) × (slice_index text 4 ≡ 45) × (slice_index text 7 ≡ 45) × HasDateDigits text
 

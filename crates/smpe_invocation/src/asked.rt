@@ -33,7 +33,7 @@ pub enum Invocation {
         db: String,
         zone: ZoneName,
     },
-    /// Tell what is so of ids in a zone.
+    /// Tell the facts about ids in a zone.
     Why {
         db: String,
         zone: ZoneName,
@@ -46,7 +46,7 @@ pub enum Invocation {
         hold: Option<String>,
         commands: Option<CommandJob>,
     },
-    /// Take a database of an earlier schema over to the program's own.
+    /// Migrate a database of an earlier schema to the program's own.
     Migrate {
         db: String,
     },

@@ -1,4 +1,4 @@
-//! The command line of `smpe`, as `clap` is told of it.
+//! The command line of `smpe`, as it is described to `clap`.
 ghost use Rattle.std.specs.Prelude.{◌≡◌, false, true, IfOk};
 ghost use Rattle.clap.specs.Words.{app_of, new_app, rule_of, shape_of};
 ghost use Rattle.clap.specs.declared.builder.command.Command.TheViews.{out-Command as fields_of};
@@ -11,7 +11,7 @@ ghost use Rattle.smpe_invocation.specs.CommandLine.{zone_shape};
 use clap::{Arg, ArgAction, Command};
 use std::alloc::{AllocError, Global};
 
-/// What `--version` prints behind the name.
+/// What `--version` prints after the name.
 const VERSION: &str = "1.0.0";
 
 static KINDS: [&str; 2] = ["target", "distribution"];
@@ -37,7 +37,7 @@ pub(crate) fn command_line<'a>(alloc: Global) -> Result<Command<'a>, AllocError>
     .subcommand(migrate_command(alloc)?)
 }
 
-// A command without options, with a line of what it does and an example.
+// A command without options, with a line about what it does and an example.
 fn command<'a>(alloc: Global, name: &'a str, about: &'a str, example: &'a str) -> Command<'a>
     ensures app { app_of result ≡ new_app name.entry.now }
     ensures globals { (fields_of result).has_globals ≡ false }

@@ -1,4 +1,4 @@
-//! The date of a job, as the command line has it.
+//! The date of a job on the command line.
 ghost use Rattle.std.specs.Prelude.{◌≡◌, ◌↔◌, IsSome, IfSome, IsTrue, ◌≤◌, ℕ, length, pos};
 ghost use Rattle.jiff_core.specs.Date.{IsYmd, ordinal};
 ghost use Rattle.smpe_invocation.specs.Dates.{AreDigits, HasDateDigits, HasDateForm, IsCalendarDay, day_of, dotted};
@@ -7,8 +7,8 @@ ghost use Rattle.smpe_invocation.specs.Dates.{month_of, year_of};
 use fields::YyDdd;
 use jiff::civil::Date;
 
-/// A date that is four digits of a year, two of a month and two of a day with hyphens between, and
-/// that the calendar has.
+/// A date of four digits for the year, two for the month and two for the day, with hyphens between them, that the
+/// calendar has.
 pub fn read_date(text: &str) -> Option<YyDdd>
     ensures form { IsSome result ↔ (HasDateForm text.now × IsCalendarDay text.now) }
     ensures value { IfSome result (λ date. date ≡ dotted text.now) }

@@ -3,8 +3,8 @@ use clap::error::ErrorKind;
 use std::alloc::AllocError;
 use thiserror::Error;
 
-/// Why no invocation is read: want of memory, words that `clap` refuses, with its own text, or a
-/// name, an id, an SREL or a date that has not its form.
+/// Why no invocation is read: memory ran out, `clap` refuses the words, with its own text, or a name, an id, an SREL or
+/// a date has a bad form.
 #[derive(Debug, Drop, Error)]
 pub enum ArgFault {
     #[error("out of memory")]

@@ -14,9 +14,9 @@ use crate::option_values::{
 use clap::ArgMatches;
 use std::alloc::Global;
 
-/// Reads the words, of which the first is the program's name. `Memory` comes where memory runs out, `Clap` where `clap`
-/// refuses the words or has a text to show in place of them, as for `--help`, and `BadOperand` where a name, an id, an
-/// SREL or a date has not its form.
+/// Reads the words, the first of which is the program's name. Returns `Memory` if memory runs out, `Clap` if `clap`
+/// refuses the words or has a text to show instead of them, as for `--help`, and `BadOperand` if a name, an id, an SREL
+/// or a date has a bad form.
 pub fn invocation<'a>(alloc: Global, words: &'a [&'a str]) -> Result<Invocation, ArgFault>
     ensures ok { IfOk result (IsRead (map (λ word. word.now) words.entry.now)) }
     ensures err { IfErr result (IsRefused (map (λ word. word.now) words.entry.now)) }
@@ -25,7 +25,7 @@ pub fn invocation<'a>(alloc: Global, words: &'a [&'a str]) -> Result<Invocation,
     met(alloc, matches.subcommand())
 }
 
-// The subcommand that was met, with its matches.
+// The subcommand that was found, with its matches.
 fn met(alloc: Global, met: Option<(&str, &ArgMatches<'_>)>) -> Result<Invocation, ArgFault>
     ensures ok { IfOk result (IsMet (option_map (λ p. (p.0.now, rows_of (found_of p.1.now))) met.entry)) }
     ensures err { IfErr result (λ e. Excludes e ((invocation : Invocation)

@@ -1,7 +1,7 @@
-//! What the words of the command line of `smpe` ask for.
-//! Where `clap` takes the words, `invocation` answers the subcommand and the values that it found, each of its form.
-//! `clap`'s error comes just where the contract names a fault of the words, and a bad operand only where no invocation
-//! has the values. `read_date` reads a date just where the calendar has it. Nothing is said of `clap`'s texts.
+//! What the words of the command line of `smpe` ask for. If `clap` takes the words, `invocation` returns the subcommand
+//! and the values that it found, each of its form. It returns `clap`'s error exactly if the contract names a fault of
+//! the words, and a bad operand only if no invocation has the values. `read_date` reads a date exactly if the calendar
+//! has it. No contract says anything about `clap`'s texts.
 #![tactic(auto)]
 
 mod asked;

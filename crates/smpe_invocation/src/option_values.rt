@@ -19,7 +19,7 @@ use fields::{Id, Srel, YyDdd, ZoneName};
 use std::alloc::{AllocError, Global};
 use terms::ZoneKind;
 
-// The text that stands for the option, if the words have it.
+// The text of the option, if the words have it.
 fn value<'a>(found: &ArgMatches<'a>, id: &str) -> Option<&'a str>
     ensures { option_map (λ text. text.now) result ≡ first_of id.now (rows_of (found_of found.now)) }
 {
@@ -114,7 +114,7 @@ fn read_ids(alloc: Global, texts: &[&str]) -> Result<Vec<Id>, ArgFault>
     Ok(ids)
 }
 
-// The texts that stand for an option that may be repeated, if the words have it.
+// The texts of an option that may be repeated, if the words have it.
 fn values<'a, 'b>(found: &'b ArgMatches<'a>, id: &str) -> Option<&'b [&'a str]>
     ensures { option_map (λ texts. map (λ text. text.now) texts.now) result
         ≡ all_of id.now (rows_of (found_of found.now)) }
@@ -139,7 +139,7 @@ pub(crate) fn date(found: &ArgMatches<'_>) -> Result<YyDdd, ArgFault>
     read_date(needed(found, "date")?).ok_or(ArgFault::BadOperand)
 }
 
-// The commands, if the words have a file of them; only these want a date.
+// The commands, if the words have a file of them; only these need a date.
 pub(crate) fn commands(
     alloc: Global,
     found: &ArgMatches<'_>,

@@ -3,10 +3,10 @@ use std::alloc::AllocError;
 use std::env::FillError;
 use std::rt::Env;
 
-// A word's buffer at first, in bytes; it doubles until it holds the word.
+// The initial size of a word's buffer, in bytes; it doubles until it holds the word.
 const FIRST_SIZE: usize = 256;
 
-/// The words, of which the first is the program's name.
+/// The words, the first of which is the program's name.
 pub(crate) fn words(rt: &HostRuntime) -> Result<Vec<Vec<u8>>, AllocError> {
     let mut words = Vec::new(rt.alloc());
     for place in 0..usize::MAX {
@@ -18,7 +18,7 @@ pub(crate) fn words(rt: &HostRuntime) -> Result<Vec<Vec<u8>>, AllocError> {
     Ok(words)
 }
 
-// The word at a place, if there are so many.
+// The word at a place, if there are that many.
 fn word(rt: &HostRuntime, place: usize) -> Result<Option<Vec<u8>>, AllocError> {
     let mut size = FIRST_SIZE;
     for _ in 0..usize::BITS {

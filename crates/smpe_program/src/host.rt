@@ -1,4 +1,4 @@
-//! The input and output of the system that the program runs on.
+//! The input and output of the system on which the program runs.
 ghost use Rattle.std.specs.Prelude.{IsTrue, IfOk, IfErr};
 ghost use Rattle.sqlite.specs.Files.{file_state, IsOpened};
 ghost use Rattle.sqlite.specs.Held.{IsNew};
@@ -19,14 +19,13 @@ const RECORD: usize = 80;
 /// What is known of the database when the program ends.
 #[derive(Drop)]
 pub(crate) enum Database {
-    /// None was asked for.
+    /// The words ask for none.
     None,
-    /// It is not there, and was not to be made.
+    /// It does not exist, and was not to be created.
     Missing(String),
-    /// It was not opened, for this cause.
+    /// It was not opened, for this reason.
     Refused(String, Error),
-    /// It was opened. Then its table `meta` was not read for the first error, and it was not closed whole for the
-    /// second one.
+    /// It was opened. The first error is why its table `meta` was not read, the second why it was not closed properly.
     Opened {
         name: String,
         is_new: bool,
@@ -35,11 +34,11 @@ pub(crate) enum Database {
     },
 }
 
-/// The system, by what the program was started with.
+/// The system, as seen from how the program was started.
 #[derive(Drop)]
 pub(crate) struct ProgramHost<'a> {
     rt: &'a HostRuntime,
-    /// Whether a database is made where there is none.
+    /// Whether to create a database if there is none.
     makes: bool,
     pub(crate) database: Database,
     /// The files that were read.
@@ -59,7 +58,7 @@ impl ProgramHost<'_> {
         }
     }
 
-    // A copy of the file, of whose cards there may be more to say. Where memory runs out, that is left unsaid.
+    // A copy of the file, since there may be more to say about its cards. If memory runs out, that remains unsaid.
     fn keep(&mut self, name: &str, bytes: &[u8]) {
         let alloc = self.rt.alloc();
         if let (Ok(name), Ok(bytes)) = (
@@ -74,7 +73,7 @@ impl ProgramHost<'_> {
         String::from_str(self.rt.alloc(), name).unwrap_or(String::new(self.rt.alloc()))
     }
 
-    // What is no database is refused before the library makes its log beside it.
+    // A file that is not a database is refused before the library creates its log next to it.
     fn open_at(&self, name: &str) -> Result<Connection<FileStore<FileFrom<Wary>>>, Error>
         ensures ok { IfOk result (λ conn. IsNew conn × IsWary conn × (HasCleanDisk (file_state conn) → IsOpened conn)) }
         ensures err { IfErr result (λ why. IsTrue (is_open_error why)) }
@@ -89,8 +88,8 @@ impl ProgramHost<'_> {
     }
 }
 
-// Of a database, what `sqlite` promises where it opens one, and that commits suppose nothing of the bytes that a torn
-// write leaves. No more is said of the system: the other relations hold of all.
+// About a database, this says what `sqlite` promises when it opens one, and that commits assume nothing about the bytes
+// that a torn write leaves. It says no more about the system: the other relations hold for everything.
 impl Host for ProgramHost<'_> {
     type Disk = FileStore<FileFrom<Wary>>;
 
@@ -108,7 +107,8 @@ impl Host for ProgramHost<'_> {
 
     ghost prints = { λ _ _ _. Unit {0} };
 
-    // A file that is no whole records is refused by RECEIVE, or as a command file, and typed text is the usual cause.
+    // RECEIVE refuses a file that does not end with a whole record, and so does the reader of commands. Usually the
+    // file is typed text.
     fn read(&mut self, name: &str) -> io::Result<Vec<u8>> {
         match fs::read(self.rt, name) {
             Ok(bytes) => {
@@ -150,7 +150,7 @@ impl Host for ProgramHost<'_> {
         }
     }
 
-    // What was committed is brought over from the database's log; if that fails, it stands in the log.
+    // What was committed is moved over from the database's log. If that fails, it remains in the log.
     fn close(&mut self, conn: &mut Option<Connection<Self::Disk>>) {
         if let Some(mut open) = conn.take() {
             let read = open.query_row("SELECT v FROM meta", &[]).err();

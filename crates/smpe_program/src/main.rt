@@ -1,7 +1,6 @@
-//! `smpe`: defines a zone of a database, runs a job over it, lists a zone, takes the database over to its schema, or
-//! tells what a service set would do without one.
-//! What it does is `smpe_command::command`; here is the input and output that it asks for, which is proved safe, and
-//! what is said beside its lines on standard error.
+//! `smpe`: defines a zone of a database, runs a job over it, lists a zone, migrates the database to its schema, or
+//! tells what a service set would do without one. `smpe_command::command` does all of this. Here is the input and
+//! output for which it asks, which is proved safe, and what is said on standard error besides its lines.
 #![tactic(auto)]
 
 mod command_line;
@@ -36,7 +35,7 @@ fn main(rt: HostRuntime) -> ExitCode {
     ExitCode::from(status)
 }
 
-// Whether what is asked for makes a database where there is none: a zone's definition and a job do.
+// Whether the words ask for something that creates a database if there is none: the definition of a zone, or a job.
 fn makes_database(words: &Result<Vec<Vec<u8>>, AllocError>) -> bool {
     match words {
         Ok(words) => match words.get(1) {

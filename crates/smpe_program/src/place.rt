@@ -1,10 +1,10 @@
-//! What stands at the name of a database.
+//! What is at the name of a database.
 use std::fs::{File, OpenOptions};
 use std::io::{ErrorKind, Read};
 use std::os::unix::fs::MetadataExt;
 use std::{fs, io};
 
-/// What a file of SQLite begins with.
+/// The first bytes of a file of SQLite.
 const HEAD: &[u8] = b"SQLite format 3\0";
 
 /// Whether no file has this name.
@@ -15,8 +15,7 @@ pub(crate) fn is_missing(rt: &HostRuntime, name: &str) -> bool {
     }
 }
 
-/// Whether a file that has bytes does not begin as those of SQLite do. One with a log beside it may be made whole by
-/// that.
+/// Whether a file is not empty and does not begin as those of SQLite do. A log next to it may make it whole.
 pub(crate) fn has_other_form(rt: &HostRuntime, name: &str) -> bool {
     match (begins_otherwise(rt, name), has_log(rt, name)) {
         (Ok(is_other), Ok(has_log)) => is_other && !has_log,
@@ -43,7 +42,7 @@ fn has_log(rt: &HostRuntime, name: &str) -> io::Result<bool> {
     }
 }
 
-/// Why the library can open no database of this name, as far as its file shows that.
+/// Why the library cannot open a database of this name, as far as its file shows that.
 pub(crate) fn place_told(rt: &HostRuntime, name: &str) -> &'static str {
     if name.is_empty() || name == ":memory:" || name.starts_with("file:") {
         return "this is no name of a file";

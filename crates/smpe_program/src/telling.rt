@@ -1,11 +1,11 @@
-//! What is said on standard error when the program ends, beside the line of its fault.
+//! What is said on standard error when the program ends, besides the line of its fault.
 use crate::host::{Database, ProgramHost};
 use crate::place::{has_other_form, place_told};
 use smpe_hints::{ReportWatch, empty_hint, operand_hint};
 use sqlite::{Error, ErrorCode};
 use std::alloc::AllocError;
 
-/// Says what a report and a fault leave unsaid: nothing, where memory runs out or nothing can be written.
+/// Says what a report and a fault leave unsaid. It says nothing if memory runs out or nothing can be written.
 pub(crate) fn tell(
     rt: &HostRuntime,
     words: &[Vec<u8>],

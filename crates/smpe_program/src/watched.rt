@@ -1,4 +1,4 @@
-//! A sink whose bytes are looked at as they go by.
+//! A sink that looks at its bytes as they go by.
 ghost use Rattle.std.specs.Prelude.{◌≡◌, ◌<◌, ◌≤◌, false, length, take, IfOk, OnOk, OnErr, is_err};
 ghost use Rattle.std.specs.Io.KnownBytes.{Appends, Keeps};
 
@@ -16,7 +16,7 @@ pub(crate) struct Progress<'a> {
 }
 
 impl Progress<'_> {
-    /// Where standard error is a terminal and there is a clock.
+    /// If standard error is a terminal and there is a clock.
     pub(crate) fn new<'a>(rt: &'a HostRuntime) -> Option<Progress<'a>> {
         if !rt.stderr().is_terminal() {
             return None;
@@ -45,7 +45,7 @@ impl Progress<'_> {
     }
 }
 
-/// A sink, and who looks at what it took.
+/// A sink, with a watcher of what it took.
 #[derive(Drop)]
 pub(crate) struct Watched<'a, S> {
     sink: S,
@@ -72,7 +72,7 @@ impl<S: Sink> Sink for Watched<'_, S> {
 
     ghost has_failed = { λ w. S.has_failed w.sink };
 
-    // Where memory runs out, less is said of the report.
+    // If memory runs out, less is said about the report.
     fn write(&mut self, piece: &[u8]) -> Result<usize, WriteFault> {
         let taken = self.sink.write(piece)?;
         let _ = self.watch.take(piece.get(..taken).unwrap_or(b""));

@@ -1,4 +1,4 @@
--- Facts that leave nothing in the way of an APPLY of the id alone, and what such an APPLY answers.
+-- Facts that do not block an APPLY of the id alone, and what such an APPLY answers.
 use Rattle.std.specs.Prelude.{◌≡◌, ◌&&◌, Bool, true, false, not, List, [], ◌∷◌, Option, None, Some, All, IsTrue}
 use Rattle.std.specs.Prelude.{filter, length}
 use Rattle.std.specs.List.{list_all}
@@ -28,12 +28,12 @@ abbrev pub is_resolved : Option Answer → Bool
 is_resolved None = false
 is_resolved (Some answer) = is_supplied answer
 
--- The element is the id's own, and it is over all that made it. What it replaces may not be there at all.
+-- The element is the id's own, and it is over all SYSMODs that made it. An element that it replaces need not exist.
 abbrev pub is_free : Bool → Option Found → Bool
 is_free replaces None = replaces
 is_free replaces (Some f) = f.owned && list_all (λ m. is_over m.rank) (f.rmid ∷ f.umids)
 
--- the fact leaves nothing in the way
+-- the fact does not block it
 abbrev pub is_clear : Fact → Bool
 is_clear (StandingFact x kind standing) = is_received_alone standing
 is_clear (EntryFact kind e) = true
@@ -47,7 +47,7 @@ is_clear (NpreFact y applied) = not applied
 is_clear (ForbiddenFact y) = false
 is_clear (NeededFact y) = true
 
--- it tells of a ++VER that fits
+-- it is a ++VER that fits
 abbrev pub is_fitting : Fact → Bool
 is_fitting (VerFact n fmid fit counts) = fit
 is_fitting _ = false
@@ -57,7 +57,7 @@ pub record AreClear (facts : List Fact) : Type 0 where
   pub each : All (λ f. IsTrue (is_clear f)) facts
   pub fitting : length (filter is_fitting facts) ≡ 1
 
--- SELECT names this id, and nothing else is chosen
+-- SELECT names this id, and no other operand chooses anything
 abbrev pub only : Id → Selection
 only x = record {
   functions = false;
@@ -72,7 +72,7 @@ only x = record {
   groupextend = false;
 }
 
--- Where the facts of an id are clear, an APPLY that selects it alone, without BYPASS, has one line: it is applied.
+-- If the facts of an id are clear, an APPLY that selects it alone, without BYPASS, has one line: it is applied.
 abbrev pub ClearIsApplied : Type 0
 ClearIsApplied =
     (g : Global) (zone : Zone) (x : Id) (facts : List Fact) → zone.kind ≡ Target → AreFacts g zone x facts

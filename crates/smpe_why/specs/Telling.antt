@@ -1,4 +1,4 @@
--- What is found of a store, and what is told of ids in a zone.
+-- What is found in a store, and what is told about ids in a zone.
 use Rattle.std.specs.Prelude.{◌≡◌, ℕ, false, max, List, [], ◌∷◌, ◌++◌, Option, None, Some, find, map, option_map}
 use Rattle.std.specs.List.{flat_map}
 use Rattle.std.specs.Option.{option_and_then, option_map_or}
@@ -21,7 +21,7 @@ use Rattle.smpe_why.specs.Clear.{only}
 use Rattle.smpe_why.specs.declared.found.LoadedZones.{LoadedZones}
 use Rattle.smpe_why.specs.declared.told.Told.{Told}
 
--- the name of the zone that an APPLY or ACCEPT into a zone of this kind and name looks at besides: of ACCEPT the first
+-- the name of the other zone at which an APPLY or ACCEPT into a zone of this kind and name looks: for ACCEPT the first
 -- that names this one as its related zone
 abbrev pub target_at : List ZoneHead → Text → ZoneKind → Option Text
 target_at heads name Target = None
@@ -35,7 +35,7 @@ target_for heads name zone = option_and_then (λ z. target_at heads name z.kind)
 abbrev pub related_in : Inventory → Text → Option Zone
 related_in i name = option_and_then (zone_in i) (target_for (map head_of i.zones) name (zone_in i name))
 
--- the global zone, the zone of this name, if there is one, and the one that an install into it looks at besides
+-- the global zone, the zone of this name, if there is one, and the other zone at which an install into it looks
 pub record IsFoundIn (name : Text) (i : Inventory) (found : LoadedZones) : Type 0 where
   pub global : found.global ≡ i.global
   pub zone : found.zone ≡ zone_in i name
@@ -46,7 +46,7 @@ abbrev pub PrintsAlone : Global → Zone → Option Zone → Id → List Line �
 PrintsAlone g zone related x lines = (date : Text) × (new : Zone)
     × InstallsSelected g zone related (only x) no_bypass date new lines
 
--- Of x the facts are told, and then in words what such an APPLY or ACCEPT prints.
+-- The facts of x are told, and then in words what such an APPLY or ACCEPT prints.
 pub record IsToldOf (g : Global) (zone : Zone) (related : Option Zone) (x : Id) (text : Text) (code : ℕ) : Type 0 where
   pub facts : List Fact
   pub are : AreFacts g zone x facts
@@ -55,13 +55,13 @@ pub record IsToldOf (g : Global) (zone : Zone) (related : Option Zone) (x : Id) 
   pub text_is : text ≡ facts_text facts ++ verdict_text x facts lines
   pub code_is : code ≡ facts_code facts
 
--- the greatest of what stands second
+-- the greatest of the codes
 abbrev pub greatest : List (Text × ℕ) → ℕ
 greatest [] = 0
 greatest (p ∷ ps) = max p.1 (greatest ps)
 
--- Of each id its facts and its verdict are told, and the status is the greatest of theirs. Where there is no such zone,
--- a refusal is told as SET tells it, and the status is 12.
+-- For each id its facts and its verdict are told, and the status is the greatest of theirs. If there is no such zone, a
+-- refusal is told as SET tells it, and the status is 12.
 abbrev pub IsTold : Global → Option Zone → Option Zone → List Id → Told → Type 0
 IsTold g None related ids told = (told.text.items ≡ refused_text NoZone) × (told.status ≡ 12)
 IsTold g (Some zone) related ids told = (parts : List (Text × ℕ))

@@ -1,4 +1,4 @@
--- What a verdict is worth.
+-- What a verdict means.
 use Rattle.std.specs.Prelude.{◌≡◌, List, Option}
 use Rattle.terms.specs.CommandForms.{no_bypass}
 use Rattle.terms.specs.Global.{IsGlobal}
@@ -8,7 +8,7 @@ use Rattle.machine.specs.Installing.{InstallsSelected}
 use Rattle.smpe_why.specs.Clear.{only}
 use Rattle.smpe_why.specs.Telling.{PrintsAlone}
 
--- The lines of which a verdict is made are those of any APPLY or ACCEPT that selects the id alone, without BYPASS,
+-- The lines from which a verdict is made are those of any APPLY or ACCEPT that selects the id alone, without BYPASS,
 -- whatever its date.
 abbrev pub PrintsTheSame : Type 0
 PrintsTheSame =

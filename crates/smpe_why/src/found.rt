@@ -1,4 +1,4 @@
-//! What is loaded to tell what is so of ids in a zone.
+//! What is loaded to tell about ids in a zone.
 ghost use Rattle.std.specs.Prelude.{◌≡◌, false, find, option_map};
 ghost use Rattle.std.specs.Option.{option_map_or};
 ghost use Rattle.std.specs.Str.{bytes_eq};
@@ -12,7 +12,7 @@ use sysmods::GlobalZone;
 use terms::ZoneKind;
 use zones::Zone;
 
-/// The global zone, the zone of a name, if there is one, and the target zone that an ACCEPT there looks at besides.
+/// The global zone, the zone of a name, if there is one, and the target zone at which an ACCEPT there also looks.
 #[derive(Drop)]
 pub struct LoadedZones {
     pub global: GlobalZone,
@@ -20,9 +20,9 @@ pub struct LoadedZones {
     pub related: Option<Zone>,
 }
 
-/// Loads the global zone, the zone of this name and the one that an ACCEPT there looks at besides, and changes nothing.
-/// `Memory` comes where memory runs out, `Fault` where the database fails, and `NoState` where the rows of one of them
-/// stand for none.
+/// Loads the global zone, the zone of this name and the one at which an ACCEPT there also looks, and changes nothing.
+/// Returns `Memory` if memory runs out, `Fault` if the database fails, and `NoState` if the rows of one of them stand
+/// for none.
 pub fn find<S: Alter>(store: &mut Store<S>, name: ZoneName) -> Result<LoadedZones, StoreError>
     ensures { Loads S.Store store.old store.new (IsFoundIn name) result }
 {
@@ -44,7 +44,7 @@ pub fn find<S: Alter>(store: &mut Store<S>, name: ZoneName) -> Result<LoadedZone
     })
 }
 
-// The name of the zone that an install into this zone, if it is there, looks at besides.
+// The name of the other zone at which an install into this zone looks, if the zone exists.
 fn target_for(heads: &[ZoneHead], name: ZoneName, zone: &Option<Zone>) -> Option<ZoneName>
     ensures { result ≡ target_for heads.now name zone.now }
 {

@@ -1,9 +1,9 @@
-//! What is so of ids in a zone of a store.
-//! `find` loads the global zone, the zone, and the target zone that an ACCEPT there looks at besides, and changes nothing,
-//! whatever the tables are. `tell` makes of what was found the lines of the facts of the ids, each with what an APPLY or
-//! ACCEPT of it alone would print, in words, and the program's status, or a refusal where there is no such zone. No
-//! contract says when memory is wanting. Two laws: what such an APPLY prints is the same on any date
-//! (`prints_the_same`), and an id in whose way no fact stands is applied (`clear_is_applied`).
+//! What `smpe why` tells about ids in a zone of a store. `find` loads the global zone, the zone, and the target zone at
+//! which an ACCEPT there also looks, and changes nothing, whatever the tables hold. `tell` makes from them the lines of
+//! the facts of the ids, each with what an APPLY or ACCEPT of it alone would print, in words, and the program's status,
+//! or a refusal if there is no such zone. There are two laws: what such an APPLY prints is the same on any date
+//! (`prints_the_same`), and an id that no fact blocks is applied (`clear_is_applied`). Every call that allocates
+//! returns an error if memory runs out; no contract says when.
 #![tactic(auto)]
 
 mod found;

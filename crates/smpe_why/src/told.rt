@@ -1,4 +1,4 @@
-//! What is told of ids in a zone that was found.
+//! What is told about ids in a zone that was found.
 ghost use Rattle.std.specs.Prelude.{◌≡◌, ◌++◌, ℕ, max, Some, map, option_copied, IfOk, OnOk};
 ghost use Rattle.terms.specs.Types.{Text as AText};
 ghost use Rattle.machine.specs.Outcome.{NoZone};
@@ -25,8 +25,8 @@ pub struct Told {
     pub status: u8,
 }
 
-/// Tells what is so of these ids, in their order, and what an APPLY, in a distribution zone an ACCEPT, of each alone would
-/// make of it; or that there is no such zone. The error comes where memory runs out.
+/// Tells the facts about these ids, in their order, and what an APPLY, in a distribution zone an ACCEPT, of each alone
+/// would make of it, or that there is no such zone.
 pub fn tell(alloc: Global, found: &LoadedZones, ids: &[Id]) -> Result<Told, AllocError>
     ensures { IfOk result (IsTold found.now.global found.now.zone found.now.related ids.now) }
 {
