@@ -50,6 +50,10 @@ impl CardWords {
         let start = start_of(record);
         let cards = file.iter().skip(start).take(CARDS * RECORD).enumerate();
         for (at, &byte) in cards {
+            // (no word goes on in the next card)
+            if at % RECORD == 0 {
+                found.end_word()?;
+            }
             if at % RECORD < COLUMNS && !found.is_done {
                 found.take(byte)?;
             }

@@ -98,8 +98,8 @@ fn refusal(error: Error) -> &'static str {
 
 fn failure(meta: Option<Error>, closing: Option<Error>) -> &'static str {
     match (meta, closing) {
-        (Some(Error::SqlInputError(_)), _) => {
-            "the file is the database of another program: it has no table meta"
+        (Some(Error::SqlInputError(_)), None) => {
+            "the file has no table meta: another program made it, or nothing could be written to it"
         }
         (None, None) => "a row of the database is not as smpe wrote it",
         _ => "a read or write of the database failed: is the disk full?",
