@@ -1,5 +1,4 @@
 pub mod Errsysmods
-pub mod FactText
 pub mod Installing
 pub mod Machine
 pub mod Outcome

@@ -31,5 +31,4 @@ pub mod Install
 pub mod Failures
 pub mod Restore
 pub mod Closed
-pub mod Facts
 pub mod Beside
