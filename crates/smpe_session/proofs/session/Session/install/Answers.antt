@@ -75,9 +75,11 @@ returns-in-Err-clause-uses g c = answered c.in_ok-related.ensures (λ own none. 
 -- ---- the header
 
 pub returns-in-Err-clause-header : goal.returns-in-Err-clause-header
-returns-in-Err-clause-header g c =
-    (c.seek_related.new.self.boundary, c.header-header.ensures.view c.args.install.now
-    (sym (ap (λ w. w.check) c.install.view_is)))
+returns-in-Err-clause-header g c = (
+  c.seek_related.new.self.boundary,
+  c.header-header.ensures.view c.args.install.now
+      (sym (ap (λ w. w.check) c.install.view_is)),
+)
 
 pub returns-clause-header : goal.returns-clause-header
 returns-clause-header g c =
