@@ -8,7 +8,7 @@ use crate::fault::Fault;
 use crate::host::Host;
 use crate::keep::{keep_commands, keep_remarks};
 use crate::remarks::tell;
-use crate::sources::{Sources, cards_of, read};
+use crate::sources::{InputFiles, cards_of, read};
 use crate::summary::{by_reason, print};
 use intake_cntl::command_file;
 use std::alloc::Global;
@@ -23,7 +23,7 @@ pub(crate) fn serve_commands<H: Host>(
     asked: &Asked,
     name: &str,
 ) -> Result<u8, Fault> {
-    let mut sources = Sources::new(alloc);
+    let mut sources = InputFiles::new(alloc);
     let mut remarks = Vec::new(alloc);
     let bytes = read(alloc, host, name)?;
     let cards = cards_of(

@@ -3,21 +3,21 @@
 use crate::asked::Asked;
 use crate::fault::Fault;
 use crate::host::Host;
-use crate::sources::{Sources, cards_of, read_if_there};
+use crate::sources::{InputFiles, cards_of, read_if_there};
 use fields::Name;
 use intake_read::{WideElement, WideFile};
-use intake_sysmod::Member;
+use intake_sysmod::RelfileMember;
 use std::alloc::Global;
 
 /// The texts of the elements with RELFILE that have a file in the folder, lines or records, in whichever code each is.
 pub(crate) fn members<H: Host>(
     alloc: Global,
     host: &mut H,
-    sources: &mut Sources,
+    sources: &mut InputFiles,
     asked: &Asked,
     files: &[WideFile],
     remarks: &mut Vec<u8>,
-) -> Result<Vec<Member>, Fault> {
+) -> Result<Vec<RelfileMember>, Fault> {
     let mut members = Vec::new(alloc);
     let Some(folder) = &asked.relfile else {
         return Ok(members);
@@ -58,11 +58,11 @@ fn is_number(text: &[u8]) -> bool {
 fn member<H: Host>(
     alloc: Global,
     host: &mut H,
-    sources: &mut Sources,
+    sources: &mut InputFiles,
     path: &str,
     element: &WideElement,
     remarks: &mut Vec<u8>,
-) -> Result<Option<Member>, Fault> {
+) -> Result<Option<RelfileMember>, Fault> {
     let Some(relfile) = &element.relfile else {
         return Ok(None);
     };
@@ -70,7 +70,7 @@ fn member<H: Host>(
         return Ok(None);
     };
     let cards = cards_of(alloc, sources, path, &bytes, None, None, remarks)?;
-    Ok(Some(Member {
+    Ok(Some(RelfileMember {
         relfile: relfile.clone()?,
         name: element.name.clone()?,
         cards,

@@ -9,7 +9,7 @@ use crate::host::Host;
 use crate::keep::keep_service;
 use crate::members::members;
 use crate::remarks::tell;
-use crate::sources::{Sources, cards_of, read};
+use crate::sources::{InputFiles, cards_of, read};
 use crate::summary::{by_reason, print};
 use intake_cards::{Deed, Remark};
 use intake_carry::{NarrowError, Narrowed, Tally, narrow};
@@ -24,7 +24,7 @@ const LEFT_OUT_STATUS: u8 = 4;
 pub(crate) fn serve_files<H: Host>(alloc: Global, host: &mut H, asked: &Asked) -> Result<u8, Fault>
     ensures { IfOk result (λ _. ServesFiles H.Host asked.now.decide (string_bytes asked.now.out)) }
 {
-    let mut sources = Sources::new(alloc);
+    let mut sources = InputFiles::new(alloc);
     let mut remarks = Vec::new(alloc);
     let files = wide_files(alloc, host, &mut sources, asked, &mut remarks)?;
     let members = members(alloc, host, &mut sources, asked, &files, &mut remarks)?;
@@ -57,7 +57,7 @@ pub(crate) fn serve_files<H: Host>(alloc: Global, host: &mut H, asked: &Asked) -
 fn wide_files<H: Host>(
     alloc: Global,
     host: &mut H,
-    sources: &mut Sources,
+    sources: &mut InputFiles,
     asked: &Asked,
     remarks: &mut Vec<u8>,
 ) -> Result<Vec<WideFile>, Fault> {
@@ -94,7 +94,7 @@ fn has_statement(file: &WideFile) -> bool {
 }
 
 // Where something is refused, nothing is written: each such remark is a line of the fault.
-fn refused(alloc: Global, sources: &Sources, remarks: &[Remark]) -> Result<Fault, AllocError> {
+fn refused(alloc: Global, sources: &InputFiles, remarks: &[Remark]) -> Result<Fault, AllocError> {
     let mut lines = Vec::new(alloc);
     for remark in remarks {
         if remark.deed == Deed::Refused {

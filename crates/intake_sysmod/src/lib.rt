@@ -19,5 +19,5 @@ mod vers;
 mod words;
 
 pub use carried::carried_sysmod;
-pub use options::{Member, Options, Syslib};
+pub use options::{RelfileMember, Options, Syslib};
 pub use others::tell_others;

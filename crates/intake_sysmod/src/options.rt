@@ -14,7 +14,7 @@ pub struct Syslib {
 
 /// The text of an element that is in a file of its own.
 #[derive(Drop)]
-pub struct Member {
+pub struct RelfileMember {
     /// What RELFILE says.
     pub relfile: Vec<u8>,
     /// The element's name.
@@ -30,7 +30,7 @@ pub struct Options {
     /// The first one of a DISTLIB counts.
     pub syslibs: Vec<Syslib>,
     /// Of one RELFILE and name there is one.
-    pub members: Vec<Member>,
+    pub members: Vec<RelfileMember>,
 }
 
 impl Options {
@@ -45,7 +45,7 @@ impl Options {
     }
 
     /// The text of an element.
-    pub(crate) fn member(&self, relfile: &[u8], name: &[u8]) -> Option<&Member> {
+    pub(crate) fn member(&self, relfile: &[u8], name: &[u8]) -> Option<&RelfileMember> {
         let place = self
             .members
             .binary_search_by(|member| member.order(relfile, name));
@@ -66,7 +66,7 @@ impl Options {
     }
 }
 
-impl Member {
+impl RelfileMember {
     fn order(&self, relfile: &[u8], name: &[u8]) -> Ordering {
         self.relfile
             .as_slice()
