@@ -5,7 +5,7 @@ use crate::known::{WideWord, known_as};
 use crate::made::{assign, condition, element, hold, other, release, sysmod, ver};
 use crate::operands::members;
 use crate::statement::WideStatement;
-use intake_cards::Place;
+use intake_cards::CardPlace;
 use std::alloc::{AllocError, Global};
 
 /// The statements so far: a file's items, and the SYSMOD that is begun.
@@ -53,7 +53,7 @@ impl FileSoFar {
     }
 
     /// Notes what was read otherwise than it stands.
-    pub fn note(&mut self, reason: NoteReason, place: Place) -> Result<(), WideError> {
+    pub fn note(&mut self, reason: NoteReason, place: CardPlace) -> Result<(), WideError> {
         for known in self.file.notes.iter_mut() {
             if known.reason == reason {
                 known.count = known.count.saturating_add(1);

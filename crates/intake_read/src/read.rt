@@ -5,7 +5,7 @@ use crate::items::{NoteReason, OtherReason, SwallowedStatement, WideFile};
 use crate::known::{is_text_elsewhere, takes_text};
 use crate::statement::{WideStatement, statement_of};
 use crate::words::{CardPiece, CardScanner, Open, Token, is_word_byte};
-use intake_cards::{Card, Place, Tail};
+use intake_cards::{Card, CardPlace, Tail};
 use std::alloc::{AllocError, Global};
 
 /// What a card belongs to.
@@ -28,7 +28,7 @@ struct Reader {
     scanner: CardScanner,
     part: CardPart,
     /// Where the statement begins that is begun.
-    place: Place,
+    place: CardPlace,
     /// It, once its own text is whole.
     whole: Option<WideStatement>,
     gathered: FileSoFar,
@@ -59,7 +59,7 @@ fn behind_parenthesis(text: &[u8]) -> &[u8] {
 /// The statement that a card would begin, if no comment were open.
 fn swallowed_by(
     alloc: Global,
-    comment: Place,
+    comment: CardPlace,
     card: &Card,
 ) -> Result<SwallowedStatement, AllocError> {
     let text = &card.text[2..72];
@@ -192,7 +192,7 @@ pub fn read_wide(alloc: Global, cards: &[Card]) -> Result<WideFile, WideError> {
         alloc,
         scanner: CardScanner::new(alloc),
         part: CardPart::Before,
-        place: Place { file: 0, card: 0 },
+        place: CardPlace { file: 0, card: 0 },
         whole: None,
         gathered: FileSoFar::new(alloc),
     };
