@@ -1,6 +1,6 @@
 //! COMMENT of a hold.
 
-use intake_cards::{Reason, Remarks, Subject, laid_out};
+use intake_cards::{RemarkReason, Remarks, Subject, laid_out};
 use std::alloc::{AllocError, Global};
 
 /// The most characters that a COMMENT may have.
@@ -54,7 +54,7 @@ pub(crate) fn comment_of(
         laid.as_slice(),
     )?;
     if short.is_empty() {
-        remarks.tell_dropped(alloc, subject, b"COMMENT", Reason::BadValue, b"")?;
+        remarks.tell_dropped(alloc, subject, b"COMMENT", RemarkReason::BadValue, b"")?;
         return Ok(None);
     }
     match String::from_utf8(Vec::from_slice(alloc, short)?) {
@@ -73,13 +73,16 @@ fn tell(
     laid: &[u8],
 ) -> Result<(), AllocError> {
     let cases = [
-        (laid.len() > LONGEST, Reason::CutComment),
-        (stated.iter().any(|b| is_parenthesis(*b)), Reason::Brackets),
+        (laid.len() > LONGEST, RemarkReason::CutComment),
+        (
+            stated.iter().any(|b| is_parenthesis(*b)),
+            RemarkReason::Brackets,
+        ),
         (
             stated.iter().any(|b| !(0x20..=0x7e).contains(b)),
-            Reason::Unprintable,
+            RemarkReason::Unprintable,
         ),
-        (laid != changed, Reason::Blanks),
+        (laid != changed, RemarkReason::Blanks),
     ];
     let mut text = stated;
     for (applies, reason) in cases {

@@ -9,7 +9,7 @@ ghost use Rattle.intake_carry.specs.Holds.{wide_kind, IsFormed, IsKey, IsHoldKey
 use crate::comment::comment_of;
 use crate::errors::HoldError;
 use fields::{Class, HoldDate, Id, Reason as HoldReason};
-use intake_cards::{Deed, Reason, Remarks, Subject};
+use intake_cards::{Deed, RemarkReason, Remarks, Subject};
 use intake_read::{
     OddOperand, WideHold, WideHoldKind, WideOperand, WideRelease, tell_no_decision, tell_odd,
 };
@@ -41,11 +41,11 @@ impl Fault {
     }
 
     /// What is wrong with it.
-    pub(crate) fn reason(self) -> Reason {
+    pub(crate) fn reason(self) -> RemarkReason {
         match self {
-            Fault::BadId | Fault::BadFmid => Reason::BadId,
-            Fault::NoKind | Fault::NoReason | Fault::NoFmid => Reason::Missing,
-            Fault::BadReason => Reason::BadValue,
+            Fault::BadId | Fault::BadFmid => RemarkReason::BadId,
+            Fault::NoKind | Fault::NoReason | Fault::NoFmid => RemarkReason::Missing,
+            Fault::BadReason => RemarkReason::BadValue,
         }
     }
 }
@@ -161,7 +161,13 @@ fn class_of(
     };
     let class = Class::read(text.as_slice());
     if class.is_none() {
-        remarks.tell_dropped(alloc, subject, b"CLASS", Reason::BadValue, text.as_slice())?;
+        remarks.tell_dropped(
+            alloc,
+            subject,
+            b"CLASS",
+            RemarkReason::BadValue,
+            text.as_slice(),
+        )?;
     }
     Ok(class)
 }
@@ -180,7 +186,13 @@ fn date_of(
     };
     let date = HoldDate::read(text.as_slice());
     if date.is_none() {
-        remarks.tell_dropped(alloc, subject, b"DATE", Reason::BadValue, text.as_slice())?;
+        remarks.tell_dropped(
+            alloc,
+            subject,
+            b"DATE",
+            RemarkReason::BadValue,
+            text.as_slice(),
+        )?;
     }
     Ok(date)
 }
@@ -231,7 +243,7 @@ fn tell_fixcat(
         subject,
         b"FIXCAT",
         Deed::LeftOut,
-        Reason::Fixcat,
+        RemarkReason::Fixcat,
         b"",
     )
 }

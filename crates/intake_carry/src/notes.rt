@@ -1,6 +1,6 @@
 //! What was read otherwise than it stands.
 
-use intake_cards::{Reason, Remarks, Subject};
+use intake_cards::{RemarkReason, Remarks, Subject};
 use intake_read::{Note, NoteReason};
 use std::alloc::{AllocError, Global};
 
@@ -17,9 +17,9 @@ pub(crate) fn tell_notes(
             id: b"",
         };
         let reason = match note.reason {
-            NoteReason::LowerCase => Reason::LowerCase,
-            NoteReason::StatementInComment => Reason::StatementInComment,
-            NoteReason::TextIn73 => Reason::TextInNumbers,
+            NoteReason::LowerCase => RemarkReason::LowerCase,
+            NoteReason::StatementInComment => RemarkReason::StatementInComment,
+            NoteReason::TextIn73 => RemarkReason::TextInNumbers,
         };
         let count = note.count;
         let often = format!(in alloc; "{count} in all")?;

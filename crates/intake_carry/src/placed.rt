@@ -7,7 +7,7 @@ ghost use Rattle.intake_carry.specs.Gathered.{placed_items};
 use crate::errors::HoldError;
 use crate::holds::{carried_hold, carried_release};
 use intake_cards::Remarks;
-use intake_read::{Place, WideHold, WideRelease};
+use intake_read::{CardPlace, WideHold, WideRelease};
 use mcs::{HoldItem, Release};
 use std::alloc::{AllocError, Global};
 use sysmods_values::Hold;
@@ -15,14 +15,14 @@ use sysmods_values::Hold;
 /// A hold or a release of the hold file, and where it stood.
 #[derive(Drop)]
 pub(crate) struct Placed {
-    pub place: Place,
+    pub place: CardPlace,
     pub item: HoldItem,
 }
 
 /// Puts a hold behind the others.
 pub(crate) fn put_outside(
     placed: &mut Vec<Placed>,
-    place: Place,
+    place: CardPlace,
     hold: Hold,
 ) -> Result<(), AllocError>
     ensures { OnOk result (placed_items placed.new.items ≡ placed_items placed.old.items ++ AHold hold ∷ []) }
@@ -35,7 +35,11 @@ pub(crate) fn put_outside(
 }
 
 /// Puts a release behind the others.
-fn put_release(placed: &mut Vec<Placed>, place: Place, release: Release) -> Result<(), AllocError>
+fn put_release(
+    placed: &mut Vec<Placed>,
+    place: CardPlace,
+    release: Release,
+) -> Result<(), AllocError>
     ensures { OnOk result (placed_items placed.new.items ≡ placed_items placed.old.items ++ ARelease release ∷ []) }
 {
     placed.push(Placed {

@@ -1,7 +1,7 @@
 //! Holds and releases that can't be carried. With one of them nothing is carried at all.
 
 use crate::holds::{Fault, hold_key, release_key};
-use intake_cards::{Deed, Reason, Remarks, Subject};
+use intake_cards::{Deed, RemarkReason, Remarks, Subject};
 use intake_read::{OddOperand, WideFile, WideHold, WideOther, WideRelease};
 use std::alloc::{AllocError, Global};
 
@@ -26,7 +26,7 @@ fn tell_fault(
     if let Some(one) = open_key(odd) {
         let operand = &one.operand;
         let name = operand.name.as_slice();
-        let reason = Reason::from(one.reason);
+        let reason = RemarkReason::from(one.reason);
         remarks.tell(alloc, subject, name, Deed::Refused, reason, operand.text())?;
         return Ok(true);
     }
@@ -105,7 +105,7 @@ fn tell_broken_hold(
         &subject,
         b"",
         Deed::Refused,
-        Reason::from(other.reason),
+        RemarkReason::from(other.reason),
         b"",
     )
 }

@@ -9,7 +9,7 @@ use crate::errors::HoldError;
 use crate::holds::carried_hold;
 use crate::placed::{Placed, placed_holds, put_outside};
 use fields::Id;
-use intake_cards::{Place, Reason, Remarks, Subject};
+use intake_cards::{CardPlace, RemarkReason, Remarks, Subject};
 use intake_read::{WideHold, WideHoldKind, WideSysmod};
 use intake_sysmod::{Options, carried_sysmod};
 use std::alloc::{AllocError, Global};
@@ -33,7 +33,7 @@ fn id_in(sysmod: &Sysmod) -> Id
 fn put_hold(
     sysmod: &mut Sysmod,
     outside: &mut Vec<Placed>,
-    place: Place,
+    place: CardPlace,
     hold: Hold,
 ) -> Result<(), AllocError>
     requires { IsTrue hold.internal → (hold.kind ≡ System) × (hold.id ≡ sysmod.old.id) }
@@ -61,7 +61,7 @@ fn tell_outside(alloc: Global, remarks: &mut Remarks, stated: &WideHold) -> Resu
         word: b"HOLD",
         id: stated.id.as_slice(),
     };
-    remarks.tell_carried(alloc, &subject, b"", Reason::HeldOutside, b"")
+    remarks.tell_carried(alloc, &subject, b"", RemarkReason::HeldOutside, b"")
 }
 
 /// Tells the same of all holds of a SYSMOD that is left out.

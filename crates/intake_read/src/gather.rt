@@ -5,7 +5,7 @@ use crate::known::{Known, known_as};
 use crate::made::{assign, condition, element, hold, other, release, sysmod, ver};
 use crate::operands::members;
 use crate::statement::Statement;
-use intake_cards::Place;
+use intake_cards::CardPlace;
 use std::alloc::Global;
 
 /// The statements so far: a file's items, and the SYSMOD that is begun.
@@ -46,7 +46,7 @@ impl Gathered {
     }
 
     /// Notes what was read otherwise than it stands.
-    pub fn note(&mut self, reason: NoteReason, place: Place) -> Result<(), WideError> {
+    pub fn note(&mut self, reason: NoteReason, place: CardPlace) -> Result<(), WideError> {
         for known in self.file.notes.iter_mut() {
             if known.reason == reason {
                 known.count = known.count.saturating_add(1);

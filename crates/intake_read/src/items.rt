@@ -1,5 +1,5 @@
 //! What the statements of a shop's files say, with SMP/E's own names. Names and values in lists are in upper case.
-use intake_cards::{Card, Place};
+use intake_cards::{Card, CardPlace};
 use terms::Kind;
 use thiserror::Error;
 
@@ -7,7 +7,7 @@ use thiserror::Error;
 /// for blanks at either end of a card and of the whole, and one blank stands between two cards.
 #[derive(Drop)]
 pub struct WideOperand {
-    pub place: Place,
+    pub place: CardPlace,
     pub name: Vec<u8>,
     pub value: Option<Vec<u8>>,
 }
@@ -43,7 +43,7 @@ pub struct OddOperand {
 /// `++FUNCTION`, `++PTF`, `++APAR` or `++USERMOD`, with the statements that belong to it.
 #[derive(Drop)]
 pub struct WideSysmod {
-    pub place: Place,
+    pub place: CardPlace,
     pub kind: Kind,
     /// What stands in the header's parentheses, in upper case; empty where there are none.
     pub id: Vec<u8>,
@@ -60,7 +60,7 @@ pub struct WideSysmod {
 /// `++VER`. A list that the statement lacks is empty.
 #[derive(Drop)]
 pub struct WideVer {
-    pub place: Place,
+    pub place: CardPlace,
     pub srels: Vec<Vec<u8>>,
     pub fmid: Option<Vec<u8>>,
     pub pre: Vec<Vec<u8>>,
@@ -76,7 +76,7 @@ pub struct WideVer {
 /// `++IF`, with THEN or without it.
 #[derive(Drop)]
 pub struct WideIf {
-    pub place: Place,
+    pub place: CardPlace,
     pub fmid: Option<Vec<u8>>,
     pub then: bool,
     pub req: Vec<Vec<u8>>,
@@ -95,7 +95,7 @@ pub enum WideHoldKind {
 /// `++HOLD`.
 #[derive(Drop)]
 pub struct WideHold {
-    pub place: Place,
+    pub place: CardPlace,
     /// What stands in its parentheses, in upper case; empty where there are none.
     pub id: Vec<u8>,
     /// None: it has no word for its kind. A second word is among the odd operands.
@@ -114,7 +114,7 @@ pub struct WideHold {
 /// `++RELEASE`.
 #[derive(Drop)]
 pub struct WideRelease {
-    pub place: Place,
+    pub place: CardPlace,
     pub id: Vec<u8>,
     pub kind: Option<WideHoldKind>,
     pub reason: Option<Vec<u8>>,
@@ -127,7 +127,7 @@ pub struct WideRelease {
 /// `++ASSIGN`.
 #[derive(Drop)]
 pub struct WideAssign {
-    pub place: Place,
+    pub place: CardPlace,
     pub source: Option<Vec<u8>>,
     pub to: Vec<Vec<u8>>,
     pub odd: Vec<OddOperand>,
@@ -137,7 +137,7 @@ pub struct WideAssign {
 /// and each element of a file system.
 #[derive(Drop)]
 pub struct WideElement {
-    pub place: Place,
+    pub place: CardPlace,
     /// The word without its `++`, in upper case.
     pub word: Vec<u8>,
     /// What stands in its parentheses, in upper case.
@@ -195,7 +195,7 @@ pub enum OtherReason {
 /// with it.
 #[derive(Drop)]
 pub struct WideOther {
-    pub place: Place,
+    pub place: CardPlace,
     pub reason: OtherReason,
     /// The word without its `++`, in upper case.
     pub word: Vec<u8>,
@@ -219,7 +219,7 @@ pub enum NoteReason {
 /// Something that was read otherwise than it stands: the first statement or card with it, and how many there are.
 #[derive(Clone, Copy, Debug, PartialEq, Eq)]
 pub struct Note {
-    pub place: Place,
+    pub place: CardPlace,
     pub reason: NoteReason,
     pub count: usize,
 }

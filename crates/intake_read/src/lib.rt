@@ -14,7 +14,7 @@ mod told;
 mod words;
 
 pub use errors::WideError;
-pub use intake_cards::{Card, Place};
+pub use intake_cards::{Card, CardPlace};
 pub use items::{
     Note, NoteReason, OddOperand, OddReason, OtherReason, WideAssign, WideElement, WideFile,
     WideHold, WideHoldKind, WideIf, WideOperand, WideOther, WideRelease, WideSysmod, WideVer,

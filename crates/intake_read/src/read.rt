@@ -5,7 +5,7 @@ use crate::items::{NoteReason, OtherReason, WideFile};
 use crate::known::{is_text_elsewhere, takes_text};
 use crate::statement::{Statement, statement_of};
 use crate::words::{Open, Piece, Scanner, Token};
-use intake_cards::{Card, Place, Tail};
+use intake_cards::{Card, CardPlace, Tail};
 use std::alloc::{AllocError, Global};
 
 /// What a card belongs to.
@@ -28,7 +28,7 @@ struct Reader {
     scanner: Scanner,
     part: Part,
     /// Where the statement begins that is begun.
-    place: Place,
+    place: CardPlace,
     /// It, once its own text is whole.
     whole: Option<Statement>,
     gathered: Gathered,
@@ -155,7 +155,7 @@ pub fn read_wide(alloc: Global, cards: &[Card]) -> Result<WideFile, WideError> {
         alloc,
         scanner: Scanner::new(alloc),
         part: Part::Before,
-        place: Place { file: 0, card: 0 },
+        place: CardPlace { file: 0, card: 0 },
         whole: None,
         gathered: Gathered::new(alloc),
     };

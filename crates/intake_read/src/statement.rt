@@ -2,13 +2,13 @@
 use crate::items::{OtherReason, WideOperand};
 use crate::known::{is_upper, known_as, needs_name};
 use crate::words::{Open, Piece, Token};
-use intake_cards::{Card, Place};
+use intake_cards::{Card, CardPlace};
 use std::alloc::{AllocError, Global};
 
 /// A statement as it stands.
 #[derive(Drop)]
 pub(crate) struct Statement {
-    pub place: Place,
+    pub place: CardPlace,
     /// Without its `++`, in upper case.
     pub word: Vec<u8>,
     /// What stands in its parentheses, in upper case.
@@ -70,7 +70,7 @@ impl Said {
         Ok(())
     }
 
-    fn word(&mut self, place: Place, word: Vec<u8>) -> Result<(), AllocError> {
+    fn word(&mut self, place: CardPlace, word: Vec<u8>) -> Result<(), AllocError> {
         if !self.has_word {
             self.has_word = true;
             self.statement.word = word;
@@ -113,7 +113,7 @@ impl Said {
 /// The statement of these pieces, which begins at this place. What is open behind them tells why it has no period.
 pub(crate) fn statement_of(
     alloc: Global,
-    place: Place,
+    place: CardPlace,
     pieces: Vec<Piece>,
     open: Open,
     has_lower: bool,

@@ -8,7 +8,7 @@ use crate::options::Options;
 use crate::others::tell_others;
 use crate::vers::vers_of;
 use fields::spelling::kind_text;
-use intake_cards::{Deed, Reason, Remarks, Subject};
+use intake_cards::{Deed, RemarkReason, Remarks, Subject};
 use intake_read::{WideSysmod, tell_no_decision, tell_odd};
 use std::alloc::{AllocError, Global};
 use sysmods_values::{Sysmod, Ver};
@@ -42,7 +42,7 @@ fn tell_rest(
     )?;
     let others = tell_others(alloc, options, remarks, stated.others.as_slice())?;
     if stated.elements.len() > MOST_ELEMENTS {
-        remarks.leave_out(alloc, &subject, b"", Reason::TooMany, b"")?;
+        remarks.leave_out(alloc, &subject, b"", RemarkReason::TooMany, b"")?;
         return Ok(false);
     }
     Ok(others && stated.odd.is_empty())
@@ -96,7 +96,7 @@ fn tell_left_out(
     stated: &WideSysmod,
 ) -> Result<(), AllocError> {
     let subject = subject_of(stated);
-    remarks.leave_out(alloc, &subject, b"", Reason::WholeSysmod, b"")?;
+    remarks.leave_out(alloc, &subject, b"", RemarkReason::WholeSysmod, b"")?;
     let forbids = !stated.elements.is_empty()
         || stated
             .vers

@@ -8,7 +8,7 @@ use crate::elements::profile_change;
 use crate::options::Options;
 use crate::stand_ins::stand_in_change;
 use fields::Name;
-use intake_cards::{Reason, Remarks, Subject};
+use intake_cards::{RemarkReason, Remarks, Subject};
 use intake_read::{WideElement, WideSysmod};
 use std::alloc::{AllocError, Global};
 use sysmods_values::{Action, ElemChange, Sysmod};
@@ -30,7 +30,7 @@ fn change_of(
         id: element.name.as_slice(),
     };
     let Some(name) = Name::read(element.name.as_slice()) else {
-        remarks.leave_out(alloc, &subject, b"", Reason::BadName, b"")?;
+        remarks.leave_out(alloc, &subject, b"", RemarkReason::BadName, b"")?;
         return Ok(None);
     };
     let mut told = Remarks::new(alloc);
@@ -97,10 +97,10 @@ fn join(
         return Ok(true);
     }
     if !options.decide {
-        remarks.leave_out(alloc, subject, b"", Reason::Twice, b"")?;
+        remarks.leave_out(alloc, subject, b"", RemarkReason::Twice, b"")?;
         return Ok(false);
     }
-    remarks.tell_carried(alloc, subject, b"", Reason::FallTogether, b"")?;
+    remarks.tell_carried(alloc, subject, b"", RemarkReason::FallTogether, b"")?;
     if replaces(&change) && !is_replaced(sysmod, &change) {
         put_change(sysmod, change)?;
     }

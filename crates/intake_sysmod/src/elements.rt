@@ -9,7 +9,7 @@ use crate::texts::{MOST_RECORDS, are_printable, begins_statement, needs_numbers,
 use crate::updates::update_lines;
 use crate::words::{is_update, profile_type};
 use fields::Name;
-use intake_cards::{Deed, Reason, Remarks, Subject};
+use intake_cards::{Deed, RemarkReason, Remarks, Subject};
 use intake_read::{Card, WideElement, tell_odd};
 use std::alloc::{AllocError, Global};
 use sysmods_values::{Action, ElemChange};
@@ -45,15 +45,21 @@ fn tell_operands(
         let name = operand.name.as_slice();
         let text = operand.text();
         if is_dropped(name) {
-            remarks.tell_dropped(alloc, subject, name, Reason::NoDecision, text)?;
+            remarks.tell_dropped(alloc, subject, name, RemarkReason::NoDecision, text)?;
         } else {
-            remarks.leave_out(alloc, subject, name, Reason::UnknownOperand, text)?;
+            remarks.leave_out(alloc, subject, name, RemarkReason::UnknownOperand, text)?;
             good = false;
         }
     }
     for library in element.libraries.iter() {
         let name = library.name.as_slice();
-        remarks.leave_out(alloc, subject, name, Reason::TextElsewhere, library.text())?;
+        remarks.leave_out(
+            alloc,
+            subject,
+            name,
+            RemarkReason::TextElsewhere,
+            library.text(),
+        )?;
         good = false;
     }
     Ok(good)
@@ -69,7 +75,7 @@ fn library_of(
 ) -> Result<Option<Name>, AllocError> {
     let name = Name::read(stated);
     if name.is_none() {
-        remarks.leave_out(alloc, subject, operand, Reason::BadValue, stated)?;
+        remarks.leave_out(alloc, subject, operand, RemarkReason::BadValue, stated)?;
     }
     Ok(name)
 }
@@ -83,7 +89,7 @@ fn libraries_of(
     element: &WideElement,
 ) -> Result<Option<(Name, Name)>, AllocError> {
     let Some(distlib) = &element.distlib else {
-        remarks.leave_out(alloc, subject, b"DISTLIB", Reason::Missing, b"")?;
+        remarks.leave_out(alloc, subject, b"DISTLIB", RemarkReason::Missing, b"")?;
         return Ok(None);
     };
     let Some(distlib) = library_of(alloc, remarks, subject, b"DISTLIB", distlib.as_slice())? else {
@@ -98,7 +104,7 @@ fn libraries_of(
             alloc,
             subject,
             b"SYSLIB",
-            Reason::NoSyslib,
+            RemarkReason::NoSyslib,
             distlib.as_bytes(),
         )?;
         return Ok(None);
@@ -107,7 +113,7 @@ fn libraries_of(
         alloc,
         subject,
         b"SYSLIB",
-        Reason::GivenSyslib,
+        RemarkReason::GivenSyslib,
         syslib.as_bytes(),
     )?;
     Ok(Some((distlib, syslib)))
@@ -129,7 +135,7 @@ fn cards_of<'a>(
             alloc,
             subject,
             b"RELFILE",
-            Reason::TextElsewhere,
+            RemarkReason::TextElsewhere,
             relfile.as_slice(),
         )?;
         return Ok(None);
@@ -138,25 +144,25 @@ fn cards_of<'a>(
         alloc,
         subject,
         b"RELFILE",
-        Reason::RelfileText,
+        RemarkReason::RelfileText,
         relfile.as_slice(),
     )?;
     Ok(Some(member.cards.as_slice()))
 }
 
 /// Why the cards are no text at all, if they are none.
-fn fault_of(cards: &[Card]) -> Option<Reason> {
+fn fault_of(cards: &[Card]) -> Option<RemarkReason> {
     if cards.is_empty() {
-        return Some(Reason::TextElsewhere);
+        return Some(RemarkReason::TextElsewhere);
     }
     if cards.len() > MOST_RECORDS {
-        return Some(Reason::TooMany);
+        return Some(RemarkReason::TooMany);
     }
     if !are_printable(cards) {
-        return Some(Reason::NoAscii);
+        return Some(RemarkReason::NoAscii);
     }
     if begins_statement(cards) {
-        return Some(Reason::BadText);
+        return Some(RemarkReason::BadText);
     }
     None
 }
@@ -176,11 +182,11 @@ fn lines_for(
         return Ok(None);
     }
     let Some(lines) = text_of(alloc, elem_type, cards)? else {
-        remarks.leave_out(alloc, subject, b"", Reason::BadText, b"")?;
+        remarks.leave_out(alloc, subject, b"", RemarkReason::BadText, b"")?;
         return Ok(None);
     };
     if needs_numbers(elem_type, cards) {
-        remarks.tell_carried(alloc, subject, b"", Reason::Numbered, b"")?;
+        remarks.tell_carried(alloc, subject, b"", RemarkReason::Numbered, b"")?;
     }
     Ok(Some(lines))
 }
@@ -248,14 +254,14 @@ fn update(
         return Ok(None);
     };
     if lines.len() > MOST_RECORDS {
-        remarks.leave_out(alloc, subject, b"", Reason::TooMany, b"")?;
+        remarks.leave_out(alloc, subject, b"", RemarkReason::TooMany, b"")?;
         return Ok(None);
     }
     match Update::read(alloc, lines, name.as_bytes()) {
         Ok(update) => Ok(Some(update_change(elem_type, name, update))),
         Err(TextError::Memory) => Err(AllocError),
         Err(TextError::Fault(_)) => {
-            remarks.leave_out(alloc, subject, b"", Reason::BadText, b"")?;
+            remarks.leave_out(alloc, subject, b"", RemarkReason::BadText, b"")?;
             Ok(None)
         }
     }
@@ -270,11 +276,11 @@ fn tell_libraries(
 ) -> Result<(), AllocError> {
     if let Some(distlib) = &element.distlib {
         let text = distlib.as_slice();
-        remarks.tell_dropped(alloc, subject, b"DISTLIB", Reason::NoDecision, text)?;
+        remarks.tell_dropped(alloc, subject, b"DISTLIB", RemarkReason::NoDecision, text)?;
     }
     if let Some(syslib) = &element.syslib {
         let text = syslib.as_slice();
-        remarks.tell_dropped(alloc, subject, b"SYSLIB", Reason::NoDecision, text)?;
+        remarks.tell_dropped(alloc, subject, b"SYSLIB", RemarkReason::NoDecision, text)?;
     }
     Ok(())
 }
@@ -294,7 +300,7 @@ pub(crate) fn profile_change(
 {
     let word = element.word.as_slice();
     let Some(elem_type) = profile_type(word) else {
-        remarks.leave_out(alloc, subject, b"", Reason::OutsideProfile, b"")?;
+        remarks.leave_out(alloc, subject, b"", RemarkReason::OutsideProfile, b"")?;
         return Ok(None);
     };
     if !tell_operands(alloc, remarks, subject, element)? {
@@ -304,7 +310,7 @@ pub(crate) fn profile_change(
         return replacement(alloc, options, remarks, subject, element, elem_type, name);
     }
     if kind == Kind::Function {
-        remarks.leave_out(alloc, subject, b"", Reason::UpdateInFunction, b"")?;
+        remarks.leave_out(alloc, subject, b"", RemarkReason::UpdateInFunction, b"")?;
         return Ok(None);
     }
     update(alloc, remarks, subject, element, elem_type, name)

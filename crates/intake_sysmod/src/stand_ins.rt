@@ -9,8 +9,8 @@ use crate::updates::change_record;
 use crate::words::{profile_type, stand_in};
 use fields::Name;
 use fields::spelling::type_text;
-use intake_cards::{Reason, Remarks, Subject};
-use intake_read::{Card, Place, WideElement};
+use intake_cards::{RemarkReason, Remarks, Subject};
+use intake_read::{Card, CardPlace, WideElement};
 use std::alloc::{AllocError, Global};
 use sysmods_values::{Action, ElemChange};
 use terms::{ElemType, Kind};
@@ -35,7 +35,7 @@ fn is_update(kind: Kind, word: &[u8]) -> bool {
 }
 
 /// A card that names the statement, with a number.
-fn card_of(place: Place, word: &[u8], name: &[u8]) -> Card {
+fn card_of(place: CardPlace, word: &[u8], name: &[u8]) -> Card {
     let mut text = [b' '; 80];
     let parts = b"* ++".iter().chain(word.iter()).chain(b"(".iter());
     let parts = parts.chain(name.iter()).chain(b")".iter());
@@ -128,11 +128,11 @@ pub(crate) fn stand_in_change(
     match change {
         Some(change) => {
             let text = type_text(elem_type);
-            remarks.tell_carried(alloc, subject, b"", Reason::StandIn, text)?;
+            remarks.tell_carried(alloc, subject, b"", RemarkReason::StandIn, text)?;
             Ok(Some(change))
         }
         None => {
-            remarks.leave_out(alloc, subject, b"", Reason::BadText, b"")?;
+            remarks.leave_out(alloc, subject, b"", RemarkReason::BadText, b"")?;
             Ok(None)
         }
     }

@@ -5,7 +5,7 @@ ghost use Rattle.intake_sysmod.specs.NoLooser.{IsVer, AreVers, AreOperands};
 
 use crate::ver_operands::{Operands, operands_of};
 use fields::Srel;
-use intake_cards::{Reason, Remarks, Subject};
+use intake_cards::{RemarkReason, Remarks, Subject};
 use intake_read::{WideSysmod, WideVer};
 use std::alloc::{AllocError, Global};
 use sysmods_values::{IfReq, Ver};
@@ -63,7 +63,13 @@ fn for_srels(
     let mut vers = Vec::with_capacity(alloc, stated.srels.len())?;
     for srel in stated.srels.iter() {
         let Some(srel) = Srel::read(srel.as_slice()) else {
-            remarks.leave_out(alloc, subject, b"SREL", Reason::BadValue, srel.as_slice())?;
+            remarks.leave_out(
+                alloc,
+                subject,
+                b"SREL",
+                RemarkReason::BadValue,
+                srel.as_slice(),
+            )?;
             return Ok(None);
         };
         vers.push(ver_of(alloc, srel, operands)?)?;
@@ -87,7 +93,7 @@ fn vers_for(
         id: sysmod.id.as_slice(),
     };
     if stated.srels.is_empty() {
-        remarks.leave_out(alloc, &subject, b"SREL", Reason::Missing, b"")?;
+        remarks.leave_out(alloc, &subject, b"SREL", RemarkReason::Missing, b"")?;
         return Ok(None);
     }
     match operands_of(alloc, remarks, sysmod, stated)? {
@@ -154,15 +160,21 @@ pub(crate) fn vers_of(
         return Ok(None);
     };
     if vers.is_empty() {
-        remarks.leave_out(alloc, subject, b"VER", Reason::Missing, b"")?;
+        remarks.leave_out(alloc, subject, b"VER", RemarkReason::Missing, b"")?;
         return Ok(None);
     }
     if vers.len() > MOST_VERS {
-        remarks.leave_out(alloc, subject, b"VER", Reason::TooMany, b"")?;
+        remarks.leave_out(alloc, subject, b"VER", RemarkReason::TooMany, b"")?;
         return Ok(None);
     }
     if let Some(ver) = second(sysmod.kind, vers.as_slice()) {
-        remarks.leave_out(alloc, subject, b"VER", Reason::Twice, ver.srel.as_bytes())?;
+        remarks.leave_out(
+            alloc,
+            subject,
+            b"VER",
+            RemarkReason::Twice,
+            ver.srel.as_bytes(),
+        )?;
         return Ok(None);
     }
     Ok(Some(by_srel(vers)?))
