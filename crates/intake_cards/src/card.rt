@@ -1,11 +1,11 @@
 //! A card.
-use crate::place::Place;
+use crate::place::CardPlace;
 
 /// A card: 80 columns, with blanks behind a shorter line. The bytes are ASCII, whatever the file's code was; what ASCII
 /// lacks stands as its byte in ISO 8859-1, or as the file had it where the file is ASCII.
 #[derive(Clone, Copy, Debug, PartialEq, Eq)]
 pub struct Card {
-    pub place: Place,
+    pub place: CardPlace,
     pub text: [u8; 80],
 }
 

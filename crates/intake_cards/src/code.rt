@@ -3,7 +3,7 @@ use crate::tables::{IBM037, IBM1047};
 
 /// How a file is laid out.
 #[derive(Clone, Copy, Debug, PartialEq, Eq)]
-pub enum Form {
+pub enum Layout {
     /// Lines, each with its end: a line feed, or a carriage return and a line feed; in EBCDIC X'15' or X'25' for the
     /// line feed.
     Text,

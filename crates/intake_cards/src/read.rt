@@ -1,9 +1,9 @@
 //! The bytes of a file as its cards.
 use crate::card::Card;
-use crate::code::{Code, Form};
+use crate::code::{Code, Layout};
 use crate::errors::CardError;
-use crate::place::Place;
-use crate::told::{told_code, told_form};
+use crate::guessed::{guessed_code, guessed_layout};
+use crate::place::CardPlace;
 use std::alloc::Global;
 
 /// What cards of a file have that is no card's.
@@ -23,7 +23,7 @@ pub enum CardOddity {
 #[derive(Clone, Copy, Debug, PartialEq, Eq)]
 pub struct CardNote {
     pub oddity: CardOddity,
-    pub first: Place,
+    pub first: CardPlace,
     pub cards: usize,
 }
 
@@ -31,7 +31,7 @@ pub struct CardNote {
 #[derive(Drop)]
 pub struct Cards {
     /// How it is laid out, as it was asked for or as the bytes tell.
-    pub form: Form,
+    pub form: Layout,
     /// Its code, likewise.
     pub code: Code,
     pub cards: Vec<Card>,
@@ -41,7 +41,7 @@ pub struct Cards {
 
 impl Cards {
     /// Notes the oddity of the card at that place.
-    fn note(&mut self, oddity: CardOddity, place: Place) -> Result<(), CardError> {
+    fn note(&mut self, oddity: CardOddity, place: CardPlace) -> Result<(), CardError> {
         for known in self.notes.iter_mut() {
             if known.oddity == oddity {
                 known.cards = known.cards.saturating_add(1);
@@ -57,7 +57,7 @@ impl Cards {
     }
 
     /// Adds a card that may be shorter than 80 columns.
-    fn add(&mut self, place: Place, line: &[u8]) -> Result<(), CardError> {
+    fn add(&mut self, place: CardPlace, line: &[u8]) -> Result<(), CardError> {
         let card = Card {
             place,
             text: columns(line, self.code),
@@ -86,7 +86,7 @@ impl Cards {
             .enumerate()
         {
             let line = without_end(ended, code);
-            let place = Place { file, card: i + 1 };
+            let place = CardPlace { file, card: i + 1 };
             if line.len() > 80 {
                 if line[80..].iter().any(|byte| *byte != code.blank()) {
                     return Err(CardError::LongLine { card: i + 1 });
@@ -105,7 +105,7 @@ impl Cards {
             return Err(CardError::ShortRecord { bytes: rest.len() });
         }
         for (i, record) in records.iter().enumerate() {
-            self.add(Place { file, card: i + 1 }, record)?;
+            self.add(CardPlace { file, card: i + 1 }, record)?;
         }
         Ok(())
     }
@@ -131,20 +131,20 @@ fn without_end(ended: &[u8], code: Code) -> &[u8] {
     line.strip_suffix(b"\r").unwrap_or(line)
 }
 
-/// The cards of a file, which is the one of this number among those that are read. Form and code are those that are
+/// The cards of a file, which is the one of this number among those that are read. Layout and code are those that are
 /// asked for, or those that the bytes tell. `LongLine` comes where more than blanks stands behind column 80 of a line,
 /// at the first such line; `ShortRecord` where the length is no multiple of 80, and records were asked for.
 pub fn read_cards(
     alloc: Global,
     file: usize,
     bytes: &[u8],
-    form: Option<Form>,
+    form: Option<Layout>,
     code: Option<Code>,
 ) -> Result<Cards, CardError> {
     let marked = bytes.strip_prefix(b"\xEF\xBB\xBF");
     let text = marked.unwrap_or(bytes);
-    let code = code.unwrap_or(told_code(text));
-    let form = form.unwrap_or(told_form(text, code));
+    let code = code.unwrap_or(guessed_code(text));
+    let form = form.unwrap_or(guessed_layout(text, code));
     let mut found = Cards {
         form,
         code,
@@ -152,11 +152,11 @@ pub fn read_cards(
         notes: Vec::new(alloc),
     };
     if marked.is_some() {
-        found.note(CardOddity::ByteOrderMark, Place { file, card: 1 })?;
+        found.note(CardOddity::ByteOrderMark, CardPlace { file, card: 1 })?;
     }
     match form {
-        Form::Text => found.add_lines(file, text)?,
-        Form::Records => found.add_records(file, text)?,
+        Layout::Text => found.add_lines(file, text)?,
+        Layout::Records => found.add_records(file, text)?,
     }
     Ok(found)
 }

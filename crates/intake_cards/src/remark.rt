@@ -1,7 +1,7 @@
 //! What is told of a statement that is not carried just as it stands.
 
-use crate::place::Place;
-use crate::reason::Reason;
+use crate::place::CardPlace;
+use crate::reason::RemarkReason;
 use std::alloc::{AllocError, Global};
 
 /// What was done with a statement or an operand.
@@ -21,7 +21,7 @@ pub enum Deed {
 #[derive(Debug, Drop)]
 pub struct Remark {
     /// Where the statement begins.
-    pub place: Place,
+    pub place: CardPlace,
     /// The statement's word, with its plus signs.
     pub statement: Vec<u8>,
     /// The id or the name in it, and nothing where it has none.
@@ -29,7 +29,7 @@ pub struct Remark {
     /// The operand's word, or nothing where the whole statement is meant.
     pub operand: Vec<u8>,
     pub deed: Deed,
-    pub reason: Reason,
+    pub reason: RemarkReason,
     /// The value or the text that is meant, as it stood.
     pub text: Vec<u8>,
 }
@@ -51,7 +51,7 @@ impl Remark {
     pub fn matters(&self) -> bool {
         match self.deed {
             Deed::Carried | Deed::Dropped => false,
-            Deed::LeftOut => self.reason != Reason::Fixcat,
+            Deed::LeftOut => self.reason != RemarkReason::Fixcat,
             Deed::Refused => true,
         }
     }

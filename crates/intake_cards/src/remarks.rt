@@ -1,7 +1,7 @@
 //! How remarks are gathered.
 
-use crate::place::Place;
-use crate::reason::Reason;
+use crate::place::CardPlace;
+use crate::reason::RemarkReason;
 use crate::remark::{Deed, Remark};
 use fields::Id;
 use std::alloc::{AllocError, Global};
@@ -10,7 +10,7 @@ use std::alloc::{AllocError, Global};
 #[derive(Clone, Copy, Debug)]
 pub struct Subject<'a> {
     /// Where it begins.
-    pub place: Place,
+    pub place: CardPlace,
     /// Its word without the plus signs, or nothing where no statement is meant.
     pub word: &'a [u8],
     /// The id or the name in it, as it stands, and nothing where it has none.
@@ -49,10 +49,10 @@ impl Remarks {
         subject: &Subject<'_>,
         operand: &[u8],
         deed: Deed,
-        reason: Reason,
+        reason: RemarkReason,
         text: &[u8],
     ) -> Result<(), AllocError> {
-        if reason == Reason::StandIn {
+        if reason == RemarkReason::StandIn {
             self.stand_ins = self.stand_ins.saturating_add(1);
         }
         let mut statement = Vec::with_capacity(alloc, 2)?;
@@ -79,7 +79,7 @@ impl Remarks {
         alloc: Global,
         subject: &Subject<'_>,
         operand: &[u8],
-        reason: Reason,
+        reason: RemarkReason,
         text: &[u8],
     ) -> Result<(), AllocError> {
         self.tell(alloc, subject, operand, Deed::Carried, reason, text)
@@ -92,7 +92,7 @@ impl Remarks {
         alloc: Global,
         subject: &Subject<'_>,
         operand: &[u8],
-        reason: Reason,
+        reason: RemarkReason,
         text: &[u8],
     ) -> Result<(), AllocError> {
         self.tell(alloc, subject, operand, Deed::Dropped, reason, text)
@@ -110,7 +110,7 @@ impl Remarks {
         alloc: Global,
         subject: &Subject<'_>,
         operand: &[u8],
-        reason: Reason,
+        reason: RemarkReason,
         text: &[u8],
     ) -> Result<(), AllocError> {
         self.tell(alloc, subject, operand, Deed::LeftOut, reason, text)

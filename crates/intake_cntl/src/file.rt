@@ -4,11 +4,11 @@ ghost use Rattle.terms.specs.Types as terms;
 ghost use Rattle.terms.specs.Commands.{IsCommandFile};
 
 use crate::carry::carry_command;
+use crate::command_remarks::{CommandRemarks, RemarkWords};
 use crate::print::put_command;
 use crate::scan::{WideCommand, wide_commands};
-use crate::told::{Told, Words};
 use cntl::{CntlError, read_cntl};
-use intake_cards::{Deed, PrintedCards, Reason, Remark};
+use intake_cards::{Deed, PrintedCards, Remark, RemarkReason};
 use intake_read::Card;
 use std::alloc::{AllocError, Global};
 use terms::CommandCode;
@@ -32,7 +32,7 @@ pub fn command_file(alloc: Global, cards: &[Card]) -> Result<CommandFile, AllocE
     ensures { IfOk result (λ file. IfSome file.bytes (λ bytes. (cs : List terms.Command)
         × IsCommandFile bytes.items cs)) }
 {
-    let mut told = Told::new(alloc);
+    let mut told = CommandRemarks::new(alloc);
     let mut bytes = Vec::new(alloc);
     let mut count = 0usize;
     let mut others = 0usize;
@@ -55,7 +55,7 @@ pub fn command_file(alloc: Global, cards: &[Card]) -> Result<CommandFile, AllocE
 // whose records are not read is named.
 fn append(
     alloc: Global,
-    told: &mut Told,
+    told: &mut CommandRemarks,
     bytes: &mut Vec<u8>,
     wide: &WideCommand,
 ) -> Result<bool, AllocError> {
@@ -77,7 +77,7 @@ fn append(
         Err(CntlError::Memory) => return Err(AllocError),
         Err(CntlError::Fault { code, .. }) => reason_of(code),
     };
-    let words = Words {
+    let words = RemarkWords {
         command: command.word,
         operand: b"",
         text: b"",
@@ -87,12 +87,12 @@ fn append(
 }
 
 // Why a command of known words is not read.
-fn reason_of(code: CommandCode) -> Reason {
+fn reason_of(code: CommandCode) -> RemarkReason {
     match code {
-        CommandCode::BadCommandOperand => Reason::Missing,
-        CommandCode::NoSingleList => Reason::Contradiction,
+        CommandCode::BadCommandOperand => RemarkReason::Missing,
+        CommandCode::NoSingleList => RemarkReason::Contradiction,
         CommandCode::UnknownCommand | CommandCode::OperandTwice | CommandCode::BadCommandForm =>
-            Reason::NotRead,
+            RemarkReason::NotRead,
     }
 }
 

@@ -4,11 +4,11 @@
 #![tactic(auto)]
 
 mod carry;
+mod command_remarks;
 mod file;
 mod print;
 mod scan;
-mod told;
-mod words;
+mod spelled;
 
 pub use file::{CommandFile, command_file};
 pub use scan::{CommandEnd, WideCommand, wide_commands};

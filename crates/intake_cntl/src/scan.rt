@@ -2,7 +2,7 @@
 //! A command is a word, operands, and the first period outside comments and parentheses. Comments may stand anywhere,
 //! in parentheses too; more than one command may stand on a card, and a command may run over cards.
 
-use intake_read::{Card, Place, WideOperand};
+use intake_read::{Card, CardPlace, WideOperand};
 use std::alloc::{AllocError, Global};
 
 /// The last column of a card that is read.
@@ -24,7 +24,7 @@ pub enum CommandEnd {
 /// A command as it stands, in upper case.
 #[derive(Drop)]
 pub struct WideCommand {
-    pub place: Place,
+    pub place: CardPlace,
     /// Its word, where it has one, and what stands in parentheses directly behind it.
     pub head: WideOperand,
     pub operands: Vec<WideOperand>,
@@ -46,7 +46,7 @@ enum Within {
 
 /// What was read so far, and the command that is begun.
 #[derive(Drop)]
-struct Scanner {
+struct CommandScanner {
     alloc: Global,
     commands: Vec<WideCommand>,
     words: Vec<WideOperand>,
@@ -57,14 +57,14 @@ struct Scanner {
     in_word: bool,
     has_lower_case: bool,
     // The card on which the last command ended.
-    ended: Option<Place>,
+    ended: Option<CardPlace>,
 }
 
 /// The commands of the cards. The last one may have no end, and none of them need be one that SMP/E has. The error
 /// comes where memory runs out.
 pub fn wide_commands(alloc: Global, cards: &[Card]) -> Result<Vec<WideCommand>, AllocError> {
-    let mut scanner = Scanner::new(alloc);
-    let mut last = Place { file: 0, card: 1 };
+    let mut scanner = CommandScanner::new(alloc);
+    let mut last = CardPlace { file: 0, card: 1 };
     for card in cards {
         last = card.place;
         for byte in &card.text[..COLUMNS] {
@@ -80,9 +80,9 @@ pub fn wide_commands(alloc: Global, cards: &[Card]) -> Result<Vec<WideCommand>, 
 pub(crate) fn words_in(
     alloc: Global,
     list: &[u8],
-    place: Place,
+    place: CardPlace,
 ) -> Result<Vec<WideOperand>, AllocError> {
-    let mut scanner = Scanner::new(alloc);
+    let mut scanner = CommandScanner::new(alloc);
     for byte in list {
         if *byte == b'.' && scanner.depth == 0 {
             scanner.put_in_word(*byte, place)?;
@@ -93,9 +93,9 @@ pub(crate) fn words_in(
     Ok(scanner.words)
 }
 
-impl Scanner {
-    fn new(alloc: Global) -> Scanner {
-        Scanner {
+impl CommandScanner {
+    fn new(alloc: Global) -> CommandScanner {
+        CommandScanner {
             alloc,
             commands: Vec::new(alloc),
             words: Vec::new(alloc),
@@ -108,7 +108,7 @@ impl Scanner {
     }
 
     // The next character of a card.
-    fn take(&mut self, byte: u8, place: Place) -> Result<(), AllocError> {
+    fn take(&mut self, byte: u8, place: CardPlace) -> Result<(), AllocError> {
         match self.within {
             Within::Comment => self.within = in_comment(byte),
             Within::Star => self.within = behind_star(byte),
@@ -126,7 +126,7 @@ impl Scanner {
     }
 
     // A character outside comments, which may begin one.
-    fn begin(&mut self, byte: u8, place: Place) -> Result<(), AllocError> {
+    fn begin(&mut self, byte: u8, place: CardPlace) -> Result<(), AllocError> {
         if byte == b'/' {
             self.within = Within::Slash;
             return Ok(());
@@ -136,7 +136,7 @@ impl Scanner {
     }
 
     // A character that belongs to no comment.
-    fn put(&mut self, byte: u8, place: Place) -> Result<(), AllocError> {
+    fn put(&mut self, byte: u8, place: CardPlace) -> Result<(), AllocError> {
         if byte.is_ascii_lowercase() {
             self.has_lower_case = true;
         }
@@ -155,7 +155,7 @@ impl Scanner {
         }
     }
 
-    fn put_in_word(&mut self, byte: u8, place: Place) -> Result<(), AllocError> {
+    fn put_in_word(&mut self, byte: u8, place: CardPlace) -> Result<(), AllocError> {
         if !self.in_word {
             self.begin_word(place)?;
         }
@@ -166,7 +166,7 @@ impl Scanner {
         Ok(())
     }
 
-    fn begin_word(&mut self, place: Place) -> Result<(), AllocError> {
+    fn begin_word(&mut self, place: CardPlace) -> Result<(), AllocError> {
         self.words.push(WideOperand {
             place,
             name: Vec::new(self.alloc),
@@ -176,7 +176,7 @@ impl Scanner {
     }
 
     // The list belongs to the word before it, or to none where that one has a list.
-    fn open_list(&mut self, place: Place) -> Result<(), AllocError> {
+    fn open_list(&mut self, place: CardPlace) -> Result<(), AllocError> {
         self.in_word = false;
         self.depth = 1;
         let is_free = match self.words.last() {
@@ -219,7 +219,7 @@ impl Scanner {
         Ok(())
     }
 
-    fn end_command(&mut self, place: Place) -> Result<(), AllocError> {
+    fn end_command(&mut self, place: CardPlace) -> Result<(), AllocError> {
         self.in_word = false;
         self.finish(CommandEnd::Period)?;
         self.ended = Some(place);
@@ -255,7 +255,7 @@ impl Scanner {
         Ok(())
     }
 
-    fn end_of_file(mut self, last: Place) -> Result<Vec<WideCommand>, AllocError> {
+    fn end_of_file(mut self, last: CardPlace) -> Result<Vec<WideCommand>, AllocError> {
         let end = match self.within {
             Within::Comment | Within::Star => CommandEnd::OpenComment,
             _ if self.depth > 0 => CommandEnd::OpenParenthesis,

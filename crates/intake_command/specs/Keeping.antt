@@ -6,7 +6,7 @@ use Rattle.terms.specs.Types.{Text}
 use Rattle.terms.specs.Ptfin.{IsPtfin}
 use Rattle.terms.specs.HoldFile.{IsHoldFile}
 use Rattle.terms.specs.Commands.{IsCommandFile}
-use Rattle.intake_command.specs.declared.host.Host.{Ghosts}
+use Rattle.intake_command.specs.declared.surroundings.IntakeHost.{Ghosts}
 
 module _ {H : Type 0} (host : Ghosts H) where
   -- The folder has a PTFIN that is read as these items, a hold file that is read as these, and remarks.

@@ -3,13 +3,13 @@ ghost use Rattle.std.specs.Prelude.{List, IfSome};
 ghost use Rattle.terms.specs.Types as terms;
 ghost use Rattle.terms.specs.Commands.{IsCommandFile};
 
-use crate::asked::Asked;
-use crate::fault::Fault;
-use crate::host::Host;
+use crate::fault::IntakeFault;
 use crate::keep::{keep_commands, keep_remarks};
+use crate::options::IntakeOptions;
 use crate::remarks::tell;
 use crate::sources::{InputFiles, cards_of, read};
 use crate::summary::{by_reason, print};
+use crate::surroundings::IntakeHost;
 use intake_cntl::command_file;
 use std::alloc::Global;
 
@@ -17,12 +17,12 @@ use std::alloc::Global;
 const REFUSED_STATUS: u8 = 12;
 
 /// Puts the command file into the folder where all of it is carried, and the remarks in any case.
-pub(crate) fn serve_commands<H: Host>(
+pub(crate) fn serve_commands<H: IntakeHost>(
     alloc: Global,
     host: &mut H,
-    asked: &Asked,
+    asked: &IntakeOptions,
     name: &str,
-) -> Result<u8, Fault> {
+) -> Result<u8, IntakeFault> {
     let mut sources = InputFiles::new(alloc);
     let mut remarks = Vec::new(alloc);
     let bytes = read(alloc, host, name)?;
@@ -37,7 +37,7 @@ pub(crate) fn serve_commands<H: Host>(
     )?;
     let file = command_file(alloc, &cards)?;
     if file.carried == 0 && file.others == 0 {
-        return Err(Fault::NoStatement);
+        return Err(IntakeFault::NoStatement);
     }
     tell(alloc, &sources, &file.remarks, &mut remarks)?;
     let mut summary = Vec::new(alloc);
@@ -53,13 +53,13 @@ pub(crate) fn serve_commands<H: Host>(
 }
 
 // Puts the files into the folder, and answers the status.
-fn keep<H: Host>(
+fn keep<H: IntakeHost>(
     alloc: Global,
     host: &mut H,
     folder: &str,
     bytes: Option<Vec<u8>>,
     remarks: Vec<u8>,
-) -> Result<u8, Fault>
+) -> Result<u8, IntakeFault>
     requires { IfSome bytes (λ bytes. (cs : List terms.Command) × IsCommandFile bytes.items cs) }
 {
     match bytes {

@@ -1,6 +1,6 @@
 //! Why nothing is written.
 
-use crate::asked::WordsFault;
+use crate::options::WordsFault;
 use crate::sources::InputFiles;
 use intake_cards::CardError;
 use intake_read::WideError;
@@ -8,7 +8,7 @@ use std::alloc::{AllocError, AllocFailed, Global};
 
 /// Why a run ends without output.
 #[derive(Debug, Drop)]
-pub enum Fault {
+pub enum IntakeFault {
     Memory,
     Words(WordsFault),
     /// The name of a file that can't be read.
@@ -27,34 +27,34 @@ pub enum Fault {
     NotReadBack(&'static str),
 }
 
-impl From<AllocError> for Fault {
-    fn from(_error: AllocError) -> Fault {
-        Fault::Memory
+impl From<AllocError> for IntakeFault {
+    fn from(_error: AllocError) -> IntakeFault {
+        IntakeFault::Memory
     }
 }
 
-impl<T: Drop> From<AllocFailed<T>> for Fault {
-    fn from(_error: AllocFailed<T>) -> Fault {
-        Fault::Memory
+impl<T: Drop> From<AllocFailed<T>> for IntakeFault {
+    fn from(_error: AllocFailed<T>) -> IntakeFault {
+        IntakeFault::Memory
     }
 }
 
-impl From<WordsFault> for Fault {
-    fn from(fault: WordsFault) -> Fault {
-        Fault::Words(fault)
+impl From<WordsFault> for IntakeFault {
+    fn from(fault: WordsFault) -> IntakeFault {
+        IntakeFault::Words(fault)
     }
 }
 
-impl Fault {
+impl IntakeFault {
     /// The fault of a file that is no cards.
     pub(crate) fn of_cards(
         alloc: Global,
         name: &str,
         error: CardError,
-    ) -> Result<Fault, AllocError> {
+    ) -> Result<IntakeFault, AllocError> {
         match error {
-            CardError::Memory => Ok(Fault::Memory),
-            other => Ok(Fault::NoCards(Vec::from_slice(alloc, name.as_bytes())?, other)),
+            CardError::Memory => Ok(IntakeFault::Memory),
+            other => Ok(IntakeFault::NoCards(Vec::from_slice(alloc, name.as_bytes())?, other)),
         }
     }
 
@@ -63,9 +63,9 @@ impl Fault {
         alloc: Global,
         sources: &InputFiles,
         error: WideError,
-    ) -> Result<Fault, AllocError> {
+    ) -> Result<IntakeFault, AllocError> {
         let place = match &error {
-            WideError::Memory => return Ok(Fault::Memory),
+            WideError::Memory => return Ok(IntakeFault::Memory),
             WideError::NoStatement { place } => *place,
             WideError::OpenComment { place } => *place,
             WideError::Statement { place, .. } => *place,
@@ -87,36 +87,38 @@ impl Fault {
         line.extend_from_slice(format!(in alloc; "{error}")?.as_bytes())?;
         let mut lines = Vec::new(alloc);
         lines.push(line)?;
-        Ok(Fault::Statements(lines))
+        Ok(IntakeFault::Statements(lines))
     }
 
     /// The line that tells it. What `clap` says has none.
     pub(crate) fn line(&self, alloc: Global, folder: &str) -> Result<Vec<u8>, AllocError> {
         let mut line = Vec::from_slice(alloc, b"smpe-intake: ")?;
         match self {
-            Fault::Memory | Fault::Words(WordsFault::Memory) => line.extend_from_slice(
+            IntakeFault::Memory | IntakeFault::Words(WordsFault::Memory) => line.extend_from_slice(
                 b"out of memory",
             )?,
-            Fault::Words(WordsFault::Clap(_)) => return Ok(Vec::new(alloc)),
-            Fault::Words(WordsFault::NoText) => line.extend_from_slice(b"bad operand: no UTF-8")?,
-            Fault::Words(WordsFault::Syslib) => {
+            IntakeFault::Words(WordsFault::Clap(_)) => return Ok(Vec::new(alloc)),
+            IntakeFault::Words(WordsFault::NoText) => line.extend_from_slice(
+                b"bad operand: no UTF-8",
+            )?,
+            IntakeFault::Words(WordsFault::Syslib) => {
                 line.extend_from_slice(b"bad operand: --syslib takes DISTLIB=SYSLIB")?
             }
-            Fault::CannotRead(name) => {
+            IntakeFault::CannotRead(name) => {
                 line.extend_from_slice(b"cannot read ")?;
                 line.extend_from_slice(name)?;
             }
-            Fault::CannotWrite => {
+            IntakeFault::CannotWrite => {
                 line.extend_from_slice(b"cannot write into ")?;
                 line.extend_from_slice(folder.as_bytes())?;
             }
-            Fault::CannotPrint => line.extend_from_slice(b"write")?,
-            Fault::NoCards(name, error) => {
+            IntakeFault::CannotPrint => line.extend_from_slice(b"write")?,
+            IntakeFault::NoCards(name, error) => {
                 line.extend_from_slice(name)?;
                 line.extend_from_slice(b": ")?;
                 line.extend_from_slice(format!(in alloc; "{error}")?.as_bytes())?;
             }
-            Fault::Statements(texts) => {
+            IntakeFault::Statements(texts) => {
                 let mut is_first = true;
                 for text in texts {
                     if !is_first {
@@ -126,8 +128,8 @@ impl Fault {
                     line.extend_from_slice(text)?;
                 }
             }
-            Fault::NoStatement => line.extend_from_slice(b"no statement found")?,
-            Fault::NotReadBack(name) => {
+            IntakeFault::NoStatement => line.extend_from_slice(b"no statement found")?,
+            IntakeFault::NotReadBack(name) => {
                 line.extend_from_slice(b"what was made for ")?;
                 line.extend_from_slice(name.as_bytes())?;
                 line.extend_from_slice(b" is not read as it was meant; nothing is written")?;

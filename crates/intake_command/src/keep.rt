@@ -9,34 +9,34 @@ ghost use Rattle.mcs.specs.HoldItems as hold_files;
 ghost use Rattle.intake_command.specs.Files.{named};
 ghost use Rattle.intake_command.specs.Keeping.{KeepsService, KeepsCommands, KeepsRemarks, KeepsNothing};
 
-use crate::fault::Fault;
+use crate::fault::IntakeFault;
 use crate::files::Named;
-use crate::host::Host;
 use crate::same::{are_same_hold_items, are_same_items};
 use crate::statements::{hold_file, ptfin};
+use crate::surroundings::IntakeHost;
 use mcs::{HoldItem, Item, McsError, read_hold, read_ptfin};
 use std::alloc::{AllocError, Global};
 
 /// Puts the items into `ptfin`, the holds and releases into `hold`, and the remarks beside them. `NotReadBack` comes
 /// where a file is not read as what was meant, and `CannotWrite` where the folder does not take them.
-pub fn keep_service<H: Host>(
+pub fn keep_service<H: IntakeHost>(
     alloc: Global,
     host: &mut H,
     folder: &str,
     meant: &[Item],
     held: &[HoldItem],
     remarks: Vec<u8>,
-) -> Result<(), Fault>
-    ensures ok { OnOk result (KeepsService H.Host host.old folder.now (items meant.now) (hold_files.items held.now)
+) -> Result<(), IntakeFault>
+    ensures ok { OnOk result (KeepsService H.IntakeHost host.old folder.now (items meant.now) (hold_files.items held.now)
         host.new) }
-    ensures err { OnErr result (KeepsNothing H.Host host.old folder.now host.new) }
+    ensures err { OnErr result (KeepsNothing H.IntakeHost host.old folder.now host.new) }
 {
     let ptfin = ptfin_of(alloc, meant)?;
     let hold = hold_of(alloc, held)?;
     let files = service_files(alloc, ptfin, hold, remarks)?;
     match host.keep(folder, &files) {
         Ok(()) => Ok(()),
-        Err(_) => Err(Fault::CannotWrite),
+        Err(_) => Err(IntakeFault::CannotWrite),
     }
 }
 
@@ -83,71 +83,71 @@ fn command_files(
 }
 
 // The records of a PTFIN that is read as these items.
-fn ptfin_of(alloc: Global, meant: &[Item]) -> Result<Vec<u8>, Fault>
+fn ptfin_of(alloc: Global, meant: &[Item]) -> Result<Vec<u8>, IntakeFault>
     ensures { IfOk result (λ bytes. IsPtfin bytes.items (items meant.now)) }
 {
     let bytes = ptfin(alloc, meant)?;
     let read = match read_ptfin(alloc, &bytes) {
         Ok(read) => read,
-        Err(McsError::Memory) => return Err(Fault::Memory),
-        Err(McsError::Fault { .. }) => return Err(Fault::NotReadBack("ptfin")),
+        Err(McsError::Memory) => return Err(IntakeFault::Memory),
+        Err(McsError::Fault { .. }) => return Err(IntakeFault::NotReadBack("ptfin")),
     };
     if !are_same_items(&read, meant) {
-        return Err(Fault::NotReadBack("ptfin"));
+        return Err(IntakeFault::NotReadBack("ptfin"));
     }
     Ok(bytes)
 }
 
 // The records of a hold file that is read as these holds and releases.
-fn hold_of(alloc: Global, meant: &[HoldItem]) -> Result<Vec<u8>, Fault>
+fn hold_of(alloc: Global, meant: &[HoldItem]) -> Result<Vec<u8>, IntakeFault>
     ensures { IfOk result (λ bytes. IsHoldFile bytes.items (hold_files.items meant.now)) }
 {
     let bytes = hold_file(alloc, meant)?;
     let read = match read_hold(alloc, &bytes) {
         Ok(read) => read,
-        Err(McsError::Memory) => return Err(Fault::Memory),
-        Err(McsError::Fault { .. }) => return Err(Fault::NotReadBack("hold")),
+        Err(McsError::Memory) => return Err(IntakeFault::Memory),
+        Err(McsError::Fault { .. }) => return Err(IntakeFault::NotReadBack("hold")),
     };
     if !are_same_hold_items(&read, meant) {
-        return Err(Fault::NotReadBack("hold"));
+        return Err(IntakeFault::NotReadBack("hold"));
     }
     Ok(bytes)
 }
 
 /// Puts the command file into `cntl`, and the remarks beside it. `CannotWrite` comes where the folder does not take
 /// them.
-pub fn keep_commands<H: Host>(
+pub fn keep_commands<H: IntakeHost>(
     alloc: Global,
     host: &mut H,
     folder: &str,
     cntl: Vec<u8>,
     remarks: Vec<u8>,
-) -> Result<(), Fault>
+) -> Result<(), IntakeFault>
     requires { (cs : List terms.Command) × IsCommandFile cntl.items cs }
-    ensures ok { OnOk result (KeepsCommands H.Host host.old folder.now host.new) }
-    ensures err { OnErr result (KeepsNothing H.Host host.old folder.now host.new) }
+    ensures ok { OnOk result (KeepsCommands H.IntakeHost host.old folder.now host.new) }
+    ensures err { OnErr result (KeepsNothing H.IntakeHost host.old folder.now host.new) }
 {
     let files = command_files(alloc, Some(cntl), remarks)?;
     match host.keep(folder, &files) {
         Ok(()) => Ok(()),
-        Err(_) => Err(Fault::CannotWrite),
+        Err(_) => Err(IntakeFault::CannotWrite),
     }
 }
 
 /// Puts the remarks into the folder, and takes a command file of an earlier run away. `CannotWrite` comes where that
 /// can't be done.
-pub fn keep_remarks<H: Host>(
+pub fn keep_remarks<H: IntakeHost>(
     alloc: Global,
     host: &mut H,
     folder: &str,
     remarks: Vec<u8>,
-) -> Result<(), Fault>
-    ensures ok { OnOk result (KeepsRemarks H.Host host.old folder.now host.new) }
-    ensures err { OnErr result (KeepsNothing H.Host host.old folder.now host.new) }
+) -> Result<(), IntakeFault>
+    ensures ok { OnOk result (KeepsRemarks H.IntakeHost host.old folder.now host.new) }
+    ensures err { OnErr result (KeepsNothing H.IntakeHost host.old folder.now host.new) }
 {
     let files = command_files(alloc, None, remarks)?;
     match host.keep(folder, &files) {
         Ok(()) => Ok(()),
-        Err(_) => Err(Fault::CannotWrite),
+        Err(_) => Err(IntakeFault::CannotWrite),
     }
 }

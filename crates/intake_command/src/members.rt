@@ -1,23 +1,23 @@
 //! The files of `--relfile`.
 
-use crate::asked::Asked;
-use crate::fault::Fault;
-use crate::host::Host;
+use crate::fault::IntakeFault;
+use crate::options::IntakeOptions;
 use crate::sources::{InputFiles, cards_of, read_if_there};
+use crate::surroundings::IntakeHost;
 use fields::Name;
 use intake_read::{WideElement, WideFile};
 use intake_sysmod::RelfileMember;
 use std::alloc::Global;
 
 /// The texts of the elements with RELFILE that have a file in the folder, lines or records, in whichever code each is.
-pub(crate) fn members<H: Host>(
+pub(crate) fn members<H: IntakeHost>(
     alloc: Global,
     host: &mut H,
     sources: &mut InputFiles,
-    asked: &Asked,
+    asked: &IntakeOptions,
     files: &[WideFile],
     remarks: &mut Vec<u8>,
-) -> Result<Vec<RelfileMember>, Fault> {
+) -> Result<Vec<RelfileMember>, IntakeFault> {
     let mut members = Vec::new(alloc);
     let Some(folder) = &asked.relfile else {
         return Ok(members);
@@ -39,7 +39,7 @@ pub(crate) fn members<H: Host>(
 }
 
 // The name of the file of an element, where RELFILE has a number and the element has a name.
-fn path(alloc: Global, folder: &str, element: &WideElement) -> Result<Option<String>, Fault> {
+fn path(alloc: Global, folder: &str, element: &WideElement) -> Result<Option<String>, IntakeFault> {
     let Some(relfile) = &element.relfile else {
         return Ok(None);
     };
@@ -55,14 +55,14 @@ fn is_number(text: &[u8]) -> bool {
     !text.is_empty() && text.len() <= 4 && text.iter().all(|b| b.is_ascii_digit())
 }
 
-fn member<H: Host>(
+fn member<H: IntakeHost>(
     alloc: Global,
     host: &mut H,
     sources: &mut InputFiles,
     path: &str,
     element: &WideElement,
     remarks: &mut Vec<u8>,
-) -> Result<Option<RelfileMember>, Fault> {
+) -> Result<Option<RelfileMember>, IntakeFault> {
     let Some(relfile) = &element.relfile else {
         return Ok(None);
     };

@@ -3,14 +3,14 @@ ghost use Rattle.std.specs.Prelude.{IfOk};
 ghost use Rattle.std.specs.String.{string_bytes};
 ghost use Rattle.intake_command.specs.Serving.{ServesFiles};
 
-use crate::asked::Asked;
-use crate::fault::Fault;
-use crate::host::Host;
+use crate::fault::IntakeFault;
 use crate::keep::keep_service;
 use crate::members::members;
+use crate::options::IntakeOptions;
 use crate::remarks::tell;
 use crate::sources::{InputFiles, cards_of, read};
 use crate::summary::{by_reason, print};
+use crate::surroundings::IntakeHost;
 use intake_cards::{Deed, Remark};
 use intake_carry::{NarrowError, Narrowed, Tally, narrow};
 use intake_read::{WideFile, read_wide};
@@ -21,8 +21,12 @@ use std::alloc::{AllocError, Global};
 const LEFT_OUT_STATUS: u8 = 4;
 
 /// Puts what the files state into the folder, and the remarks beside it, and answers the status.
-pub(crate) fn serve_files<H: Host>(alloc: Global, host: &mut H, asked: &Asked) -> Result<u8, Fault>
-    ensures { IfOk result (λ _. ServesFiles H.Host asked.now.decide (string_bytes asked.now.out)) }
+pub(crate) fn serve_files<H: IntakeHost>(
+    alloc: Global,
+    host: &mut H,
+    asked: &IntakeOptions,
+) -> Result<u8, IntakeFault>
+    ensures { IfOk result (λ _. ServesFiles H.IntakeHost asked.now.decide (string_bytes asked.now.out)) }
 {
     let mut sources = InputFiles::new(alloc);
     let mut remarks = Vec::new(alloc);
@@ -35,7 +39,7 @@ pub(crate) fn serve_files<H: Host>(alloc: Global, host: &mut H, asked: &Asked) -
     };
     let narrowed = match narrow(alloc, &files, options) {
         Ok(narrowed) => narrowed,
-        Err(NarrowError::Memory) => return Err(Fault::Memory),
+        Err(NarrowError::Memory) => return Err(IntakeFault::Memory),
         Err(NarrowError::Refused(remarks)) => return Err(refused(alloc, &sources, &remarks)?),
     };
     tell(alloc, &sources, &narrowed.remarks, &mut remarks)?;
@@ -54,13 +58,13 @@ pub(crate) fn serve_files<H: Host>(alloc: Global, host: &mut H, asked: &Asked) -
 }
 
 // What the files state, one after the other.
-fn wide_files<H: Host>(
+fn wide_files<H: IntakeHost>(
     alloc: Global,
     host: &mut H,
     sources: &mut InputFiles,
-    asked: &Asked,
+    asked: &IntakeOptions,
     remarks: &mut Vec<u8>,
-) -> Result<Vec<WideFile>, Fault> {
+) -> Result<Vec<WideFile>, IntakeFault> {
     let mut files = Vec::new(alloc);
     let mut is_empty = true;
     for name in &asked.files {
@@ -72,7 +76,7 @@ fn wide_files<H: Host>(
         drop(bytes);
         let file = match read_wide(alloc, &cards) {
             Ok(file) => file,
-            Err(error) => return Err(Fault::of_statement(alloc, sources, error)?),
+            Err(error) => return Err(IntakeFault::of_statement(alloc, sources, error)?),
         };
         if has_statement(&file) {
             is_empty = false;
@@ -80,7 +84,7 @@ fn wide_files<H: Host>(
         files.push(file)?;
     }
     if is_empty {
-        return Err(Fault::NoStatement);
+        return Err(IntakeFault::NoStatement);
     }
     Ok(files)
 }
@@ -94,7 +98,11 @@ fn has_statement(file: &WideFile) -> bool {
 }
 
 // Where something is refused, nothing is written: each such remark is a line of the fault.
-fn refused(alloc: Global, sources: &InputFiles, remarks: &[Remark]) -> Result<Fault, AllocError> {
+fn refused(
+    alloc: Global,
+    sources: &InputFiles,
+    remarks: &[Remark],
+) -> Result<IntakeFault, AllocError> {
     let mut lines = Vec::new(alloc);
     for remark in remarks {
         if remark.deed == Deed::Refused {
@@ -103,7 +111,7 @@ fn refused(alloc: Global, sources: &InputFiles, remarks: &[Remark]) -> Result<Fa
             lines.push(line)?;
         }
     }
-    Ok(Fault::Statements(lines))
+    Ok(IntakeFault::Statements(lines))
 }
 
 fn status(narrowed: &Narrowed) -> u8 {
@@ -114,7 +122,11 @@ fn status(narrowed: &Narrowed) -> u8 {
     }
 }
 
-fn summary(alloc: Global, asked: &Asked, narrowed: &Narrowed) -> Result<Vec<u8>, AllocError> {
+fn summary(
+    alloc: Global,
+    asked: &IntakeOptions,
+    narrowed: &Narrowed,
+) -> Result<Vec<u8>, AllocError> {
     let mut lines = Vec::new(alloc);
     tally(alloc, "SYSMOD", narrowed.sysmods, &mut lines)?;
     tally(alloc, "HOLD", narrowed.holds, &mut lines)?;

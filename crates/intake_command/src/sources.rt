@@ -1,8 +1,8 @@
 //! The files that are read, by their numbers.
 
-use crate::fault::Fault;
-use crate::host::Host;
-use intake_cards::{Card, CardOddity, Cards, Code, Form, read_cards};
+use crate::fault::IntakeFault;
+use crate::surroundings::IntakeHost;
+use intake_cards::{Card, CardOddity, Cards, Code, Layout, read_cards};
 use std::alloc::{AllocError, Global};
 use std::io::ErrorKind;
 
@@ -10,7 +10,7 @@ use std::io::ErrorKind;
 #[derive(Debug, Drop)]
 pub(crate) struct InputFile {
     pub(crate) name: String,
-    pub(crate) form: Form,
+    pub(crate) form: Layout,
 }
 
 /// The files so far. A place names its file by the number that it has here.
@@ -31,7 +31,12 @@ impl InputFiles {
         self.all.len()
     }
 
-    pub(crate) fn add(&mut self, alloc: Global, name: &str, form: Form) -> Result<(), AllocError> {
+    pub(crate) fn add(
+        &mut self,
+        alloc: Global,
+        name: &str,
+        form: Layout,
+    ) -> Result<(), AllocError> {
         self.all.push(InputFile {
             name: String::from_str(alloc, name)?,
             form,
@@ -51,20 +56,24 @@ impl InputFiles {
     pub(crate) fn unit(&self, file: usize) -> &'static str {
         match self.all.get(file) {
             Some(source) => unit(source.form),
-            None => unit(Form::Records),
+            None => unit(Layout::Records),
         }
     }
 }
 
-fn unit(form: Form) -> &'static str {
+fn unit(form: Layout) -> &'static str {
     match form {
-        Form::Text => "line",
-        Form::Records => "record",
+        Layout::Text => "line",
+        Layout::Records => "record",
     }
 }
 
 /// The bytes of a file.
-pub(crate) fn read<H: Host>(alloc: Global, host: &mut H, name: &str) -> Result<Vec<u8>, Fault> {
+pub(crate) fn read<H: IntakeHost>(
+    alloc: Global,
+    host: &mut H,
+    name: &str,
+) -> Result<Vec<u8>, IntakeFault> {
     match host.read(name) {
         Ok(bytes) => Ok(bytes),
         Err(error) => Err(unread(alloc, name, error.kind())?),
@@ -72,11 +81,11 @@ pub(crate) fn read<H: Host>(alloc: Global, host: &mut H, name: &str) -> Result<V
 }
 
 /// The bytes of a file, if there is one of this name.
-pub(crate) fn read_if_there<H: Host>(
+pub(crate) fn read_if_there<H: IntakeHost>(
     alloc: Global,
     host: &mut H,
     name: &str,
-) -> Result<Option<Vec<u8>>, Fault> {
+) -> Result<Option<Vec<u8>>, IntakeFault> {
     match host.read(name) {
         Ok(bytes) => Ok(Some(bytes)),
         Err(error) => match error.kind() {
@@ -86,10 +95,10 @@ pub(crate) fn read_if_there<H: Host>(
     }
 }
 
-fn unread(alloc: Global, name: &str, kind: ErrorKind) -> Result<Fault, AllocError> {
+fn unread(alloc: Global, name: &str, kind: ErrorKind) -> Result<IntakeFault, AllocError> {
     match kind {
-        ErrorKind::OutOfMemory => Ok(Fault::Memory),
-        _ => Ok(Fault::CannotRead(Vec::from_slice(alloc, name.as_bytes())?)),
+        ErrorKind::OutOfMemory => Ok(IntakeFault::Memory),
+        _ => Ok(IntakeFault::CannotRead(Vec::from_slice(alloc, name.as_bytes())?)),
     }
 }
 
@@ -99,14 +108,14 @@ pub(crate) fn cards_of(
     sources: &mut InputFiles,
     name: &str,
     bytes: &[u8],
-    form: Option<Form>,
+    form: Option<Layout>,
     code: Option<Code>,
     remarks: &mut Vec<u8>,
-) -> Result<Vec<Card>, Fault> {
+) -> Result<Vec<Card>, IntakeFault> {
     let file = sources.count();
     let found = match read_cards(alloc, file, bytes, form, code) {
         Ok(found) => found,
-        Err(error) => return Err(Fault::of_cards(alloc, name, error)?),
+        Err(error) => return Err(IntakeFault::of_cards(alloc, name, error)?),
     };
     sources.add(alloc, name, found.form)?;
     tell_assumed(alloc, name, &found, remarks)?;
@@ -135,10 +144,10 @@ fn tell_assumed(
     Ok(())
 }
 
-fn form_words(form: Form) -> &'static str {
+fn form_words(form: Layout) -> &'static str {
     match form {
-        Form::Text => "lines",
-        Form::Records => "records of 80 bytes",
+        Layout::Text => "lines",
+        Layout::Records => "records of 80 bytes",
     }
 }
 

@@ -1,16 +1,16 @@
 //! What is printed of a run.
 
-use crate::fault::Fault;
+use crate::fault::IntakeFault;
 use crate::files::Named;
-use crate::host::Host;
-use intake_cards::{Deed, Reason, Remark};
+use crate::surroundings::IntakeHost;
+use intake_cards::{Deed, Remark, RemarkReason};
 use std::alloc::{AllocError, Global};
 
 /// How many remarks say the same.
 #[derive(Drop)]
 struct ToldCount {
     deed: Deed,
-    reason: Reason,
+    reason: RemarkReason,
     count: usize,
 }
 
@@ -51,13 +51,13 @@ fn count(all: &mut Vec<ToldCount>, remark: &Remark) -> Result<(), AllocError> {
 }
 
 /// Prints the summary. Where that can't be done, the files of these names are taken out of the folder again.
-pub(crate) fn print<H: Host>(
+pub(crate) fn print<H: IntakeHost>(
     alloc: Global,
     host: &mut H,
     folder: &str,
     text: &[u8],
     names: &[&'static str],
-) -> Result<(), Fault> {
+) -> Result<(), IntakeFault> {
     if host.print(text).is_ok() {
         return Ok(());
     }
@@ -66,5 +66,5 @@ pub(crate) fn print<H: Host>(
         files.push(Named { name, bytes: None })?;
     }
     let _ = host.keep(folder, &files);
-    Err(Fault::CannotPrint)
+    Err(IntakeFault::CannotPrint)
 }

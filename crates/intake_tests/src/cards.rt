@@ -1,6 +1,6 @@
 //! Files as cards: lines and records, the codes, and what no card should have.
 
-use intake_cards::{CardError, CardOddity, Cards, Code, Form, Place, Tail, read_cards};
+use intake_cards::{CardError, CardOddity, CardPlace, Cards, Code, Layout, Tail, read_cards};
 use std::alloc::{AllocError, Global};
 use std::process::Abort;
 use std::test::Fail;
@@ -64,10 +64,10 @@ fn lines_may_end_in_each_way(rt: HostRuntime) -> Result<(), Fail> {
     ];
     for file in files {
         let cards = read_cards(rt.alloc(), 3, file, None, None)?;
-        assert_eq!(rt; (cards.form, cards.code), (Form::Text, Code::Ascii));
+        assert_eq!(rt; (cards.form, cards.code), (Layout::Text, Code::Ascii));
         check_texts(&rt, rt.alloc(), &cards, &lines)?;
         let last = cards.cards.last().ok_or("no card")?;
-        assert_eq!(rt; last.place, Place { file: 3, card: 3 });
+        assert_eq!(rt; last.place, CardPlace { file: 3, card: 3 });
         assert!(rt; cards.notes.is_empty());
     }
     Ok(())
@@ -78,7 +78,7 @@ fn a_file_of_records_is_told(rt: HostRuntime) -> Result<(), Fail> {
     let lines: [&[u8]; 2] = [b"++PTF(UA00001).", b"++VER(Z038)."];
     let records = records(rt.alloc(), &lines)?;
     let cards = read_cards(rt.alloc(), 0, records.as_slice(), None, None)?;
-    assert_eq!(rt; (cards.form, cards.code), (Form::Records, Code::Ascii));
+    assert_eq!(rt; (cards.form, cards.code), (Layout::Records, Code::Ascii));
     check_texts(&rt, rt.alloc(), &cards, &lines)?;
     let none = read_cards(rt.alloc(), 0, b"", None, None)?;
     assert!(rt; none.cards.is_empty());
@@ -94,7 +94,7 @@ fn ebcdic_is_told(rt: HostRuntime) -> Result<(), Fail> {
     let cards = read_cards(rt.alloc(), 0, records.as_slice(), None, None)?;
     assert_eq!(rt;
         (cards.form, cards.code, cards.cards.len()),
-        (Form::Records, Code::Ibm1047, 3)
+        (Layout::Records, Code::Ibm1047, 3)
     );
     let first = cards.cards.first().ok_or("no card")?;
     assert_eq!(rt;
@@ -107,7 +107,7 @@ fn ebcdic_is_told(rt: HostRuntime) -> Result<(), Fail> {
     lines.extend_from_slice(SET)?;
     lines.extend_from_slice(b"\x0D\x25")?;
     let cards = read_cards(rt.alloc(), 0, lines.as_slice(), None, None)?;
-    assert_eq!(rt; (cards.form, cards.code), (Form::Text, Code::Ibm1047));
+    assert_eq!(rt; (cards.form, cards.code), (Layout::Text, Code::Ibm1047));
     let lines: [&[u8]; 2] = [b"SET BDY(A$#@).", b"SET BDY(A$#@)."];
     check_texts(&rt, rt.alloc(), &cards, &lines)
 }
@@ -115,7 +115,7 @@ fn ebcdic_is_told(rt: HostRuntime) -> Result<(), Fail> {
 #[test]
 fn a_code_that_is_asked_for_is_taken(rt: HostRuntime) -> Result<(), Fail> {
     let brackets = b"\xAD\xBD\x5F\xBA\xBB\xB0\x15";
-    let text = Some(Form::Text);
+    let text = Some(Layout::Text);
     let open = read_cards(rt.alloc(), 0, brackets, text, Some(Code::Ibm1047))?;
     check_texts(&rt, rt.alloc(), &open, &[b"[]^\xDD\xA8\xAC"])?;
     let data_set = read_cards(rt.alloc(), 0, brackets, text, Some(Code::Ibm037))?;
@@ -152,7 +152,7 @@ fn a_line_longer_than_a_card_is_told(rt: HostRuntime) -> Result<(), Fail> {
         (CardOddity::BlanksBehind80, 1, 1)
     );
     let short = line_of(rt.alloc(), b'A', 163, b"")?;
-    let refused = read_cards(rt.alloc(), 0, short.as_slice(), Some(Form::Records), None).err();
+    let refused = read_cards(rt.alloc(), 0, short.as_slice(), Some(Layout::Records), None).err();
     assert_eq!(rt; refused, Some(CardError::ShortRecord { bytes: 3 }));
     Ok(())
 }

@@ -2,7 +2,7 @@
 
 use crate::narrow_lines::compare;
 use crate::wide::file_of;
-use intake_cards::{Form, read_cards};
+use intake_cards::{Layout, read_cards};
 use intake_cntl::command_file;
 use std::alloc::Global;
 use std::test::Fail;
@@ -90,7 +90,7 @@ LIST /* A. => line 1: LIST: refused: a comment is open
 /// What comes of a command file: the records without the blanks at their ends, and none where there is no file; then
 /// the remarks.
 fn outcome(alloc: Global, text: &[u8]) -> Result<String, Fail> {
-    let found = read_cards(alloc, 0, text, Some(Form::Text), None)?;
+    let found = read_cards(alloc, 0, text, Some(Layout::Text), None)?;
     let file = command_file(alloc, &found.cards)?;
     let mut lines = Vec::new(alloc);
     if let Some(bytes) = &file.bytes {

@@ -1,7 +1,7 @@
 //! The program over files in memory: statuses, what is left in the folder, and what is told on standard error.
 
 use fields::{Id, Reason};
-use intake_command::{Fault, Host, Named, command, keep_service};
+use intake_command::{IntakeFault, IntakeHost, Named, command, keep_service};
 use mcs::HoldItem;
 use std::alloc::Global;
 use std::io::{Error, ErrorKind};
@@ -65,7 +65,7 @@ impl Memory {
     }
 }
 
-impl Host for Memory {
+impl IntakeHost for Memory {
     ghost gives = { λ _ _ _ _. Unit {0} };
 
     ghost withholds = { λ _ _ _ _. Unit {0} };
@@ -170,7 +170,7 @@ fn writes_nothing_that_is_not_read_back(rt: HostRuntime) -> Result<(), Fail> {
         let kept = keep_service(alloc, &mut memory, "d", &[], &holds, Vec::new(alloc));
         assert_eq!(rt; kept.is_ok(), is_kept, "at {comment}");
         assert_eq!(rt;
-            matches!(kept, Err(Fault::NotReadBack(_))),
+            matches!(kept, Err(IntakeFault::NotReadBack(_))),
             !is_kept,
             "at {comment}"
         );

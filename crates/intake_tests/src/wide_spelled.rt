@@ -1,6 +1,6 @@
 //! The items of a wide file as text.
 
-use intake_cards::{Code, Form, Place, read_cards};
+use intake_cards::{CardPlace, Code, Layout, read_cards};
 use intake_read::{
     NoteReason, OddOperand, OddReason, OtherReason, WideAssign, WideElement, WideError, WideFile,
     WideHold, WideHoldKind, WideIf, WideOperand, WideOther, WideRelease, WideSysmod, WideVer,
@@ -280,7 +280,7 @@ pub(crate) fn with_notes(alloc: Global, bytes: &[u8]) -> Result<Spelled, AllocEr
 pub(crate) fn spelled_file(
     alloc: Global,
     bytes: &[u8],
-    form: Option<Form>,
+    form: Option<Layout>,
     code: Option<Code>,
     has_notes: bool,
 ) -> Result<Spelled, AllocError> {
@@ -302,7 +302,7 @@ pub(crate) fn spelled_file(
 }
 
 fn put_error(found: &mut Spelled, error: WideError) -> Result<(), AllocError> {
-    let (text, place): (&[u8], Place) = match error {
+    let (text, place): (&[u8], CardPlace) = match error {
         WideError::Memory => return Err(AllocError),
         WideError::NoStatement { place } => (b"no statement", place),
         WideError::OpenComment { place } => (b"open comment", place),

@@ -8,7 +8,7 @@ use std::io;
 
 /// The surroundings of the program. Each ghost member relates them before a call, what was asked and answered, and them
 /// after it.
-pub trait Host {
+pub trait IntakeHost {
     /// The file of this name was read, and has these bytes.
     ghost gives: { Self → List ℕ → List ℕ → Self → Type 0 };
 

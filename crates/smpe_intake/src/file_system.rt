@@ -1,17 +1,17 @@
 //! The files, input and output of the system that the program runs on.
 
-use intake_command::{Host, Named};
+use intake_command::{IntakeHost, Named};
 use std::io::Write;
 use std::{fs, io};
 
 /// The system, by what the program was started with.
 #[derive(Drop)]
-pub(crate) struct System<'a> {
+pub(crate) struct FileSystem<'a> {
     pub(crate) rt: &'a HostRuntime,
 }
 
 // Nothing is said of the system: the relations hold of all.
-impl Host for System<'_> {
+impl IntakeHost for FileSystem<'_> {
     ghost gives = { λ _ _ _ _. Unit {0} };
 
     ghost withholds = { λ _ _ _ _. Unit {0} };
@@ -46,7 +46,7 @@ impl Host for System<'_> {
     }
 }
 
-impl System<'_> {
+impl FileSystem<'_> {
     // All files are written under other names first. Then those of earlier runs go, and these come in their places; the
     // remarks are last, so that where they are, all are.
     fn keep_in(&self, folder: &str, files: &[Named]) -> io::Result<()> {

@@ -4,7 +4,7 @@
 use clap::error::ErrorKind;
 use clap::{Arg, ArgAction, ArgMatches, Command};
 use fields::Name;
-use intake_cards::{Code, Form};
+use intake_cards::{Code, Layout};
 use intake_sysmod::Syslib;
 use std::alloc::{AllocError, AllocFailed, Global};
 
@@ -15,7 +15,7 @@ static CODES: [&str; 3] = ["ascii", "ibm1047", "ibm037"];
 
 /// What the program is asked to do. The texts are the names of files and folders.
 #[derive(Drop)]
-pub struct Asked {
+pub struct IntakeOptions {
     /// The folder of what is written.
     pub out: String,
     pub files: Vec<String>,
@@ -26,7 +26,7 @@ pub struct Asked {
     /// For each DISTLIB, the SYSLIB that is given.
     pub syslibs: Vec<Syslib>,
     pub decide: bool,
-    pub form: Option<Form>,
+    pub form: Option<Layout>,
     pub code: Option<Code>,
 }
 
@@ -64,7 +64,7 @@ impl From<clap::Error> for WordsFault {
 }
 
 /// Reads the words, of which the first is the program's name.
-pub(crate) fn read_words(alloc: Global, words: &[Vec<u8>]) -> Result<Asked, WordsFault> {
+pub(crate) fn read_words(alloc: Global, words: &[Vec<u8>]) -> Result<IntakeOptions, WordsFault> {
     let mut texts: Vec<String> = Vec::new(alloc);
     for word in words {
         match str::from_utf8(word.as_slice()) {
@@ -148,8 +148,8 @@ fn files<'a>(alloc: Global) -> Result<Arg<'a>, AllocError> {
         .required_unless_present("cntl")
 }
 
-fn values(alloc: Global, found: &ArgMatches<'_>) -> Result<Asked, WordsFault> {
-    Ok(Asked {
+fn values(alloc: Global, found: &ArgMatches<'_>) -> Result<IntakeOptions, WordsFault> {
+    Ok(IntakeOptions {
         out: text(alloc, found, "out")?.unwrap_or(String::new(alloc)),
         files: texts(alloc, found, "file")?,
         cntl: text(alloc, found, "cntl")?,
@@ -178,11 +178,11 @@ fn texts(alloc: Global, found: &ArgMatches<'_>, id: &str) -> Result<Vec<String>,
     Ok(texts)
 }
 
-fn form(found: &ArgMatches<'_>) -> Option<Form> {
+fn form(found: &ArgMatches<'_>) -> Option<Layout> {
     if found.get_flag("text") {
-        Some(Form::Text)
+        Some(Layout::Text)
     } else if found.get_flag("records") {
-        Some(Form::Records)
+        Some(Layout::Records)
     } else {
         None
     }

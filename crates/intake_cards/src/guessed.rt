@@ -1,5 +1,5 @@
 //! What a file's bytes tell of its code and of how it is laid out.
-use crate::code::{Code, Form};
+use crate::code::{Code, Layout};
 
 /// The code of three bytes, if they begin a statement: two plus signs and a letter.
 fn statement_code(bytes: &[u8]) -> Option<Code> {
@@ -40,7 +40,7 @@ fn is_mostly_ebcdic(bytes: &[u8]) -> bool {
 }
 
 /// The code that the first statement is in, or where there is none that of most bytes. EBCDIC is taken for IBM-1047.
-pub(crate) fn told_code(bytes: &[u8]) -> Code {
+pub(crate) fn guessed_code(bytes: &[u8]) -> Code {
     if let Some(code) = first_statement_code(bytes) {
         return code;
     }
@@ -52,12 +52,12 @@ pub(crate) fn told_code(bytes: &[u8]) -> Code {
 }
 
 /// Records, where 80 divides the length and no line of up to 80 bytes ends at the beginning; else text.
-pub(crate) fn told_form(bytes: &[u8], code: Code) -> Form {
+pub(crate) fn guessed_layout(bytes: &[u8], code: Code) -> Layout {
     let is_divided = bytes.len() % 80 == 0;
     let has_line = bytes.iter().take(82).any(|byte| code.ends_line(*byte));
     if is_divided && !has_line {
-        Form::Records
+        Layout::Records
     } else {
-        Form::Text
+        Layout::Text
     }
 }
