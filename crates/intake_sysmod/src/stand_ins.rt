@@ -167,9 +167,11 @@ pub(crate) fn tell_stand_in(
     elem_type: ElemType,
     name: Name,
 ) -> Result<(), AllocError> {
-    let mut text = Vec::from_slice(alloc, type_text(elem_type))?;
-    text.push(b' ')?;
+    let mut text = Vec::from_slice(alloc, b"++")?;
+    text.extend_from_slice(type_text(elem_type))?;
+    text.push(b'(')?;
     text.extend_from_slice(name.as_bytes())?;
+    text.push(b')')?;
     remarks.tell_carried(alloc, subject, b"", RemarkReason::StandIn, text.as_slice())
 }
 
