@@ -74,10 +74,7 @@ fn tell(
 ) -> Result<(), AllocError> {
     let cases = [
         (laid.len() > LONGEST, RemarkReason::CutComment),
-        (
-            stated.iter().any(|b| is_parenthesis(*b)),
-            RemarkReason::Brackets,
-        ),
+        (stated.iter().any(|b| is_parenthesis(*b)), RemarkReason::Brackets),
         (
             stated.iter().any(|b| !(0x20..=0x7e).contains(b)),
             RemarkReason::Unprintable,

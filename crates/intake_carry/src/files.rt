@@ -9,9 +9,9 @@ use crate::assigns::{assigns_of, with_assigns};
 use crate::errors::HoldError;
 use crate::narrowed::{NarrowError, Narrowed};
 use crate::notes::tell_notes;
-use crate::placed::{Placed, in_order, placed_holds, placed_releases};
+use crate::placed::{PlacedItem, in_order, placed_holds, placed_releases};
 use crate::refusals::tell_refusals;
-use crate::sysmods::{Part, part_of};
+use crate::sysmods::{CarriedPart, part_of};
 use intake_cards::Remarks;
 use intake_read::WideFile;
 use intake_sysmod::{Options, tell_others};
@@ -20,13 +20,13 @@ use std::alloc::{AllocError, Global};
 
 /// SYSMODs, and the holds and releases of the hold file.
 #[derive(Drop)]
-pub(crate) struct Gathered {
+pub(crate) struct CarriedItems {
     pub items: Vec<Item>,
-    pub outside: Vec<Placed>,
+    pub outside: Vec<PlacedItem>,
 }
 
 /// With what becomes of one SYSMOD more.
-fn with_part(gathered: Gathered, part: Part) -> Result<Gathered, AllocError>
+fn with_part(gathered: CarriedItems, part: CarriedPart) -> Result<CarriedItems, AllocError>
     ensures items { IfOk result (λ all. all.items.items ≡ gathered.items.items ++ item_in part.sysmod) }
     ensures outside { IfOk result (λ all. placed_items all.outside.items
         ≡ placed_items gathered.outside.items ++ placed_items part.outside.items) }
@@ -38,7 +38,7 @@ fn with_part(gathered: Gathered, part: Part) -> Result<Gathered, AllocError>
     if let Some(sysmod) = part.sysmod {
         items.push(Item::Sysmod(sysmod))?;
     }
-    Ok(Gathered { items, outside })
+    Ok(CarriedItems { items, outside })
 }
 
 /// The SYSMODs of a file, and their holds.
@@ -47,11 +47,11 @@ fn sysmods_of(
     options: &Options,
     remarks: &mut Remarks,
     file: &WideFile,
-) -> Result<Gathered, HoldError>
+) -> Result<CarriedItems, HoldError>
     ensures { IfOk result (λ all. AreSysmodsOf options.now.decide file.now.sysmods.items all.items.items
         (placed_items all.outside.items)) }
 {
-    let mut gathered = Gathered {
+    let mut gathered = CarriedItems {
         items: Vec::new(alloc),
         outside: Vec::new(alloc),
     };
@@ -63,7 +63,7 @@ fn sysmods_of(
 }
 
 /// With the items of others behind these.
-fn joined(one: Gathered, other: Gathered) -> Result<Gathered, AllocError>
+fn joined(one: CarriedItems, other: CarriedItems) -> Result<CarriedItems, AllocError>
     ensures items { IfOk result (λ all. all.items.items ≡ one.items.items ++ other.items.items) }
     ensures outside { IfOk result (λ all. placed_items all.outside.items
         ≡ placed_items one.outside.items ++ placed_items other.outside.items) }
@@ -74,11 +74,11 @@ fn joined(one: Gathered, other: Gathered) -> Result<Gathered, AllocError>
     let mut more = other.outside;
     items.append(&mut more_items)?;
     outside.append(&mut more)?;
-    Ok(Gathered { items, outside })
+    Ok(CarriedItems { items, outside })
 }
 
 /// With these holds and releases in the hold file.
-fn with_outside(gathered: Gathered, more: Vec<Placed>) -> Result<Gathered, AllocError>
+fn with_outside(gathered: CarriedItems, more: Vec<PlacedItem>) -> Result<CarriedItems, AllocError>
     ensures items { IfOk result (λ all. all.items.items ≡ gathered.items.items) }
     ensures outside { IfOk result (λ all. placed_items all.outside.items
         ≡ placed_items gathered.outside.items ++ placed_items more.items) }
@@ -87,7 +87,7 @@ fn with_outside(gathered: Gathered, more: Vec<Placed>) -> Result<Gathered, Alloc
     let mut outside = gathered.outside;
     let mut more = more;
     outside.append(&mut more)?;
-    Ok(Gathered { items, outside })
+    Ok(CarriedItems { items, outside })
 }
 
 /// What a file has of SYSMODs, holds and releases.
@@ -96,7 +96,7 @@ fn of_file(
     options: &Options,
     remarks: &mut Remarks,
     file: &WideFile,
-) -> Result<Gathered, HoldError>
+) -> Result<CarriedItems, HoldError>
     ensures { IfOk result (λ all. AreFilesOf options.now.decide (file.now ∷ []) all.items.items
         (placed_items all.outside.items)) }
 {
@@ -116,11 +116,11 @@ fn of_files(
     options: &Options,
     remarks: &mut Remarks,
     files: &[WideFile],
-) -> Result<Gathered, HoldError>
+) -> Result<CarriedItems, HoldError>
     ensures { IfOk result (λ all. AreFilesOf options.now.decide files.now all.items.items
         (placed_items all.outside.items)) }
 {
-    let mut gathered = Gathered {
+    let mut gathered = CarriedItems {
         items: Vec::new(alloc),
         outside: Vec::new(alloc),
     };

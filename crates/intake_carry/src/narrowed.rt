@@ -1,7 +1,7 @@
 //! What comes of narrowing.
 ghost use Rattle.std.specs.Prelude.{◌≡◌};
 
-use intake_cards::{Deed, Remark, RemarkReason, Remarks};
+use intake_cards::{Deed, RemarkReason, Remark, Remarks};
 use intake_read::CardPlace;
 use mcs::{HoldItem, Item};
 use std::alloc::{AllocError, AllocFailed};

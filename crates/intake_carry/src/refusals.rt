@@ -1,6 +1,6 @@
 //! Holds and releases that can't be carried. With one of them nothing is carried at all.
 
-use crate::holds::{Fault, hold_key, release_key};
+use crate::holds::{HoldFault, hold_key, release_key};
 use intake_cards::{Deed, RemarkReason, Remarks, Subject};
 use intake_read::{OddOperand, WideFile, WideHold, WideOther, WideRelease};
 use std::alloc::{AllocError, Global};
@@ -21,7 +21,7 @@ fn tell_fault(
     remarks: &mut Remarks,
     subject: &Subject<'_>,
     odd: &[OddOperand],
-    fault: Option<Fault>,
+    fault: Option<HoldFault>,
 ) -> Result<bool, AllocError> {
     if let Some(one) = open_key(odd) {
         let operand = &one.operand;

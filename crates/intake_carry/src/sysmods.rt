@@ -7,7 +7,7 @@ ghost use Rattle.intake_carry.specs.Gathered.{placed_items, item_in, IsPartOf};
 
 use crate::errors::HoldError;
 use crate::holds::carried_hold;
-use crate::placed::{Placed, placed_holds, put_outside};
+use crate::placed::{PlacedItem, placed_holds, put_outside};
 use fields::Id;
 use intake_cards::{CardPlace, RemarkReason, Remarks, Subject};
 use intake_read::{WideHold, WideHoldKind, WideSysmod};
@@ -17,9 +17,9 @@ use sysmods_values::{Hold, Sysmod};
 
 /// What becomes of a SYSMOD: nothing where it is left out, and the holds in it that stand outside.
 #[derive(Drop)]
-pub(crate) struct Part {
+pub(crate) struct CarriedPart {
     pub sysmod: Option<Sysmod>,
-    pub outside: Vec<Placed>,
+    pub outside: Vec<PlacedItem>,
 }
 
 /// The id of a SYSMOD.
@@ -32,7 +32,7 @@ fn id_in(sysmod: &Sysmod) -> Id
 /// Puts an internal hold into the SYSMOD, and another one into the hold file.
 fn put_hold(
     sysmod: &mut Sysmod,
-    outside: &mut Vec<Placed>,
+    outside: &mut Vec<PlacedItem>,
     place: CardPlace,
     hold: Hold,
 ) -> Result<(), AllocError>
@@ -85,7 +85,7 @@ fn put_holds(
     remarks: &mut Remarks,
     stated: &WideSysmod,
     sysmod: &mut Sysmod,
-) -> Result<Vec<Placed>, HoldError>
+) -> Result<Vec<PlacedItem>, HoldError>
     ensures same { OnOk result (sysmod.new ≡ record sysmod.old { holds = sysmod.new.holds }) }
     ensures held { IfOk result (λ outside. All (IsHeldBy sysmod.new.holds (placed_items outside.items))
         stated.now.holds.items) }
@@ -111,14 +111,14 @@ fn carried_part(
     remarks: &mut Remarks,
     stated: &WideSysmod,
     mut sysmod: Sysmod,
-) -> Result<Part, HoldError>
+) -> Result<CarriedPart, HoldError>
     ensures same { IfOk result (λ part. IfSome part.sysmod (λ s. s ≡ record sysmod { holds = s.holds })) }
     ensures held { IfOk result (λ part. All
         (IsHeldBy (holds_inside (item_in part.sysmod)) (placed_items part.outside.items)) stated.now.holds.items) }
     ensures outside { IfOk result (λ part. All IsAHold (placed_items part.outside.items)) }
 {
     let outside = put_holds(alloc, remarks, stated, &mut sysmod)?;
-    Ok(Part {
+    Ok(CarriedPart {
         sysmod: Some(sysmod),
         outside,
     })
@@ -130,14 +130,14 @@ pub(crate) fn part_of(
     options: &Options,
     remarks: &mut Remarks,
     stated: &WideSysmod,
-) -> Result<Part, HoldError>
+) -> Result<CarriedPart, HoldError>
     ensures { IfOk result (IsPartOf options.now.decide stated.now) }
 {
     let Some(sysmod) = carried_sysmod(alloc, options, remarks, stated)? else {
         let holds = stated.holds.as_slice();
         tell_all_outside(alloc, remarks, holds)?;
         let outside = placed_holds(alloc, remarks, holds)?;
-        return Ok(Part {
+        return Ok(CarriedPart {
             sysmod: None,
             outside,
         });

@@ -7,7 +7,7 @@ use crate::fault::IntakeFault;
 use crate::keep::{keep_commands, keep_remarks};
 use crate::options::IntakeOptions;
 use crate::remarks::tell;
-use crate::sources::{Sources, cards_of, read};
+use crate::sources::{InputFiles, cards_of, read};
 use crate::summary::{by_reason, print};
 use crate::surroundings::IntakeHost;
 use intake_cntl::command_file;
@@ -23,7 +23,7 @@ pub(crate) fn serve_commands<H: IntakeHost>(
     asked: &IntakeOptions,
     name: &str,
 ) -> Result<u8, IntakeFault> {
-    let mut sources = Sources::new(alloc);
+    let mut sources = InputFiles::new(alloc);
     let mut remarks = Vec::new(alloc);
     let bytes = read(alloc, host, name)?;
     let cards = cards_of(

@@ -1,7 +1,7 @@
 //! Why nothing is written.
 
 use crate::options::WordsFault;
-use crate::sources::Sources;
+use crate::sources::InputFiles;
 use intake_cards::CardError;
 use intake_read::WideError;
 use std::alloc::{AllocError, AllocFailed, Global};
@@ -61,7 +61,7 @@ impl IntakeFault {
     /// The fault of a file with a statement that no SYSMOD can be left out for.
     pub(crate) fn of_statement(
         alloc: Global,
-        sources: &Sources,
+        sources: &InputFiles,
         error: WideError,
     ) -> Result<IntakeFault, AllocError> {
         let place = match &error {

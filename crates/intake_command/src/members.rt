@@ -2,22 +2,22 @@
 
 use crate::fault::IntakeFault;
 use crate::options::IntakeOptions;
-use crate::sources::{Sources, cards_of, read_if_there};
+use crate::sources::{InputFiles, cards_of, read_if_there};
 use crate::surroundings::IntakeHost;
 use fields::Name;
 use intake_read::{WideElement, WideFile};
-use intake_sysmod::Member;
+use intake_sysmod::RelfileMember;
 use std::alloc::Global;
 
 /// The texts of the elements with RELFILE that have a file in the folder, lines or records, in whichever code each is.
 pub(crate) fn members<H: IntakeHost>(
     alloc: Global,
     host: &mut H,
-    sources: &mut Sources,
+    sources: &mut InputFiles,
     asked: &IntakeOptions,
     files: &[WideFile],
     remarks: &mut Vec<u8>,
-) -> Result<Vec<Member>, IntakeFault> {
+) -> Result<Vec<RelfileMember>, IntakeFault> {
     let mut members = Vec::new(alloc);
     let Some(folder) = &asked.relfile else {
         return Ok(members);
@@ -58,11 +58,11 @@ fn is_number(text: &[u8]) -> bool {
 fn member<H: IntakeHost>(
     alloc: Global,
     host: &mut H,
-    sources: &mut Sources,
+    sources: &mut InputFiles,
     path: &str,
     element: &WideElement,
     remarks: &mut Vec<u8>,
-) -> Result<Option<Member>, IntakeFault> {
+) -> Result<Option<RelfileMember>, IntakeFault> {
     let Some(relfile) = &element.relfile else {
         return Ok(None);
     };
@@ -70,7 +70,7 @@ fn member<H: IntakeHost>(
         return Ok(None);
     };
     let cards = cards_of(alloc, sources, path, &bytes, None, None, remarks)?;
-    Ok(Some(Member {
+    Ok(Some(RelfileMember {
         relfile: relfile.clone()?,
         name: element.name.clone()?,
         cards,

@@ -8,7 +8,7 @@ use crate::keep::keep_service;
 use crate::members::members;
 use crate::options::IntakeOptions;
 use crate::remarks::tell;
-use crate::sources::{Sources, cards_of, read};
+use crate::sources::{InputFiles, cards_of, read};
 use crate::summary::{by_reason, print};
 use crate::surroundings::IntakeHost;
 use intake_cards::{Deed, Remark};
@@ -28,7 +28,7 @@ pub(crate) fn serve_files<H: IntakeHost>(
 ) -> Result<u8, IntakeFault>
     ensures { IfOk result (λ _. ServesFiles H.IntakeHost asked.now.decide (string_bytes asked.now.out)) }
 {
-    let mut sources = Sources::new(alloc);
+    let mut sources = InputFiles::new(alloc);
     let mut remarks = Vec::new(alloc);
     let files = wide_files(alloc, host, &mut sources, asked, &mut remarks)?;
     let members = members(alloc, host, &mut sources, asked, &files, &mut remarks)?;
@@ -61,7 +61,7 @@ pub(crate) fn serve_files<H: IntakeHost>(
 fn wide_files<H: IntakeHost>(
     alloc: Global,
     host: &mut H,
-    sources: &mut Sources,
+    sources: &mut InputFiles,
     asked: &IntakeOptions,
     remarks: &mut Vec<u8>,
 ) -> Result<Vec<WideFile>, IntakeFault> {
@@ -100,7 +100,7 @@ fn has_statement(file: &WideFile) -> bool {
 // Where something is refused, nothing is written: each such remark is a line of the fault.
 fn refused(
     alloc: Global,
-    sources: &Sources,
+    sources: &InputFiles,
     remarks: &[Remark],
 ) -> Result<IntakeFault, AllocError> {
     let mut lines = Vec::new(alloc);

@@ -8,20 +8,20 @@ use std::io::ErrorKind;
 
 /// A file that was read: its name, and how it is laid out.
 #[derive(Debug, Drop)]
-pub(crate) struct Source {
+pub(crate) struct InputFile {
     pub(crate) name: String,
     pub(crate) form: Layout,
 }
 
 /// The files so far. A place names its file by the number that it has here.
 #[derive(Debug, Drop)]
-pub(crate) struct Sources {
-    all: Vec<Source>,
+pub(crate) struct InputFiles {
+    all: Vec<InputFile>,
 }
 
-impl Sources {
-    pub(crate) fn new(alloc: Global) -> Sources {
-        Sources {
+impl InputFiles {
+    pub(crate) fn new(alloc: Global) -> InputFiles {
+        InputFiles {
             all: Vec::new(alloc),
         }
     }
@@ -37,7 +37,7 @@ impl Sources {
         name: &str,
         form: Layout,
     ) -> Result<(), AllocError> {
-        self.all.push(Source {
+        self.all.push(InputFile {
             name: String::from_str(alloc, name)?,
             form,
         })?;
@@ -105,7 +105,7 @@ fn unread(alloc: Global, name: &str, kind: ErrorKind) -> Result<IntakeFault, All
 /// The cards of the file of this name, which is the next one, and what was assumed of it in the remarks.
 pub(crate) fn cards_of(
     alloc: Global,
-    sources: &mut Sources,
+    sources: &mut InputFiles,
     name: &str,
     bytes: &[u8],
     form: Option<Layout>,

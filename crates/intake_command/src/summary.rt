@@ -8,7 +8,7 @@ use std::alloc::{AllocError, Global};
 
 /// How many remarks say the same.
 #[derive(Drop)]
-struct Told {
+struct ToldCount {
     deed: Deed,
     reason: RemarkReason,
     count: usize,
@@ -21,7 +21,7 @@ pub(crate) fn by_reason(
     remarks: &[Remark],
     lines: &mut Vec<u8>,
 ) -> Result<(), AllocError> {
-    let mut all: Vec<Told> = Vec::new(alloc);
+    let mut all: Vec<ToldCount> = Vec::new(alloc);
     for remark in remarks {
         count(&mut all, remark)?;
     }
@@ -35,14 +35,14 @@ pub(crate) fn by_reason(
     Ok(())
 }
 
-fn count(all: &mut Vec<Told>, remark: &Remark) -> Result<(), AllocError> {
+fn count(all: &mut Vec<ToldCount>, remark: &Remark) -> Result<(), AllocError> {
     for told in all.iter_mut() {
         if told.deed == remark.deed && told.reason == remark.reason {
             told.count = told.count.saturating_add(1);
             return Ok(());
         }
     }
-    all.push(Told {
+    all.push(ToldCount {
         deed: remark.deed,
         reason: remark.reason,
         count: 1,

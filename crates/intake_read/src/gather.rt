@@ -1,24 +1,24 @@
 //! Statements one behind the other, gathered as SYSMODs and what stands beside them.
 use crate::errors::WideError;
-use crate::items::{Note, NoteReason, OtherReason, WideFile, WideSysmod};
-use crate::known::{Known, known_as};
+use crate::items::{Note, NoteReason, OtherReason, SwallowedStatement, WideFile, WideSysmod};
+use crate::known::{WideWord, known_as};
 use crate::made::{assign, condition, element, hold, other, release, sysmod, ver};
 use crate::operands::members;
-use crate::statement::Statement;
+use crate::statement::WideStatement;
 use intake_cards::CardPlace;
-use std::alloc::Global;
+use std::alloc::{AllocError, Global};
 
 /// The statements so far: a file's items, and the SYSMOD that is begun.
 #[derive(Drop)]
-pub(crate) struct Gathered {
+pub(crate) struct FileSoFar {
     alloc: Global,
     file: WideFile,
     begun: Option<WideSysmod>,
 }
 
-impl Gathered {
-    pub fn new(alloc: Global) -> Gathered {
-        Gathered {
+impl FileSoFar {
+    pub fn new(alloc: Global) -> FileSoFar {
+        FileSoFar {
             alloc,
             file: WideFile {
                 sysmods: Vec::new(alloc),
@@ -26,6 +26,7 @@ impl Gathered {
                 releases: Vec::new(alloc),
                 assigns: Vec::new(alloc),
                 others: Vec::new(alloc),
+                swallowed: Vec::new(alloc),
                 notes: Vec::new(alloc),
             },
             begun: None,
@@ -34,7 +35,7 @@ impl Gathered {
 
     /// The whole file.
     pub fn into_file(self) -> Result<WideFile, WideError> {
-        let Gathered {
+        let FileSoFar {
             alloc: _,
             mut file,
             begun,
@@ -43,6 +44,12 @@ impl Gathered {
             file.sysmods.push(sysmod)?;
         }
         Ok(file)
+    }
+
+    /// Keeps a statement that stands in a comment.
+    pub fn keep_swallowed(&mut self, swallowed: SwallowedStatement) -> Result<(), AllocError> {
+        self.file.swallowed.push(swallowed)?;
+        Ok(())
     }
 
     /// Notes what was read otherwise than it stands.
@@ -62,17 +69,17 @@ impl Gathered {
     }
 
     /// Adds the next statement.
-    pub fn add(&mut self, statement: Statement) -> Result<(), WideError> {
+    pub fn add(&mut self, statement: WideStatement) -> Result<(), WideError> {
         if statement.has_lower {
             self.note(NoteReason::LowerCase, statement.place)?;
         }
         let known = known_as(statement.word.as_slice());
-        if let Known::Header(kind) = known {
+        if let WideWord::Header(kind) = known {
             let begun = sysmod(self.alloc, kind, statement)?;
             return self.begin(begun);
         }
         if let Some(reason) = statement.fault {
-            let is_kept = matches!(known, Known::Hold | Known::Release | Known::Assign);
+            let is_kept = matches!(known, WideWord::Hold | WideWord::Release | WideWord::Assign);
             return self.add_other(reason, is_kept, statement);
         }
         self.add_good(known, statement)
@@ -91,7 +98,7 @@ impl Gathered {
         &mut self,
         reason: OtherReason,
         is_kept: bool,
-        statement: Statement,
+        statement: WideStatement,
     ) -> Result<(), WideError> {
         match &mut self.begun {
             Some(sysmod) if !is_kept => {
@@ -107,20 +114,20 @@ impl Gathered {
         }
     }
 
-    fn add_good(&mut self, known: Known, statement: Statement) -> Result<(), WideError> {
+    fn add_good(&mut self, known: WideWord, statement: WideStatement) -> Result<(), WideError> {
         match known {
-            Known::Hold => self.add_hold(statement)?,
-            Known::Release => self.file.releases.push(release(self.alloc, statement)?)?,
-            Known::Assign => self.file.assigns.push(assign(self.alloc, statement)?)?,
-            Known::NoService => self
+            WideWord::Hold => self.add_hold(statement)?,
+            WideWord::Release => self.file.releases.push(release(self.alloc, statement)?)?,
+            WideWord::Assign => self.file.assigns.push(assign(self.alloc, statement)?)?,
+            WideWord::NoService => self
                 .file
                 .others
                 .push(other(OtherReason::NoService, statement))?,
-            Known::Ver => self.add_ver(statement)?,
-            Known::If => self.add_if(statement)?,
-            Known::Element => self.add_element(statement)?,
-            Known::LoadModules => self.add_other(OtherReason::LoadModules, false, statement)?,
-            Known::Header(_) | Known::Unknown => self.add_other(
+            WideWord::Ver => self.add_ver(statement)?,
+            WideWord::If => self.add_if(statement)?,
+            WideWord::Element => self.add_element(statement)?,
+            WideWord::LoadModules => self.add_other(OtherReason::LoadModules, false, statement)?,
+            WideWord::Header(_) | WideWord::Unknown => self.add_other(
                 OtherReason::UnknownWord,
                 false,
                 statement,
@@ -129,7 +136,7 @@ impl Gathered {
         Ok(())
     }
 
-    fn add_hold(&mut self, statement: Statement) -> Result<(), WideError> {
+    fn add_hold(&mut self, statement: WideStatement) -> Result<(), WideError> {
         let found = hold(self.alloc, statement)?;
         match &mut self.begun {
             Some(sysmod) => sysmod.holds.push(found)?,
@@ -138,7 +145,7 @@ impl Gathered {
         Ok(())
     }
 
-    fn add_ver(&mut self, statement: Statement) -> Result<(), WideError> {
+    fn add_ver(&mut self, statement: WideStatement) -> Result<(), WideError> {
         let Some(srels) = members(self.alloc, statement.name.as_slice())? else {
             return self.add_other(OtherReason::NoName, false, statement);
         };
@@ -149,7 +156,7 @@ impl Gathered {
         Ok(())
     }
 
-    fn add_if(&mut self, statement: Statement) -> Result<(), WideError> {
+    fn add_if(&mut self, statement: WideStatement) -> Result<(), WideError> {
         if let Some(sysmod) = &mut self.begun {
             if let Some(last) = sysmod.vers.last_mut() {
                 last.ifs.push(condition(self.alloc, statement)?)?;
@@ -159,7 +166,7 @@ impl Gathered {
         self.add_other(OtherReason::Misplaced, false, statement)
     }
 
-    fn add_element(&mut self, statement: Statement) -> Result<(), WideError> {
+    fn add_element(&mut self, statement: WideStatement) -> Result<(), WideError> {
         let Some(sysmod) = &mut self.begun else {
             return self.add_other(OtherReason::Misplaced, false, statement);
         };

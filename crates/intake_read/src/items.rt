@@ -146,6 +146,10 @@ pub struct WideElement {
     pub syslib: Option<Vec<u8>>,
     /// What RELFILE says, where its text is in another file.
     pub relfile: Option<Vec<u8>>,
+    /// The library of the modules that are assembled of it.
+    pub distmod: Option<Vec<u8>>,
+    /// The modules that are assembled of a macro besides.
+    pub assem: Vec<Vec<u8>>,
     /// TXLIB, LKLIB and FROMDS, as they stand: its text is in another library.
     pub libraries: Vec<WideOperand>,
     /// All its other operands, as they stand: SSI, ALIAS, DELETE, LMOD and so on.
@@ -210,8 +214,6 @@ pub struct WideOther {
 pub enum NoteReason {
     /// Words in lower case are read in upper case.
     LowerCase,
-    /// A comment holds a card that begins with `++`, which begins no statement there.
-    StatementInComment,
     /// Columns 73 to 80 hold something that is no number; they are not read.
     TextIn73,
 }
@@ -224,6 +226,18 @@ pub struct Note {
     pub count: usize,
 }
 
+/// A card that begins with `++` inside a comment, where it begins no statement.
+#[derive(Drop)]
+pub struct SwallowedStatement {
+    pub place: CardPlace,
+    /// Where the comment opens.
+    pub comment: CardPlace,
+    /// The word without its `++`, in upper case.
+    pub word: Vec<u8>,
+    /// What stands in its parentheses, in upper case.
+    pub name: Vec<u8>,
+}
+
 /// A file's statements. Each list keeps the order of the file, and the places say how the lists go together.
 #[derive(Drop)]
 pub struct WideFile {
@@ -234,6 +248,8 @@ pub struct WideFile {
     pub assigns: Vec<WideAssign>,
     /// `++FEATURE`, `++PRODUCT` and `++NULL`, wherever they stand.
     pub others: Vec<WideOther>,
+    /// Those that stand in comments.
+    pub swallowed: Vec<SwallowedStatement>,
     /// One for each reason at most.
     pub notes: Vec<Note>,
 }

@@ -1,13 +1,13 @@
 //! A statement as it stands: its word, its name and its operands.
 use crate::items::{OtherReason, WideOperand};
 use crate::known::{is_upper, known_as, needs_name};
-use crate::words::{Open, Piece, Token};
+use crate::words::{CardPiece, Open, Token};
 use intake_cards::{Card, CardPlace};
 use std::alloc::{AllocError, Global};
 
 /// A statement as it stands.
 #[derive(Drop)]
-pub(crate) struct Statement {
+pub(crate) struct WideStatement {
     pub place: CardPlace,
     /// Without its `++`, in upper case.
     pub word: Vec<u8>,
@@ -23,8 +23,8 @@ pub(crate) struct Statement {
 
 /// A statement that is begun, and how far.
 #[derive(Drop)]
-struct Said {
-    statement: Statement,
+struct BegunStatement {
+    statement: WideStatement,
     has_word: bool,
     has_name: bool,
     is_ended: bool,
@@ -44,7 +44,7 @@ fn has_lower(text: &[u8]) -> bool {
     text.iter().any(|byte| byte.is_ascii_lowercase())
 }
 
-impl Statement {
+impl WideStatement {
     /// Notes what is wrong with it, unless something was before.
     pub(crate) fn blame(&mut self, fault: OtherReason) {
         if self.fault.is_none() {
@@ -53,9 +53,9 @@ impl Statement {
     }
 }
 
-impl Said {
-    fn piece(&mut self, piece: Piece) -> Result<(), AllocError> {
-        let Piece { place, token } = piece;
+impl BegunStatement {
+    fn piece(&mut self, piece: CardPiece) -> Result<(), AllocError> {
+        let CardPiece { place, token } = piece;
         if self.is_ended {
             self.statement.blame(OtherReason::TextBehind);
             return Ok(());
@@ -114,12 +114,12 @@ impl Said {
 pub(crate) fn statement_of(
     alloc: Global,
     place: CardPlace,
-    pieces: Vec<Piece>,
+    pieces: Vec<CardPiece>,
     open: Open,
     has_lower: bool,
-) -> Result<Statement, AllocError> {
-    let mut said = Said {
-        statement: Statement {
+) -> Result<WideStatement, AllocError> {
+    let mut said = BegunStatement {
+        statement: WideStatement {
             place,
             word: Vec::new(alloc),
             name: Vec::new(alloc),
@@ -135,7 +135,7 @@ pub(crate) fn statement_of(
     for piece in pieces {
         said.piece(piece)?;
     }
-    let Said {
+    let BegunStatement {
         mut statement,
         has_word: _,
         has_name: _,

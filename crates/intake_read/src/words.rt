@@ -22,7 +22,7 @@ pub(crate) enum Token {
 
 /// A word, a list or another character, and the card where it begins.
 #[derive(Drop)]
-pub(crate) struct Piece {
+pub(crate) struct CardPiece {
     pub place: CardPlace,
     pub token: Token,
 }
@@ -52,7 +52,7 @@ pub(crate) enum Open {
 
 /// Takes cards, one after the other, and finds their pieces.
 #[derive(Drop)]
-pub(crate) struct Scanner {
+pub(crate) struct CardScanner {
     alloc: Global,
     state: State,
     /// How many parentheses are open.
@@ -70,11 +70,11 @@ pub(crate) struct Scanner {
     is_text: bool,
     has_lower: bool,
     has_period: bool,
-    pieces: Vec<Piece>,
+    pieces: Vec<CardPiece>,
 }
 
 /// Whether words have the character.
-fn is_word_byte(byte: u8) -> bool {
+pub(crate) fn is_word_byte(byte: u8) -> bool {
     byte.is_ascii_alphanumeric() || matches!(byte, b'$' | b'#' | b'@' | b'+' | b'_' | b'-')
 }
 
@@ -83,11 +83,11 @@ fn has_text(word: &[u8]) -> bool {
     matches!(word, b"COMMENT" | b"DESC" | b"DESCRIPTION")
 }
 
-impl Scanner {
+impl CardScanner {
     /// A scanner that has taken no card.
-    pub(crate) fn new(alloc: Global) -> Scanner {
+    pub(crate) fn new(alloc: Global) -> CardScanner {
         let nowhere = CardPlace { file: 0, card: 0 };
-        Scanner {
+        CardScanner {
             alloc,
             state: State::Gap,
             depth: 0,
@@ -118,7 +118,7 @@ impl Scanner {
     }
 
     /// The pieces so far.
-    pub(crate) fn pieces(&self) -> &[Piece] {
+    pub(crate) fn pieces(&self) -> &[CardPiece] {
         self.pieces.as_slice()
     }
 
@@ -133,7 +133,7 @@ impl Scanner {
     }
 
     /// Takes the pieces so far out of it. Parentheses that are open are forgotten, and a comment stays open.
-    pub(crate) fn take_pieces(&mut self) -> Vec<Piece> {
+    pub(crate) fn take_pieces(&mut self) -> Vec<CardPiece> {
         self.depth = 0;
         self.has_lower = false;
         self.has_period = false;
@@ -185,7 +185,7 @@ impl Scanner {
     }
 
     fn push(&mut self, place: CardPlace, token: Token) -> Result<(), AllocError> {
-        self.pieces.push(Piece { place, token })?;
+        self.pieces.push(CardPiece { place, token })?;
         Ok(())
     }
 

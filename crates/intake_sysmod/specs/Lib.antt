@@ -1,2 +1,4 @@
 pub mod Elements
 pub mod NoLooser
+pub mod Putting
+pub mod StandInNames

@@ -1,13 +1,13 @@
 //! Statements of the profile that bring or update elements.
-ghost use Rattle.std.specs.Prelude.{◌≡◌, ◌⊎◌, IfOk, IfSome};
+ghost use Rattle.std.specs.Prelude.{◌≡◌, ◌⊎◌, IfOk, IfSome, true, false};
 ghost use Rattle.terms.specs.declared.kinds.ElemType.TheVariants.{Mac, Src};
 ghost use Rattle.terms.specs.Texts.{IsReplacement, IsUpdate};
-ghost use Rattle.intake_sysmod.specs.Elements.{IsProfileType};
+ghost use Rattle.intake_sysmod.specs.Elements.{IsProfileType, is_updated, is_update};
 
 use crate::options::Options;
 use crate::texts::{MOST_RECORDS, are_printable, begins_statement, needs_numbers, text_of};
 use crate::updates::update_lines;
-use crate::words::{is_update, profile_type};
+use crate::words::{is_update, is_update_word, profile_type};
 use fields::Name;
 use intake_cards::{Deed, RemarkReason, Remarks, Subject};
 use intake_read::{Card, WideElement, tell_odd};
@@ -18,7 +18,7 @@ use text80::{Line, TextError, Update};
 
 /// Operands that change no decision.
 const DROPPED: &[&[u8]] = &[
-    b"SSI", b"ALIAS", b"MALIAS", b"DISTMOD", b"DISTSRC", b"ASSEM", b"PREFIX", b"VERSION",
+    b"SSI", b"ALIAS", b"MALIAS", b"DISTSRC", b"PREFIX", b"VERSION",
 ];
 
 fn is_dropped(name: &[u8]) -> bool {
@@ -29,11 +29,15 @@ fn is_dropped(name: &[u8]) -> bool {
 /// are none of these.
 fn tell_operands(
     alloc: Global,
+    options: &Options,
     remarks: &mut Remarks,
     subject: &Subject<'_>,
     element: &WideElement,
 ) -> Result<bool, AllocError> {
     let mut good = element.odd.is_empty();
+    if !options.decide {
+        tell_assembled(alloc, remarks, subject, element)?;
+    }
     tell_odd(
         alloc,
         remarks,
@@ -53,16 +57,46 @@ fn tell_operands(
     }
     for library in element.libraries.iter() {
         let name = library.name.as_slice();
-        remarks.leave_out(
-            alloc,
-            subject,
-            name,
-            RemarkReason::TextElsewhere,
-            library.text(),
-        )?;
+        remarks.leave_out(alloc, subject, name, RemarkReason::TextElsewhere, library.text())?;
         good = false;
     }
     Ok(good)
+}
+
+/// Tells that what is assembled of the element is not carried.
+fn tell_assembled(
+    alloc: Global,
+    remarks: &mut Remarks,
+    subject: &Subject<'_>,
+    element: &WideElement,
+) -> Result<(), AllocError> {
+    if let Some(distmod) = &element.distmod {
+        let text = distmod.as_slice();
+        remarks.tell_dropped(alloc, subject, b"DISTMOD", RemarkReason::NoDecision, text)?;
+    }
+    if !element.assem.is_empty() {
+        let text = listed(alloc, element.assem.as_slice())?;
+        remarks.tell_dropped(
+            alloc,
+            subject,
+            b"ASSEM",
+            RemarkReason::NoDecision,
+            text.as_slice(),
+        )?;
+    }
+    Ok(())
+}
+
+/// The members with commas between.
+fn listed(alloc: Global, members: &[Vec<u8>]) -> Result<Vec<u8>, AllocError> {
+    let mut text = Vec::new(alloc);
+    for member in members {
+        if !text.is_empty() {
+            text.push(b',')?;
+        }
+        text.extend_from_slice(member.as_slice())?;
+    }
+    Ok(text)
 }
 
 /// The name of a library that must be stated. Where there is none to answer it is told.
@@ -130,7 +164,7 @@ fn cards_of<'a>(
     let Some(relfile) = &element.relfile else {
         return Ok(Some(element.inline.as_slice()));
     };
-    let Some(member) = options.member(relfile.as_slice(), element.name.as_slice()) else {
+    let Some(member) = options.member(element.place) else {
         remarks.leave_out(
             alloc,
             subject,
@@ -201,7 +235,8 @@ fn replacement(
     elem_type: ElemType,
     name: Name,
 ) -> Result<Option<ElemChange>, AllocError>
-    ensures { IfOk result (λ found. IfSome found (λ c. (c.elem_type ≡ elem_type) × (c.name ≡ name))) }
+    ensures { IfOk result (λ found. IfSome found (λ c. (c.elem_type ≡ elem_type) × (c.name ≡ name)
+        × (is_updated c.action ≡ false))) }
 {
     let Some((distlib, syslib)) = libraries_of(alloc, options, remarks, subject, element)? else {
         return Ok(None);
@@ -224,11 +259,21 @@ fn replacement(
     }))
 }
 
-/// The update of a macro or a source.
-pub(crate) fn update_change(elem_type: ElemType, name: Name, update: Update) -> ElemChange
+/// The update of a macro or a source. An element of another type has none.
+pub(crate) fn update_change(elem_type: ElemType, name: Name, update: Update) -> Option<ElemChange>
+    requires { IsUpdate name update }
+    ensures { IfSome result (λ c. (c.elem_type ≡ elem_type) × (c.name ≡ name) × (is_updated c.action ≡ true)) }
+{
+    match elem_type {
+        ElemType::Mac | ElemType::Src => Some(change_by(elem_type, name, update)),
+        ElemType::Clist | ElemType::Data | ElemType::Exec | ElemType::Parm | ElemType::Proc => None,
+    }
+}
+
+fn change_by(elem_type: ElemType, name: Name, update: Update) -> ElemChange
     requires kind { (elem_type ≡ Mac) ⊎ (elem_type ≡ Src) }
     requires update { IsUpdate name update }
-    ensures { (result.elem_type ≡ elem_type) × (result.name ≡ name) }
+    ensures { (result.elem_type ≡ elem_type) × (result.name ≡ name) × (is_updated result.action ≡ true) }
 {
     ElemChange {
         elem_type,
@@ -246,8 +291,8 @@ fn update(
     elem_type: ElemType,
     name: Name,
 ) -> Result<Option<ElemChange>, AllocError>
-    requires { (elem_type ≡ Mac) ⊎ (elem_type ≡ Src) }
-    ensures { IfOk result (λ found. IfSome found (λ c. (c.elem_type ≡ elem_type) × (c.name ≡ name))) }
+    ensures { IfOk result (λ found. IfSome found (λ c. (c.elem_type ≡ elem_type) × (c.name ≡ name)
+        × (is_updated c.action ≡ true))) }
 {
     tell_libraries(alloc, remarks, subject, element)?;
     let Some(lines) = update_lines(alloc, remarks, subject, element.inline.as_slice())? else {
@@ -258,7 +303,7 @@ fn update(
         return Ok(None);
     }
     match Update::read(alloc, lines, name.as_bytes()) {
-        Ok(update) => Ok(Some(update_change(elem_type, name, update))),
+        Ok(update) => Ok(update_change(elem_type, name, update)),
         Err(TextError::Memory) => Err(AllocError),
         Err(TextError::Fault(_)) => {
             remarks.leave_out(alloc, subject, b"", RemarkReason::BadText, b"")?;
@@ -293,25 +338,22 @@ pub(crate) fn profile_change(
     subject: &Subject<'_>,
     kind: Kind,
     element: &WideElement,
+    elem_type: ElemType,
     name: Name,
 ) -> Result<Option<ElemChange>, AllocError>
-    ensures { IfOk result (λ found. IfSome found (λ c. IsProfileType element.now.word.items c.elem_type
-        × (c.name ≡ name))) }
+    ensures { IfOk result (λ found. IfSome found (λ c. (c.elem_type ≡ elem_type) × (c.name ≡ name)
+        × (is_updated c.action ≡ is_update kind element.now.word.items))) }
 {
     let word = element.word.as_slice();
-    let Some(elem_type) = profile_type(word) else {
-        remarks.leave_out(alloc, subject, b"", RemarkReason::OutsideProfile, b"")?;
-        return Ok(None);
-    };
-    if !tell_operands(alloc, remarks, subject, element)? {
+    if !tell_operands(alloc, options, remarks, subject, element)? {
         return Ok(None);
     }
-    if !is_update(word) {
-        return replacement(alloc, options, remarks, subject, element, elem_type, name);
+    if is_update(kind, word) {
+        return update(alloc, remarks, subject, element, elem_type, name);
     }
-    if kind == Kind::Function {
+    if is_update_word(word) {
         remarks.leave_out(alloc, subject, b"", RemarkReason::UpdateInFunction, b"")?;
         return Ok(None);
     }
-    update(alloc, remarks, subject, element, elem_type, name)
+    replacement(alloc, options, remarks, subject, element, elem_type, name)
 }

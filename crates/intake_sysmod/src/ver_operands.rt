@@ -24,7 +24,7 @@ pub(crate) struct Lists {
 
 /// What a `++VER` says for each of its SRELs.
 #[derive(Drop)]
-pub(crate) struct Operands {
+pub(crate) struct VerOperands {
     pub fmid: Option<Id>,
     pub lists: Lists,
     pub ifs: Vec<IfReq>,
@@ -87,7 +87,7 @@ pub(crate) fn operands_of(
     remarks: &mut Remarks,
     sysmod: &WideSysmod,
     stated: &WideVer,
-) -> Result<Option<Operands>, AllocError>
+) -> Result<Option<VerOperands>, AllocError>
     ensures { IfOk result (λ found. IfSome found (AreOperands stated.now)) }
 {
     let own = sysmod.id.as_slice();
@@ -116,7 +116,7 @@ pub(crate) fn operands_of(
     let Some(ifs) = ifs_of(alloc, remarks, own, &subject, stated.ifs.as_slice())? else {
         return Ok(None);
     };
-    Ok(Some(Operands { fmid, lists, ifs }))
+    Ok(Some(VerOperands { fmid, lists, ifs }))
 }
 
 /// Whether a SYSMOD of the kind may have these operands. What it may not have is told.

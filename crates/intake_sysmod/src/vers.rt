@@ -3,7 +3,7 @@ ghost use Rattle.std.specs.Prelude.{◌≡◌, IfOk, IfSome, IsPermutation};
 ghost use Rattle.terms.specs.Beside.{Beside};
 ghost use Rattle.intake_sysmod.specs.NoLooser.{IsVer, AreVers, AreOperands};
 
-use crate::ver_operands::{Operands, operands_of};
+use crate::ver_operands::{VerOperands, operands_of};
 use fields::Srel;
 use intake_cards::{RemarkReason, Remarks, Subject};
 use intake_read::{WideSysmod, WideVer};
@@ -29,7 +29,7 @@ fn copies_of(alloc: Global, ifs: &[IfReq]) -> Result<Vec<IfReq>, AllocError>
 }
 
 /// The `++VER` of these operands for one SREL.
-fn ver_of(alloc: Global, srel: Srel, operands: &Operands) -> Result<Ver, AllocError>
+fn ver_of(alloc: Global, srel: Srel, operands: &VerOperands) -> Result<Ver, AllocError>
     ensures { IfOk result (λ ver. (ver.srel ≡ srel) × (ver.fmid ≡ operands.now.fmid)
         × (ver.pre ≡ operands.now.lists.pre) × (ver.req ≡ operands.now.lists.req)
         × (ver.sup ≡ operands.now.lists.sup) × (ver.npre ≡ operands.now.lists.npre)
@@ -54,7 +54,7 @@ fn for_srels(
     remarks: &mut Remarks,
     subject: &Subject<'_>,
     stated: &WideVer,
-    operands: &Operands,
+    operands: &VerOperands,
 ) -> Result<Option<Vec<Ver>>, AllocError>
     requires { AreOperands stated.now operands.now }
     ensures { IfOk result (λ found. IfSome found (λ vers.
@@ -63,13 +63,7 @@ fn for_srels(
     let mut vers = Vec::with_capacity(alloc, stated.srels.len())?;
     for srel in stated.srels.iter() {
         let Some(srel) = Srel::read(srel.as_slice()) else {
-            remarks.leave_out(
-                alloc,
-                subject,
-                b"SREL",
-                RemarkReason::BadValue,
-                srel.as_slice(),
-            )?;
+            remarks.leave_out(alloc, subject, b"SREL", RemarkReason::BadValue, srel.as_slice())?;
             return Ok(None);
         };
         vers.push(ver_of(alloc, srel, operands)?)?;
@@ -168,13 +162,7 @@ pub(crate) fn vers_of(
         return Ok(None);
     }
     if let Some(ver) = second(sysmod.kind, vers.as_slice()) {
-        remarks.leave_out(
-            alloc,
-            subject,
-            b"VER",
-            RemarkReason::Twice,
-            ver.srel.as_bytes(),
-        )?;
+        remarks.leave_out(alloc, subject, b"VER", RemarkReason::Twice, ver.srel.as_bytes())?;
         return Ok(None);
     }
     Ok(Some(by_srel(vers)?))

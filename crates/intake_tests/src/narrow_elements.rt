@@ -3,7 +3,7 @@
 use crate::narrow_lines::{check, check_with};
 use fields::Name;
 use intake_cards::read_cards;
-use intake_sysmod::{Member, Options, Syslib};
+use intake_sysmod::{RelfileMember, Options, Syslib};
 use std::alloc::Global;
 use std::test::Fail;
 
@@ -125,9 +125,9 @@ const ELSEWHERE_CARRIED: &str =
     ! f line 5: ++PTF(UA00002): left out: a statement of it can't be carried\n";
 
 /// The cards of a text.
-fn member(alloc: Global, relfile: &[u8], name: &[u8], text: &[u8]) -> Result<Member, Fail> {
+fn member(alloc: Global, relfile: &[u8], name: &[u8], text: &[u8]) -> Result<RelfileMember, Fail> {
     let read = read_cards(alloc, 0, text, None, None)?;
-    Ok(Member {
+    Ok(RelfileMember {
         relfile: Vec::from_slice(alloc, relfile)?,
         name: Vec::from_slice(alloc, name)?,
         cards: read.cards,
