@@ -9,6 +9,8 @@ pub struct Card {
     pub text: [u8; 80],
     /// The line has more than blanks after column 80.
     pub is_cut: bool,
+    /// The line is cut, and `*/` ends it.
+    pub ends_comment: bool,
 }
 
 /// What stands in columns 73 to 80.

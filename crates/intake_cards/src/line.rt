@@ -17,6 +17,7 @@ pub(crate) enum PastColumns {
 pub(crate) struct CutLine {
     pub(crate) text: [u8; 80],
     pub(crate) past: PastColumns,
+    pub(crate) ends_comment: bool,
 }
 
 impl CutLine {
@@ -24,6 +25,7 @@ impl CutLine {
         CutLine {
             text: [b' '; 80],
             past: PastColumns::Nothing,
+            ends_comment: false,
         }
     }
 
@@ -47,14 +49,19 @@ pub(crate) fn cut_line(line: &[u8], code: Code) -> CutLine {
         }
     }
     let mut cut = CutLine::new();
+    let mut before = b' ';
     for (column, byte) in line.iter().enumerate() {
-        cut.put(column, code.ascii(*byte));
+        let letter = code.ascii(*byte);
+        cut.put(column, letter);
+        cut.ends_comment = letter == b'/' && before == b'*' || letter == b' ' && cut.ends_comment;
+        before = letter;
     }
     cut
 }
 
 fn cut_text(text: &str) -> CutLine {
     let mut cut = CutLine::new();
+    cut.ends_comment = text.as_bytes().trim_ascii_end().ends_with(b"*/");
     for (column, letter) in text.chars().enumerate() {
         cut.put(column, u8::try_from(letter as u32).unwrap_or(NO_LATIN));
     }

@@ -71,6 +71,7 @@ impl Cards {
             place,
             text: line.text,
             is_cut: line.past == PastColumns::More,
+            ends_comment: line.past == PastColumns::More && line.ends_comment,
         };
         match line.past {
             PastColumns::Nothing => {}

@@ -47,6 +47,8 @@ pub enum RemarkReason {
     /// The source ids of `--known` that begin so stand in the list.
     KnownSources,
     // Dropped.
+    /// Blank cards end a text that has numbers.
+    BlankEnd,
     /// A source id of more than the profile's characters, which no command of the profile can name.
     LongSource,
     /// It changes no decision.
@@ -114,6 +116,8 @@ pub enum RemarkReason {
     OpenComment,
     /// More than blanks and comments stands behind the period.
     TextBehind,
+    /// A card of a text has no number, or one that is not higher than the one before.
+    Misnumbered,
     /// A line has more than 80 columns.
     LongLine,
     /// SELECT or GROUP must stand there.
@@ -187,6 +191,10 @@ impl RemarkReason {
             RemarkReason::TextBehind => "more stands behind its period",
             RemarkReason::KnownExcluded => "EXCLUDE names the APARs or USERMODs of --known",
             RemarkReason::KnownSources => "the list names the source ids of --known that begin so",
+            RemarkReason::BlankEnd => "blank cards end a text that has numbers",
+            RemarkReason::Misnumbered => {
+                "columns 73 to 80 of a card must have eight digits, higher than those before"
+            }
             RemarkReason::LongSource => "it changes no decision here, since no command can name this source id",
             RemarkReason::LongLine => "the line has more than 80 columns; put the rest on a line of its own",
             RemarkReason::NoList => "SELECT or GROUP is missing",

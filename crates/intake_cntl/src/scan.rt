@@ -79,7 +79,9 @@ pub fn wide_commands(alloc: Global, cards: &[Card]) -> Result<WideCommands, Allo
             scanner.take(*byte, card.place)?;
         }
         scanner.take(b' ', card.place)?;
-        if card.is_cut && !scanner.is_in_comment() {
+        if card.ends_comment && scanner.is_in_comment() {
+            scanner.within = Within::Words;
+        } else if card.is_cut && !scanner.is_in_comment() {
             cut.push(card.place)?;
         }
     }
@@ -160,12 +162,12 @@ impl CommandScanner {
         if byte.is_ascii_lowercase() {
             self.has_lower_case = true;
         }
-        let byte = byte.to_ascii_uppercase();
+        let byte = if byte == b'\t' { b' ' } else { byte.to_ascii_uppercase() };
         if self.depth > 0 {
             return self.put_in_list(byte);
         }
         match byte {
-            b' ' | b',' | b'\t' => {
+            b' ' | b',' => {
                 self.in_word = false;
                 Ok(())
             }
