@@ -27,4 +27,4 @@ pub use printed::PrintedCards;
 pub use read::{CardNote, CardOddity, Cards, read_cards};
 pub use reason::RemarkReason;
 pub use remark::{Deed, Remark};
-pub use remarks::{Remarks, Subject};
+pub use remarks::{Remarks, StandIn, Subject};

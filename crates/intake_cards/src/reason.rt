@@ -10,6 +10,8 @@ pub enum RemarkReason {
     SpelledOut,
     /// Parentheses in a COMMENT became brackets.
     Brackets,
+    /// The asterisks of a box around a COMMENT are away.
+    Box,
     /// A COMMENT was cut at 200 characters.
     CutComment,
     /// A text without numbers got some.
@@ -32,8 +34,10 @@ pub enum RemarkReason {
     Blanks,
     /// Characters of a COMMENT that no record may have became question marks.
     Unprintable,
-    /// A comment holds a card that begins like a statement.
-    StatementInComment,
+    /// A module that is assembled of a source or a macro has a stand-in that is replaced.
+    Assembled,
+    /// Of two internal holds of one reason RECEIVE keeps the later one.
+    LaterHold,
     /// Columns 73 to 80 of a statement's card hold a text, which is not read.
     TextInNumbers,
     /// A command stands on a card of its own.
@@ -63,6 +67,10 @@ pub enum RemarkReason {
     EndOfUpdate,
     /// A statement about load modules.
     LoadModules,
+    /// Elements that no other SYSMOD of the files changes, of a SYSMOD with more than it may have.
+    PassedOver,
+    /// A hold of a copy of a SYSMOD that is not carried, where the copy that is carried has one of its reason.
+    HeldAlready,
     // Left out.
     /// FIXCAT holds hold nothing unless they are asked for.
     Fixcat,
@@ -96,6 +104,12 @@ pub enum RemarkReason {
     Contradiction,
     /// A statement that may not stand there.
     OutOfPlace,
+    /// A card inside a comment begins like a statement.
+    StatementInComment,
+    /// Another copy of the SYSMOD is carried.
+    OtherCopy,
+    /// An operand that decides whether the SYSMOD goes on, which a stand-in can't have.
+    Level,
     /// The SYSMOD has a statement that can't be carried.
     WholeSysmod,
     /// A list names the SYSMOD itself.
@@ -141,6 +155,7 @@ impl RemarkReason {
             RemarkReason::LowerCase => "lower case was read as upper case",
             RemarkReason::SpelledOut => "spelled out",
             RemarkReason::Brackets => "inner parentheses became brackets",
+            RemarkReason::Box => "the asterisks of its box are away",
             RemarkReason::CutComment => "cut at 200 characters",
             RemarkReason::Numbered => "the text got numbers",
             RemarkReason::EightDigits => "got eight digits",
@@ -153,7 +168,16 @@ impl RemarkReason {
             RemarkReason::Double => "an id that stands there twice is named once",
             RemarkReason::Blanks => "its blanks are as cards have them",
             RemarkReason::Unprintable => "question marks for what no record may have",
-            RemarkReason::StatementInComment => "a comment holds a card that begins with ++",
+            RemarkReason::Assembled =>
+                "the stand-in of a module that is assembled of it is replaced",
+            RemarkReason::LaterHold => "RECEIVE keeps a later one of its reason",
+            RemarkReason::PassedOver =>
+                "no other SYSMOD of these files changes so many of its elements",
+            RemarkReason::HeldAlready => "the copy that is carried has one of its reason",
+            RemarkReason::StatementInComment => "it stands in a comment",
+            RemarkReason::OtherCopy => "another copy of it is carried",
+            RemarkReason::Level =>
+                "it decides whether the SYSMOD goes on, and a stand-in can't have it",
             RemarkReason::TextInNumbers => "columns 73 to 80 hold a text, which is not read",
             RemarkReason::OwnCard => "stands on a card of its own",
             RemarkReason::GroupOfSelect => "GROUP has the ids of SELECT",

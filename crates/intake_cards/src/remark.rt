@@ -56,6 +56,14 @@ impl Remark {
         }
     }
 
+    /// Whether it tells the same of a statement of the same word.
+    pub(crate) fn says_the_same(&self, other: &Remark) -> bool {
+        self.deed == other.deed
+            && self.reason == other.reason
+            && self.statement.as_slice() == other.statement.as_slice()
+            && self.operand.as_slice() == other.operand.as_slice()
+    }
+
     /// The line that tells it, without an end of line. `file` is the name of its file, `unit` is "record" or "line".
     /// The error comes where memory runs out.
     pub fn line(&self, alloc: Global, file: &str, unit: &str) -> Result<Vec<u8>, AllocError> {

@@ -3,7 +3,7 @@
 use crate::place::CardPlace;
 use crate::reason::RemarkReason;
 use crate::remark::{Deed, Remark};
-use fields::Id;
+use fields::{Id, Name};
 use std::alloc::{AllocError, Global};
 
 /// The statement that remarks are about.
@@ -17,6 +17,21 @@ pub struct Subject<'a> {
     pub id: &'a [u8],
 }
 
+/// Which element a stand-in is for.
+#[derive(Debug, Drop)]
+pub struct StandIn {
+    /// Where the statement begins.
+    pub place: CardPlace,
+    /// Its type, as it is spelled, and its name.
+    pub elem_type: &'static [u8],
+    pub stand_in: Name,
+    /// The word of the statement that brings the element, and the element's name.
+    pub word: Vec<u8>,
+    pub name: Vec<u8>,
+    /// Its DISTLIB, or nothing.
+    pub library: Vec<u8>,
+}
+
 /// The remarks so far, and what is counted beside them.
 #[derive(Debug, Drop)]
 pub struct Remarks {
@@ -24,6 +39,8 @@ pub struct Remarks {
     pub list: Vec<Remark>,
     /// How many stand-ins were told.
     pub stand_ins: usize,
+    /// Each stand-in for an element that the profile lacks.
+    pub named: Vec<StandIn>,
     /// The SYSMODs that have some.
     pub with_stand_ins: Vec<Id>,
     /// How many SYSMODs are left out that have elements, NPRE or DELETE.
@@ -36,6 +53,7 @@ impl Remarks {
         Remarks {
             list: Vec::new(alloc),
             stand_ins: 0,
+            named: Vec::new(alloc),
             with_stand_ins: Vec::new(alloc),
             forbidding: 0,
         }
@@ -52,7 +70,7 @@ impl Remarks {
         reason: RemarkReason,
         text: &[u8],
     ) -> Result<(), AllocError> {
-        if reason == RemarkReason::StandIn {
+        if matches!(reason, RemarkReason::StandIn | RemarkReason::Assembled) {
             self.stand_ins = self.stand_ins.saturating_add(1);
         }
         let mut statement = Vec::with_capacity(alloc, 2)?;
@@ -98,9 +116,47 @@ impl Remarks {
         self.tell(alloc, subject, operand, Deed::Dropped, reason, text)
     }
 
-    /// Puts the others behind these, and counts nothing. The error comes where memory runs out.
+    /// Puts the others behind these, with what is counted. The error comes where memory runs out.
     pub fn append(&mut self, mut others: Remarks) -> Result<(), AllocError> {
+        self.stand_ins = self.stand_ins.saturating_add(others.stand_ins);
+        self.named.append(&mut others.named)?;
+        self.with_stand_ins.append(&mut others.with_stand_ins)?;
         self.list.append(&mut others.list)
+    }
+
+    /// Puts the remarks of a SYSMOD that is left out behind these: of those that say the same of statements of one word
+    /// the first, with how many there are. The error comes where memory runs out.
+    pub fn append_causes(&mut self, alloc: Global, others: Remarks) -> Result<(), AllocError> {
+        let first = self.list.len();
+        let mut counts: Vec<usize> = Vec::new(alloc);
+        for remark in others.list {
+            let place = self.list[first..]
+                .iter()
+                .position(|known| known.says_the_same(&remark));
+            match place {
+                Some(place) => counts[place] = counts[place].saturating_add(1),
+                None => {
+                    self.list.push(remark)?;
+                    counts.push(0)?;
+                }
+            }
+        }
+        for (remark, more) in self.list[first..].iter_mut().zip(counts.iter()) {
+            if *more > 0 {
+                let text = format!(in alloc; "{more} more")?;
+                remark.text = text.into_bytes();
+            }
+        }
+        Ok(())
+    }
+
+    /// Says that what was to be left out is dropped: what it belongs to is carried in another way.
+    pub fn drop_in_place_of_leaving_out(&mut self) {
+        for remark in self.list.iter_mut() {
+            if remark.deed == Deed::LeftOut {
+                remark.deed = Deed::Dropped;
+            }
+        }
     }
 
     /// Tells that a SYSMOD is left out because of this operand, or of the whole statement where `operand` is empty. The

@@ -6,9 +6,11 @@ ghost use Rattle.intake_carry.specs.Holds.{AreHeld};
 ghost use Rattle.intake_carry.specs.Gathered.{placed_items, item_in, AreSysmodsOf, AreFilesOf};
 
 use crate::assigns::{assigns_of, with_assigns};
+use crate::copies::OtherCopies;
 use crate::errors::HoldError;
+use crate::names::name_stand_ins;
 use crate::narrowed::{NarrowError, Narrowed};
-use crate::notes::tell_notes;
+use crate::notes::{tell_notes, tell_swallowed};
 use crate::placed::{PlacedItem, in_order, placed_holds, placed_releases};
 use crate::refusals::tell_refusals;
 use crate::sysmods::{CarriedPart, part_of};
@@ -45,6 +47,7 @@ fn with_part(gathered: CarriedItems, part: CarriedPart) -> Result<CarriedItems, 
 fn sysmods_of(
     alloc: Global,
     options: &Options,
+    copies: &OtherCopies,
     remarks: &mut Remarks,
     file: &WideFile,
 ) -> Result<CarriedItems, HoldError>
@@ -56,7 +59,7 @@ fn sysmods_of(
         outside: Vec::new(alloc),
     };
     for stated in file.sysmods.iter() {
-        let part = part_of(alloc, options, remarks, stated)?;
+        let part = part_of(alloc, options, copies, remarks, stated)?;
         gathered = with_part(gathered, part)?;
     }
     Ok(gathered)
@@ -94,6 +97,7 @@ fn with_outside(gathered: CarriedItems, more: Vec<PlacedItem>) -> Result<Carried
 fn of_file(
     alloc: Global,
     options: &Options,
+    copies: &OtherCopies,
     remarks: &mut Remarks,
     file: &WideFile,
 ) -> Result<CarriedItems, HoldError>
@@ -101,7 +105,8 @@ fn of_file(
         (placed_items all.outside.items)) }
 {
     tell_notes(alloc, remarks, file.notes.as_slice())?;
-    let gathered = sysmods_of(alloc, options, remarks, file)?;
+    tell_swallowed(alloc, remarks, file.swallowed.as_slice())?;
+    let gathered = sysmods_of(alloc, options, copies, remarks, file)?;
     let _ = tell_others(alloc, options, remarks, file.others.as_slice())?;
     let holds = placed_holds(alloc, remarks, file.holds.as_slice())?;
     let gathered = with_outside(gathered, holds)?;
@@ -114,6 +119,7 @@ fn of_file(
 fn of_files(
     alloc: Global,
     options: &Options,
+    copies: &OtherCopies,
     remarks: &mut Remarks,
     files: &[WideFile],
 ) -> Result<CarriedItems, HoldError>
@@ -125,7 +131,7 @@ fn of_files(
         outside: Vec::new(alloc),
     };
     for file in files {
-        let more = of_file(alloc, options, remarks, file)?;
+        let more = of_file(alloc, options, copies, remarks, file)?;
         gathered = joined(gathered, more)?;
     }
     Ok(gathered)
@@ -154,17 +160,18 @@ pub fn narrow(alloc: Global, files: &[WideFile], options: Options) -> Result<Nar
         (IsCarriedOf options.decide (flat_map (λ f. f.sysmods.items) files.now)) narrowed.items.items) }
     ensures held { IfOk result (λ narrowed. AreHeld files.now narrowed.items.items narrowed.hold_items.items) }
 {
-    let mut options = options;
-    options.sort();
+    let planned = options.for_files(alloc, files)?;
+    let copies = OtherCopies::of_files(alloc, files)?;
     let mut remarks = Remarks::new(alloc);
     if are_refused(alloc, &mut remarks, files)? {
         return Err(NarrowError::Refused(remarks.list));
     }
-    let gathered = match of_files(alloc, &options, &mut remarks, files) {
+    let gathered = match of_files(alloc, &planned, &copies, &mut remarks, files) {
         Ok(gathered) => gathered,
         Err(HoldError::Memory) => return Err(NarrowError::Memory),
         Err(HoldError::BadHold) => return Err(NarrowError::Refused(remarks.list)),
     };
+    name_stand_ins(alloc, &mut remarks, files)?;
     let assigns = assigns_of(alloc, &mut remarks, files)?;
     let items = with_assigns(alloc, gathered.items, assigns)?;
     let hold_items = in_order(alloc, gathered.outside)?;

@@ -161,7 +161,13 @@ fn class_of(
     };
     let class = Class::read(text.as_slice());
     if class.is_none() {
-        remarks.tell_dropped(alloc, subject, b"CLASS", RemarkReason::BadValue, text.as_slice())?;
+        remarks.tell_dropped(
+            alloc,
+            subject,
+            b"CLASS",
+            RemarkReason::BadValue,
+            text.as_slice(),
+        )?;
     }
     Ok(class)
 }
@@ -180,7 +186,13 @@ fn date_of(
     };
     let date = HoldDate::read(text.as_slice());
     if date.is_none() {
-        remarks.tell_dropped(alloc, subject, b"DATE", RemarkReason::BadValue, text.as_slice())?;
+        remarks.tell_dropped(
+            alloc,
+            subject,
+            b"DATE",
+            RemarkReason::BadValue,
+            text.as_slice(),
+        )?;
     }
     Ok(date)
 }

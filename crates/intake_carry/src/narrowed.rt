@@ -1,7 +1,7 @@
 //! What comes of narrowing.
 ghost use Rattle.std.specs.Prelude.{◌≡◌};
 
-use intake_cards::{Deed, RemarkReason, Remark, Remarks};
+use intake_cards::{Deed, Remark, RemarkReason, Remarks, StandIn};
 use intake_read::CardPlace;
 use mcs::{HoldItem, Item};
 use std::alloc::{AllocError, AllocFailed};
@@ -30,6 +30,8 @@ pub struct Narrowed {
     pub forbidding: usize,
     /// How many SYSMODs have stand-ins.
     pub stand_ins: usize,
+    /// Which element each stand-in is for, by the names of the stand-ins, each of them once.
+    pub named: Vec<StandIn>,
 }
 
 /// Why nothing comes of narrowing.
@@ -114,6 +116,7 @@ impl Narrowed {
             assigns,
             forbidding: remarks.forbidding,
             stand_ins: remarks.with_stand_ins.len(),
+            named: remarks.named,
             remarks: remarks.list,
         }
     }

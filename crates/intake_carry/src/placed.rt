@@ -35,7 +35,11 @@ pub(crate) fn put_outside(
 }
 
 /// Puts a release behind the others.
-fn put_release(placed: &mut Vec<PlacedItem>, place: CardPlace, release: Release) -> Result<(), AllocError>
+fn put_release(
+    placed: &mut Vec<PlacedItem>,
+    place: CardPlace,
+    release: Release,
+) -> Result<(), AllocError>
     ensures { OnOk result (placed_items placed.new.items ≡ placed_items placed.old.items ++ ARelease release ∷ []) }
 {
     placed.push(PlacedItem {

@@ -9,12 +9,13 @@ use Rattle.terms.specs.Commands.{IsCommandFile}
 use Rattle.intake_command.specs.declared.surroundings.IntakeHost.{Ghosts}
 
 module _ {H : Type 0} (host : Ghosts H) where
-  -- The folder has a PTFIN that is read as these items, a hold file that is read as these, and remarks.
+  -- The folder has a PTFIN that is read as these items, a hold file that is read as these, and remarks; what stand-ins
+  -- are for stands there too, or nothing does.
   abbrev pub KeepsService : H → Text → List terms.Item → List terms.HoldItem → H → Type 0
-  KeepsService h folder items holds after = (ptfin hold remarks : List ℕ) × IsPtfin ptfin items
+  KeepsService h folder items holds after = (ptfin hold remarks : List ℕ) × (stand_ins : Option (List ℕ)) × IsPtfin ptfin items
       × IsHoldFile hold holds
       × host.keeps h folder ((codes "ptfin", Some ptfin) ∷ (codes "hold", Some hold)
-      ∷ (codes "remarks", Some remarks) ∷ []) after
+      ∷ (codes "stand-ins", stand_ins) ∷ (codes "remarks", Some remarks) ∷ []) after
 
   -- The folder has a command file and its remarks.
   abbrev pub KeepsCommands : H → Text → H → Type 0

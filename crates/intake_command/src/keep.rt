@@ -17,7 +17,8 @@ use crate::surroundings::IntakeHost;
 use mcs::{HoldItem, Item, McsError, read_hold, read_ptfin};
 use std::alloc::{AllocError, Global};
 
-/// Puts the items into `ptfin`, the holds and releases into `hold`, and the remarks beside them. `NotReadBack` comes
+/// Puts the items into `ptfin`, the holds and releases into `hold`, and the remarks beside them, with what stand-ins are
+/// for; where there is nothing of these, a file of an earlier run is taken away. `NotReadBack` comes
 /// where a file is not read as what was meant, and `CannotWrite` where the folder does not take them.
 pub fn keep_service<H: IntakeHost>(
     alloc: Global,
@@ -25,6 +26,7 @@ pub fn keep_service<H: IntakeHost>(
     folder: &str,
     meant: &[Item],
     held: &[HoldItem],
+    stand_ins: Option<Vec<u8>>,
     remarks: Vec<u8>,
 ) -> Result<(), IntakeFault>
     ensures ok { OnOk result (KeepsService H.IntakeHost host.old folder.now (items meant.now) (hold_files.items held.now)
@@ -33,7 +35,7 @@ pub fn keep_service<H: IntakeHost>(
 {
     let ptfin = ptfin_of(alloc, meant)?;
     let hold = hold_of(alloc, held)?;
-    let files = service_files(alloc, ptfin, hold, remarks)?;
+    let files = service_files(alloc, ptfin, hold, stand_ins, remarks)?;
     match host.keep(folder, &files) {
         Ok(()) => Ok(()),
         Err(_) => Err(IntakeFault::CannotWrite),
@@ -53,14 +55,20 @@ fn service_files(
     alloc: Global,
     ptfin: Vec<u8>,
     hold: Vec<u8>,
+    stand_ins: Option<Vec<u8>>,
     remarks: Vec<u8>,
 ) -> Result<Vec<Named>, AllocError>
     ensures { IfOk result (λ files. map named files.items ≡ (codes "ptfin", Some ptfin.items)
-        ∷ (codes "hold", Some hold.items) ∷ (codes "remarks", Some remarks.items) ∷ []) }
+        ∷ (codes "hold", Some hold.items) ∷ (codes "stand-ins", option_map (λ bytes. bytes.items) stand_ins)
+        ∷ (codes "remarks", Some remarks.items) ∷ []) }
 {
     let mut files = Vec::new(alloc);
     files.push(file("ptfin", ptfin))?;
     files.push(file("hold", hold))?;
+    files.push(Named {
+        name: "stand-ins",
+        bytes: stand_ins,
+    })?;
     files.push(file("remarks", remarks))?;
     Ok(files)
 }

@@ -18,6 +18,7 @@ mod service;
 mod sources;
 mod statements;
 mod summary;
+mod summary_json;
 mod surroundings;
 
 pub use fault::IntakeFault;

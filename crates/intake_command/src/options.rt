@@ -11,6 +11,8 @@ use std::alloc::{AllocError, AllocFailed, Global};
 /// What `--version` prints behind the name.
 const VERSION: &str = "1.0.0";
 
+static SUMMARIES: [&str; 2] = ["text", "json"];
+
 static CODES: [&str; 3] = ["ascii", "ibm1047", "ibm037"];
 
 /// What the program is asked to do. The texts are the names of files and folders.
@@ -28,6 +30,8 @@ pub struct IntakeOptions {
     /// For each DISTLIB, the SYSLIB that is given.
     pub syslibs: Vec<Syslib>,
     pub decide: bool,
+    /// The summary is for programs.
+    pub json: bool,
     pub form: Option<Layout>,
     pub code: Option<Code>,
 }
@@ -132,6 +136,9 @@ fn command_line<'a>(alloc: Global) -> Result<Command<'a>, AllocError> {
             "decide",
             "Carries stand-ins for elements that smpe lacks",
         ))?
+        .arg(named(alloc, "summary", "FORM", "The form of the summary").value_parser(
+            SUMMARIES.as_slice(),
+        ))?
         .arg(files(alloc)?)
 }
 
@@ -165,6 +172,7 @@ fn values(alloc: Global, found: &ArgMatches<'_>) -> Result<IntakeOptions, WordsF
         relfile: text(alloc, found, "relfile")?,
         syslibs: syslibs(alloc, found)?,
         decide: found.get_flag("decide"),
+        json: found.get_str("summary") == Some("json"),
         form: form(found),
         code: code(found),
     })

@@ -9,10 +9,11 @@ use crate::members::members;
 use crate::options::IntakeOptions;
 use crate::remarks::tell;
 use crate::sources::{InputFiles, cards_of, read};
-use crate::summary::{by_reason, print};
+use crate::summary::{print, service_summary};
+use crate::summary_json::json_summary;
 use crate::surroundings::IntakeHost;
 use intake_cards::{Deed, Remark};
-use intake_carry::{NarrowError, Narrowed, Tally, narrow};
+use intake_carry::{NarrowError, Narrowed, narrow};
 use intake_read::{WideFile, read_wide};
 use intake_sysmod::Options;
 use std::alloc::{AllocError, Global};
@@ -32,11 +33,7 @@ pub(crate) fn serve_files<H: IntakeHost>(
     let mut remarks = Vec::new(alloc);
     let files = wide_files(alloc, host, &mut sources, asked, &mut remarks)?;
     let members = members(alloc, host, &mut sources, asked, &files, &mut remarks)?;
-    let options = Options {
-        decide: asked.decide,
-        syslibs: asked.syslibs.clone()?,
-        members,
-    };
+    let options = Options::new(alloc, asked.decide, asked.syslibs.clone()?, members);
     let narrowed = match narrow(alloc, &files, options) {
         Ok(narrowed) => narrowed,
         Err(NarrowError::Memory) => return Err(IntakeFault::Memory),
@@ -45,15 +42,23 @@ pub(crate) fn serve_files<H: IntakeHost>(
     tell(alloc, &sources, &narrowed.remarks, &mut remarks)?;
     let folder = asked.out.as_str();
     let text = summary(alloc, asked, &narrowed)?;
+    let stand_ins = stand_ins_file(alloc, asked, &narrowed)?;
     keep_service(
         alloc,
         host,
         folder,
         &narrowed.items,
         &narrowed.hold_items,
+        stand_ins,
         remarks,
     )?;
-    print(alloc, host, folder, &text, &["ptfin", "hold", "remarks"])?;
+    print(
+        alloc,
+        host,
+        folder,
+        &text,
+        &["ptfin", "hold", "stand-ins", "remarks"],
+    )?;
     Ok(status(&narrowed))
 }
 
@@ -127,33 +132,30 @@ fn summary(
     asked: &IntakeOptions,
     narrowed: &Narrowed,
 ) -> Result<Vec<u8>, AllocError> {
-    let mut lines = Vec::new(alloc);
-    tally(alloc, "SYSMOD", narrowed.sysmods, &mut lines)?;
-    tally(alloc, "HOLD", narrowed.holds, &mut lines)?;
-    tally(alloc, "RELEASE", narrowed.releases, &mut lines)?;
-    tally(alloc, "ASSIGN", narrowed.assigns, &mut lines)?;
-    by_reason(alloc, &narrowed.remarks, &mut lines)?;
-    let forbidding = narrowed.forbidding;
-    if forbidding > 0 {
-        let line = format!(in alloc;
-            "FORBIDS {forbidding:>7} left out have elements, NPRE or DELETE, which nothing asks for now\n"
-        )?;
-        lines.extend_from_slice(line.as_bytes())?;
+    if asked.json {
+        json_summary(alloc, narrowed)
+    } else {
+        service_summary(alloc, asked.decide, narrowed)
     }
-    let stand_ins = narrowed.stand_ins;
-    if asked.decide {
-        let line = format!(in alloc;
-            "CHECK   {stand_ins:>7} have stand-ins: these files are for CHECK\n"
-        )?;
-        lines.extend_from_slice(line.as_bytes())?;
-    }
-    Ok(lines)
 }
 
-fn tally(alloc: Global, word: &str, tally: Tally, lines: &mut Vec<u8>) -> Result<(), AllocError> {
-    let carried = tally.carried;
-    let left_out = tally.left_out;
-    let line = format!(in alloc; "{word:<7} {carried:>7} carried {left_out:>7} left out\n")?;
-    lines.extend_from_slice(line.as_bytes())?;
-    Ok(())
+// A line for each stand-in: its name, and the type, name and library of the element that it is for.
+fn stand_ins_file(
+    alloc: Global,
+    asked: &IntakeOptions,
+    narrowed: &Narrowed,
+) -> Result<Option<Vec<u8>>, AllocError> {
+    if !asked.decide {
+        return Ok(None);
+    }
+    let mut lines = Vec::new(alloc);
+    for one in &narrowed.named {
+        lines.extend_from_slice(one.stand_in.as_bytes())?;
+        for word in [&one.word, &one.name, &one.library] {
+            lines.push(b' ')?;
+            lines.extend_from_slice(word.as_slice())?;
+        }
+        lines.push(b'\n')?;
+    }
+    Ok(Some(lines))
 }

@@ -13,7 +13,13 @@ pub fn tell_no_decision(
 ) -> Result<(), AllocError> {
     for operand in operands {
         let name = operand.name.as_slice();
-        remarks.tell_dropped(alloc, subject, name, RemarkReason::NoDecision, operand.text())?;
+        remarks.tell_dropped(
+            alloc,
+            subject,
+            name,
+            RemarkReason::NoDecision,
+            operand.text(),
+        )?;
     }
     Ok(())
 }

@@ -1,5 +1,5 @@
 -- What a SYSMOD changes, with one element statement more.
-use Rattle.std.proofs.Common.{◌≡◌, ◌==◌, ◌&&◌, true, Bool, List, [], ◌++◌, ◌∷◌, refl, sym, ap, ◌∙◌, Contains}
+use Rattle.std.proofs.Common.{◌≡◌, ◌==◌, ◌&&◌, true, Bool, List, [], ◌++◌, ◌∷◌, refl, sym, ap, ◌∙◌, Contains, ◌⊎◌, inl, inr}
 use Rattle.std.specs.List.{All, list_any}
 use Rattle.std.specs.Str.{bytes_eq}
 use Rattle.std.proofs.lemmas.Bool.{and_parts, eqb-true}
@@ -17,7 +17,8 @@ use Rattle.terms.specs.Global.{change_cmp}
 use Rattle.terms.specs.Rising.{before, behind, with_item}
 use Rattle.terms.proofs.ElementOrder.{change_cmp_total, element_ties, same_key, type_from_number}
 use Rattle.intake_read.specs.declared.items.WideElement.{WideElement}
-use Rattle.intake_sysmod.specs.Elements.{Changes, IsChanged}
+use Rattle.intake_read.specs.declared.items.WideSysmod.{WideSysmod}
+use Rattle.intake_sysmod.specs.Elements.{Changes, IsChanged, IsPassedOver}
 
 abbrev pub put : List Change → Change → List Change
 put cs c = with_item change_cmp (λ x. x) cs c
@@ -68,11 +69,24 @@ kept_after cs c type name any =
 abbrev pub Keeps : List Change → List Change → Type 0
 Keeps old new = (type : ElemType) (name : Text) → Changes old type name → Changes new type name
 
-pub changed_after : (decide : Bool) (old new : List Change) (es : List WideElement) → Keeps old new
-    → All (IsChanged decide old) es → All (IsChanged decide new) es
-changed_after decide old new es kept all =
-    All-weaker (IsChanged decide old) (IsChanged decide new)
-    (λ e h. (h.0, h.1, kept h.0 e.name.items h.2)) es all
+changed_still : (decide : Bool) (old new : List Change) (e : WideElement) → Keeps old new → IsChanged decide old e
+    → IsChanged decide new e
+changed_still decide old new e kept h = record {
+  type = h.type;
+  name = h.name;
+  target_is = h.target_is;
+  changed = kept h.type h.name h.changed;
+  level_free = h.level_free;
+}
+
+abbrev pub IsDone : Bool → WideSysmod → List Change → WideElement → Type 0
+IsDone decide stated changes e = IsChanged decide changes e ⊎ IsPassedOver decide stated
+
+pub done_still : (decide : Bool) (stated : WideSysmod) (old new : List Change) (es : List WideElement) → Keeps old new
+    → All (IsDone decide stated old) es → All (IsDone decide stated new) es
+done_still decide stated old new es kept all =
+    All-weaker (IsDone decide stated old) (IsDone decide stated new)
+    (λ e h. elim h [ inl c ↦ inl (changed_still decide old new e kept c) | inr p ↦ inr p ]) es all
 
 -- a statement for the element that the SYSMOD has already
 pub there_already : (cs : List Change) (type : ElemType) (name : Text)

@@ -1,4 +1,3 @@
 pub mod Elements
 pub mod NoLooser
-pub mod Putting
 pub mod StandInNames

@@ -6,15 +6,13 @@ use crate::changes::put_changes;
 use crate::ids::id_of;
 use crate::options::Options;
 use crate::others::tell_others;
+use crate::shared::MOST_ELEMENTS;
 use crate::vers::vers_of;
 use fields::spelling::kind_text;
 use intake_cards::{Deed, RemarkReason, Remarks, Subject};
 use intake_read::{WideSysmod, tell_no_decision, tell_odd};
 use std::alloc::{AllocError, Global};
 use sysmods_values::{Sysmod, Ver};
-
-/// The most elements that a SYSMOD may have.
-const MOST_ELEMENTS: usize = 999;
 
 fn subject_of(stated: &WideSysmod) -> Subject<'_> {
     Subject {
@@ -41,7 +39,7 @@ fn tell_rest(
         Deed::LeftOut,
     )?;
     let others = tell_others(alloc, options, remarks, stated.others.as_slice())?;
-    if stated.elements.len() > MOST_ELEMENTS {
+    if !options.decide && stated.elements.len() > MOST_ELEMENTS {
         remarks.leave_out(alloc, &subject, b"", RemarkReason::TooMany, b"")?;
         return Ok(false);
     }
@@ -86,6 +84,10 @@ fn sysmod_of(
     if !all || !good {
         return Ok(None);
     }
+    if sysmod.changes.len() > MOST_ELEMENTS {
+        remarks.leave_out(alloc, &subject, b"", RemarkReason::TooMany, b"")?;
+        return Ok(None);
+    }
     Ok(Some(with_vers(sysmod, vers)))
 }
 
@@ -108,8 +110,8 @@ fn tell_left_out(
     Ok(())
 }
 
-/// The SYSMOD without its holds, or nothing where it is left out. Why, and what differs, is told. The members of the
-/// options stand in order (`Options::sort`). The error comes where memory runs out.
+/// The SYSMOD without its holds, or nothing where it is left out. Why, and what differs, is told. The options are those
+/// for the files (`Options::for_files`). The error comes where memory runs out.
 pub fn carried_sysmod(
     alloc: Global,
     options: &Options,
@@ -119,13 +121,15 @@ pub fn carried_sysmod(
     ensures { IfOk result (λ found. IfSome found (λ sysmod.
         IsNoLooser options.now.decide stated.now sysmod × (sysmod.holds ≡ []))) }
 {
-    let stand_ins = remarks.stand_ins;
-    let Some(sysmod) = sysmod_of(alloc, options, remarks, stated)? else {
+    let mut told = Remarks::new(alloc);
+    let Some(sysmod) = sysmod_of(alloc, options, &mut told, stated)? else {
+        remarks.append_causes(alloc, told)?;
         tell_left_out(alloc, remarks, stated)?;
         return Ok(None);
     };
-    if remarks.stand_ins != stand_ins {
-        remarks.with_stand_ins.push(sysmod.id)?;
+    if told.stand_ins > 0 {
+        told.with_stand_ins.push(sysmod.id)?;
     }
+    remarks.append(told)?;
     Ok(Some(sysmod))
 }

@@ -1,9 +1,16 @@
 //! What a SYSMOD changes.
-ghost use Rattle.std.specs.Prelude.{◌≡◌, ◌⊎◌, ◌∷◌, [], IfOk, IfSome, OnOk, IsTrue, All, false, not, if◌then◌else◌};
-ghost use Rattle.intake_read.specs.Stated.{texts};
-ghost use Rattle.intake_sysmod.specs.Elements.{IsProfileType, IsLacked, IsOwnChange, Changes, HasNoLevel, is_updated};
-ghost use Rattle.intake_sysmod.specs.Elements.{has_own_module, modules, IsPassedOver};
-ghost use Rattle.intake_sysmod.specs.Putting.{HasPut, HasPutElement, HasPutModules, HasPutAll};
+ghost use Rattle.std.specs.Prelude.{◌≡◌, ◌⊎◌, IfOk, IfSome, OnOk, IsTrue, All};
+ghost use Rattle.terms.specs.declared.kinds.ElemType.{ElemType as AnyType};
+ghost use Rattle.terms.specs.Types.{Text};
+ghost use Rattle.intake_sysmod.specs.Elements.{
+  IsProfileType,
+  IsLacked,
+  IsTarget,
+  Changes,
+  IsChanged,
+  HasNoLevel,
+  IsPassedOver,
+};
 
 use crate::elements::profile_change;
 use crate::levels::level_operand;
@@ -98,7 +105,8 @@ fn lacked_change(
     element: &WideElement,
 ) -> Result<Option<ElemChange>, AllocError>
     requires { IsLacked element.now.word.items }
-    ensures { IfOk result (λ found. IfSome found (IsOwnChange options.now.decide kind element.now)) }
+    ensures { IfOk result (λ found. IfSome found (λ c. IsTarget options.now.decide element.now.word.items
+        element.now.name.items c.elem_type c.name)) }
 {
     let subject = subject_of(element);
     if !options.decide {
@@ -120,7 +128,8 @@ fn known_change(
     elem_type: ElemType,
 ) -> Result<Option<ElemChange>, AllocError>
     requires { IsProfileType element.now.word.items elem_type }
-    ensures { IfOk result (λ found. IfSome found (IsOwnChange options.now.decide kind element.now)) }
+    ensures { IfOk result (λ found. IfSome found (λ c. IsTarget options.now.decide element.now.word.items
+        element.now.name.items c.elem_type c.name)) }
 {
     let subject = subject_of(element);
     let Some(name) = Name::read(element.name.as_slice()) else {
@@ -153,7 +162,8 @@ fn change_of(
     kind: Kind,
     element: &WideElement,
 ) -> Result<Option<ElemChange>, AllocError>
-    ensures { IfOk result (λ found. IfSome found (IsOwnChange options.now.decide kind element.now)) }
+    ensures { IfOk result (λ found. IfSome found (λ c. IsTarget options.now.decide element.now.word.items
+        element.now.name.items c.elem_type c.name)) }
 {
     match profile_type(element.word.as_slice()) {
         Some(elem_type) => known_change(alloc, options, remarks, kind, element, elem_type),
@@ -162,29 +172,19 @@ fn change_of(
 }
 
 /// Whether the statement replaces an element.
-fn replaces(change: &ElemChange) -> bool
-    ensures { result ≡ not (is_updated change.now.action) }
-{
+fn replaces(change: &ElemChange) -> bool {
     match &change.action {
         Action::Replaces { .. } => true,
         Action::Updates { .. } => false,
     }
 }
 
-/// Whether another statement of the SYSMOD is for the element.
-fn stands(sysmod: &Sysmod, change: &ElemChange) -> bool
-    ensures there { IsTrue result → Changes sysmod.now.changes change.now.elem_type change.now.name }
-    ensures none { (result ≡ false) → Changes sysmod.now.changes change.now.elem_type change.now.name → ⊥ }
-{
-    sysmod.has_change(change.elem_type, change.name)
-}
-
 /// Puts the statement among those of the SYSMOD, in the place of one for its element.
 fn put_change(sysmod: &mut Sysmod, change: ElemChange) -> Result<(), AllocError>
-    requires { (is_updated change.action ≡ false)
-        ⊎ (Changes sysmod.old.changes change.elem_type change.name → ⊥) }
     ensures rest { OnOk result (sysmod.new ≡ record sysmod.old { changes = sysmod.new.changes }) }
-    ensures put { OnOk result (HasPut sysmod.old.changes change sysmod.new.changes) }
+    ensures kept { OnOk result ((type : AnyType) (name : Text) → Changes sysmod.old.changes type name
+        → Changes sysmod.new.changes type name) }
+    ensures there { OnOk result (Changes sysmod.new.changes change.elem_type change.name) }
 {
     sysmod.insert_change(change)?;
     Ok(())
@@ -192,6 +192,7 @@ fn put_change(sysmod: &mut Sysmod, change: ElemChange) -> Result<(), AllocError>
 
 /// Puts the statement among those of the SYSMOD, and answers whether it could. Where another one is for its element,
 /// this is told: without stand-ins a SYSMOD has no two; with them one stays, a replacement rather than an update.
+#[tactic(auto, using(crate::proofs::Changed::there_already))]
 fn join(
     alloc: Global,
     options: &Options,
@@ -201,9 +202,11 @@ fn join(
     change: ElemChange,
 ) -> Result<bool, AllocError>
     ensures rest { OnOk result (sysmod.new ≡ record sysmod.old { changes = sysmod.new.changes }) }
-    ensures put { IfOk result (λ joined. IsTrue joined → HasPut sysmod.old.changes change sysmod.new.changes) }
+    ensures kept { OnOk result ((type : AnyType) (name : Text) → Changes sysmod.old.changes type name
+        → Changes sysmod.new.changes type name) }
+    ensures there { IfOk result (λ joined. IsTrue joined → Changes sysmod.new.changes change.elem_type change.name) }
 {
-    if !stands(sysmod, &change) {
+    if !sysmod.has_change(change.elem_type, change.name) {
         put_change(sysmod, change)?;
         return Ok(true);
     }
@@ -212,10 +215,9 @@ fn join(
         return Ok(false);
     }
     remarks.tell_carried(alloc, subject, b"", RemarkReason::FallTogether, b"")?;
-    if !replaces(&change) {
-        return Ok(true);
+    if replaces(&change) {
+        put_change(sysmod, change)?;
     }
-    put_change(sysmod, change)?;
     Ok(true)
 }
 
@@ -229,39 +231,15 @@ fn put_module(
     module: &[u8],
 ) -> Result<bool, AllocError>
     ensures rest { OnOk result (sysmod.new ≡ record sysmod.old { changes = sysmod.new.changes }) }
-    ensures put { IfOk result (λ put. IsTrue put → HasPutModules sysmod.old.changes (module.now ∷ [])
-        sysmod.new.changes) }
+    ensures kept { OnOk result ((type : AnyType) (name : Text) → Changes sysmod.old.changes type name
+        → Changes sysmod.new.changes type name) }
 {
     let subject = subject_of(element);
     let Some(change) = module_change(alloc, remarks, &subject, element, module)? else {
         return Ok(false);
     };
-    join(alloc, options, remarks, &subject, sysmod, change)
-}
-
-/// The same for the module of a source, where it has its name.
-fn put_own_module(
-    alloc: Global,
-    options: &Options,
-    remarks: &mut Remarks,
-    element: &WideElement,
-    sysmod: &mut Sysmod,
-) -> Result<bool, AllocError>
-    ensures rest { OnOk result (sysmod.new ≡ record sysmod.old { changes = sysmod.new.changes }) }
-    ensures put { IfOk result (λ put. IsTrue put → HasPutModules sysmod.old.changes
-        (if has_own_module element.now then element.now.name.items ∷ [] else []) sysmod.new.changes) }
-{
-    if !has_own_module(element) {
-        return Ok(true);
-    }
-    put_module(
-        alloc,
-        options,
-        remarks,
-        element,
-        sysmod,
-        element.name.as_slice(),
-    )
+    let joined = join(alloc, options, remarks, &subject, sysmod, change)?;
+    Ok(joined)
 }
 
 /// The same for modules that a macro names.
@@ -271,21 +249,20 @@ fn put_named_modules(
     remarks: &mut Remarks,
     element: &WideElement,
     sysmod: &mut Sysmod,
-    modules: &[Vec<u8>],
 ) -> Result<bool, AllocError>
     ensures rest { OnOk result (sysmod.new ≡ record sysmod.old { changes = sysmod.new.changes }) }
-    ensures put { IfOk result (λ put. IsTrue put → HasPutModules sysmod.old.changes (texts modules.now)
-        sysmod.new.changes) }
+    ensures kept { OnOk result ((type : AnyType) (name : Text) → Changes sysmod.old.changes type name
+        → Changes sysmod.new.changes type name) }
 {
     let mut all = true;
-    for module in modules {
+    for module in modules_of(element) {
         let put = put_module(alloc, options, remarks, element, sysmod, module.as_slice())?;
         all = both(all, put);
     }
     Ok(all)
 }
 
-/// Puts the modules that are assembled of the element into the SYSMOD, where stand-ins are asked for.
+/// Puts replacements of the modules that are assembled of the element into the SYSMOD, and answers whether it could.
 fn put_modules(
     alloc: Global,
     options: &Options,
@@ -294,13 +271,14 @@ fn put_modules(
     sysmod: &mut Sysmod,
 ) -> Result<bool, AllocError>
     ensures rest { OnOk result (sysmod.new ≡ record sysmod.old { changes = sysmod.new.changes }) }
-    ensures put { IfOk result (λ put. IsTrue put → HasPutModules sysmod.old.changes (modules element.now)
-        sysmod.new.changes) }
+    ensures kept { OnOk result ((type : AnyType) (name : Text) → Changes sysmod.old.changes type name
+        → Changes sysmod.new.changes type name) }
 {
-    let own = put_own_module(alloc, options, remarks, element, sysmod)?;
-    let modules = modules_of(element);
-    let named = put_named_modules(alloc, options, remarks, element, sysmod, modules)?;
-    Ok(both(own, named))
+    if has_own_module(element) {
+        let module = element.name.as_slice();
+        return put_module(alloc, options, remarks, element, sysmod, module);
+    }
+    put_named_modules(alloc, options, remarks, element, sysmod)
 }
 
 /// Whether an element of a SYSMOD with more elements than may be carried is passed over: no other SYSMOD of the files
@@ -331,6 +309,57 @@ fn both(one: bool, other: bool) -> bool
     one && other
 }
 
+/// Puts what the statement of a SYSMOD with stand-ins changes into it, and answers whether it could.
+fn put_decided(
+    alloc: Global,
+    options: &Options,
+    remarks: &mut Remarks,
+    kind: Kind,
+    element: &WideElement,
+    sysmod: &mut Sysmod,
+) -> Result<bool, AllocError>
+    ensures rest { OnOk result (sysmod.new ≡ record sysmod.old { changes = sysmod.new.changes }) }
+    ensures kept { OnOk result ((type : AnyType) (name : Text) → Changes sysmod.old.changes type name
+        → Changes sysmod.new.changes type name) }
+    ensures changed { IfOk result (λ put. IsTrue put
+        → IsChanged options.now.decide sysmod.new.changes element.now) }
+{
+    let subject = subject_of(element);
+    if !may_stand_in(alloc, remarks, &subject, element)? {
+        return Ok(false);
+    }
+    let Some(change) = change_of(alloc, options, remarks, kind, element)? else {
+        return Ok(false);
+    };
+    let joined = join(alloc, options, remarks, &subject, sysmod, change)?;
+    let assembled = put_modules(alloc, options, remarks, element, sysmod)?;
+    Ok(both(joined, assembled))
+}
+
+/// Puts what the statement changes into the SYSMOD, and answers whether it could.
+fn put_stated(
+    alloc: Global,
+    options: &Options,
+    remarks: &mut Remarks,
+    kind: Kind,
+    element: &WideElement,
+    sysmod: &mut Sysmod,
+) -> Result<bool, AllocError>
+    requires { options.now.decide ≡ false }
+    ensures rest { OnOk result (sysmod.new ≡ record sysmod.old { changes = sysmod.new.changes }) }
+    ensures kept { OnOk result ((type : AnyType) (name : Text) → Changes sysmod.old.changes type name
+        → Changes sysmod.new.changes type name) }
+    ensures changed { IfOk result (λ put. IsTrue put
+        → IsChanged options.now.decide sysmod.new.changes element.now) }
+{
+    let subject = subject_of(element);
+    let Some(change) = change_of(alloc, options, remarks, kind, element)? else {
+        return Ok(false);
+    };
+    let joined = join(alloc, options, remarks, &subject, sysmod, change)?;
+    Ok(joined)
+}
+
 /// Puts what the element statement changes into the SYSMOD, and answers whether it could. Why it could not is told, and
 /// so is what differs.
 fn put_element(
@@ -342,25 +371,16 @@ fn put_element(
     sysmod: &mut Sysmod,
 ) -> Result<bool, AllocError>
     ensures rest { OnOk result (sysmod.new ≡ record sysmod.old { changes = sysmod.new.changes }) }
-    ensures put { IfOk result (λ put. IsTrue put
-        → HasPutElement options.now.decide kind sysmod.old.changes element.now sysmod.new.changes) }
+    ensures kept { OnOk result ((type : AnyType) (name : Text) → Changes sysmod.old.changes type name
+        → Changes sysmod.new.changes type name) }
+    ensures changed { IfOk result (λ put. IsTrue put
+        → IsChanged options.now.decide sysmod.new.changes element.now) }
 {
-    let subject = subject_of(element);
-    if !options.decide {
-        let Some(change) = change_of(alloc, options, remarks, kind, element)? else {
-            return Ok(false);
-        };
-        return join(alloc, options, remarks, &subject, sysmod, change);
+    if options.decide {
+        put_decided(alloc, options, remarks, kind, element, sysmod)
+    } else {
+        put_stated(alloc, options, remarks, kind, element, sysmod)
     }
-    if !may_stand_in(alloc, remarks, &subject, element)? {
-        return Ok(false);
-    }
-    let Some(change) = change_of(alloc, options, remarks, kind, element)? else {
-        return Ok(false);
-    };
-    let joined = join(alloc, options, remarks, &subject, sysmod, change)?;
-    let assembled = put_modules(alloc, options, remarks, element, sysmod)?;
-    Ok(both(joined, assembled))
 }
 
 /// Puts what all elements change into the SYSMOD, and answers whether it could. Why it could not is told, and so is
@@ -373,8 +393,8 @@ pub(crate) fn put_changes(
     sysmod: &mut Sysmod,
 ) -> Result<bool, AllocError>
     ensures rest { OnOk result (sysmod.new ≡ record sysmod.old { changes = sysmod.new.changes }) }
-    ensures put { IfOk result (λ all. IsTrue all → sysmod.old.changes ≡ []
-        → HasPutAll options.now.decide stated.now stated.now.elements.items sysmod.new.changes) }
+    ensures changed { IfOk result (λ all. IsTrue all → All (λ e. IsChanged options.now.decide sysmod.new.changes e
+        ⊎ IsPassedOver options.now.decide stated.now) stated.now.elements.items) }
 {
     let mut all = true;
     let mut passed = 0usize;

@@ -1,8 +1,7 @@
 //! Statements of the profile that bring or update elements.
-ghost use Rattle.std.specs.Prelude.{◌≡◌, ◌⊎◌, IfOk, IfSome, true, false};
+ghost use Rattle.std.specs.Prelude.{◌≡◌, ◌⊎◌, IfOk, IfSome};
 ghost use Rattle.terms.specs.declared.kinds.ElemType.TheVariants.{Mac, Src};
 ghost use Rattle.terms.specs.Texts.{IsReplacement, IsUpdate};
-ghost use Rattle.intake_sysmod.specs.Elements.{IsProfileType, is_updated, is_update};
 
 use crate::options::Options;
 use crate::texts::{
@@ -60,7 +59,13 @@ fn tell_operands(
     }
     for library in element.libraries.iter() {
         let name = library.name.as_slice();
-        remarks.leave_out(alloc, subject, name, RemarkReason::TextElsewhere, library.text())?;
+        remarks.leave_out(
+            alloc,
+            subject,
+            name,
+            RemarkReason::TextElsewhere,
+            library.text(),
+        )?;
         good = false;
     }
     Ok(good)
@@ -257,8 +262,7 @@ fn replacement(
     elem_type: ElemType,
     name: Name,
 ) -> Result<Option<ElemChange>, AllocError>
-    ensures { IfOk result (λ found. IfSome found (λ c. (c.elem_type ≡ elem_type) × (c.name ≡ name)
-        × (is_updated c.action ≡ false))) }
+    ensures { IfOk result (λ found. IfSome found (λ c. (c.elem_type ≡ elem_type) × (c.name ≡ name))) }
 {
     let Some((distlib, syslib)) = libraries_of(alloc, options, remarks, subject, element)? else {
         return Ok(None);
@@ -284,7 +288,7 @@ fn replacement(
 /// The update of a macro or a source. An element of another type has none.
 pub(crate) fn update_change(elem_type: ElemType, name: Name, update: Update) -> Option<ElemChange>
     requires { IsUpdate name update }
-    ensures { IfSome result (λ c. (c.elem_type ≡ elem_type) × (c.name ≡ name) × (is_updated c.action ≡ true)) }
+    ensures { IfSome result (λ c. (c.elem_type ≡ elem_type) × (c.name ≡ name)) }
 {
     match elem_type {
         ElemType::Mac | ElemType::Src => Some(change_by(elem_type, name, update)),
@@ -295,7 +299,7 @@ pub(crate) fn update_change(elem_type: ElemType, name: Name, update: Update) -> 
 fn change_by(elem_type: ElemType, name: Name, update: Update) -> ElemChange
     requires kind { (elem_type ≡ Mac) ⊎ (elem_type ≡ Src) }
     requires update { IsUpdate name update }
-    ensures { (result.elem_type ≡ elem_type) × (result.name ≡ name) × (is_updated result.action ≡ true) }
+    ensures { (result.elem_type ≡ elem_type) × (result.name ≡ name) }
 {
     ElemChange {
         elem_type,
@@ -313,8 +317,7 @@ fn update(
     elem_type: ElemType,
     name: Name,
 ) -> Result<Option<ElemChange>, AllocError>
-    ensures { IfOk result (λ found. IfSome found (λ c. (c.elem_type ≡ elem_type) × (c.name ≡ name)
-        × (is_updated c.action ≡ true))) }
+    ensures { IfOk result (λ found. IfSome found (λ c. (c.elem_type ≡ elem_type) × (c.name ≡ name))) }
 {
     tell_libraries(alloc, remarks, subject, element)?;
     let Some(lines) = update_lines(alloc, remarks, subject, element.inline.as_slice())? else {
@@ -363,8 +366,7 @@ pub(crate) fn profile_change(
     elem_type: ElemType,
     name: Name,
 ) -> Result<Option<ElemChange>, AllocError>
-    ensures { IfOk result (λ found. IfSome found (λ c. (c.elem_type ≡ elem_type) × (c.name ≡ name)
-        × (is_updated c.action ≡ is_update kind element.now.word.items))) }
+    ensures { IfOk result (λ found. IfSome found (λ c. (c.elem_type ≡ elem_type) × (c.name ≡ name))) }
 {
     let word = element.word.as_slice();
     if !tell_operands(alloc, options, remarks, subject, element)? {

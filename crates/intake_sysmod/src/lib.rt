@@ -23,5 +23,5 @@ mod vers;
 mod words;
 
 pub use carried::carried_sysmod;
-pub use options::{RelfileMember, Options, Syslib};
+pub use options::{Options, RelfileMember, Syslib};
 pub use others::tell_others;

@@ -60,7 +60,10 @@ impl SharedElements {
     }
 
     /// Those of the files, if a SYSMOD has more elements than may be carried.
-    pub(crate) fn of_files(alloc: Global, files: &[WideFile]) -> Result<SharedElements, AllocError> {
+    pub(crate) fn of_files(
+        alloc: Global,
+        files: &[WideFile],
+    ) -> Result<SharedElements, AllocError> {
         let mut shared = SharedElements::none(alloc);
         if !files.iter().any(|file| has_large(file.sysmods.as_slice())) {
             return Ok(shared);
@@ -116,5 +119,7 @@ impl SharedElements {
 }
 
 fn has_large(sysmods: &[WideSysmod]) -> bool {
-    sysmods.iter().any(|sysmod| sysmod.elements.len() > MOST_ELEMENTS)
+    sysmods
+        .iter()
+        .any(|sysmod| sysmod.elements.len() > MOST_ELEMENTS)
 }

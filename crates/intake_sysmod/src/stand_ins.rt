@@ -1,6 +1,6 @@
 //! What stands for elements that can't be carried.
-ghost use Rattle.std.specs.Prelude.{◌≡◌, IfOk, IfSome, Bool, true, false};
-ghost use Rattle.intake_sysmod.specs.Elements.{IsLacked, IsOwnChange, IsModule, is_update, is_updated};
+ghost use Rattle.std.specs.Prelude.{◌≡◌, IfOk, IfSome, true};
+ghost use Rattle.intake_sysmod.specs.Elements.{IsLacked, IsTarget};
 
 use crate::elements::update_change;
 use crate::stand_in_names::{owner_word, stand_in_name};
@@ -80,8 +80,7 @@ fn update(
     name: Name,
     card: &Card,
 ) -> Result<Option<ElemChange>, AllocError>
-    ensures { IfOk result (λ found. IfSome found (λ c. (c.elem_type ≡ elem_type) × (c.name ≡ name)
-        × (is_updated c.action ≡ true))) }
+    ensures { IfOk result (λ found. IfSome found (λ c. (c.elem_type ≡ elem_type) × (c.name ≡ name))) }
 {
     let mut lines = Vec::with_capacity(alloc, 2)?;
     lines.push(change_record(alloc, name.as_bytes())?)?;
@@ -101,8 +100,7 @@ fn replacement(
     libraries: Libraries,
     card: &Card,
 ) -> Result<Option<ElemChange>, AllocError>
-    ensures { IfOk result (λ found. IfSome found (λ c. (c.elem_type ≡ elem_type) × (c.name ≡ name)
-        × (is_updated c.action ≡ false))) }
+    ensures { IfOk result (λ found. IfSome found (λ c. (c.elem_type ≡ elem_type) × (c.name ≡ name))) }
 {
     let cards = [*card];
     let Some(lines) = text_of(alloc, elem_type, cards.as_slice())? else {
@@ -129,8 +127,7 @@ pub(crate) fn short_change(
     elem_type: ElemType,
     name: Name,
 ) -> Result<Option<ElemChange>, AllocError>
-    ensures { IfOk result (λ found. IfSome found (λ c. (c.elem_type ≡ elem_type) × (c.name ≡ name)
-        × (is_updated c.action ≡ is_update kind element.now.word.items))) }
+    ensures { IfOk result (λ found. IfSome found (λ c. (c.elem_type ≡ elem_type) × (c.name ≡ name))) }
 {
     let word = element.word.as_slice();
     let card = card_of(element.place, word, element.name.as_slice());
@@ -149,7 +146,8 @@ pub(crate) fn stand_in_change(
     element: &WideElement,
 ) -> Result<Option<ElemChange>, AllocError>
     requires { IsLacked element.now.word.items }
-    ensures { IfOk result (λ found. IfSome found (IsOwnChange true kind element.now)) }
+    ensures { IfOk result (λ found. IfSome found (λ c. IsTarget true element.now.word.items element.now.name.items
+        c.elem_type c.name)) }
 {
     let word = element.word.as_slice();
     let elem_type = stand_in(word);
@@ -177,13 +175,7 @@ pub(crate) fn tell_stand_in(
     let mut text = Vec::from_slice(alloc, type_text(elem_type))?;
     text.push(b' ')?;
     text.extend_from_slice(name.as_bytes())?;
-    remarks.tell_carried(
-        alloc,
-        subject,
-        b"",
-        RemarkReason::StandIn,
-        text.as_slice(),
-    )
+    remarks.tell_carried(alloc, subject, b"", RemarkReason::StandIn, text.as_slice())
 }
 
 /// Keeps which element a stand-in is for, under the word of the statement that brings the element.
@@ -221,9 +213,7 @@ pub(crate) fn module_change(
     subject: &Subject<'_>,
     element: &WideElement,
     module: &[u8],
-) -> Result<Option<ElemChange>, AllocError>
-    ensures { IfOk result (λ found. IfSome found (IsModule module.now)) }
-{
+) -> Result<Option<ElemChange>, AllocError> {
     let Some(name) = stand_in_name(b"MOD", module) else {
         remarks.leave_out(alloc, subject, b"", RemarkReason::BadName, module)?;
         return Ok(None);

@@ -157,7 +157,13 @@ fn delete_record(
     )?;
     if !is_alike(card, &line) {
         let text = card.text.as_slice().trim_ascii_end();
-        remarks.tell_carried(alloc, subject, b"./ DELETE", RemarkReason::EightDigits, text)?;
+        remarks.tell_carried(
+            alloc,
+            subject,
+            b"./ DELETE",
+            RemarkReason::EightDigits,
+            text,
+        )?;
     }
     Ok(line)
 }

@@ -63,7 +63,13 @@ fn for_srels(
     let mut vers = Vec::with_capacity(alloc, stated.srels.len())?;
     for srel in stated.srels.iter() {
         let Some(srel) = Srel::read(srel.as_slice()) else {
-            remarks.leave_out(alloc, subject, b"SREL", RemarkReason::BadValue, srel.as_slice())?;
+            remarks.leave_out(
+                alloc,
+                subject,
+                b"SREL",
+                RemarkReason::BadValue,
+                srel.as_slice(),
+            )?;
             return Ok(None);
         };
         vers.push(ver_of(alloc, srel, operands)?)?;
@@ -162,7 +168,13 @@ pub(crate) fn vers_of(
         return Ok(None);
     }
     if let Some(ver) = second(sysmod.kind, vers.as_slice()) {
-        remarks.leave_out(alloc, subject, b"VER", RemarkReason::Twice, ver.srel.as_bytes())?;
+        remarks.leave_out(
+            alloc,
+            subject,
+            b"VER",
+            RemarkReason::Twice,
+            ver.srel.as_bytes(),
+        )?;
         return Ok(None);
     }
     Ok(Some(by_srel(vers)?))

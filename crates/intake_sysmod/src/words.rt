@@ -1,6 +1,6 @@
 //! The words of statements that bring or update elements.
 ghost use Rattle.std.specs.Prelude.{◌≡◌, IfSome, IfNone};
-ghost use Rattle.intake_sysmod.specs.Elements.{IsProfileType, IsLacked, is_update, is_update_word, stand_in};
+ghost use Rattle.intake_sysmod.specs.Elements.{IsProfileType, IsLacked, stand_in};
 
 use fields::spelling::read_type;
 use terms::{ElemType, Kind};
@@ -20,9 +20,7 @@ pub(crate) fn profile_type(word: &[u8]) -> Option<ElemType>
 }
 
 /// Whether a statement of the word updates its element.
-pub(crate) fn is_update_word(word: &[u8]) -> bool
-    ensures { result ≡ is_update_word word.now }
-{
+pub(crate) fn is_update_word(word: &[u8]) -> bool {
     word == b"MACUPD".as_slice()
         || word == b"SRCUPD".as_slice()
         || word == b"ZAP".as_slice()
@@ -30,9 +28,7 @@ pub(crate) fn is_update_word(word: &[u8]) -> bool
 }
 
 /// Whether a statement of a SYSMOD of the kind updates its element. What a function brings is whole.
-pub(crate) fn is_update(kind: Kind, word: &[u8]) -> bool
-    ensures { result ≡ is_update kind word.now }
-{
+pub(crate) fn is_update(kind: Kind, word: &[u8]) -> bool {
     kind != Kind::Function && is_update_word(word)
 }
 

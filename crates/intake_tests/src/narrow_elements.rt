@@ -2,7 +2,7 @@
 
 use crate::narrow_lines::{check, check_with};
 use fields::Name;
-use intake_cards::read_cards;
+use intake_cards::{CardPlace, read_cards};
 use intake_sysmod::{RelfileMember, Options, Syslib};
 use std::alloc::Global;
 use std::test::Fail;
@@ -125,11 +125,10 @@ const ELSEWHERE_CARRIED: &str =
     ! f line 5: ++PTF(UA00002): left out: a statement of it can't be carried\n";
 
 /// The cards of a text.
-fn member(alloc: Global, relfile: &[u8], name: &[u8], text: &[u8]) -> Result<RelfileMember, Fail> {
+fn member(alloc: Global, card: usize, text: &[u8]) -> Result<RelfileMember, Fail> {
     let read = read_cards(alloc, 0, text, None, None)?;
     Ok(RelfileMember {
-        relfile: Vec::from_slice(alloc, relfile)?,
-        name: Vec::from_slice(alloc, name)?,
+        element: CardPlace { file: 0, card },
         cards: read.cards,
     })
 }
@@ -137,17 +136,13 @@ fn member(alloc: Global, relfile: &[u8], name: &[u8], text: &[u8]) -> Result<Rel
 /// Options with a SYSLIB and two members.
 fn options_elsewhere(alloc: Global) -> Result<Options, Fail> {
     let mut members = Vec::new(alloc);
-    members.push(member(alloc, b"12", b"DATAA", b"A LINE\nANOTHER LINE\n")?)?;
-    members.push(member(alloc, b"1", b"MACA", b"         MACRO\n")?)?;
+    members.push(member(alloc, 4, b"A LINE\nANOTHER LINE\n")?)?;
+    members.push(member(alloc, 3, b"         MACRO\n")?)?;
     let mut syslibs = Vec::new(alloc);
     if let (Some(distlib), Some(syslib)) = (Name::read(b"AMACLIB"), Name::read(b"MACLIB")) {
         syslibs.push(Syslib { distlib, syslib })?;
     }
-    Ok(Options {
-        decide: false,
-        syslibs,
-        members,
-    })
+    Ok(Options::new(alloc, false, syslibs, members))
 }
 
 #[test]

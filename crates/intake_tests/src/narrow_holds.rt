@@ -71,8 +71,6 @@ const COMMENTS_CARRIED: &str = "==\n++HOLD(UA00001) SYSTEM FMID(HAA1100) REASON(
     - f line 1: ++HOLD(UA00001) COMMENT: carried otherwise: cut at 200 characters: THE FIRST OF SEVERAL CARDS \
     (WITH (MORE) IN IT) IS LONG, AND THE NEXT ONE CONTINUES; EACH WORD STANDS ON ONE CARD, WHICH ASKS FOR BLANKS \
     AT THE END OF A CARD, AND THE END OF IT ALL IS CUT OFF BECAUSE MORE THAN TWO HUNDRED CHARACTERS STAND THERE\n\
-    - f line 1: ++HOLD(UA00001) COMMENT: carried otherwise: inner parentheses became brackets\n\
-    - f line 1: ++HOLD(UA00001) COMMENT: carried otherwise: its blanks are as cards have them\n\
     - f line 6: ++HOLD(UA00002) COMMENT: dropped: a bad value\n";
 
 #[test]

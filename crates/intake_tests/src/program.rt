@@ -184,7 +184,7 @@ fn writes_nothing_that_is_not_read_back(rt: HostRuntime) -> Result<(), Fail> {
     ] {
         let mut memory = Memory::new(alloc);
         let holds = held(alloc, comment)?;
-        let kept = keep_service(alloc, &mut memory, "d", &[], &holds, Vec::new(alloc));
+        let kept = keep_service(alloc, &mut memory, "d", &[], &holds, None, Vec::new(alloc));
         assert_eq!(rt; kept.is_ok(), is_kept, "at {comment}");
         assert_eq!(rt;
             matches!(kept, Err(IntakeFault::NotReadBack(_))),

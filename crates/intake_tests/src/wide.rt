@@ -170,7 +170,7 @@ const NOTED: &str = "\
 ++ptf(ua00001) desc(First Fix).|++ver(z038)| fmid(haa1100).|++hold(A) comment(Text).|++MOD(a) RELFILE(1). => \
 ; PTF UA00001 -DESC(First Fix); VER SREL Z038 FMID(HAA1100); HOLD A COMMENT(Text); MOD A RELFILE(1) +0; lower 1 x 4
 ++PTF(A) DESC(First). => ; PTF A -DESC(First)
-++PTF(A).|/*|++PTF(B).|++PTF(C).|*/|++PTF(D). => ; PTF A; PTF D; commented 3 x 2
+++PTF(A).|/*|++PTF(B).|++PTF(C).|*/|++PTF(D). => ; PTF A; PTF D; in the comment of 2: PTF B; in the comment of 2: PTF C
 ";
 
 #[test]

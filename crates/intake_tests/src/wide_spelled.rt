@@ -237,10 +237,17 @@ impl Spelled {
     }
 
     fn notes(&mut self, file: &WideFile) -> Result<(), AllocError> {
+        for one in file.swallowed.as_slice() {
+            self.put(b"; in the comment of ")?;
+            self.number(one.comment.card)?;
+            self.put(b": ")?;
+            self.put(one.word.as_slice())?;
+            self.put(b" ")?;
+            self.put(one.name.as_slice())?;
+        }
         for note in file.notes.as_slice() {
             self.put(match note.reason {
                 NoteReason::LowerCase => b"; lower ",
-                NoteReason::StatementInComment => b"; commented ",
                 NoteReason::TextIn73 => b"; behind 72 ",
             })?;
             self.number(note.place.card)?;
