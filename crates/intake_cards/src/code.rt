@@ -37,6 +37,14 @@ impl Code {
         }
     }
 
+    /// Whether the byte pads a file after its last line: NUL, and in ASCII the end of file of older systems.
+    pub(crate) fn pads(self, byte: u8) -> bool {
+        match self {
+            Code::Ascii => byte == 0 || byte == 0x1A,
+            Code::Ibm1047 | Code::Ibm037 => byte == 0,
+        }
+    }
+
     /// Its blank.
     pub(crate) fn blank(self) -> u8 {
         match self {

@@ -1,5 +1,6 @@
 //! What a file's bytes tell of its code and of how it is laid out.
 use crate::code::{Code, Layout};
+use crate::errors::CardError;
 
 /// The code of three bytes, if they begin a statement: two plus signs and a letter.
 fn statement_code(bytes: &[u8]) -> Option<Code> {
@@ -51,13 +52,56 @@ pub(crate) fn guessed_code(bytes: &[u8]) -> Code {
     }
 }
 
-/// Records, where 80 divides the length and no line of up to 80 bytes ends at the beginning; else text.
+/// Records, if 80 divides the length, with or without what pads the file, and no line of up to 80 bytes ends at the
+/// beginning; else text.
 pub(crate) fn guessed_layout(bytes: &[u8], code: Code) -> Layout {
-    let is_divided = bytes.len() % 80 == 0;
+    let is_divided = bytes.len() % 80 == 0 || without_padding(bytes, code).len() % 80 == 0;
     let has_line = bytes.iter().take(82).any(|byte| code.ends_line(*byte));
     if is_divided && !has_line {
         Layout::Records
     } else {
         Layout::Text
     }
+}
+
+/// The bytes up to the last one that does not pad the file.
+pub(crate) fn without_padding(bytes: &[u8], code: Code) -> &[u8] {
+    let mut solid = 0;
+    for (place, byte) in bytes.iter().enumerate() {
+        if !code.pads(*byte) {
+            solid = place + 1;
+        }
+    }
+    match bytes.split_at_checked(solid) {
+        Some((front, _)) => front,
+        None => bytes,
+    }
+}
+
+/// Why the bytes are no lines and no records of one byte a column, if their beginning shows it.
+pub(crate) fn shown_fault(bytes: &[u8]) -> Option<CardError> {
+    match bytes {
+        [0x1F, 0x8B, ..] => Some(CardError::Compressed),
+        [0xFF, 0xFE, ..] | [0xFE, 0xFF, ..] => Some(CardError::Utf16),
+        [b'+', 0, b'+', 0, ..] | [0, b'+', 0, b'+', ..] => Some(CardError::Utf16),
+        [high, low, 0, 0, ..] if has_record_length(bytes, *high, *low) => Some(
+            CardError::RecordLengths,
+        ),
+        _ => None,
+    }
+}
+
+/// Whether the first record has this length, its own four bytes among it, and the next record has one too.
+fn has_record_length(bytes: &[u8], high: u8, low: u8) -> bool {
+    let length = usize::from(u16::from_be_bytes([high, low]));
+    match bytes.split_at_checked(length) {
+        Some((_, [])) => length > 4,
+        Some((_, [_, _, 0, 0, ..])) => length > 4,
+        _ => false,
+    }
+}
+
+/// Whether lines end with carriage returns, and none with a line feed.
+pub(crate) fn has_bare_returns(bytes: &[u8]) -> bool {
+    bytes.contains(&b'\r') && !bytes.contains(&b'\n')
 }

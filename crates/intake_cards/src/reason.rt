@@ -46,7 +46,15 @@ pub enum RemarkReason {
     GroupOfSelect,
     /// A hold in a SYSMOD that is on another one, or of another kind, stands in the file of holds.
     HeldOutside,
+    /// APARs and USERMODs of `--known` stand in EXCLUDE.
+    KnownExcluded,
+    /// The source ids of `--known` that begin so stand in the list.
+    KnownSources,
     // Dropped.
+    /// Blank cards end a text that has numbers.
+    BlankEnd,
+    /// A source id of more than the profile's characters, which no command of the profile can name.
+    LongSource,
     /// It changes no decision.
     NoDecision,
     /// A value that has not the form it must have.
@@ -122,6 +130,16 @@ pub enum RemarkReason {
     OpenComment,
     /// More than blanks and comments stands behind the period.
     TextBehind,
+    /// A card of a text has no number, or one that is not higher than the one before.
+    Misnumbered,
+    /// A line has more than 80 columns.
+    LongLine,
+    /// SELECT or GROUP must stand there.
+    NoList,
+    /// The word stands for SYSMODs or source ids that are not known.
+    NeedsKnown,
+    /// No source id of `--known` begins so.
+    NoSource,
     /// The profile has no such operand.
     NoOperand,
     /// The profile has no such command.
@@ -172,29 +190,40 @@ impl RemarkReason {
             RemarkReason::Fixcat => "a FIXCAT hold holds nothing unless it is asked for",
             RemarkReason::BadId => "a bad id",
             RemarkReason::BadName => "a bad name",
-            RemarkReason::UnknownOperand => "an unknown operand",
+            RemarkReason::UnknownOperand => "smpe does not know this operand, and may not drop it",
             RemarkReason::UnknownStatement => "an unknown statement",
             RemarkReason::OutsideProfile => "no statement of the profile",
-            RemarkReason::Missing => "missing",
+            RemarkReason::Missing => "it is missing",
             RemarkReason::Twice => "stands there twice",
             RemarkReason::LongList => "more than 1,000 ids",
             RemarkReason::TooMany => "more statements than a SYSMOD may have",
             RemarkReason::NoSyslib => "no SYSLIB, and none given by --syslib",
-            RemarkReason::TextElsewhere => "the text is elsewhere",
+            RemarkReason::TextElsewhere => "its text is in another file or library: give --relfile, or put the text after the statement",
             RemarkReason::NoAscii => "characters that are no ASCII",
             RemarkReason::BadText => "a bad text",
-            RemarkReason::Contradiction => "can't stand there together",
+            RemarkReason::Contradiction => "these operands cannot stand together",
             RemarkReason::OutOfPlace => "may not stand there",
             RemarkReason::WholeSysmod => "a statement of it can't be carried",
             RemarkReason::NamesItself => "names the SYSMOD itself",
             RemarkReason::NotInService => "only a function may have it",
             RemarkReason::UpdateInFunction => "a function brings no update",
             RemarkReason::NoPeriod => "its period is missing",
-            RemarkReason::OpenParenthesis => "a parenthesis is open",
+            RemarkReason::OpenParenthesis => "a parenthesis is not closed in columns 1 to 72",
             RemarkReason::StrayParenthesis => "a parenthesis without its partner",
             RemarkReason::StrayCharacter => "a character that stands in no word",
-            RemarkReason::OpenComment => "a comment is open",
+            RemarkReason::OpenComment => "a comment is not closed: put */ at its end",
             RemarkReason::TextBehind => "more stands behind its period",
+            RemarkReason::KnownExcluded => "EXCLUDE names the APARs or USERMODs of --known",
+            RemarkReason::KnownSources => "the list names the source ids of --known that begin so",
+            RemarkReason::BlankEnd => "blank cards end a text that has numbers",
+            RemarkReason::Misnumbered => {
+                "columns 73 to 80 of a card must have eight digits, higher than those before"
+            }
+            RemarkReason::LongSource => "it changes no decision here, since no command can name this source id",
+            RemarkReason::LongLine => "the line has more than 80 columns; put the rest on a line of its own",
+            RemarkReason::NoList => "SELECT or GROUP is missing",
+            RemarkReason::NeedsKnown => "only --known FILE tells which these are: give it, or write their ids",
+            RemarkReason::NoSource => "no source id of --known begins so",
             RemarkReason::NoOperand => "the profile has no such operand",
             RemarkReason::NoCommand => "the profile has no such command",
             RemarkReason::NotRead => "what was written is not read",

@@ -69,6 +69,7 @@ impl Remark {
     pub fn line(&self, alloc: Global, file: &str, unit: &str) -> Result<Vec<u8>, AllocError> {
         let card = self.place.card;
         let mut line = format!(in alloc; "{file} {unit} {card}: ")?.into_bytes();
+        let about = line.len();
         line.extend_from_slice(&self.statement)?;
         if !self.id.is_empty() {
             line.extend_from_slice(b"(")?;
@@ -79,7 +80,9 @@ impl Remark {
             line.extend_from_slice(b" ")?;
             line.extend_from_slice(&self.operand)?;
         }
-        line.extend_from_slice(b": ")?;
+        if line.len() > about {
+            line.extend_from_slice(b": ")?;
+        }
         line.extend_from_slice(self.deed.words().as_bytes())?;
         line.extend_from_slice(b": ")?;
         line.extend_from_slice(self.reason.words().as_bytes())?;

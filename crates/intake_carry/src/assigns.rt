@@ -79,9 +79,16 @@ fn put_assign(
             Deed::LeftOut,
         );
     }
-    let Some(source) = Source::read(source) else {
+    let upper = source.to_ascii_uppercase(alloc)?;
+    let Some(known) = Source::read(upper.as_slice()) else {
+        if source.contains(&b'.') {
+            return remarks.tell_dropped(alloc, &subject, b"", RemarkReason::LongSource, b"");
+        }
         return remarks.leave_out(alloc, &subject, b"SOURCEID", RemarkReason::BadValue, source);
     };
+    if upper.as_slice() != source {
+        remarks.tell_carried(alloc, &subject, b"SOURCEID", RemarkReason::LowerCase, b"")?;
+    }
     if stated.to.is_empty() {
         return remarks.leave_out(alloc, &subject, b"TO", RemarkReason::Missing, b"");
     }
@@ -89,7 +96,7 @@ fn put_assign(
     if ids.len() > MOST_IDS {
         remarks.tell_carried(alloc, &subject, b"TO", RemarkReason::Split, b"")?;
     }
-    put_each(alloc, assigns, source, ids.as_slice())
+    put_each(alloc, assigns, known, ids.as_slice())
 }
 
 /// The assignments of the files, and that of the SYSMODs with stand-ins.

@@ -20,6 +20,10 @@ pub(crate) fn tell_notes(
             NoteReason::LowerCase => RemarkReason::LowerCase,
             NoteReason::TextIn73 => RemarkReason::TextInNumbers,
         };
+        if note.reason == NoteReason::TextIn73 {
+            remarks.tell_dropped(alloc, &subject, b"", reason, note.tail.trim_ascii())?;
+            continue;
+        }
         let count = note.count;
         let often = format!(in alloc; "{count} in all")?;
         remarks.tell_carried(alloc, &subject, b"", reason, often.as_bytes())?;

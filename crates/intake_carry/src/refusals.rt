@@ -84,10 +84,23 @@ fn tell_holds(
     Ok(any)
 }
 
-/// Whether it is a hold or a release that has something wrong with it.
+/// Whether it is a hold or a release that has something wrong with it, and not of the kind FIXCAT alone.
 fn is_broken_hold(other: &WideOther) -> bool {
     let word = other.word.as_slice();
-    word == b"HOLD".as_slice() || word == b"RELEASE".as_slice()
+    (word == b"HOLD".as_slice() || word == b"RELEASE".as_slice()) && !is_fixcat(other)
+}
+
+/// Whether FIXCAT is its only kind.
+fn is_fixcat(other: &WideOther) -> bool {
+    let mut has_fixcat = false;
+    for operand in other.operands.iter() {
+        match operand.name.as_slice() {
+            b"FIXCAT" => has_fixcat = true,
+            b"ERROR" | b"ERR" | b"SYSTEM" | b"SYS" | b"USER" => return false,
+            _ => {}
+        }
+    }
+    has_fixcat
 }
 
 fn tell_broken_hold(

@@ -1,5 +1,7 @@
 //! What becomes of a command: each of its words is spelled out, dropped or named.
 
+use crate::group_extend::with_excluded;
+use crate::known::KnownSysmod;
 use crate::command_remarks::{CommandRemarks, RemarkWords};
 use crate::scan::{CommandEnd, WideCommand, words_in};
 use crate::spelled::{CommandWords, OperandForm, Spelled, command_of, is_dropped, spelling_of};
@@ -9,7 +11,7 @@ use intake_read::{CardPlace, WideOperand};
 use std::alloc::{AllocError, Global};
 
 /// How many members a list may have.
-const MOST: usize = 1000;
+pub(crate) const MOST: usize = 1000;
 
 /// A command as it is written.
 #[derive(Drop)]
@@ -17,6 +19,13 @@ pub(crate) struct Carried {
     pub(crate) place: CardPlace,
     pub(crate) word: &'static [u8],
     pub(crate) operands: Vec<CarriedOperand>,
+}
+
+impl Carried {
+    /// Whether it has SELECT or GROUP.
+    pub(crate) fn has_list(&self) -> bool {
+        has_word(&self.operands, b"SELECT") || has_word(&self.operands, b"GROUP")
+    }
 }
 
 /// An operand as it is written, or a member of BYPASS.
@@ -45,6 +54,7 @@ pub(crate) struct CarriedMember {
 pub(crate) fn carry_command(
     alloc: Global,
     told: &mut CommandRemarks,
+    known: Option<&[KnownSysmod]>,
     wide: &WideCommand,
 ) -> Result<Option<Carried>, AllocError> {
     let head = wide.head.name.as_slice();
@@ -65,7 +75,7 @@ pub(crate) fn carry_command(
     if wide.is_behind {
         tell_command(alloc, told, wide, Deed::Carried, RemarkReason::OwnCard)?;
     }
-    let operands = carried_operands(alloc, told, &command, &wide.operands)?;
+    let operands = carried_operands(alloc, told, &command, known, &wide.operands)?;
     Ok(Some(Carried {
         place: wide.place,
         word: command.word,
@@ -86,7 +96,15 @@ fn is_whole(
         CommandEnd::Period => return Ok(true),
         CommandEnd::NoPeriod => RemarkReason::NoPeriod,
         CommandEnd::OpenParenthesis => RemarkReason::OpenParenthesis,
-        CommandEnd::OpenComment => RemarkReason::OpenComment,
+        CommandEnd::OpenComment(opens) => {
+            let words = RemarkWords {
+                command: wide.head.name.as_slice(),
+                operand: b"",
+                text: b"",
+            };
+            told.tell(alloc, opens, words, Deed::Refused, RemarkReason::OpenComment)?;
+            return Ok(false);
+        }
     };
     tell_command(alloc, told, wide, Deed::Refused, reason)?;
     Ok(false)
@@ -111,11 +129,16 @@ fn carried_operands(
     alloc: Global,
     told: &mut CommandRemarks,
     command: &CommandWords,
+    known: Option<&[KnownSysmod]>,
     operands: &[WideOperand],
 ) -> Result<Vec<CarriedOperand>, AllocError> {
     let mut carried: Vec<CarriedOperand> = Vec::new(alloc);
     for operand in operands {
-        let asked = AskedOperand { command, operand };
+        let asked = AskedOperand {
+            command,
+            operand,
+            known,
+        };
         let Some(one) = carried_operand(alloc, told, &asked)? else {
             continue;
         };
@@ -125,22 +148,51 @@ fn carried_operands(
             carried.push(one)?;
         }
     }
-    with_group(alloc, told, command, operands, carried)
+    let carried = with_group(alloc, told, command, operands, carried)?;
+    for operand in operands {
+        let asked = AskedOperand {
+            command,
+            operand,
+            known,
+        };
+        if asked.form() == Some(OperandForm::GroupExtend) && operand.value.is_some() {
+            return with_excluded(alloc, told, &asked, carried);
+        }
+    }
+    Ok(carried)
 }
 
-fn has_word(operands: &[CarriedOperand], word: &[u8]) -> bool {
+/// Whether an operand has this word.
+pub(crate) fn has_word(operands: &[CarriedOperand], word: &[u8]) -> bool {
     operands.iter().any(|operand| operand.word == word)
 }
 
-/// An operand of a command.
+/// An operand of a command, and the SYSMODs that are known.
 #[derive(Clone, Copy)]
-struct AskedOperand<'a> {
+pub(crate) struct AskedOperand<'a> {
     command: &'a CommandWords,
-    operand: &'a WideOperand,
+    pub(crate) operand: &'a WideOperand,
+    pub(crate) known: Option<&'a [KnownSysmod]>,
 }
 
 impl AskedOperand<'_> {
-    fn tell(
+    // How its word is spelled, if the command has it. C with a list is COMPRESS.
+    fn spelling(&self) -> Option<Spelled> {
+        let word = self.operand.name.as_slice();
+        if word == b"C".as_slice() && self.operand.value.is_some() {
+            return spelling_of(self.command.operands, b"COMPRESS");
+        }
+        spelling_of(self.command.operands, word)
+    }
+
+    fn form(&self) -> Option<OperandForm> {
+        match self.spelling() {
+            Some(spelled) => Some(spelled.form),
+            None => None,
+        }
+    }
+
+    pub(crate) fn tell(
         &self,
         alloc: Global,
         told: &mut CommandRemarks,
@@ -156,7 +208,7 @@ impl AskedOperand<'_> {
         told.tell(alloc, self.operand.place, words, deed, reason)
     }
 
-    fn refuse(
+    pub(crate) fn refuse(
         &self,
         alloc: Global,
         told: &mut CommandRemarks,
@@ -188,7 +240,7 @@ fn carried_operand(
     asked: &AskedOperand<'_>,
 ) -> Result<Option<CarriedOperand>, AllocError> {
     let operand = asked.operand;
-    let Some(known) = spelling_of(asked.command.operands, operand.name.as_slice()) else {
+    let Some(known) = asked.spelling() else {
         asked.refuse(alloc, told, operand.text(), RemarkReason::NoOperand)?;
         return Ok(None);
     };
@@ -221,7 +273,7 @@ fn carried_value(
 ) -> Result<Option<Value>, AllocError> {
     let Some(list) = &asked.operand.value else {
         return match known.form {
-            OperandForm::Flag | OperandForm::Group => Ok(Some(Value::Nothing)),
+            OperandForm::Flag | OperandForm::Group | OperandForm::GroupExtend => Ok(Some(Value::Nothing)),
             _ => {
                 asked.refuse(alloc, told, b"", RemarkReason::Missing)?;
                 Ok(None)
@@ -233,6 +285,7 @@ fn carried_value(
             asked.refuse(alloc, told, list.as_slice(), RemarkReason::NoOperand)?;
             Ok(None)
         }
+        OperandForm::GroupExtend => Ok(Some(Value::Nothing)),
         OperandForm::Bypass | OperandForm::ReceiveBypass => bypass(
             alloc,
             told,
@@ -261,7 +314,9 @@ fn listed(
             continue;
         }
         is_empty = false;
-        if !has_form(form, member) {
+        if form == OperandForm::Sources && member.ends_with(b"*") {
+            put_sources(alloc, told, asked, member, &mut members)?;
+        } else if !has_form(form, member) {
             asked.refuse(alloc, told, member, RemarkReason::BadValue)?;
         } else if members.iter().any(|other| other.as_slice() == member) {
             asked.tell(alloc, told, member, Deed::Dropped, RemarkReason::Twice)?;
@@ -281,6 +336,47 @@ fn listed(
     Ok(members)
 }
 
+// Puts the known source ids that begin as the member does, up to its asterisk, into the list.
+fn put_sources(
+    alloc: Global,
+    told: &mut CommandRemarks,
+    asked: &AskedOperand<'_>,
+    member: &[u8],
+    members: &mut Vec<Vec<u8>>,
+) -> Result<(), AllocError> {
+    let Some(known) = asked.known else {
+        return asked.refuse(alloc, told, member, RemarkReason::NeedsKnown);
+    };
+    let front = member.strip_suffix(b"*").unwrap_or(member);
+    let mut is_found = false;
+    for sysmod in known {
+        for source in &sysmod.sources {
+            let source = source.as_bytes();
+            if source.starts_with(front) {
+                is_found = true;
+                put_once(alloc, members, source)?;
+            }
+        }
+    }
+    if is_found {
+        asked.tell(alloc, told, member, Deed::Carried, RemarkReason::KnownSources)
+    } else {
+        asked.refuse(alloc, told, member, RemarkReason::NoSource)
+    }
+}
+
+/// Appends the member, unless the list has it.
+pub(crate) fn put_once(
+    alloc: Global,
+    members: &mut Vec<Vec<u8>>,
+    member: &[u8],
+) -> Result<(), AllocError> {
+    if !members.iter().any(|other| other.as_slice() == member) {
+        members.push(Vec::from_slice(alloc, member)?)?;
+    }
+    Ok(())
+}
+
 fn has_form(form: OperandForm, member: &[u8]) -> bool {
     match form {
         OperandForm::Ids | OperandForm::Group => Id::read(member).is_some(),
@@ -289,6 +385,7 @@ fn has_form(form: OperandForm, member: &[u8]) -> bool {
         OperandForm::Reasons => HoldReason::read(member).is_some(),
         OperandForm::Classes => Class::read(member).is_some(),
         OperandForm::Flag
+        | OperandForm::GroupExtend
         | OperandForm::Bypass
         | OperandForm::ReceiveBypass
         | OperandForm::Dropped => false,
@@ -311,6 +408,7 @@ fn bypass(
         let asked = AskedOperand {
             command: asked.command,
             operand: word,
+            known: asked.known,
         };
         let Some(member) = carried_member(alloc, told, &asked)? else {
             continue;
@@ -391,7 +489,11 @@ fn with_group(
     let Some(operand) = operands.iter().find(|operand| is_group(operand)) else {
         return Ok(carried);
     };
-    let asked = AskedOperand { command, operand };
+    let asked = AskedOperand {
+        command,
+        operand,
+        known: None,
+    };
     carried.retain(|operand| operand.word != b"GROUP".as_slice());
     let Some(select) = place_of(&carried, b"SELECT") else {
         asked.refuse(alloc, told, b"", RemarkReason::NoOperand)?;

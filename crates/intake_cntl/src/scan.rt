@@ -17,8 +17,8 @@ pub enum CommandEnd {
     NoPeriod,
     /// A parenthesis is open where the file ends.
     OpenParenthesis,
-    /// A comment is open where the file ends.
-    OpenComment,
+    /// A comment is open where the file ends, which opens there.
+    OpenComment(CardPlace),
 }
 
 /// A command as it stands, in upper case.
@@ -33,6 +33,13 @@ pub struct WideCommand {
     pub has_lower_case: bool,
     /// It begins on the card on which another command ends.
     pub is_behind: bool,
+}
+
+/// The commands of a file, and the cards that are cut at column 80 outside comments.
+#[derive(Drop)]
+pub struct WideCommands {
+    pub commands: Vec<WideCommand>,
+    pub cut: Vec<CardPlace>,
 }
 
 // Where the scanner stands, as far as comments go.
@@ -51,6 +58,8 @@ struct CommandScanner {
     commands: Vec<WideCommand>,
     words: Vec<WideOperand>,
     within: Within,
+    // Where the last comment opens.
+    comment: CardPlace,
     // Parentheses that are open.
     depth: usize,
     // The last word goes on with the next character.
@@ -62,17 +71,24 @@ struct CommandScanner {
 
 /// The commands of the cards. The last one may have no end, and none of them need be one that SMP/E has. The error
 /// comes where memory runs out.
-pub fn wide_commands(alloc: Global, cards: &[Card]) -> Result<Vec<WideCommand>, AllocError> {
+pub fn wide_commands(alloc: Global, cards: &[Card]) -> Result<WideCommands, AllocError> {
     let mut scanner = CommandScanner::new(alloc);
-    let mut last = CardPlace { file: 0, card: 1 };
+    let mut cut = Vec::new(alloc);
     for card in cards {
-        last = card.place;
         for byte in &card.text[..COLUMNS] {
             scanner.take(*byte, card.place)?;
         }
         scanner.take(b' ', card.place)?;
+        if card.ends_comment && scanner.is_in_comment() {
+            scanner.within = Within::Words;
+        } else if card.is_cut && !scanner.is_in_comment() {
+            cut.push(card.place)?;
+        }
     }
-    scanner.end_of_file(last)
+    Ok(WideCommands {
+        commands: scanner.end_of_file()?,
+        cut,
+    })
 }
 
 /// The words of a list, each with the list behind it, all at the place of the operand that has the list. The error
@@ -100,11 +116,16 @@ impl CommandScanner {
             commands: Vec::new(alloc),
             words: Vec::new(alloc),
             within: Within::Words,
+            comment: CardPlace { file: 0, card: 1 },
             depth: 0,
             in_word: false,
             has_lower_case: false,
             ended: None,
         }
+    }
+
+    fn is_in_comment(&self) -> bool {
+        matches!(self.within, Within::Comment | Within::Star)
     }
 
     // The next character of a card.
@@ -114,6 +135,7 @@ impl CommandScanner {
             Within::Star => self.within = behind_star(byte),
             Within::Slash if byte == b'*' => {
                 self.within = Within::Comment;
+                self.comment = place;
                 self.put(b' ', place)?;
             }
             Within::Slash => {
@@ -140,12 +162,12 @@ impl CommandScanner {
         if byte.is_ascii_lowercase() {
             self.has_lower_case = true;
         }
-        let byte = byte.to_ascii_uppercase();
+        let byte = if byte == b'\t' { b' ' } else { byte.to_ascii_uppercase() };
         if self.depth > 0 {
             return self.put_in_list(byte);
         }
         match byte {
-            b' ' | b',' | b'\t' => {
+            b' ' | b',' => {
                 self.in_word = false;
                 Ok(())
             }
@@ -255,14 +277,14 @@ impl CommandScanner {
         Ok(())
     }
 
-    fn end_of_file(mut self, last: CardPlace) -> Result<Vec<WideCommand>, AllocError> {
+    fn end_of_file(mut self) -> Result<Vec<WideCommand>, AllocError> {
         let end = match self.within {
-            Within::Comment | Within::Star => CommandEnd::OpenComment,
+            Within::Comment | Within::Star => CommandEnd::OpenComment(self.comment),
             _ if self.depth > 0 => CommandEnd::OpenParenthesis,
             _ => CommandEnd::NoPeriod,
         };
-        if end == CommandEnd::OpenComment && self.words.is_empty() {
-            self.begin_word(last)?;
+        if self.is_in_comment() && self.words.is_empty() {
+            self.begin_word(self.comment)?;
         }
         self.finish(end)?;
         Ok(self.commands)

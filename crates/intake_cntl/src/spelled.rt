@@ -5,6 +5,8 @@
 pub(crate) enum OperandForm {
     /// It stands alone.
     Flag,
+    /// SMP/E's GROUPEXTEND, alone or with NOAPARS and NOUSERMODS.
+    GroupExtend,
     /// A list of ids.
     Ids,
     /// A list of source ids.
@@ -94,8 +96,8 @@ const INSTALL: &[Row] = &[
     (b"FORFMID", b"FORFMID", OperandForm::Ids),
     (b"GROUP", b"GROUP", OperandForm::Group),
     (b"G", b"GROUP", OperandForm::Group),
-    (b"GROUPEXTEND", b"GROUPEXTEND", OperandForm::Flag),
-    (b"GEXT", b"GROUPEXTEND", OperandForm::Flag),
+    (b"GROUPEXTEND", b"GROUPEXTEND", OperandForm::GroupExtend),
+    (b"GEXT", b"GROUPEXTEND", OperandForm::GroupExtend),
     (b"BYPASS", b"BYPASS", OperandForm::Bypass),
     (b"CHECK", b"CHECK", OperandForm::Flag),
     (b"C", b"CHECK", OperandForm::Flag),

@@ -10,7 +10,7 @@ use crate::remarks::tell;
 use crate::sources::{InputFiles, cards_of, read};
 use crate::summary::{by_reason, print};
 use crate::surroundings::IntakeHost;
-use intake_cntl::command_file;
+use intake_cntl::{KnownList, KnownSysmod, command_file, read_known};
 use std::alloc::Global;
 
 /// The status where a command file has words that are not carried.
@@ -35,7 +35,14 @@ pub(crate) fn serve_commands<H: IntakeHost>(
         asked.code,
         &mut remarks,
     )?;
-    let file = command_file(alloc, &cards)?;
+    let known = match &asked.known {
+        Some(name) => Some(known_sysmods(alloc, host, name.as_str())?),
+        None => None,
+    };
+    let file = match &known {
+        Some(known) => command_file(alloc, &cards, Some(known.as_slice()))?,
+        None => command_file(alloc, &cards, None)?,
+    };
     if file.carried == 0 && file.others == 0 {
         return Err(IntakeFault::NoStatement);
     }
@@ -43,13 +50,33 @@ pub(crate) fn serve_commands<H: IntakeHost>(
     let mut summary = Vec::new(alloc);
     let carried = file.carried;
     let others = file.others;
-    let line = format!(in alloc; "COMMAND {carried:>7} carried {others:>7} not\n")?;
+    let line = if file.bytes.is_some() {
+        format!(in alloc; "COMMAND {carried:>7} carried {others:>7} not\n")?
+    } else {
+        String::from_str(alloc, "COMMAND none is written: see what is refused in cntl.remarks\n")?
+    };
     summary.extend_from_slice(line.as_bytes())?;
     by_reason(alloc, &file.remarks, &mut summary)?;
     let folder = asked.out.as_str();
     let status = keep(alloc, host, folder, file.bytes, remarks)?;
-    print(alloc, host, folder, &summary, &["cntl", "remarks"])?;
+    print(alloc, host, folder, &summary, &["cntl", "cntl.remarks"])?;
     Ok(status)
+}
+
+// The SYSMODs of the list of this name.
+fn known_sysmods<H: IntakeHost>(
+    alloc: Global,
+    host: &mut H,
+    name: &str,
+) -> Result<Vec<KnownSysmod>, IntakeFault> {
+    let bytes = read(alloc, host, name)?;
+    match read_known(alloc, &bytes)? {
+        KnownList::Sysmods(known) => Ok(known),
+        KnownList::BadLine(line) => {
+            let name = Vec::from_slice(alloc, name.as_bytes())?;
+            Err(IntakeFault::KnownLine(name, line))
+        }
+    }
 }
 
 // Puts the files into the folder, and answers the status.

@@ -13,6 +13,10 @@ pub enum IntakeFault {
     Words(WordsFault),
     /// The name of a file that can't be read.
     CannotRead(Vec<u8>),
+    /// The input of the first name is the file of the second one, which would be written.
+    OutputIsInput(Vec<u8>, Vec<u8>),
+    /// The list of known SYSMODs of that name has a line that is not in form.
+    KnownLine(Vec<u8>, usize),
     /// The folder does not take the files.
     CannotWrite,
     /// Standard output takes nothing.
@@ -66,7 +70,7 @@ impl IntakeFault {
     ) -> Result<IntakeFault, AllocError> {
         let place = match &error {
             WideError::Memory => return Ok(IntakeFault::Memory),
-            WideError::NoStatement { place } => *place,
+            WideError::NoStatement { place, .. } => *place,
             WideError::OpenComment { place } => *place,
             WideError::Statement { place, .. } => *place,
         };
@@ -107,6 +111,19 @@ impl IntakeFault {
             IntakeFault::CannotRead(name) => {
                 line.extend_from_slice(b"cannot read ")?;
                 line.extend_from_slice(name)?;
+            }
+            IntakeFault::OutputIsInput(input, output) => {
+                line.extend_from_slice(output)?;
+                line.extend_from_slice(b" would replace the input ")?;
+                line.extend_from_slice(input)?;
+                line.extend_from_slice(b": give another folder with --out")?;
+            }
+            IntakeFault::KnownLine(name, number) => {
+                line.extend_from_slice(name)?;
+                line.extend_from_slice(
+                    format!(in alloc; " line {number}: a line has an id, a type and source ids")?
+                        .as_bytes(),
+                )?;
             }
             IntakeFault::CannotWrite => {
                 line.extend_from_slice(b"cannot write into ")?;

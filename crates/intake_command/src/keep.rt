@@ -1,5 +1,5 @@
 //! What is written, and read back before.
-ghost use Rattle.std.specs.Prelude.{◌≡◌, ◌∷◌, [], IfOk, OnOk, OnErr, List, Some, codes, map, option_map};
+ghost use Rattle.std.specs.Prelude.{◌≡◌, ◌∷◌, [], IfOk, OnOk, OnErr, List, Some, None, codes, map};
 ghost use Rattle.terms.specs.Types as terms;
 ghost use Rattle.terms.specs.Ptfin.{IsPtfin};
 ghost use Rattle.terms.specs.HoldFile.{IsHoldFile};
@@ -75,18 +75,37 @@ fn service_files(
 
 fn command_files(
     alloc: Global,
-    cntl: Option<Vec<u8>>,
+    cntl: Vec<u8>,
     remarks: Vec<u8>,
 ) -> Result<Vec<Named>, AllocError>
     ensures { IfOk result (λ files. map named files.items
-        ≡ (codes "cntl", option_map (λ bytes. bytes.items) cntl) ∷ (codes "remarks", Some remarks.items) ∷ []) }
+        ≡ (codes "cntl", Some cntl.items) ∷ (codes "cntl.remarks", Some remarks.items) ∷ []) }
 {
     let mut files = Vec::new(alloc);
-    files.push(Named {
-        name: "cntl",
-        bytes: cntl,
-    })?;
-    files.push(file("remarks", remarks))?;
+    files.push(file("cntl", cntl))?;
+    files.push(file("cntl.remarks", remarks))?;
+    Ok(files)
+}
+
+fn gone(name: &'static str) -> Named
+    ensures { named result ≡ (name.now, None) }
+{
+    Named { name, bytes: None }
+}
+
+// The remarks of a command file, and no file of an earlier run.
+fn remark_files(alloc: Global, remarks: Vec<u8>) -> Result<Vec<Named>, AllocError>
+    ensures { IfOk result (λ files. map named files.items ≡ (codes "ptfin", None) ∷ (codes "hold", None)
+        ∷ (codes "stand-ins", None) ∷ (codes "remarks", None) ∷ (codes "cntl", None)
+        ∷ (codes "cntl.remarks", Some remarks.items) ∷ []) }
+{
+    let mut files = Vec::new(alloc);
+    files.push(gone("ptfin"))?;
+    files.push(gone("hold"))?;
+    files.push(gone("stand-ins"))?;
+    files.push(gone("remarks"))?;
+    files.push(gone("cntl"))?;
+    files.push(file("cntl.remarks", remarks))?;
     Ok(files)
 }
 
@@ -122,7 +141,7 @@ fn hold_of(alloc: Global, meant: &[HoldItem]) -> Result<Vec<u8>, IntakeFault>
     Ok(bytes)
 }
 
-/// Puts the command file into `cntl`, and the remarks beside it. `CannotWrite` comes where the folder does not take
+/// Puts the command file into `cntl`, and its remarks into `cntl.remarks`. `CannotWrite` comes where the folder does not take
 /// them.
 pub fn keep_commands<H: IntakeHost>(
     alloc: Global,
@@ -135,14 +154,14 @@ pub fn keep_commands<H: IntakeHost>(
     ensures ok { OnOk result (KeepsCommands H.IntakeHost host.old folder.now host.new) }
     ensures err { OnErr result (KeepsNothing H.IntakeHost host.old folder.now host.new) }
 {
-    let files = command_files(alloc, Some(cntl), remarks)?;
+    let files = command_files(alloc, cntl, remarks)?;
     match host.keep(folder, &files) {
         Ok(()) => Ok(()),
         Err(_) => Err(IntakeFault::CannotWrite),
     }
 }
 
-/// Puts the remarks into the folder, and takes a command file of an earlier run away. `CannotWrite` comes where that
+/// Puts the remarks on a command file into `cntl.remarks`, and takes all other files of earlier runs away. `CannotWrite` comes where that
 /// can't be done.
 pub fn keep_remarks<H: IntakeHost>(
     alloc: Global,
@@ -153,7 +172,7 @@ pub fn keep_remarks<H: IntakeHost>(
     ensures ok { OnOk result (KeepsRemarks H.IntakeHost host.old folder.now host.new) }
     ensures err { OnErr result (KeepsNothing H.IntakeHost host.old folder.now host.new) }
 {
-    let files = command_files(alloc, None, remarks)?;
+    let files = remark_files(alloc, remarks)?;
     match host.keep(folder, &files) {
         Ok(()) => Ok(()),
         Err(_) => Err(IntakeFault::CannotWrite),

@@ -4,6 +4,7 @@
 //! are read as just the items that were meant, or that nothing was written.
 #![tactic(auto)]
 
+mod clearing;
 mod commands;
 mod fault;
 mod files;

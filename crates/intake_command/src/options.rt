@@ -23,6 +23,8 @@ pub struct IntakeOptions {
     pub files: Vec<String>,
     /// The command file, in place of the files.
     pub cntl: Option<String>,
+    /// The list of the SYSMODs that are known, for the command file.
+    pub known: Option<String>,
     /// The folder of the files that RELFILE speaks of.
     pub relfile: Option<String>,
     /// For each DISTLIB, the SYSLIB that is given.
@@ -107,6 +109,12 @@ fn command_line<'a>(alloc: Global) -> Result<Command<'a>, AllocError> {
             "FILE",
             "A command file, in place of the others",
         ))?
+        .arg(named(
+            alloc,
+            "known",
+            "FILE",
+            "With --cntl: the SYSMODs that GROUPEXTEND(NOAPARS) and SOURCEID(RSU*) are about",
+        ))?
         .arg(flag(alloc, "text", "The files have lines").conflicts_with("records")?)?
         .arg(flag(alloc, "records", "The files have records of 80 bytes"))?
         .arg(named(alloc, "code", "CODE", "The code of the files").value_parser(CODES.as_slice()))?
@@ -160,6 +168,7 @@ fn values(alloc: Global, found: &ArgMatches<'_>) -> Result<IntakeOptions, WordsF
         out: text(alloc, found, "out")?.unwrap_or(String::new(alloc)),
         files: texts(alloc, found, "file")?,
         cntl: text(alloc, found, "cntl")?,
+        known: text(alloc, found, "known")?,
         relfile: text(alloc, found, "relfile")?,
         syslibs: syslibs(alloc, found)?,
         decide: found.get_flag("decide"),

@@ -1,6 +1,7 @@
 //! The program but for its input and output.
 
 use crate::commands::serve_commands;
+use crate::clearing::{check_apart, clear};
 use crate::fault::IntakeFault;
 use crate::options::{IntakeOptions, WordsFault, read_words};
 use crate::service::serve_files;
@@ -28,7 +29,12 @@ fn answered<H: IntakeHost>(alloc: Global, host: &mut H, words: &[Vec<u8>]) -> u8
     match read_words(alloc, words) {
         Ok(asked) => match served(alloc, host, &asked) {
             Ok(status) => status,
-            Err(fault) => told(alloc, host, asked.out.as_str(), &fault),
+            Err(fault) => {
+                if !matches!(fault, IntakeFault::OutputIsInput(..)) {
+                    clear(alloc, host, asked.out.as_str());
+                }
+                told(alloc, host, asked.out.as_str(), &fault)
+            }
         },
         Err(WordsFault::Clap(error)) => shown(host, &error),
         Err(fault) => told(alloc, host, "", &IntakeFault::Words(fault)),
@@ -40,6 +46,7 @@ fn served<H: IntakeHost>(
     host: &mut H,
     asked: &IntakeOptions,
 ) -> Result<u8, IntakeFault> {
+    check_apart(alloc, host, asked)?;
     match &asked.cntl {
         Some(cntl) => serve_commands(alloc, host, asked, cntl.as_str()),
         None => serve_files(alloc, host, asked),

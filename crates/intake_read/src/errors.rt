@@ -11,9 +11,11 @@ pub enum WideError {
     #[error("out of memory")]
     Memory,
     /// Before the first statement stands more than blanks and comments.
-    #[error("no statement begins there")]
+    #[error("{hint}")]
     NoStatement {
         place: CardPlace,
+        /// What to do about it.
+        hint: &'static str,
     },
     /// A comment is open where the file ends.
     #[error("the comment is not closed")]

@@ -5,7 +5,7 @@ use crate::known::{WideWord, known_as};
 use crate::made::{assign, condition, element, hold, other, release, sysmod, ver};
 use crate::operands::members;
 use crate::statement::WideStatement;
-use intake_cards::CardPlace;
+use intake_cards::{Card, CardPlace};
 use std::alloc::{AllocError, Global};
 
 /// The statements so far: a file's items, and the SYSMOD that is begun.
@@ -64,6 +64,20 @@ impl FileSoFar {
             place,
             reason,
             count: 1,
+            tail: [b' '; 8],
+        })?;
+        Ok(())
+    }
+
+    /// Notes what columns 73 to 80 of the card hold.
+    pub fn note_tail(&mut self, card: &Card) -> Result<(), AllocError> {
+        let mut tail = [b' '; 8];
+        tail.copy_from_slice(&card.text[72..]);
+        self.file.notes.push(Note {
+            place: card.place,
+            reason: NoteReason::TextIn73,
+            count: 1,
+            tail,
         })?;
         Ok(())
     }
@@ -79,8 +93,11 @@ impl FileSoFar {
             return self.begin(begun);
         }
         if let Some(reason) = statement.fault {
-            let is_kept = matches!(known, WideWord::Hold | WideWord::Release | WideWord::Assign);
-            return self.add_other(reason, is_kept, statement);
+            if known.stands_alone() {
+                self.file.others.push(other(reason, statement))?;
+                return Ok(());
+            }
+            return self.add_other(reason, statement);
         }
         self.add_good(known, statement)
     }
@@ -92,20 +109,18 @@ impl FileSoFar {
         Ok(())
     }
 
-    /// Adds to the SYSMOD a statement that is none of the others. The error comes where no SYSMOD is begun, or where
-    /// the statement may not be left out.
+    /// Adds to the SYSMOD a statement that is none of the others. Returns an error if no SYSMOD is begun.
     fn add_other(
         &mut self,
         reason: OtherReason,
-        is_kept: bool,
         statement: WideStatement,
     ) -> Result<(), WideError> {
         match &mut self.begun {
-            Some(sysmod) if !is_kept => {
+            Some(sysmod) => {
                 sysmod.others.push(other(reason, statement))?;
                 Ok(())
             }
-            _ => Err(WideError::Statement {
+            None => Err(WideError::Statement {
                 place: statement.place,
                 word: statement.word,
                 name: statement.name,
@@ -126,11 +141,9 @@ impl FileSoFar {
             WideWord::Ver => self.add_ver(statement)?,
             WideWord::If => self.add_if(statement)?,
             WideWord::Element => self.add_element(statement)?,
-            WideWord::LoadModules => self.add_other(OtherReason::LoadModules, false, statement)?,
+            WideWord::LoadModules => self.add_other(OtherReason::LoadModules, statement)?,
             WideWord::Header(_) | WideWord::Unknown => self.add_other(
-                OtherReason::UnknownWord,
-                false,
-                statement,
+                OtherReason::UnknownWord, statement,
             )?,
         }
         Ok(())
@@ -147,10 +160,10 @@ impl FileSoFar {
 
     fn add_ver(&mut self, statement: WideStatement) -> Result<(), WideError> {
         let Some(srels) = members(self.alloc, statement.name.as_slice())? else {
-            return self.add_other(OtherReason::NoName, false, statement);
+            return self.add_other(OtherReason::NoName, statement);
         };
         let Some(sysmod) = &mut self.begun else {
-            return self.add_other(OtherReason::Misplaced, false, statement);
+            return self.add_other(OtherReason::Misplaced, statement);
         };
         sysmod.vers.push(ver(self.alloc, srels, statement)?)?;
         Ok(())
@@ -163,12 +176,12 @@ impl FileSoFar {
                 return Ok(());
             }
         }
-        self.add_other(OtherReason::Misplaced, false, statement)
+        self.add_other(OtherReason::Misplaced, statement)
     }
 
     fn add_element(&mut self, statement: WideStatement) -> Result<(), WideError> {
         let Some(sysmod) = &mut self.begun else {
-            return self.add_other(OtherReason::Misplaced, false, statement);
+            return self.add_other(OtherReason::Misplaced, statement);
         };
         sysmod.elements.push(element(self.alloc, statement)?)?;
         Ok(())

@@ -128,6 +128,7 @@ pub struct WideRelease {
 #[derive(Drop)]
 pub struct WideAssign {
     pub place: CardPlace,
+    /// As it is typed, in lower case too.
     pub source: Option<Vec<u8>>,
     pub to: Vec<Vec<u8>>,
     pub odd: Vec<OddOperand>,
@@ -190,6 +191,9 @@ pub enum OtherReason {
     /// It lacks its list, as `++VER` without SRELs, or `++MAC` without a name.
     #[error("what belongs in parentheses behind its word is missing")]
     NoName,
+    /// A line of it has more than 80 columns.
+    #[error("a line has more than 80 columns: put the rest on a line of its own")]
+    LongLine,
     /// It is an `++IF`, and its SYSMOD has no `++VER` before it; or no SYSMOD stands before it.
     #[error("it may not stand there")]
     Misplaced,
@@ -214,7 +218,7 @@ pub struct WideOther {
 pub enum NoteReason {
     /// Words in lower case are read in upper case.
     LowerCase,
-    /// Columns 73 to 80 hold something that is no number; they are not read.
+    /// Columns 73 to 80 hold something that is no number; they are not read. Each card has a note of its own.
     TextIn73,
 }
 
@@ -224,6 +228,8 @@ pub struct Note {
     pub place: CardPlace,
     pub reason: NoteReason,
     pub count: usize,
+    /// What columns 73 to 80 hold, if the note is about them.
+    pub tail: [u8; 8],
 }
 
 /// A card that begins with `++` inside a comment, where it begins no statement.

@@ -18,6 +18,16 @@ pub(crate) enum WideWord {
     Unknown,
 }
 
+impl WideWord {
+    /// Whether a statement of this word that is at fault costs no SYSMOD: it is kept beside them.
+    pub(crate) fn stands_alone(self) -> bool {
+        matches!(
+            self,
+            WideWord::Hold | WideWord::Release | WideWord::Assign | WideWord::NoService
+        )
+    }
+}
+
 /// Elements whose names go without a language.
 static PLAIN_ELEMENTS: &[u8] = b"MAC SRC MACUPD SRCUPD MOD ZAP PROGRAM JAR JARUPD PRODXML SHELLSCR";
 
@@ -130,7 +140,6 @@ pub(crate) fn is_upper(operand: &[u8]) -> bool {
             | b"RELFILE"
             | b"DISTMOD"
             | b"ASSEM"
-            | b"SOURCEID"
             | b"TO"
     )
 }

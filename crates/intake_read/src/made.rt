@@ -230,7 +230,7 @@ pub(crate) fn assign(alloc: Global, statement: WideStatement) -> Result<WideAssi
     for operand in statement.operands {
         let odd = &mut assign.odd;
         match operand.name.as_slice() {
-            b"SOURCEID" => take_value(alloc, &mut assign.source, operand, odd)?,
+            b"SOURCEID" => take_text(&mut assign.source, operand, odd)?,
             b"TO" => take_list(alloc, &mut assign.to, operand, odd)?,
             _ => keep_odd(odd, operand, OddReason::Unknown)?,
         }

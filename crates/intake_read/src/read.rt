@@ -1,7 +1,7 @@
 //! Cards as statements, one behind the other.
 use crate::errors::WideError;
 use crate::gather::FileSoFar;
-use crate::items::{NoteReason, OtherReason, SwallowedStatement, WideFile};
+use crate::items::{OtherReason, SwallowedStatement, WideFile};
 use crate::known::{is_text_elsewhere, takes_text};
 use crate::statement::{WideStatement, statement_of};
 use crate::words::{CardPiece, CardScanner, Open, Token, is_word_byte};
@@ -29,6 +29,8 @@ struct Reader {
     part: CardPart,
     /// Where the statement begins that is begun.
     place: CardPlace,
+    /// A card of its own text is cut at column 80 outside comments.
+    is_cut: bool,
     /// It, once its own text is whole.
     whole: Option<WideStatement>,
     gathered: FileSoFar,
@@ -69,6 +71,17 @@ fn swallowed_by(
     })
 }
 
+/// What to do about a card that stands before the first statement.
+fn hint_for(card: &Card) -> &'static str {
+    if card.text.starts_with(b"//") {
+        "JCL stands there: give the cards after its DD * without it"
+    } else if card.text.starts_with(b"./") {
+        "input of IEBUPDTE stands there: give the cards between its ./ statements"
+    } else {
+        "no statement begins there: a statement has ++ in columns 1 and 2"
+    }
+}
+
 /// Whether cards behind the statement of these pieces are its text.
 fn has_inline(pieces: &[CardPiece]) -> bool {
     let mut has_word = false;
@@ -100,16 +113,21 @@ impl Reader {
             CardPart::Inline => {
                 if let Some(statement) = &mut self.whole {
                     statement.inline.push(*card)?;
+                    if card.is_cut {
+                        statement.blame(OtherReason::LongLine);
+                    }
                 }
                 Ok(())
             }
             CardPart::Own => {
                 self.note_tail(card)?;
                 self.scanner.take_card(card)?;
+                self.end_line(card);
                 self.end_own()
             }
             CardPart::Before | CardPart::Behind => {
                 self.scanner.take_card(card)?;
+                self.end_line(card);
                 self.check_idle(card)
             }
         }
@@ -121,13 +139,25 @@ impl Reader {
         self.part = CardPart::Own;
         self.place = card.place;
         self.note_tail(card)?;
+        self.is_cut = false;
         self.scanner.take(card.place, &card.text[2..72])?;
+        self.end_line(card);
         self.end_own()
+    }
+
+    /// Takes note of a line that is cut at column 80. One that ends inside a comment loses nothing.
+    fn end_line(&mut self, card: &Card) {
+        let is_open = matches!(self.scanner.open(), Open::Comment(_));
+        if is_open && card.ends_comment {
+            self.scanner.end_comment();
+        } else if card.is_cut && !is_open {
+            self.is_cut = true;
+        }
     }
 
     fn note_tail(&mut self, card: &Card) -> Result<(), WideError> {
         if card.tail() == Tail::Other {
-            self.gathered.note(NoteReason::TextIn73, card.place)?;
+            self.gathered.note_tail(card)?;
         }
         Ok(())
     }
@@ -137,7 +167,11 @@ impl Reader {
         let open = self.scanner.open();
         let has_lower = self.scanner.has_lower();
         let pieces = self.scanner.take_pieces();
-        statement_of(self.alloc, self.place, pieces, open, has_lower)
+        let mut statement = statement_of(self.alloc, self.place, pieces, open, has_lower)?;
+        if self.is_cut {
+            statement.fault = Some(OtherReason::LongLine);
+        }
+        Ok(statement)
     }
 
     /// Goes on to what is behind the statement, if its period was met and no comment is open.
@@ -163,7 +197,12 @@ impl Reader {
         }
         match &mut self.whole {
             Some(statement) => statement.blame(OtherReason::TextBehind),
-            None => return Err(WideError::NoStatement { place: card.place }),
+            None => {
+                return Err(WideError::NoStatement {
+                    place: card.place,
+                    hint: hint_for(card),
+                });
+            }
         }
         Ok(())
     }
@@ -191,6 +230,7 @@ pub fn read_wide(alloc: Global, cards: &[Card]) -> Result<WideFile, WideError> {
         scanner: CardScanner::new(alloc),
         part: CardPart::Before,
         place: CardPlace { file: 0, card: 0 },
+        is_cut: false,
         whole: None,
         gathered: FileSoFar::new(alloc),
     };
@@ -206,6 +246,7 @@ pub fn read_wide(alloc: Global, cards: &[Card]) -> Result<WideFile, WideError> {
         scanner: _,
         part: _,
         place: _,
+        is_cut: _,
         whole: _,
         gathered,
     } = reader;

@@ -61,6 +61,7 @@ impl From<OtherReason> for RemarkReason {
             OtherReason::StrayParenthesis => RemarkReason::StrayParenthesis,
             OtherReason::StrayCharacter => RemarkReason::StrayCharacter,
             OtherReason::TextBehind => RemarkReason::TextBehind,
+            OtherReason::LongLine => RemarkReason::LongLine,
             OtherReason::NoName => RemarkReason::Missing,
             OtherReason::Misplaced => RemarkReason::OutOfPlace,
         }

@@ -342,7 +342,7 @@ impl CardScanner {
     }
 
     /// Goes on behind a comment, which is a blank in a list.
-    fn end_comment(&mut self) {
+    pub(crate) fn end_comment(&mut self) {
         if self.depth > 0 {
             self.state = State::List;
             self.list_blank();

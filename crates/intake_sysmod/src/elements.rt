@@ -4,7 +4,10 @@ ghost use Rattle.terms.specs.declared.kinds.ElemType.TheVariants.{Mac, Src};
 ghost use Rattle.terms.specs.Texts.{IsReplacement, IsUpdate};
 
 use crate::options::Options;
-use crate::texts::{MOST_RECORDS, are_printable, begins_statement, needs_numbers, text_of};
+use crate::texts::{
+    MOST_RECORDS, are_printable, begins_statement, first_misnumbered, needs_numbers, text_of,
+    without_blank_end,
+};
 use crate::updates::update_lines;
 use crate::words::{is_update, is_update_word, profile_type};
 use fields::Name;
@@ -189,6 +192,17 @@ fn cards_of<'a>(
     Ok(Some(member.cards.as_slice()))
 }
 
+/// The number of the card in its file.
+fn where_at(alloc: Global, card: Option<&Card>) -> Result<String, AllocError> {
+    match card {
+        Some(card) => {
+            let number = card.place.card;
+            format!(in alloc; "at {number}")
+        }
+        None => Ok(String::new(alloc)),
+    }
+}
+
 /// Why the cards are no text at all, if they are none.
 fn fault_of(cards: &[Card]) -> Option<RemarkReason> {
     if cards.is_empty() {
@@ -217,11 +231,19 @@ fn lines_for(
     ensures { IfOk result (λ found. IfSome found (λ lines. IsReplacement elem_type lines.items)) }
 {
     if let Some(reason) = fault_of(cards) {
-        remarks.leave_out(alloc, subject, b"", reason, b"")?;
+        let text = where_at(alloc, cards.iter().find(|card| !card.is_printable()))?;
+        remarks.leave_out(alloc, subject, b"", reason, text.as_bytes())?;
         return Ok(None);
     }
+    let whole = cards;
+    let cards = without_blank_end(elem_type, whole);
+    if cards.len() < whole.len() {
+        let text = where_at(alloc, whole.last())?;
+        remarks.tell_dropped(alloc, subject, b"", RemarkReason::BlankEnd, text.as_bytes())?;
+    }
     let Some(lines) = text_of(alloc, elem_type, cards)? else {
-        remarks.leave_out(alloc, subject, b"", RemarkReason::BadText, b"")?;
+        let text = where_at(alloc, first_misnumbered(cards))?;
+        remarks.leave_out(alloc, subject, b"", RemarkReason::Misnumbered, text.as_bytes())?;
         return Ok(None);
     };
     if needs_numbers(elem_type, cards) {

@@ -41,7 +41,12 @@ fn card_of(place: CardPlace, word: &[u8], name: &[u8]) -> Card {
     }
     let (_, number) = text.split_at_mut(72);
     number.copy_from_slice(b"00000100");
-    Card { place, text }
+    Card {
+        place,
+        text,
+        is_cut: false,
+        ends_comment: false,
+    }
 }
 
 /// The library that is stated, where it has the form.

@@ -91,7 +91,7 @@ LIST /* A. => line 1: LIST: refused: a comment is open
 /// the remarks.
 fn outcome(alloc: Global, text: &[u8]) -> Result<String, Fail> {
     let found = read_cards(alloc, 0, text, Some(Layout::Text), None)?;
-    let file = command_file(alloc, &found.cards)?;
+    let file = command_file(alloc, &found.cards, None)?;
     let mut lines = Vec::new(alloc);
     if let Some(bytes) = &file.bytes {
         for record in bytes.chunks(80) {

@@ -25,6 +25,11 @@ const FILES: &[(&str, &[u8])] = &[
     ("bad", b"++HOLD(UA1) ERROR FMID(HAA1100) REASON(AA00001).\n"),
     ("cntl", b" SET BOUNDARY(TGT1).\n"),
     ("rc", b" APPLY PTFS RC(APPLY=8).\n"),
+    ("group", b" APPLY PTFS GROUPEXTEND(NOAPARS) SOURCEID(RSU*).\n"),
+    ("known", b"id kind sources\nUA00001 PTF RSU2401\nAA00001 APAR\n"),
+    ("gzip", b"\x1F\x8B\x08"),
+    ("jcl", b"//STEP EXEC PGM=GIMSMP\n++PTF(UA00001).\n"),
+    ("holds", b"++HOLD(UA00001) ERROR FMID(HAA1100) REASON(AA00001)\n"),
 ];
 
 /// The words behind the program's name, with blanks between; the status, what is left in the folder, and what is told.
@@ -33,8 +38,16 @@ const CASES: &str = "\
 --out d ptf hold => 0 ptfin hold remarks
 --out d mod => 4 ptfin hold remarks
 --out d --decide mod => 0 ptfin hold remarks
---out d --cntl cntl => 0 cntl remarks
---out d --cntl rc => 12 remarks
+--out d --cntl cntl => 0 cntl cntl.remarks
+--out d --cntl rc => 12 cntl.remarks
+--out d --cntl group => 12 cntl.remarks
+--out d --cntl group --known known => 0 cntl cntl.remarks
+--out d --cntl group --known ptf => 16 smpe-intake: ptf line 2: a line has an id, a type and source ids
+--out . hold => 16 smpe-intake: ./hold would replace the input hold: give another folder with --out
+--out . --cntl cntl => 16 smpe-intake: ./cntl would replace the input cntl: give another folder with --out
+--out d gzip => 16 smpe-intake: gzip: it is compressed by gzip: unpack it first
+--out d jcl => 16 smpe-intake: jcl line 1: JCL stands there: give the cards after its DD * without it
+--out d holds => 16 smpe-intake: holds line 1: ++HOLD(UA00001): refused: its period is missing
 --out d empty => 16 smpe-intake: no statement found
 --out d ptf none => 16 smpe-intake: cannot read none
 --out full ptf => 16 smpe-intake: cannot write into full
@@ -94,6 +107,10 @@ impl IntakeHost for Memory {
             }
         }
         Ok(())
+    }
+
+    fn is_same(&mut self, one: &str, other: &str) -> bool {
+        one.strip_prefix("./").unwrap_or(one) == other
     }
 
     fn print(&mut self, _text: &[u8]) -> io::Result<()> {

@@ -311,7 +311,7 @@ pub(crate) fn spelled_file(
 fn put_error(found: &mut Spelled, error: WideError) -> Result<(), AllocError> {
     let (text, place): (&[u8], CardPlace) = match error {
         WideError::Memory => return Err(AllocError),
-        WideError::NoStatement { place } => (b"no statement", place),
+        WideError::NoStatement { place, .. } => (b"no statement", place),
         WideError::OpenComment { place } => (b"open comment", place),
         WideError::Statement { place, reason, .. } => (reason_text(reason), place),
     };

@@ -25,12 +25,23 @@ impl IntakeHost for FileSystem<'_> {
     }
 
     fn keep(&mut self, folder: &str, files: &[Named]) -> io::Result<()> {
-        fs::create_dir_all(self.rt, folder)?;
+        if files.iter().any(|file| file.bytes.is_some()) {
+            fs::create_dir_all(self.rt, folder)?;
+        }
         let kept = self.keep_in(folder, files);
         if kept.is_err() {
             self.take_away(folder, files, ".new");
         }
         kept
+    }
+
+    fn is_same(&mut self, one: &str, other: &str) -> bool {
+        let one = fs::canonicalize(self.rt, one);
+        let other = fs::canonicalize(self.rt, other);
+        match (one, other) {
+            (Ok(one), Ok(other)) => one == other,
+            _ => false,
+        }
     }
 
     fn print(&mut self, text: &[u8]) -> io::Result<()> {
