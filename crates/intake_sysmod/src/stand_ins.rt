@@ -138,6 +138,7 @@ pub(crate) fn short_change(
 }
 
 /// What stands for an element that the profile lacks, told as such, or nothing where nothing can, which is told too.
+#[tactic(auto, using(crate::proofs::Targets::lacked_target))]
 pub(crate) fn stand_in_change(
     alloc: Global,
     remarks: &mut Remarks,
