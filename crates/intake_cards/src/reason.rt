@@ -130,6 +130,8 @@ pub enum RemarkReason {
     OpenComment,
     /// More than blanks and comments stands behind the period.
     TextBehind,
+    /// No text follows the statement.
+    NoText,
     /// A card of a text has no number, or one that is not higher than the one before.
     Misnumbered,
     /// A line has more than 80 columns.
@@ -198,9 +200,10 @@ impl RemarkReason {
             RemarkReason::LongList => "more than 1,000 ids",
             RemarkReason::TooMany => "more statements than a SYSMOD may have",
             RemarkReason::NoSyslib => "no SYSLIB, and none given by --syslib",
-            RemarkReason::TextElsewhere => "its text is in another file or library: give --relfile, or put the text after the statement",
+            RemarkReason::TextElsewhere =>
+                "its text is in another file or library: give --relfile, or put the text after the statement",
             RemarkReason::NoAscii => "characters that are no ASCII",
-            RemarkReason::BadText => "a bad text",
+            RemarkReason::BadText => "the text has not the form that smpe reads",
             RemarkReason::Contradiction => "these operands cannot stand together",
             RemarkReason::OutOfPlace => "may not stand there",
             RemarkReason::WholeSysmod => "a statement of it can't be carried",
@@ -216,13 +219,17 @@ impl RemarkReason {
             RemarkReason::KnownExcluded => "EXCLUDE names the APARs or USERMODs of --known",
             RemarkReason::KnownSources => "the list names the source ids of --known that begin so",
             RemarkReason::BlankEnd => "blank cards end a text that has numbers",
+            RemarkReason::NoText => "no text follows: put it after the statement",
             RemarkReason::Misnumbered => {
                 "columns 73 to 80 of a card must have eight digits, higher than those before"
             }
-            RemarkReason::LongSource => "it changes no decision here, since no command can name this source id",
-            RemarkReason::LongLine => "the line has more than 80 columns; put the rest on a line of its own",
+            RemarkReason::LongSource =>
+                "it changes no decision here, since no command can name this source id",
+            RemarkReason::LongLine =>
+                "the line has more than 80 columns; put the rest on a line of its own",
             RemarkReason::NoList => "SELECT or GROUP is missing",
-            RemarkReason::NeedsKnown => "only --known FILE tells which these are: give it, or write their ids",
+            RemarkReason::NeedsKnown =>
+                "only --known FILE tells which these are: give it, or write their ids",
             RemarkReason::NoSource => "no source id of --known begins so",
             RemarkReason::NoOperand => "the profile has no such operand",
             RemarkReason::NoCommand => "the profile has no such command",

@@ -206,7 +206,7 @@ fn where_at(alloc: Global, card: Option<&Card>) -> Result<String, AllocError> {
 /// Why the cards are no text at all, if they are none.
 fn fault_of(cards: &[Card]) -> Option<RemarkReason> {
     if cards.is_empty() {
-        return Some(RemarkReason::TextElsewhere);
+        return Some(RemarkReason::NoText);
     }
     if cards.len() > MOST_RECORDS {
         return Some(RemarkReason::TooMany);

@@ -45,9 +45,9 @@ const REFUSED_HOLDS: &[u8] =
     ++RELEASE(UA00007) SYSTEM FMID(HAA110) REASON(DOC).\n++HOLD(UA00008) SYSTEM FMID(HAA1100) REASON(DOC).\n";
 
 const REFUSED_HOLDS_CARRIED: &str = "refused\n! f line 1: ++HOLD(UA0001): refused: a bad id\n\
-    ! f line 2: ++HOLD(UA00002) REASON: refused: a bad value\n! f line 3: ++HOLD(UA00003) FMID: refused: missing\n\
-    ! f line 4: ++HOLD(UA00004) REASON: refused: missing\n\
-    ! f line 5: ++HOLD(UA00005) ERROR, SYSTEM or USER: refused: missing\n\
+    ! f line 2: ++HOLD(UA00002) REASON: refused: a bad value\n! f line 3: ++HOLD(UA00003) FMID: refused: it is missing\n\
+    ! f line 4: ++HOLD(UA00004) REASON: refused: it is missing\n\
+    ! f line 5: ++HOLD(UA00005) ERROR, SYSTEM or USER: refused: it is missing\n\
     ! f line 6: ++HOLD(UA00006) USER: refused: stands there twice\n\
     ! f line 7: ++RELEASE(UA00007) FMID: refused: a bad id\n";
 

@@ -270,6 +270,7 @@ pub(crate) fn reason_text(reason: OtherReason) -> &'static [u8] {
         OtherReason::StrayCharacter => b"character",
         OtherReason::TextBehind => b"behind",
         OtherReason::NoName => b"no name",
+        OtherReason::LongLine => b"long line",
         OtherReason::Misplaced => b"misplaced",
     }
 }
