@@ -18,7 +18,7 @@ use Rattle.terms.specs.Rising.{before, behind, with_item}
 use Rattle.terms.proofs.ElementOrder.{change_cmp_total, element_ties, same_key, type_from_number}
 use Rattle.intake_read.specs.declared.items.WideElement.{WideElement}
 use Rattle.intake_read.specs.declared.items.WideSysmod.{WideSysmod}
-use Rattle.intake_sysmod.specs.Elements.{Changes, IsChanged, IsPassedOver}
+use Rattle.intake_sysmod.specs.Elements.{Changes, IsElementChanged, IsPassedOver}
 
 abbrev pub put : List Change → Change → List Change
 put cs c = with_item change_cmp (λ x. x) cs c
@@ -69,8 +69,8 @@ kept_after cs c type name any =
 abbrev pub Keeps : List Change → List Change → Type 0
 Keeps old new = (type : ElemType) (name : Text) → Changes old type name → Changes new type name
 
-changed_still : (decide : Bool) (old new : List Change) (e : WideElement) → Keeps old new → IsChanged decide old e
-    → IsChanged decide new e
+changed_still : (decide : Bool) (old new : List Change) (e : WideElement) → Keeps old new → IsElementChanged decide old e
+    → IsElementChanged decide new e
 changed_still decide old new e kept h = record {
   type = h.type;
   name = h.name;
@@ -80,7 +80,7 @@ changed_still decide old new e kept h = record {
 }
 
 abbrev pub IsDone : Bool → WideSysmod → List Change → WideElement → Type 0
-IsDone decide stated changes e = IsChanged decide changes e ⊎ IsPassedOver decide stated
+IsDone decide stated changes e = IsElementChanged decide changes e ⊎ IsPassedOver decide stated
 
 pub done_still : (decide : Bool) (stated : WideSysmod) (old new : List Change) (es : List WideElement) → Keeps old new
     → All (IsDone decide stated old) es → All (IsDone decide stated new) es

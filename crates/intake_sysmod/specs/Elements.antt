@@ -49,7 +49,7 @@ abbrev pub HasNoLevel : WideOperand → Type 0
 HasNoLevel operand = is_level operand.name.items ≡ false
 
 -- The element of the statement is changed. Where stand-ins are asked for, no operand of it decides more.
-pub record IsChanged (decide : Bool) (changes : List Change) (stated : WideElement) : Type 0 where
+pub record IsElementChanged (decide : Bool) (changes : List Change) (stated : WideElement) : Type 0 where
   pub type : ElemType
   pub name : Text
   pub target_is : IsTarget decide stated.word.items stated.name.items type name

@@ -10,7 +10,7 @@ use Rattle.intake_read.specs.declared.items.WideSysmod.{WideSysmod}
 use Rattle.intake_sysmod.specs.declared.ver_operands.Lists.{Lists}
 use Rattle.intake_sysmod.specs.declared.ver_operands.VerOperands.{VerOperands}
 use Rattle.intake_read.specs.Stated.{text_in, AreSame}
-use Rattle.intake_sysmod.specs.Elements.{IsChanged, IsPassedOver}
+use Rattle.intake_sysmod.specs.Elements.{IsElementChanged, IsPassedOver}
 
 -- the ++IF of the file: its function and its requisites
 pub record IsIf (stated : WideIf) (carried : IfReq) : Type 0 where
@@ -62,4 +62,4 @@ pub record IsNoLooser (decide : Bool) (stated : WideSysmod) (carried : Sysmod) :
   pub id_is : carried.id ≡ stated.id.items
   pub kind_is : carried.kind ≡ stated.kind
   pub vers_are : AreVers stated.vers.items carried.vers
-  pub changed : All (λ e. IsChanged decide carried.changes e ⊎ IsPassedOver decide stated) stated.elements.items
+  pub changed : All (λ e. IsElementChanged decide carried.changes e ⊎ IsPassedOver decide stated) stated.elements.items

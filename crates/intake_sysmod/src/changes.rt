@@ -7,7 +7,7 @@ ghost use Rattle.intake_sysmod.specs.Elements.{
   IsLacked,
   IsTarget,
   Changes,
-  IsChanged,
+  IsElementChanged,
   HasNoLevel,
   IsPassedOver,
 };
@@ -323,7 +323,7 @@ fn put_decided(
     ensures kept { OnOk result ((type : AnyType) (name : Text) → Changes sysmod.old.changes type name
         → Changes sysmod.new.changes type name) }
     ensures changed { IfOk result (λ put. IsTrue put
-        → IsChanged options.now.decide sysmod.new.changes element.now) }
+        → IsElementChanged options.now.decide sysmod.new.changes element.now) }
 {
     let subject = subject_of(element);
     if !may_stand_in(alloc, remarks, &subject, element)? {
@@ -351,7 +351,7 @@ fn put_stated(
     ensures kept { OnOk result ((type : AnyType) (name : Text) → Changes sysmod.old.changes type name
         → Changes sysmod.new.changes type name) }
     ensures changed { IfOk result (λ put. IsTrue put
-        → IsChanged options.now.decide sysmod.new.changes element.now) }
+        → IsElementChanged options.now.decide sysmod.new.changes element.now) }
 {
     let subject = subject_of(element);
     let Some(change) = change_of(alloc, options, remarks, kind, element)? else {
@@ -375,7 +375,7 @@ fn put_element(
     ensures kept { OnOk result ((type : AnyType) (name : Text) → Changes sysmod.old.changes type name
         → Changes sysmod.new.changes type name) }
     ensures changed { IfOk result (λ put. IsTrue put
-        → IsChanged options.now.decide sysmod.new.changes element.now) }
+        → IsElementChanged options.now.decide sysmod.new.changes element.now) }
 {
     if options.decide {
         put_decided(alloc, options, remarks, kind, element, sysmod)
@@ -394,7 +394,7 @@ pub(crate) fn put_changes(
     sysmod: &mut Sysmod,
 ) -> Result<bool, AllocError>
     ensures rest { OnOk result (sysmod.new ≡ record sysmod.old { changes = sysmod.new.changes }) }
-    ensures changed { IfOk result (λ all. IsTrue all → All (λ e. IsChanged options.now.decide sysmod.new.changes e
+    ensures changed { IfOk result (λ all. IsTrue all → All (λ e. IsElementChanged options.now.decide sysmod.new.changes e
         ⊎ IsPassedOver options.now.decide stated.now) stated.now.elements.items) }
 {
     let mut all = true;
