@@ -164,7 +164,8 @@ fn oddity_words(oddity: CardOddity) -> &'static str {
         CardOddity::ByteOrderMark => "a byte order mark is passed over",
         CardOddity::BlanksBehind80 => "blanks after column 80 are passed over",
         CardOddity::LongLine => "more than 80 columns",
-        CardOddity::Padding => "NULs or the end of file of older systems at its end are passed over",
+        CardOddity::Padding =>
+            "NULs or the end of file of older systems at its end are passed over",
         CardOddity::Delimiter => "a delimiter of JCL at its end is passed over",
         CardOddity::Tab => "a tab counts as one column",
         CardOddity::NotPrintable => "characters that are no ASCII",

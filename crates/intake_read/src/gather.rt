@@ -143,7 +143,8 @@ impl FileSoFar {
             WideWord::Element => self.add_element(statement)?,
             WideWord::LoadModules => self.add_other(OtherReason::LoadModules, statement)?,
             WideWord::Header(_) | WideWord::Unknown => self.add_other(
-                OtherReason::UnknownWord, statement,
+                OtherReason::UnknownWord,
+                statement,
             )?,
         }
         Ok(())

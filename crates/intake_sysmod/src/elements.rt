@@ -243,7 +243,13 @@ fn lines_for(
     }
     let Some(lines) = text_of(alloc, elem_type, cards)? else {
         let text = where_at(alloc, first_misnumbered(cards))?;
-        remarks.leave_out(alloc, subject, b"", RemarkReason::Misnumbered, text.as_bytes())?;
+        remarks.leave_out(
+            alloc,
+            subject,
+            b"",
+            RemarkReason::Misnumbered,
+            text.as_bytes(),
+        )?;
         return Ok(None);
     };
     if needs_numbers(elem_type, cards) {

@@ -106,15 +106,12 @@ line 1: APPLY GROUPEXTEND: carried otherwise: EXCLUDE names the APARs or USERMOD
 ";
 
 /// SYSMODs that are known.
-const LIST: &[u8] = b"id,kind,sources\nUA00001,PTF,\"RSU2401 HIPER\"\nAA00001,APAR,\nAA00002,APAR,RSU2402\n\nUM00001,USERMOD,\n";
+const LIST: &[u8] =
+    b"id,kind,sources\nUA00001,PTF,\"RSU2401 HIPER\"\nAA00001,APAR,\nAA00002,APAR,RSU2402\n\nUM00001,USERMOD,\n";
 
 /// What comes of a command file: the records without the blanks at their ends, and none where there is no file; then
 /// the remarks.
-fn outcome(
-    alloc: Global,
-    text: &[u8],
-    known: Option<&[KnownSysmod]>,
-) -> Result<String, Fail> {
+fn outcome(alloc: Global, text: &[u8], known: Option<&[KnownSysmod]>) -> Result<String, Fail> {
     let found = read_cards(alloc, 0, text, Some(Layout::Text), None)?;
     let file = command_file(alloc, &found.cards, known)?;
     let mut lines = Vec::new(alloc);
@@ -200,7 +197,11 @@ fn a_long_line_is_refused_unless_it_is_a_comment(rt: HostRuntime) -> Result<(), 
         let text = format!(in alloc; "{before}{long}{behind}\nLIST.\n")?;
         let got = outcome(alloc, text.as_bytes(), None)?;
         let lines = file_of(alloc, wanted)?;
-        compare(before, got.as_str().trim_end(), str::from_utf8(lines.as_slice())?)?;
+        compare(
+            before,
+            got.as_str().trim_end(),
+            str::from_utf8(lines.as_slice())?,
+        )?;
     }
     Ok(())
 }

@@ -3,7 +3,7 @@
 use crate::narrow_lines::{check, check_with};
 use fields::Name;
 use intake_cards::{CardPlace, read_cards};
-use intake_sysmod::{RelfileMember, Options, Syslib};
+use intake_sysmod::{Options, RelfileMember, Syslib};
 use std::alloc::Global;
 use std::test::Fail;
 

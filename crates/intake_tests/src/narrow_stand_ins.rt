@@ -120,7 +120,12 @@ const LEVELS_CARRIED: &str = "\
 
 #[test]
 fn levels_of_elements_leave_out(rt: HostRuntime) -> Result<(), Fail> {
-    check_with(rt.alloc(), LEVELS, options(rt.alloc(), true), LEVELS_CARRIED)
+    check_with(
+        rt.alloc(),
+        LEVELS,
+        options(rt.alloc(), true),
+        LEVELS_CARRIED,
+    )
 }
 
 /// A source and a macro that modules are assembled of.
@@ -157,5 +162,10 @@ const ASSEMBLED_CARRIED: &str = "\
 
 #[test]
 fn what_is_assembled_replaces_its_module(rt: HostRuntime) -> Result<(), Fail> {
-    check_with(rt.alloc(), ASSEMBLED, options(rt.alloc(), true), ASSEMBLED_CARRIED)
+    check_with(
+        rt.alloc(),
+        ASSEMBLED,
+        options(rt.alloc(), true),
+        ASSEMBLED_CARRIED,
+    )
 }

@@ -25,11 +25,20 @@ const FILES: &[(&str, &[u8])] = &[
     ("bad", b"++HOLD(UA1) ERROR FMID(HAA1100) REASON(AA00001).\n"),
     ("cntl", b" SET BOUNDARY(TGT1).\n"),
     ("rc", b" APPLY PTFS RC(APPLY=8).\n"),
-    ("group", b" APPLY PTFS GROUPEXTEND(NOAPARS) SOURCEID(RSU*).\n"),
-    ("known", b"id kind sources\nUA00001 PTF RSU2401\nAA00001 APAR\n"),
+    (
+        "group",
+        b" APPLY PTFS GROUPEXTEND(NOAPARS) SOURCEID(RSU*).\n",
+    ),
+    (
+        "known",
+        b"id kind sources\nUA00001 PTF RSU2401\nAA00001 APAR\n",
+    ),
     ("gzip", b"\x1F\x8B\x08"),
     ("jcl", b"//STEP EXEC PGM=GIMSMP\n++PTF(UA00001).\n"),
-    ("holds", b"++HOLD(UA00001) ERROR FMID(HAA1100) REASON(AA00001)\n"),
+    (
+        "holds",
+        b"++HOLD(UA00001) ERROR FMID(HAA1100) REASON(AA00001)\n",
+    ),
 ];
 
 /// The words behind the program's name, with blanks between; the status, what is left in the folder, and what is told.
