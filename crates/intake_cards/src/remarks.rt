@@ -47,6 +47,24 @@ pub struct Remarks {
     pub forbidding: usize,
 }
 
+/// A remark, and how many more say the same.
+#[derive(Drop)]
+struct Cause {
+    remark: Remark,
+    more: usize,
+}
+
+fn add_cause(causes: &mut Vec<Cause>, remark: Remark) -> Result<(), AllocError> {
+    for cause in causes.iter_mut() {
+        if cause.remark.says_the_same(&remark) {
+            cause.more = cause.more.saturating_add(1);
+            return Ok(());
+        }
+    }
+    causes.push(Cause { remark, more: 0 })?;
+    Ok(())
+}
+
 impl Remarks {
     /// No remark, and nothing counted.
     pub fn new(alloc: Global) -> Remarks {
@@ -127,25 +145,16 @@ impl Remarks {
     /// Puts the remarks of a SYSMOD that is left out behind these: of those that say the same of statements of one word
     /// the first, with how many there are. The error comes where memory runs out.
     pub fn append_causes(&mut self, alloc: Global, others: Remarks) -> Result<(), AllocError> {
-        let first = self.list.len();
-        let mut counts: Vec<usize> = Vec::new(alloc);
+        let mut causes = Vec::new(alloc);
         for remark in others.list {
-            let place = self.list[first..]
-                .iter()
-                .position(|known| known.says_the_same(&remark));
-            match place {
-                Some(place) => counts[place] = counts[place].saturating_add(1),
-                None => {
-                    self.list.push(remark)?;
-                    counts.push(0)?;
-                }
-            }
+            add_cause(&mut causes, remark)?;
         }
-        for (remark, more) in self.list[first..].iter_mut().zip(counts.iter()) {
-            if *more > 0 {
-                let text = format!(in alloc; "{more} more")?;
-                remark.text = text.into_bytes();
+        for cause in causes {
+            let Cause { mut remark, more } = cause;
+            if more > 0 {
+                remark.text = format!(in alloc; "{more} more")?.into_bytes();
             }
+            self.list.push(remark)?;
         }
         Ok(())
     }

@@ -69,11 +69,10 @@ impl OtherCopies {
             rework: rework_of(sysmod),
             place: sysmod.place,
         };
-        let Some(before) = best.get(&id) else {
+        let Some(before) = best.get(&id).copied() else {
             best.insert(id, copy)?;
             return Ok(());
         };
-        let before = *before;
         if copy.rework > before.rework {
             self.places.insert(before.place)?;
             best.insert(id, copy)?;

@@ -227,7 +227,8 @@ fn hold_of(
 
 /// Whether the hold stands in the SYSMOD of the id: a SYSTEM hold on it.
 fn is_internal(key: &Release, own: Option<Id>) -> bool
-    ensures { IsTrue result → (key.now.kind ≡ System) × (own ≡ Some key.now.id) }
+    ensures only { IsTrue result → (key.now.kind ≡ System) × (own ≡ Some key.now.id) }
+    ensures always { (key.now.kind ≡ System) × (own ≡ Some key.now.id) → IsTrue result }
 {
     key.kind == HoldKind::System && own == Some(key.id)
 }

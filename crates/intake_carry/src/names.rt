@@ -1,10 +1,12 @@
 //! Which elements stand-ins are for.
 
+use fields::spelling::type_text;
 use intake_cards::{RemarkReason, Remarks, StandIn, Subject};
 use intake_read::{WideElement, WideFile};
 use std::alloc::{AllocError, Global};
 use std::cmp::Ordering;
 use std::mem;
+use terms::ElemType;
 
 /// By their names and types, and then by the elements.
 fn order(one: &StandIn, other: &StandIn) -> Ordering {
@@ -44,7 +46,7 @@ fn apart(
     remarks: &mut Remarks,
     mut named: Vec<StandIn>,
 ) -> Result<Vec<StandIn>, AllocError> {
-    named.sort_unstable_by(order);
+    named.sort_unstable_by(|one, other| order(one, other));
     let mut kept: Vec<StandIn> = Vec::with_capacity(alloc, named.len())?;
     for one in named {
         if let Some(last) = kept.last() {
@@ -69,9 +71,9 @@ fn tell_real(
 ) -> Result<(), AllocError> {
     let word = element.word.as_slice();
     let name = element.name.as_slice();
-    let elem_type: &[u8] = match word {
-        b"MAC" | b"MACUPD" => b"MAC",
-        b"DATA" => b"DATA",
+    let elem_type = match word {
+        b"MAC" | b"MACUPD" => type_text(ElemType::Mac),
+        b"DATA" => type_text(ElemType::Data),
         _ => return Ok(()),
     };
     let found = named.binary_search_by(|one| one
@@ -79,10 +81,13 @@ fn tell_real(
         .as_bytes()
         .cmp(name)
         .then(one.elem_type.cmp(elem_type)));
-    if let Ok(place) = found {
-        tell(alloc, remarks, &named[place])?;
+    let Ok(place) = found else {
+        return Ok(());
+    };
+    match named.get(place) {
+        Some(one) => tell(alloc, remarks, one),
+        None => Ok(()),
     }
-    Ok(())
 }
 
 /// Puts the stand-ins in order, each once, and tells of those that fall together with each other, or with elements of

@@ -97,20 +97,27 @@ fn users_of<'a>(
 ) -> Result<Vec<RelfileUser<'a>>, AllocError> {
     let mut users: Vec<RelfileUser<'a>> = Vec::new(alloc);
     for element in elements {
-        let known = users.iter().position(|user| user.number == element.number);
-        match known {
-            Some(place) => {
-                if users[place].id != Some(element.id) {
-                    users[place].id = None;
-                }
-            }
-            None => users.push(RelfileUser {
+        if !is_known(&mut users, element) {
+            users.push(RelfileUser {
                 number: element.number,
                 id: Some(element.id),
-            })?,
+            })?;
         }
     }
     Ok(users)
+}
+
+// Whether the RELFILE has a user already, who is not alone if it is another SYSMOD.
+fn is_known(users: &mut Vec<RelfileUser<'_>>, element: &RelfileElement<'_>) -> bool {
+    for user in users.iter_mut() {
+        if user.number == element.number {
+            if user.id != Some(element.id) {
+                user.id = None;
+            }
+            return true;
+        }
+    }
+    false
 }
 
 fn is_only_user(users: &[RelfileUser<'_>], element: &RelfileElement<'_>) -> bool {

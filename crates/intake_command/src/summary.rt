@@ -67,15 +67,17 @@ pub(crate) fn is_left_out(remark: &Remark) -> bool {
     )
 }
 
-/// Why the SYSMOD of the remark at the place is left out: the first remark on one of its statements that says so, or
+/// Why the SYSMOD of the remark at the place, `header`, is left out: the first remark on one of its statements that says so, or
 /// itself.
-pub(crate) fn cause_of(remarks: &[Remark], place: usize) -> &Remark {
-    let header = &remarks[place];
+pub(crate) fn cause_of<'a>(remarks: &'a [Remark], place: usize, header: &'a Remark) -> &'a Remark {
     let mut cause = header;
+    let Some((before, _)) = remarks.split_at_checked(place) else {
+        return cause;
+    };
     if header.reason != RemarkReason::WholeSysmod {
         return cause;
     }
-    for remark in remarks[..place].iter().rev() {
+    for remark in before.iter().rev() {
         if remark.place.file != header.place.file || remark.place.card < header.place.card {
             return cause;
         }
@@ -90,7 +92,7 @@ pub(crate) fn cause_of(remarks: &[Remark], place: usize) -> &Remark {
 }
 
 /// The statement of a remark, with its id and its operand.
-pub(crate) fn subject_text(alloc: Global, remark: &Remark) -> Result<Vec<u8>, AllocError> {
+pub(crate) fn subject_text(remark: &Remark) -> Result<Vec<u8>, AllocError> {
     let mut text = remark.statement.clone()?;
     if !remark.id.is_empty() {
         text.extend_from_slice(b"(")?;
@@ -103,13 +105,12 @@ pub(crate) fn subject_text(alloc: Global, remark: &Remark) -> Result<Vec<u8>, Al
         }
         text.extend_from_slice(&remark.operand)?;
     }
-    let _ = alloc;
     Ok(text)
 }
 
 /// What the cause says, in words.
-pub(crate) fn cause_text(alloc: Global, cause: &Remark) -> Result<Vec<u8>, AllocError> {
-    let mut text = subject_text(alloc, cause)?;
+pub(crate) fn cause_text(cause: &Remark) -> Result<Vec<u8>, AllocError> {
+    let mut text = subject_text(cause)?;
     text.extend_from_slice(b": ")?;
     text.extend_from_slice(cause.reason.words().as_bytes())?;
     if !cause.text.is_empty() {
@@ -131,14 +132,14 @@ fn left_out(alloc: Global, remarks: &[Remark], lines: &mut Vec<u8>) -> Result<()
             continue;
         }
         lines.extend_from_slice(b"LEFTOUT ")?;
-        let cause = cause_of(remarks, place);
+        let cause = cause_of(remarks, place, remark);
         if cause.statement.as_slice() != remark.statement.as_slice()
             || cause.id.as_slice() != remark.id.as_slice()
         {
-            lines.extend_from_slice(&subject_text(alloc, remark)?)?;
+            lines.extend_from_slice(&subject_text(remark)?)?;
             lines.extend_from_slice(b": ")?;
         }
-        lines.extend_from_slice(cause_text(alloc, cause)?.trim_ascii_end())?;
+        lines.extend_from_slice(cause_text(cause)?.trim_ascii_end())?;
         lines.push(b'\n')?;
     }
     if found > MOST_LINES {

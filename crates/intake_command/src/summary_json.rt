@@ -24,7 +24,7 @@ fn put_text(json: &mut Vec<u8>, text: &[u8]) -> Result<(), AllocError> {
 
 // The name of a member of an object.
 fn put_name(json: &mut Vec<u8>, name: &str) -> Result<(), AllocError> {
-    if json.last() != Some(&b'{') {
+    if !json.as_slice().ends_with(b"{") {
         json.push(b',')?;
     }
     put_text(json, name.as_bytes())?;
@@ -58,14 +58,14 @@ fn put_tally(
 
 // Begins an object of a list.
 fn begin(json: &mut Vec<u8>) -> Result<(), AllocError> {
-    if json.last() != Some(&b'[') {
+    if !json.as_slice().ends_with(b"[") {
         json.push(b',')?;
     }
     json.push(b'{')?;
     Ok(())
 }
 
-fn put_left_out(alloc: Global, json: &mut Vec<u8>, remarks: &[Remark]) -> Result<(), AllocError> {
+fn put_left_out(json: &mut Vec<u8>, remarks: &[Remark]) -> Result<(), AllocError> {
     put_name(json, "left_out")?;
     json.push(b'[')?;
     for (place, remark) in remarks.iter().enumerate() {
@@ -76,7 +76,7 @@ fn put_left_out(alloc: Global, json: &mut Vec<u8>, remarks: &[Remark]) -> Result
             put_name(json, "id")?;
             put_text(json, &remark.id)?;
             put_name(json, "cause")?;
-            put_text(json, &cause_text(alloc, cause_of(remarks, place))?)?;
+            put_text(json, &cause_text(cause_of(remarks, place, remark))?)?;
             json.push(b'}')?;
         }
     }
@@ -105,7 +105,7 @@ pub(crate) fn json_summary(alloc: Global, narrowed: &Narrowed) -> Result<Vec<u8>
     let remarks = narrowed.remarks.as_slice();
     let mut json = Vec::new(alloc);
     json.push(b'{')?;
-    put_left_out(alloc, &mut json, remarks)?;
+    put_left_out(&mut json, remarks)?;
     let held = number_of(remarks, RemarkReason::HeldOutside);
     put_number(alloc, &mut json, "holds_outside", held)?;
     let swallowed = number_of(remarks, RemarkReason::StatementInComment);

@@ -50,10 +50,8 @@ fn upper_word(alloc: Global, text: &[u8]) -> Result<Vec<u8>, AllocError> {
 
 /// What follows the first opening parenthesis.
 fn behind_parenthesis(text: &[u8]) -> &[u8] {
-    let mut parts = text.splitn(2, |byte| *byte == b'(');
-    let _ = parts.next();
-    match parts.next() {
-        Some(rest) => rest,
+    match text.iter().position(|byte| *byte == b'(') {
+        Some(place) => &text[place + 1..],
         None => b"",
     }
 }

@@ -119,6 +119,7 @@ fn lacked_change(
 
 /// What a statement of the profile changes, or nothing where it can't be carried, which is told. Where stand-ins are
 /// asked for, it has a text of one record in place of one that can't be carried.
+#[tactic(auto, using(crate::proofs::Targets::known_target))]
 fn known_change(
     alloc: Global,
     options: &Options,

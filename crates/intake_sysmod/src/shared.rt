@@ -3,7 +3,7 @@
 use crate::modules::{has_own_module, modules_of};
 use crate::stand_in_names::stand_in_name;
 use crate::words::{profile_type, stand_in};
-use fields::Name;
+use fields::{Id, Name};
 use intake_read::{WideElement, WideFile, WideSysmod};
 use std::alloc::{AllocError, Global};
 use std::collections::{BTreeMap, BTreeSet};
@@ -46,7 +46,7 @@ impl ElementKey {
 }
 
 /// Who changes an element: the first SYSMOD, by its id.
-type Changers<'a> = BTreeMap<ElementKey, &'a [u8]>;
+type Changers = BTreeMap<ElementKey, Id>;
 
 impl SharedElements {
     pub(crate) fn none(alloc: Global) -> SharedElements {
@@ -68,7 +68,7 @@ impl SharedElements {
         if !files.iter().any(|file| has_large(file.sysmods.as_slice())) {
             return Ok(shared);
         }
-        let mut changers = BTreeMap::new(alloc);
+        let mut changers: Changers = BTreeMap::new(alloc);
         for file in files {
             for sysmod in file.sysmods.iter() {
                 shared.add_sysmod(&mut changers, sysmod)?;
@@ -77,12 +77,14 @@ impl SharedElements {
         Ok(shared)
     }
 
-    fn add_sysmod<'a>(
+    fn add_sysmod(
         &mut self,
-        changers: &mut Changers<'a>,
-        sysmod: &'a WideSysmod,
+        changers: &mut Changers,
+        sysmod: &WideSysmod,
     ) -> Result<(), AllocError> {
-        let id = sysmod.id.as_slice();
+        let Some(id) = Id::read(sysmod.id.as_slice()) else {
+            return Ok(());
+        };
         for element in sysmod.elements.iter() {
             self.add(changers, ElementKey::of(element), id)?;
             if has_own_module(element) {
@@ -95,26 +97,26 @@ impl SharedElements {
         Ok(())
     }
 
-    fn add<'a>(
+    fn add(
         &mut self,
-        changers: &mut Changers<'a>,
+        changers: &mut Changers,
         key: Option<ElementKey>,
-        id: &'a [u8],
+        id: Id,
     ) -> Result<(), AllocError> {
         let Some(key) = key else {
             return Ok(());
         };
-        match changers.get(&key) {
-            Some(first) => {
-                if *first != id {
-                    self.keys.insert(key)?;
-                }
+        match changers.get(&key).copied() {
+            Some(first) if first == id => Ok(()),
+            Some(_) => {
+                self.keys.insert(key)?;
+                Ok(())
             }
             None => {
                 changers.insert(key, id)?;
+                Ok(())
             }
         }
-        Ok(())
     }
 }
 

@@ -1,7 +1,7 @@
 //! The names of stand-ins: the same in every run for the same element.
-ghost use Rattle.std.specs.Prelude.{◌≡◌, ◌<◌, IfSome, codes};
+ghost use Rattle.std.specs.Prelude.{◌≡◌, ◌<◌, ◌++◌, IfSome, codes};
 ghost use Rattle.std.specs.List.{fold};
-ghost use Rattle.intake_sysmod.specs.StandInNames.{hash_step, stand_in_name, owner_word};
+ghost use Rattle.intake_sysmod.specs.StandInNames.{hash_step, hash_of, character, name_of, stand_in_name, owner_word};
 
 use fields::Name;
 
@@ -27,6 +27,7 @@ fn hashed(start: u64, text: &[u8]) -> u64
 /// The character that a digit of the number to the base 39 stands for.
 fn character(number: u64, power: u64) -> u8
     requires { 0 < power }
+    ensures { result ≡ character number power }
 {
     CHARACTERS[(number / power % 39) as usize]
 }
@@ -44,11 +45,18 @@ pub(crate) fn owner_word(word: &[u8]) -> &[u8]
     }
 }
 
-/// The name of what stands for the element of this name in a statement of this word.
-pub(crate) fn stand_in_name(word: &[u8], name: &[u8]) -> Option<Name>
-    ensures { IfSome result (λ found. found ≡ stand_in_name word.now name.now) }
+/// The hash of a word and a name.
+#[tactic(auto, using(crate::proofs::Targets::hash_parts))]
+fn hash_of(word: &[u8], name: &[u8]) -> u64
+    ensures { result ≡ hash_of (word.now ++ codes "(" ++ name.now) }
 {
-    let hash = hashed(hashed(hashed(0, owner_word(word)), b"("), name);
+    hashed(hashed(hashed(0, word), b"("), name)
+}
+
+/// The name that a hash is.
+fn name_of(hash: u64) -> Option<Name>
+    ensures { IfSome result (λ found. found ≡ name_of hash) }
+{
     let text = [
         character(hash, 137231006679),
         character(hash, 3518743761),
@@ -60,4 +68,11 @@ pub(crate) fn stand_in_name(word: &[u8], name: &[u8]) -> Option<Name>
         character(hash, 1),
     ];
     Name::read(text.as_slice())
+}
+
+/// The name of what stands for the element of this name in a statement of this word.
+pub(crate) fn stand_in_name(word: &[u8], name: &[u8]) -> Option<Name>
+    ensures { IfSome result (λ found. found ≡ stand_in_name word.now name.now) }
+{
+    name_of(hash_of(owner_word(word), name))
 }

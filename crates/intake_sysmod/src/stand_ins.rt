@@ -138,6 +138,7 @@ pub(crate) fn short_change(
 }
 
 /// What stands for an element that the profile lacks, told as such, or nothing where nothing can, which is told too.
+#[tactic(auto, using(crate::proofs::Targets::lacked_target))]
 pub(crate) fn stand_in_change(
     alloc: Global,
     remarks: &mut Remarks,
@@ -172,9 +173,11 @@ pub(crate) fn tell_stand_in(
     elem_type: ElemType,
     name: Name,
 ) -> Result<(), AllocError> {
-    let mut text = Vec::from_slice(alloc, type_text(elem_type))?;
-    text.push(b' ')?;
+    let mut text = Vec::from_slice(alloc, b"++")?;
+    text.extend_from_slice(type_text(elem_type))?;
+    text.push(b'(')?;
     text.extend_from_slice(name.as_bytes())?;
+    text.push(b')')?;
     remarks.tell_carried(alloc, subject, b"", RemarkReason::StandIn, text.as_slice())
 }
 

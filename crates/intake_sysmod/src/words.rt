@@ -6,6 +6,7 @@ use fields::spelling::read_type;
 use terms::{ElemType, Kind};
 
 /// The type of the element that a statement of the profile changes.
+#[tactic(auto, using(crate::proofs::Targets::lacked))]
 pub(crate) fn profile_type(word: &[u8]) -> Option<ElemType>
     ensures found { IfSome result (IsProfileType word.now) }
     ensures none { IfNone result (IsLacked word.now) }

@@ -1,6 +1,7 @@
 //! What is longer than a card.
 
-use crate::narrow_lines::check;
+use crate::narrow_lines::{check, check_with, options};
+use std::alloc::{AllocError, Global};
 use std::test::Fail;
 
 /// A long list, a long source id, and words of a COMMENT that are longer than a card.
@@ -27,4 +28,51 @@ const LONG_CARRIED: &str =
 #[test]
 fn what_is_longer_than_a_card_runs_on(rt: HostRuntime) -> Result<(), Fail> {
     check(rt.alloc(), LONG, LONG_CARRIED)
+}
+
+/// A function with 1,001 modules, and a PTF that replaces one of them.
+fn many_modules(alloc: Global) -> Result<Vec<u8>, AllocError> {
+    let mut text = Vec::from_slice(alloc, b"++FUNCTION(HAA1100).\n++VER(Z038).\n")?;
+    for number in 1001u32..2002 {
+        let statement = format!(in alloc; "++MOD(M{number}) DISTLIB(AMOD).\n")?;
+        text.extend_from_slice(statement.as_bytes())?;
+    }
+    text.extend_from_slice(
+        b"++PTF(UA00005).\n++VER(Z038) FMID(HAA1100).\n++MOD(M1500) DISTLIB(AMOD).\n",
+    )?;
+    Ok(text)
+}
+
+const SHARED_CARRIED: &str =
+    "++FUNCTION(HAA1100).\n++VER(Z038).\n++MAC(W@F5VFBR) DISTLIB(AMOD) SYSLIB(AMOD).\n\
+    * ++MOD(M1500)                                                          00000100\n\
+    ++PTF(UA00005).\n++VER(Z038) FMID(HAA1100).\n++MAC(W@F5VFBR) DISTLIB(AMOD) SYSLIB(AMOD).\n\
+    * ++MOD(M1500)                                                          00000100\n\
+    ++ASSIGN SOURCEID(STANDIN) TO(HAA1100 UA00005).\n==\n\
+    - f line 502: ++MOD(M1500): carried otherwise: a stand-in: ++MAC(W@F5VFBR)\n\
+    - f line 1: ++FUNCTION(HAA1100): dropped: no other SYSMOD of these files changes so many of its elements: 1000\n\
+    - f line 1006: ++MOD(M1500): carried otherwise: a stand-in: ++MAC(W@F5VFBR)\n";
+
+#[test]
+fn elements_that_no_other_sysmod_changes_are_passed_over(rt: HostRuntime) -> Result<(), Fail> {
+    let text = many_modules(rt.alloc())?;
+    check_with(
+        rt.alloc(),
+        text.as_slice(),
+        options(rt.alloc(), true),
+        SHARED_CARRIED,
+    )
+}
+
+const LEFT_OUT: &str =
+    "==\n! f line 1: ++FUNCTION(HAA1100): left out: more statements than a SYSMOD may have\n\
+    ! f line 3: ++MOD(M1001): left out: no statement of the profile: 1000 more\n\
+    ! f line 1: ++FUNCTION(HAA1100): left out: a statement of it can't be carried\n\
+    ! f line 1006: ++MOD(M1500): left out: no statement of the profile\n\
+    ! f line 1004: ++PTF(UA00005): left out: a statement of it can't be carried\n";
+
+#[test]
+fn a_cause_is_told_once(rt: HostRuntime) -> Result<(), Fail> {
+    let text = many_modules(rt.alloc())?;
+    check(rt.alloc(), text.as_slice(), LEFT_OUT)
 }

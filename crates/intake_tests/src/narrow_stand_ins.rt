@@ -41,16 +41,16 @@ const STAND_INS_CARRIED: &str = "\
     ==\n\
     - f line 3: ++JCLIN: dropped: load modules are not decided on\n\
     - f line 5: ++MOD(MODA) LEPARM: dropped: it changes no decision: RENT\n\
-    - f line 5: ++MOD(MODA): carried otherwise: a stand-in: MAC FEJ8A63N\n\
+    - f line 5: ++MOD(MODA): carried otherwise: a stand-in: ++MAC(FEJ8A63N)\n\
     - f line 6: ++MAC(MODA): carried otherwise: the text got numbers\n\
-    - f line 8: ++ZAP(ZAPA): carried otherwise: a stand-in: MAC RSCXMIEG\n\
+    - f line 8: ++ZAP(ZAPA): carried otherwise: a stand-in: ++MAC(RSCXMIEG)\n\
     - f line 10: ++SAMP(SAMPA) RELFILE: dropped: it changes no decision: 2\n\
-    - f line 10: ++SAMP(SAMPA): carried otherwise: a stand-in: DATA D0VHNYUB\n\
+    - f line 10: ++SAMP(SAMPA): carried otherwise: a stand-in: ++DATA(D0VHNYUB)\n\
     - f line 11: ++MAC(MACA) SYSLIB: dropped: no SYSLIB, and none given by --syslib: AMACLIB\n\
-    - f line 11: ++MAC(MACA): carried otherwise: a stand-in: MAC MACA\n\
-    - f line 12: ++HFS(HFSA): carried otherwise: a stand-in: DATA QY06N6ZD\n\
-    - f line 15: ++ZAP(ZAPA): carried otherwise: a stand-in: MAC RSCXMIEG\n\
-    - f line 16: ++PROGRAM(PROGA): carried otherwise: a stand-in: MAC RY42KV60\n\
+    - f line 11: ++MAC(MACA): carried otherwise: a stand-in: ++MAC(MACA)\n\
+    - f line 12: ++HFS(HFSA): carried otherwise: a stand-in: ++DATA(QY06N6ZD)\n\
+    - f line 15: ++ZAP(ZAPA): carried otherwise: a stand-in: ++MAC(RSCXMIEG)\n\
+    - f line 16: ++PROGRAM(PROGA): carried otherwise: a stand-in: ++MAC(RY42KV60)\n\
     - f line 19: ++MOVE(MODA): dropped: load modules are not decided on\n\
     ! f line 22: ++MAC(TOOLONGNAME): left out: a bad name\n\
     ! f line 20: ++PTF(UA00003): left out: a statement of it can't be carried\n";
@@ -86,9 +86,9 @@ const TYPES_CARRIED: &str = "\
     * ++PNLENU(P)                                                           00000100\n\
     ++ASSIGN SOURCEID(STANDIN) TO(UA00001).\n\
     ==\n\
-    - f line 3: ++PNLENU(P): carried otherwise: a stand-in: DATA ZVOG#40Z\n\
-    - f line 4: ++PNLJPN(P): carried otherwise: a stand-in: DATA BDMT#N35\n\
-    - f line 5: ++MOD(X): carried otherwise: a stand-in: MAC $8UH1@#N\n";
+    - f line 3: ++PNLENU(P): carried otherwise: a stand-in: ++DATA(ZVOG#40Z)\n\
+    - f line 4: ++PNLJPN(P): carried otherwise: a stand-in: ++DATA(BDMT#N35)\n\
+    - f line 5: ++MOD(X): carried otherwise: a stand-in: ++MAC($8UH1@#N)\n";
 
 #[test]
 fn stand_ins_of_two_types_are_apart(rt: HostRuntime) -> Result<(), Fail> {

@@ -33,6 +33,16 @@ const FILES: &[(&str, &[u8])] = &[
         "known",
         b"id kind sources\nUA00001 PTF RSU2401\nAA00001 APAR\n",
     ),
+    (
+        "relfile",
+        b"++PTF(UA00003).\n++VER(Z038) FMID(HAA1100).\n++DATA(D3) DISTLIB(A) SYSLIB(B) RELFILE(1).\n",
+    ),
+    (
+        "other",
+        b"++PTF(UA00004).\n++VER(Z038) FMID(HAA1100).\n++DATA(D3) DISTLIB(A) SYSLIB(B) RELFILE(1).\n",
+    ),
+    ("r/F1/D3", b"A TEXT\n"),
+    ("r/UA00004/F1/D3", b"ANOTHER TEXT\n"),
     ("gzip", b"\x1F\x8B\x08"),
     ("jcl", b"//STEP EXEC PGM=GIMSMP\n++PTF(UA00001).\n"),
     (
@@ -46,7 +56,11 @@ const CASES: &str = "\
 --out d ptf => 0 ptfin hold remarks
 --out d ptf hold => 0 ptfin hold remarks
 --out d mod => 4 ptfin hold remarks
---out d --decide mod => 0 ptfin hold remarks
+--out d --decide mod => 0 ptfin hold stand-ins remarks
+--out d --relfile r relfile => 0 ptfin hold remarks
+--out d --relfile r other => 0 ptfin hold remarks
+--out d --relfile r relfile other => 4 ptfin hold remarks
+--out d --relfile s relfile => 4 ptfin hold remarks
 --out d --cntl cntl => 0 cntl cntl.remarks
 --out d --cntl rc => 12 cntl.remarks
 --out d --cntl group => 12 cntl.remarks
@@ -74,6 +88,7 @@ ptf => 16 shown
 struct Memory {
     alloc: Global,
     left: Vec<u8>,
+    printed: Vec<u8>,
     told: Vec<u8>,
 }
 
@@ -82,6 +97,7 @@ impl Memory {
         Memory {
             alloc,
             left: Vec::new(alloc),
+            printed: Vec::new(alloc),
             told: Vec::new(alloc),
         }
     }
@@ -122,8 +138,8 @@ impl IntakeHost for Memory {
         one.strip_prefix("./").unwrap_or(one) == other
     }
 
-    fn print(&mut self, _text: &[u8]) -> io::Result<()> {
-        Ok(())
+    fn print(&mut self, text: &[u8]) -> io::Result<()> {
+        Ok(self.printed.extend_from_slice(text)?)
     }
 
     fn tell(&mut self, text: &[u8]) {
@@ -162,6 +178,41 @@ fn answers_its_status(rt: HostRuntime) -> Result<(), Fail> {
         let (words, wanted) = line.split_once(" => ").ok_or("no arrow in a case")?;
         let got = outcome(rt.alloc(), words)?;
         assert_eq!(rt; got.as_str().trim_end(), wanted, "at {words}");
+    }
+    Ok(())
+}
+
+/// What is printed of a PTF and of one with a module: first what is left out, and then how much there is of each.
+const SUMMARY: &str = "LEFTOUT ++PTF(UA00002): ++MOD(M2): no statement of the profile
+FORBIDS       1 left out have elements, NPRE or DELETE, which nothing asks for now
+SYSMOD        1 carried       1 left out
+HOLD          0 carried       0 left out
+RELEASE       0 carried       0 left out
+ASSIGN        0 carried       0 left out
+REMARK        1 left out: no statement of the profile
+REMARK        1 left out: a statement of it can't be carried
+";
+
+/// The same for a program.
+const JSON: &str =
+    "{\"left_out\":[{\"statement\":\"++PTF\",\"id\":\"UA00002\",\"cause\":\"++MOD(M2): no statement \
+of the profile\"}],\"holds_outside\":0,\"in_comments\":0,\"forbids\":1,\"stand_ins\":0,\"passed_over\":0,\
+\"sysmods\":{\"carried\":1,\"left_out\":1},\"holds\":{\"carried\":0,\"left_out\":0},\
+\"releases\":{\"carried\":0,\"left_out\":0},\"assigns\":{\"carried\":0,\"left_out\":0},\
+\"remarks\":[{\"count\":1,\"deed\":\"left out\",\"reason\":\"no statement of the profile\"},\
+{\"count\":1,\"deed\":\"left out\",\"reason\":\"a statement of it can't be carried\"}]}
+";
+
+#[test]
+fn a_summary_begins_with_what_is_left_out(rt: HostRuntime) -> Result<(), Fail> {
+    let alloc = rt.alloc();
+    for (line, wanted) in [
+        ("--out d ptf mod", SUMMARY),
+        ("--out d --summary json ptf mod", JSON),
+    ] {
+        let mut memory = Memory::new(alloc);
+        let _ = command(alloc, &mut memory, &Ok(words(alloc, line)?));
+        assert_eq!(rt; str::from_utf8(&memory.printed)?, wanted, "at {line}");
     }
     Ok(())
 }
