@@ -1,8 +1,8 @@
 //! What becomes of a command: each of its words is spelled out, dropped or named.
 
+use crate::command_remarks::{CommandRemarks, RemarkWords};
 use crate::group_extend::with_excluded;
 use crate::known::KnownSysmod;
-use crate::command_remarks::{CommandRemarks, RemarkWords};
 use crate::scan::{CommandEnd, WideCommand, words_in};
 use crate::spelled::{CommandWords, OperandForm, Spelled, command_of, is_dropped, spelling_of};
 use fields::{Class, Id, Reason as HoldReason, Source, ZoneName};
@@ -102,7 +102,13 @@ fn is_whole(
                 operand: b"",
                 text: b"",
             };
-            told.tell(alloc, opens, words, Deed::Refused, RemarkReason::OpenComment)?;
+            told.tell(
+                alloc,
+                opens,
+                words,
+                Deed::Refused,
+                RemarkReason::OpenComment,
+            )?;
             return Ok(false);
         }
     };
@@ -273,7 +279,9 @@ fn carried_value(
 ) -> Result<Option<Value>, AllocError> {
     let Some(list) = &asked.operand.value else {
         return match known.form {
-            OperandForm::Flag | OperandForm::Group | OperandForm::GroupExtend => Ok(Some(Value::Nothing)),
+            OperandForm::Flag | OperandForm::Group | OperandForm::GroupExtend => Ok(Some(
+                Value::Nothing,
+            )),
             _ => {
                 asked.refuse(alloc, told, b"", RemarkReason::Missing)?;
                 Ok(None)
@@ -359,7 +367,13 @@ fn put_sources(
         }
     }
     if is_found {
-        asked.tell(alloc, told, member, Deed::Carried, RemarkReason::KnownSources)
+        asked.tell(
+            alloc,
+            told,
+            member,
+            Deed::Carried,
+            RemarkReason::KnownSources,
+        )
     } else {
         asked.refuse(alloc, told, member, RemarkReason::NoSource)
     }

@@ -9,8 +9,7 @@ use crate::known::KnownSysmod;
 use crate::print::put_command;
 use crate::scan::{WideCommand, wide_commands};
 use cntl::{CntlError, read_cntl};
-use intake_cards::{Deed, PrintedCards, Remark, RemarkReason};
-use intake_cards::Tail;
+use intake_cards::{Deed, PrintedCards, Remark, RemarkReason, Tail};
 use intake_read::{Card, CardPlace};
 use std::alloc::{AllocError, Global};
 use terms::CommandCode;
@@ -69,11 +68,25 @@ fn tell_cards(
     for card in cards {
         if card.tail() == Tail::Other {
             let text = card.text[72..].trim_ascii();
-            tell_card(alloc, told, card.place, text, Deed::Dropped, RemarkReason::TextInNumbers)?;
+            tell_card(
+                alloc,
+                told,
+                card.place,
+                text,
+                Deed::Dropped,
+                RemarkReason::TextInNumbers,
+            )?;
         }
     }
     for place in cut {
-        tell_card(alloc, told, *place, b"", Deed::Refused, RemarkReason::LongLine)?;
+        tell_card(
+            alloc,
+            told,
+            *place,
+            b"",
+            Deed::Refused,
+            RemarkReason::LongLine,
+        )?;
     }
     Ok(())
 }

@@ -37,7 +37,13 @@ pub(crate) fn with_excluded(
             asked.refuse(alloc, told, member, RemarkReason::NeedsKnown)?;
             continue;
         };
-        asked.tell(alloc, told, member, Deed::Carried, RemarkReason::KnownExcluded)?;
+        asked.tell(
+            alloc,
+            told,
+            member,
+            Deed::Carried,
+            RemarkReason::KnownExcluded,
+        )?;
         for sysmod in known {
             if sysmod.kind == *kind && !is_selected(&carried, sysmod.id.as_bytes()) {
                 put_once(alloc, &mut ids, sysmod.id.as_bytes())?;

@@ -41,7 +41,8 @@ fn is_between(byte: u8) -> bool {
 }
 
 fn says_nothing(line: &[u8]) -> bool {
-    line.iter().all(|byte| is_between(*byte) || matches!(byte, b'-' | b'+'))
+    line.iter()
+        .all(|byte| is_between(*byte) || matches!(byte, b'-' | b'+'))
 }
 
 fn kind_of(word: &[u8]) -> Option<Kind> {

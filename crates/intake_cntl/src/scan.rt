@@ -162,7 +162,11 @@ impl CommandScanner {
         if byte.is_ascii_lowercase() {
             self.has_lower_case = true;
         }
-        let byte = if byte == b'\t' { b' ' } else { byte.to_ascii_uppercase() };
+        let byte = if byte == b'\t' {
+            b' '
+        } else {
+            byte.to_ascii_uppercase()
+        };
         if self.depth > 0 {
             return self.put_in_list(byte);
         }

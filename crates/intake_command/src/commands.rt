@@ -53,7 +53,10 @@ pub(crate) fn serve_commands<H: IntakeHost>(
     let line = if file.bytes.is_some() {
         format!(in alloc; "COMMAND {carried:>7} carried {others:>7} not\n")?
     } else {
-        String::from_str(alloc, "COMMAND none is written: see what is refused in cntl.remarks\n")?
+        String::from_str(
+            alloc,
+            "COMMAND none is written: see what is refused in cntl.remarks\n",
+        )?
     };
     summary.extend_from_slice(line.as_bytes())?;
     by_reason(alloc, &file.remarks, &mut summary)?;

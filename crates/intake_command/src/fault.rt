@@ -120,10 +120,9 @@ impl IntakeFault {
             }
             IntakeFault::KnownLine(name, number) => {
                 line.extend_from_slice(name)?;
-                line.extend_from_slice(
-                    format!(in alloc; " line {number}: a line has an id, a type and source ids")?
-                        .as_bytes(),
-                )?;
+                line.extend_from_slice(format!(in alloc;
+                    " line {number}: a line has an id, a type and source ids"
+                )?.as_bytes())?;
             }
             IntakeFault::CannotWrite => {
                 line.extend_from_slice(b"cannot write into ")?;

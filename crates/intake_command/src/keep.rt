@@ -73,11 +73,7 @@ fn service_files(
     Ok(files)
 }
 
-fn command_files(
-    alloc: Global,
-    cntl: Vec<u8>,
-    remarks: Vec<u8>,
-) -> Result<Vec<Named>, AllocError>
+fn command_files(alloc: Global, cntl: Vec<u8>, remarks: Vec<u8>) -> Result<Vec<Named>, AllocError>
     ensures { IfOk result (λ files. map named files.items
         ≡ (codes "cntl", Some cntl.items) ∷ (codes "cntl.remarks", Some remarks.items) ∷ []) }
 {

@@ -1,7 +1,7 @@
 //! The program but for its input and output.
 
-use crate::commands::serve_commands;
 use crate::clearing::{check_apart, clear};
+use crate::commands::serve_commands;
 use crate::fault::IntakeFault;
 use crate::options::{IntakeOptions, WordsFault, read_words};
 use crate::service::serve_files;

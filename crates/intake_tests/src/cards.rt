@@ -205,11 +205,15 @@ fn columns_73_to_80_are_told_apart(rt: HostRuntime) -> Result<(), Fail> {
 
 #[test]
 fn a_letter_of_utf_8_has_one_column(rt: HostRuntime) -> Result<(), Fail> {
-    let line = "/* \u{e4}\u{f6}\u{fc}\u{20ac}\u{e4}\u{f6}\u{fc}\u{e4}\u{f6}\u{fc} */ PRE(UI00001,UI00002,\
+    let line =
+        "/* \u{e4}\u{f6}\u{fc}\u{20ac}\u{e4}\u{f6}\u{fc}\u{e4}\u{f6}\u{fc} */ PRE(UI00001,UI00002,\
                                           UI00003,";
     let cards = read_cards(rt.alloc(), 0, line.as_bytes(), None, None)?;
     let card = cards.cards.first().ok_or("no card")?;
-    assert_eq!(rt; &card.text[..13], b"/* \xE4\xF6\xFC\xBF\xE4\xF6\xFC\xE4\xF6\xFC".as_slice());
+    assert_eq!(rt;
+        &card.text[..13],
+        b"/* \xE4\xF6\xFC\xBF\xE4\xF6\xFC\xE4\xF6\xFC".as_slice()
+    );
     assert!(rt; card.columns().trim_ascii_end().ends_with(b"UI00003,"));
     assert!(rt; !card.is_cut);
     let latin = b"/* \xE4\xF6 */ LIST.\n";
@@ -245,10 +249,19 @@ fn files_that_are_no_cards_are_told_apart(rt: HostRuntime) -> Result<(), Fail> {
         (b"\x1F\x8B\x08\x00".as_slice(), CardError::Compressed),
         (b"\xFF\xFE+\x00+\x00".as_slice(), CardError::Utf16),
         (b"\x00+\x00+\x00P".as_slice(), CardError::Utf16),
-        (b"\x00\x09\x00\x00LIST.\x00\x09\x00\x00LIST.".as_slice(), CardError::RecordLengths),
-        (b"++PTF(UA00001).\r++VER(Z038).\r".as_slice(), CardError::CarriageReturns),
+        (
+            b"\x00\x09\x00\x00LIST.\x00\x09\x00\x00LIST.".as_slice(),
+            CardError::RecordLengths,
+        ),
+        (
+            b"++PTF(UA00001).\r++VER(Z038).\r".as_slice(),
+            CardError::CarriageReturns,
+        ),
     ] {
-        assert_eq!(rt; read_cards(rt.alloc(), 0, file, None, None).err(), Some(wanted));
+        assert_eq!(rt;
+            read_cards(rt.alloc(), 0, file, None, None).err(),
+            Some(wanted)
+        );
     }
     Ok(())
 }

@@ -154,8 +154,7 @@ fn what_is_at_fault_outside_sysmods_costs_itself(rt: HostRuntime) -> Result<(), 
 
 /// Columns 73 to 80 with a text, a line over 80 columns in a statement and in a comment, and a blank card that ends a
 /// numbered text.
-const LONG_LINES: &[u8] =
-    b"++PTF(UA00001).\n\
+const LONG_LINES: &[u8] = b"++PTF(UA00001).\n\
     ++VER(Z038) FMID(HAA1100)                                               .ABC1\n.\n\
     ++PTF(UA00002).\n\
     ++VER(Z038) FMID(HAA1100)                                                       PRE(UA00001)\n.\n\
@@ -169,7 +168,7 @@ const LONG_LINES_CARRIED: &str =
     ++MAC(MACA) DISTLIB(AMACLIB) SYSLIB(MACLIB).\n\
     \x20        MACRO                                                          00000010\n==\n\
     - f line 2: dropped: columns 73 to 80 hold a text, which is not read: .ABC1\n\
-    ! f line 5: ++VER: left out: the line has more than 80 columns; put the rest on a line of its own\n\
+    ! f line 5: ++VER(Z038): left out: the line has more than 80 columns; put the rest on a line of its own\n\
     ! f line 4: ++PTF(UA00002): left out: a statement of it can't be carried\n\
     - f line 10: ++MAC(MACA): dropped: blank cards end a text that has numbers: at 12\n";
 
