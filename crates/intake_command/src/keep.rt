@@ -17,8 +17,8 @@ use crate::surroundings::IntakeHost;
 use mcs::{HoldItem, Item, McsError, read_hold, read_ptfin};
 use std::alloc::{AllocError, Global};
 
-/// Puts the items into `ptfin`, the holds and releases into `hold`, and the remarks beside them, with what stand-ins are
-/// for; where there is nothing of these, a file of an earlier run is taken away. `NotReadBack` comes
+/// Puts the items into `ptfin`, the holds and releases into `hold`, and the remarks beside them, with what stand-ins
+/// are for; where there is nothing of these, a file of an earlier run is taken away. `NotReadBack` comes
 /// where a file is not read as what was meant, and `CannotWrite` where the folder does not take them.
 pub fn keep_service<H: IntakeHost>(
     alloc: Global,

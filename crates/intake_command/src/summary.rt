@@ -67,8 +67,8 @@ pub(crate) fn is_left_out(remark: &Remark) -> bool {
     )
 }
 
-/// Why the SYSMOD of the remark at the place, `header`, is left out: the first remark on one of its statements that says so, or
-/// itself.
+/// Why the SYSMOD of the remark at the place, `header`, is left out: the first remark on one of its statements that says
+/// so, or itself.
 pub(crate) fn cause_of<'a>(remarks: &'a [Remark], place: usize, header: &'a Remark) -> &'a Remark {
     let mut cause = header;
     let Some((before, _)) = remarks.split_at_checked(place) else {

@@ -1,5 +1,6 @@
 -- What a SYSMOD changes, with one element statement more.
-use Rattle.std.proofs.Common.{◌≡◌, ◌==◌, ◌&&◌, true, Bool, List, [], ◌++◌, ◌∷◌, refl, sym, ap, ◌∙◌, Contains, ◌⊎◌, inl, inr}
+use Rattle.std.proofs.Common.{◌≡◌, ◌==◌, ◌&&◌, true, Bool, List, [], ◌++◌, ◌∷◌, refl, sym, ap, ◌∙◌, Contains}
+use Rattle.std.proofs.Common.{◌⊎◌, inl, inr}
 use Rattle.std.specs.List.{All, list_any}
 use Rattle.std.specs.Str.{bytes_eq}
 use Rattle.std.proofs.lemmas.Bool.{and_parts, eqb-true}
@@ -69,7 +70,8 @@ kept_after cs c type name any =
 abbrev pub Keeps : List Change → List Change → Type 0
 Keeps old new = (type : ElemType) (name : Text) → Changes old type name → Changes new type name
 
-changed_still : (decide : Bool) (old new : List Change) (e : WideElement) → Keeps old new → IsElementChanged decide old e
+changed_still : (decide : Bool) (old new : List Change) (e : WideElement) → Keeps old new
+    → IsElementChanged decide old e
     → IsElementChanged decide new e
 changed_still decide old new e kept h = record {
   type = h.type;

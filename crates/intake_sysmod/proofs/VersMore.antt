@@ -84,7 +84,8 @@ abbrev pub IsOf : VerOperands → Text → Ver → Type 0
 IsOf o s w = (w.srel ≡ s) × (w.fmid ≡ o.fmid) × (w.pre ≡ o.lists.pre) × (w.req ≡ o.lists.req) × (w.sup ≡ o.lists.sup)
     × (w.npre ≡ o.lists.npre) × (w.del ≡ o.lists.delete) × (w.ifs ≡ o.ifs.items)
 
-pub ver_made : (v : WideVer) (o : VerOperands) (s t : Text) (w : Ver) → AreOperands v o → t ≡ s → IsOf o t w → IsVer v s w
+pub ver_made : (v : WideVer) (o : VerOperands) (s t : Text) (w : Ver) → AreOperands v o → t ≡ s → IsOf o t w
+    → IsVer v s w
 ver_made v o s t w are e is = record {
   srel_is = is.0 ∙ e;
   fmid_is = are.fmid_is ∙ sym is.1;

@@ -394,7 +394,8 @@ pub(crate) fn put_changes(
     sysmod: &mut Sysmod,
 ) -> Result<bool, AllocError>
     ensures rest { OnOk result (sysmod.new ≡ record sysmod.old { changes = sysmod.new.changes }) }
-    ensures changed { IfOk result (λ all. IsTrue all → All (λ e. IsElementChanged options.now.decide sysmod.new.changes e
+    ensures changed { IfOk result (λ all. IsTrue all
+        → All (λ e. IsElementChanged options.now.decide sysmod.new.changes e
         ⊎ IsPassedOver options.now.decide stated.now) stated.now.elements.items) }
 {
     let mut all = true;
