@@ -15,7 +15,7 @@ use Rattle.terms.specs.Lookups.{supby_of, delby_of, waived_of, is_applied, is_su
 use Rattle.terms.specs.Choice.{Choice}
 use Rattle.terms.specs.Over.{Supersedes}
 use Rattle.terms.specs.Global.{IsGlobal}
-use Rattle.zones_maps.specs.Delta.{ZoneDelta}
+use Rattle.zones_maps.specs.Delta.{ZoneEdits}
 use Rattle.terms.specs.Deleted.{zone_less}
 use Rattle.terms.specs.Install.{Installation, TakesEffect, applied_with, cleared, delby_after}
 use Rattle.terms.proofs.Ids.{is_in_from_Contains, Contains_from_is_in, in_or_not}
@@ -140,9 +140,9 @@ module _ (d : Deleting) (bypassed : List (Id × Id)) (date : Text) (is_global : 
       by None = bare
       by (Some e) = refl
 
-  module _ (p : Plan) (plan : IsPlan i d.dels.now p) (start delta : ZoneDelta)
-      (put : HasPutEntries d p p.touched start delta) (new : Zone)
-      (changed : (x : Id) → entry_of new x ≡ entry_after delta zone x) where
+  module _ (p : Plan) (plan : IsPlan i d.dels.now p) (start zone_edits : ZoneEdits)
+      (put : HasPutEntries d p p.touched start zone_edits) (new : Zone)
+      (changed : (x : Id) → entry_of new x ≡ entry_after zone_edits zone x) where
     -- an id that is not touched has the entry that is left of it
     module _ (x : Id) (out : ¬ Contains p.touched x) where
       apart : ¬ Contains (at_stake zone d.dels.now) x

@@ -7,7 +7,7 @@ use Rattle.terms.specs.declared.kinds.ElemType.{ElemType}
 use Rattle.terms.specs.Types.{Text, Id, Element, Zone}
 use Rattle.terms.specs.Lookups.{IsRising, IsZone, entry_of, element_of}
 use Rattle.terms.specs.Global.{IsGlobal}
-use Rattle.zones_maps.specs.Delta.{ZoneDelta, IsChanged}
+use Rattle.zones_maps.specs.Delta.{ZoneEdits, IsEdited}
 use Rattle.sorted.specs.Edits.{edit_key, edit_put}
 use Rattle.terms.specs.Install.{Installation, cleared, HasInstalled}
 use Rattle.sysmods.specs.Choices.{number_in}
@@ -29,12 +29,12 @@ module _ (d : Deleting) (bypassed : List (Id × Id)) (date : Text) (is_global : 
   abbrev i : Installation
   i = installation d.vers.now.global.now (choice_of d) (number_in d.vers.now) d.zone.now d.kept.now bypassed date
 
-  pub installs : (p : Plan) (start between delta : ZoneDelta) (none less edits : List ElementEdit) (es : List Element)
+  pub installs : (p : Plan) (start between zone_edits : ZoneEdits) (none less edits : List ElementEdit) (es : List Element)
       → IsPlan i d.dels.now p → none ≡ [] → HasPutEntries d p p.touched start between
       → less ≡ less_elements d none d.zone.now.elements → AreElementsAfter i es → edits ≡ with_elements less es
-      → HasEditedElements d.zone.now edits between delta
-      → (new : Zone) → IsChanged delta d.zone.now new → HasInstalled i new
-  installs p start between delta none less edits es plan empty put cut after is done new changed =
+      → HasEditedElements d.zone.now edits between zone_edits
+      → (new : Zone) → IsEdited zone_edits d.zone.now new → HasInstalled i new
+  installs p start between zone_edits none less edits es plan empty put cut after is done new changed =
       let zone : Zone = d.zone.now in
       let at_entry : (x : Id) → entry_of new x ≡ entry_after between zone x =
       λ x. changed.entries x

@@ -10,7 +10,7 @@ use Rattle.terms.specs.Deleted.{entries_less}
 use Rattle.terms.specs.Restore.{Restoring, Restores}
 use Rattle.terms.proofs.SameLists.{rising_same}
 use Rattle.sorted.specs.Edits.{after_edits}
-use Rattle.zones_maps.specs.Delta.{ZoneDelta, IsChanged}
+use Rattle.zones_maps.specs.Delta.{ZoneEdits, IsEdited}
 use Rattle.zones.proofs.Entries.{entries_less_rise}
 use Rattle.change.specs.Restoring.{IsRestoringOf, take_off, all_changed, ArePutBack}
 use Rattle.zones_maps.specs.Differing.{ChangesEntry, EachChanges}
@@ -19,26 +19,26 @@ use Rattle.sorted.specs.ElementKeys.{Key}
 use Rattle.change.proofs.Reverted.{reverted, unchanged}
 
 -- the entries' edits touch no element
-pub elements_none : (kept : List Id) (es : List Entry) (start between : ZoneDelta) → start.elements ≡ []
+pub elements_none : (kept : List Id) (es : List Entry) (start between : ZoneEdits) → start.elements ≡ []
     → between ≡ fold (take_off (is_in kept)) start es → between.elements ≡ []
 elements_none kept es start between none off =
-    ap (λ (d : ZoneDelta). d.elements) off ∙ elements_stay (is_in kept) start es ∙ none
+    ap (λ (d : ZoneEdits). d.elements) off ∙ elements_stay (is_in kept) start es ∙ none
 
-module _ (g : Global) (zone accepted : Zone) (kept : List Id) (z : IsZone zone) (start between delta : ZoneDelta)
+module _ (g : Global) (zone accepted : Zone) (kept : List Id) (z : IsZone zone) (start between zone_edits : ZoneEdits)
     (no_entries : start.entries ≡ []) (off : between ≡ fold (take_off (is_in kept)) start zone.entries)
     (keys : List Key) (changed : IsPermutation (all_changed g kept) keys)
-    (back : ArePutBack zone accepted keys between delta) where
-  entries_are : delta.entries ≡ (fold (take_off (is_in kept)) start zone.entries).entries
-  entries_are = back.entries ∙ ap (λ (d : ZoneDelta). d.entries) off
+    (back : ArePutBack zone accepted keys between zone_edits) where
+  entries_are : zone_edits.entries ≡ (fold (take_off (is_in kept)) start zone.entries).entries
+  entries_are = back.entries ∙ ap (λ (d : ZoneEdits). d.entries) off
 
-  pub each_changes : EachChanges zone delta
+  pub each_changes : EachChanges zone zone_edits
   each_changes = record {
     entries = subst (All (ChangesEntry zone)) (sym entries_are)
         (all_taken_off (is_in kept) zone z start no_entries).differ;
     elements = back.elements.differ;
   }
 
-  left_entries : (new : Zone) → IsChanged delta zone new → new.entries ≡ entries_less (is_in kept) zone.entries
+  left_entries : (new : Zone) → IsEdited zone_edits zone new → new.entries ≡ entries_less (is_in kept) zone.entries
   left_entries new is =
       rising_same nat_list_cmp_total (λ (e : Entry). e.id) bytes_eq texts_ties new.entries
       (entries_less (is_in kept) zone.entries) is.is_zone.entries
@@ -48,7 +48,7 @@ module _ (g : Global) (zone accepted : Zone) (kept : List Id) (z : IsZone zone) 
       ∙ entry_left (is_in kept) zone z (fold (take_off (is_in kept)) start zone.entries).entries
       (all_taken_off (is_in kept) zone z start no_entries) x)
 
-  pub restored : (r : Restoring) → IsRestoringOf r g zone accepted → (new : Zone) → IsChanged delta zone new
+  pub restored : (r : Restoring) → IsRestoringOf r g zone accepted → (new : Zone) → IsEdited zone_edits zone new
       → Restores r kept new
   restored r of new is = record {
     rest = is.rest ∙ ap (λ (v : Zone). record v { entries = new.entries; elements = new.elements }) (sym of.zone_is);
@@ -56,12 +56,12 @@ module _ (g : Global) (zone accepted : Zone) (kept : List Id) (z : IsZone zone) 
     entries = left_entries new is ∙ ap (λ (v : Zone). entries_less (is_in kept) v.entries) (sym of.zone_is);
     reverted = λ type name some.
         is.elements type name
-        ∙ reverted g type name zone accepted kept keys changed delta.elements back.elements
+        ∙ reverted g type name zone accepted kept keys changed zone_edits.elements back.elements
         (subst (λ v. Any (λ x. IsTrue (has_change v x type name)) kept) of.global some)
         ∙ ap (λ v. element_of v type name) (sym of.accepted_is);
     others = λ type name none.
         is.elements type name
-        ∙ unchanged g type name zone accepted kept keys changed delta.elements back.elements
+        ∙ unchanged g type name zone accepted kept keys changed zone_edits.elements back.elements
         (subst (λ v. All (λ x. IsFalse (has_change v x type name)) kept) of.global none)
         ∙ ap (λ v. element_of v type name) (sym of.zone_is);
   }

@@ -14,7 +14,7 @@ use Rattle.terms.specs.Types.{Zone}
 use Rattle.terms.specs.Lookups.{element_cmp, element_eq, element_key, element_of}
 use Rattle.terms.specs.Rising.{Rises}
 use Rattle.terms.proofs.ElementOrder.{element_cmp_total, element_ties, same_key}
-use Rattle.zones_maps.specs.Delta.{ZoneDelta}
+use Rattle.zones_maps.specs.Delta.{ZoneEdits}
 use Rattle.zones_maps.specs.Differing.{ElementEdit, AddsElementEdit, HasEditedElements, element_after}
 use Rattle.sorted.specs.Turned.{TurnsAt, AreTurned}
 use Rattle.sorted.specs.ElementKeys.{Key}
@@ -42,20 +42,20 @@ module _ (zone : Zone) (all : List ElementEdit) where
         (find_member element_cmp_total put_key element_eq element_ties all d (put_key d) rises there
         (element_ties (put_key d) (put_key d) ∙ ap is_eq (tied_itself element_cmp_total (put_key d))))
 
-    turns : (d : ElementEdit) (old new : ZoneDelta) → Contains all d → AddsElementEdit zone d old new
+    turns : (d : ElementEdit) (old new : ZoneEdits) → Contains all d → AddsElementEdit zone d old new
         → TurnsAt element_cmp element_eq element_key zone.elements (element_after all zone) (put_key d) old.elements
         new.elements
     turns d old new there adds =
         elim adds [
-          | inl same ↦ inl (ap (λ (v : ZoneDelta). v.elements) same.0, left_is d there ∙ same.1)
+          | inl same ↦ inl (ap (λ (v : ZoneEdits). v.elements) same.0, left_is d there ∙ same.1)
           | inr edit ↦ inr (
             d,
-            ap (λ (v : ZoneDelta). v.elements) edit.0,
+            ap (λ (v : ZoneEdits). v.elements) edit.0,
             record { at = refl; puts = sym (left_is d there); differs = edit.1 },
           )
         ]
 
-    pub done_next : (done : List ElementEdit) (d : ElementEdit) (old new : ZoneDelta) → Contains all d
+    pub done_next : (done : List ElementEdit) (d : ElementEdit) (old new : ZoneEdits) → Contains all d
         → AreDone done old.elements → AddsElementEdit zone d old new → AreDone (done ++ d ∷ []) new.elements
     done_next done d old new there so_far adds =
         subst
@@ -78,7 +78,7 @@ module _ (zone : Zone) (all : List ElementEdit) where
           (is_some_find (λ d. element_eq (put_key d) k) all
           ∙ sym (list_any_map (λ j. element_eq j k) put_key all) ∙ out)))
 
-  pub done_all : (old new : ZoneDelta) → new.entries ≡ old.entries → AreDone all new.elements
+  pub done_all : (old new : ZoneEdits) → new.entries ≡ old.entries → AreDone all new.elements
       → HasEditedElements zone all old new
   done_all old new entries done = record {
     entries = entries;
@@ -87,10 +87,10 @@ module _ (zone : Zone) (all : List ElementEdit) where
   }
 
 -- a put or a removal leaves the entries
-pub entries_stay : (zone : Zone) (d : ElementEdit) (old new : ZoneDelta) → AddsElementEdit zone d old new
+pub entries_stay : (zone : Zone) (d : ElementEdit) (old new : ZoneEdits) → AddsElementEdit zone d old new
     → new.entries ≡ old.entries
 entries_stay zone d old new adds =
     elim adds [
-      | inl same ↦ ap (λ (v : ZoneDelta). v.entries) same.0
-      | inr edit ↦ ap (λ (v : ZoneDelta). v.entries) edit.0
+      | inl same ↦ ap (λ (v : ZoneEdits). v.entries) same.0
+      | inr edit ↦ ap (λ (v : ZoneEdits). v.entries) edit.0
     ]

@@ -26,7 +26,7 @@ use Rattle.terms.specs.Types.{Id, Entry, Zone, Applied}
 use Rattle.terms.specs.Lookups.{IsZone, is_nil, has_content, is_before, waives_applied, entry_of}
 use Rattle.terms.specs.Rising.{with_item}
 use Rattle.terms.specs.Deleted.{entry_less, entries_less}
-use Rattle.zones_maps.specs.Delta.{ZoneDelta}
+use Rattle.zones_maps.specs.Delta.{ZoneEdits}
 use Rattle.zones.proofs.Filtered.{passing, find_filter}
 use Rattle.sorted.specs.Turned.{Turns, TurnsAt, AreTurned}
 use Rattle.change.specs.Restoring.{loses, less_edit, take_off}
@@ -152,17 +152,17 @@ module _ (is_gone : Id → Bool) where
                 cc both;
           }
 
-      turns : (delta : ZoneDelta) → TurnsAt (slice_cmp nat_cmp) bytes_eq (λ v. v.id) zone.entries wanted e.id
-          delta.entries (take_off is_gone delta e).entries
-      turns delta = by (loses is_gone e) refl
+      turns : (zone_edits : ZoneEdits) → TurnsAt (slice_cmp nat_cmp) bytes_eq (λ v. v.id) zone.entries wanted e.id
+          zone_edits.entries (take_off is_gone zone_edits e).entries
+      turns zone_edits = by (loses is_gone e) refl
         where
           by : (b : Bool) → loses is_gone e ≡ b → TurnsAt (slice_cmp nat_cmp) bytes_eq (λ v. v.id) zone.entries wanted
-              e.id delta.entries (take_off is_gone delta e).entries
+              e.id zone_edits.entries (take_off is_gone zone_edits e).entries
           by true some = inr (
             less_edit is_gone e,
-            ap (λ b. (if b then record delta {
-              entries = with_item (slice_cmp nat_cmp) (edit_key (λ v. v.id)) delta.entries (less_edit is_gone e);
-            } else delta).entries) some,
+            ap (λ b. (if b then record zone_edits {
+              entries = with_item (slice_cmp nat_cmp) (edit_key (λ v. v.id)) zone_edits.entries (less_edit is_gone e);
+            } else zone_edits).entries) some,
             edit_turns some,
           )
           by false none =
@@ -171,29 +171,29 @@ module _ (is_gone : Id → Bool) where
               let waives : IsTrue (waives_applied e) = All_find (λ v. IsTrue (waives_applied v))
               (λ v. bytes_eq v.id e.id) zone.entries e z.waived found in
               inl (
-                ap (λ b. (if b then record delta {
-                  entries = with_item (slice_cmp nat_cmp) (edit_key (λ v. v.id)) delta.entries (less_edit is_gone e);
-                } else delta).entries) none,
+                ap (λ b. (if b then record zone_edits {
+                  entries = with_item (slice_cmp nat_cmp) (edit_key (λ v. v.id)) zone_edits.entries (less_edit is_gone e);
+                } else zone_edits).entries) none,
                 less_wanted ∙ ap (λ v. passing has_content (Some v)) (unlost e waives none)
                     ∙ ap (λ b. if b then Some e else None) held ∙ sym found,
               )
 
     -- some entries of the zone, one after the other
-    taken_off : (es : List Entry) (ks : List Id) (delta : ZoneDelta) → ((e : Entry) → Contains es e
-        → Contains zone.entries e) → Turned ks delta.entries
-        → Turned (ks ++ map (λ e. e.id) es) (fold (take_off is_gone) delta es).entries
-    taken_off [] ks delta there so_far = subst (λ js. Turned js delta.entries) (sym (append-nil ks)) so_far
-    taken_off (e ∷ es) ks delta there so_far =
-        subst (λ js. Turned js (fold (take_off is_gone) (take_off is_gone delta e) es).entries)
+    taken_off : (es : List Entry) (ks : List Id) (zone_edits : ZoneEdits) → ((e : Entry) → Contains es e
+        → Contains zone.entries e) → Turned ks zone_edits.entries
+        → Turned (ks ++ map (λ e. e.id) es) (fold (take_off is_gone) zone_edits es).entries
+    taken_off [] ks zone_edits there so_far = subst (λ js. Turned js zone_edits.entries) (sym (append-nil ks)) so_far
+    taken_off (e ∷ es) ks zone_edits there so_far =
+        subst (λ js. Turned js (fold (take_off is_gone) (take_off is_gone zone_edits e) es).entries)
         (append_assoc ks (e.id ∷ []) (map (λ v. v.id) es))
-        (taken_off es (ks ++ e.id ∷ []) (take_off is_gone delta e) (λ v h. there v (later e es v h))
+        (taken_off es (ks ++ e.id ∷ []) (take_off is_gone zone_edits e) (λ v h. there v (later e es v h))
         (turned_next nat_list_cmp_total (λ (v : Entry). v.id) bytes_eq texts_ties same_from zone.entries wanted ks e.id
-        delta.entries (take_off is_gone delta e).entries so_far (turns e (there e (here e es)) delta)))
+        zone_edits.entries (take_off is_gone zone_edits e).entries so_far (turns e (there e (here e es)) zone_edits)))
 
-    pub all_taken_off : (delta : ZoneDelta) → delta.entries ≡ []
-        → Turned (map (λ e. e.id) zone.entries) (fold (take_off is_gone) delta zone.entries).entries
-    all_taken_off delta empty =
-        taken_off zone.entries [] delta (λ e h. h)
+    pub all_taken_off : (zone_edits : ZoneEdits) → zone_edits.entries ≡ []
+        → Turned (map (λ e. e.id) zone.entries) (fold (take_off is_gone) zone_edits zone.entries).entries
+    all_taken_off zone_edits empty =
+        taken_off zone.entries [] zone_edits (λ e h. h)
         (subst (Turned []) (sym empty)
         (turned_none nat_list_cmp_total (λ (v : Entry). v.id) bytes_eq texts_ties same_from zone.entries wanted))
 
@@ -212,18 +212,18 @@ module _ (is_gone : Id → Bool) where
             ∙ sym (list_any_map (λ j. bytes_eq j x) (λ (e : Entry). e.id) zone.entries) ∙ out) in
             none ∙ sym (wanted_is x ∙ ap (λ o. passing has_content (option_map (entry_less is_gone) o)) none)
 
-  pub elements_stay : (delta : ZoneDelta) (es : List Entry)
-      → (fold (take_off is_gone) delta es).elements ≡ delta.elements
-  elements_stay delta [] = refl
-  elements_stay delta (e ∷ es) = elements_stay (take_off is_gone delta e) es ∙ by (loses is_gone e) refl
+  pub elements_stay : (zone_edits : ZoneEdits) (es : List Entry)
+      → (fold (take_off is_gone) zone_edits es).elements ≡ zone_edits.elements
+  elements_stay zone_edits [] = refl
+  elements_stay zone_edits (e ∷ es) = elements_stay (take_off is_gone zone_edits e) es ∙ by (loses is_gone e) refl
     where
-      by : (b : Bool) → loses is_gone e ≡ b → (take_off is_gone delta e).elements ≡ delta.elements
+      by : (b : Bool) → loses is_gone e ≡ b → (take_off is_gone zone_edits e).elements ≡ zone_edits.elements
       by true at = rw at refl
       by false at = rw at refl
 
   -- one entry more
-  pub one_more : (delta : ZoneDelta) (es : List Entry) (k : ℕ) (x : Entry) → k < length es → x ≡ get_or es k x
-      → take_off is_gone (fold (take_off is_gone) delta (take k es)) x ≡ fold (take_off is_gone) delta (take (k + 1) es)
-  one_more delta es k x below at =
-      sym (ap (fold (take_off is_gone) delta) (take_more es k x below ∙ ap (λ y. take k es ++ y ∷ []) (sym at))
-      ∙ fold-append (take_off is_gone) delta (take k es) (x ∷ []))
+  pub one_more : (zone_edits : ZoneEdits) (es : List Entry) (k : ℕ) (x : Entry) → k < length es → x ≡ get_or es k x
+      → take_off is_gone (fold (take_off is_gone) zone_edits (take k es)) x ≡ fold (take_off is_gone) zone_edits (take (k + 1) es)
+  one_more zone_edits es k x below at =
+      sym (ap (fold (take_off is_gone) zone_edits) (take_more es k x below ∙ ap (λ y. take k es ++ y ∷ []) (sym at))
+      ∙ fold-append (take_off is_gone) zone_edits (take k es) (x ∷ []))

@@ -13,7 +13,7 @@ use Rattle.terms.proofs.TextOrder.{same_from, same_itself}
 use Rattle.sorted.specs.declared.edits.Edit.TheVariants.{Put, Remove}
 use Rattle.terms.specs.Types.{Id, Entry, Zone}
 use Rattle.terms.specs.Lookups.{has_content, entry_of}
-use Rattle.zones_maps.specs.Delta.{ZoneDelta}
+use Rattle.zones_maps.specs.Delta.{ZoneEdits}
 use Rattle.sorted.specs.Edits.{edit_key, edit_put}
 use Rattle.terms.proofs.Placing.{All_with_item}
 use Rattle.terms.proofs.Ids.{in_or_not}
@@ -31,8 +31,8 @@ module _ (d : Deleting) (p : Plan) where
   abbrev zone : Zone
   zone = d.zone.now
 
-  pub put_none : (delta : ZoneDelta) → delta.entries ≡ [] → HasPutEntries d p [] delta delta
-  put_none delta empty = record {
+  pub put_none : (zone_edits : ZoneEdits) → zone_edits.entries ≡ [] → HasPutEntries d p [] zone_edits zone_edits
+  put_none zone_edits empty = record {
     elements = refl;
     put = λ x h. absurd (none_in x h);
     others = λ x out. ap (λ es. option_map_or edit_put (find (λ e. bytes_eq (key_of e) x) es) (entry_of zone x)) empty;
@@ -40,20 +40,20 @@ module _ (d : Deleting) (p : Plan) where
   }
 
   -- what stands at an id after an edit
-  after_put : (delta : ZoneDelta) (v : EntryEdit) (y : Id) (b : Bool) → bytes_eq (key_of v) y ≡ b
-      → entry_after (with_entry_edit delta v) zone y ≡ cond b (edit_put v) (entry_after delta zone y)
-  after_put delta v y b at =
+  after_put : (zone_edits : ZoneEdits) (v : EntryEdit) (y : Id) (b : Bool) → bytes_eq (key_of v) y ≡ b
+      → entry_after (with_entry_edit zone_edits v) zone y ≡ cond b (edit_put v) (entry_after zone_edits zone y)
+  after_put zone_edits v y b at =
       ap (λ o. option_map_or edit_put o (entry_of zone y))
-      (find_with_item nat_list_cmp_total key_of bytes_eq texts_ties delta.entries v y)
+      (find_with_item nat_list_cmp_total key_of bytes_eq texts_ties zone_edits.entries v y)
       ∙ by (bytes_eq (key_of v) y) at
     where
       by : (c : Bool) → c ≡ b
-          → option_map_or edit_put (cond c (Some v) (find (λ e. bytes_eq (key_of e) y) delta.entries))
-          (entry_of zone y) ≡ cond b (edit_put v) (entry_after delta zone y)
-      by true same = ap (λ c. cond c (edit_put v) (entry_after delta zone y)) same
-      by false same = ap (λ c. cond c (edit_put v) (entry_after delta zone y)) same
+          → option_map_or edit_put (cond c (Some v) (find (λ e. bytes_eq (key_of e) y) zone_edits.entries))
+          (entry_of zone y) ≡ cond b (edit_put v) (entry_after zone_edits zone y)
+      by true same = ap (λ c. cond c (edit_put v) (entry_after zone_edits zone y)) same
+      by false same = ap (λ c. cond c (edit_put v) (entry_after zone_edits zone y)) same
 
-  module _ (xs : List Id) (k : ℕ) (x : Id) (start old : ZoneDelta) (below : k < length xs) (is : x ≡ get_or xs k x)
+  module _ (xs : List Id) (k : ℕ) (x : Id) (start old : ZoneEdits) (below : k < length xs) (is : x ≡ get_or xs k x)
       (e : Entry) (made : IsMadeEntry d p x e) (so_far : HasPutEntries d p (take k xs) start old) where
     -- what is left at the id stands there
     stands : entry_of zone x ≡ if_held e → HasPutEntries d p (take (k + 1) xs) start old
@@ -119,7 +119,7 @@ module _ (d : Deleting) (p : Plan) where
         by true = refl
         by false = refl
 
-    one_more : (new : ZoneDelta) → AddsEntryEdit zone (held_edit x e) old new
+    one_more : (new : ZoneEdits) → AddsEntryEdit zone (held_edit x e) old new
         → HasPutEntries d p (take (k + 1) xs) start new
     one_more new adds =
         elim adds [
@@ -129,7 +129,7 @@ module _ (d : Deleting) (p : Plan) where
               (edited (held_edit x e) key_is left_is edit.1)
         ]
 
-  pub put_next : (xs : List Id) (k : ℕ) (x : Id) (start old new : ZoneDelta) → k < length xs → x ≡ get_or xs k x
+  pub put_next : (xs : List Id) (k : ℕ) (x : Id) (start old new : ZoneEdits) → k < length xs → x ≡ get_or xs k x
       → PutsEntry d p x old new → HasPutEntries d p (take k xs) start old
       → HasPutEntries d p (take (k + 1) xs) start new
   put_next xs k x start old new below is puts so_far =

@@ -13,7 +13,7 @@ use Rattle.terms.specs.declared.kinds.ElemType.{ElemType}
 use Rattle.terms.specs.Types.{Text, Id, Change, Global, Element, Zone}
 use Rattle.terms.specs.Lookups.{element_cmp, element_eq, element_key, element_of, has_change, changes_of}
 use Rattle.terms.proofs.ElementOrder.{element_cmp_total, element_ties, same_key}
-use Rattle.zones_maps.specs.Delta.{ZoneDelta}
+use Rattle.zones_maps.specs.Delta.{ZoneEdits}
 use Rattle.sorted.specs.Turned.{AreTurned}
 use Rattle.change.specs.Restoring.{changed_keys, all_changed, element_at, LeavesElement, PutsBack, ArePutBack}
 use Rattle.sorted.proofs.Turning.{turned_none, turned_next}
@@ -32,7 +32,7 @@ module _ (zone accepted : Zone) where
   abbrev Turned : List Key → List (Edit Element Key) → Type 0
   Turned = AreTurned element_cmp element_eq element_key zone.elements (element_at accepted)
 
-  pub put_back_none : (start : ZoneDelta) → start.elements ≡ [] → ArePutBack zone accepted [] start start
+  pub put_back_none : (start : ZoneEdits) → start.elements ≡ [] → ArePutBack zone accepted [] start start
   put_back_none start empty = record {
     entries = refl;
     elements = subst (Turned []) (sym empty)
@@ -40,7 +40,7 @@ module _ (zone accepted : Zone) where
         (element_at accepted));
   }
 
-  pub put_back_next : (ks : List Key) (k : Key) (start old new : ZoneDelta) → ArePutBack zone accepted ks start old
+  pub put_back_next : (ks : List Key) (k : Key) (start old new : ZoneEdits) → ArePutBack zone accepted ks start old
       → PutsBack zone accepted k old new → ArePutBack zone accepted (ks ++ k ∷ []) start new
   put_back_next ks k start old new so_far puts = record {
     entries = puts.entries ∙ so_far.entries;
@@ -49,14 +49,14 @@ module _ (zone accepted : Zone) where
   }
 
   -- an element that is the same in both zones stays, another one is put or removed
-  pub puts_none : (k : Key) (old : ZoneDelta) (here there : Option Element) → here ≡ element_at zone k
+  pub puts_none : (k : Key) (old : ZoneEdits) (here there : Option Element) → here ≡ element_at zone k
       → there ≡ element_at accepted k → here ≡ there → PutsBack zone accepted k old old
   puts_none k old here there at_here at_there same = record {
     entries = refl;
     elements = inl (refl, sym at_there ∙ sym same ∙ at_here);
   }
 
-  pub puts_one : (k : Key) (old new : ZoneDelta) (here there : Option Element) → here ≡ element_at zone k
+  pub puts_one : (k : Key) (old new : ZoneEdits) (here there : Option Element) → here ≡ element_at zone k
       → there ≡ element_at accepted k → here ≢ there → LeavesElement k there old new → PutsBack zone accepted k old new
   puts_one k old new here there at_here at_there other edits = record {
     entries = edits.entries;

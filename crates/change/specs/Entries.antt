@@ -5,7 +5,7 @@ use Rattle.std.specs.Str.{bytes_eq}
 use Rattle.sorted.specs.declared.edits.Edit.TheVariants.{Put, Remove}
 use Rattle.terms.specs.Types.{Id, Entry, Zone, an_applied}
 use Rattle.terms.specs.Lookups.{IsRising, is_in, is_nil, is_supplied, has_content, waives_applied, entry_of}
-use Rattle.zones_maps.specs.Delta.{ZoneDelta}
+use Rattle.zones_maps.specs.Delta.{ZoneEdits}
 use Rattle.sorted.specs.Edits.{after_edits}
 use Rattle.change.specs.declared.deleting.Deleting.{Deleting}
 use Rattle.change.specs.declared.plan.Plan.{Plan}
@@ -62,19 +62,19 @@ abbrev pub held_edit : Id → Entry → EntryEdit
 held_edit x e = if has_content e then Put e else Remove x
 
 -- so, if that changes something
-abbrev pub PutsEntry : Deleting → Plan → Id → ZoneDelta → ZoneDelta → Type 0
+abbrev pub PutsEntry : Deleting → Plan → Id → ZoneEdits → ZoneEdits → Type 0
 PutsEntry d p x old new = (e : Entry) × IsMadeEntry d p x e × AddsEntryEdit d.zone.now (held_edit x e) old new
 
 -- what stands at an id after the edits
-abbrev pub entry_after : ZoneDelta → Zone → Id → Option Entry
-entry_after delta zone x = after_edits bytes_eq (λ e. e.id) delta.entries zone.entries x
+abbrev pub entry_after : ZoneEdits → Zone → Id → Option Entry
+entry_after zone_edits zone x = after_edits bytes_eq (λ e. e.id) zone_edits.entries zone.entries x
 
 -- the entry, if something holds it
 abbrev pub if_held : Entry → Option Entry
 if_held e = if has_content e then Some e else None
 
 -- The entries of some ids are put, and no others.
-pub record HasPutEntries (d : Deleting) (p : Plan) (done : List Id) (old new : ZoneDelta) : Type 0 where
+pub record HasPutEntries (d : Deleting) (p : Plan) (done : List Id) (old new : ZoneEdits) : Type 0 where
   pub elements : new.elements ≡ old.elements
   pub put : (x : Id) → Contains done x
       → (e : Entry) × (entry_after new d.zone.now x ≡ if_held e) × IsMadeEntry d p x e

@@ -13,7 +13,7 @@ use Rattle.terms.specs.Lookups.{element_key}
 use Rattle.terms.specs.Rising.{with_item}
 use Rattle.terms.specs.Deleted.{entry_less}
 use Rattle.terms.specs.Restore.{Restoring}
-use Rattle.zones_maps.specs.Delta.{ZoneDelta}
+use Rattle.zones_maps.specs.Delta.{ZoneEdits}
 use Rattle.sorted.specs.Turned.{TurnsAt, AreTurned}
 
 -- a restore of a target zone from a distribution zone
@@ -30,11 +30,11 @@ loses is_gone e = (is_gone e.id && is_some e.applied) || list_any is_gone e.supb
 abbrev pub less_edit : (Id → Bool) → Entry → Edit Entry Id
 less_edit is_gone e = if has_content (entry_less is_gone e) then Put (entry_less is_gone e) else Remove e.id
 
--- the delta with that edit, if the entry loses anything
-abbrev pub take_off : (Id → Bool) → ZoneDelta → Entry → ZoneDelta
-take_off is_gone delta e = if loses is_gone e then record delta {
-  entries = with_item (slice_cmp nat_cmp) (edit_key (λ e. e.id)) delta.entries (less_edit is_gone e);
-} else delta
+-- the edits of the zone with that edit, if the entry loses anything
+abbrev pub take_off : (Id → Bool) → ZoneEdits → Entry → ZoneEdits
+take_off is_gone zone_edits e = if loses is_gone e then record zone_edits {
+  entries = with_item (slice_cmp nat_cmp) (edit_key (λ e. e.id)) zone_edits.entries (less_edit is_gone e);
+} else zone_edits
 
 -- the elements that a SYSMOD changes, and those that some change
 abbrev pub changed_keys : Global → Id → List (ElemType × Text)
@@ -48,7 +48,7 @@ abbrev pub element_at : Zone → ElemType × Text → Option Element
 element_at zone k = element_of zone k.0 k.1
 
 -- an edit comes in that leaves this at the key
-pub record LeavesElement (k : ElemType × Text) (wanted : Option Element) (old new : ZoneDelta) : Type 0 where
+pub record LeavesElement (k : ElemType × Text) (wanted : Option Element) (old new : ZoneEdits) : Type 0 where
   pub edit : Edit Element (ElemType × Text)
   pub entries : new.entries ≡ old.entries
   pub elements : new.elements ≡ with_item element_cmp (edit_key element_key) old.elements edit
@@ -56,12 +56,12 @@ pub record LeavesElement (k : ElemType × Text) (wanted : Option Element) (old n
   pub puts : edit_put edit ≡ wanted
 
 -- the element of a key becomes the one of the other zone
-pub record PutsBack (zone accepted : Zone) (k : ElemType × Text) (old new : ZoneDelta) : Type 0 where
+pub record PutsBack (zone accepted : Zone) (k : ElemType × Text) (old new : ZoneEdits) : Type 0 where
   pub entries : new.entries ≡ old.entries
   pub elements : TurnsAt element_cmp element_eq element_key zone.elements (element_at accepted) k old.elements
       new.elements
 
 -- so do those of these keys
-pub record ArePutBack (zone accepted : Zone) (ks : List (ElemType × Text)) (old new : ZoneDelta) : Type 0 where
+pub record ArePutBack (zone accepted : Zone) (ks : List (ElemType × Text)) (old new : ZoneEdits) : Type 0 where
   pub entries : new.entries ≡ old.entries
   pub elements : AreTurned element_cmp element_eq element_key zone.elements (element_at accepted) ks new.elements

@@ -10,7 +10,7 @@ use crate::plan::Plan;
 use fields::{Attest, Id, IdList};
 use sorted::lists::listed;
 use std::alloc::{AllocError, Global};
-use zones::{Applied, Entry, ZoneDelta, supplies_left};
+use zones::{Applied, Entry, ZoneEdits, supplies_left};
 
 /// Puts the entries that the install makes of those that it may change. One that stays as it is is not put, and one
 /// that nothing holds goes.
@@ -18,11 +18,11 @@ pub(crate) fn put_entries(
     alloc: Global,
     deleting: &Deleting,
     plan: &Plan,
-    delta: &mut ZoneDelta,
+    zone_edits: &mut ZoneEdits,
 ) -> Result<(), AllocError>
     requires dels { AreDeletions deleting.now }
-    requires empty { delta.old.entries ≡ [] }
-    ensures { OnOk result (HasPutEntries deleting.now plan.now plan.now.touched delta.old delta.new) }
+    requires empty { zone_edits.old.entries ≡ [] }
+    ensures { OnOk result (HasPutEntries deleting.now plan.now plan.now.touched zone_edits.old zone_edits.new) }
 {
     deleting.zone.attest();
     for id in plan.touched.as_slice() {
@@ -33,9 +33,9 @@ pub(crate) fn put_entries(
         };
         entry.attest();
         if entry.has_content() {
-            put_entry(deleting.zone, entry, delta)?;
+            put_entry(deleting.zone, entry, zone_edits)?;
         } else {
-            remove_entry(deleting.zone, *id, delta)?;
+            remove_entry(deleting.zone, *id, zone_edits)?;
         }
     }
     Ok(())

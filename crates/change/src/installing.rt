@@ -4,7 +4,7 @@ ghost use Rattle.terms.specs.Types.{Id as AnId, Zone as AZone};
 ghost use Rattle.sysmods.specs.Choices.{choice};
 ghost use Rattle.terms.specs.Over.{IsOver};
 ghost use Rattle.terms.specs.Tests.{ShareElement};
-ghost use Rattle.zones_maps.specs.Delta.{IsChanged};
+ghost use Rattle.zones_maps.specs.Delta.{IsChanged, KnowsStood};
 ghost use Rattle.terms.specs.Install.{HasInstalled, TakesEffect};
 ghost use Rattle.change.specs.Elements.{HasBases};
 ghost use Rattle.zones_maps.specs.Differing.{EachChanges};
@@ -20,7 +20,7 @@ use fields::{Attest, Id, IdList, YyDdd};
 use sorted::{Edit, Table};
 use std::alloc::{AllocError, Global};
 use sysmods::Overs;
-use zones::{Element, Zone, ZoneDelta, deletions};
+use zones::{Element, Zone, ZoneDelta, ZoneEdits, deletions};
 
 /// What is installed into which zone, by the `++VER`s that count and with what is found of who is over whom. `bypassed`
 /// has SYSMODs with a bypassed requisite of theirs, in any order; what it says of others does not matter.
@@ -50,7 +50,8 @@ pub fn install(alloc: Global, installing: Installing<'_, '_>) -> Result<Installe
     requires base { HasBases (installation_of installing) }
     ensures installs { IfOk result (λ i. (new : AZone) → IsChanged i.delta installing.entry.zone.now new →
         HasInstalled (installation_of installing.entry) new) }
-    ensures differs { IfOk result (λ i. EachChanges installing.entry.zone.now i.delta) }
+    ensures differs { IfOk result (λ i. EachChanges installing.entry.zone.now i.delta.edits) }
+    ensures knows { IfOk result (λ i. KnowsStood installing.entry.zone.now i.delta) }
     ensures effective { IfOk result (λ i. (x : AnId) → Contains i.effective x
         ↔ TakesEffect (installation_of installing.entry) x) }
 {
@@ -67,8 +68,8 @@ pub fn install(alloc: Global, installing: Installing<'_, '_>) -> Result<Installe
         kept: installing.kept.as_slice(),
         dels: dels.as_slice(),
     };
-    let mut delta = ZoneDelta::new(alloc);
-    put_entries(alloc, &deleting, &plan, &mut delta)?;
+    let mut zone_edits = ZoneEdits::new(alloc);
+    put_entries(alloc, &deleting, &plan, &mut zone_edits)?;
     let mut edits = Table::new(alloc);
     remove_elements(&deleting, &mut edits)?;
     let mut overs = installing.overs;
@@ -80,9 +81,9 @@ pub fn install(alloc: Global, installing: Installing<'_, '_>) -> Result<Installe
         plan.effective.as_slice(),
     )?;
     put_elements(elements, &mut edits)?;
-    edit_elements(zone, edits.into_vec(), &mut delta)?;
+    edit_elements(zone, edits.into_vec(), &mut zone_edits)?;
     Ok(Installed {
-        delta,
+        delta: ZoneDelta::of(alloc, zone_edits, zone)?,
         effective: plan.effective,
     })
 }

@@ -4,7 +4,7 @@ ghost use Rattle.std.specs.List.{list_any};
 ghost use Rattle.terms.specs.Types.{Zone as AZone};
 ghost use Rattle.terms.specs.Lookups.{is_in, waives_applied};
 ghost use Rattle.terms.specs.Restore.{Restoring, Restores};
-ghost use Rattle.zones_maps.specs.Delta.{IsChanged};
+ghost use Rattle.zones_maps.specs.Delta.{IsChanged, KnowsStood};
 ghost use Rattle.zones_maps.specs.Differing.{EachChanges};
 ghost use Rattle.change.specs.Restoring.{IsRestoringOf, PutsBack, changed_keys, loses, take_off};
 
@@ -13,7 +13,7 @@ use sorted::TryClone;
 use std::alloc::{AllocError, Global};
 use sysmods::GlobalZone;
 use terms::ElemType;
-use zones::{Entry, Zone, ZoneDelta, are_same, entry_less};
+use zones::{Entry, Zone, ZoneDelta, ZoneEdits, are_same, entry_less};
 
 /// What changes in a target zone when the kept SYSMODs are taken off it. Elements that they change become those of the
 /// distribution zone. Each edit changes something. An error comes where memory runs out.
@@ -26,12 +26,13 @@ pub fn restore(
 ) -> Result<ZoneDelta, AllocError>
     ensures restores { IfOk result (λ delta. (r : Restoring) → IsRestoringOf r global.now zone.now accepted.now
         → (new : AZone) → IsChanged delta zone.now new → Restores r kept.now new) }
-    ensures differs { IfOk result (EachChanges zone.now) }
+    ensures differs { IfOk result (λ delta. EachChanges zone.now delta.edits) }
+    ensures knows { IfOk result (KnowsStood zone.now) }
 {
     zone.attest();
-    let mut delta = ZoneDelta::new(alloc);
+    let mut zone_edits = ZoneEdits::new(alloc);
     for entry in zone.entries() {
-        take_off(alloc, kept, entry, &mut delta)?;
+        take_off(alloc, kept, entry, &mut zone_edits)?;
     }
     let mut changed = Vec::new(alloc);
     for id in kept.as_slice() {
@@ -39,9 +40,9 @@ pub fn restore(
     }
     changed.sort_unstable();
     for key in changed.as_slice() {
-        put_back(alloc, zone, accepted, *key, &mut delta)?;
+        put_back(alloc, zone, accepted, *key, &mut zone_edits)?;
     }
-    Ok(delta)
+    ZoneDelta::of(alloc, zone_edits, zone)
 }
 
 // Adds the types and names of the elements that the SYSMOD changes.
@@ -79,19 +80,19 @@ fn take_off(
     alloc: Global,
     kept: &IdList,
     entry: &Entry,
-    delta: &mut ZoneDelta,
+    zone_edits: &mut ZoneEdits,
 ) -> Result<(), AllocError>
     requires { IsTrue (waives_applied entry.now) }
-    ensures { OnOk result (delta.new ≡ take_off (is_in kept.now) delta.old entry.now) }
+    ensures { OnOk result (zone_edits.new ≡ take_off (is_in kept.now) zone_edits.old entry.now) }
 {
     if !loses(kept, entry) {
         return Ok(());
     }
     let less = entry_less(alloc, kept, entry)?;
     if !less.has_content() {
-        return delta.remove_entry(entry.id);
+        return zone_edits.remove_entry(entry.id);
     }
-    delta.put_entry(less)
+    zone_edits.put_entry(less)
 }
 
 // The element becomes the one of the other zone, or goes if that has none. One that is the same in both stays.
@@ -100,16 +101,16 @@ fn put_back(
     zone: &Zone,
     accepted: &Zone,
     key: (ElemType, Name),
-    delta: &mut ZoneDelta,
+    zone_edits: &mut ZoneEdits,
 ) -> Result<(), AllocError>
-    ensures { OnOk result (PutsBack zone.now accepted.now key delta.old delta.new) }
+    ensures { OnOk result (PutsBack zone.now accepted.now key zone_edits.old zone_edits.new) }
 {
     let wanted = accepted.element(key.0, key.1);
     if are_same(zone.element(key.0, key.1), wanted) {
         return Ok(());
     }
     match wanted {
-        Some(element) => delta.put_element(element.try_clone(alloc)?),
-        None => delta.remove_element(key.0, key.1),
+        Some(element) => zone_edits.put_element(element.try_clone(alloc)?),
+        None => zone_edits.remove_element(key.0, key.1),
     }
 }

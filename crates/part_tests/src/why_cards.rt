@@ -3,7 +3,7 @@
 use crate::cards::file_of;
 use fields::{Id, IdList, Name, Srel, YyDdd, ZoneName};
 use mcs::{HoldItem, Item, read_hold, read_ptfin};
-use report_why::{facts_code, facts_of, facts_text};
+use report_why::{facts_code, facts_of, put_facts};
 use sorted::Table;
 use std::alloc::{AllocError, Global};
 use std::test::Fail;
@@ -101,9 +101,13 @@ fn told(
     zone: &Zone,
     ids: &[Id],
 ) -> Result<(Vec<u8>, u8), AllocError> {
-    let facts = facts_of(alloc, global, zone, ids)?;
-    let text = facts_text(alloc, facts.as_slice())?;
-    Ok((text, facts_code(facts.as_slice())))
+    let mut text = Vec::new(alloc);
+    let mut code: u8 = 0;
+    for of in facts_of(alloc, global, zone, ids)? {
+        put_facts(of.facts.as_slice(), &mut text)?;
+        code = code.max(facts_code(of.facts.as_slice()));
+    }
+    Ok((text, code))
 }
 
 /// A global zone by its cards, with a bar between two, and what must be told of ids in it.

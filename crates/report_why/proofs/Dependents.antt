@@ -9,7 +9,7 @@ use Rattle.terms.specs.Types.{Id, Global, Zone}
 use Rattle.terms.specs.Lookups.{is_in, is_applied}
 use Rattle.terms.specs.Choice.{Choice, counting}
 use Rattle.terms.specs.Restore.{Restoring, NeedsInRestore}
-use Rattle.terms.specs.Facts.{NeedsIt}
+use Rattle.report_why.specs.Facts.{NeedsIt}
 use Rattle.judge_system.specs.declared.stated.RequisiteOf.{RequisiteOf}
 use Rattle.judge_system.specs.Said.{a_need}
 use Rattle.undo.specs.Needed.{AreNeeds}

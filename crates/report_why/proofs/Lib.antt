@@ -1,5 +1,6 @@
 pub mod Besides
 pub mod Dependents
+pub mod Firsts
 pub mod Growing
 pub mod Made
 pub mod Numbering

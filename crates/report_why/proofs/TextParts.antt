@@ -12,10 +12,10 @@ use Rattle.terms.specs.declared.kinds.ZoneKind.TheVariants.{Target, Distribution
 use Rattle.terms.specs.declared.kinds.ElemType.{ElemType}
 use Rattle.terms.specs.Types.{Hold, Entry, Applied}
 use Rattle.terms.specs.Spelling.{need_text, hold_text, type_text}
-use Rattle.terms.specs.Facts.{Requisite, Answer, Found, RequisiteFact, HoldFact, ElementFact, EntryFact, StandsApplied}
+use Rattle.report_why.specs.Facts.{Requisite, Answer, Found, RequisiteFact, HoldFact, ElementFact, EntryFact, StandsApplied}
 use Rattle.machine.specs.Report.{words_line, left_in, list_text, mark_text, optional_text}
-use Rattle.machine.specs.FactText.{inner_line, id_lines, answer_word, answer_lines, owned_text, change_text, word_if}
-use Rattle.machine.specs.FactText.{maker_line, standing_text, comment_line, fact_text, fact_code, facts_code}
+use Rattle.report_why.specs.FactText.{inner_line, id_lines, answer_word, answer_lines, owned_text, change_text, word_if}
+use Rattle.report_why.specs.FactText.{maker_line, standing_text, comment_line, fact_text, fact_code, facts_code}
 use Rattle.report_why.specs.declared.line.FactWord.{FactWord}
 use Rattle.report_why.specs.declared.fact.Fact.{Fact}
 use Rattle.report_why.specs.LineWords.{word_text}

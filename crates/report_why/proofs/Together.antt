@@ -11,9 +11,9 @@ use Rattle.terms.specs.Choice.{Choice, counting}
 use Rattle.terms.specs.Lookups.{changes_of}
 use Rattle.terms.specs.CommandForms.{no_bypass}
 use Rattle.terms.specs.Tests.{Setting}
-use Rattle.terms.specs.Facts.{Fact, alone, requisites as requisites_in, holds_on, standing_facts, ver_facts}
-use Rattle.terms.specs.Facts.{delete_facts, npre_facts}
-use Rattle.terms.specs.Facts.{IsRequisiteFact, IsHoldFact, IsElementFact, AreFacts, AreFactsOf, NeededFact}
+use Rattle.report_why.specs.Facts.{Fact, alone, requisites as requisites_in, holds_on, standing_facts, ver_facts}
+use Rattle.report_why.specs.Facts.{delete_facts, npre_facts}
+use Rattle.report_why.specs.Facts.{IsRequisiteFact, IsHoldFact, IsElementFact, AreFacts, AreOrphans, NeededFact}
 use Rattle.report_why.specs.declared.fact as code
 use Rattle.report_why.specs.Views.{fact_view}
 use Rattle.report_why.specs.Needed.{AreNeeded}
@@ -55,7 +55,8 @@ module _ {X Y : Type 0} (f : X → Y) where
 -- what an install of the id alone looks at
 pub record AreAsked (s : Setting) (x : Id) (requisites holds elements deletes forbids : List code.Fact.Fact)
     : Type 0 where
-  pub of_requisites : Beside (λ n r fact. IsRequisiteFact s x r (fact_view fact)) (requisites_in s x) requisites
+  pub of_requisites : (lost : List Id) × AreOrphans s x lost
+      × Beside (λ n r fact. IsRequisiteFact s x r (fact_view fact)) (requisites_in s x lost) requisites
   pub of_holds : Beside (λ n h fact. IsHoldFact s x h (fact_view fact)) (holds_on s.global x) holds
   pub of_elements : Beside (λ n h fact. IsElementFact s x h (fact_view fact)) (changes_of s.global x) elements
   pub deletes_are : map fact_view deletes ≡ delete_facts s x
@@ -69,8 +70,10 @@ pub are_facts : (g : Global) (zone : Zone) (x : Id) (all s v r h e d p n : List 
     → AreFacts g zone x (map fact_view all)
 are_facts g zone x all s v r h e d p n is es ev asked needed = record {
   of_requisites = map fact_view r;
-  requisites_are = beside_map (IsRequisiteFact (alone g zone x) x) fact_view (requisites_in (alone g zone x) x) r
-      asked.of_requisites;
+  orphans = asked.of_requisites.0;
+  orphans_are = asked.of_requisites.1;
+  requisites_are = beside_map (IsRequisiteFact (alone g zone x) x) fact_view
+      (requisites_in (alone g zone x) x asked.of_requisites.0) r asked.of_requisites.2;
   of_holds = map fact_view h;
   holds_are = beside_map (IsHoldFact (alone g zone x) x) fact_view (holds_on g x) h asked.of_holds;
   of_elements = map fact_view e;
@@ -81,21 +84,4 @@ are_facts g zone x all s v r h e d p n is es ev asked needed = record {
   facts_are = seen_parts fact_view all s v r h e d p n (standing_facts g zone x) (ver_facts g zone x)
       (delete_facts (alone g zone x) x) (npre_facts (alone g zone x) x) (map NeededFact needed.ids) is es ev
       asked.deletes_are asked.forbids_are needed.facts_are;
-}
-
--- the facts of no ids, and of one id more
-pub facts_none : (g : Global) (zone : Zone) → AreFactsOf g zone [] []
-facts_none g zone = record {
-  parts = [];
-  each = beside_nil (λ x part. AreFacts g zone x part);
-  facts_are = refl;
-}
-
-pub facts_more : (g : Global) (zone : Zone) (xs : List Id) (x : Id) (old new more : List Fact)
-    → AreFactsOf g zone xs old → AreFacts g zone x more → new ≡ old ++ more → AreFactsOf g zone (xs ++ x ∷ []) new
-facts_more g zone xs x old new more so one is = record {
-  parts = so.parts ++ more ∷ [];
-  each = beside_more (λ n x part. AreFacts g zone x part) xs so.parts x more so.each one;
-  facts_are = is ∙ ap (λ l. l ++ more) so.facts_are ∙ ap (λ l. flat_map (λ part. part) so.parts ++ l)
-      (sym (append-nil more)) ∙ sym (flat_map-append (λ part. part) so.parts (more ∷ []));
 }

@@ -1,3 +1,6 @@
+pub mod Facts
+pub mod FactText
+pub mod Verdict
 pub mod Views
 pub mod Asking
 pub mod Numbered

@@ -2,7 +2,7 @@
 use Rattle.std.specs.Prelude.{◌≡◌}
 use Rattle.terms.specs.Types.{Id}
 use Rattle.terms.specs.Choice.{Choice}
-use Rattle.terms.specs.Facts.{IsRank}
+use Rattle.report_why.specs.Facts.{IsRank}
 use Rattle.report_why.specs.Views.{rank_view}
 use Rattle.report_why.specs.declared.fact.Maker.{Maker}
 

@@ -6,7 +6,7 @@ use Rattle.terms.specs.declared.codes.NeedKind.TheVariants.{Dep}
 use Rattle.terms.specs.Types.{Id, Global, Zone}
 use Rattle.terms.specs.Lookups.{IsRising}
 use Rattle.judge_system.specs.declared.stated.RequisiteOf.{RequisiteOf}
-use Rattle.terms.specs.Facts.{Fact, NeededFact, NeedsIt}
+use Rattle.report_why.specs.Facts.{Fact, NeededFact, NeedsIt}
 
 -- the id, where it is needed as DEP
 abbrev pub dep_in : NeedKind → Id → List Id

@@ -7,7 +7,7 @@ ghost use Rattle.terms.specs.Needs.{Serves};
 ghost use Rattle.terms.specs.Candidates.{is_installable};
 ghost use Rattle.sysmods.specs.Choices.{choice};
 ghost use Rattle.zones.specs.Scopes.{global_of};
-ghost use Rattle.terms.specs.Facts.{suppliers, is_waivable, is_waived, MayServe, IsAnswer};
+ghost use Rattle.report_why.specs.Facts.{suppliers, is_waivable, is_waived, MayServe, IsAnswer};
 ghost use Rattle.report_why.specs.Asking.{setting_in, left_in};
 ghost use Rattle.report_why.specs.Views.{answer_view};
 
@@ -161,5 +161,9 @@ pub(crate) fn answer(
     if is_waived(asking.scope.zone, asking.id, requisite) {
         return Ok(Resolution::Waived);
     }
-    Ok(Resolution::Open(candidates(alloc, asking, kind, id)?))
+    let serving = candidates(alloc, asking, kind, id)?;
+    if serving.contains(asking.id) {
+        return Ok(Resolution::ByItself);
+    }
+    Ok(Resolution::Open(serving))
 }

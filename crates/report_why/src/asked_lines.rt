@@ -1,8 +1,8 @@
 //! The lines of what an id asks for, and of the holds on it. An error comes where memory runs out.
 ghost use Rattle.std.specs.Prelude.{◌≡◌, ◌++◌, option_map, OnOk};
 ghost use Rattle.std.specs.String.{string_bytes};
-ghost use Rattle.terms.specs.Facts.{RequisiteFact, HoldFact};
-ghost use Rattle.machine.specs.FactText.{id_lines, answer_lines, comment_line, fact_text};
+ghost use Rattle.report_why.specs.Facts.{RequisiteFact, HoldFact};
+ghost use Rattle.report_why.specs.FactText.{id_lines, answer_lines, comment_line, fact_text};
 ghost use Rattle.report_why.specs.Views.{answer_view};
 
 use crate::fact::{Requisite, Resolution};
@@ -37,6 +37,7 @@ fn put_answer(answer: &Resolution, text: &mut Vec<u8>) -> Result<(), AllocError>
     match answer {
         Resolution::Supplied(ids) => put_id_lines(b"SUPPLIER", ids.as_slice(), text),
         Resolution::Waived => Ok(()),
+        Resolution::ByItself => Ok(()),
         Resolution::Open(ids) => put_id_lines(b"CANDIDATE", ids.as_slice(), text),
     }
 }

@@ -6,7 +6,7 @@ ghost use Rattle.terms.specs.Over.{chain};
 ghost use Rattle.terms.specs.Deleted.{is_taken_out};
 ghost use Rattle.sysmods.specs.Choices.{choice};
 ghost use Rattle.zones.specs.Scopes.{global_of, choice_of};
-ghost use Rattle.terms.specs.Facts.{delete_facts};
+ghost use Rattle.report_why.specs.Facts.{delete_facts};
 ghost use Rattle.report_why.specs.Asking.{setting_in};
 ghost use Rattle.report_why.specs.Views.{fact_view};
 

@@ -1,7 +1,7 @@
 //! The lines of an element. An error comes where memory runs out.
 ghost use Rattle.std.specs.Prelude.{◌≡◌, ◌++◌, option_map, OnOk};
-ghost use Rattle.terms.specs.Facts.{ElementFact};
-ghost use Rattle.machine.specs.FactText.{maker_line, fact_text};
+ghost use Rattle.report_why.specs.Facts.{ElementFact};
+ghost use Rattle.report_why.specs.FactText.{maker_line, fact_text};
 ghost use Rattle.report_why.specs.Views.{maker_view, found_view};
 
 use crate::fact::{Found, Maker};

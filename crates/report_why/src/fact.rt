@@ -27,7 +27,7 @@ pub struct Requisite {
 }
 
 impl Model for Requisite {
-    ghost use Rattle.terms.specs.Facts as terms;
+    ghost use Rattle.report_why.specs.Facts as terms;
 
     ghost Value = { terms.Requisite };
 
@@ -42,6 +42,8 @@ pub enum Resolution {
     /// These supply it.
     Supplied(Vec<Id>),
     Waived,
+    /// Whoever asks for it would serve it.
+    ByItself,
     /// These received SYSMODs would serve it.
     Open(IdList),
 }
@@ -68,6 +70,13 @@ pub struct Found {
     pub owned: bool,
     pub rmid: Maker,
     pub umids: Vec<Maker>,
+}
+
+/// An id, and the facts of it.
+#[derive(Drop)]
+pub struct IdFacts<'a> {
+    pub id: Id,
+    pub facts: Vec<Fact<'a>>,
 }
 
 /// A fact of an id.

@@ -1,8 +1,8 @@
 //! How single values of facts are spelled.
 ghost use Rattle.std.specs.Prelude.{◌≡◌};
 ghost use Rattle.machine.specs.Report.{optional_text};
-ghost use Rattle.terms.specs.Facts.{StandsApplied};
-ghost use Rattle.machine.specs.FactText.{type_word, standing_text, answer_word, rank_text};
+ghost use Rattle.report_why.specs.Facts.{StandsApplied};
+ghost use Rattle.report_why.specs.FactText.{type_word, standing_text, answer_word, rank_text};
 ghost use Rattle.report_why.specs.Views.{standing_view, answer_view, rank_view};
 
 use crate::fact::{Rank, Resolution, Standing};
@@ -74,6 +74,7 @@ pub(crate) fn answer_word(answer: &Resolution) -> &'static [u8]
     match answer {
         Resolution::Supplied(_) => b"SUPPLIED",
         Resolution::Waived => b"WAIVED",
+        Resolution::ByItself => b"ITSELF",
         Resolution::Open(_) => b"OPEN",
     }
 }

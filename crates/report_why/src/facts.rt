@@ -1,17 +1,17 @@
 //! All facts of ids in a zone.
-ghost use Rattle.std.specs.Prelude.{◌≡◌, ◌+◌, [], ◌∷◌, map, IfOk};
+ghost use Rattle.std.specs.Prelude.{◌≡◌, ◌+◌, [], ◌∷◌, All, map, IfOk};
 ghost use Rattle.terms.specs.Types.{Sysmod as ASysmod};
 ghost use Rattle.terms.specs.Lookups.{applied_ids};
 ghost use Rattle.terms.specs.Choice.{place, counting};
 ghost use Rattle.sysmods.specs.Choices.{number_in, choice};
 ghost use Rattle.zones.specs.Scopes.{setting_of};
-ghost use Rattle.terms.specs.Facts.{alone, AreFacts, AreFactsOf};
-ghost use Rattle.report_why.specs.Views.{fact_view};
+ghost use Rattle.report_why.specs.Facts.{alone, AreFacts};
+ghost use Rattle.report_why.specs.Views.{fact_view, HasFacts};
 
 use crate::asking::Asking;
 use crate::deletes::delete_facts;
 use crate::element_facts::element_facts;
-use crate::fact::Fact;
+use crate::fact::{Fact, IdFacts};
 use crate::forbids::npre_facts;
 use crate::hold_facts::hold_facts;
 use crate::needed::needed_facts;
@@ -100,14 +100,15 @@ fn facts<'a>(alloc: Global, looking: &Looking<'a, '_>, id: Id) -> Result<Vec<Fac
     facts_alone(alloc, looking, &scope, id)
 }
 
-/// The facts of these ids in the zone, in the order of the ids. The error comes where memory runs out.
+/// The facts of each of these ids in the zone, in their order. The error comes where memory runs out.
 pub fn facts_of<'a>(
     alloc: Global,
     global: &'a GlobalZone,
     zone: &'a Zone,
     ids: &[Id],
-) -> Result<Vec<Fact<'a>>, AllocError>
-    ensures { IfOk result (λ facts. AreFactsOf global.now zone.now ids.now (map fact_view facts.items)) }
+) -> Result<Vec<IdFacts<'a>>, AllocError>
+    ensures ids { IfOk result (λ found. map (λ of. of.id) found.items ≡ ids.now) }
+    ensures facts { IfOk result (λ found. All (HasFacts global.now zone.now) found.items) }
 {
     let bare = choose(alloc, global, zone, &IdList::new(alloc))?;
     let applied = applied_ids(alloc, zone)?;
@@ -124,8 +125,8 @@ pub fn facts_of<'a>(
     };
     let mut found = Vec::new(alloc);
     for id in ids {
-        let mut facts = facts(alloc, &looking, *id)?;
-        found.append(&mut facts)?;
+        let facts = facts(alloc, &looking, *id)?;
+        found.push(IdFacts { id: *id, facts })?;
     }
     Ok(found)
 }

@@ -4,7 +4,7 @@ ghost use Rattle.terms.specs.Beside.{Beside};
 ghost use Rattle.terms.specs.declared.kinds.HoldKind.TheVariants.{Error};
 ghost use Rattle.terms.specs.Lookups.{holds_of};
 ghost use Rattle.zones.specs.Scopes.{global_of};
-ghost use Rattle.terms.specs.Facts.{holds_on, HasResolution, IsHoldFact};
+ghost use Rattle.report_why.specs.Facts.{holds_on, HasResolution, IsHoldFact};
 ghost use Rattle.report_why.specs.Asking.{setting_in};
 ghost use Rattle.report_why.specs.Views.{answer_view, fact_view};
 

@@ -2,6 +2,7 @@
 ghost use Rattle.std.specs.Prelude.{◌≡◌, ◌++◌, ◌∷◌, map, OnOk};
 ghost use Rattle.machine.specs.Report.{words_line, left_in, list_text};
 ghost use Rattle.report_why.specs.LineWords.{word_text};
+ghost use Rattle.report_why.specs.Verdict.{named};
 
 use fields::Id;
 use itoa::Buffer;
@@ -11,6 +12,8 @@ use std::alloc::AllocError;
 #[derive(Clone, Copy)]
 pub(crate) enum FactWord<'a> {
     Of(&'a [u8]),
+    /// With a colon behind it.
+    Named(&'a [u8]),
     /// The first word where it is so, else the second.
     If(bool, &'static [u8], &'static [u8]),
     /// In so many places, with blanks behind it.
@@ -25,6 +28,14 @@ fn put(piece: &[u8], text: &mut Vec<u8>) -> Result<(), AllocError>
 {
     text.extend_from_slice(piece)?;
     Ok(())
+}
+
+// Appends the word, and a colon.
+fn put_named(word: &[u8], text: &mut Vec<u8>) -> Result<(), AllocError>
+    ensures { OnOk result (text.new.items ≡ text.old.items ++ named word.now) }
+{
+    put(word, text)?;
+    put(b":", text)
 }
 
 // Appends the word, and blanks up to so many places.
@@ -58,6 +69,7 @@ fn put_word(word: FactWord<'_>, text: &mut Vec<u8>) -> Result<(), AllocError>
 {
     match word {
         FactWord::Of(bytes) => put(bytes, text),
+        FactWord::Named(bytes) => put_named(bytes, text),
         FactWord::If(true, bytes, _) => put(bytes, text),
         FactWord::If(false, _, bytes) => put(bytes, text),
         FactWord::Left(places, bytes) => put_left(places, bytes, text),

@@ -1,19 +1,20 @@
 //! What an id asks for.
-ghost use Rattle.std.specs.Prelude.{◌≡◌, ◌++◌, None, filter, map, IfOk, OnOk};
+ghost use Rattle.std.specs.Prelude.{◌≡◌, ◌++◌, ◌&&◌, None, not, filter, map, IfOk, List, OnOk};
 ghost use Rattle.std.specs.List.{flat_map};
 ghost use Rattle.std.specs.Str.{bytes_eq};
 ghost use Rattle.terms.specs.Beside.{Beside};
 ghost use Rattle.terms.specs.Lookups.{is_applied, is_function};
-ghost use Rattle.terms.specs.Needs.{orphans};
 ghost use Rattle.zones.specs.Scopes.{choice_of};
-ghost use Rattle.terms.specs.Facts.{a_requisite, stated_by, conditions_of, conditions, requisites, IsRequisiteFact};
+ghost use Rattle.terms.specs.Types.{Id as AnId};
+ghost use Rattle.report_why.specs.Facts.{a_requisite, stated_by, conditions_of, conditions, requisites, IsRequisiteFact};
+ghost use Rattle.report_why.specs.Facts.{AreOrphans};
 ghost use Rattle.report_why.specs.Asking.{setting_in, view_in, is_there};
 ghost use Rattle.report_why.specs.Views.{fact_view};
 
 use crate::answers::answer;
 use crate::asking::Asking;
 use crate::fact::{Fact, Requisite};
-use fields::{Attest, Id};
+use fields::{Attest, Id, IdList};
 use std::alloc::{AllocError, Global};
 use sysmods_values::IfReq;
 use terms::NeedKind;
@@ -89,7 +90,14 @@ fn push_for(
     Ok(())
 }
 
-// Adds what SYSMODs of these state for the id as a function that the view has applied.
+// Whether it is another SYSMOD than the id, which the view has applied.
+fn is_other_applied(asking: &Asking<'_, '_>, by: Id) -> bool
+    ensures { result ≡ (is_applied (view_in asking.now) by && not (bytes_eq asking.now.id by)) }
+{
+    asking.sees(by) && asking.id != by
+}
+
+// Adds what other SYSMODs of these, which the view has applied, state for the id as a function.
 fn push_of_others(
     asking: &Asking<'_, '_>,
     ids: &[Id],
@@ -97,17 +105,17 @@ fn push_of_others(
 ) -> Result<(), AllocError>
     ensures { OnOk result (found.new.items ≡ found.old.items
         ++ flat_map (conditions_of (choice_of asking.now.scope) (bytes_eq asking.now.id))
-        (filter (is_applied (view_in asking.now)) ids.now)) }
+        (filter (λ y. is_applied (view_in asking.now) y && not (bytes_eq asking.now.id y)) ids.now)) }
 {
     for by in ids {
-        if asking.sees(*by) {
+        if is_other_applied(asking, *by) {
             push_for(asking.id, *by, asking.scope.ifs(*by), found)?;
         }
     }
     Ok(())
 }
 
-// Adds the requisites by `++IF`: its own, and if it is a function those that applied SYSMODs state for it.
+// Adds the requisites by `++IF`: its own, and if it is a function those that other applied SYSMODs state for it.
 fn push_conditions(asking: &Asking<'_, '_>, found: &mut Vec<Requisite>) -> Result<(), AllocError>
     ensures { OnOk result (found.new.items ≡ found.old.items ++ conditions (setting_in asking.now) asking.now.id) }
 {
@@ -121,7 +129,8 @@ fn push_conditions(asking: &Asking<'_, '_>, found: &mut Vec<Requisite>) -> Resul
 
 // All that the id asks for, but for the reasons of ERROR holds.
 fn requisites(alloc: Global, asking: &Asking<'_, '_>) -> Result<Vec<Requisite>, AllocError>
-    ensures { IfOk result (λ found. found.items ≡ requisites (setting_in asking.now) asking.now.id) }
+    ensures { IfOk result (λ found. (lost : List AnId) × AreOrphans (setting_in asking.now) asking.now.id lost
+        × (found.items ≡ requisites (setting_in asking.now) asking.now.id lost)) }
 {
     let scope = &asking.scope;
     let id = asking.id;
@@ -131,7 +140,9 @@ fn requisites(alloc: Global, asking: &Asking<'_, '_>) -> Result<Vec<Requisite>, 
     push_all(NeedKind::Pre, id, scope.pre(id), &mut found)?;
     push_all(NeedKind::Req, id, scope.req(id), &mut found)?;
     push_conditions(asking, &mut found)?;
-    let lost = orphans(alloc, scope.vers, scope.zone, id)?;
+    let losses = orphans(alloc, scope.vers, scope.zone, id)?;
+    let lost = IdList::from_vec(losses);
+    lost.attest();
     push_all(NeedKind::Orphan, id, lost.as_slice(), &mut found)?;
     Ok(found)
 }
@@ -141,8 +152,9 @@ pub(crate) fn requisite_facts(
     alloc: Global,
     asking: &Asking<'_, '_>,
 ) -> Result<Vec<Fact<'static>>, AllocError>
-    ensures { IfOk result (λ facts. Beside (λ n r fact. IsRequisiteFact (setting_in asking.now) asking.now.id r
-        (fact_view fact)) (requisites (setting_in asking.now) asking.now.id) facts.items) }
+    ensures { IfOk result (λ facts. (lost : List AnId) × AreOrphans (setting_in asking.now) asking.now.id lost
+        × Beside (λ n r fact. IsRequisiteFact (setting_in asking.now) asking.now.id r (fact_view fact))
+        (requisites (setting_in asking.now) asking.now.id lost) facts.items) }
 {
     let found = requisites(alloc, asking)?;
     let mut facts = Vec::new(alloc);

@@ -1,7 +1,7 @@
 //! Where an id stands, and its entry.
 ghost use Rattle.std.specs.Prelude.{◌≡◌, not, is_some, option_map, IfOk, map};
 ghost use Rattle.terms.specs.Lookups.{is_nil, sysmod_of, supby_of, delby_of};
-ghost use Rattle.terms.specs.Facts.{standing, standing_facts};
+ghost use Rattle.report_why.specs.Facts.{standing, standing_facts};
 ghost use Rattle.report_why.specs.Views.{standing_view, fact_view};
 
 use crate::fact::{Fact, Standing};

@@ -1,7 +1,7 @@
 //! The text of facts. An error comes where memory runs out.
-ghost use Rattle.std.specs.Prelude.{◌≡◌, ◌++◌, map, IfOk, OnOk};
-ghost use Rattle.terms.specs.Facts.{EntryFact, VerFact};
-ghost use Rattle.machine.specs.FactText.{fact_text, facts_text as text_of, fact_code, facts_code as code_of};
+ghost use Rattle.std.specs.Prelude.{◌≡◌, ◌++◌, map, OnOk};
+ghost use Rattle.report_why.specs.Facts.{EntryFact, VerFact};
+ghost use Rattle.report_why.specs.FactText.{fact_text, facts_text as text_of, fact_code, facts_code as code_of};
 ghost use Rattle.report_why.specs.Views.{fact_view};
 
 use crate::asked_lines::{put_hold, put_requisite};
@@ -10,7 +10,7 @@ use crate::fact::{Fact, Standing};
 use crate::fact_words::{applied_word, id_text, standing_text, type_word};
 use crate::line::{FactWord, put_words};
 use fields::Id;
-use std::alloc::{AllocError, Global};
+use std::alloc::AllocError;
 use terms::ZoneKind;
 use zones::Entry;
 
@@ -104,15 +104,14 @@ fn put_fact(fact: &Fact<'_>, text: &mut Vec<u8>) -> Result<(), AllocError>
     }
 }
 
-/// The lines of facts. The error comes where memory runs out.
-pub fn facts_text(alloc: Global, facts: &[Fact<'_>]) -> Result<Vec<u8>, AllocError>
-    ensures { IfOk result (λ text. text.items ≡ text_of (map fact_view facts.now)) }
+/// Appends the lines of facts. The error comes where memory runs out.
+pub fn put_facts(facts: &[Fact<'_>], text: &mut Vec<u8>) -> Result<(), AllocError>
+    ensures { OnOk result (text.new.items ≡ text.old.items ++ text_of (map fact_view facts.now)) }
 {
-    let mut text = Vec::new(alloc);
     for fact in facts {
-        put_fact(fact, &mut text)?;
+        put_fact(fact, text)?;
     }
-    Ok(text)
+    Ok(())
 }
 
 fn fact_code(fact: &Fact<'_>) -> u8

@@ -1,6 +1,6 @@
 -- How a job ends, its zones are closed where they were.
-use Rattle.std.proofs.Common.{◌≡◌, ◌⊎◌, inl, inr, ℕ, List, [], ◌∷◌, Option, Result, Ok, Err, IsTrue, sym}
-use Rattle.std.proofs.Common.{◌∙◌, subst}
+use Rattle.std.proofs.Common.{◌≡◌, ◌⊎◌, inl, inr, ℕ, List, [], ◌∷◌, Option, Result, Ok, Err, IsTrue, refl, sym}
+use Rattle.std.proofs.Common.{◌∙◌, subst, rules}
 use Rattle.std.specs.List.{AllByRecursion}
 use Rattle.sqlite.specs.Store.{Ghosts}
 use Rattle.sqlite.specs.Held.{Held, state}
@@ -14,24 +14,26 @@ use Rattle.machine.specs.State.{State, ZoneDefinition}
 use Rattle.machine.specs.Machine as machine
 use Rattle.machine.specs.Machine.{Act, Define, Job}
 use Rattle.store_schema.specs.declared.error.StoreError.TheVariants as store
+use Rattle.store_schema.specs.Create.{IsBlank}
 use Rattle.store_schema.specs.Inventory.{Inventory}
 use Rattle.store_schema.specs.Stands.{StandsFor}
 use Rattle.store_schema.specs.Tables.{store_schema}
 use Rattle.store_schema.proofs.OneState.{one_state}
 use Rattle.smpe_zones.specs.Ends.{StillKeeps}
 use Rattle.smpe_zones.specs.Kept.{kept, Keeps, IsAfter}
-use Rattle.store.specs.View.{Leaves}
+use Rattle.store.specs.View.{Leaves, IsFound}
 use Rattle.smpe_zones.proofs.Adding.{steps_defined}
 use Rattle.smpe_zones.proofs.Keeping.{inventory_kept, leaves_more}
 use Rattle.machine_laws.specs.Storable.{HasActForms, HasJobForms}
 use Rattle.machine_laws.proofs.StepKeeps.{IsClosedState, step_keeps}
-use Rattle.machine_laws.proofs.JobsKeep.{first_formed, runs_keep, job_keeps}
+use Rattle.machine_laws.proofs.JobsKeep.{first_formed, runs_keep, job_keeps, jobs_keep}
 use Rattle.smpe_zones.specs.declared.error.ZoneError.{ZoneError}
 use Rattle.smpe_zones.specs.declared.error.ZoneError.TheVariants as zone
 use Rattle.smpe_zones.specs.Definitions.{HasDefined}
 use Rattle.smpe.specs.declared.error.JobError.{JobError}
 use Rattle.smpe.specs.declared.error.JobError.TheVariants.{Memory, Store, Write}
-use Rattle.smpe.specs.Ending.{IsAfterNext, LastStep, StaysClosed, EndsEarly, EndsJob}
+use Rattle.smpe.specs.Ending.{IsAfterNext, LastStep, StaysClosed, EndsEarly, EndsJob, EndsJobs}
+use Rattle.smpe.specs.FromEmpty.{IsNewStore, EndsClosed, empty_system}
 
 -- tables of one database, whatever schema it is read by, stand for one inventory
 same_stands : (trees : Trees) (a b : Schema) (i j : Inventory) → StandsFor i (record { schema = a; trees = trees })
@@ -117,6 +119,14 @@ module _ {S : Type 0} (g : Ghosts S) (at : Held S) (clean : HasCleanDisk (state 
     job_ended s job a b answer (Err e) is form (acts, are, ends) =
         early s acts a b e is (first_formed (job ∷ []) acts (form, tt) are) ends
 
+    jobs_ended : (s : State) (jobs : List Job) (a b : Option (List ℕ)) (r : Result (List machine.Answer) JobError)
+        → IsClosedState s → AllByRecursion HasJobForms jobs
+        → EndsJobs g began at s jobs a b (λ answers. answers) r → StaysClosed g at
+    jobs_ended s jobs a b (Ok answers) is forms (t, bytes, ran, keeps, appends) =
+        keeps_closed t keeps (jobs_keep jobs s t bytes answers forms ran is).closed
+    jobs_ended s jobs a b (Err e) is forms (acts, are, ends) =
+        early s acts a b e is (first_formed jobs acts forms are) ends
+
     zone_ended : {U : Type 0} (s : State) (d : ZoneDefinition) (r : Result U ZoneError) → IsClosedState s
         → HasActForms (Define d) → HasDefined g began at s d r → StaysClosed g at
     zone_ended s d (Ok done) is form (t, answers, keeps) =
@@ -144,3 +154,16 @@ module _ {S : Type 0} (g : Ghosts S) (old at : Held S) (s : State) (was : HasCle
   pub definition_closed : {U : Type 0} (d : ZoneDefinition) (r : Result U ZoneError) → IsZoneName d.name
       → IsSrel d.srel → HasDefined g old at s d r → StaysClosed g at
   definition_closed d r name srel ends = zone_ended g at clean old s d r found (name, srel) ends
+
+-- Jobs over a store that was opened in a database without tables.
+pub ends_closed_holds : {S : Type 0} (g : Ghosts S) → EndsClosed g
+ends_closed_holds {S} g conn began at jobs old new result made was clean forms ends =
+    let found : IsFound g conn (kept empty_system) = λ sure is_open. inl (made.blank sure is_open, refl) in
+    let keeps : Keeps g began empty_system = record {
+      now = made.tables (kept empty_system) found;
+      crash = made.leaves (kept empty_system) found;
+    } in
+    let is : IsClosedState empty_system = record {
+      storable = inventory_kept g began empty_system keeps was;
+      closed = search rules;
+    } in jobs_ended g at clean began empty_system jobs old new result is forms ends

@@ -26,7 +26,7 @@ use Rattle.smpe.specs.Ending.{EndsEarly}
 use Rattle.smpe.specs.Commands.{EndsCommands}
 use Rattle.smpe.proofs.Early.{early_after, early_more}
 
-codes_append : (xs ys : List Outcome) → job_code (xs ++ ys) ≡ max (job_code xs) (job_code ys)
+pub codes_append : (xs ys : List Outcome) → job_code (xs ++ ys) ≡ max (job_code xs) (job_code ys)
 codes_append [] ys = omega arith
 codes_append (x ∷ xs) ys = let e = codes_append xs ys in omega arith
 

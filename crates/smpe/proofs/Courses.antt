@@ -12,13 +12,13 @@ use Rattle.report.specs.Sent.{WrotePart}
 use Rattle.smpe.specs.Course.{AllRan, Course, Unreported, AtNext}
 
 module _ {W : Type 0} (Steps : W → Act → W → List Outcome → Type 0) where
-  -- ---- acts that ran
+  -- ---- acts that ran: what they reported is seen by those who use these
 
-  pub ran_none : (at : W) (taken : Option (List ℕ)) → AllRan Steps at [] at taken taken
+  abbrev pub ran_none : (at : W) (taken : Option (List ℕ)) → AllRan Steps at [] at taken taken
   ran_none at taken = record { outcomes = []; runs = (refl, refl); appends = Appends-nil taken }
 
   -- one that reports nothing
-  pub ran_quiet : (start end : W) (act : Act) (taken : Option (List ℕ)) → Steps start act end []
+  abbrev pub ran_quiet : (start end : W) (act : Act) (taken : Option (List ℕ)) → Steps start act end []
       → AllRan Steps start (act ∷ []) end taken taken
   ran_quiet start end act taken step = record {
     outcomes = [];
@@ -27,7 +27,7 @@ module _ {W : Type 0} (Steps : W → Act → W → List Outcome → Type 0) wher
   }
 
   -- one that reports this
-  pub ran_one : (start end : W) (act : Act) (outcome : Outcome) (old new : Option (List ℕ))
+  abbrev pub ran_one : (start end : W) (act : Act) (outcome : Outcome) (old new : Option (List ℕ))
       → Steps start act end (outcome ∷ []) → Appends old new (text outcome)
       → AllRan Steps start (act ∷ []) end old new
   ran_one start end act outcome old new step appends = record {
@@ -37,7 +37,7 @@ module _ {W : Type 0} (Steps : W → Act → W → List Outcome → Type 0) wher
   }
 
   -- acts, and then others
-  pub ran_more : (start mid end : W) (xs ys : List Act) (a b c : Option (List ℕ)) → AllRan Steps start xs mid a b
+  abbrev pub ran_more : (start mid end : W) (xs ys : List Act) (a b c : Option (List ℕ)) → AllRan Steps start xs mid a b
       → AllRan Steps mid ys end b c → AllRan Steps start (xs ++ ys) end a c
   ran_more start mid end xs ys a b c front back = record {
     outcomes = front.outcomes ++ back.outcomes;

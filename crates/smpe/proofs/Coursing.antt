@@ -1,6 +1,6 @@
 -- The course of a call, from those of its parts.
 use Rattle.std.proofs.Common.{◌≡◌, ◌≢◌, ℕ, List, [], ◌∷◌, ◌++◌, Option, Result, Ok, Err, map, refl, sym, ◌∙◌, ap, subst}
-use Rattle.std.proofs.Common.{append_assoc, append-nil, inl, inr}
+use Rattle.std.proofs.Common.{append-nil, inl, inr, max, ap₂, arith}
 use Rattle.std.specs.Io.KnownBytes.{Appends}
 use Rattle.std.specs.Result.{IsErrAnd}
 use Rattle.std.proofs.lemmas.List.{map-append}
@@ -10,64 +10,56 @@ use Rattle.sqlite.specs.Held.{Held, state}
 use Rattle.sqlite.specs.State.{HasCleanDisk}
 use Rattle.terms.specs.Types.{Text, Command}
 use Rattle.terms.specs.Commands.{CntlFault, IsCommandFile, IsCommandFileFault}
-use Rattle.machine.specs.State.{ZoneDefinition}
-use Rattle.machine.specs.Outcome.{Outcome, ControlFault, Control}
+use Rattle.machine.specs.State.{ZoneDefinition, ZoneFault}
+use Rattle.machine.specs.Outcome.{Outcome, ControlFault, Control, outcome_code, job_code}
 use Rattle.machine.specs.Report.{text}
-use Rattle.machine.specs.Machine.{Files, Act, Begin, Perform, Faulty, Define, Job, RunFiles, NewZone, HasActs}
-use Rattle.machine.specs.Machine.{AreFirstActs}
+use Rattle.machine.specs.Machine.{Files, Act, Begin, Perform, Faulty, Define, Job, RunFiles, NewZone}
+use Rattle.machine.specs.Machine.{Answer, Code, Defined, NotDefined}
 use Rattle.store_schema.specs.declared.error.StoreError.{StoreError}
 use Rattle.store_schema.specs.declared.error.StoreError.TheVariants as store
 use Rattle.report.specs.Sent.{WrotePart}
-use Rattle.store.specs.BadRows.{FoundNoState}
-use Rattle.store.specs.Courses.{GoesOver}
+use Rattle.store.specs.BadRows.{FoundNoState, OnlyLoads}
+use Rattle.store.specs.Courses.{CommitsOnce, GoesOver}
 use Rattle.store.specs.declared.change.Change.{Change}
-use Rattle.store.proofs.Going.{goes_err, goes_ok}
-use Rattle.store.proofs.NoState.{loads_none}
+use Rattle.store.specs.declared.change.Change.TheVariants as change
+use Rattle.store.proofs.Going.{alone_loads, goes_err, goes_ok}
 use Rattle.smpe_zones.specs.Own.{IsOwn, IsOwnOf}
 use Rattle.smpe_session.specs.declared.session.Performed.{Performed}
-use Rattle.smpe_session.specs.Writing.{IsRan, AnswersRun}
+use Rattle.smpe_session.specs.Writing.{IsOutcomeOf, IsRan, AnswersRun}
 use Rattle.smpe.specs.declared.error.JobError.{JobError}
 use Rattle.smpe.specs.declared.error.JobError.TheVariants.{Memory, Store, Write}
 use Rattle.smpe.specs.Commands.{job_error}
-use Rattle.smpe.specs.Going.{HaveActs, Passes, Passed, FailsBy, LastCall, GoesEarly, Goes, JobGoes, JobsGo}
+use Rattle.smpe.specs.Going.{Asks, AreFirstAsked, Passes, Passed, FailsBy, LastCall, GoesEarly, Goes, Tells}
+use Rattle.smpe.specs.Going.{JobPassed, JobsPassed, JobsStopped, JobGoes, JobsGo}
 use Rattle.smpe.proofs.Courses.{ran_none, ran_quiet, ran_one, ran_more, course_first, course_after, course_more}
 use Rattle.smpe.proofs.Courses.{next_more, unreported}
-use Rattle.smpe.proofs.Early.{none_begun}
-use Rattle.smpe.proofs.Listing.{first_more}
-use Rattle.smpe.proofs.Single.{one_job}
+use Rattle.smpe.proofs.Commanding.{codes_append}
 
--- jobs, and then one more
-have_more : (jobs more : List Job) (acts back : List Act) → HaveActs jobs acts → HaveActs more back
-    → HaveActs (jobs ++ more) (acts ++ back)
-have_more [] more acts back is has = subst (λ front. HaveActs more (front ++ back)) (sym is) has
-have_more (job ∷ jobs) more acts back (front, later, of_job, rest, is) has = (
-  front,
-  later ++ back,
-  of_job,
-  have_more jobs more later back rest has,
-  ap (λ all. all ++ back) is ∙ append_assoc front later back,
-)
+-- no act of these jobs
+none_asked : (jobs : List Job) → AreFirstAsked jobs []
+none_asked [] = refl
+none_asked (job ∷ more) = inl refl
 
--- jobs, and then first acts of others
-have_first : (jobs more : List Job) (acts back : List Act) → HaveActs jobs acts → AreFirstActs more back
-    → AreFirstActs (jobs ++ more) (acts ++ back)
-have_first [] more acts back is first = subst (λ front. AreFirstActs more (front ++ back)) (sym is) first
-have_first (job ∷ jobs) more acts back (front, later, of_job, rest, is) first = inr (
-  front,
-  later ++ back,
-  of_job,
-  have_first jobs more later back rest first,
-  ap (λ all. all ++ back) is ∙ append_assoc front later back,
-)
+-- the acts of the only job
+only_asked : (job : Job) (acts : List Act) → Asks job acts → AreFirstAsked (job ∷ []) acts
+only_asked job acts asks = inr (acts, [], asks, refl, sym (append-nil acts))
+
+-- acts of first jobs are so where more jobs follow
+asked_more : (jobs more : List Job) (acts : List Act) → AreFirstAsked jobs acts → AreFirstAsked (jobs ++ more) acts
+asked_more [] [] acts is = is
+asked_more [] (job ∷ more) acts is = inl is
+asked_more (job ∷ jobs) more acts (inl is) = inl is
+asked_more (job ∷ jobs) more acts (inr (front, back, asks, rest, is)) =
+    inr (front, back, asks, asked_more jobs more back rest, is)
 
 module _ {S : Type 0} (g : Ghosts S) where
   -- ---- acts
 
-  pub passed_none : (at : Held S) (taken : Option (List ℕ)) → Passed g at at [] taken taken
+  abbrev pub passed_none : (at : Held S) (taken : Option (List ℕ)) → Passed g at at [] taken taken
   passed_none at taken = ran_none (Passes g) at taken
 
   -- one that reports this
-  pub passed_one : (old new : Held S) (act : Act) (outcome : Outcome) (a b : Option (List ℕ))
+  abbrev pub passed_one : (old new : Held S) (act : Act) (outcome : Outcome) (a b : Option (List ℕ))
       → Passes g old act new (outcome ∷ []) → Appends a b (text outcome) → Passed g old new (act ∷ []) a b
   passed_one old new act outcome a b passes appends = ran_one (Passes g) old new act outcome a b passes appends
 
@@ -127,31 +119,49 @@ module _ {S : Type 0} (g : Ghosts S) where
 
   -- what a command does is told by this outcome
   pub performs_passes : (old new : Held S) (date : Text) (files : Files) (c : Command) (performed : Performed)
-      (outcome : Outcome) → ((change : Change) → AnswersRun change performed → IsRan change outcome)
+      (outcome : Outcome) → IsOutcomeOf c outcome
+      → ((change : Change) → AnswersRun change performed → IsRan change outcome)
       → GoesOver g old new (λ change. IsOwnOf c change × AnswersRun change performed) {E = StoreError} (Ok performed)
       → Passes g old (Perform date files c) new (outcome ∷ [])
-  performs_passes old new date files c performed outcome ran goes = (
+  performs_passes old new date files c performed outcome of ran goes = (
     outcome,
     refl,
+    of,
     goes_ok g old new (λ change. IsOwnOf c change × AnswersRun change performed)
         (λ change. IsOwnOf c change × IsRan change outcome) performed outcome
         (λ change own. (own.0, ran change own.1)) goes,
   )
 
   -- the exit of a `?`
-  pub goes_early : {X : Type 0} (old new : Held S) (acts : List Act) (a b : Option (List ℕ)) (r : Result X JobError)
+  pub goes_early : (old new : Held S) (acts : List Act) (a b : Option (List ℕ)) (r : Result ℕ JobError)
       (e : JobError) → IsErrAnd r (λ y. y ≡ e) → GoesEarly g old new acts a b e → Goes g old new acts a b r
   goes_early old new acts a b r e failed early =
       let p = err_from_is_err_and r failed in
       subst (λ q. Goes g old new acts a b q) (sym (p.1 ∙ ap (λ y. Err y) p.2)) early
 
+  -- no command yet
+  pub goes_none : (at : Held S) (taken : Option (List ℕ)) → Goes g at at [] taken taken (Ok 0)
+  goes_none at taken = (passed_none at taken, refl)
+
+  -- a command that reports this
+  pub goes_one : (old new : Held S) (act : Act) (outcome : Outcome) (a b : Option (List ℕ)) (code : ℕ)
+      → Passes g old act new (outcome ∷ []) → Appends a b (text outcome) → code ≡ outcome_code outcome
+      → Goes g old new (act ∷ []) a b (Ok code)
+  goes_one old new act outcome a b code passes appends told =
+      let greatest : code ≡ job_code (outcome ∷ []) = omega (arith, told) in
+      (passed_one old new act outcome a b passes appends, greatest)
+
   module _ (date : Text) (files : Files) (old mid new : Held S) (xs ys : List Command) (a b c : Option (List ℕ))
-      (front : Passed g old mid (map (Perform date files) xs) a b) where
+      (code : ℕ) (front : Goes g old mid (map (Perform date files) xs) a b (Ok code)) where
     -- commands, and then others
-    pub commands_passed : Passed g mid new (map (Perform date files) ys) b c
-        → Passed g old new (map (Perform date files) (xs ++ ys)) a c
-    commands_passed back = subst (λ acts. Passed g old new acts a c) (sym (map-append (Perform date files) xs ys))
-        (ran_more (Passes g) old mid new (map (Perform date files) xs) (map (Perform date files) ys) a b c front back)
+    pub commands_passed : (next : ℕ) → Goes g mid new (map (Perform date files) ys) b c (Ok next)
+        → Goes g old new (map (Perform date files) (xs ++ ys)) a c (Ok (max code next))
+    commands_passed next back =
+        subst (λ acts. Goes g old new acts a c (Ok (max code next))) (sym (map-append (Perform date files) xs ys)) (
+          ran_more (Passes g) old mid new (map (Perform date files) xs) (map (Perform date files) ys) a b c front.0
+              back.0,
+          ap₂ max front.1 back.1 ∙ sym (codes_append front.0.outcomes back.0.outcomes),
+        )
 
     -- commands, and then some that ended early, with others behind that were never begun
     pub early_commands : (more : List Command) (e : JobError)
@@ -162,130 +172,174 @@ module _ {S : Type 0} (g : Ghosts S) where
         subst (λ acts. GoesEarly g old new acts a c e) (sym (map-append perform (xs ++ ys) more))
         (early_more old new (map perform (xs ++ ys)) (map perform more) a c e
         (subst (λ acts. GoesEarly g old new acts a c e) (sym (map-append perform xs ys))
-        (early_after old mid new (map perform xs) (map perform ys) a b c e front back)))
+        (early_after old mid new (map perform xs) (map perform ys) a b c e front.0 back)))
 
   -- ---- jobs
 
-  -- a job that went to its end
-  abbrev pub JobWent : Held S → Held S → Job → Option (List ℕ) → Option (List ℕ) → Type 0
-  JobWent old new job a b = (acts : List Act) × HasActs job acts × Passed g old new acts a b
-
-  -- jobs that ended early
-  abbrev pub JobsStopped : Held S → Held S → List Job → Option (List ℕ) → Option (List ℕ) → JobError → Type 0
-  JobsStopped old new jobs a b e = (acts : List Act) × AreFirstActs jobs acts × GoesEarly g old new acts a b e
-
-  pub job_early : {X : Type 0} (old new : Held S) (job : Job) (a b : Option (List ℕ)) (r : Result X JobError)
-      (e : JobError) → IsErrAnd r (λ y. y ≡ e) → JobsStopped old new (job ∷ []) a b e → JobGoes g old new job a b r
-  job_early old new job a b r e failed stopped =
+  pub job_early : {X : Type 0} (old new : Held S) (job : Job) (a b : Option (List ℕ)) (answer : X → Answer)
+      (r : Result X JobError) (e : JobError) → IsErrAnd r (λ y. y ≡ e) → JobsStopped g old new (job ∷ []) a b e
+      → JobGoes g old new job a b answer r
+  job_early old new job a b answer r e failed stopped =
       let p = err_from_is_err_and r failed in
-      subst (λ q. JobGoes g old new job a b q) (sym (p.1 ∙ ap (λ y. Err y) p.2)) stopped
+      subst (JobGoes g old new job a b answer) (sym (p.1 ∙ ap (λ y. Err y) p.2)) stopped
 
   -- memory was short before the first job
   pub jobs_unbegun : (at : Held S) (jobs : List Job) (taken : Option (List ℕ))
-      → JobsStopped at at jobs taken taken Memory
-  jobs_unbegun at jobs taken = ([], none_begun jobs, early_none at [] taken)
+      → JobsStopped g at at jobs taken taken Memory
+  jobs_unbegun at jobs taken = ([], none_asked jobs, early_none at [] taken)
 
   module _ (date : Text) (cntl : List ℕ) (files : Files) where
-    -- A job that has not asked the store begins.
-    begun_unasked : (at : Held S) (taken : Option (List ℕ)) → Passed g at at (Begin ∷ []) taken taken
-    begun_unasked at taken = ran_quiet (Passes g) at at Begin taken (loads_none g at, refl, inl refl)
-
     -- the command file is at fault, and that is reported
-    pub faulty_goes : (at : Held S) (fault : CntlFault) (a b : Option (List ℕ)) → IsCommandFileFault cntl fault
-        → Appends a b (text (Control (record { number = fault.number; code = fault.code })))
-        → JobWent at at (RunFiles date cntl files) a b
-    faulty_goes at fault a b is appends =
-        let control : ControlFault = record { number = fault.number; code = fault.code } in (
-          Begin ∷ Faulty control ∷ [],
-          inr (fault, is, refl),
-          ran_more (Passes g) at at at (Begin ∷ []) (Faulty control ∷ []) a a b (begun_unasked at a)
-              (passed_one at at (Faulty control) (Control control) a b (loads_none g at, refl) appends),
-        )
+    pub faulty_goes : (at : Held S) (fault : CntlFault) (a b : Option (List ℕ)) (code : ℕ)
+        → IsCommandFileFault cntl fault
+        → Appends a b (text (Control (record { number = fault.number; code = fault.code }))) → code ≡ 12
+        → JobPassed g at (RunFiles date cntl files) at a b (Code code)
+    faulty_goes at fault a b code is appends told =
+        let control : ControlFault = record { number = fault.number; code = fault.code } in
+        record {
+          acts = Faulty control ∷ [];
+          asks = inr (fault, is, refl);
+          passed = passed_one at at (Faulty control) (Control control) a b (refl, refl) appends;
+          tells = ap Code told;
+        }
 
     -- or the report of that broke off
     pub faulty_early : (at : Held S) (fault : CntlFault) (a b : Option (List ℕ)) → IsCommandFileFault cntl fault
         → WrotePart a b (text (Control (record { number = fault.number; code = fault.code })))
-        → JobsStopped at at (RunFiles date cntl files ∷ []) a b Write
+        → JobsStopped g at at (RunFiles date cntl files ∷ []) a b Write
     faulty_early at fault a b is part =
         let control : ControlFault = record { number = fault.number; code = fault.code } in (
-          Begin ∷ Faulty control ∷ [],
-          one_job (RunFiles date cntl files) (Begin ∷ Faulty control ∷ []) (inr (fault, is, refl)),
-          early_after at at at (Begin ∷ []) (Faulty control ∷ []) a a b Write (begun_unasked at a)
-              (early_first at at (Faulty control) [] a b Write
-              (fails_told at at (Faulty control) (Control control) a b (loads_none g at, refl) part)),
+          Faulty control ∷ [],
+          only_asked (RunFiles date cntl files) (Faulty control ∷ []) (inr (fault, is, refl)),
+          early_first at at (Faulty control) [] a b Write
+              (fails_told at at (Faulty control) (Control control) a b (refl, refl) part),
         )
 
     -- the job could not begin
     pub begin_early : (old new : Held S) (cs : List Command) (taken : Option (List ℕ)) (e : JobError)
         → IsCommandFile cntl cs → FailsBy g new taken e old taken Begin
-        → JobsStopped old new (RunFiles date cntl files ∷ []) taken taken e
+        → JobsStopped g old new (RunFiles date cntl files ∷ []) taken taken e
     begin_early old new cs taken e is fails =
         let acts = map (Perform date files) cs in (
           Begin ∷ acts,
-          one_job (RunFiles date cntl files) (Begin ∷ acts) (inl (cs, is, refl)),
+          only_asked (RunFiles date cntl files) (Begin ∷ acts) (inl (cs, is, refl)),
           early_first old new Begin acts taken taken e fails,
         )
 
     -- it began, and its commands went so
-    pub begun_goes : {X : Type 0} (old at new : Held S) (cs : List Command) (a b : Option (List ℕ))
-        (r : Result X JobError) → IsCommandFile cntl cs → Passes g old Begin at []
-        → Goes g at new (map (Perform date files) cs) a b r → JobGoes g old new (RunFiles date cntl files) a b r
-    begun_goes old at new cs a b (Ok x) is began went =
-        let acts = map (Perform date files) cs in (
-          Begin ∷ acts,
-          inl (cs, is, refl),
-          ran_more (Passes g) old at new (Begin ∷ []) acts a a b (ran_quiet (Passes g) old at Begin a began) went,
-        )
+    pub begun_goes : (old at new : Held S) (cs : List Command) (a b : Option (List ℕ)) (r : Result ℕ JobError)
+        → IsCommandFile cntl cs → Passes g old Begin at [] → Goes g at new (map (Perform date files) cs) a b r
+        → JobGoes g old new (RunFiles date cntl files) a b Code r
+    begun_goes old at new cs a b (Ok code) is began went =
+        let acts = map (Perform date files) cs in
+        record {
+          acts = Begin ∷ acts;
+          asks = inl (cs, is, refl);
+          passed = ran_more (Passes g) old at new (Begin ∷ []) acts a a b (ran_quiet (Passes g) old at Begin a began)
+              went.0;
+          tells = ap Code went.1;
+        }
     begun_goes old at new cs a b (Err e) is began early =
         let acts = map (Perform date files) cs in (
           Begin ∷ acts,
-          one_job (RunFiles date cntl files) (Begin ∷ acts) (inl (cs, is, refl)),
+          only_asked (RunFiles date cntl files) (Begin ∷ acts) (inl (cs, is, refl)),
           early_after old at new (Begin ∷ []) acts a a b e (ran_quiet (Passes g) old at Begin a began) early,
         )
 
-  -- the definition of a zone
-  pub define_goes : (old new : Held S) (d : ZoneDefinition) (taken : Option (List ℕ))
-      → GoesOver g old new (IsOwn (Define d)) {X = List Outcome} {E = JobError} (Ok [])
-      → JobWent old new (NewZone d) taken taken
-  define_goes old new d taken goes = (Define d ∷ [], refl, ran_quiet (Passes g) old new (Define d) taken (refl, goes))
+  -- a commit is answered otherwise
+  once_as : {X E Y F : Type 0} (old new : Held S) (change : Change) (x : X) (y : Y)
+      → CommitsOnce g old new change {X = X} {E = E} (Ok x) → CommitsOnce g old new change {X = Y} {E = F} (Ok y)
+  once_as old new change x y once = record {
+    before = once.before;
+    loads = once.loads;
+    commits = record {
+      made = once.commits.made;
+      kept = λ clean. tt;
+      crash = once.commits.crash;
+    };
+  }
 
-  -- or it failed
+  -- a zone is defined
+  pub defined_goes : {X E : Type 0} (old new : Held S) (d : ZoneDefinition) (taken : Option (List ℕ)) (x : X)
+      → CommitsOnce g old new (change.NewZone d.name d.kind d.srel d.related) {X = X} {E = E} (Ok x)
+      → JobPassed g old (NewZone d) new taken taken Defined
+  defined_goes old new d taken x once =
+      let added = change.NewZone d.name d.kind d.srel d.related in
+      let told = once_as old new added x [] once in
+      record {
+        acts = Define d ∷ [];
+        asks = refl;
+        passed = ran_quiet (Passes g) old new (Define d) taken (refl, inr (added, refl, told));
+        tells = told;
+      }
+
+  -- or it is refused
+  pub refused_goes : (old new : Held S) (d : ZoneDefinition) (why : ZoneFault) (taken : Option (List ℕ))
+      → OnlyLoads g old new → JobPassed g old (NewZone d) new taken taken (NotDefined why)
+  refused_goes old new d why taken loads = record {
+    acts = Define d ∷ [];
+    asks = refl;
+    passed = ran_quiet (Passes g) old new (Define d) taken (refl, inl (alone_loads g old new [] loads));
+    tells = loads;
+  }
+
+  -- or its definition failed
   pub define_early : (old new : Held S) (d : ZoneDefinition) (taken : Option (List ℕ)) (e : JobError)
-      → FailsBy g new taken e old taken (Define d) → JobsStopped old new (NewZone d ∷ []) taken taken e
+      → FailsBy g new taken e old taken (Define d) → JobsStopped g old new (NewZone d ∷ []) taken taken e
   define_early old new d taken e fails = (
     Define d ∷ [],
-    one_job (NewZone d) (Define d ∷ []) refl,
+    only_asked (NewZone d) (Define d ∷ []) refl,
     early_first old new (Define d) [] taken taken e fails,
   )
 
   -- ---- lists of jobs
 
-  -- jobs that went to their end
-  abbrev pub JobsWent : Held S → Held S → List Job → Option (List ℕ) → Option (List ℕ) → Type 0
-  JobsWent old new jobs a b = (acts : List Act) × HaveActs jobs acts × Passed g old new acts a b
-
-  pub jobs_early : {X : Type 0} (old new : Held S) (jobs : List Job) (a b : Option (List ℕ)) (r : Result X JobError)
-      (e : JobError) → IsErrAnd r (λ y. y ≡ e) → JobsStopped old new jobs a b e → JobsGo g old new jobs a b r
-  jobs_early old new jobs a b r e failed stopped =
+  pub jobs_early : {X : Type 0} (old new : Held S) (jobs : List Job) (a b : Option (List ℕ)) (answers : X → List Answer)
+      (r : Result X JobError) (e : JobError) → IsErrAnd r (λ y. y ≡ e) → JobsStopped g old new jobs a b e
+      → JobsGo g old new jobs a b answers r
+  jobs_early old new jobs a b answers r e failed stopped =
       let p = err_from_is_err_and r failed in
-      subst (λ q. JobsGo g old new jobs a b q) (sym (p.1 ∙ ap (λ y. Err y) p.2)) stopped
+      subst (JobsGo g old new jobs a b answers) (sym (p.1 ∙ ap (λ y. Err y) p.2)) stopped
 
-  module _ (old mid new : Held S) (jobs : List Job) (job : Job) (a b c : Option (List ℕ))
-      (front : JobsWent old mid jobs a b) where
-    -- jobs, and then one more
-    pub went_more : JobWent mid new job b c → JobsWent old new (jobs ++ job ∷ []) a c
-    went_more back = (
-      front.0 ++ back.0,
-      have_more jobs (job ∷ []) front.0 back.0 front.1 (back.0, [], back.1, refl, sym (append-nil back.0)),
-      ran_more (Passes g) old mid new front.0 back.0 a b c front.2 back.2,
-    )
+  -- jobs, and then one more
+  pub jobs_one_more : (old mid new : Held S) (jobs : List Job) (job : Job) (a b c : Option (List ℕ))
+      (answers : List Answer) (answer : Answer) → JobsPassed g old jobs mid a b answers
+      → JobPassed g mid job new b c answer → JobsPassed g old (jobs ++ job ∷ []) new a c (answers ++ answer ∷ [])
+  jobs_one_more old mid new [] job a b c answers answer (at, had, none) passed = (
+    new,
+    c,
+    answer,
+    [],
+    subst (λ at. JobPassed g at job new a c answer) at
+        (subst (λ had. JobPassed g mid job new had c answer) had passed),
+    (refl, refl, refl),
+    ap (λ before. before ++ answer ∷ []) none,
+  )
+  jobs_one_more old mid new (first ∷ jobs) job a b c answers answer (at, had, told, later, ran, rest, are) passed = (
+    at,
+    had,
+    told,
+    later ++ answer ∷ [],
+    ran,
+    jobs_one_more at mid new jobs job had b c later answer rest passed,
+    ap (λ before. before ++ answer ∷ []) are,
+  )
 
-    -- or one that ended early, with others behind that were never begun
-    pub went_early : (more : List Job) (e : JobError) → JobsStopped mid new (job ∷ []) b c e
-        → JobsStopped old new ((jobs ++ job ∷ []) ++ more) a c e
-    went_early more e back = (
-      front.0 ++ back.0,
-      first_more (jobs ++ job ∷ []) more (front.0 ++ back.0)
-          (have_first jobs (job ∷ []) front.0 back.0 front.1 back.1),
-      early_after old mid new front.0 back.0 a b c e front.2 back.2,
-    )
+  -- jobs that went to their end, as acts, and then some of others that ended early
+  pub jobs_stopped : (old mid new : Held S) (jobs more : List Job) (a b c : Option (List ℕ)) (answers : List Answer)
+      (e : JobError) → JobsPassed g old jobs mid a b answers → JobsStopped g mid new more b c e
+      → JobsStopped g old new (jobs ++ more) a c e
+  jobs_stopped old mid new [] more a b c answers e (at, had, none) stopped =
+      subst (λ at. JobsStopped g at new more a c e) at
+      (subst (λ had. JobsStopped g mid new more had c e) had stopped)
+  jobs_stopped old mid new (job ∷ jobs) more a b c answers e (at, had, told, later, ran, rest, are) stopped =
+      let behind = jobs_stopped at mid new jobs more had b c later e rest stopped in (
+        ran.acts ++ behind.0,
+        inr (ran.acts, behind.0, ran.asks, behind.1, refl),
+        early_after old at new ran.acts behind.0 a had c e ran.passed behind.2,
+      )
+
+  -- and with jobs behind that were never begun
+  pub stopped_more : (old new : Held S) (jobs more : List Job) (a b : Option (List ℕ)) (e : JobError)
+      → JobsStopped g old new jobs a b e → JobsStopped g old new (jobs ++ more) a b e
+  stopped_more old new jobs more a b e (acts, first, early) = (acts, asked_more jobs more acts first, early)

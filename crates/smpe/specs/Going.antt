@@ -1,37 +1,50 @@
 -- How a call goes over a store, whatever its tables are: they need not stand for a state.
-use Rattle.std.specs.Prelude.{◌≡◌, ◌⊎◌, ℕ, List, [], ◌∷◌, ◌++◌, Option, Result, Ok, Err}
+use Rattle.std.specs.Prelude.{◌≡◌, ◌⊎◌, ℕ, List, [], ◌∷◌, ◌++◌, map, Option, Result, Ok, Err}
 use Rattle.sqlite.specs.Store.{Ghosts}
 use Rattle.sqlite.specs.Held.{Held, state}
 use Rattle.sqlite.specs.State.{HasCleanDisk}
 use Rattle.terms.specs.Types as terms
-use Rattle.machine.specs.Outcome.{Outcome, Control}
-use Rattle.machine.specs.Machine.{Act, Begin, Perform, Faulty, Define, Job, HasActs, AreFirstActs}
+use Rattle.terms.specs.Types.{Command}
+use Rattle.terms.specs.Commands.{CntlFault, IsCommandFile, IsCommandFileFault}
+use Rattle.machine.specs.Outcome.{Outcome, Control, job_code}
+use Rattle.machine.specs.Machine.{Act, Begin, Perform, Faulty, Define, Job, RunFiles, NewZone}
+use Rattle.machine.specs.Machine.{Answer, Code, Defined, NotDefined}
 use Rattle.store_schema.specs.declared.error.StoreError.TheVariants as store
 use Rattle.store.specs.BadRows.{OnlyLoads, FoundNoState}
-use Rattle.store.specs.Courses.{GoesOver}
+use Rattle.store.specs.Courses.{CommitsOnce, GoesOver}
 use Rattle.store.specs.Whole.{ShowsGlobal}
+use Rattle.store.specs.declared.change.Change.TheVariants as change
 use Rattle.smpe_zones.specs.Own.{IsOwn}
-use Rattle.smpe_session.specs.Writing.{IsRan}
+use Rattle.smpe_session.specs.Writing.{IsOutcomeOf, IsRan}
 use Rattle.smpe.specs.Course.{AllRan, Course, Unreported, AtNext}
 use Rattle.smpe.specs.declared.error.JobError.{JobError}
 use Rattle.smpe.specs.declared.error.JobError.TheVariants.{Memory, Store, Write}
 
--- the acts are those of the jobs
-abbrev pub HaveActs : List Job → List Act → Type 0
-HaveActs [] acts = acts ≡ []
-HaveActs (job ∷ more) acts =
-    (front back : List Act) × HasActs job front × HaveActs more back × (acts ≡ front ++ back)
+-- The acts of a job over a store: its beginning and its commands, if it has any. Where its command file is at fault, it
+-- does not even begin.
+abbrev pub Asks : Job → List Act → Type 0
+Asks (RunFiles date cntl files) acts =
+    ((cs : List Command) × IsCommandFile cntl cs × (acts ≡ Begin ∷ map (Perform date files) cs))
+    ⊎ ((fault : CntlFault) × IsCommandFileFault cntl fault
+    × (acts ≡ Faulty (record { number = fault.number; code = fault.code }) ∷ []))
+Asks (NewZone d) acts = acts ≡ Define d ∷ []
+
+-- The acts are those of the first jobs: as many as a call has begun.
+abbrev pub AreFirstAsked : List Job → List Act → Type 0
+AreFirstAsked [] acts = acts ≡ []
+AreFirstAsked (job ∷ more) acts =
+    (acts ≡ []) ⊎ ((front back : List Act) × Asks job front × AreFirstAsked more back × (acts ≡ front ++ back))
 
 module _ {S : Type 0} (g : Ghosts S) where
   -- The store before an act that ran, the store after it, and what was reported. A job's beginning has found the rows
-  -- of a global zone; or it has not asked the store, as where the command file is at fault. It and that fault have left
-  -- the store as it was, and so has a command that was refused; one that ran, or the definition of a zone, has made no
-  -- more than one change of its own, a command of the zone that its report's header names.
+  -- of a global zone, and has left the store as it was; the fault of a command file has not asked it. A command has its
+  -- own header. One that was refused has left the store as it was; one that ran, or the definition of a zone, has made
+  -- no more than one change of its own, a command of the zone that its header names.
   abbrev pub Passes : Held S → Act → Held S → List Outcome → Type 0
   Passes old Begin new outcomes = OnlyLoads g old new × (outcomes ≡ [])
-      × ((new ≡ old) ⊎ (HasCleanDisk (state g new) → (global : terms.Global) × ShowsGlobal g old global))
-  Passes old (Faulty fault) new outcomes = OnlyLoads g old new × (outcomes ≡ Control fault ∷ [])
-  Passes old (Perform date files c) new outcomes = (outcome : Outcome) × (outcomes ≡ outcome ∷ [])
+      × (HasCleanDisk (state g new) → (global : terms.Global) × ShowsGlobal g old global)
+  Passes old (Faulty fault) new outcomes = (new ≡ old) × (outcomes ≡ Control fault ∷ [])
+  Passes old (Perform date files c) new outcomes = (outcome : Outcome) × (outcomes ≡ outcome ∷ []) × IsOutcomeOf c outcome
       × GoesOver g old new (λ change. IsOwn (Perform date files c) change × IsRan change outcome) {E = JobError}
       (Ok outcome)
   Passes old (Define d) new outcomes =
@@ -67,20 +80,50 @@ module _ {S : Type 0} (g : Ghosts S) where
     abbrev pub GoesEarly : JobError → Type 0
     GoesEarly error = Course Passes (LastCall new taken' error) old acts taken
 
-    -- So acts go, to their end or to an error.
-    abbrev pub Goes : {X : Type 0} → Result X JobError → Type 0
-    Goes (Ok x) = Passed old new acts taken taken'
+    -- So commands go: to their end, with the greatest return code of what they reported, or to an error.
+    abbrev pub Goes : Result ℕ JobError → Type 0
+    Goes (Ok code) = (passed : Passed old new acts taken taken') × (code ≡ job_code passed.outcomes)
     Goes (Err error) = GoesEarly error
 
+  -- What an answer tells of a job that reported these outcomes. Its return code is the greatest of theirs. A zone that
+  -- is defined was added in one commit, and one that is not defined has left the store as it was.
+  abbrev pub Tells : Answer → Job → Held S → Held S → List Outcome → Type 0
+  Tells answer (RunFiles date cntl files) old new outcomes = answer ≡ Code (job_code outcomes)
+  Tells (Code n) (NewZone d) old new outcomes = ⊥
+  Tells Defined (NewZone d) old new outcomes =
+      CommitsOnce g old new (change.NewZone d.name d.kind d.srel d.related) {E = JobError} (Ok outcomes)
+  Tells (NotDefined why) (NewZone d) old new outcomes = OnlyLoads g old new
+
+  -- The job went to its end, and this is its answer.
+  pub record JobPassed (old : Held S) (job : Job) (new : Held S) (taken taken' : Option (List ℕ)) (answer : Answer) :
+      Type 0 where
+    pub acts : List Act
+    pub asks : Asks job acts
+    pub passed : Passed old new acts taken taken'
+    pub tells : Tells answer job old new passed.outcomes
+
+  -- So did jobs, one after the other.
+  abbrev pub JobsPassed : Held S → List Job → Held S → Option (List ℕ) → Option (List ℕ) → List Answer → Type 0
+  JobsPassed old [] new taken taken' answers = (new ≡ old) × (taken' ≡ taken) × (answers ≡ [])
+  JobsPassed old (job ∷ more) new taken taken' answers =
+      (mid : Held S) × (had : Option (List ℕ)) × (answer : Answer) × (later : List Answer)
+      × JobPassed old job mid taken had answer × JobsPassed mid more new had taken' later
+      × (answers ≡ answer ∷ later)
+
   module _ (old new : Held S) where
-    -- so a job
-    abbrev pub JobGoes : Job → Option (List ℕ) → Option (List ℕ) → {X : Type 0} → Result X JobError → Type 0
-    JobGoes job taken taken' (Ok x) = (acts : List Act) × HasActs job acts × Passed old new acts taken taken'
-    JobGoes job taken taken' (Err error) =
-        (acts : List Act) × AreFirstActs (job ∷ []) acts × GoesEarly old new acts taken taken' error
+    -- Jobs ended early, by this error.
+    abbrev pub JobsStopped : List Job → Option (List ℕ) → Option (List ℕ) → JobError → Type 0
+    JobsStopped jobs taken taken' error =
+        (acts : List Act) × AreFirstAsked jobs acts × GoesEarly old new acts taken taken' error
+
+    -- so a job goes, with these answers
+    abbrev pub JobGoes : Job → Option (List ℕ) → Option (List ℕ) → {X : Type 0} → (X → Answer) → Result X JobError
+        → Type 0
+    JobGoes job taken taken' answer (Ok x) = JobPassed old job new taken taken' (answer x)
+    JobGoes job taken taken' answer (Err error) = JobsStopped (job ∷ []) taken taken' error
 
     -- and so jobs
-    abbrev pub JobsGo : List Job → Option (List ℕ) → Option (List ℕ) → {X : Type 0} → Result X JobError → Type 0
-    JobsGo jobs taken taken' (Ok x) = (acts : List Act) × HaveActs jobs acts × Passed old new acts taken taken'
-    JobsGo jobs taken taken' (Err error) =
-        (acts : List Act) × AreFirstActs jobs acts × GoesEarly old new acts taken taken' error
+    abbrev pub JobsGo : List Job → Option (List ℕ) → Option (List ℕ) → {X : Type 0} → (X → List Answer)
+        → Result X JobError → Type 0
+    JobsGo jobs taken taken' answers (Ok x) = JobsPassed old jobs new taken taken' (answers x)
+    JobsGo jobs taken taken' answers (Err error) = JobsStopped jobs taken taken' error

@@ -5,3 +5,4 @@ pub mod Messages
 pub mod ListJob
 pub mod Reopened
 pub mod Going
+pub mod FromEmpty

@@ -97,7 +97,7 @@ pub fn run_job<S: Alter, W: Sink>(
         }))
         (W.taken w.old) (W.taken w.new) Code result }
     ensures course { JobGoes S.Store store.old store.new (RunFiles date cntl.now
-        (record { ptfin = ptfin.now; holds = hold.now })) (W.taken w.old) (W.taken w.new) result }
+        (record { ptfin = ptfin.now; holds = hold.now })) (W.taken w.old) (W.taken w.new) Code result }
     ensures closed { KeepsClosed S.Store store.old store.new }
     ensures fault { TellsOfSink (W.has_failed w.old) (W.has_failed w.new) result }
 {

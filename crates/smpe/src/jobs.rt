@@ -60,7 +60,7 @@ fn define<S: Alter>(
         → EndsJob S.Store store.old store.new s (NewZone (definition name kind srel related)) taken taken answer_of
         result }
     ensures course { (taken : Option (List ℕ)) → JobGoes S.Store store.old store.new
-        (NewZone (definition name kind srel related)) taken taken result }
+        (NewZone (definition name kind srel related)) taken taken answer_of result }
     ensures closed { KeepsClosed S.Store store.old store.new }
     ensures fault { is_write result ≡ false }
 {
@@ -82,7 +82,8 @@ fn run_one<S: Alter, W: Sink>(
     ensures follows { Follows S.Store store.old store.new }
     ensures ended { HasCleanDisk (state S.Store store.new) → (s : State) → Keeps S.Store store.old s
         → EndsJob S.Store store.old store.new s (job_of job.now) (W.taken w.old) (W.taken w.new) answer_of result }
-    ensures course { JobGoes S.Store store.old store.new (job_of job.now) (W.taken w.old) (W.taken w.new) result }
+    ensures course { JobGoes S.Store store.old store.new (job_of job.now) (W.taken w.old) (W.taken w.new) answer_of
+        result }
     ensures closed { KeepsClosed S.Store store.old store.new }
     ensures fault { TellsOfSink (W.has_failed w.old) (W.has_failed w.new) result }
 {
@@ -118,7 +119,8 @@ pub fn run_jobs<S: Alter, W: Sink>(
     ensures ended { HasCleanDisk (state S.Store store.new) → (s : State) → Keeps S.Store store.old s
         → EndsJobs S.Store store.old store.new s (map job_of jobs.now) (W.taken w.old) (W.taken w.new)
         (λ v. map answer_of v.items) result }
-    ensures course { JobsGo S.Store store.old store.new (map job_of jobs.now) (W.taken w.old) (W.taken w.new) result }
+    ensures course { JobsGo S.Store store.old store.new (map job_of jobs.now) (W.taken w.old) (W.taken w.new)
+        (λ v. map answer_of v.items) result }
     ensures closed { KeepsClosed S.Store store.old store.new }
     ensures fault { TellsOfSink (W.has_failed w.old) (W.has_failed w.new) result }
     ensures count { IfOk result (λ answers. length answers.items ≡ length jobs.now) }

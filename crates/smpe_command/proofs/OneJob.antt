@@ -15,10 +15,11 @@ use Rattle.smpe_invocation.specs.declared.asked.CommandJob.{CommandJob}
 use Rattle.sqlite.specs.Steps.{over_memory}
 use Rattle.smpe.specs.Commands.{job_error}
 use Rattle.smpe.specs.Ending.{EndsJobs, is_write}
-use Rattle.smpe.specs.Going.{JobsGo}
+use Rattle.smpe.specs.FromEmpty.{empty_system}
+use Rattle.smpe.specs.Going.{JobsGo, JobsPassed}
 use Rattle.smpe_command.specs.declared.host.Host.{Ghosts as HostGhosts}
 use Rattle.smpe_command.specs.Database.{JobsOver}
-use Rattle.smpe_command.specs.ServiceSet.{JobsInMemory, empty_system, set_jobs}
+use Rattle.smpe_command.specs.ServiceSet.{JobsInMemory, set_jobs}
 use Rattle.smpe_command.specs.Serving.{TriesSet, TriesWith, tried_with}
 
 -- a list of one item is that item
@@ -56,13 +57,14 @@ module _ {V W : Type 0} (f : V → List machine.Answer) (k : W → List machine.
         subst (λ x. EndsJobs g a b s jobs (sink.taken out) (sink.taken out') k (Err x)) same ended
 
     goes_as : (a b : Held S) (r : Result V JobError) (q : Result W JobError) → Alike r q
-        → JobsGo g a b jobs (sink.taken out) (sink.taken out') r
-        → JobsGo g a b jobs (sink.taken out) (sink.taken out') q
-    goes_as a b (Ok v) (Ok w) same went = went
+        → JobsGo g a b jobs (sink.taken out) (sink.taken out') f r
+        → JobsGo g a b jobs (sink.taken out) (sink.taken out') k q
+    goes_as a b (Ok v) (Ok w) same went =
+        subst (JobsPassed g a jobs b (sink.taken out) (sink.taken out')) same went
     goes_as a b (Ok v) (Err d) same went = absurd same
     goes_as a b (Err e) (Ok w) same went = absurd same
     goes_as a b (Err e) (Err d) same went =
-        subst (λ x. JobsGo g a b jobs (sink.taken out) (sink.taken out') {X = W} (Err x)) same went
+        subst (λ x. JobsGo g a b jobs (sink.taken out) (sink.taken out') k (Err x)) same went
 
     write_as : (r : Result V JobError) (q : Result W JobError) → Alike r q → is_write r ≡ is_write q
     write_as (Ok v) (Ok w) same = refl
@@ -98,14 +100,23 @@ module _ {V W : Type 0} (f : V → List machine.Answer) (k : W → List machine.
 
   module _ {O : Type 0} (sink : SinkGhosts O) (out out' : O) (r : Result V JobError) (q : Result W JobError)
       (same : Alike r q) where
-    memory_as : (jobs : List machine.Job) → JobsInMemory sink jobs out f r out' → JobsInMemory sink jobs out k q out'
-    memory_as jobs (inl (why, is, out_is)) =
-        inl (why, failed_as over_memory sink jobs out out' r q (job_error why) same is, out_is)
-    memory_as jobs (inr (begun, store, ended)) =
-        inr (begun, store, ends_as over_memory sink jobs out out' begun store empty_system r q same ended)
-
     short_as : (r ≡ Err Memory) × (out' ≡ out) → (q ≡ Err Memory) × (out' ≡ out)
     short_as (is, out_is) = (failed_as over_memory sink [] out out' r q Memory same is, out_is)
+
+    memory_as : (jobs : List machine.Job) → JobsInMemory sink jobs out f r out' → JobsInMemory sink jobs out k q out'
+    memory_as jobs (inl short) = inl (short_as short)
+    memory_as jobs (inr (conn, new, empty, inl (why, unmade, is, out_is))) = inr (
+      conn,
+      new,
+      empty,
+      inl (why, unmade, failed_as over_memory sink jobs out out' r q (job_error why) same is, out_is),
+    )
+    memory_as jobs (inr (conn, new, empty, inr (store, ended))) = inr (
+      conn,
+      new,
+      empty,
+      inr (store, ends_as over_memory sink jobs out out' conn store empty_system r q same ended),
+    )
 
     with_as : (srel date : Text) (cntl : List ℕ) (files : Files) → TriesWith sink out srel date cntl files f r out'
         → TriesWith sink out srel date cntl files k q out'

@@ -83,7 +83,7 @@ module _ {H D : Type 0} (host : HostGhosts H D) (g : Ghosts D) where
       ((why : StoreError) × FailsToOpen h db why after × (r ≡ Err (job_error why)) × (out' ≡ out))
       ⊎ (Works h db
       (λ conn store s. EndsJobs g conn store s jobs (sink.taken out) (sink.taken out') answers r)
-      (λ begun store. JobsGo g begun store jobs (sink.taken out) (sink.taken out') r) after
+      (λ begun store. JobsGo g begun store jobs (sink.taken out) (sink.taken out') answers r) after
       × (sink.has_failed out ≡ false → sink.has_failed out' ≡ is_write r))
 
   -- so one job, with its answer

@@ -78,7 +78,7 @@ module _ {O : Type 0} (sink : SinkGhosts O) (out out' : O) where
   -- as above; or memory was wanting for it, and nothing went out.
   abbrev pub TellsFound : List Text → Result LoadedZones StoreError → Result ℕ JobError → Type 0
   TellsFound ids (Ok found) r = ((r ≡ Err Memory) × (out' ≡ out))
-      ⊎ ((told : Told) × IsTold found.global found.zone ids told × Sent sink out out' told.text.items
+      ⊎ ((told : Told) × IsTold found.global found.zone found.related ids told × Sent sink out out' told.text.items
       × (0 < length told.text.items → sink.has_failed out' ≡ is_err r)
       × MatchResult r (λ status. status ≡ told.status) (λ error. error ≡ Write))
   TellsFound ids (Err why) r = (r ≡ Err (job_error why)) × (out' ≡ out)

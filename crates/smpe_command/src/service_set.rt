@@ -100,7 +100,7 @@ fn jobs_over_new<S: Alter + Drop, O: Sink>(
     out: &mut O,
 ) -> Result<Vec<Answer>, JobError>
     requires { conn.in_transaction ≡ false }
-    ensures { JobsOverNew S.Store O.Sink conn (map job_of jobs.now) out.old (λ v. map answer_of v.items) result
+    ensures { JobsOverNew S.Store conn O.Sink (map job_of jobs.now) out.old (λ v. map answer_of v.items) result
         out.new }
 {
     match Store::open(alloc, conn) {

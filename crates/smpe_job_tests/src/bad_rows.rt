@@ -4,7 +4,7 @@
 use crate::checked::CHECKED;
 use fields::Srel;
 use smpe::{JobError, ZoneError, define_zone};
-use smpe_play::{compare, in_memory, installed, opened, run_step, zone_name};
+use smpe_play::{compare, in_memory, installed, lines_of, opened, run_step, zone_name};
 use sqlite::{Alter, Connection};
 use std::alloc::Global;
 use std::test::Fail;
@@ -76,30 +76,6 @@ const TABLES: [&str; 13] = [
     "SELECT zone || '/' || id || '/' || n FROM chosen ORDER BY zone, id",
 ];
 
-/// Appends the rows that a query finds, a line each.
-fn put_lines<S: Alter>(
-    conn: &mut Connection<S>,
-    sql: &str,
-    lines: &mut String,
-) -> Result<(), Fail> {
-    let rows = conn.query_all(sql, &[])?;
-    for row in &rows {
-        let text: String = row.get(0)?;
-        lines.push_str(text.as_str())?;
-        lines.push_str("\n")?;
-    }
-    Ok(())
-}
-
-fn all_lines<S: Alter>(alloc: Global, conn: &mut Connection<S>) -> Result<String, Fail> {
-    let mut lines = String::new(alloc);
-    for sql in TABLES {
-        put_lines(conn, sql, &mut lines)?;
-        lines.push_str("--\n")?;
-    }
-    Ok(lines)
-}
-
 /// Runs a statement that must change some row.
 fn run<S: Alter>(conn: &mut Connection<S>, sql: &str) -> Result<(), Fail> {
     if conn.execute(sql, &[])? == 0 {
@@ -130,7 +106,7 @@ fn rows_written<S: Alter + Drop>(
     for sql in written {
         run(&mut conn, sql)?;
     }
-    all_lines(alloc, &mut conn)
+    lines_of(alloc, &mut conn, &TABLES)
 }
 
 /// Runs the job, which must report this and then end by `Sf3`.
@@ -184,7 +160,7 @@ fn rows_behind<S: Alter + Drop>(
 ) -> Result<String, Fail> {
     let mut store = opened(alloc, spoilt(alloc, conn, bad)?, bad)?;
     act_on(alloc, &mut store, act)?;
-    all_lines(alloc, &mut store.close())
+    lines_of(alloc, &mut store.close(), &TABLES)
 }
 
 /// Behind each of these edits it leaves the rows as these statements do.

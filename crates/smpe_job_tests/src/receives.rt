@@ -133,23 +133,37 @@ fn a_receive_takes_in_sysmods_sources_and_holds(rt: HostRuntime) -> Result<(), F
     play_cases(rt.alloc(), RECEIVES)
 }
 
-const REJECTS: &[Case] = &[Case {
-    shows: "a source of 64 characters is assigned to received ids alone, and an applied SYSMOD is not rejected",
-    steps: &[JobStep {
-        name: "a fix and an assignment come in, and three ids are rejected",
-        cntl: "SET BDY(GLOBAL).\nRECEIVE SYSMODS.\nREJECT SELECT(HAA1100,UA00024,UA00099).",
-        ptfin: &[
-            FIX,
-            "++ASSIGN SOURCEID(\nMONTHLY2024SERVICEFORTHEPAYROLLSYSTEMSOFALLTHEBRANCHESINTHENORTH) TO(\n\
-                UA00024,UA00099).",
-        ],
-        report: "SET GLOBAL\nRC 00\nRECEIVE GLOBAL\nUA00024 PTF      RECEIVED\n\
-            UA00024 PTF      ASSIGNED MONTHLY2024SERVICEFORTHEPAYROLLSYSTEMSOFALLTHEBRANCHESINTHENORTH\n\
-            UA00099 -        UNKNOWN\nRC 04\nREJECT GLOBAL\nHAA1100 FUNCTION REFUSED Rj1\n\
-            UA00024 PTF      REJECTED\nUA00099 -        REFUSED Rj2\nRC 08\n",
-        ..FAILING
-    }],
-}];
+const REJECTS: &[Case] = &[
+    Case {
+        shows: "a source is assigned to received ids alone, and an applied SYSMOD is not rejected",
+        steps: &[JobStep {
+            name: "a fix and an assignment come in, and the function and the fix are rejected",
+            cntl: "SET BDY(GLOBAL).\nRECEIVE SYSMODS.\nREJECT SELECT(HAA1100,UA00024).",
+            ptfin: &[FIX, "++ASSIGN SOURCEID(SRC1) TO(UA00024,UA00099)."],
+            report: "SET GLOBAL\nRC 00\nRECEIVE GLOBAL\nUA00024 PTF      RECEIVED\n\
+                UA00024 PTF      ASSIGNED SRC1\nUA00099 -        UNKNOWN\nRC 04\nREJECT GLOBAL\n\
+                HAA1100 FUNCTION REFUSED Rj1\nUA00024 PTF      REJECTED\nRC 08\n",
+            ..FAILING
+        }],
+    },
+    Case {
+        shows: "so is a source of 64 characters",
+        steps: &[JobStep {
+            name: "a fix and an assignment come in, and three ids are rejected",
+            cntl: "SET BDY(GLOBAL).\nRECEIVE SYSMODS.\nREJECT SELECT(HAA1100,UA00024,UA00099).",
+            ptfin: &[
+                FIX,
+                "++ASSIGN SOURCEID(\nMONTHLY2024SERVICEFORTHEPAYROLLSYSTEMSOFALLTHEBRANCHESINTHENORTH) TO(\n\
+                    UA00024,UA00099).",
+            ],
+            report: "SET GLOBAL\nRC 00\nRECEIVE GLOBAL\nUA00024 PTF      RECEIVED\n\
+                UA00024 PTF      ASSIGNED MONTHLY2024SERVICEFORTHEPAYROLLSYSTEMSOFALLTHEBRANCHESINTHENORTH\n\
+                UA00099 -        UNKNOWN\nRC 04\nREJECT GLOBAL\nHAA1100 FUNCTION REFUSED Rj1\n\
+                UA00024 PTF      REJECTED\nUA00099 -        REFUSED Rj2\nRC 08\n",
+            ..FAILING
+        }],
+    },
+];
 
 #[test]
 fn what_is_applied_is_not_rejected(rt: HostRuntime) -> Result<(), Fail> {

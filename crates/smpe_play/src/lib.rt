@@ -5,6 +5,7 @@
 mod cards;
 mod disks;
 mod jobs;
+mod rows;
 mod steps;
 
 pub use cards::{
@@ -14,4 +15,8 @@ pub use cards::{
 };
 pub use disks::{connected, in_memory, new_files, opened};
 pub use jobs::{card_file, compare, define_both, job_over, put_cards, run_printing, zone_name};
-pub use steps::{installed, installed_files, play, play_cases, play_installed, run_step};
+pub use rows::lines_of;
+pub use steps::{
+    Plays, Rows, StepPlace, installed, installed_files, play, play_cases, play_installed,
+    play_made, play_rows, run_step,
+};

@@ -2,9 +2,12 @@
 
 use crate::cards::{BEGINNING, Case, JobStep};
 use crate::disks::{in_memory, new_files, opened, reopened};
-use crate::jobs::{card_file, define_both, first_difference, job_over, put_cards, run_printing};
+use crate::jobs::{
+    card_file, compare, define_both, first_difference, job_over, put_cards, run_printing,
+};
+use crate::rows::lines_of;
 use smpe::{Answer, JobError};
-use sqlite::{Alter, Connection, FileStore};
+use sqlite::{Alter, Connection, FileStore, MemStore};
 use sqlite_disk::Memory;
 use std::alloc::Global;
 use std::test::Fail;
@@ -12,10 +15,10 @@ use store::Store;
 
 /// Where a step is played, as a failure says it.
 #[derive(Clone, Copy)]
-struct StepPlace {
+pub struct StepPlace {
     /// What the step's case shows.
-    shows: &'static str,
-    disk: &'static str,
+    pub shows: &'static str,
+    pub disk: &'static str,
 }
 
 fn ptfin_of(alloc: Global, step: &JobStep) -> Result<Vec<u8>, Fail> {
@@ -58,32 +61,45 @@ fn check(step: &JobStep, place: StepPlace, report: &[u8], answers: &[Answer]) ->
     )))
 }
 
-/// Plays a step, and compares what it prints and answers.
-fn play_at<S: Alter>(
-    alloc: Global,
-    store: &mut Store<S>,
-    step: &JobStep,
-    place: StepPlace,
-) -> Result<(), Fail> {
-    let mut report = Vec::new(alloc);
-    match run_step(alloc, store, step, &mut report)? {
-        Ok(answers) => check(step, place, report.as_slice(), answers.as_slice()),
-        Err(error) => {
-            let (shows, disk, name) = (place.shows, place.disk, step.name);
-            Err(Fail::new(format_args!("{shows}: {name} {disk}: {error:?}")))
+/// Something that is played over a store, and fails where it does not come to what it must.
+pub trait Plays {
+    /// Plays it. A failure begins with what the place shows.
+    fn play_at<S: Alter>(
+        &self,
+        alloc: Global,
+        store: &mut Store<S>,
+        place: StepPlace,
+    ) -> Result<(), Fail>;
+}
+
+impl Plays for JobStep {
+    // What the step prints and answers is compared.
+    fn play_at<S: Alter>(
+        &self,
+        alloc: Global,
+        store: &mut Store<S>,
+        place: StepPlace,
+    ) -> Result<(), Fail> {
+        let mut report = Vec::new(alloc);
+        match run_step(alloc, store, self, &mut report)? {
+            Ok(answers) => check(self, place, report.as_slice(), answers.as_slice()),
+            Err(error) => {
+                let (shows, disk, name) = (place.shows, place.disk, self.name);
+                Err(Fail::new(format_args!("{shows}: {name} {disk}: {error:?}")))
+            }
         }
     }
 }
 
 /// Plays the steps one after the other over one store.
-fn play_all<S: Alter>(
+fn play_all<S: Alter, P: Plays>(
     alloc: Global,
     store: &mut Store<S>,
-    steps: &[JobStep],
+    steps: &[P],
     place: StepPlace,
 ) -> Result<(), Fail> {
     for step in steps {
-        play_at(alloc, store, step, place)?;
+        step.play_at(alloc, store, place)?;
     }
     Ok(())
 }
@@ -91,7 +107,7 @@ fn play_all<S: Alter>(
 /// Plays a step that stands in no case.
 pub fn play<S: Alter>(alloc: Global, store: &mut Store<S>, step: &JobStep) -> Result<(), Fail> {
     let shows = "a step alone";
-    play_at(alloc, store, step, StepPlace { shows, disk: "" })
+    step.play_at(alloc, store, StepPlace { shows, disk: "" })
 }
 
 /// A store over a new database with both zones, in which these steps were played.
@@ -113,48 +129,52 @@ pub fn installed<S: Alter + Drop>(alloc: Global, conn: Connection<S>) -> Result<
     begun(alloc, conn, BEGINNING, StepPlace { shows, disk: "" })
 }
 
-/// Plays a case over one store.
-fn play_over<S: Alter + Drop>(
+/// Plays steps over one store.
+fn play_over<S: Alter + Drop, P: Plays>(
     alloc: Global,
     conn: Connection<S>,
     before: &[JobStep],
-    case: &Case,
-    disk: &'static str,
-) -> Result<(), Fail> {
-    let shows = case.shows;
-    let place = StepPlace { shows, disk };
-    let mut store = begun(alloc, conn, before, place)?;
-    play_all(alloc, &mut store, case.steps, place)
-}
-
-/// Plays a step over a store that is opened for it.
-fn play_anew<S: Alter + Drop>(
-    alloc: Global,
-    conn: Connection<S>,
-    step: &JobStep,
+    steps: &[P],
     place: StepPlace,
 ) -> Result<Connection<S>, Fail> {
-    let mut store = opened(alloc, conn, place.shows)?;
-    play_at(alloc, &mut store, step, place)?;
+    let mut store = begun(alloc, conn, before, place)?;
+    play_all(alloc, &mut store, steps, place)?;
     Ok(store.close())
 }
 
-/// Plays a case in memory, each step over a store that is opened for it.
-fn play_each(alloc: Global, before: &[JobStep], case: &Case) -> Result<(), Fail> {
-    let (shows, disk) = (case.shows, "in memory, opened for each");
+/// Plays a step over a store that is opened for it.
+fn play_anew<S: Alter + Drop, P: Plays>(
+    alloc: Global,
+    conn: Connection<S>,
+    step: &P,
+    place: StepPlace,
+) -> Result<Connection<S>, Fail> {
+    let mut store = opened(alloc, conn, place.shows)?;
+    step.play_at(alloc, &mut store, place)?;
+    Ok(store.close())
+}
+
+/// Plays steps in memory, each over a store that is opened for it.
+fn play_each<P: Plays>(
+    alloc: Global,
+    before: &[JobStep],
+    steps: &[P],
+    shows: &'static str,
+) -> Result<Connection<MemStore>, Fail> {
+    let disk = "in memory, opened for each";
     let place = StepPlace { shows, disk };
     let mut conn = begun(alloc, in_memory(alloc)?, before, place)?.close();
-    for step in case.steps {
+    for step in steps {
         conn = play_anew(alloc, conn, step, place)?;
     }
-    Ok(())
+    Ok(conn)
 }
 
 /// Plays steps over files, which are closed and opened again before each.
-fn play_closed(
+fn play_closed<P: Plays>(
     alloc: Global,
     before: &[JobStep],
-    steps: &[JobStep],
+    steps: &[P],
     shows: &'static str,
 ) -> Result<Connection<FileStore<Memory>>, Fail> {
     let disk = "on disks that are closed and opened before it";
@@ -171,17 +191,71 @@ pub fn installed_files(alloc: Global) -> Result<Connection<FileStore<Memory>>, F
     play_closed(alloc, &[], BEGINNING, "the function is applied")
 }
 
-fn play_case(alloc: Global, before: &[JobStep], case: &Case) -> Result<(), Fail> {
-    play_over(alloc, in_memory(alloc)?, before, case, "in memory")?;
-    play_each(alloc, before, case)?;
-    play_over(alloc, new_files(alloc)?, before, case, "on disks")?;
-    let _conn = play_closed(alloc, before, case.steps, case.shows)?;
-    Ok(())
+/// The rows that steps leave, as these queries find them.
+#[derive(Clone, Copy)]
+pub struct Rows<'a> {
+    pub queries: &'a [&'a str],
+    pub wanted: &'a str,
+}
+
+/// No look at rows.
+const UNSEEN: Rows<'static> = Rows {
+    queries: &[],
+    wanted: "",
+};
+
+/// A failure, unless the database has these rows.
+fn check_rows<S: Alter + Drop>(
+    alloc: Global,
+    mut conn: Connection<S>,
+    shows: &str,
+    rows: Rows<'_>,
+) -> Result<(), Fail> {
+    let got = lines_of(alloc, &mut conn, rows.queries)?;
+    compare(shows, got.as_bytes(), rows.wanted)
+}
+
+/// Plays steps in memory and on disks in memory: over one store, and over one for each step, for which the files are
+/// closed and opened again.
+fn play_steps<P: Plays>(
+    alloc: Global,
+    before: &[JobStep],
+    steps: &[P],
+    shows: &'static str,
+    rows: Rows<'_>,
+) -> Result<(), Fail> {
+    let place = StepPlace {
+        shows,
+        disk: "in memory",
+    };
+    check_rows(
+        alloc,
+        play_over(alloc, in_memory(alloc)?, before, steps, place)?,
+        shows,
+        rows,
+    )?;
+    check_rows(alloc, play_each(alloc, before, steps, shows)?, shows, rows)?;
+    let place = StepPlace {
+        shows,
+        disk: "on disks",
+    };
+    check_rows(
+        alloc,
+        play_over(alloc, new_files(alloc)?, before, steps, place)?,
+        shows,
+        rows,
+    )?;
+    check_rows(
+        alloc,
+        play_closed(alloc, before, steps, shows)?,
+        shows,
+        rows,
+    )
 }
 
 fn play_after(alloc: Global, before: &[JobStep], cases: &[Case]) -> Result<(), Fail> {
     for case in cases {
-        play_case(alloc, before, case)?;
+        play_steps(alloc, before, case.steps, case.shows, UNSEEN)?;
     }
     Ok(())
 }
@@ -195,4 +269,19 @@ pub fn play_cases(alloc: Global, cases: &[Case]) -> Result<(), Fail> {
 /// Plays each case so, over a database in which the function is applied.
 pub fn play_installed(alloc: Global, cases: &[Case]) -> Result<(), Fail> {
     play_after(alloc, BEGINNING, cases)
+}
+
+/// Plays steps so that are made, over a database in which the function is applied.
+pub fn play_made<P: Plays>(alloc: Global, steps: &[P], shows: &'static str) -> Result<(), Fail> {
+    play_steps(alloc, BEGINNING, steps, shows, UNSEEN)
+}
+
+/// The same with the rows that they must leave.
+pub fn play_rows<P: Plays>(
+    alloc: Global,
+    steps: &[P],
+    shows: &'static str,
+    rows: Rows<'_>,
+) -> Result<(), Fail> {
+    play_steps(alloc, BEGINNING, steps, shows, rows)
 }

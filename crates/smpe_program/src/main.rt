@@ -1,23 +1,52 @@
 //! `smpe`: defines a zone of a database, runs a job over it, lists a zone, takes the database over to its schema, or
 //! tells what a service set would do without one.
-//! What it does is `smpe_command::command`; here is the input and output that it asks for, which is proved safe.
+//! What it does is `smpe_command::command`; here is the input and output that it asks for, which is proved safe, and
+//! what is said beside its lines on standard error.
 #![tactic(auto)]
 
 mod command_line;
 mod host;
+mod place;
+mod telling;
+mod watched;
 
 use command_line::words;
 use host::ProgramHost;
 use report::Out;
 use smpe_command::command;
+use smpe_hints::ReportWatch;
+use std::alloc::AllocError;
 use std::process::ExitCode;
+use telling::tell;
+use watched::{Progress, Watched};
 
 fn main(rt: HostRuntime) -> ExitCode {
     let words = words(&rt);
-    let mut host = ProgramHost::new(&rt);
-    let mut out = Out::new(rt.stdout());
-    let mut err = Out::new(rt.stderr());
+    let mut host = ProgramHost::new(&rt, makes_database(&words));
+    let mut out = Watched::new(
+        Out::new(rt.stdout()),
+        ReportWatch::new(rt.alloc()),
+        Progress::new(&rt),
+    );
+    let mut err = Watched::new(Out::new(rt.stderr()), ReportWatch::new(rt.alloc()), None);
     let status = command(rt.alloc(), &mut host, &words, &mut out, &mut err);
-    host.tell_cause();
+    if let Ok(words) = &words {
+        tell(&rt, words.as_slice(), &host, &out.watch, &err.watch);
+    }
     ExitCode::from(status)
+}
+
+// Whether what is asked for makes a database where there is none: a zone's definition and a job do.
+fn makes_database(words: &Result<Vec<Vec<u8>>, AllocError>) -> bool {
+    match words {
+        Ok(words) => match words.get(1) {
+            Some(word) => is_word(word, "zone") || is_word(word, "run"),
+            None => false,
+        },
+        Err(_) => false,
+    }
+}
+
+fn is_word(word: &Vec<u8>, text: &str) -> bool {
+    word.as_slice() == text.as_bytes()
 }

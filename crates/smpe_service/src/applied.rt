@@ -9,7 +9,7 @@ ghost use Rattle.sysmods.specs.Choices.{choice};
 ghost use Rattle.sysmods.specs.Overs.{AreOver};
 ghost use Rattle.change.specs.Elements.{HasBases};
 ghost use Rattle.smpe_service.specs.Installs.{install_by};
-ghost use Rattle.zones_maps.specs.Delta.{IsChanged};
+ghost use Rattle.zones_maps.specs.Delta.{IsChanged, KnowsStood};
 ghost use Rattle.machine.specs.Installing.{InstallsSelected};
 ghost use Rattle.report.specs.Views.{line_view};
 
@@ -48,6 +48,7 @@ pub fn apply(
     ensures installs { IfOk result (λ a. (new : AZone) → IsChanged a.delta zone.now new →
         InstallsSelected global.now zone.now (option_copied related.entry) selection.now bypass.now date new
         (map line_view a.lines.items)) }
+    ensures knows { IfOk result (λ a. KnowsStood zone.now a.delta) }
     ensures dated { IsDottedDate date }
 {
     prove!(date.as_bytes().len() == 6);
@@ -104,6 +105,7 @@ fn install_kept(
     requires base { HasBases (install_by vers.now zone.now kept.now bypassed.now date) }
     ensures installs { IfOk result (λ i. (new : AZone) → IsChanged i.delta zone.now new
         → HasInstalled (install_by vers.now zone.now kept.now bypassed.now date) new) }
+    ensures knows { IfOk result (λ i. KnowsStood zone.now i.delta) }
     ensures effective { IfOk result (λ i. (x : AnId) → Contains i.effective x
         ↔ TakesEffect (install_by vers.now zone.now kept.now bypassed.now date) x) }
 {

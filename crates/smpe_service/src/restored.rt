@@ -1,7 +1,7 @@
 //! The zone's change and the lines of a RESTORE.
 ghost use Rattle.std.specs.Prelude.{◌↔◌, ◌++◌, Contains, IfOk, map};
 ghost use Rattle.terms.specs.Types.{Id as AnId, Zone as AZone};
-ghost use Rattle.zones_maps.specs.Delta.{IsChanged};
+ghost use Rattle.zones_maps.specs.Delta.{IsChanged, KnowsStood};
 ghost use Rattle.machine.specs.Restoring.{RestoresListed};
 ghost use Rattle.fields.specs.Choices.{restore_list_of};
 ghost use Rattle.report.specs.Views.{line_view};
@@ -32,9 +32,10 @@ pub fn restore(
     accepted: &Zone,
     list: &RestoreList,
 ) -> Result<Restored, AllocError>
-    ensures { IfOk result (λ r. (new : AZone) → IsChanged r.delta zone.now new
+    ensures restores { IfOk result (λ r. (new : AZone) → IsChanged r.delta zone.now new
         → RestoresListed global.now zone.now accepted.now (restore_list_of list.now) new
         (map line_view r.lines.items)) }
+    ensures knows { IfOk result (λ r. KnowsStood zone.now r.delta) }
 {
     let candidates = restore_candidates(alloc, global, zone, accepted, list)?;
     let judged = restore_system(alloc, global, zone, accepted, &candidates)?;

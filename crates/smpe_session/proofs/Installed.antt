@@ -12,7 +12,7 @@ use Rattle.indexmap.specs.IndexMap.{Updates}
 use Rattle.terms.specs.declared.kinds.ZoneKind.{ZoneKind}
 use Rattle.terms.specs.declared.kinds.ZoneKind.TheVariants.{Target, Distribution}
 use Rattle.terms.specs.Types.{Text, Zone, NamedZone, Bypass, Selection, Install, Command}
-use Rattle.zones_maps.specs.Delta.{ZoneDelta, IsChanged}
+use Rattle.zones_maps.specs.Delta.{ZoneDelta, IsChanged, KnowsStood}
 use Rattle.terms.specs.Forms.{IsDottedDate}
 use Rattle.terms.specs.Lookups.{is_before}
 use Rattle.terms.specs.Rising.{Rises, with_item}
@@ -149,7 +149,7 @@ runs_there date files Distribution i s t outcome there = there
 -- what was planned, as the command's own words
 pub install_changes : (date : Text) (kind : ZoneKind) (i : Install) (s : State) (at : Session) (name : Text)
     (zone : Zone) (related : Option Zone) (sel : Selection) (bypass : Bypass) (delta : ZoneDelta)
-    (printed lines : List Line)
+    (printed lines : List Line) → KnowsStood zone delta
     → IsSessionOf s at → IsPlace s at kind name zone → related ≡ related_for kind s.zones name
     → i.selection ≡ sel → i.bypass ≡ bypass → IsDottedDate date
     → ((new : Zone) → IsChanged delta zone new → InstallsSelected at.global zone related sel bypass date new printed)
@@ -157,11 +157,13 @@ pub install_changes : (date : Text) (kind : ZoneKind) (i : Install) (s : State) 
     → (files : Files) (check : Bool) (header : Header) → i.check ≡ check
     → header ≡ header_of (install_command kind i) s.boundary
     → ChangesZone date files (install_command kind i) s at name delta check (Ran header lines)
-install_changes date kind i s at name zone related sel bypass delta printed lines here place looks chosen bypasses dated
+install_changes date kind i s at name zone related sel bypass delta printed lines knows here place looks chosen bypasses dated
     plan all files check header checks headed = record {
       zone = zone;
       has = place.has;
       is_there = place.is_there;
+      boundary = place.boundary;
+      knows = knows;
       owns = λ unchecked. owns kind (checks ∙ unchecked);
       performs = λ new changed. inr (
         install_at s kind i ∙ place.fits,

@@ -20,7 +20,7 @@ use Rattle.store.specs.Changes.{Makes}
 use Rattle.store.specs.declared.change.Change.{Change}
 use Rattle.store.specs.declared.change.Change.TheVariants as changes
 use Rattle.smpe_zones.specs.Ends.{HasCommitted}
-use Rattle.smpe_zones.specs.Kept.{kept}
+use Rattle.smpe_zones.specs.Kept.{kept, IsHere}
 use Rattle.smpe_zones.specs.Own.{IsOwnOf}
 use Rattle.smpe_session.specs.declared.session.Session.{Session}
 use Rattle.smpe_session.specs.Sessions.{IsSessionOf, HasPerformed}
@@ -71,16 +71,16 @@ refused date files c s boundary why same at = headed date files c s s boundary (
 pub led : {S : Type 0} (g : Ghosts S) (old at : Held S) (date : Text) (files : Files) (c : Command) (s : State)
     (boundary : Option Text) (before after : Session) (edits : List GlobalEdit) (lines : List Line) (answer : Told)
     → boundary ≡ s.boundary → IsSessionOf s before → after.zones ≡ before.zones → after.boundary ≡ before.boundary
-    → LeadsBy date files c s after.global edits lines → (change : Change) → IsOwnOf c change
+    → LeadsBy date files c s after.global edits lines → (change : Change) → IsOwnOf c change → IsHere s change
     → Makes change (kept s) (kept (record s { global = after.global })) → (r : Result Told StoreError)
     → HasCommitted g old at s (record s { global = after.global }) change answer r
     → outcome_view answer ≡ Ran (header_of c boundary) lines → HasPerformed g old at s after date files c r
-led g old at date files c s boundary before after edits lines answer named is zones same leads change own makes r ended
+led g old at date files c s boundary before after edits lines answer named is zones same leads change own here makes r ended
     view =
     let t = record s { global = after.global } in
     performs_committed g old at s date files c t answer
     (subst (Performs date files s c t) (sym view)
-    (headed date files c s t boundary (λ h. Ran h lines) named leads.performs)) change own makes after
+    (headed date files c s t boundary (λ h. Ran h lines) named leads.performs)) change own here makes after
     record {
       global = refl;
       boundary = same ∙ is.boundary;

@@ -77,7 +77,7 @@ both_taken source items holds g middle new edits later all first more lines own 
 pub received_here : (change : Change) (header : Header) → IsReceived change → header.boundary ≡ Some global_name
     → IsAtBoundary change header
 received_here (changes.Global stated edits) header own at = at
-received_here (changes.Zone name old delta) header own at = absurd own
+received_here (changes.Zone name delta) header own at = absurd own
 received_here (changes.NewZone name kind srel related) header own at = absurd own
 
 pub received : (date : Text) (files : Files) (what : ReceiveWhat) (s : State) (old new : Global) (source : Option Text)

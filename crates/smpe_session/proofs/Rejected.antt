@@ -21,7 +21,7 @@ use Rattle.smpe_session.proofs.Leading.{LeadsBy, leads_by}
 pub rejected_here : (change : Change) (header : Header) → IsRejected change → header.boundary ≡ Some global_name
     → IsAtBoundary change header
 rejected_here (changes.Global stated edits) header own at = at
-rejected_here (changes.Zone name old delta) header own at = absurd own
+rejected_here (changes.Zone name delta) header own at = absurd own
 rejected_here (changes.NewZone name kind srel related) header own at = absurd own
 
 pub rejected : (date : Text) (files : Files) (ids : List Id) (s : State) (old new : Global) (edits : List GlobalEdit)

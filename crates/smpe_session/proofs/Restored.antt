@@ -7,7 +7,7 @@ use Rattle.indexmap.specs.IndexMap.{get}
 use Rattle.terms.specs.declared.kinds.ZoneKind.{ZoneKind}
 use Rattle.terms.specs.declared.kinds.ZoneKind.TheVariants.{Target}
 use Rattle.terms.specs.Types.{Text, Zone, RestoreList, Restore}
-use Rattle.zones_maps.specs.Delta.{ZoneDelta, IsChanged}
+use Rattle.zones_maps.specs.Delta.{ZoneDelta, IsChanged, KnowsStood}
 use Rattle.store_schema.specs.Inventory.{IsInventory, IsRelated}
 use Rattle.machine.specs.Outcome.{Line, Ran, header_of}
 use Rattle.machine.specs.Restoring.{RestoresListed}
@@ -103,16 +103,18 @@ module _ (s : State) (inventory : IsInventory (kept s)) where
 
 -- what was planned, as the command's own words
 pub restore_changes : (s : State) (at : Session) (name : Text) (zone accepted : Zone) (what : RestoreList)
-    (delta : ZoneDelta) (lines : List Line) → IsSessionOf s at → IsPlace s at Target name zone
-    → option_and_then (zone_named s.zones) zone.related ≡ Some accepted
+    (delta : ZoneDelta) (lines : List Line) → KnowsStood zone delta → IsSessionOf s at
+    → IsPlace s at Target name zone → option_and_then (zone_named s.zones) zone.related ≡ Some accepted
     → ((new : Zone) → IsChanged delta zone new → RestoresListed at.global zone accepted what new lines)
     → (date : Text) (files : Files) (check : Bool) (boundary : Option Text) → boundary ≡ s.boundary
     → ChangesZone date files (Restore what check) s at name delta check
     (Ran (header_of (Restore what check) boundary) lines)
-restore_changes s at name zone accepted what delta lines is place related plan date files check boundary same = record {
+restore_changes s at name zone accepted what delta lines knows is place related plan date files check boundary same = record {
   zone = zone;
   has = place.has;
   is_there = place.is_there;
+  boundary = place.boundary;
+  knows = knows;
   owns = λ unchecked change is. (is, unchecked);
   performs = λ new changed. headed date files (Restore what check) s (if check then s else with_zone s name new)
       boundary (λ h. Ran h lines) same (inr (

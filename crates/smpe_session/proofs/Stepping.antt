@@ -11,7 +11,7 @@ use Rattle.terms.specs.Types.{Text, Command}
 use Rattle.store.specs.declared.change.Change.{Change}
 use Rattle.store.specs.Changes.{Makes}
 use Rattle.smpe_zones.specs.Ends.{Follows, StillKeeps, HasFailed, HasCommitted}
-use Rattle.smpe_zones.specs.Kept.{kept, Keeps, IsAfter, LeadsOn}
+use Rattle.smpe_zones.specs.Kept.{kept, Keeps, IsAfter, IsHere, LeadsOn}
 use Rattle.smpe_zones.specs.Own.{IsOwnOf}
 use Rattle.smpe_zones.proofs.Keeping.{still_kept, failed_more, failed_since, ended_since}
 use Rattle.smpe_zones.proofs.Once.{is_later}
@@ -26,12 +26,12 @@ stopped g at s a keeps = still_kept g at s (IsAfter s a) keeps
 -- the commit of what a command leads to, which is told so
 module _ {S : Type 0} (g : Ghosts S) (old at : Held S) (s : State) (date : Text) (files : Files) (c : Command)
     (t : State) (answer : Outcome) (performs : Performs date files s c t (outcome_view answer)) (change : Change)
-    (own : IsOwnOf c change) (makes : Makes change (kept s) (kept t)) (session : Session) where
+    (own : IsOwnOf c change) (here : IsHere s change) (makes : Makes change (kept s) (kept t)) (session : Session) where
   steps : Steps s (Perform date files c) t (outcome_view answer ∷ [])
   steps = (outcome_view answer, performs, refl)
 
   leads_on : LeadsOn s (Perform date files c) change
-  leads_on = (own, (t, outcome_view answer ∷ [], steps, makes))
+  leads_on = (own, here, (t, outcome_view answer ∷ [], steps, makes))
 
   pub performs_failed : (e : StoreError) → HasCommitted g old at s t change answer (Err e)
       → HasPerformed g old at s session date files c (Err e)

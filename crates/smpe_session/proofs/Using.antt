@@ -31,7 +31,7 @@ use Rattle.smpe_session.specs.declared.session.Session.{Session}
 use Rattle.smpe_session.specs.declared.session.Performed.{Performed}
 use Rattle.smpe_session.specs.Sessions.{IsSessionOf, HasPerformed, HasDone, told}
 use Rattle.smpe_session.specs.Uses.{UsesStore}
-use Rattle.smpe_session.specs.Writing.{TellsRun, AnswersRun}
+use Rattle.smpe_session.specs.Writing.{TellsRun, TellsOutcomeOf, AnswersOf, AnswersRun}
 
 -- how calls end
 abbrev pub Ending : Type 0 → Type 1
@@ -134,6 +134,12 @@ module _ {S : Type 0} {g : Ghosts S} {old new : Held S} where
 pub no_answer : {X E : Type 0} (r : Result X E) (P : E → Type 0) (Q : X → Type 0) → IsErrAnd r P → IfOk r Q
 no_answer (Ok x) P Q is = absurd is
 no_answer (Err e) P Q is = tt
+
+-- The outcome of a command is told.
+pub told_of : (c : Command) (r : Result Outcome StoreError) (told_so : Result Performed StoreError) → told_so ≡ told r
+    → IfOk r (TellsOutcomeOf c) → IfOk told_so (AnswersOf c)
+told_of c (Ok outcome) told_so is of = subst (λ q. IfOk q (AnswersOf c)) (sym is) of
+told_of c (Err e) told_so is of = subst (λ q. IfOk q (AnswersOf c)) (sym is) tt
 
 -- a commit
 pub commit_uses : {S : Type 0} (g : Ghosts S) (old new : Held S) (change : Change) (r : Result (Unit {0}) StoreError)

@@ -6,7 +6,7 @@ use Rattle.indexmap.specs.IndexMap.{get}
 use Rattle.terms.specs.declared.kinds.ZoneKind.{ZoneKind}
 use Rattle.terms.specs.declared.kinds.ZoneKind.TheVariants.{Target, Distribution}
 use Rattle.terms.specs.Types.{Text, Zone, NamedZone, Install, Command, Apply, Accept}
-use Rattle.zones_maps.specs.Delta.{ZoneDelta, IsChanged}
+use Rattle.zones_maps.specs.Delta.{ZoneDelta, IsChanged, KnowsStood}
 use Rattle.machine.specs.Machine.{Files, Performs}
 use Rattle.machine.specs.Outcome.{Outcome}
 use Rattle.machine.specs.State.{State, zone_named, with_zone, target_of, at_kind, unless_at}
@@ -55,6 +55,8 @@ pub record ChangesZone (date : Text) (files : Files) (c : Command) (s : State) (
   pub zone : Zone
   pub has : get bytes_eq at.zones name ≡ Some zone
   pub is_there : zone_named s.zones name ≡ Some zone
+  pub boundary : s.boundary ≡ Some name
+  pub knows : KnowsStood zone delta
   pub owns : check ≡ false → (change : Change) → IsOfZone change → IsOwnOf c change
   pub performs : (new : Zone) → IsChanged delta zone new
       → Performs date files s c (if check then s else with_zone s name new) outcome

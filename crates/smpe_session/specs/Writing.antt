@@ -1,7 +1,8 @@
 -- Commands that ran, and what their reports tell of their changes. What is refused has written nothing.
-use Rattle.std.specs.Prelude.{◌≡◌, Some}
+use Rattle.std.specs.Prelude.{◌≡◌, Option, Some}
+use Rattle.terms.specs.Types.{Text, Command, ListZone}
 use Rattle.machine.specs.Outcome as machine
-use Rattle.machine.specs.Outcome.{Header, Ran}
+use Rattle.machine.specs.Outcome.{Header, Ran, Refused, header_of}
 use Rattle.machine.specs.State.{global_name}
 use Rattle.report.specs.declared.outcome.Outcome.{Outcome}
 use Rattle.report.specs.Views.{outcome_view}
@@ -12,7 +13,7 @@ use Rattle.smpe_session.specs.declared.session.Performed.TheVariants.{Told, List
 
 -- The zone that is changed is the boundary, which the header names.
 abbrev pub IsAtBoundary : Change → Header → Type 0
-IsAtBoundary (Zone name old delta) header = header.boundary ≡ Some name
+IsAtBoundary (Zone name delta) header = header.boundary ≡ Some name
 IsAtBoundary (Global stated edits) header = header.boundary ≡ Some global_name
 IsAtBoundary _ header = ⊥
 
@@ -29,3 +30,18 @@ TellsRun change outcome = IsRan change (outcome_view outcome)
 abbrev pub AnswersRun : Change → Performed → Type 0
 AnswersRun change (Told outcome) = TellsRun change outcome
 AnswersRun change (Lists text) = ⊥
+
+-- The outcome is one of this command, under some boundary: its header says so.
+abbrev pub IsOutcomeOf : Command → machine.Outcome → Type 0
+IsOutcomeOf c (Ran header lines) = (boundary : Option Text) × (header ≡ header_of c boundary)
+IsOutcomeOf c (Refused header why) = (boundary : Option Text) × (header ≡ header_of c boundary)
+IsOutcomeOf c _ = ⊥
+
+-- the same as it is told
+abbrev pub TellsOutcomeOf : Command → Outcome → Type 0
+TellsOutcomeOf c outcome = IsOutcomeOf c (outcome_view outcome)
+
+-- A LIST has none yet.
+abbrev pub AnswersOf : Command → Performed → Type 0
+AnswersOf c (Told outcome) = TellsOutcomeOf c outcome
+AnswersOf c (Lists text) = c ≡ ListZone text

@@ -1,13 +1,14 @@
 //! How an APPLY, ACCEPT or RESTORE is carried out.
-ghost use Rattle.std.specs.Prelude.{◌≡◌, false, IfOk, Some, map};
-ghost use Rattle.terms.specs.Types.{Text, Command};
+ghost use Rattle.std.specs.Prelude.{◌≡◌, false, IfOk, Some, map, Option};
+ghost use Rattle.terms.specs.Types.{Text, Command, Zone as AZone};
+ghost use Rattle.zones_maps.specs.Delta.{KnowsStood};
 ghost use Rattle.machine.specs.Machine.{Files};
-ghost use Rattle.machine.specs.Outcome.{Ran};
+ghost use Rattle.machine.specs.Outcome.{Ran, header_of};
 ghost use Rattle.report.specs.Views.{line_view, header_view};
 ghost use Rattle.smpe_session.specs.Sessions.{IsSessionOf, HasPerformed};
 ghost use Rattle.smpe_session.specs.Places.{ChangesZone};
 ghost use Rattle.smpe_session.specs.Uses.{UsesStore};
-ghost use Rattle.smpe_session.specs.Writing.{TellsRun};
+ghost use Rattle.smpe_session.specs.Writing.{TellsOutcomeOf, TellsRun};
 ghost use Rattle.smpe_zones.specs.Own.{IsOfZone};
 
 use crate::commit::commit_change;
@@ -32,13 +33,16 @@ impl Session {
         delta: ZoneDelta,
         lines: Vec<ReportLine>,
     ) -> Result<Outcome<'static>, StoreError>
-        requires { header.boundary ≡ Some name }
-        ensures { UsesStore S.Store store.old store.new
+        requires boundary { header.boundary ≡ Some name }
+        requires knows { (zone : AZone) × KnowsStood zone delta }
+        ensures uses { UsesStore S.Store store.old store.new
             (λ own. IsOfZone own × (header.check ≡ false) × IfOk result (TellsRun own))
             (λ s ended. IsSessionOf s self.old → (date : Text) (files : Files) (c : Command)
             → ChangesZone date files c s self.old name delta header.check
             (Ran (header_view header) (map line_view lines.items))
             → HasPerformed S.Store store.old store.new s self.new date files c ended) result }
+        ensures header { (c : Command) (boundary : Option Text) → header_view header ≡ header_of c boundary
+            → IfOk result (TellsOutcomeOf c) }
     {
         delta.attest();
         if header.check {
@@ -52,7 +56,7 @@ impl Session {
         let prepared = zone.prepare(alloc, &delta)?;
         let outcome = commit_change(
             store,
-            &Change::Zone(name, zone, delta),
+            &Change::Zone(name, delta),
             Outcome::Ran { header, lines },
         )?;
         zone.edit(prepared);

@@ -7,6 +7,7 @@ ghost use Rattle.store_schema.specs.Inventory.{IsInventory};
 ghost use Rattle.report.specs.Views.{outcome_view};
 ghost use Rattle.smpe_zones.specs.Kept.{kept};
 ghost use Rattle.smpe_session.specs.Sessions.{IsSessionOf};
+ghost use Rattle.smpe_session.specs.Writing.{TellsOutcomeOf};
 
 use crate::session::Session;
 use report::{Header, Outcome, Refusal, errsysmods};
@@ -15,8 +16,9 @@ use terms::CommandWord;
 
 impl Session {
     pub(crate) fn report(&self, alloc: Global) -> Result<Outcome<'static>, AllocError>
-        ensures { IfOk result (λ outcome. (s : State) → IsSessionOf s self.now → IsInventory (kept s)
+        ensures performs { IfOk result (λ outcome. (s : State) → IsSessionOf s self.now → IsInventory (kept s)
             → (date : Text) (files : Files) → Performs date files s Report s (outcome_view outcome)) }
+        ensures header { IfOk result (TellsOutcomeOf Report) }
     {
         let header = Header {
             word: CommandWord::Report,

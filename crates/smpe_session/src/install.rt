@@ -8,7 +8,7 @@ ghost use Rattle.smpe_session.specs.Sessions.{IsSessionOf, HasPerformed};
 ghost use Rattle.smpe_zones.specs.Ends.{HasLoaded};
 ghost use Rattle.smpe_session.specs.Places.{install_command, HasRelated};
 ghost use Rattle.smpe_session.specs.Uses.{UsesStore};
-ghost use Rattle.smpe_session.specs.Writing.{TellsRun};
+ghost use Rattle.smpe_session.specs.Writing.{TellsOutcomeOf, TellsRun};
 ghost use Rattle.smpe_zones.specs.Own.{IsOfZone};
 
 use crate::lines::or_nothing;
@@ -75,11 +75,12 @@ impl Session {
         kind: ZoneKind,
         install: &Install,
     ) -> Result<Outcome<'static>, StoreError>
-        ensures { UsesStore S.Store store.old store.new
+        ensures uses { UsesStore S.Store store.old store.new
             (λ own. IsOfZone own × (install.now.check ≡ false) × IfOk result (TellsRun own))
             (λ s ended. IsSessionOf s self.old → (files : Files)
             → HasPerformed S.Store store.old store.new s self.new date files
             (install_command kind install.now) ended) result }
+        ensures header { IfOk result (TellsOutcomeOf (install_command kind install.now)) }
     {
         let related = self.seek_related(store, kind)?;
         let header = header(kind, self.boundary, install.check);

@@ -4,6 +4,7 @@ ghost use Rattle.machine.specs.State.{State};
 ghost use Rattle.machine.specs.Machine.{Files, Performs};
 ghost use Rattle.report.specs.Views.{outcome_view};
 ghost use Rattle.smpe_session.specs.Sessions.{IsSessionOf};
+ghost use Rattle.smpe_session.specs.Writing.{TellsOutcomeOf};
 
 use crate::session::Session;
 use report::{Header, Outcome, Refusal};
@@ -12,8 +13,9 @@ use terms::CommandWord;
 impl Session {
     /// The outcome of a LIST, which refers to what the session has in memory. With `text` it has the elements' records.
     pub fn list(&self, text: bool) -> Outcome<'_>
-        ensures { (s : State) → IsSessionOf s self.now
+        ensures performs { (s : State) → IsSessionOf s self.now
             → (date : Text) (files : Files) → Performs date files s (ListZone text) s (outcome_view result) }
+        ensures header { TellsOutcomeOf (ListZone text) result }
     {
         let header = Header {
             word: CommandWord::List,

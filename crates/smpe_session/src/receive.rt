@@ -9,7 +9,7 @@ ghost use Rattle.report.specs.Views.{line_view};
 ghost use Rattle.smpe_session.specs.Sessions.{IsSessionOf, HasPerformed};
 ghost use Rattle.smpe_session.specs.Received.{AreTaken};
 ghost use Rattle.smpe_session.specs.Uses.{UsesStore};
-ghost use Rattle.smpe_session.specs.Writing.{TellsRun};
+ghost use Rattle.smpe_session.specs.Writing.{TellsOutcomeOf, TellsRun};
 ghost use Rattle.smpe_zones.specs.Own.{IsReceived};
 
 use crate::boundary::unless_global;
@@ -57,9 +57,10 @@ impl Session {
         files: &Files<'_>,
         what: &ReceiveWhat,
     ) -> Result<Outcome<'static>, StoreError>
-        ensures { UsesStore S.Store store.old store.new (λ own. IsReceived own × IfOk result (TellsRun own))
+        ensures uses { UsesStore S.Store store.old store.new (λ own. IsReceived own × IfOk result (TellsRun own))
             (λ s ended. IsSessionOf s self.old → (date : Text)
             → HasPerformed S.Store store.old store.new s self.new date files.now (Receive what.now) ended) result }
+        ensures header { IfOk result (TellsOutcomeOf (Receive what.now)) }
     {
         let header = Header {
             word: CommandWord::Receive,

@@ -6,7 +6,7 @@ ghost use Rattle.smpe_session.specs.Sessions.{IsSessionOf, HasPerformed};
 ghost use Rattle.smpe_session.specs.Steps.{HasAllZones};
 ghost use Rattle.smpe_zones.specs.Ends.{HasLoaded};
 ghost use Rattle.smpe_session.specs.Uses.{UsesStore};
-ghost use Rattle.smpe_session.specs.Writing.{TellsRun};
+ghost use Rattle.smpe_session.specs.Writing.{TellsOutcomeOf, TellsRun};
 ghost use Rattle.smpe_zones.specs.Own.{IsRejected};
 
 use crate::boundary::unless_global;
@@ -39,9 +39,10 @@ impl Session {
         store: &mut Store<S>,
         ids: &IdList,
     ) -> Result<Outcome<'static>, StoreError>
-        ensures { UsesStore S.Store store.old store.new (λ own. IsRejected own × IfOk result (TellsRun own))
+        ensures uses { UsesStore S.Store store.old store.new (λ own. IsRejected own × IfOk result (TellsRun own))
             (λ s ended. IsSessionOf s self.old → (date : Text) (files : Files)
             → HasPerformed S.Store store.old store.new s self.new date files (Reject ids.now) ended) result }
+        ensures header { IfOk result (TellsOutcomeOf (Reject ids.now)) }
     {
         let header = Header {
             word: CommandWord::Reject,

@@ -7,7 +7,7 @@ ghost use Rattle.smpe_session.specs.Sessions.{IsSessionOf, HasPerformed};
 ghost use Rattle.smpe_zones.specs.Ends.{HasLoaded};
 ghost use Rattle.smpe_session.specs.Restored.{HasAccepted};
 ghost use Rattle.smpe_session.specs.Uses.{UsesStore};
-ghost use Rattle.smpe_session.specs.Writing.{TellsRun};
+ghost use Rattle.smpe_session.specs.Writing.{TellsOutcomeOf, TellsRun};
 ghost use Rattle.smpe_zones.specs.Own.{IsOfZone};
 
 use crate::session::Session;
@@ -42,11 +42,12 @@ impl Session {
         list: &RestoreList,
         check: bool,
     ) -> Result<Outcome<'static>, StoreError>
-        ensures { UsesStore S.Store store.old store.new (λ own. IsOfZone own × (check ≡ false)
+        ensures uses { UsesStore S.Store store.old store.new (λ own. IsOfZone own × (check ≡ false)
             × IfOk result (TellsRun own))
             (λ s ended. IsSessionOf s self.old → (date : Text) (files : Files)
             → HasPerformed S.Store store.old store.new s self.new date files (Restore (restore_list_of list.now) check)
             ended) result }
+        ensures header { IfOk result (TellsOutcomeOf (Restore (restore_list_of list.now) check)) }
     {
         let accepted = self.seek_accepted(store)?;
         let header = Header {

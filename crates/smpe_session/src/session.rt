@@ -9,7 +9,7 @@ ghost use Rattle.store.specs.Whole.{ShowsGlobal};
 ghost use Rattle.smpe_zones.specs.Own.{IsOwnOf};
 ghost use Rattle.smpe_session.specs.Sessions.{IsSessionOf, HasBegun, HasDone, LooksOnly, told};
 ghost use Rattle.smpe_session.specs.Uses.{UsesStore};
-ghost use Rattle.smpe_session.specs.Writing.{AnswersRun};
+ghost use Rattle.smpe_session.specs.Writing.{AnswersOf, AnswersRun};
 
 use crate::files::Files;
 use cntl::Command;
@@ -81,6 +81,7 @@ impl Session {
             (λ own. IsOwnOf (command_of command.now) own × IfOk result (AnswersRun own))
             (λ s ended. IsSessionOf s self.old → HasDone S.Store store.old store.new s self.new date files.now
             (command_of command.now) ended) result }
+        ensures header { IfOk result (AnswersOf (command_of command.now)) }
         ensures looks { LooksOnly (command_of command.now) → (store.new ≡ store.old)
             × ¬ IsErrOf result StoreError.Fault }
     {

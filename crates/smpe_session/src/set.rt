@@ -1,5 +1,5 @@
 //! SET: the boundary is another zone.
-ghost use Rattle.std.specs.Prelude.{IsSome, OnOk};
+ghost use Rattle.std.specs.Prelude.{IsSome, OnOk, IfOk};
 ghost use Rattle.std.specs.Str.{bytes_eq};
 ghost use Rattle.indexmap.specs.IndexMap.{get};
 ghost use Rattle.terms.specs.Types.{Text, Set};
@@ -8,6 +8,7 @@ ghost use Rattle.smpe_session.specs.Sessions.{IsSessionOf, HasPerformed};
 ghost use Rattle.smpe_session.specs.Steps.{IsSought};
 ghost use Rattle.smpe_zones.specs.Ends.{HasLoaded};
 ghost use Rattle.smpe_session.specs.Uses.{UsesStore};
+ghost use Rattle.smpe_session.specs.Writing.{TellsOutcomeOf};
 
 use crate::session::Session;
 use fields::ZoneName;
@@ -47,9 +48,10 @@ impl Session {
         store: &mut Store<S>,
         name: ZoneName,
     ) -> Result<Outcome<'static>, StoreError>
-        ensures { UsesStore S.Store store.old store.new (λ _. ⊥) (λ s ended. IsSessionOf s self.old
+        ensures uses { UsesStore S.Store store.old store.new (λ _. ⊥) (λ s ended. IsSessionOf s self.old
             → (date : Text) (files : Files)
             → HasPerformed S.Store store.old store.new s self.new date files (Set name) ended) result }
+        ensures header { IfOk result (TellsOutcomeOf (Set name)) }
     {
         let header = Header {
             word: CommandWord::Set,

@@ -1,11 +1,8 @@
 //! Chains of 5,000 SYSMODs, which are received, applied and listed without a walk that takes more and more stack.
 
 use crate::generated::run_job;
-use smpe_play::{
-    FAILING, FUNCTION_RECEIVED, JobStep, RECEIVE, card_file, define_both, in_memory, installed,
-    new_files, opened, play, put_cards,
-};
-use sqlite::{Alter, Connection};
+use smpe_play::{FAILING, JobStep, Plays, RECEIVE, StepPlace, card_file, play_made, put_cards};
+use sqlite::Alter;
 use std::alloc::Global;
 use std::test::Fail;
 use store::Store;
@@ -159,22 +156,32 @@ fn apply_chain<S: Alter>(alloc: Global, store: &mut Store<S>, links: Links) -> R
     run_job(alloc, store, name, cntl, b"", b"", wanted)
 }
 
-/// Receives and applies a chain over a new database.
-fn play_chain<S: Alter + Drop>(
-    alloc: Global,
-    conn: Connection<S>,
-    links: Links,
-) -> Result<(), Fail> {
-    let mut store = installed(alloc, conn)?;
-    receive_chain(alloc, &mut store, links)?;
-    apply_chain(alloc, &mut store, links)
+/// A job of a chain.
+#[derive(Clone, Copy)]
+enum LinksJob {
+    Receive(Links),
+    Apply(Links),
+}
+
+impl Plays for LinksJob {
+    fn play_at<S: Alter>(
+        &self,
+        alloc: Global,
+        store: &mut Store<S>,
+        _place: StepPlace,
+    ) -> Result<(), Fail> {
+        match *self {
+            LinksJob::Receive(links) => receive_chain(alloc, store, links),
+            LinksJob::Apply(links) => apply_chain(alloc, store, links),
+        }
+    }
 }
 
 #[test]
 fn chains_of_thousands_are_applied_or_fail_as_a_whole(rt: HostRuntime) -> Result<(), Fail> {
     for links in CHAINS {
-        play_chain(rt.alloc(), in_memory(rt.alloc())?, *links)?;
-        play_chain(rt.alloc(), new_files(rt.alloc())?, *links)?;
+        let jobs = [LinksJob::Receive(*links), LinksJob::Apply(*links)];
+        play_made(rt.alloc(), &jobs, links.shows)?;
     }
     Ok(())
 }
@@ -187,24 +194,37 @@ const CLOSING: JobStep = JobStep {
     ..FAILING
 };
 
-/// Receives all but the first PTF of a chain, and then the first, which would close a loop.
-fn close_loop<S: Alter>(alloc: Global, store: &mut Store<S>) -> Result<(), Fail> {
+/// All but the first PTF of a chain come in, and then the first, which would close a loop.
+#[derive(Clone, Copy)]
+enum LoopJob {
+    Most,
+    First,
+}
+
+/// Receives all but the first PTF of a chain.
+fn receive_most<S: Alter>(alloc: Global, store: &mut Store<S>) -> Result<(), Fail> {
     let ptfs = ptfin(alloc, Chain::Back, 2)?;
     let wanted = report(alloc, RECEIVED, Said::Received, 2, "RC 00\n")?;
     let (ptfs, wanted) = (ptfs.as_slice(), wanted.as_str());
-    run_job(alloc, store, "the chain", RECEIVE, ptfs, b"", wanted)?;
-    play(alloc, store, &CLOSING)
+    run_job(alloc, store, "the chain", RECEIVE, ptfs, b"", wanted)
 }
 
-fn close_loop_over<S: Alter + Drop>(alloc: Global, conn: Connection<S>) -> Result<(), Fail> {
-    let mut store = opened(alloc, conn, "a chain that would close")?;
-    define_both(alloc, &mut store)?;
-    play(alloc, &mut store, &FUNCTION_RECEIVED)?;
-    close_loop(alloc, &mut store)
+impl Plays for LoopJob {
+    fn play_at<S: Alter>(
+        &self,
+        alloc: Global,
+        store: &mut Store<S>,
+        place: StepPlace,
+    ) -> Result<(), Fail> {
+        match self {
+            LoopJob::Most => receive_most(alloc, store),
+            LoopJob::First => CLOSING.play_at(alloc, store, place),
+        }
+    }
 }
 
 #[test]
 fn a_chain_of_thousands_is_not_closed(rt: HostRuntime) -> Result<(), Fail> {
-    close_loop_over(rt.alloc(), in_memory(rt.alloc())?)?;
-    close_loop_over(rt.alloc(), new_files(rt.alloc())?)
+    let jobs = [LoopJob::Most, LoopJob::First];
+    play_made(rt.alloc(), &jobs, "a chain that would close")
 }

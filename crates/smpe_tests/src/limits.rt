@@ -2,8 +2,8 @@
 
 use crate::generated::run_job;
 use smpe_play::{
-    JOB, JobStep, RECEIVE, RECEIVING, card_file, in_memory, installed, new_files, opened, play,
-    put_cards,
+    JOB, JobStep, Plays, RECEIVE, RECEIVING, Rows, StepPlace, card_file, in_memory, new_files,
+    opened, play_rows, put_cards,
 };
 use sqlite::{Alter, Connection};
 use std::alloc::Global;
@@ -95,45 +95,28 @@ fn apply_many<S: Alter>(alloc: Global, store: &mut Store<S>) -> Result<(), Fail>
     run_job(alloc, store, name, cntl, b"", b"", wanted)
 }
 
-/// Appends the lines of so many PTFs.
-fn put_entries(alloc: Global, text: &mut String, ptfs: u32) -> Result<(), Fail> {
+/// What stands in each row of the entries and of the elements.
+const ROWS: [&str; 2] = [
+    "SELECT zone || '/' || id || '/' || ifnull(date, '-') || '/' || supby || '/' || ifnull(delby, '-') || '/' || \
+        waived FROM entry ORDER BY zone, id",
+    "SELECT zone || '/' || type || '/' || name || '/' || fmid || '/' || rmid || '/' || umid || '/' || distlib || '/' \
+        || syslib || '/' || length(text) FROM zelem ORDER BY zone, type, name",
+];
+
+/// The rows of a zone with so many of the PTFs.
+fn rows_of(alloc: Global, ptfs: u32) -> Result<String, Fail> {
+    let mut text = String::new(alloc);
+    text.push_str("TGT1/HAA1100/24.138//-/\nTGT1/HBB1100/24.138//-/\n")?;
     for k in 1..=ptfs {
-        let line = format!(in alloc; "ENTRY UC{k:05} APPLIED 24.138 SUPBY - DELBY - WAIVED -\n")?;
+        text.push_str(format!(in alloc; "TGT1/UC{k:05}/24.138//-/\n")?.as_str())?;
+    }
+    text.push_str("--\n")?;
+    for k in 1..=999u32 {
+        let line = format!(in alloc; "TGT1/DATA/N{k:05}/HBB1100/HBB1100//ADATA/DATA/80\n")?;
         text.push_str(line.as_str())?;
     }
-    Ok(())
-}
-
-/// Appends the lines of all elements.
-fn put_elements(alloc: Global, text: &mut String) -> Result<(), Fail> {
-    text.push_str(
-        "ELEM MAC   M1       FMID HAA1100 RMID HAA1100 UMID - DISTLIB AMACLIB SYSLIB MACLIB\n",
-    )?;
-    for k in 1..=999u32 {
-        text.push_str(format!(in alloc;
-            "ELEM DATA  N{k:05}   FMID HBB1100 RMID HBB1100 UMID - DISTLIB ADATA SYSLIB DATA\n"
-        )?.as_str())?;
-    }
-    Ok(())
-}
-
-/// The zone with so many of the PTFs.
-fn listed(alloc: Global, ptfs: u32) -> Result<String, Fail> {
-    let mut text = String::new(alloc);
-    text.push_str("SET TGT1\nRC 00\nLIST TGT1\n")?;
-    text.push_str("ENTRY HAA1100 APPLIED 24.138 SUPBY - DELBY - WAIVED -\n")?;
-    text.push_str("ENTRY HBB1100 APPLIED 24.138 SUPBY - DELBY - WAIVED -\n")?;
-    put_entries(alloc, &mut text, ptfs)?;
-    put_elements(alloc, &mut text)?;
-    text.push_str("RC 00\n")?;
+    text.push_str("TGT1/MAC/M1/HAA1100/HAA1100//AMACLIB/MACLIB/160\n--\n")?;
     Ok(text)
-}
-
-fn list<S: Alter>(alloc: Global, store: &mut Store<S>, ptfs: u32) -> Result<(), Fail> {
-    let wanted = listed(alloc, ptfs)?;
-    let cntl = "SET BDY(TGT1).\nLIST.";
-    let (name, wanted) = ("the zone is listed", wanted.as_str());
-    run_job(alloc, store, name, cntl, b"", b"", wanted)
 }
 
 const ONE_RECEIVED: JobStep = JobStep {
@@ -150,19 +133,39 @@ const ONE_INSTALLED: JobStep = JobStep {
     ..JOB
 };
 
-/// The PTF comes into a zone of 1,000 entries and 1,000 elements, over a new database.
-fn add_to_many<S: Alter + Drop>(alloc: Global, conn: Connection<S>) -> Result<(), Fail> {
-    let mut store = installed(alloc, conn)?;
-    receive_many(alloc, &mut store)?;
-    apply_many(alloc, &mut store)?;
-    list(alloc, &mut store, 998)?;
-    play(alloc, &mut store, &ONE_RECEIVED)?;
-    play(alloc, &mut store, &ONE_INSTALLED)?;
-    list(alloc, &mut store, 999)
+/// A job over the zone.
+#[derive(Clone, Copy)]
+enum ZoneJob {
+    ReceiveMany,
+    ApplyMany,
+    Step(&'static JobStep),
+}
+
+impl Plays for ZoneJob {
+    fn play_at<S: Alter>(
+        &self,
+        alloc: Global,
+        store: &mut Store<S>,
+        place: StepPlace,
+    ) -> Result<(), Fail> {
+        match self {
+            ZoneJob::ReceiveMany => receive_many(alloc, store),
+            ZoneJob::ApplyMany => apply_many(alloc, store),
+            ZoneJob::Step(step) => step.play_at(alloc, store, place),
+        }
+    }
 }
 
 #[test]
 fn one_ptf_among_a_thousand_is_added_alone(rt: HostRuntime) -> Result<(), Fail> {
-    add_to_many(rt.alloc(), in_memory(rt.alloc())?)?;
-    add_to_many(rt.alloc(), new_files(rt.alloc())?)
+    let jobs = [
+        ZoneJob::ReceiveMany,
+        ZoneJob::ApplyMany,
+        ZoneJob::Step(&ONE_RECEIVED),
+        ZoneJob::Step(&ONE_INSTALLED),
+    ];
+    let rows = rows_of(rt.alloc(), 999)?;
+    let (queries, wanted) = (ROWS.as_slice(), rows.as_str());
+    let shows = "one PTF more in a zone of 1,000 entries and 1,000 elements";
+    play_rows(rt.alloc(), &jobs, shows, Rows { queries, wanted })
 }

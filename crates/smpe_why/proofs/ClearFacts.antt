@@ -1,12 +1,12 @@
 -- What clear facts say of the id.
-use Rattle.std.proofs.Common.{◌≡◌, ◌∙◌, ◌+◌, ◌&&◌, ◌||◌, Bool, true, false, not, ℕ, List, [], ◌∷◌, ◌++◌}
+use Rattle.std.proofs.Common.{◌≡◌, ◌∙◌, ◌⊎◌, ◌+◌, ◌&&◌, ◌||◌, Bool, true, false, not, ℕ, List, [], ◌∷◌, ◌++◌}
 use Rattle.std.proofs.Common.{Option, None, Some, map, filter, length, inl, inr, refl, suc, sym, ap, subst, true≢false}
 use Rattle.std.specs.Prelude.{All, Contains, IsTrue, cond, is_some, if◌then◌else◌, ◌==◌}
 use Rattle.std.specs.List.{flat_map, list_all, AllByRecursion}
 use Rattle.std.specs.Option.{option_map_or}
 use Rattle.std.proofs.lemmas.List.{append-nil}
 use Rattle.std.specs.Str.{bytes_eq}
-use Rattle.std.proofs.lemmas.Bool.{and_parts}
+use Rattle.std.proofs.lemmas.Bool.{and_parts, or_right}
 use Rattle.std.proofs.lemmas.List.Elements.{All-append, All-contains, All-head, All-from_recursion, filter-append}
 use Rattle.std.proofs.lemmas.List.Elements.{Contains-append_left, Contains-append_right, Contains-append_cases}
 use Rattle.terms.specs.Beside.{Beside}
@@ -32,19 +32,20 @@ use Rattle.terms.specs.Changes.{is_replacement, has_update}
 use Rattle.terms.specs.Deleted.{is_deleted}
 use Rattle.terms.specs.Tests.{Setting, view_of, owner_of, standing_holds, is_bypassed_hold}
 use Rattle.terms.specs.Needs.{asked, is_met}
-use Rattle.terms.specs.Facts.{AreFacts, alone, standing_facts, ver_facts, numbered_facts, Requisite, requisites}
-use Rattle.terms.specs.Facts.{requisites_of, a_requisite, stated_by, conditions_of, conditions}
-use Rattle.terms.specs.Facts.{left_by, IsAnswer, Answer}
-use Rattle.terms.specs.Facts.{Supplied, Waived, Open, Rank, Itself, Over, NotOver, IsRank, Maker}
-use Rattle.terms.specs.Facts.{Found, IsFound, HasFound}
-use Rattle.terms.specs.Facts.{Fact, EntryFact, VerFact, DeleteFact}
-use Rattle.terms.specs.Facts.{TakesFact, NpreFact, ForbiddenFact, NeededFact, HasResolution}
-use Rattle.terms.specs.Facts.{StandsApplied, StandsSuperseded, StandsDeleted, StandsReceived, StandsMissing, holds_on}
-use Rattle.terms.specs.Facts.{delete_facts, npre_facts, forbids}
+use Rattle.report_why.specs.Facts.{AreFacts, alone, standing_facts, ver_facts, numbered_facts, Requisite, requisites}
+use Rattle.report_why.specs.Facts.{requisites_of, a_requisite, stated_by, conditions_of, conditions}
+use Rattle.report_why.specs.Facts.{left_by, IsAnswer, Answer}
+use Rattle.report_why.specs.Facts.{Supplied, Waived, ByItself, Open, Rank, Itself, Over, NotOver, IsRank, Maker}
+use Rattle.report_why.specs.Facts.{Found, IsFound, HasFound}
+use Rattle.report_why.specs.Facts.{Fact, EntryFact, VerFact, DeleteFact}
+use Rattle.report_why.specs.Facts.{TakesFact, NpreFact, ForbiddenFact, NeededFact, HasResolution}
+use Rattle.report_why.specs.Facts.{StandsApplied, StandsSuperseded, StandsDeleted, StandsReceived, StandsMissing, holds_on}
+use Rattle.report_why.specs.Facts.{delete_facts, npre_facts, forbids}
 use Rattle.terms.proofs.Applied.{in_applied_ids}
 use Rattle.terms.proofs.ChangedElements.{change_there, change_found}
 use Rattle.terms.proofs.Ids.{is_in_from_Contains, Contains_from_is_in}
-use Rattle.smpe_why.specs.Clear.{AreClear, is_clear, is_fitting, is_free, is_over, is_received_alone, is_resolved}
+use Rattle.report_why.specs.Verdict.{is_over}
+use Rattle.smpe_why.specs.Clear.{AreClear, is_clear, is_fitting, is_free, is_received_alone, is_resolved}
 use Rattle.smpe_why.specs.Clear.{is_supplied}
 
 never : {A : Type 0} → false ≡ true → A
@@ -251,11 +252,12 @@ module _ (g : Global) (zone : Zone) (x : Id) (facts : List Fact) (are : AreFacts
       → IsTrue (is_met (left_by s x) r.kind r.id)
   answered r (Supplied ids) answer ok = answer.0
   answered r Waived answer ok = never ok
+  answered r ByItself answer ok = never ok
   answered r (Open ids) answer ok = never ok
 
-  supplied : (r : Requisite) → Contains (requisites s x) r → IsTrue (is_met (left_by s x) r.kind r.id)
+  supplied : (r : Requisite) → Contains (requisites s x are.orphans) r → IsTrue (is_met (left_by s x) r.kind r.id)
   supplied r is =
-      let it = beside_passes _ Clear (requisites s x) are.of_requisites are.requisites_are requisites_clear r is in
+      let it = beside_passes _ Clear (requisites s x are.orphans) are.of_requisites are.requisites_are requisites_clear r is in
       answered r it.2.0 it.2.2 (sym (ap is_clear it.2.1) ∙ it.3)
 
   -- a requisite by ++IF for this id
@@ -273,33 +275,66 @@ module _ (g : Global) (zone : Zone) (x : Id) (facts : List Fact) (are : AreFacts
         refl,
       )
 
+  -- what x states for itself it states for a function that is there
+  own_too : (ifs : List IfReq) (z : Id) → Contains (flat_map (λ i. i.req) (filter (λ i. bytes_eq x i.function) ifs)) z
+      → Contains (flat_map (λ i. i.req) (filter (λ i. is_applied (view_of s x) i.function || is_in (x ∷ []) i.function)
+      ifs)) z
+  own_too ifs z is =
+      let at = flat_in (λ (i : IfReq). i.req) (filter (λ i. bytes_eq x i.function) ifs) z is in
+      let both = filter_in (λ (i : IfReq). bytes_eq x i.function) ifs at.0 at.1 in
+      let there : is_in (x ∷ []) at.0.function ≡ true =
+      is_in_from_Contains (x ∷ []) at.0.function (subst (Contains (x ∷ [])) (same_from x at.0.function both.1) (here x [])) in
+      in_flat (λ (i : IfReq). i.req) _ at.0 z (in_filter _ ifs at.0 both.0 (or_right _ _ there)) at.2
+
   stated_if : (b : Bool) (ids : List Id) (z : Id)
       → Contains (if b then flat_map (if_reqs s.choice (bytes_eq x)) ids else []) z
-      → Has (if b then flat_map (conditions_of s.choice (bytes_eq x)) ids else []) z
+      → Contains (if_reqs s.choice (λ f. is_applied (view_of s x) f || is_in (x ∷ []) f) x) z
+      ⊎ Has (if b then flat_map (conditions_of s.choice (bytes_eq x)) (filter (λ y. not (bytes_eq x y)) ids) else []) z
   stated_if true ids z is =
       let at = flat_in (if_reqs s.choice (bytes_eq x)) ids z is in
-      let it = stated (bytes_eq x) at.0 z at.2 in
-      (it.0, in_flat (conditions_of s.choice (bytes_eq x)) ids at.0 it.0 at.1 it.1, it.2, it.3)
+      by at.0 at.1 at.2 (bytes_eq x at.0) refl
+    where
+      by : (y : Id) → Contains ids y → Contains (if_reqs s.choice (bytes_eq x) y) z → (b : Bool) → bytes_eq x y ≡ b
+          → Contains (if_reqs s.choice (λ f. is_applied (view_of s x) f || is_in (x ∷ []) f) x) z
+          ⊎ Has (flat_map (conditions_of s.choice (bytes_eq x)) (filter (λ y. not (bytes_eq x y)) ids)) z
+      by y within has true e = inl (own_too (ifs_of s.choice x) z
+          (subst (λ w. Contains (if_reqs s.choice (bytes_eq x) w) z) (sym (same_from x y e)) has))
+      by y within has false e =
+          let it = stated (bytes_eq x) y z has in
+          inr (
+            it.0,
+            in_flat (conditions_of s.choice (bytes_eq x)) _ y it.0
+                (in_filter (λ y. not (bytes_eq x y)) ids y within (ap not e)) it.1,
+            it.2,
+            it.3,
+          )
   stated_if false ids z is = absurd (none_in z is)
 
   by_condition : (z : Id) → Contains (asked s (x ∷ []) x Ifreq) z → Has (conditions s x) z
   by_condition z is =
       let own : Id → Bool = λ f. is_applied (view_of s x) f || is_in (x ∷ []) f in
+      let by_own : Contains (if_reqs s.choice own x) z → Has (conditions s x) z =
+      λ first. let it = stated own x z first in (it.0, Contains-append_left _ _ it.0 it.1, it.2, it.3) in
       elim (Contains-append_cases (if_reqs s.choice own x) _ z is) [
-        | inl first ↦ let it = stated own x z first in (it.0, Contains-append_left _ _ it.0 it.1, it.2, it.3)
-        | inr later ↦ let it = stated_if (is_function g x) (applied_ids (view_of s x)) z later
-            in (it.0, Contains-append_right (conditions_of s.choice own x) _ it.0 it.1, it.2, it.3)
+        | inl first ↦ by_own first
+        | inr later ↦ elim (stated_if (is_function g x) (applied_ids (view_of s x)) z later) [
+          | inl first ↦ by_own first
+          | inr it ↦ (it.0, Contains-append_right (conditions_of s.choice own x) _ it.0 it.1, it.2, it.3)
+        ]
       ]
 
   one_of : (kind : NeedKind) (z : Id) → Contains (asked s (x ∷ []) x kind) z
       → Contains (requisites_of s x kind) (a_requisite kind x None z)
   one_of kind z is = in_map (a_requisite kind x None) (asked s (x ∷ []) x kind) z is
 
+  abbrev lost : List Requisite
+  lost = map (a_requisite Orphan x None) are.orphans
+
   abbrev named : List Requisite
   named = requisites_of s x Fmid ++ requisites_of s x Pre ++ requisites_of s x Req
 
   by_name : (r : Requisite) → Contains named r → IsTrue (is_met (left_by s x) r.kind r.id)
-  by_name r is = supplied r (Contains-append_left (named ++ conditions s x) (requisites_of s x Orphan) r
+  by_name r is = supplied r (Contains-append_left (named ++ conditions s x) lost r
       (Contains-append_left named (conditions s x) r is))
 
   -- all is met
@@ -317,7 +352,7 @@ module _ (g : Global) (zone : Zone) (x : Id) (facts : List Fact) (are : AreFacts
       let it = by_condition z is in
       subst (λ k. IsTrue (is_met (left_by s x) k z)) it.2
       (subst (λ v. IsTrue (is_met (left_by s x) it.0.kind v)) it.3
-      (supplied it.0 (Contains-append_left (named ++ conditions s x) (requisites_of s x Orphan) it.0
+      (supplied it.0 (Contains-append_left (named ++ conditions s x) lost it.0
       (Contains-append_right named (conditions s x) it.0 it.1))))
   met HoldError z is =
       let m = map_in (λ (h : Hold). h.reason) (standing_holds s Error x) z is in
@@ -327,7 +362,8 @@ module _ (g : Global) (zone : Zone) (x : Id) (facts : List Fact) (are : AreFacts
       subst (λ v. IsTrue (is_met (left_by s x) HoldError v)) m.2
       (answered (a_requisite HoldError x None m.0.reason) on.1.0 on.1.1 on.1.2)
   met Orphan z is = supplied (a_requisite Orphan x None z)
-      (Contains-append_right (named ++ conditions s x) (requisites_of s x Orphan) _ (one_of Orphan z is))
+      (Contains-append_right (named ++ conditions s x) lost _
+      (in_map (a_requisite Orphan x None) are.orphans z ((are.orphans_are.members z).1 is)))
   met Elem z is = absurd (none_in z is)
   met Dep z is = absurd (none_in z is)
 

@@ -5,10 +5,11 @@ use Rattle.std.specs.List.{list_all}
 use Rattle.terms.specs.declared.kinds.ZoneKind.TheVariants.{Target}
 use Rattle.terms.specs.Types.{Text, Id, Global, Zone, Selection}
 use Rattle.terms.specs.CommandForms.{no_bypass}
-use Rattle.terms.specs.Facts.{Standing, StandsReceived}
-use Rattle.terms.specs.Facts.{Answer, Supplied, Rank, Over, Found, Fact}
-use Rattle.terms.specs.Facts.{StandingFact, EntryFact, VerFact, RequisiteFact, HoldFact, ElementFact, DeleteFact}
-use Rattle.terms.specs.Facts.{TakesFact, NpreFact, ForbiddenFact, NeededFact, AreFacts}
+use Rattle.report_why.specs.Facts.{Standing, StandsReceived}
+use Rattle.report_why.specs.Facts.{Answer, Supplied, Found, Fact}
+use Rattle.report_why.specs.Verdict.{is_over}
+use Rattle.report_why.specs.Facts.{StandingFact, EntryFact, VerFact, RequisiteFact, HoldFact, ElementFact, DeleteFact}
+use Rattle.report_why.specs.Facts.{TakesFact, NpreFact, ForbiddenFact, NeededFact, AreFacts}
 use Rattle.machine.specs.Outcome.{Line, StatusLine, Applied}
 use Rattle.machine.specs.Receiving.{place_of}
 use Rattle.machine.specs.Installing.{InstallsSelected}
@@ -26,10 +27,6 @@ is_supplied _ = false
 abbrev pub is_resolved : Option Answer → Bool
 is_resolved None = false
 is_resolved (Some answer) = is_supplied answer
-
-abbrev pub is_over : Rank → Bool
-is_over Over = true
-is_over _ = false
 
 -- The element is the id's own, and it is over all that made it. What it replaces may not be there at all.
 abbrev pub is_free : Bool → Option Found → Bool

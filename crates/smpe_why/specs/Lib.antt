@@ -1,2 +1,3 @@
 pub mod Clear
 pub mod Telling
+pub mod Verdicts

@@ -24,4 +24,4 @@ steps_defined s t d is = (sym (ap (state_after s) is), refl)
 -- the change that adds the zone
 pub leads_on : (s t : State) (d : ZoneDefinition) → define_zone s d ≡ Ok t → IsInventory (kept s)
     → LeadsOn s (Define d) (NewZone d.name d.kind d.srel d.related)
-leads_on s t d is inventory = (refl, (t, [], steps_defined s t d is, makes s t d is inventory))
+leads_on s t d is inventory = (refl, tt, (t, [], steps_defined s t d is, makes s t d is inventory))

@@ -1,5 +1,5 @@
 -- How a definition ends, and how it went.
-use Rattle.std.proofs.Common.{◌≡◌, ◌∙◌, false, Result, Ok, Err, IsErrAnd, refl, sym, ap, subst, true≢false}
+use Rattle.std.proofs.Common.{◌≡◌, ◌∙◌, false, Result, Ok, Err, IsErrAnd, OnOk, refl, sym, ap, subst, true≢false}
 use Rattle.std.proofs.lemmas.Result.{err_from_is_err_and}
 use Rattle.sqlite.specs.Store.{Ghosts}
 use Rattle.sqlite.specs.Held.{Held}
@@ -7,8 +7,9 @@ use Rattle.machine.specs.State.{State, ZoneDefinition}
 use Rattle.machine.specs.Machine.{Define}
 use Rattle.store_schema.specs.declared.error.StoreError.{StoreError}
 use Rattle.store_schema.specs.declared.error.StoreError.TheVariants.{Fault, OtherSchema, NoState, Memory}
-use Rattle.store.specs.Courses.{GoesOver}
+use Rattle.store.specs.Courses.{GoesOver, CommitsOnce}
 use Rattle.store.specs.declared.change.Change.{Change}
+use Rattle.store.specs.declared.change.Change.TheVariants.{NewZone}
 use Rattle.store.proofs.Going.{goes_err}
 use Rattle.smpe_zones.specs.Ends.{GoesOnce, ActFailed}
 use Rattle.smpe_zones.specs.declared.error.ZoneError.{ZoneError}
@@ -68,5 +69,6 @@ course_failed {U = U} g old new d IsMine e r is own once =
         none = λ clean bad. once.none clean (ap (λ y. Err y) (no_state r e told bad));
         which = λ bad. once.which (ap (λ y. Err y) (other_schema r e told bad));
       };
+      done = subst (λ q. OnOk q (CommitsOnce g old new (NewZone d.name d.kind d.srel d.related) q)) (sym told) tt;
       refused = λ refused. absurd (true≢false (sym refused ∙ ap is_refused told ∙ not_refused U e));
     }

@@ -1,5 +1,5 @@
 -- How the definition of a zone ends.
-use Rattle.std.specs.Prelude.{◌≡◌, Bool, true, false, Option, Result, Ok, Err, IsTrue}
+use Rattle.std.specs.Prelude.{◌≡◌, Bool, true, false, Option, Result, Ok, Err, IsTrue, OnOk}
 use Rattle.sqlite.specs.Store.{Ghosts}
 use Rattle.sqlite.specs.Held.{Held}
 use Rattle.terms.specs.declared.kinds.ZoneKind.{ZoneKind}
@@ -10,6 +10,8 @@ use Rattle.machine.specs.Machine.{Define}
 use Rattle.store_schema.specs.declared.error.StoreError.{StoreError}
 use Rattle.store_schema.specs.declared.error.StoreError.TheVariants as store
 use Rattle.store.specs.BadRows.{OnlyLoads}
+use Rattle.store.specs.Courses.{CommitsOnce}
+use Rattle.store.specs.declared.change.Change.TheVariants.{NewZone}
 use Rattle.smpe_zones.specs.Ends.{GoesOnce, ActFailed}
 use Rattle.smpe_zones.specs.Kept.{Keeps}
 use Rattle.smpe_zones.specs.Own.{IsOwn}
@@ -41,11 +43,13 @@ abbrev pub is_refused : {U : Type 0} → Result U ZoneError → Bool
 is_refused (Err (Refused why)) = true
 is_refused _ = false
 
--- What a definition has done, whatever the tables are. A refused one has left all as it was.
+-- What a definition has done, whatever the tables are. One that is done has added its zone in one commit, and a refused
+-- one has left all as it was.
 pub record HasCourse {S U : Type 0} (g : Ghosts S) (old new : Held S) (d : ZoneDefinition)
     (result : Result U ZoneError) :
     Type 0 where
   pub once : GoesOnce g old new (IsOwn (Define d)) (Store store.NoState) (Store store.OtherSchema) result
+  pub done : OnOk result (CommitsOnce g old new (NewZone d.name d.kind d.srel d.related) result)
   pub refused : IsTrue (is_refused result) → OnlyLoads g old new
 
 -- how an error of the store is told

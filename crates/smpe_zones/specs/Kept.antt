@@ -1,5 +1,5 @@
 -- What a store keeps of the machine's state: all but the boundary.
-use Rattle.std.specs.Prelude.{◌≡◌, List}
+use Rattle.std.specs.Prelude.{◌≡◌, List, Some}
 use Rattle.sqlite.specs.Store.{Ghosts}
 use Rattle.sqlite.specs.Held.{Held}
 use Rattle.store_schema.specs.Inventory.{Inventory}
@@ -9,6 +9,7 @@ use Rattle.machine.specs.Machine.{Act, Steps}
 use Rattle.machine.specs.Runs.{Stands}
 use Rattle.store.specs.Changes.{Makes}
 use Rattle.store.specs.declared.change.Change.{Change}
+use Rattle.store.specs.declared.change.Change.TheVariants.{Zone}
 use Rattle.store.specs.View.{Tables, Leaves}
 use Rattle.smpe_zones.specs.Own.{IsOwn}
 
@@ -23,7 +24,13 @@ Keeps g at s = Stands (Tables g at) (Leaves g at) (kept s)
 abbrev pub IsAfter : State → Act → Inventory → Type 0
 IsAfter s a c = (m : State) × (outcomes : List Outcome) × Steps s a m outcomes × (c ≡ kept m)
 
+-- A zone that is changed is that of the boundary.
+abbrev pub IsHere : State → Change → Type 0
+IsHere s (Zone name delta) = s.boundary ≡ Some name
+IsHere s _ = Unit {0}
+
 -- The change is one of the act's own, and makes of the state what the act leads to.
 abbrev pub LeadsOn : State → Act → Change → Type 0
 LeadsOn s a change =
-    IsOwn a change × ((m : State) × (outcomes : List Outcome) × Steps s a m outcomes × Makes change (kept s) (kept m))
+    IsOwn a change × IsHere s change
+    × ((m : State) × (outcomes : List Outcome) × Steps s a m outcomes × Makes change (kept s) (kept m))

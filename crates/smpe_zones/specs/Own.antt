@@ -1,6 +1,7 @@
 -- Which changes of the tables an act may commit.
 use Rattle.std.specs.Prelude.{◌≡◌, All, false}
-use Rattle.terms.specs.Types.{Command, Receive, Reject, Apply, Accept, Restore}
+use Rattle.terms.specs.Types.{Command, Receive, Reject, Apply, Accept, Restore, Zone as AZone}
+use Rattle.zones_maps.specs.Delta.{IsDelta, KnowsStood}
 use Rattle.machine.specs.Machine.{Act, Perform, Define}
 use Rattle.smpe_global.specs.Edits.{IsOfReceive, IsOfReject}
 use Rattle.store.specs.declared.change.Change.{Change}
@@ -16,9 +17,9 @@ abbrev pub IsRejected : Change → Type 0
 IsRejected (Global stated edits) = All IsOfReject edits.items
 IsRejected _ = ⊥
 
--- a change of a target or distribution zone that is there
+-- a change of a target or distribution zone: edits of one, with what it has at their keys
 abbrev pub IsOfZone : Change → Type 0
-IsOfZone (Zone name old delta) = Unit {0}
+IsOfZone (Zone name delta) = (zone : AZone) × IsDelta delta × KnowsStood zone delta
 IsOfZone _ = ⊥
 
 -- RECEIVE and REJECT change the global zone, and APPLY, ACCEPT and RESTORE another one, unless they check alone. SET,

@@ -16,7 +16,7 @@ use Rattle.sqlite.proofs.StateLemmas.{survives_then}
 use Rattle.sqlite.proofs.Callers.{survives_begin}
 use Rattle.terms.specs.declared.kinds.ZoneKind.{ZoneKind}
 use Rattle.terms.specs.Types.{Text, Zone as AZone, Global as AGlobal}
-use Rattle.zones_maps.specs.Delta.{ZoneDelta, IsDelta}
+use Rattle.zones_maps.specs.Delta.{ZoneDelta, KnowsStood}
 use Rattle.store_rows.specs.Calls.{Call, RunsInside}
 use Rattle.store_rows.specs.Inside.{StaysInside}
 use Rattle.store_rows.proofs.CallLemmas.{failed_then, failed_before}
@@ -53,11 +53,12 @@ module _ {S : Type 0} (g : Ghosts S) (old new : Held S) where
       (adds i.global added.before added.after clean (subst (λ (k : Inventory).
       HasContents store_schema (rows_of k) (state g old).now) was contents))
 
-  pub delta_written : (name : Text) (zone : Bor AZone) (delta : ZoneDelta) → IsDelta delta
-      → ChangesZone g old new name (HasEdited zone.now delta) → Writes g old (Zone name zone delta) new
-  delta_written name zone delta is_delta changes i j made inventory =
-      changes i j zone.now made.0 made.1 (is_edited delta zone.now made.0 is_delta
-      (zone_was name zone.now made.0 i j inventory made.1) made.2)
+  pub delta_written : (name : Text) (delta : ZoneDelta)
+      → ((zone : AZone) → KnowsStood zone delta → ChangesZone g old new name (HasEdited zone delta))
+      → Writes g old (Zone name delta) new
+  delta_written name delta changes i j (was, is, change, changed, is_delta, knows) inventory =
+      changes was knows i j was is change (is_edited delta was is is_delta
+      (zone_was name was is i j inventory change) changed)
 
   pub edits_written : (stated : Bor AGlobal) (edits : Vec GlobalEdit AnyGlobal)
       → ChangesGlobal g old new (EachFits stated.now edits.items) (after_edits stated.now edits.items)

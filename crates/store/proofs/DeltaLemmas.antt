@@ -201,12 +201,12 @@ module _ {S : Type 0} (g : Ghosts S) (name : Text) where
 
   -- first the entries, and then the elements
   pub both : (zone : Zone) (a b c : Held S) (delta : ZoneDelta) → StaysInside g b c
-      → ChangesZone g a b name (EditsEntries zone delta.entries)
-      → ChangesZone g b c name (EditsElements zone delta.elements) → ChangesZone g a c name (HasEdited zone delta)
+      → ChangesZone g a b name (EditsEntries zone delta.edits.entries)
+      → ChangesZone g b c name (EditsElements zone delta.edits.elements) → ChangesZone g a c name (HasEdited zone delta)
   both zone a b c delta inside one two =
-      changes_then a b c (EditsEntries zone delta.entries) (EditsElements zone delta.elements) (HasEdited zone delta)
-      (λ was is h. (
-        record was { entries = entries_after was.entries delta.entries },
+      changes_then a b c (EditsEntries zone delta.edits.entries) (EditsElements zone delta.edits.elements)
+      (HasEdited zone delta) (λ was is h. (
+        record was { entries = entries_after was.entries delta.edits.entries },
         record {
           is_zone = h.is_zone;
           rises = h.is_delta.entries;
@@ -228,17 +228,17 @@ pub is_edited : (delta : ZoneDelta) (was is : Zone) → IsDelta delta → IsZone
     → HasEdited was delta was is
 is_edited delta was is d zone c =
     let id : Entry → Id = λ e. e.id in
-    let entries : is.entries ≡ entries_after was.entries delta.entries =
-    rising_same nat_list_cmp_total id bytes_eq texts_ties is.entries (entries_after was.entries delta.entries)
-    c.is_zone.entries (Rises_edited nat_list_cmp_total id delta.entries was.entries zone.entries)
-    (λ k. c.entries k ∙ sym (find_edited nat_list_cmp_total id bytes_eq texts_ties delta.entries d.entries was.entries
-    k)) in
-    let elements : is.elements ≡ elements_after was.elements delta.elements =
+    let entries : is.entries ≡ entries_after was.entries delta.edits.entries =
+    rising_same nat_list_cmp_total id bytes_eq texts_ties is.entries (entries_after was.entries delta.edits.entries)
+    c.is_zone.entries (Rises_edited nat_list_cmp_total id delta.edits.entries was.entries zone.entries)
+    (λ k. c.entries k ∙ sym (find_edited nat_list_cmp_total id bytes_eq texts_ties delta.edits.entries d.entries
+    was.entries k)) in
+    let elements : is.elements ≡ elements_after was.elements delta.edits.elements =
     rising_same element_cmp_total element_key element_eq element_ties is.elements
-    (elements_after was.elements delta.elements) c.is_zone.elements
-    (Rises_edited element_cmp_total element_key delta.elements was.elements zone.elements)
-    (λ k. c.elements k.0 k.1 ∙ sym (find_edited element_cmp_total element_key element_eq element_ties delta.elements
-    d.elements was.elements k)) in
+    (elements_after was.elements delta.edits.elements) c.is_zone.elements
+    (Rises_edited element_cmp_total element_key delta.edits.elements was.elements zone.elements)
+    (λ k. c.elements k.0 k.1 ∙ sym (find_edited element_cmp_total element_key element_eq element_ties
+    delta.edits.elements d.elements was.elements k)) in
     record {
       is_zone = zone;
       is_delta = d;

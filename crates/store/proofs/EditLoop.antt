@@ -1,7 +1,9 @@
 -- A loop over edits, which stops at the first one that fails.
-use Rattle.std.proofs.Common.{◌≡◌, ℕ, List, ◌<◌, ◌≤◌, ◌+◌, length, take, get_or, Result, Ok, IsErr, subst, arith}
-use Rattle.std.specs.List.{flat_map}
-use Rattle.std.proofs.lemmas.List.{take_all}
+use Rattle.std.proofs.Common.{◌≡◌, ℕ, List, ◌<◌, ◌≤◌, ◌+◌, length, map, take, get_or, Result, Ok, IsErr, ap, ap₂, subst}
+use Rattle.std.proofs.Common.{sym, ◌∙◌, arith}
+use Rattle.std.specs.List.{flat_map, zip}
+use Rattle.std.proofs.lemmas.List.{take_all, get_or-map}
+use Rattle.std.proofs.lemmas.Slice.Zip.{length-zip, get_or-zip}
 use Rattle.sqlite.specs.Store.{Ghosts}
 use Rattle.sqlite.specs.Held.{Held}
 use Rattle.sqlite.specs.declared.error.Error.{Error}
@@ -40,3 +42,20 @@ all_written g f edits i old new end runs =
       end,
     )))
     runs
+
+-- ---- edits beside what stood
+
+module _ {X Y : Type 0} (edits : List X) (stood : List Y) (i : ℕ) (edit : X) (before : Y) (within : i < length edits)
+    (at : (d : X) → edit ≡ get_or edits i d) where
+  pub one_pair : i < length stood → ((d : Y) → before ≡ get_or stood i d)
+      → (i < length (zip edits stood)) × ((edit, before) ≡ get_or (zip edits stood) i (edit, before))
+  one_pair there stands = (
+    omega (arith, length-zip edits stood, within, there),
+    ap₂ (λ x y. (x, y)) (at edit) (stands before) ∙ sym (get_or-zip edits stood i (edit, before) within there),
+  )
+
+  -- it is what stood there, if all of it is
+  pub known_at : (f : X → Y) → stood ≡ map f edits → ((d : Y) → before ≡ get_or stood i d) → f edit ≡ before
+  known_at f known stands =
+      ap f (at edit) ∙ sym (get_or-map f edits i edit (f edit) within)
+      ∙ ap (λ ys. get_or ys i (f edit)) (sym known) ∙ sym (stands (f edit))

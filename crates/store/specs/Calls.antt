@@ -1,6 +1,6 @@
 -- The statements that write a change, and why its commit fails.
-use Rattle.std.specs.Prelude.{◌⊎◌, ◌==◌, ℕ, true, if◌then◌else◌, List, [], ◌∷◌, ◌++◌, fold, length}
-use Rattle.std.specs.List.{flat_map}
+use Rattle.std.specs.Prelude.{◌⊎◌, ◌==◌, ℕ, Bool, true, if◌then◌else◌, List, [], ◌∷◌, ◌++◌, fold, length, Option}
+use Rattle.std.specs.List.{flat_map, zip}
 use Rattle.std.specs.Option.{option_map_or}
 use Rattle.sqlite.specs.Store.{Ghosts}
 use Rattle.sqlite.specs.declared.error.Error.{Error}
@@ -8,8 +8,8 @@ use Rattle.sqlite.specs.Held.{Held, state}
 use Rattle.sorted.specs.declared.edits.Edit.{Edit}
 use Rattle.sorted.specs.declared.edits.Edit.TheVariants.{Put, Remove}
 use Rattle.terms.specs.declared.kinds.ElemType.{ElemType}
-use Rattle.terms.specs.Lookups.{entry_of, element_of, sysmod_of}
-use Rattle.terms.specs.Types.{Text, Id, Sysmod, Entry, Element, Zone as AZone, Global as AGlobal}
+use Rattle.terms.specs.Lookups.{sysmod_of}
+use Rattle.terms.specs.Types.{Text, Id, Sysmod, Entry, Element, Global as AGlobal}
 use Rattle.sysmods.specs.declared.edit.GlobalEdit.{GlobalEdit}
 use Rattle.sysmods.specs.declared.edit.GlobalEdit.TheVariants.{PutHold, RemoveHold, InsertSysmod, ReplaceSources}
 use Rattle.sysmods.specs.declared.edit.GlobalEdit.TheVariants.{RemoveSysmod}
@@ -25,15 +25,15 @@ use Rattle.store_zones.specs.Zones.{empty_zone}
 use Rattle.store.specs.declared.change.Change.{Change}
 use Rattle.store.specs.declared.change.Change.TheVariants.{NewZone, Zone, Global}
 
--- an edit of an entry of the zone of this name, where this one stood
-abbrev pub entry_calls : Text → AZone → Edit Entry Id → List Call
-entry_calls name zone (Put entry) = put_entry_calls name (entry_of zone entry.id) entry
-entry_calls name zone (Remove id) = remove_entry_calls name (entry_of zone id) id
+-- An edit of an entry of the zone of this name. Under its id stood one that was installed by this number, or none.
+abbrev pub entry_calls : Text → Edit Entry Id × Option ℕ → List Call
+entry_calls name (Put entry, stood) = put_entry_calls name stood entry
+entry_calls name (Remove id, stood) = remove_entry_calls name stood id
 
-abbrev pub element_calls : Text → AZone → Edit Element (ElemType × Text) → List Call
-element_calls name zone (Put element) =
-    put_element_calls name (element_of zone element.elem_type element.name) element
-element_calls name zone (Remove key) = remove_element_calls name key.0 key.1
+-- an edit of an element, and whether one stood under its type and name
+abbrev pub element_calls : Text → Edit Element (ElemType × Text) × Bool → List Call
+element_calls name (Put element, stood) = put_element_calls name stood element
+element_calls name (Remove key, stood) = remove_element_calls name key.0 key.1
 
 -- Statements that ran, and SYSMODs that came behind them and are not written yet: they wait for others, since one
 -- statement puts rows of several.
@@ -79,14 +79,15 @@ abbrev pub edits_calls : AGlobal → List GlobalEdit → List Call
 edits_calls stated edits = let course = course_of stated edits in course.0 ++ insert_sysmods_calls course.1
 
 -- the entries first, and then the elements
-abbrev pub delta_calls : Text → AZone → ZoneDelta → List Call
-delta_calls name zone delta =
-    flat_map (entry_calls name zone) delta.entries ++ flat_map (element_calls name zone) delta.elements
+abbrev pub delta_calls : Text → ZoneDelta → List Call
+delta_calls name delta =
+    flat_map (entry_calls name) (zip delta.edits.entries delta.entries_stood)
+    ++ flat_map (element_calls name) (zip delta.edits.elements delta.elements_stood)
 
 -- one after the other, as they run
 abbrev pub calls_of : Change → List Call
 calls_of (NewZone name kind srel related) = zone_calls (empty_zone name kind srel related)
-calls_of (Zone name old delta) = delta_calls name old.now delta
+calls_of (Zone name delta) = delta_calls name delta
 calls_of (Global stated edits) = edits_calls stated.now edits.items
 
 -- the database refused one of the statements

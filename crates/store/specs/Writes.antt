@@ -68,8 +68,8 @@ pub record HasEdited (zone : Zone) (delta : ZoneDelta) (old new : Zone) : Type 0
   pub is_delta : IsDelta delta
   pub was : old ≡ zone
   pub is : new ≡ record old {
-    entries = entries_after old.entries delta.entries;
-    elements = elements_after old.elements delta.elements;
+    entries = entries_after old.entries delta.edits.entries;
+    elements = elements_after old.elements delta.edits.elements;
   }
 
 module _ {S : Type 0} (g : Ghosts S) (old : Held S) (change : Change) where

@@ -14,7 +14,6 @@ ghost use Rattle.store.specs.Writes.{Writes, CommitsChange, IsChangeOutcome};
 use crate::change::Change;
 use crate::delta::write_delta;
 use crate::edits::write_edits;
-use fields::Attest;
 use sqlite::{Alter, Connection, Error, Transaction};
 use std::alloc::Global;
 use store_zones::insert_zone;
@@ -32,10 +31,7 @@ fn write<S: Alter>(
         Change::NewZone(name, kind, srel, related) => {
             insert_zone(tx, *name, *kind, *srel, *related)
         }
-        Change::Zone(name, zone, delta) => {
-            delta.attest();
-            write_delta(alloc, tx, *name, zone, delta)
-        }
+        Change::Zone(name, delta) => write_delta(alloc, tx, *name, delta),
         Change::Global(stated, edits) => write_edits(alloc, tx, stated, edits.as_slice()),
     }
 }

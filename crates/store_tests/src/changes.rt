@@ -1,10 +1,10 @@
 //! Removals, sources in place of others, and what a commit leaves alone.
 
 use crate::known::{
-    commit, commit_delta, commit_edits, compare, doubled, known_with, lines, loaded, opened, run,
+    commit, commit_edits, commit_zone, compare, doubled, known_with, lines, loaded, opened, run,
     run_all, zone_name,
 };
-use crate::round_trip::{all_lines, delta_to};
+use crate::round_trip::{all_lines, edits_of};
 use fields::{Id, IdList, Name, Reason, Source, VerNumber, YyDdd};
 use sqlite::{Alter, Connection};
 use std::alloc::Global;
@@ -13,18 +13,18 @@ use store::{Change, GlobalEdit, Store};
 use store_schema::StoreError;
 use sysmods_values::Sysmod;
 use terms::{ElemType, HoldKind, Kind};
-use zones_maps::{Applied, Entry, Zone, ZoneDelta};
+use zones_maps::{Applied, Entry, Zone, ZoneDelta, ZoneEdits};
 
 fn id(text: &[u8]) -> Result<Id, Fail> {
     Ok(Id::read(text).ok_or("no id")?)
 }
 
 /// An entry and an element of TGT1 go.
-fn removals(alloc: Global) -> Result<ZoneDelta, Fail> {
-    let mut delta = ZoneDelta::new(alloc);
-    delta.remove_entry(id(b"UAA0001")?)?;
-    delta.remove_element(ElemType::Mac, Name::read(b"MAC2").ok_or("no name")?)?;
-    Ok(delta)
+fn removals(alloc: Global) -> Result<ZoneEdits, Fail> {
+    let mut edits = ZoneEdits::new(alloc);
+    edits.remove_entry(id(b"UAA0001")?)?;
+    edits.remove_element(ElemType::Mac, Name::read(b"MAC2").ok_or("no name")?)?;
+    Ok(edits)
 }
 
 // A source of 64 characters.
@@ -47,7 +47,7 @@ fn rejections(alloc: Global) -> Result<Vec<GlobalEdit>, Fail> {
 }
 
 fn commit_all<S: Alter>(alloc: Global, store: &mut Store<S>) -> Result<(), Fail> {
-    commit_delta(store, zone_name(b"TGT1")?, removals(alloc)?)?;
+    commit_zone(alloc, store, zone_name(b"TGT1")?, removals(alloc)?)?;
     commit_edits(alloc, store, new_sources(alloc)?)?;
     commit_edits(alloc, store, rejections(alloc)?)
 }
@@ -82,8 +82,8 @@ fn told_of_no_zone<S: Alter>(
     store: &mut Store<S>,
 ) -> Result<Result<(), StoreError>, Fail> {
     let zone = loaded(store, zone_name(b"TGT1")?)?;
-    let delta = delta_to(alloc, &zone)?;
-    Ok(store.commit(&Change::Zone(zone_name(b"TGT9")?, &zone, delta)))
+    let delta = ZoneDelta::of(alloc, edits_of(alloc, &zone)?, &zone)?;
+    Ok(store.commit(&Change::Zone(zone_name(b"TGT9")?, delta)))
 }
 
 #[test]
@@ -117,8 +117,8 @@ fn add_many<S: Alter>(conn: &mut Connection<S>) -> Result<(), Fail> {
 }
 
 /// This entry of DLB1 is installed so.
-fn put_applied(alloc: Global, id: Id, applied: Option<Applied>) -> Result<ZoneDelta, Fail> {
-    let mut delta = ZoneDelta::new(alloc);
+fn put_applied(alloc: Global, id: Id, applied: Option<Applied>) -> Result<ZoneEdits, Fail> {
+    let mut edits = ZoneEdits::new(alloc);
     let entry = Entry {
         id,
         applied,
@@ -127,9 +127,9 @@ fn put_applied(alloc: Global, id: Id, applied: Option<Applied>) -> Result<ZoneDe
         waived: IdList::new(alloc),
     };
     if entry.has_content() && entry.waives_applied() {
-        delta.put_entry(entry)?;
+        edits.put_entry(entry)?;
     }
-    Ok(delta)
+    Ok(edits)
 }
 
 /// The rows of all entries but that one, and of all elements, by their places.
@@ -142,9 +142,9 @@ const CHANGED: &str = "SELECT zone||' '||id||' '||date FROM entry WHERE id = 'U1
 /// The database once that entry has another date.
 fn with_entry<S: Alter + Drop>(alloc: Global, conn: Connection<S>) -> Result<Connection<S>, Fail> {
     let applied = Applied::on(YyDdd::read(b"24.139").ok_or("no date")?);
-    let delta = put_applied(alloc, id(b"U100500")?, Some(applied))?;
+    let edits = put_applied(alloc, id(b"U100500")?, Some(applied))?;
     let mut store = opened(alloc, conn)?;
-    commit_delta(&mut store, zone_name(b"DLB1")?, delta)?;
+    commit_zone(alloc, &mut store, zone_name(b"DLB1")?, edits)?;
     Ok(store.close())
 }
 
@@ -161,7 +161,7 @@ fn other_rows_stay(rt: HostRuntime) -> Result<(), Fail> {
 }
 
 /// The entry of DLB1, installed by the `++VER` of this number.
-fn numbered(alloc: Global, number: usize) -> Result<ZoneDelta, Fail> {
+fn numbered(alloc: Global, number: usize) -> Result<ZoneEdits, Fail> {
     if number == 0 || number > i64::MAX as usize {
         return Err(Fail::from("no number"));
     }
@@ -178,11 +178,11 @@ fn commit_number<S: Alter>(
 ) -> Result<(), Fail> {
     let zone = zone_name(b"DLB1")?;
     let Some(number) = number else {
-        let mut delta = ZoneDelta::new(alloc);
-        delta.remove_entry(id(b"HAA1100")?)?;
-        return commit_delta(store, zone, delta);
+        let mut edits = ZoneEdits::new(alloc);
+        edits.remove_entry(id(b"HAA1100")?)?;
+        return commit_zone(alloc, store, zone, edits);
     };
-    commit_delta(store, zone, numbered(alloc, number)?)
+    commit_zone(alloc, store, zone, numbered(alloc, number)?)
 }
 
 /// The number of the entry that is loaded, if there is one.
@@ -272,8 +272,8 @@ const WRITTEN: &[&str] = &[
 ];
 
 fn commit_two<S: Alter>(alloc: Global, store: &mut Store<S>, zone: &Zone) -> Result<(), Fail> {
-    let change = Change::Zone(zone_name(b"TGT1")?, zone, removals(alloc)?);
-    commit(store, &change)?;
+    let delta = ZoneDelta::of(alloc, removals(alloc)?, zone)?;
+    commit(store, &Change::Zone(zone_name(b"TGT1")?, delta))?;
     commit_edits(alloc, store, new_sources(alloc)?)
 }
 

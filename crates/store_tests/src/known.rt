@@ -12,7 +12,7 @@ use std::test::Fail;
 use store::{Change, GlobalEdit, Store};
 use sysmods::GlobalZone;
 use text80::RECORD;
-use zones_maps::{Zone, ZoneDelta};
+use zones_maps::{Zone, ZoneDelta, ZoneEdits};
 
 /// The sources of the SYSMODs, of which each has a row.
 pub(crate) const SOURCES: &[&str] = &[
@@ -206,14 +206,16 @@ pub(crate) fn loaded<S: Alter>(store: &mut Store<S>, name: ZoneName) -> Result<Z
     Ok(store.load_zone(name)?.ok_or("no such zone")?)
 }
 
-/// Commits the delta of the zone of this name, which is loaded first.
-pub(crate) fn commit_delta<S: Alter>(
+/// Commits these edits of the zone of this name, which is loaded first.
+pub(crate) fn commit_zone<S: Alter>(
+    alloc: Global,
     store: &mut Store<S>,
     name: ZoneName,
-    delta: ZoneDelta,
+    edits: ZoneEdits,
 ) -> Result<(), Fail> {
     let zone = loaded(store, name)?;
-    commit(store, &Change::Zone(name, &zone, delta))
+    let delta = ZoneDelta::of(alloc, edits, &zone)?;
+    commit(store, &Change::Zone(name, delta))
 }
 
 /// Commits edits of the global zone that insert no SYSMOD, so that it is stated nowhere.

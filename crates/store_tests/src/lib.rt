@@ -7,6 +7,8 @@ mod bad_rows;
 #[cfg(test)]
 mod changes;
 #[cfg(test)]
+mod deltas;
+#[cfg(test)]
 mod known;
 #[cfg(test)]
 mod migration;

@@ -1,7 +1,7 @@
 //! What is committed is loaded again, in memory and over files.
 
 use crate::known::{
-    CHOSEN, FURTHER, again, commit, commit_delta, commit_edits, compare, doubled, in_memory,
+    CHOSEN, FURTHER, again, commit, commit_edits, commit_zone, compare, doubled, in_memory,
     known_with, lines, loaded, new_files, opened, put_lines,
 };
 use fields::{Id, Source, ZoneName};
@@ -14,7 +14,7 @@ use store::{Change, GlobalEdit, Store};
 use sysmods::GlobalZone;
 use sysmods_values::{Hold, Sysmod};
 use terms::Kind;
-use zones_maps::{Zone, ZoneDelta};
+use zones_maps::{Zone, ZoneEdits};
 
 /// All rows of all tables.
 const TABLES: &[&str] = &[
@@ -88,24 +88,24 @@ fn edits_to(alloc: Global, global: &GlobalZone) -> Result<Change<'_>, Fail> {
     Ok(Change::Global(global, edits))
 }
 
-fn put_all(alloc: Global, delta: &mut ZoneDelta, zone: &Zone) -> Result<(), Fail> {
+fn put_all(alloc: Global, edits: &mut ZoneEdits, zone: &Zone) -> Result<(), Fail> {
     for entry in zone.entries() {
         let entry = entry.try_clone(alloc)?;
         if entry.has_content() && entry.waives_applied() {
-            delta.put_entry(entry)?;
+            edits.put_entry(entry)?;
         }
     }
     for element in zone.elements() {
-        delta.put_element(element.try_clone(alloc)?)?;
+        edits.put_element(element.try_clone(alloc)?)?;
     }
     Ok(())
 }
 
-/// The delta by which an empty zone becomes this one.
-pub(crate) fn delta_to(alloc: Global, zone: &Zone) -> Result<ZoneDelta, Fail> {
-    let mut delta = ZoneDelta::new(alloc);
-    put_all(alloc, &mut delta, zone)?;
-    Ok(delta)
+/// The edits by which an empty zone becomes this one.
+pub(crate) fn edits_of(alloc: Global, zone: &Zone) -> Result<ZoneEdits, Fail> {
+    let mut edits = ZoneEdits::new(alloc);
+    put_all(alloc, &mut edits, zone)?;
+    Ok(edits)
 }
 
 fn copy_global<S: Alter, T: Alter>(
@@ -126,7 +126,7 @@ fn copy_zone<S: Alter, T: Alter>(
     let zone = loaded(from, name)?;
     let change = Change::NewZone(name, zone.kind(), zone.srel(), zone.related());
     commit(to, &change)?;
-    commit_delta(to, name, delta_to(alloc, &zone)?)
+    commit_zone(alloc, to, name, edits_of(alloc, &zone)?)
 }
 
 /// Commits all that one store holds to another that is empty.

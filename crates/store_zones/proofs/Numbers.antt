@@ -1,6 +1,7 @@
 -- The rows of the numbers of entries, when the entries of one id change.
 use Rattle.std.proofs.Common.{◌≡◌, ◌==◌, ℕ, List, [], ◌∷◌, ◌++◌, map, filter, Bool, true, false, not, Option}
 use Rattle.std.proofs.Common.{None, Some, IfSome, if◌then◌else◌, IsPermutation, refl, sym, ap, subst, ◌∙◌, append-nil}
+use Rattle.std.specs.Prelude.{option_map}
 use Rattle.std.specs.List.{flat_map}
 use Rattle.std.specs.Option.{option_map_or, option_to_list}
 use Rattle.std.specs.Str.{bytes_eq}
@@ -9,6 +10,7 @@ use Rattle.std.proofs.lemmas.List.Elements.{filter-append}
 use Rattle.sqlite.specs.Order.{Row}
 use Rattle.sqlite_trees.proofs.ListLemmas.{IsPermutation-flat_map, flat_map_same_on}
 use Rattle.terms.specs.Types.{Text, Id, Applied, Entry, NamedZone}
+use Rattle.zones_maps.specs.Delta.{number_of}
 use Rattle.store_schema.specs.Rows.{chosen_row, chosen_of}
 use Rattle.store_zones.specs.declared.installed_vers.EntryNumber.{EntryNumber}
 use Rattle.store_zones.specs.Chosen.{number_before, number_row}
@@ -24,9 +26,13 @@ row_of name id n = if n == 1 then [] else chosen_row name id n ∷ []
 abbrev as_number : Entry → ℕ → EntryNumber
 as_number e n = record { id = e.id; number = n }
 
--- that of the entry of the id, if there is one
+-- the number before a change, of what stood under an id
+abbrev pub number_at : Option Entry → ℕ
+number_at stood = number_before (option_map number_of stood)
+
+-- the row of the number of the entry of the id, if there is one
 pub rows_by_number : (name : Text) (id : Id) (o : Option Entry) → IfSome o (λ e. e.id ≡ id)
-    → map (number_row name) (numbers_of (option_to_list o)) ≡ row_of name id (number_before o)
+    → map (number_row name) (numbers_of (option_to_list o)) ≡ row_of name id (number_at o)
 rows_by_number name id None here = refl
 rows_by_number name id (Some e) here =
     rw (← here) (ap (map (number_row name)) (append-nil (number_in e)) ∙ by e.applied)

@@ -1,6 +1,7 @@
 -- What the tables hold when a zone's entries or elements change.
 use Rattle.std.proofs.Common.{◌≡◌, ◌≢◌, List, [], ◌∷◌, ◌++◌, map, filter, Bool, not, ◌&&◌, IsPermutation, refl, sym}
 use Rattle.std.proofs.Common.{ap, ap₂, subst, subst₂, ◌∙◌, Option, None, Some, IfSome, is_some, slice_get}
+use Rattle.std.specs.Prelude.{ℕ, option_map}
 use Rattle.std.specs.List.{AllByRecursion, flat_map}
 use Rattle.std.specs.Option.{option_to_list}
 use Rattle.std.specs.Str.{bytes_eq}
@@ -16,6 +17,7 @@ use Rattle.terms.specs.declared.kinds.ElemType.{ElemType}
 use Rattle.terms.specs.Types as terms
 use Rattle.terms.specs.Types.{Entry, Element, Zone, NamedZone}
 use Rattle.terms.specs.Spelling.{type_text}
+use Rattle.zones_maps.specs.Delta.{number_of}
 use Rattle.store_rows.specs.Rows.{Contents, has_key, without, with_row, in_table, HasContents}
 use Rattle.store_rows.proofs.RowLemmas.{filter_same, filter_all, same_rows}
 use Rattle.store_rows.proofs.ContentsLemmas.{permuted}
@@ -32,13 +34,13 @@ use Rattle.store_schema.proofs.Spelled.{types_alike}
 use Rattle.store_zones.specs.Elements.{element_key}
 use Rattle.store_zones.specs.Entries.{entry_key}
 use Rattle.store_zones.specs.declared.installed_vers.EntryNumber.{EntryNumber}
-use Rattle.store_zones.specs.Chosen.{number_of, number_before, number_row}
+use Rattle.store_zones.specs.Chosen.{number_before, number_row}
 use Rattle.store_zones.specs.Numbered.{numbers_of}
 use Rattle.store_zones.specs.Zones.{IsZoneChange, HasEntry, is_element, entries_but, elements_but, HasPutEntry}
 use Rattle.store_zones.specs.Zones.{HasRemovedEntry, HasPutElement, HasRemovedElement, numbered, rows_with}
 use Rattle.store_zones.specs.Zones.{with_entry, without_entry, with_element}
 use Rattle.store_zones.proofs.ByNumber.{renumbered}
-use Rattle.store_zones.proofs.Numbers.{row_of, chosen_are, rows_by_number, numbers_with}
+use Rattle.store_zones.proofs.Numbers.{row_of, number_at, chosen_are, rows_by_number, numbers_with}
 
 -- ---- keys
 
@@ -120,6 +122,10 @@ row_put : {X : Type 0} (row : X → Row) (key new : Row) (stood : Option X) (old
 row_put row key new None olds news had is =
     IsPermutation-trans _ _ _ is (IsPermutation-cons new _ _ (IsPermutation-sym _ _ had))
 row_put row key new (Some x) olds news had is = is
+
+is_mapped : {X Y : Type 0} (f : X → Y) (o : Option X) → is_some o ≡ is_some (option_map f o)
+is_mapped f None = refl
+is_mapped f (Some x) = refl
 
 -- ---- all tables
 
@@ -273,7 +279,7 @@ module _ (i j : Inventory) (name : terms.Text) (was is : Zone) (c : IsZoneChange
   number_rows : (id : terms.Id) (o : Option Entry) (zone : Zone) → IfSome o (λ e. e.id ≡ id)
       → IsPermutation zone.entries (option_to_list o ++ entries_but id was.entries)
       → IsPermutation (flat_map chosen_of (c.before ++ record { name = name; zone = zone } ∷ c.after))
-      (row_of name id (number_before o)
+      (row_of name id (number_at o)
       ++ without (entry_key name id) (flat_map chosen_of (c.before ++ old_zone ∷ c.after)))
   number_rows id o zone here same =
       let front = option_to_list o in
@@ -290,31 +296,43 @@ module _ (i j : Inventory) (name : terms.Text) (was is : Zone) (c : IsZoneChange
   numbers_changed : (id : terms.Id) (stood o : Option Entry) → HasEntry id stood was → IfSome o (λ e. e.id ≡ id)
       → IsPermutation is.entries (option_to_list o ++ entries_but id was.entries)
       → IsPermutation (flat_map chosen_of (c.before ++ new_zone ∷ c.after))
-      (numbered name id (number_before stood) (number_before o)
+      (numbered name id (number_at stood) (number_at o)
       (flat_map chosen_of (c.before ++ old_zone ∷ c.after)))
   numbers_changed id stood o had here same =
-      renumbered name id (number_before stood) (number_before o) _ _
+      renumbered name id (number_at stood) (number_at o) _ _
       (number_rows id stood was (of_key (λ (e : Entry). e.id) id stood was.entries had)
       (parted (λ (e : Entry). bytes_eq e.id id) stood was.entries had)) (number_rows id o is here same)
 
-  pub entry_put : (stood : Option Entry) (e : Entry) (db : Database) → HasPutEntry stood e was is
-      → HasContents store_schema (with_entry name stood e (rows_of i)) db → HasContents store_schema (rows_of j) db
-  entry_put stood e db p =
+  -- `old` stood there, which was installed by this number
+  pub entry_put : (old : Option Entry) (stood : Option ℕ) (e : Entry) (db : Database) → option_map number_of old ≡ stood
+      → HasPutEntry old e was is → HasContents store_schema (with_entry name stood e (rows_of i)) db
+      → HasContents store_schema (rows_of j) db
+  entry_put old stood e db same p =
       let key = entry_key name e.id in
+      let olds = flat_map entries_of (c.before ++ old_zone ∷ c.after) in
+      let news = flat_map entries_of (c.before ++ new_zone ∷ c.after) in
+      let rows = row_put (entry_row name) key (entry_row name e) old olds news
+      (entry_rows e.id (option_to_list old) was (parted (λ (x : Entry). bytes_eq x.id e.id) old was.entries p.was))
+      (entry_rows e.id (e ∷ []) is p.entries) in
       permuted store_schema (with_entry name stood e (rows_of i)) (rows_of j) db
       (by_entries (rows_with (is_some stood) key (entry_row name e))
       (numbered name e.id (number_before stood) (number_of e)) p.rest
-      (row_put (entry_row name) key (entry_row name e) stood _ _
-      (entry_rows e.id (option_to_list stood) was (parted (λ (x : Entry). bytes_eq x.id e.id) stood was.entries p.was))
-      (entry_rows e.id (e ∷ []) is p.entries))
-      (numbers_changed e.id stood (Some e) p.was refl p.entries))
+      (subst (λ b. IsPermutation news (rows_with b key (entry_row name e) olds))
+      (is_mapped number_of old ∙ ap is_some same) rows)
+      (subst (λ n. IsPermutation (flat_map chosen_of (c.before ++ new_zone ∷ c.after))
+      (numbered name e.id n (number_of e) (flat_map chosen_of (c.before ++ old_zone ∷ c.after))))
+      (ap number_before same) (numbers_changed e.id old (Some e) p.was refl p.entries)))
 
-  pub entry_removed : (stood : Option Entry) (id : terms.Id) (db : Database) → HasRemovedEntry stood id was is
+  pub entry_removed : (old : Option Entry) (stood : Option ℕ) (id : terms.Id) (db : Database)
+      → option_map number_of old ≡ stood → HasRemovedEntry old id was is
       → HasContents store_schema (without_entry name stood id (rows_of i)) db → HasContents store_schema (rows_of j) db
-  entry_removed stood id db p =
+  entry_removed old stood id db same p =
       permuted store_schema (without_entry name stood id (rows_of i)) (rows_of j) db
       (by_entries (without (entry_key name id)) (numbered name id (number_before stood) 1) p.rest
-      (entry_rows id [] is p.entries) (numbers_changed id stood None p.was tt p.entries))
+      (entry_rows id [] is p.entries)
+      (subst (λ n. IsPermutation (flat_map chosen_of (c.before ++ new_zone ∷ c.after))
+      (numbered name id n 1 (flat_map chosen_of (c.before ++ old_zone ∷ c.after))))
+      (ap number_before same) (numbers_changed id old None p.was tt p.entries)))
 
   -- what `zelem` holds of a zone that has these elements of the type and name and its others
   element_rows : (type : ElemType) (x : terms.Text) (front : List Element) (zone : Zone)
@@ -326,16 +344,21 @@ module _ (i j : Inventory) (name : terms.Text) (was is : Zone) (c : IsZoneChange
       rows_changed zelem_row name (element_key name type x) (is_element type x)
       (λ other y. element_meets other name type x y) (λ z. z.elements) c.before c.after was zone front c.others same
 
-  pub element_put : (stood : Option Element) (e : Element) (db : Database) → HasPutElement stood e was is
-      → HasContents store_schema (with_element name stood e (rows_of i)) db → HasContents store_schema (rows_of j) db
-  element_put stood e db p =
+  -- whether one stood there
+  pub element_put : (old : Option Element) (stood : Bool) (e : Element) (db : Database) → is_some old ≡ stood
+      → HasPutElement old e was is → HasContents store_schema (with_element name stood e (rows_of i)) db
+      → HasContents store_schema (rows_of j) db
+  element_put old stood e db same p =
       let key = element_key name e.elem_type e.name in
+      let olds = flat_map zelems_of (c.before ++ old_zone ∷ c.after) in
+      let news = flat_map zelems_of (c.before ++ new_zone ∷ c.after) in
       permuted store_schema (with_element name stood e (rows_of i)) (rows_of j) db
-      (by_elements (rows_with (is_some stood) key (zelem_row name e)) p.rest
-      (row_put (zelem_row name) key (zelem_row name e) stood _ _
-      (element_rows e.elem_type e.name (option_to_list stood) was
-      (parted (is_element e.elem_type e.name) stood was.elements p.was))
-      (element_rows e.elem_type e.name (e ∷ []) is p.elements)))
+      (by_elements (rows_with stood key (zelem_row name e)) p.rest
+      (subst (λ b. IsPermutation news (rows_with b key (zelem_row name e) olds)) same
+      (row_put (zelem_row name) key (zelem_row name e) old olds news
+      (element_rows e.elem_type e.name (option_to_list old) was
+      (parted (is_element e.elem_type e.name) old was.elements p.was))
+      (element_rows e.elem_type e.name (e ∷ []) is p.elements))))
 
   pub element_removed : (type : ElemType) (x : terms.Text) (db : Database) → HasRemovedElement type x was is
       → HasContents store_schema (in_table zelem (without (element_key name type x)) (rows_of i)) db

@@ -1,9 +1,8 @@
 -- The table of the ++VERs by which entries were installed. Where it was the first, there is no row.
-use Rattle.std.specs.Prelude.{◌≤◌, ◌<◌, ◌^◌, ℕ, List, Option}
-use Rattle.std.specs.Option.{option_map_or}
+use Rattle.std.specs.Prelude.{◌≤◌, ◌<◌, ◌^◌, ℕ, List, Option, unwrap_or}
 use Rattle.sqlite.specs.Order.{Row}
 use Rattle.terms.specs.Forms.{IsId, IsZoneName}
-use Rattle.terms.specs.Types.{Text, Entry}
+use Rattle.terms.specs.Types.{Text}
 use Rattle.store_schema.specs.Rows.{chosen_row}
 use Rattle.store_zones.specs.declared.installed_vers.TheConstants.{SELECT, INSERT, PUT, DELETE}
 use Rattle.store_zones.specs.declared.installed_vers.EntryNumber.{EntryNumber}
@@ -21,13 +20,9 @@ put_chosen = PUT.now
 abbrev pub delete_chosen : List ℕ
 delete_chosen = DELETE.now
 
--- the number of the entry's ++VER, and 1 where it is not applied
-abbrev pub number_of : Entry → ℕ
-number_of e = option_map_or (λ a. a.number) e.applied 1
-
--- the number of what stood under an id, and 1 where nothing did
-abbrev pub number_before : Option Entry → ℕ
-number_before stood = option_map_or number_of stood 1
+-- the number of what stood under an id, and 1 if nothing did
+abbrev pub number_before : Option ℕ → ℕ
+number_before stood = unwrap_or stood 1
 
 abbrev pub number_row : Text → EntryNumber → Row
 number_row zone n = chosen_row zone n.id n.number

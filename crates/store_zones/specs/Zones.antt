@@ -10,13 +10,14 @@ use Rattle.sqlite.specs.Order.{Row}
 use Rattle.terms.specs.declared.kinds.ElemType.{ElemType}
 use Rattle.terms.specs.declared.kinds.ZoneKind.{ZoneKind}
 use Rattle.terms.specs.Types.{Text, Id, type_number, Entry, Element, Global, Zone, NamedZone}
+use Rattle.zones_maps.specs.Delta.{number_of}
 use Rattle.store_rows.specs.Inside.{Leads}
 use Rattle.store_rows.specs.Rows.{Contents, HasContents, in_table, without}
 use Rattle.store_schema.specs.Inventory.{Inventory}
 use Rattle.store_schema.specs.Rows.{entry_row, chosen_row, zelem_row}
 use Rattle.store_schema.specs.Stands.{rows_of}
 use Rattle.store_schema.specs.Tables.{entry, chosen, zelem, store_schema}
-use Rattle.store_zones.specs.Chosen.{number_of, number_before}
+use Rattle.store_zones.specs.Chosen.{number_before}
 use Rattle.store_zones.specs.Elements.{element_key}
 use Rattle.store_zones.specs.Entries.{entry_key}
 
@@ -30,21 +31,21 @@ numbered zone id old new rows =
     if new == old then rows else if new == 1 then without (entry_key zone id) rows
     else rows_with (not (old == 1)) (entry_key zone id) (chosen_row zone id new) rows
 
--- `entry` has the row of the entry, and `chosen` its number
-abbrev pub with_entry : Text → Option Entry → Entry → Contents → Contents
+-- `entry` has the row of the entry, and `chosen` its number, in place of what stood under its id
+abbrev pub with_entry : Text → Option ℕ → Entry → Contents → Contents
 with_entry zone stood e contents =
     in_table chosen (numbered zone e.id (number_before stood) (number_of e))
     (in_table entry (rows_with (is_some stood) (entry_key zone e.id) (entry_row zone e)) contents)
 
 -- neither has a row of the id
-abbrev pub without_entry : Text → Option Entry → Id → Contents → Contents
+abbrev pub without_entry : Text → Option ℕ → Id → Contents → Contents
 without_entry zone stood id contents =
     in_table chosen (numbered zone id (number_before stood) 1) (in_table entry (without (entry_key zone id)) contents)
 
 -- `zelem` has the row of the element
-abbrev pub with_element : Text → Option Element → Element → Contents → Contents
+abbrev pub with_element : Text → Bool → Element → Contents → Contents
 with_element zone stood e =
-    in_table zelem (rows_with (is_some stood) (element_key zone e.elem_type e.name) (zelem_row zone e))
+    in_table zelem (rows_with stood (element_key zone e.elem_type e.name) (zelem_row zone e))
 
 -- The zone of this name becomes another. No other zone has the name, and nothing else changes.
 pub record IsZoneChange (name : Text) (old new : Zone) (i j : Inventory) : Type 0 where

@@ -1,6 +1,6 @@
 //! The table of element entries.
 
-ghost use Rattle.std.specs.Prelude.{◌≡◌, OnOk, option_copied, ◌≢◌, IfOk, IsErrOf};
+ghost use Rattle.std.specs.Prelude.{◌≡◌, OnOk, ◌≢◌, Option, is_some, IfOk, IsErrOf};
 ghost use Rattle.std.specs.List.{join_with_byte};
 ghost use Rattle.terms.specs.Texts.{HasLines};
 ghost use Rattle.store_rows.specs.Calls.{RunsInside};
@@ -42,33 +42,34 @@ const PUT: &str = "INSERT INTO zelem (zone, type, name, fmid, rmid, umid, distli
 
 const DELETE: &str = "DELETE FROM zelem WHERE zone = ?1 AND type = ?2 AND name = ?3";
 
-/// Puts the element into the zone, which has this one of its type and name, or none. An error comes where it has one
-/// after all, where there is no such zone, where the disk fails or memory is short.
+/// Puts the element into the zone, in place of the one of its type and name, if one stands there. An error comes if one
+/// stands there after all, if there is no such zone, if the disk fails or memory is short.
 pub fn put_element<S: Alter>(
     alloc: Global,
     tx: &mut Transaction<'_, S>,
     zone: ZoneName,
-    stood: Option<&Element>,
+    stood: bool,
     element: &Element,
 ) -> Result<(), Error>
     ensures continues { Continues S.Store tx.old tx.new }
-    ensures calls { RunsInside S.Store (put_element_calls zone (option_copied stood.entry) element.now)
+    ensures calls { RunsInside S.Store (put_element_calls zone stood element.now)
         tx.old.conn.now tx.new.conn.now result }
     ensures ok { OnOk result (Turns S.Store tx.old.conn.now tx.new.conn.now (HasContents store_schema)
-        (with_element zone (option_copied stood.entry) element.now)) }
-    ensures stands { OnOk result (ChangesZone S.Store tx.old.conn.now tx.new.conn.now zone
-        (HasPutElement (option_copied stood.entry) element.now)) }
+        (with_element zone stood element.now)) }
+    ensures stands { OnOk result ((old : Option ElementTerm) → is_some old ≡ stood
+        → ChangesZone S.Store tx.old.conn.now tx.new.conn.now zone (HasPutElement old element.now)) }
 {
     let umids = joined_ids(alloc, element.umids.as_slice())?;
     let text = bytes_of(alloc, element.text.as_slice())?;
     put_row(tx, &zone, stood, element, umids.as_slice(), text.as_slice())
 }
 
-// Puts the element's row, of whose UMIDs and records these are the bytes, in place of that of the element which stood.
+// Puts the element's row, of whose UMIDs and records these are the bytes, in place of that of the element which stood,
+// if one did.
 fn put_row<S: Alter>(
     tx: &mut Transaction<'_, S>,
     zone: &ZoneName,
-    stood: Option<&Element>,
+    stood: bool,
     element: &Element,
     umids: &[u8],
     text: &[u8],
@@ -76,10 +77,10 @@ fn put_row<S: Alter>(
     requires umids { umids.now ≡ join_with_byte 44 element.now.umids }
     requires text { HasLines text.now element.now.text }
     ensures continues { Continues S.Store tx.old tx.new }
-    ensures calls { RunsInside S.Store (put_element_calls zone.now (option_copied stood.entry) element.now)
+    ensures calls { RunsInside S.Store (put_element_calls zone.now stood element.now)
         tx.old.conn.now tx.new.conn.now result }
     ensures ok { OnOk result (Turns S.Store tx.old.conn.now tx.new.conn.now (HasContents store_schema)
-        (with_element zone.now (option_copied stood.entry) element.now)) }
+        (with_element zone.now stood element.now)) }
 {
     let row = [
         ValueRef::Text(zone.as_bytes()),
@@ -92,10 +93,10 @@ fn put_row<S: Alter>(
         ValueRef::Text(element.syslib.as_bytes()),
         ValueRef::Blob(text),
     ];
-    match stood {
-        Some(_) => put(tx, PUT, &row),
-        None => insert(tx, INSERT, &row),
+    if stood {
+        return put(tx, PUT, &row);
     }
+    insert(tx, INSERT, &row)
 }
 
 /// Takes the element of the type and name out of the zone, if there is one. An error comes where the disk fails or

@@ -1,6 +1,6 @@
 //! The table of SYSMOD entries.
 
-ghost use Rattle.std.specs.Prelude.{◌≡◌, [], ◌∷◌, OnOk, is_some, option_copied, if◌then◌else◌, ◌≢◌, Option, IfSome};
+ghost use Rattle.std.specs.Prelude.{◌≡◌, [], ◌∷◌, OnOk, if◌then◌else◌, ◌≢◌, Option, IfSome};
 ghost use Rattle.std.specs.Prelude.{IfNone, IfOk, IsErrOf, option_map};
 ghost use Rattle.std.specs.List.{join_with_byte};
 ghost use Rattle.store_rows.specs.Calls.{RunsInside};
@@ -19,11 +19,12 @@ ghost use Rattle.sqlite_value.specs.Value.{owned};
 ghost use Rattle.terms.specs.Types.{Applied as AppliedTerm, Entry as EntryTerm};
 ghost use Rattle.store_schema.specs.Forms.{HasAppliedForms};
 ghost use Rattle.store_zones.specs.declared.zone_rows.ZoneRow.{ZoneRow as AZoneRow};
+ghost use Rattle.zones_maps.specs.Delta.{number_of};
 
-use crate::installed_vers::{change_number, number_before, number_of};
+use crate::installed_vers::{change_number, number_before};
 use crate::items::ZoneItem;
 use crate::zone_rows::ZoneRow;
-use fields::{Id, ZoneName};
+use fields::{Id, VerNumber, ZoneName};
 use sqlite::{Alter, Error, Row, Transaction};
 use sqlite_value::value::ValueRef;
 use std::alloc::Global;
@@ -44,27 +45,40 @@ const PUT: &str = "INSERT INTO entry (zone, id, date, supby, delby, waived) \
 
 const DELETE: &str = "DELETE FROM entry WHERE zone = ?1 AND id = ?2";
 
-/// Puts the entry into the zone, which has this one of its id, or none. An error comes where it has one after all,
-/// where there is no such zone, where the disk fails or memory is short.
+/// Puts the entry into the zone. Under its id stands one that was installed by this `++VER`, or none. An error comes if
+/// one stands there after all, if there is no such zone, if the disk fails or memory is short.
 pub fn put_entry<S: Alter>(
     alloc: Global,
     tx: &mut Transaction<'_, S>,
     zone: ZoneName,
-    stood: Option<&Entry>,
+    stood: Option<VerNumber>,
     entry: &Entry,
 ) -> Result<(), Error>
     ensures continues { Continues S.Store tx.old tx.new }
-    ensures calls { RunsInside S.Store (put_entry_calls zone (option_copied stood.entry) entry.now)
+    ensures calls { RunsInside S.Store (put_entry_calls zone stood entry.now)
         tx.old.conn.now tx.new.conn.now result }
     ensures ok { OnOk result (Turns S.Store tx.old.conn.now tx.new.conn.now (HasContents store_schema)
-        (with_entry zone (option_copied stood.entry) entry.now)) }
-    ensures stands { OnOk result (ChangesZone S.Store tx.old.conn.now tx.new.conn.now zone
-        (HasPutEntry (option_copied stood.entry) entry.now)) }
+        (with_entry zone stood entry.now)) }
+    ensures stands { OnOk result ((old : Option EntryTerm) → option_map number_of old ≡ stood
+        → ChangesZone S.Store tx.old.conn.now tx.new.conn.now zone (HasPutEntry old entry.now)) }
 {
     let supby = joined_ids(alloc, entry.supby.as_slice())?;
     let waived = joined_ids(alloc, entry.waived.as_slice())?;
-    put_row(tx, &zone, stood, entry, supby.as_slice(), waived.as_slice())?;
-    change_number(tx, &zone, &entry.id, number_before(stood), number_of(entry))
+    put_row(
+        tx,
+        &zone,
+        stood.is_some(),
+        entry,
+        supby.as_slice(),
+        waived.as_slice(),
+    )?;
+    change_number(
+        tx,
+        &zone,
+        &entry.id,
+        number_before(stood),
+        entry.number().get(),
+    )
 }
 
 // The date of APPLY or ACCEPT, or NULL.
@@ -77,11 +91,11 @@ fn date_value(applied: &Option<Applied>) -> ValueRef<'_>
     }
 }
 
-// Puts the entry's row, of whose lists these are the texts, in place of that of the entry which stood.
+// Puts the entry's row, of whose lists these are the texts, in place of that of the entry which stood, if one did.
 fn put_row<S: Alter>(
     tx: &mut Transaction<'_, S>,
     zone: &ZoneName,
-    stood: Option<&Entry>,
+    stood: bool,
     entry: &Entry,
     supby: &[u8],
     waived: &[u8],
@@ -90,12 +104,11 @@ fn put_row<S: Alter>(
     requires waived { waived.now ≡ join_with_byte 44 entry.now.waived }
     ensures continues { Continues S.Store tx.old tx.new }
     ensures calls { RunsInside S.Store ((
-      if is_some (option_copied stood.entry) then into_entry else insert_entry,
+      if stood then into_entry else insert_entry,
       entry_row zone.now entry.now,
     ) ∷ []) tx.old.conn.now tx.new.conn.now result }
     ensures ok { OnOk result (Turns S.Store tx.old.conn.now tx.new.conn.now (HasContents store_schema)
-        (in_table entry_table (rows_with (is_some (option_copied stood.entry)) (entry_key zone.now entry.now.id)
-        (entry_row zone.now entry.now)))) }
+        (in_table entry_table (rows_with stood (entry_key zone.now entry.now.id) (entry_row zone.now entry.now)))) }
 {
     let row = [
         ValueRef::Text(zone.as_bytes()),
@@ -105,10 +118,10 @@ fn put_row<S: Alter>(
         text_or_null(&entry.delby),
         ValueRef::Text(waived),
     ];
-    match stood {
-        Some(_) => put(tx, PUT, &row),
-        None => insert(tx, INSERT, &row),
+    if stood {
+        return put(tx, PUT, &row);
     }
+    insert(tx, INSERT, &row)
 }
 
 // Takes out the entry's row, if there is one.
@@ -126,21 +139,21 @@ fn remove_row<S: Alter>(tx: &mut Transaction<'_, S>, zone: &ZoneName, id: &Id) -
     remove(tx, DELETE, &key)
 }
 
-/// Takes the entry of the id, which is this one, out of the zone, if there is one. An error comes where the disk fails
-/// or memory is short.
+/// Takes the entry of the id, which was installed by this `++VER`, out of the zone, if there is one. An error comes if
+/// the disk fails or memory is short.
 pub fn remove_entry<S: Alter>(
     tx: &mut Transaction<'_, S>,
     zone: ZoneName,
-    stood: Option<&Entry>,
+    stood: Option<VerNumber>,
     id: Id,
 ) -> Result<(), Error>
     ensures continues { Continues S.Store tx.old tx.new }
-    ensures calls { RunsInside S.Store (remove_entry_calls zone (option_copied stood.entry) id)
+    ensures calls { RunsInside S.Store (remove_entry_calls zone stood id)
         tx.old.conn.now tx.new.conn.now result }
     ensures ok { OnOk result (Turns S.Store tx.old.conn.now tx.new.conn.now (HasContents store_schema)
-        (without_entry zone (option_copied stood.entry) id)) }
-    ensures stands { OnOk result (ChangesZone S.Store tx.old.conn.now tx.new.conn.now zone
-        (HasRemovedEntry (option_copied stood.entry) id)) }
+        (without_entry zone stood id)) }
+    ensures stands { OnOk result ((old : Option EntryTerm) → option_map number_of old ≡ stood
+        → ChangesZone S.Store tx.old.conn.now tx.new.conn.now zone (HasRemovedEntry old id)) }
 {
     remove_row(tx, &zone, &id)?;
     change_number(tx, &zone, &id, number_before(stood), 1)

@@ -1,6 +1,6 @@
 //! The table of `++VER`s by which entries were installed, where that was not the first of its SREL.
 
-ghost use Rattle.std.specs.Prelude.{◌≡◌, ◌<◌, ◌^◌, [], ◌∷◌, OnOk, option_copied, ◌≢◌, ◌≤◌, ℕ, pos, IfOk, IfSome};
+ghost use Rattle.std.specs.Prelude.{◌≡◌, ◌<◌, ◌^◌, [], ◌∷◌, OnOk, ◌≢◌, ◌≤◌, ℕ, pos, IfOk, IfSome};
 ghost use Rattle.std.specs.Prelude.{IfNone, IsErrOf};
 ghost use Rattle.store_rows.specs.Calls.{RunsInside};
 ghost use Rattle.store_rows.specs.Inside.{Continues, Turns};
@@ -8,7 +8,7 @@ ghost use Rattle.store_rows.specs.Rows.{HasContents, in_table, with_row, with_pu
 ghost use Rattle.store_schema.specs.Rows.{chosen_row};
 ghost use Rattle.store_schema.specs.Tables.{chosen, store_schema};
 ghost use Rattle.store_zones.specs.Calls.{number_calls};
-ghost use Rattle.store_zones.specs.Chosen.{insert_chosen, put_chosen, delete_chosen, number_of, number_before};
+ghost use Rattle.store_zones.specs.Chosen.{insert_chosen, put_chosen, delete_chosen, number_before};
 ghost use Rattle.store_zones.specs.Entries.{entry_key};
 ghost use Rattle.store_zones.specs.Zones.{numbered};
 ghost use Rattle.sqlite.specs.declared.types.Value.TheVariants.{Int};
@@ -25,7 +25,6 @@ use sqlite_value::value::ValueRef;
 use std::alloc::Global;
 use store_rows::{FromRow, ReadError, insert, put, remove, whole};
 use store_schema::{Query, id_in, zone_name_in};
-use zones_maps::Entry;
 
 const SELECT: &str = "SELECT zone, id, n FROM chosen WHERE zone = ?1 ORDER BY id";
 
@@ -36,25 +35,11 @@ const PUT: &str = "INSERT INTO chosen (zone, id, n) VALUES (?1, ?2, ?3) \
 
 const DELETE: &str = "DELETE FROM chosen WHERE zone = ?1 AND id = ?2";
 
-/// The number by which it was installed, and 1 where it was not.
-pub(crate) fn number_of(entry: &Entry) -> usize
-    ensures same { result ≡ number_of entry.now }
-    ensures fits { result < 2 ^ 63 }
-{
-    match entry.applied {
-        Some(applied) => applied.number.get(),
-        None => 1,
-    }
-}
-
 /// The number of what stood under an id.
-pub(crate) fn number_before(stood: Option<&Entry>) -> usize
-    ensures { result ≡ number_before (option_copied stood.entry) }
+pub(crate) fn number_before(stood: Option<VerNumber>) -> usize
+    ensures { result ≡ number_before stood }
 {
-    match stood {
-        Some(entry) => number_of(entry),
-        None => 1,
-    }
+    stood.unwrap_or(VerNumber::FIRST).get()
 }
 
 // Adds the row of the entry of this id, which has none.

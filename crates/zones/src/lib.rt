@@ -30,5 +30,5 @@ pub use scope::Scope;
 pub use sysmods::{Chain, VerChoice};
 pub use terms::ZoneKind;
 pub use zones_maps::{
-    Applied, Element, Entry, PreparedZone, Zone, ZoneDelta, are_same, is_element, is_same_entry,
+    Applied, Element, Entry, PreparedZone, Zone, ZoneDelta, ZoneEdits, are_same, is_element, is_same_entry,
 };

@@ -1,40 +1,34 @@
 //! How a command changes a zone.
-ghost use Rattle.std.specs.Prelude.{◌≡◌, [], IsTrue, IfOk, OnOk, OnErr};
-ghost use Rattle.std.specs.Ordering.{nat_cmp};
-ghost use Rattle.std.specs.Cmp.Lexicographic.{slice_cmp};
-ghost use Rattle.sorted.specs.declared.edits.Edit.TheVariants.{Put, Remove};
-ghost use Rattle.terms.specs.Lookups.{element_cmp, element_key, has_content, waives_applied};
-ghost use Rattle.terms.specs.Rising.{with_item};
-ghost use Rattle.sorted.specs.Edits.{edit_key};
-ghost use Rattle.zones_maps.specs.Delta.{IsChanged};
+ghost use Rattle.std.specs.Prelude.{◌≡◌, IfOk, map};
+ghost use Rattle.zones_maps.specs.Delta.{IsChanged, KnowsStood, entry_stood, element_stood};
 
+use crate::edits::ZoneEdits;
 use crate::entries::{Element, Entry};
 use crate::zone::Zone;
-use fields::{Attest, Id, Name};
-use sorted::{Edit, Table};
+use fields::{Attest, Id, Name, VerNumber};
+use sorted::{Edit, Keyed};
 use std::alloc::{AllocError, Global};
 use std::marker::Model;
 use terms::ElemType;
 
-/// Entries and elements that are put and removed, one edit at a key.
+/// Edits of a zone that know what stood at the key of each. Who writes them out needs no zone.
 #[derive(Drop)]
 pub struct ZoneDelta {
-    entries: Table<Edit<Entry, Id>>,
-    elements: Table<Edit<Element, (ElemType, Name)>>,
+    edits: ZoneEdits,
+    entries_stood: Vec<Option<VerNumber>>,
+    elements_stood: Vec<bool>,
 }
 
 impl Model for ZoneDelta {
-    ghost use Rattle.std.specs.Prelude.{All, IfSome, IsTrue};
     ghost use Rattle.zones_maps.specs.Delta.{ZoneDelta as AZoneDelta};
-    ghost use Rattle.sorted.specs.Edits.{edit_put};
-    ghost use Rattle.terms.specs.Lookups.{has_content, waives_applied};
 
     ghost Value = { AZoneDelta };
 
-    ghost view = { λ d. record { entries = d.entries; elements = d.elements } };
-
-    ghost invariant = { λ d. All (λ e. IfSome (edit_put e) (λ x. IsTrue (has_content x))) d.entries
-        × All (λ e. IfSome (edit_put e) (λ x. IsTrue (waives_applied x))) d.entries };
+    ghost view = { λ d. record {
+      edits = d.edits;
+      entries_stood = d.entries_stood.items;
+      elements_stood = d.elements_stood.items;
+    } };
 }
 
 impl Attest for ZoneDelta {
@@ -43,35 +37,50 @@ impl Attest for ZoneDelta {
     ghost form = { IsDelta };
 
     fn attest(&self) {
-        let _ = self.entries.as_slice();
-        let _ = self.elements.as_slice();
+        self.edits.attest();
     }
 }
 
 impl ZoneDelta {
-    /// A delta that changes nothing.
-    pub fn new(alloc: Global) -> Self
-        ensures entries { result.entries ≡ [] }
-        ensures elements { result.elements ≡ [] }
+    /// These edits of this zone. Each key is looked up in the zone once. The error comes where memory runs out.
+    pub fn of(alloc: Global, edits: ZoneEdits, zone: &Zone) -> Result<ZoneDelta, AllocError>
+        ensures { IfOk result (λ d. (d.edits ≡ edits) × KnowsStood zone.now d) }
     {
-        ZoneDelta {
-            entries: Table::new(alloc),
-            elements: Table::new(alloc),
-        }
+        let entries_stood = entries_stood(alloc, edits.entries(), zone)?;
+        let elements_stood = elements_stood(alloc, edits.elements(), zone)?;
+        Ok(ZoneDelta {
+            edits,
+            entries_stood,
+            elements_stood,
+        })
     }
 
     /// What is put and removed of entries, rising by id.
     pub fn entries(&self) -> &[Edit<Entry, Id>]
-        ensures { result.now ≡ self.now.entries }
+        ensures { result.now ≡ self.now.edits.entries }
     {
-        self.entries.as_slice()
+        self.edits.entries()
     }
 
     /// What is put and removed of elements, rising by type and name.
     pub fn elements(&self) -> &[Edit<Element, (ElemType, Name)>]
-        ensures { result.now ≡ self.now.elements }
+        ensures { result.now ≡ self.now.edits.elements }
     {
-        self.elements.as_slice()
+        self.edits.elements()
+    }
+
+    /// For each edit of an entry the number of the `++VER` of the entry that stood there, if one did.
+    pub fn entries_stood(&self) -> &[Option<VerNumber>]
+        ensures { result.now ≡ self.now.entries_stood }
+    {
+        self.entries_stood.as_slice()
+    }
+
+    /// For each edit of an element whether one stood there.
+    pub fn elements_stood(&self) -> &[bool]
+        ensures { result.now ≡ self.now.elements_stood }
+    {
+        self.elements_stood.as_slice()
     }
 
     /// The zone as this delta changes it, beside the old one: it goes over both once, in order. What stays and what the
@@ -79,70 +88,52 @@ impl ZoneDelta {
     pub fn apply(&self, alloc: Global, zone: &Zone) -> Result<Zone, AllocError>
         ensures { IfOk result (λ new. IsChanged self.now zone.now new) }
     {
-        zone.edited(alloc, self)
+        zone.edited(alloc, &self.edits)
     }
 
-    pub(crate) fn entry_edits(&self) -> &Table<Edit<Entry, Id>>
-        ensures { result.now ≡ self.now.entries }
+    pub(crate) fn edits(&self) -> &ZoneEdits
+        ensures { result.now ≡ self.now.edits }
     {
-        &self.entries
+        &self.edits
     }
+}
 
-    pub(crate) fn element_edits(&self) -> &Table<Edit<Element, (ElemType, Name)>>
-        ensures { result.now ≡ self.now.elements }
-    {
-        &self.elements
-    }
+// What the zone has at the key of each of these edits.
+fn entries_stood(
+    alloc: Global,
+    edits: &[Edit<Entry, Id>],
+    zone: &Zone,
+) -> Result<Vec<Option<VerNumber>>, AllocError>
+    ensures { IfOk result (λ stood. stood.items ≡ map (entry_stood zone.now) edits.now) }
+{
+    edits
+        .iter()
+        .map(|edit| entry_stood(edit, zone))
+        .collect(alloc)
+}
 
-    /// Puts an entry in place of the one of its id. At ids that rise it takes the least time. The error comes where
-    /// memory runs out, and changes nothing.
-    pub fn put_entry(&mut self, entry: Entry) -> Result<(), AllocError>
-        requires held { IsTrue (has_content entry) }
-        requires waived { IsTrue (waives_applied entry) }
-        ensures ok { OnOk result
-            (self.new ≡ record self.old {
-              entries = with_item (slice_cmp nat_cmp) (edit_key (λ e. e.id)) self.old.entries (Put entry);
-            }) }
-        ensures err { OnErr result (self.new ≡ self.old) }
-    {
-        self.entries.put(Edit::Put(entry))?;
-        Ok(())
-    }
+fn entry_stood(edit: &Edit<Entry, Id>, zone: &Zone) -> Option<VerNumber>
+    ensures { result ≡ entry_stood zone.now edit.now }
+{
+    Some(zone.entry(edit.key())?.number())
+}
 
-    /// The entry of this id goes. The error comes where memory runs out, and changes nothing.
-    pub fn remove_entry(&mut self, id: Id) -> Result<(), AllocError>
-        ensures ok { OnOk result
-            (self.new ≡ record self.old {
-              entries = with_item (slice_cmp nat_cmp) (edit_key (λ e. e.id)) self.old.entries (Remove id);
-            }) }
-        ensures err { OnErr result (self.new ≡ self.old) }
-    {
-        self.entries.put(Edit::Remove(id))?;
-        Ok(())
-    }
+fn elements_stood(
+    alloc: Global,
+    edits: &[Edit<Element, (ElemType, Name)>],
+    zone: &Zone,
+) -> Result<Vec<bool>, AllocError>
+    ensures { IfOk result (λ stood. stood.items ≡ map (element_stood zone.now) edits.now) }
+{
+    edits
+        .iter()
+        .map(|edit| element_stood(edit, zone))
+        .collect(alloc)
+}
 
-    /// Puts an element in place of the one of its type and name. The error comes where memory runs out, and changes
-    /// nothing.
-    pub fn put_element(&mut self, element: Element) -> Result<(), AllocError>
-        ensures ok { OnOk result
-            (self.new ≡ record self.old {
-              elements = with_item element_cmp (edit_key element_key) self.old.elements (Put element);
-            }) }
-        ensures err { OnErr result (self.new ≡ self.old) }
-    {
-        self.elements.put(Edit::Put(element))?;
-        Ok(())
-    }
-
-    /// The element of this type and name goes. The error comes where memory runs out, and changes nothing.
-    pub fn remove_element(&mut self, elem_type: ElemType, name: Name) -> Result<(), AllocError>
-        ensures ok { OnOk result
-            (self.new ≡ record self.old {
-              elements = with_item element_cmp (edit_key element_key) self.old.elements (Remove (elem_type, name));
-            }) }
-        ensures err { OnErr result (self.new ≡ self.old) }
-    {
-        self.elements.put(Edit::Remove((elem_type, name)))?;
-        Ok(())
-    }
+fn element_stood(edit: &Edit<Element, (ElemType, Name)>, zone: &Zone) -> bool
+    ensures { result ≡ element_stood zone.now edit.now }
+{
+    let (elem_type, name) = edit.key();
+    zone.element(elem_type, name).is_some()
 }

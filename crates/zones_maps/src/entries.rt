@@ -2,6 +2,7 @@
 ghost use Rattle.std.specs.Prelude.{◌≡◌};
 ghost use Rattle.terms.specs.Types.{an_applied};
 ghost use Rattle.terms.specs.Lookups.{has_content, waives_applied};
+ghost use Rattle.zones_maps.specs.Delta.{number_of};
 
 use fields::{Attest, Id, IdList, Name, VerNumber, YyDdd};
 use sorted::{Keyed, TryClone};
@@ -70,6 +71,16 @@ impl Entry {
         ensures { result ≡ has_content self.now }
     {
         self.applied.is_some() || !self.supby.is_empty() || self.delby.is_some()
+    }
+
+    /// By which of its `++VER`s it is installed: the first, if it is not applied.
+    pub fn number(&self) -> VerNumber
+        ensures { result ≡ number_of self.now }
+    {
+        match self.applied {
+            Some(applied) => applied.number,
+            None => VerNumber::FIRST,
+        }
     }
 
     /// Whether requisites are waived only of what is applied.

@@ -4,11 +4,13 @@
 #![tactic(auto)]
 
 mod delta;
+mod edits;
 mod entries;
 mod equal;
 mod zone;
 
 pub use delta::ZoneDelta;
+pub use edits::ZoneEdits;
 pub use entries::{Applied, Element, Entry};
 pub use equal::{are_same, is_element, is_same_entry};
 pub use zone::{PreparedZone, Zone};

@@ -1,12 +1,13 @@
 //! A zone: a map from ids to entries, and one from types and names to elements.
 ghost use Rattle.std.specs.Prelude.{◌≡◌, ◌↔◌, [], All, IsTrue, IsSome, IfSome, IfOk, is_some, option_copied};
 ghost use Rattle.zones_maps.specs.Changed.{HasRoom, IsReady, delta_of};
-ghost use Rattle.zones_maps.specs.Delta.{IsChanged};
+ghost use Rattle.zones_maps.specs.Delta.{IsEdited};
 ghost use Rattle.terms.specs.Types.{a_zone, is_target};
 ghost use Rattle.terms.specs.Lookups.{IsRising, entry_of, element_of, applied_of, is_applied, is_supplied};
 ghost use Rattle.terms.specs.Lookups.{has_content, waives_applied};
 
 use crate::delta::ZoneDelta;
+use crate::edits::ZoneEdits;
 use crate::entries::{Applied, Element, Entry};
 use fields::{Attest, Id, Name, Srel, ZoneName};
 use sorted::{Prepared, Table};
@@ -53,13 +54,13 @@ pub struct PreparedZone {
 
 impl Model for PreparedZone {
     ghost use Rattle.zones_maps.specs.Changed.{PreparedDelta, delta_of};
-    ghost use Rattle.zones_maps.specs.Delta.{IsDelta};
+    ghost use Rattle.zones_maps.specs.Delta.{AreEdits};
 
     ghost Value = { PreparedDelta };
 
     ghost view = { λ p. record { entries = p.entries; elements = p.elements } };
 
-    ghost invariant = { λ p. IsDelta (delta_of (record { entries = p.entries; elements = p.elements })) };
+    ghost invariant = { λ p. AreEdits (delta_of (record { entries = p.entries; elements = p.elements })) };
 }
 
 impl Attest for Zone {
@@ -198,30 +199,31 @@ impl Zone {
         }
     }
 
-    /// The zone as the delta changes it, beside this one.
-    pub(crate) fn edited(&self, alloc: Global, delta: &ZoneDelta) -> Result<Zone, AllocError>
-        ensures { IfOk result (IsChanged delta.now self.now) }
+    /// The zone as the edits leave it, beside this one.
+    pub(crate) fn edited(&self, alloc: Global, edits: &ZoneEdits) -> Result<Zone, AllocError>
+        ensures { IfOk result (IsEdited edits.now self.now) }
     {
         self.attest();
-        delta.attest();
+        edits.attest();
         Ok(Zone {
             kind: self.kind,
             srel: self.srel,
             related: self.related,
-            entries: self.entries.edited(alloc, delta.entry_edits())?,
-            elements: self.elements.edited(alloc, delta.element_edits())?,
+            entries: self.entries.edited(alloc, edits.entry_edits())?,
+            elements: self.elements.edited(alloc, edits.element_edits())?,
         })
     }
 
     /// Memory for this change of the zone: `edit` takes none then. Only what the delta puts is copied. The error comes
     /// where memory runs out.
     pub fn prepare(&self, alloc: Global, delta: &ZoneDelta) -> Result<PreparedZone, AllocError>
-        ensures { IfOk result (IsReady self.now delta.now) }
+        ensures { IfOk result (IsReady self.now delta.now.edits) }
     {
-        delta.attest();
+        let edits = delta.edits();
+        edits.attest();
         Ok(PreparedZone {
-            entries: self.entries.prepare(alloc, delta.entry_edits())?,
-            elements: self.elements.prepare(alloc, delta.element_edits())?,
+            entries: self.entries.prepare(alloc, edits.entry_edits())?,
+            elements: self.elements.prepare(alloc, edits.element_edits())?,
         })
     }
 
@@ -229,7 +231,7 @@ impl Zone {
     /// both.
     pub fn edit(&mut self, prepared: PreparedZone)
         requires { HasRoom self.old prepared }
-        ensures { IsChanged (delta_of prepared) self.old self.new }
+        ensures { IsEdited (delta_of prepared) self.old self.new }
     {
         self.attest();
         let PreparedZone { entries, elements } = prepared;

@@ -15,7 +15,7 @@ pub loop-edit-init : goal.loop-edit-init
 loop-edit-init c = record {
   all = refl;
   entries = refl;
-  done = done_none c.args.zone.now (into_iter_items c.into_iter-edit-iterator.result) c.args.delta.now.elements
+  done = done_none c.args.zone.now (into_iter_items c.into_iter-edit-iterator.result) c.args.zone_edits.now.elements
       c.requires.empty;
   count = search;
 }
@@ -28,12 +28,12 @@ loop-edit-preserved c =
     let all = at.invariant.all in
     record {
       all = one_more at.yielded _ _ _ all at.invariant.count x _ steps;
-      entries = entries_stay c.args.zone.now x at.delta c.edit_element.new.delta c.in_ok-edit_element.ensures
+      entries = entries_stay c.args.zone.now x at.zone_edits c.edit_element.new.zone_edits c.in_ok-edit_element.ensures
           ∙ at.invariant.entries;
       done = done_next c.args.zone.now (into_iter_items c.into_iter-edit-iterator.result)
           (subst (Rises element_cmp (edit_key element_key)) (sym c.into_iter-edit-iterator.ensures.into_iter_gives.0)
           c.requires.rising)
-          at.yielded x at.delta c.edit_element.new.delta
+          at.yielded x at.zone_edits c.edit_element.new.zone_edits
           (subst (λ es. Contains es x) all (Contains-append_right at.yielded (into_iter_items at.edit-iterator) x
           (subst (λ es. Contains es x) (sym steps) (here x _))))
           at.invariant.done c.in_ok-edit_element.ensures;
@@ -47,7 +47,7 @@ returns c =
     let edits = into_iter_items c.into_iter-edit-iterator.result in
     let yielded : at.yielded ≡ edits =
     all_yielded at.yielded _ _ _ at.invariant.all at.invariant.count c.in-None.ensures.steps.0 in
-    subst (λ es. HasEditedElements c.args.zone.now es c.args.delta.now at.delta)
+    subst (λ es. HasEditedElements c.args.zone.now es c.args.zone_edits.now at.zone_edits)
     c.into_iter-edit-iterator.ensures.into_iter_gives.0
-    (done_all c.args.zone.now edits c.args.delta.now at.delta at.invariant.entries
-    (subst (λ es. AreDone c.args.zone.now edits es at.delta.elements) yielded at.invariant.done))
+    (done_all c.args.zone.now edits c.args.zone_edits.now at.zone_edits at.invariant.entries
+    (subst (λ es. AreDone c.args.zone.now edits es at.zone_edits.elements) yielded at.invariant.done))

@@ -7,7 +7,7 @@ use Rattle.change.proofs.differing.edit_elements.Given as goal
 abbrev pub invariant-loop-edit : goal.invariant-loop-edit
 invariant-loop-edit l = record {
   all : l.yielded ++ into_iter_items l.edit-iterator ≡ into_iter_items l.initial.edit-iterator;
-  entries : l.delta.entries ≡ l.initial.delta.entries;
-  done : AreDone l.zone (into_iter_items l.initial.edit-iterator) l.yielded l.delta.elements;
+  entries : l.zone_edits.entries ≡ l.initial.zone_edits.entries;
+  done : AreDone l.zone (into_iter_items l.initial.edit-iterator) l.yielded l.zone_edits.elements;
   count : into_iter_len l.edit-iterator ≡ length (into_iter_items l.edit-iterator);
 }

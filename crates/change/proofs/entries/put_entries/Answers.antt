@@ -13,7 +13,7 @@ use Rattle.change.proofs.entries.put_entries.Goals.{else-has_content+in_ok-remov
 use Rattle.change.proofs.entries.put_entries.Goals as goal
 
 pub loop-id-init : goal.loop-id-init
-loop-id-init c = put_none c.args.deleting.now c.args.plan.now c.args.delta.now c.requires.empty
+loop-id-init c = put_none c.args.deleting.now c.args.plan.now c.args.zone_edits.now c.requires.empty
 
 -- the entry is what the install makes of it
 is_after : (c : After-attest-in-loop-id) → IsEntryAfter c.args.deleting.now c.args.plan.now c.id-item.result
@@ -44,24 +44,24 @@ loop-id-preserved c =
       supby = c.attest-in-loop-id.ensures.0;
       waived = c.attest-in-loop-id.ensures.1;
     } in
-    put_next d p c.as_slice-id-items.result.now c.loop-id.id-index x c.args.delta.now c.loop-id.delta
-    c.if-has_content.delta (omega arith) c.id-item.is (
+    put_next d p c.as_slice-id-items.result.now c.loop-id.id-index x c.args.zone_edits.now c.loop-id.zone_edits
+    c.if-has_content.zone_edits (omega arith) c.id-item.is (
       e,
       made,
       elim c.if-has_content.branch [
         | then-has_content+in_ok-put_entry w ↦
-            subst₂ (λ v delta. AddsEntryEdit d.zone.now v c.loop-id.delta delta)
+            subst₂ (λ v zone_edits. AddsEntryEdit d.zone.now v c.loop-id.zone_edits zone_edits)
             (sym (ap (λ b. if b then Put e else Remove x) (sym c.has_content.ensures ∙ w.if-has_content.true)))
-            (sym w.delta-is) w.in_ok-put_entry.ensures
+            (sym w.zone_edits-is) w.in_ok-put_entry.ensures
         | else-has_content+in_ok-remove_entry w ↦
-            subst₂ (λ v delta. AddsEntryEdit d.zone.now v c.loop-id.delta delta)
+            subst₂ (λ v zone_edits. AddsEntryEdit d.zone.now v c.loop-id.zone_edits zone_edits)
             (sym (ap (λ b. if b then Put e else Remove x) (sym c.has_content.ensures ∙ w.if-has_content.false)))
-            (sym w.delta-is) w.in_ok-remove_entry.ensures
+            (sym w.zone_edits-is) w.in_ok-remove_entry.ensures
       ],
     )
     c.loop-id.invariant
 
 pub returns : goal.returns
-returns c = subst (λ ids. HasPutEntries c.args.deleting.now c.args.plan.now ids c.args.delta.now c.loop-id.delta)
+returns c = subst (λ ids. HasPutEntries c.args.deleting.now c.args.plan.now ids c.args.zone_edits.now c.loop-id.zone_edits)
     (take_all c.loop-id.id-index c.as_slice-id-items.result.now (omega arith) ∙ c.as_slice-id-items.ensures.items)
     c.loop-id.invariant

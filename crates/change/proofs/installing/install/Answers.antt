@@ -7,10 +7,10 @@ use Rattle.terms.specs.Lookups.{element_key, element_of}
 use Rattle.sorted.specs.Edits.{edit_key}
 use Rattle.sysmods.specs.Choices.{number_in, choice}
 use Rattle.terms.specs.Deleted.{deletions, zone_less}
-use Rattle.zones_maps.specs.Delta.{IsChanged}
+use Rattle.zones_maps.specs.Delta.{IsEdited}
 use Rattle.terms.specs.Install.{Installation, HasInstalled}
 use Rattle.change.specs.declared.deleting.Deleting.{Deleting}
-use Rattle.zones_maps.specs.Differing.{ChangesEntry, HasEditedElements}
+use Rattle.zones_maps.specs.Differing.{ChangesEntry, EachChanges, HasEditedElements}
 use Rattle.change.specs.Plans.{installation, installation_by, installation_of, IsPlan}
 use Rattle.change.proofs.AfterInstall.{installs}
 use Rattle.change.proofs.EffectiveIds.{members_are, effective_ordered, effective_base}
@@ -75,14 +75,16 @@ returns-clause-installs c =
     (subst (λ v. IsPlan (installation_by v is) d.dels.now plan) (sym c.vers-vers.ensures)
     (subst (λ ds. IsPlan (installation_of is) ds plan) (c.as_slice-2.ensures.value ∙ sym c.as_slice-4.ensures.value)
     c.in_ok-plan.ensures)) in
-    subst (λ v. (new : Zone) → IsChanged c.edit_elements.new.delta zone new → HasInstalled (installation_by v is) new)
+    subst (λ edits. (new : Zone) → IsEdited edits zone new → HasInstalled (installation_of is) new)
+    (sym c.in_ok-of.ensures.0)
+    (subst (λ v. (new : Zone) → IsEdited c.edit_elements.new.zone_edits zone new → HasInstalled (installation_by v is) new)
     c.vers-vers.ensures
-    (subst (λ ids. (new : Zone) → IsChanged c.edit_elements.new.delta zone new → HasInstalled (i ids) new)
+    (subst (λ ids. (new : Zone) → IsEdited c.edit_elements.new.zone_edits zone new → HasInstalled (i ids) new)
     c.as_slice-3.ensures.items
     (installs d is.bypassed.now is.date (rw c.global.ensures at c.attest-2.ensures) c.attest.ensures
     c.known_lists.ensures
     (c.as_slice-4.ensures.value ∙ dels)
-    plan c.new-delta.result c.put_entries.new.delta c.edit_elements.new.delta c.new-edits.result
+    plan c.new-zone_edits.result c.put_entries.new.zone_edits c.edit_elements.new.zone_edits c.new-edits.result
     c.remove_elements.new.edits c.put_elements.new.edits c.in_ok-elements.elements.items planned c.new-edits.ensures
     c.in_ok-put_entries.ensures c.in_ok-remove_elements.ensures
     (c.in_ok-elements.ensures (i d.kept.now) (record {
@@ -93,17 +95,17 @@ returns-clause-installs c =
       members = members_are (i d.kept.now) d.dels.now plan c.as_slice-6.result.now planned c.as_slice-6.ensures.items;
     }))
     c.in_ok-put_elements.ensures
-    (subst (λ es. HasEditedElements zone es c.put_entries.new.delta c.edit_elements.new.delta)
-    c.into_vec.ensures.items c.in_ok-edit_elements.ensures)))
+    (subst (λ es. HasEditedElements zone es c.put_entries.new.zone_edits c.edit_elements.new.zone_edits)
+    c.into_vec.ensures.items c.in_ok-edit_elements.ensures))))
 
 pub returns-clause-differs : goal.returns-clause-differs
 returns-clause-differs c =
     let done = c.in_ok-edit_elements.ensures in
-    record {
+    subst (EachChanges c.args.installing.zone.now) (sym c.in_ok-of.ensures.0) (record {
       entries = subst (All (ChangesEntry c.args.installing.zone.now)) (sym done.entries)
           c.in_ok-put_entries.ensures.differ;
       elements = done.differ;
-    }
+    })
 
 pub returns-clause-effective : goal.returns-clause-effective
 returns-clause-effective c =

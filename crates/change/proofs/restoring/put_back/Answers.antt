@@ -4,13 +4,13 @@ use Rattle.std.proofs.lemmas.Result.{on_ok_weaker}
 use Rattle.sorted.specs.declared.edits.Edit.TheVariants.{Put, Remove}
 use Rattle.terms.specs.Types.{Element}
 use Rattle.terms.specs.Lookups.{element_key}
-use Rattle.zones_maps.specs.Delta.{ZoneDelta}
+use Rattle.zones_maps.specs.Delta.{ZoneEdits}
 use Rattle.change.proofs.Reverted.{key_found, puts_none, puts_one}
 use Rattle.change.proofs.restoring.put_back.Goals as goal
 
 pub returns-then-are_same : goal.returns-then-are_same
 returns-then-are_same c =
-    puts_none c.args.zone.now c.args.accepted.now c.args.key c.args.delta.now (option_copied c.element.result)
+    puts_none c.args.zone.now c.args.accepted.now c.args.key c.args.zone_edits.now (option_copied c.element.result)
     (option_copied c.element-wanted.result) c.element.ensures c.element-wanted.ensures
     (c.are_same.ensures.0 c.if-are_same.true)
 
@@ -26,11 +26,11 @@ returns-in_ok-try_clone-in-Some c =
     subst (λ o. IfSome o (λ e. element_key e ≡ (k.0, k.1))) (sym c.element-wanted.ensures ∙ found)
     (key_found c.args.accepted.now k.0 k.1) in
     on_ok_weaker c.put_element.result (λ is.
-    puts_one c.args.zone.now c.args.accepted.now k c.args.delta.now c.put_element.new.self here there
+    puts_one c.args.zone.now c.args.accepted.now k c.args.zone_edits.now c.put_element.new.self here there
     c.element.ensures c.element-wanted.ensures other (record {
       edit = Put c.in_ok-try_clone-in-Some.field-0;
-      entries = ap (λ (d : ZoneDelta). d.entries) is;
-      elements = ap (λ (d : ZoneDelta). d.elements) is;
+      entries = ap (λ (d : ZoneEdits). d.entries) is;
+      elements = ap (λ (d : ZoneEdits). d.elements) is;
       at = ap element_key copy ∙ key;
       puts = ap {B = Option Element} (λ e. Some e) copy ∙ sym found;
     })) c.put_element.ensures.ok
@@ -41,11 +41,11 @@ returns-in-None c =
     let there = option_copied c.element-wanted.result in
     let other : here ≢ there = λ same. true≢false (sym (c.are_same.ensures.1 same) ∙ c.if-are_same.false) in
     on_ok_weaker c.remove_element.result (λ is.
-    puts_one c.args.zone.now c.args.accepted.now c.args.key c.args.delta.now c.remove_element.new.self here there
+    puts_one c.args.zone.now c.args.accepted.now c.args.key c.args.zone_edits.now c.remove_element.new.self here there
     c.element.ensures c.element-wanted.ensures other (record {
       edit = Remove (c.args.key.0, c.args.key.1);
-      entries = ap (λ (d : ZoneDelta). d.entries) is;
-      elements = ap (λ (d : ZoneDelta). d.elements) is;
+      entries = ap (λ (d : ZoneEdits). d.entries) is;
+      elements = ap (λ (d : ZoneEdits). d.elements) is;
       at = refl;
       puts = sym (ap option_copied c.in-None.is);
     })) c.remove_element.ensures.ok

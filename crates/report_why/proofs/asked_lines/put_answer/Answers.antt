@@ -2,7 +2,7 @@ use Rattle.std.proofs.Common.{◌++◌, ap, sym}
 use Rattle.std.proofs.lemmas.List.{append-nil}
 use Rattle.std.specs.Prelude.{codes}
 use Rattle.std.proofs.lemmas.Result.{IfOk-equal}
-use Rattle.machine.specs.FactText.{id_lines}
+use Rattle.report_why.specs.FactText.{id_lines}
 use Rattle.report_why.proofs.asked_lines.put_answer.Goals as goal
 
 pub returns-in-Supplied : goal.returns-in-Supplied
@@ -12,6 +12,9 @@ returns-in-Supplied c =
 
 pub returns-in-Waived : goal.returns-in-Waived
 returns-in-Waived c = rw c.in-Waived.is (sym (append-nil c.args.text.now.items))
+
+pub returns-in-ByItself : goal.returns-in-ByItself
+returns-in-ByItself c = rw c.in-ByItself.is (sym (append-nil c.args.text.now.items))
 
 pub returns-in-Open : goal.returns-in-Open
 returns-in-Open c =

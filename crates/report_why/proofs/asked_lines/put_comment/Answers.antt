@@ -2,7 +2,7 @@ use Rattle.std.proofs.Common.{[], ◌∷◌, ◌++◌, ap, sym}
 use Rattle.std.proofs.lemmas.List.{append-nil}
 use Rattle.std.specs.Prelude.{codes}
 use Rattle.std.proofs.lemmas.Result.{IfOk-equal}
-use Rattle.machine.specs.FactText.{inner_line}
+use Rattle.report_why.specs.FactText.{inner_line}
 use Rattle.report_why.proofs.asked_lines.put_comment.Goals as goal
 
 pub returns-in-Some : goal.returns-in-Some

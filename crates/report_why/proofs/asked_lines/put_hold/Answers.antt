@@ -2,9 +2,9 @@ use Rattle.std.proofs.Common.{◌≡◌, ◌++◌, None, Some, subst}
 use Rattle.std.specs.Prelude.{OnOk}
 use Rattle.std.proofs.lemmas.Result.{IfOk-equal}
 use Rattle.terms.specs.Types.{Hold}
-use Rattle.terms.specs.Facts.{HoldFact}
+use Rattle.report_why.specs.Facts.{HoldFact}
 use Rattle.sysmods_values.specs.contracts.hold.Hold.{the_view}
-use Rattle.machine.specs.FactText.{fact_text}
+use Rattle.report_why.specs.FactText.{fact_text}
 use Rattle.report_why.specs.Views.{answer_view}
 use Rattle.report_why.proofs.TextParts.{hold_answered, hold_unanswered}
 use Rattle.report_why.proofs.asked_lines.put_hold.Goals as goal

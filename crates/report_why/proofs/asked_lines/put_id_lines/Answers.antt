@@ -1,7 +1,7 @@
 use Rattle.std.proofs.Common.{◌≡◌, [], ◌∷◌, ◌++◌, ◌∙◌, ◌<◌, ap, arith, rules, length, take_all}
 use Rattle.std.specs.List.{flat_map}
 use Rattle.std.proofs.lemmas.Result.{IfOk-equal}
-use Rattle.machine.specs.FactText.{inner_line}
+use Rattle.report_why.specs.FactText.{inner_line}
 use Rattle.report_why.proofs.TextParts.{flat_more, id_lines_none, id_lines_some}
 use Rattle.report_why.proofs.asked_lines.put_id_lines.Goals as goal
 

@@ -1,8 +1,8 @@
 use Rattle.std.proofs.Common.{◌≡◌, ◌++◌, subst}
 use Rattle.std.specs.Prelude.{OnOk}
 use Rattle.std.proofs.lemmas.Result.{IfOk-equal}
-use Rattle.terms.specs.Facts.{Requisite, RequisiteFact, a_requisite}
-use Rattle.machine.specs.FactText.{fact_text}
+use Rattle.report_why.specs.Facts.{Requisite, RequisiteFact, a_requisite}
+use Rattle.report_why.specs.FactText.{fact_text}
 use Rattle.report_why.specs.Views.{answer_view}
 use Rattle.report_why.proofs.TextParts.{requisite_by_if, requisite_by_itself}
 use Rattle.report_why.proofs.asked_lines.put_requisite.Goals as goal

@@ -2,7 +2,7 @@ use Rattle.std.proofs.Common.{◌≡◌, ◌++◌, map, take}
 use Rattle.terms.specs.Lookups.{is_in}
 use Rattle.terms.specs.Over.{chain}
 use Rattle.zones.specs.Scopes.{global_of, choice_of}
-use Rattle.terms.specs.Facts.{DeleteFact, TakesFact}
+use Rattle.report_why.specs.Facts.{DeleteFact, TakesFact}
 use Rattle.report_why.specs.Views.{fact_view}
 use Rattle.report_why.proofs.deletes.delete_facts.Given as goal
 

@@ -2,7 +2,7 @@ use Rattle.std.proofs.Common.{◌≡◌, ◌∙◌, arith, ap, length}
 use Rattle.terms.proofs.BesideLists.{beside_next, beside_through}
 use Rattle.terms.specs.Lookups.{changes_of}
 use Rattle.zones.specs.Scopes.{global_of}
-use Rattle.terms.specs.Facts.{ElementFact, IsElementFact}
+use Rattle.report_why.specs.Facts.{ElementFact, IsElementFact}
 use Rattle.terms.specs.Types.{Change}
 use Rattle.terms.specs.Changes.{is_replacement}
 use Rattle.std.specs.Prelude.{option_map}

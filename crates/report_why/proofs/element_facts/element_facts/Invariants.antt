@@ -2,7 +2,7 @@ use Rattle.std.proofs.Common.{take}
 use Rattle.terms.specs.Beside.{Beside}
 use Rattle.terms.specs.Lookups.{changes_of}
 use Rattle.zones.specs.Scopes.{global_of}
-use Rattle.terms.specs.Facts.{IsElementFact}
+use Rattle.report_why.specs.Facts.{IsElementFact}
 use Rattle.report_why.specs.Asking.{setting_in}
 use Rattle.report_why.specs.Views.{fact_view}
 use Rattle.report_why.proofs.element_facts.element_facts.Given as goal

@@ -1,7 +1,7 @@
 use Rattle.std.proofs.Common.{None, Some, refl, subst}
 use Rattle.terms.specs.Types.{Change}
 use Rattle.terms.specs.Lookups.{element_of}
-use Rattle.terms.specs.Facts.{HasFound}
+use Rattle.report_why.specs.Facts.{HasFound}
 use Rattle.report_why.specs.Asking.{setting_in, view_in}
 use Rattle.report_why.specs.Views.{found_view}
 use Rattle.report_why.proofs.element_facts.found_at.Goals as goal

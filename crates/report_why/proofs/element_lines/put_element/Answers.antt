@@ -3,7 +3,7 @@ use Rattle.std.specs.Prelude.{codes}
 use Rattle.std.specs.List.{flat_map}
 use Rattle.std.proofs.lemmas.List.Folds.{flat_map-map}
 use Rattle.std.proofs.lemmas.Result.{IfOk-weaker}
-use Rattle.machine.specs.FactText.{maker_line}
+use Rattle.report_why.specs.FactText.{maker_line}
 use Rattle.report_why.specs.Views.{maker_view, found_view}
 use Rattle.report_why.proofs.TextParts.{flat_more, element_there, element_missing}
 use Rattle.report_why.proofs.element_lines.put_element.Goals as goal

@@ -1,7 +1,7 @@
 use Rattle.std.proofs.Common.{◌≡◌, ◌++◌, take}
 use Rattle.std.specs.Prelude.{codes}
 use Rattle.std.specs.List.{flat_map}
-use Rattle.machine.specs.FactText.{maker_line}
+use Rattle.report_why.specs.FactText.{maker_line}
 use Rattle.report_why.specs.Views.{maker_view}
 use Rattle.report_why.proofs.element_lines.put_element.Given as goal
 

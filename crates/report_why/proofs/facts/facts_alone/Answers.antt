@@ -2,7 +2,7 @@ use Rattle.std.proofs.Common.{◌∙◌, ◌+◌, ◌++◌, ℕ, List, [], ◌�
 use Rattle.terms.specs.Lookups.{is_in, applied_ids}
 use Rattle.terms.specs.Choice.{vers_of, fits, place, counting}
 use Rattle.terms.specs.Tests.{Setting}
-use Rattle.terms.specs.Facts.{Fact, numbered_facts}
+use Rattle.report_why.specs.Facts.{Fact, numbered_facts}
 use Rattle.zones.specs.Scopes.{setting_of}
 use Rattle.report_why.specs.Needed.{AreNeeded}
 use Rattle.report_why.specs.Views.{fact_view}

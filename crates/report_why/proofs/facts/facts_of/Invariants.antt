@@ -1,6 +1,5 @@
-use Rattle.std.proofs.Common.{◌≡◌, ◌++◌, map, take}
-use Rattle.terms.specs.Facts.{AreFactsOf}
-use Rattle.report_why.specs.Views.{fact_view}
+use Rattle.std.proofs.Common.{◌≡◌, ◌++◌, All, map, take}
+use Rattle.report_why.specs.Views.{HasFacts}
 use Rattle.report_why.proofs.facts.facts_of.Given as goal
 
 -- with those of the SYSMODs that are left they are all
@@ -9,4 +8,5 @@ invariant-loop-sysmod l =
     l.received.items ++ map (λ s. s.id) l.sysmod-iterator ≡ map (λ s. s.id) l.global.sysmods
 
 abbrev pub invariant-loop-id : goal.invariant-loop-id
-invariant-loop-id l = AreFactsOf l.global l.zone (take l.id-index l.ids) (map fact_view l.found.items)
+invariant-loop-id l =
+    (map (λ of. of.id) l.found.items ≡ take l.id-index l.ids) × All (HasFacts l.global l.zone) l.found.items

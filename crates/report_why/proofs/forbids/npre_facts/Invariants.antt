@@ -1,6 +1,6 @@
 use Rattle.std.proofs.Common.{◌≡◌, ◌++◌, map, take}
 use Rattle.terms.specs.Lookups.{is_applied}
-use Rattle.terms.specs.Facts.{NpreFact, ForbiddenFact}
+use Rattle.report_why.specs.Facts.{NpreFact, ForbiddenFact}
 use Rattle.report_why.specs.Asking.{view_in}
 use Rattle.report_why.specs.Views.{fact_view}
 use Rattle.report_why.proofs.forbids.npre_facts.Given as goal

@@ -1,7 +1,7 @@
 use Rattle.std.proofs.Common.{◌∙◌, None, refl, ap, subst}
 use Rattle.terms.specs.declared.codes.NeedKind.TheVariants.{HoldError}
 use Rattle.terms.specs.Types.{Hold}
-use Rattle.terms.specs.Facts.{a_requisite, IsAnswer}
+use Rattle.report_why.specs.Facts.{a_requisite, IsAnswer}
 use Rattle.report_why.specs.Asking.{setting_in}
 use Rattle.report_why.specs.Views.{answer_view}
 use Rattle.report_why.proofs.hold_facts.error_resolution.Goals as goal

@@ -1,6 +1,6 @@
 use Rattle.terms.specs.Lookups.{holds_of}
 use Rattle.zones.specs.Scopes.{global_of}
-use Rattle.terms.specs.Facts.{IsHoldFact}
+use Rattle.report_why.specs.Facts.{IsHoldFact}
 use Rattle.report_why.specs.Asking.{setting_in}
 use Rattle.report_why.specs.Views.{fact_view}
 use Rattle.report_why.proofs.Besides.{BesideFront}

@@ -4,7 +4,7 @@ use Rattle.std.proofs.lemmas.List.Elements.{All-cons, All-nil}
 use Rattle.sysmods.specs.Choices.{choice}
 use Rattle.terms.proofs.ListMembers.{none_in}
 use Rattle.terms.specs.Lookups.{IsRising, is_applied}
-use Rattle.terms.specs.Facts.{NeededFact}
+use Rattle.report_why.specs.Facts.{NeededFact}
 use Rattle.report_why.specs.Needed.{dep_ids}
 use Rattle.report_why.proofs.Dependents.{dependents, none_need}
 use Rattle.report_why.proofs.needed.needed_facts.Goals as goal

@@ -1,5 +1,5 @@
 use Rattle.std.proofs.Common.{◌≡◌, map, take}
-use Rattle.terms.specs.Facts.{NeededFact}
+use Rattle.report_why.specs.Facts.{NeededFact}
 use Rattle.report_why.specs.Needed.{dep_ids}
 use Rattle.report_why.specs.Views.{fact_view}
 use Rattle.report_why.proofs.needed.needed_facts.Given as goal

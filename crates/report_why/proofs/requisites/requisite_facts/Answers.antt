@@ -1,7 +1,7 @@
 use Rattle.std.proofs.Common.{◌∙◌, arith, refl, subst}
 use Rattle.terms.specs.Beside.{Beside}
 use Rattle.terms.proofs.BesideLists.{beside_next, beside_through}
-use Rattle.terms.specs.Facts.{IsRequisiteFact}
+use Rattle.report_why.specs.Facts.{IsRequisiteFact}
 use Rattle.report_why.specs.Asking.{setting_in}
 use Rattle.report_why.specs.Views.{answer_view, fact_view}
 use Rattle.report_why.proofs.requisites.requisite_facts.Goals as goal
@@ -18,8 +18,12 @@ loop-requisite-preserved c =
 pub returns : goal.returns
 returns c =
     let a = c.args.asking.now in
-    subst (λ rs. Beside (λ n r fact. IsRequisiteFact (setting_in a) a.id r (fact_view fact)) rs
-    c.loop-requisite.facts.items) (c.as_slice-requisite-items.ensures.value ∙ c.in_ok-found.ensures)
-    (beside_through (λ n r fact. IsRequisiteFact (setting_in a) a.id r (fact_view fact))
-    c.as_slice-requisite-items.result.now
-    c.loop-requisite.facts.items c.loop-requisite.requisite-index (omega arith) c.loop-requisite.invariant)
+    let found = c.in_ok-found.ensures in (
+      found.0,
+      found.1,
+      subst (λ rs. Beside (λ n r fact. IsRequisiteFact (setting_in a) a.id r (fact_view fact)) rs
+          c.loop-requisite.facts.items) (c.as_slice-requisite-items.ensures.value ∙ found.2)
+          (beside_through (λ n r fact. IsRequisiteFact (setting_in a) a.id r (fact_view fact))
+          c.as_slice-requisite-items.result.now
+          c.loop-requisite.facts.items c.loop-requisite.requisite-index (omega arith) c.loop-requisite.invariant),
+    )

@@ -1,6 +1,6 @@
 use Rattle.std.proofs.Common.{take}
 use Rattle.terms.specs.Beside.{Beside}
-use Rattle.terms.specs.Facts.{IsRequisiteFact}
+use Rattle.report_why.specs.Facts.{IsRequisiteFact}
 use Rattle.report_why.specs.Asking.{setting_in}
 use Rattle.report_why.specs.Views.{fact_view}
 use Rattle.report_why.proofs.requisites.requisite_facts.Given as goal

@@ -1,8 +1,8 @@
-use Rattle.std.proofs.Common.{◌≡◌, ◌∙◌, [], ◌∷◌, List, Option, None, Some, map, ap, refl}
-use Rattle.std.specs.Prelude.{MatchOption}
+use Rattle.std.proofs.Common.{◌≡◌, ◌∙◌, [], ◌∷◌, List, Option, None, Some, map, ap, refl, subst, Contains}
+use Rattle.std.specs.Prelude.{◌↔◌, MatchOption}
 use Rattle.terms.specs.declared.codes.NeedKind.TheVariants.{Fmid, Pre, Req, Orphan}
 use Rattle.terms.specs.Lookups.{at_most_one}
-use Rattle.terms.specs.Facts.{a_requisite}
+use Rattle.report_why.specs.Facts.{a_requisite}
 use Rattle.terms.proofs.TextOrder.{same_itself}
 use Rattle.report_why.specs.Asking.{setting_in}
 use Rattle.report_why.proofs.Growing.{five_parts}
@@ -15,13 +15,18 @@ as_list (Some x) xs is = is
 pub returns : goal.returns
 returns c =
     let s = setting_in c.args.asking.now in
-    let x = c.args.asking.now.id in
-    five_parts c.new-found.ensures.items
-    (c.in_ok-push_all.ensures) (ap (map (a_requisite Fmid x None))
-    (as_list c.fmid-fmid.result c.as_slice.result.now c.as_slice.ensures ∙ ap at_most_one c.fmid-fmid.ensures))
-    (c.in_ok-push_all-2.ensures) (ap (map (a_requisite Pre x None)) c.pre.ensures.items)
-    (c.in_ok-push_all-3.ensures) (ap (map (a_requisite Req x None)) c.req.ensures.items)
-    (c.in_ok-push_conditions.ensures) refl
-    (c.in_ok-push_all-4.ensures) (ap (map (a_requisite Orphan x None)) (c.as_slice-2.ensures.value
-    ∙ c.in_ok-lost.ensures s refl refl refl
-    ∙ rw (same_itself x) refl))
+    let x = c.args.asking.now.id in (
+      c.from_vec-lost.result,
+      record {
+        rising = c.attest.ensures;
+        members = λ z. subst (λ ids. Contains c.from_vec-lost.result z ↔ Contains ids z)
+            (c.in_ok-losses.ensures s refl refl refl ∙ rw (same_itself x) refl) (c.from_vec-lost.ensures z);
+      },
+      five_parts c.new-found.ensures.items
+          (c.in_ok-push_all.ensures) (ap (map (a_requisite Fmid x None))
+          (as_list c.fmid-fmid.result c.as_slice.result.now c.as_slice.ensures ∙ ap at_most_one c.fmid-fmid.ensures))
+          (c.in_ok-push_all-2.ensures) (ap (map (a_requisite Pre x None)) c.pre.ensures.items)
+          (c.in_ok-push_all-3.ensures) (ap (map (a_requisite Req x None)) c.req.ensures.items)
+          (c.in_ok-push_conditions.ensures) refl
+          (c.in_ok-push_all-4.ensures) (ap (map (a_requisite Orphan x None)) c.as_slice-2.ensures.items),
+    )

@@ -1,6 +1,6 @@
 use Rattle.std.proofs.Common.{◌≡◌, map, drop}
 use Rattle.std.specs.Prelude.{max}
-use Rattle.machine.specs.FactText.{facts_code}
+use Rattle.report_why.specs.FactText.{facts_code}
 use Rattle.report_why.specs.Views.{fact_view}
 use Rattle.report_why.proofs.text.facts_code.Given as goal
 

@@ -2,9 +2,9 @@ use Rattle.std.proofs.Common.{◌≡◌, ◌∙◌, ◌++◌, ap, subst}
 use Rattle.std.specs.Prelude.{OnOk}
 use Rattle.std.proofs.lemmas.Result.{IfOk-equal}
 use Rattle.terms.specs.Types.{Applied, Entry}
-use Rattle.terms.specs.Facts.{EntryFact}
+use Rattle.report_why.specs.Facts.{EntryFact}
 use Rattle.zones_maps.specs.contracts.entries.Entry.{the_view}
-use Rattle.machine.specs.FactText.{fact_text}
+use Rattle.report_why.specs.FactText.{fact_text}
 use Rattle.report_why.proofs.TextParts.{entry_applied, entry_bare}
 use Rattle.report_why.proofs.text.put_entry.Goals as goal
 

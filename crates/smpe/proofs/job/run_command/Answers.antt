@@ -8,8 +8,8 @@ use Rattle.smpe.proofs.Reports.{sent_all, sent_part}
 use Rattle.smpe.proofs.Commanding.{commands_err, reported}
 use Rattle.smpe.proofs.Early.{failed_first, broke_first}
 use Rattle.smpe_zones.specs.Own.{IsOwnOf}
-use Rattle.smpe_session.specs.Writing.{AnswersRun}
-use Rattle.smpe.proofs.Coursing.{passed_one, early_first, fails_by, fails_told, performs_passes, goes_early}
+use Rattle.smpe_session.specs.Writing.{AnswersOf, AnswersRun, IsOutcomeOf}
+use Rattle.smpe.proofs.Coursing.{goes_one, early_first, fails_by, fails_told, performs_passes, goes_early}
 use Rattle.smpe.proofs.job.run_command.Goals as goal
 
 pub returns-in_err-performed-clause-ended : goal.returns-in_err-performed-clause-ended
@@ -56,7 +56,7 @@ returns-in_err-write_report-in-Lists-clause-ended g c clean s is keeps =
     let new = g.W.Sink.taken c.write_report-in-Lists.new.w in
     let p = rw c.in-Lists.is at (c.in_ok-performed.ensures.uses.ended clean s keeps is) in
     let performs = subst (λ d. Performs c.args.date c.args.files.now s d s (outcome_view c.list.result)) (sym p.0)
-    (c.list.ensures s p.1 c.args.date c.args.files.now) in
+    (c.list.ensures.performs s p.1 c.args.date c.args.files.now) in
     commands_err g.S.Store c.args.date c.args.files.now c.args.store.now at s session (command ∷ []) old new
     c.from_residual-in_err-write_report-in-Lists.result Write c.from_residual-in_err-write_report-in-Lists.ensures.1
     (broke_first g.S.Store c.args.store.now at s (Perform c.args.date c.args.files.now command) s
@@ -67,7 +67,7 @@ pub returns-in_ok-write_report-in-Lists-clause-ended : goal.returns-in_ok-write_
 returns-in_ok-write_report-in-Lists-clause-ended g c clean s is keeps =
     let p = rw c.in-Lists.is at (c.in_ok-performed.ensures.uses.ended clean s keeps is) in
     let performs = subst (λ d. Performs c.args.date c.args.files.now s d s (outcome_view c.list.result)) (sym p.0)
-    (c.list.ensures s p.1 c.args.date c.args.files.now) in
+    (c.list.ensures.performs s p.1 c.args.date c.args.files.now) in
     reported g.S.Store c.args.date c.args.files.now c.args.store.now c.perform.new.store s s c.perform.new.self
     (command_of c.args.command.now) (outcome_view c.list.result)
     (g.W.Sink.taken c.args.w.now) (g.W.Sink.taken c.write_report-in-Lists.new.w) _ performs p.1 p.2
@@ -104,6 +104,7 @@ returns-in_err-write_report-in-Told-clause-course g c =
     (early_first g.S.Store old new act [] a b Write
     (fails_told g.S.Store old new act outcome a b
     (performs_passes g.S.Store old new c.args.date c.args.files.now command c.in_ok-performed.performed outcome
+    (subst (AnswersOf command) c.in-Told.is c.in_ok-performed.ensures.header)
     (λ change ran. subst (AnswersRun change) c.in-Told.is ran) c.in_ok-performed.ensures.uses.once.goes)
     (sent_part _ _ _ _ _ c.in_err-write_report-in-Told.ensures.sends c.in_err-write_report-in-Told.ensures.fault)))
 
@@ -113,11 +114,13 @@ returns-in_ok-write_report-in-Told-clause-course g c =
     let new = c.perform.new.store in
     let command = command_of c.args.command.now in
     let outcome = outcome_view c.in-Told.outcome in
-    passed_one g.S.Store old new (Perform c.args.date c.args.files.now command) outcome (g.W.Sink.taken c.args.w.now)
-    (g.W.Sink.taken c.write_report.new.w)
+    goes_one g.S.Store old new (Perform c.args.date c.args.files.now command) outcome (g.W.Sink.taken c.args.w.now)
+    (g.W.Sink.taken c.write_report.new.w) _
     (performs_passes g.S.Store old new c.args.date c.args.files.now command c.in_ok-performed.performed outcome
+    (subst (AnswersOf command) c.in-Told.is c.in_ok-performed.ensures.header)
     (λ change ran. subst (AnswersRun change) c.in-Told.is ran) c.in_ok-performed.ensures.uses.once.goes)
     (sent_all _ _ _ _ _ c.in_ok-write_report-in-Told.ensures.sends c.in_ok-write_report-in-Told.ensures.fault)
+    c.in_ok-write_report-in-Told.ensures.code
 
 pub returns-in_err-write_report-in-Lists-clause-course : goal.returns-in_err-write_report-in-Lists-clause-course
 returns-in_err-write_report-in-Lists-clause-course g c =
@@ -133,6 +136,8 @@ returns-in_err-write_report-in-Lists-clause-course g c =
     (early_first g.S.Store old new act [] a b Write
     (fails_told g.S.Store old new act outcome a b
     (performs_passes g.S.Store old new c.args.date c.args.files.now command c.in_ok-performed.performed outcome
+    (subst (λ d. IsOutcomeOf d outcome) (sym (subst (AnswersOf command) c.in-Lists.is c.in_ok-performed.ensures.header))
+    c.list.ensures.header)
     (λ change ran. absurd (subst (AnswersRun change) c.in-Lists.is ran)) c.in_ok-performed.ensures.uses.once.goes)
     (sent_part _ _ _ _ _ c.in_err-write_report-in-Lists.ensures.sends c.in_err-write_report-in-Lists.ensures.fault)))
 
@@ -142,11 +147,14 @@ returns-in_ok-write_report-in-Lists-clause-course g c =
     let new = c.perform.new.store in
     let command = command_of c.args.command.now in
     let outcome = outcome_view c.list.result in
-    passed_one g.S.Store old new (Perform c.args.date c.args.files.now command) outcome (g.W.Sink.taken c.args.w.now)
-    (g.W.Sink.taken c.write_report-in-Lists.new.w)
+    goes_one g.S.Store old new (Perform c.args.date c.args.files.now command) outcome (g.W.Sink.taken c.args.w.now)
+    (g.W.Sink.taken c.write_report-in-Lists.new.w) _
     (performs_passes g.S.Store old new c.args.date c.args.files.now command c.in_ok-performed.performed outcome
+    (subst (λ d. IsOutcomeOf d outcome) (sym (subst (AnswersOf command) c.in-Lists.is c.in_ok-performed.ensures.header))
+    c.list.ensures.header)
     (λ change ran. absurd (subst (AnswersRun change) c.in-Lists.is ran)) c.in_ok-performed.ensures.uses.once.goes)
     (sent_all _ _ _ _ _ c.in_ok-write_report-in-Lists.ensures.sends c.in_ok-write_report-in-Lists.ensures.fault)
+    c.in_ok-write_report-in-Lists.ensures.code
 
 -- ---- the store behind it
 

@@ -1,15 +1,23 @@
-use Rattle.std.proofs.Common.{◌∷◌, [], ◌+◌, map, take, drop, ◌++◌, sym, subst, max, Ok, arith}
+use Rattle.std.proofs.Common.{◌∷◌, [], ◌+◌, map, take, drop, ◌++◌, sym, subst, max, Ok, arith, rules}
 use Rattle.std.proofs.lemmas.List.{take_all}
 use Rattle.cntl.specs.Views.{command_of}
 use Rattle.smpe.specs.Ending.{EndsEarly}
 use Rattle.machine.specs.Machine.{Perform}
 use Rattle.smpe.specs.Commands.{EndsCommands}
-use Rattle.smpe.specs.Going.{Passed, GoesEarly}
-use Rattle.smpe_zones.proofs.Once.{follows_on}
+use Rattle.smpe.specs.Going.{Goes, GoesEarly}
+use Rattle.smpe_zones.proofs.Once.{follows_itself, follows_on}
 use Rattle.smpe.proofs.Taken.{taken_more, taken_split}
 use Rattle.smpe.proofs.Commanding.{commands_err, commands_more, commands_stop, commands_early}
-use Rattle.smpe.proofs.Coursing.{commands_passed, early_commands, goes_early}
+use Rattle.smpe.proofs.Coursing.{goes_none, commands_passed, early_commands, goes_early}
 use Rattle.smpe.proofs.job.run_commands.Goals as goal
+
+pub loop-command-init : goal.loop-command-init
+loop-command-init g c = record {
+  follows = follows_itself g.S.Store c.args.store.now;
+  ran = search rules;
+  course = goes_none g.S.Store c.args.store.now (g.W.Sink.taken c.args.w.now);
+  sound = search rules;
+}
 
 pub loop-command-preserved : goal.loop-command-preserved
 loop-command-preserved g c = record {
@@ -37,12 +45,14 @@ loop-command-preserved g c = record {
       let perform = Perform c.args.date c.args.files.now in
       let old = g.W.Sink.taken c.args.w.now in
       let new = g.W.Sink.taken c.run_command.new.w in
-      subst (λ cs. Passed g.S.Store c.args.store.now c.run_command.new.store (map perform cs) old new)
+      let code = c.max-code.ensures in
+      rw code (subst (λ cs. Goes g.S.Store c.args.store.now c.run_command.new.store (map perform cs) old new
+      (Ok (max c.loop-command.code c.in_ok-next.next)))
       (sym (taken_more command_of c.args.commands.now c.loop-command.command-index c.command-item.result
       c.loop-command-test.true c.command-item.is))
       (commands_passed g.S.Store c.args.date c.args.files.now c.args.store.now c.loop-command.store
       c.run_command.new.store done (command_of c.command-item.result ∷ []) old (g.W.Sink.taken c.loop-command.w) new
-      c.loop-command.invariant.course c.in_ok-next.ensures.course);
+      c.loop-command.code c.loop-command.invariant.course c.in_ok-next.next c.in_ok-next.ensures.course));
   sound = λ none. c.in_ok-next.ensures.fault (c.loop-command.invariant.sound none);
 }
 
@@ -87,12 +97,13 @@ returns-in_err-next-clause-course g c =
     (sym (taken_split command_of c.args.commands.now c.loop-command.command-index c.command-item.result
     c.loop-command-test.true c.command-item.is))
     (early_commands g.S.Store c.args.date c.args.files.now c.args.store.now c.loop-command.store at done next old
-    (g.W.Sink.taken c.loop-command.w) new c.loop-command.invariant.course rest error c.in_err-next.ensures.course))
+    (g.W.Sink.taken c.loop-command.w) new c.loop-command.code c.loop-command.invariant.course rest error
+    c.in_err-next.ensures.course))
 
 pub returns-clause-course : goal.returns-clause-course
 returns-clause-course g c =
-    subst (λ cs. Passed g.S.Store c.args.store.now c.loop-command.store
+    subst (λ cs. Goes g.S.Store c.args.store.now c.loop-command.store
     (map (Perform c.args.date c.args.files.now) (map command_of cs)) (g.W.Sink.taken c.args.w.now)
-    (g.W.Sink.taken c.loop-command.w))
+    (g.W.Sink.taken c.loop-command.w) (Ok c.loop-command.code))
     (take_all c.loop-command.command-index c.args.commands.now (omega (arith, c.loop-command-test.false)))
     c.loop-command.invariant.course

@@ -1,4 +1,4 @@
-use Rattle.std.proofs.Common.{◌∷◌, map, [], Err, inr, refl, ap, subst}
+use Rattle.std.proofs.Common.{◌∷◌, map, [], Err, refl, ap, subst}
 use Rattle.std.specs.Io.KnownBytes.{Appends}
 use Rattle.report.specs.Sent.{WrotePart}
 use Rattle.cntl.specs.Views.{command_of}
@@ -116,7 +116,7 @@ returns-in_err-write_report-in-Err-Fault-clause-course g c =
     let files : Files = record { ptfin = c.args.ptfin.now; holds = c.args.hold.now } in
     let old = g.W.Sink.taken c.args.w.now in
     let new = g.W.Sink.taken c.write_report.new.w in
-    job_early g.S.Store c.args.store.now c.args.store.now (RunFiles c.args.date c.args.cntl.now files) old new
+    job_early g.S.Store c.args.store.now c.args.store.now (RunFiles c.args.date c.args.cntl.now files) old new Code
     c.from_residual.result Write c.from_residual.ensures.1
     (faulty_early g.S.Store c.args.date c.args.cntl.now files c.args.store.now
     (record { number = c.in-Err-Fault.number; code = c.in-Err-Fault.code }) old new
@@ -131,10 +131,10 @@ returns-in-Err-Fault-clause-course g c =
     let new = g.W.Sink.taken c.write_report.new.w in
     faulty_goes g.S.Store c.args.date c.args.cntl.now (record { ptfin = c.args.ptfin.now; holds = c.args.hold.now })
     c.args.store.now (record { number = c.in-Err-Fault.number; code = c.in-Err-Fault.code }) old new
-    (subst (FailsFile c.args.cntl.now) c.in-Err-Fault.field-0-is c.in-Err-Fault.ensures.fault)
+    c.in_ok-write_report-in-Err-Fault.field-0 (subst (FailsFile c.args.cntl.now) c.in-Err-Fault.field-0-is c.in-Err-Fault.ensures.fault)
     (subst (Appends old new) (control_same c.in-Err-Fault.number-is c.in-Err-Fault.code-is)
     (sent_all _ _ _ _ _ c.in_ok-write_report-in-Err-Fault.ensures.sends
-    c.in_ok-write_report-in-Err-Fault.ensures.fault))
+    c.in_ok-write_report-in-Err-Fault.ensures.fault)) c.in_ok-write_report-in-Err-Fault.ensures.code
 
 pub returns-in_err-session-clause-course : goal.returns-in_err-session-clause-course
 returns-in_err-session-clause-course g c =
@@ -144,7 +144,7 @@ returns-in_err-session-clause-course g c =
     let taken = g.W.Sink.taken c.args.w.now in
     let e = c.in_err-session.field-0.0 in
     let at = c.in_err-session.ensures in
-    job_early g.S.Store old new (RunFiles c.args.date c.args.cntl.now files) taken taken
+    job_early g.S.Store old new (RunFiles c.args.date c.args.cntl.now files) taken taken Code
     c.from_residual-in_err-session.result (job_error e) c.from_residual-in_err-session.ensures.1
     (begin_early g.S.Store c.args.date c.args.cntl.now files old new (map command_of c.in-Ok.commands.items) taken
     (job_error e) c.in-Ok.ensures.commands
@@ -161,7 +161,7 @@ returns-clause-course g c =
     (g.W.Sink.taken c.args.w.now) (g.W.Sink.taken c.run_commands.new.w) c.run_commands.result c.in-Ok.ensures.commands (
       loads_read g.S.Store old at _ began.reads,
       refl,
-      inr (λ clean. (c.in_ok-session.session.global, began.rows clean)),
+      λ clean. (c.in_ok-session.session.global, began.rows clean),
     )
     (rw c.deref.ensures.value at c.run_commands.ensures.course)
 

@@ -1,13 +1,14 @@
-use Rattle.std.proofs.Common.{Err, [], ◌∷◌, ◌∙◌, inl, refl, sym, ap, subst}
+use Rattle.std.proofs.Common.{Err, [], ◌∷◌, ◌∙◌, refl, sym, ap, subst}
 use Rattle.machine.specs.Machine.{Define, NewZone}
-use Rattle.store.proofs.Going.{alone_loads, goes_ok, goes_err}
+use Rattle.store.proofs.Going.{goes_err}
 use Rattle.smpe_zones.specs.declared.error.ZoneError.TheVariants.{Store}
-use Rattle.smpe_zones.specs.Definitions.{definition}
+use Rattle.smpe_zones.specs.Definitions.{definition, fault_of}
 use Rattle.smpe_zones.specs.Own.{IsOwn}
 use Rattle.smpe.specs.declared.error.JobError.TheVariants.{Memory}
 use Rattle.smpe.specs.Commands.{job_error}
 use Rattle.smpe.proofs.Single.{define_done, define_refused, define_memory, define_fault, refused_so}
-use Rattle.smpe.proofs.Coursing.{JobsStopped, define_goes, define_early, fails_by}
+use Rattle.smpe.specs.Going.{JobsStopped}
+use Rattle.smpe.proofs.Coursing.{defined_goes, refused_goes, define_early, fails_by}
 use Rattle.smpe.proofs.jobs.define.Goals as goal
 
 pub returns-in-Ok-clause-ended : goal.returns-in-Ok-clause-ended
@@ -45,17 +46,13 @@ returns-in-Ok-clause-course g c taken =
     let old = c.args.store.now in
     let new = c.define_zone.new.store in
     let d = definition c.args.name c.args.kind c.args.srel c.args.related in
-    define_goes g.S.Store old new d taken
-    (goes_ok g.S.Store old new (IsOwn (Define d)) (IsOwn (Define d)) (tt {0}) [] (λ change own. own)
-    c.in-Ok.ensures.course.once.goes)
+    defined_goes g.S.Store old new d taken (tt {0}) c.in-Ok.ensures.course.done
 
 pub returns-in-Err-Refused-clause-course : goal.returns-in-Err-Refused-clause-course
 returns-in-Err-Refused-clause-course g c taken =
-    let old = c.args.store.now in
-    let new = c.define_zone.new.store in
-    let d = definition c.args.name c.args.kind c.args.srel c.args.related in
-    define_goes g.S.Store old new d taken (inl (alone_loads g.S.Store old new []
-    (c.in-Err-Refused.ensures.course.refused (refused_so (Unit {0}) c.in-Err-Refused.field-0-is))))
+    refused_goes g.S.Store c.args.store.now c.define_zone.new.store
+    (definition c.args.name c.args.kind c.args.srel c.args.related) (fault_of c.in-Err-Refused.why) taken
+    (c.in-Err-Refused.ensures.course.refused (refused_so (Unit {0}) c.in-Err-Refused.field-0-is))
 
 pub returns-in-Err-Store-clause-course : goal.returns-in-Err-Store-clause-course
 returns-in-Err-Store-clause-course g c taken =

@@ -7,7 +7,8 @@ use Rattle.smpe.proofs.Early.{ends_unbegun}
 use Rattle.smpe.proofs.Taken.{taken_more, taken_split}
 use Rattle.smpe.proofs.Listing.{jobs_err, jobs_more, jobs_stop}
 use Rattle.smpe.proofs.Closing.{keeps_closed, closed_now}
-use Rattle.smpe.proofs.Coursing.{JobsWent, JobsStopped, passed_none, jobs_unbegun, went_more, went_early, jobs_early}
+use Rattle.smpe.specs.Going.{JobsPassed, JobsStopped}
+use Rattle.smpe.proofs.Coursing.{jobs_unbegun, jobs_one_more, jobs_stopped, stopped_more, jobs_early}
 use Rattle.smpe.proofs.jobs.run_jobs.Goals as goal
 
 pub returns-in_err-answers-clause-ended : goal.returns-in_err-answers-clause-ended
@@ -68,11 +69,19 @@ loop-job-preserved g c =
           let done = map job_of (take c.loop-job.job-index c.args.jobs.now) in
           let old = g.W.Sink.taken c.args.w.now in
           let new = g.W.Sink.taken c.run_one.new.w in
-          subst (λ jobs. JobsWent g.S.Store c.args.store.now c.run_one.new.store jobs old new)
+          let answers = map answer_of c.loop-job.answers.items in
+          let answer = answer_of c.in_ok-answer.answer in
+          subst (λ told. JobsPassed g.S.Store c.args.store.now (map job_of (take (c.loop-job.job-index + 1)
+          c.args.jobs.now)) c.run_one.new.store old new told)
+          (sym (ap (map answer_of) pushed ∙ map-append answer_of c.loop-job.answers.items (c.in_ok-answer.answer ∷ [])))
+          (subst (λ jobs. JobsPassed g.S.Store c.args.store.now jobs c.run_one.new.store old new
+          (answers ++ answer ∷ []))
           (sym (taken_more job_of c.args.jobs.now c.loop-job.job-index c.job-item.result c.loop-job-test.true
           c.job-item.is))
-          (went_more g.S.Store c.args.store.now c.loop-job.store c.run_one.new.store done (job_of c.job-item.result) old
-          (g.W.Sink.taken c.loop-job.w) new c.loop-job.invariant.course c.in_ok-answer.ensures.course);
+          (jobs_one_more g.S.Store c.args.store.now c.loop-job.store c.run_one.new.store done (job_of
+          c.job-item.result) old
+          (g.W.Sink.taken c.loop-job.w) new answers answer c.loop-job.invariant.course
+          c.in_ok-answer.ensures.course));
       closed = λ clean s keeps closed.
           let was = c.run_one.ensures.follows.clean clean in
           let ran = c.loop-job.invariant.ran was s keeps in
@@ -87,7 +96,7 @@ pub loop-job-init : goal.loop-job-init
 loop-job-init g c = record {
   follows = follows_itself g.S.Store c.args.store.now;
   ran = search rules;
-  course = ([], refl, passed_none g.S.Store c.args.store.now (g.W.Sink.taken c.args.w.now));
+  course = search rules;
   closed = λ clean s keeps closed. keeps_closed g.S.Store c.args.store.now clean s keeps closed;
   count = search rules;
   room = search rules;
@@ -108,8 +117,8 @@ returns-in_err-answer-clause-closed g c clean s keeps closed =
 pub returns-in_err-answers-clause-course : goal.returns-in_err-answers-clause-course
 returns-in_err-answers-clause-course g c =
     let taken = g.W.Sink.taken c.args.w.now in
-    jobs_early g.S.Store c.args.store.now c.args.store.now (map job_of c.args.jobs.now) taken taken
-    c.from_residual.result Memory c.from_residual.ensures.1
+    jobs_early g.S.Store c.args.store.now c.args.store.now (map job_of c.args.jobs.now) taken taken (λ v. map answer_of
+    v.items) c.from_residual.result Memory c.from_residual.ensures.1
     (jobs_unbegun g.S.Store c.args.store.now (map job_of c.args.jobs.now) taken)
 
 pub returns-in_err-answer-clause-course : goal.returns-in_err-answer-clause-course
@@ -122,15 +131,16 @@ returns-in_err-answer-clause-course g c =
     let new = g.W.Sink.taken c.run_one.new.w in
     let job = job_of c.job-item.result in
     let error = c.in_err-answer.field-0.0 in
-    jobs_early g.S.Store c.args.store.now at (map job_of c.args.jobs.now) old new
+    jobs_early g.S.Store c.args.store.now at (map job_of c.args.jobs.now) old new (λ v. map answer_of v.items)
     c.from_residual-in_err-answer.result error c.from_residual-in_err-answer.ensures.1
     (subst (λ jobs. JobsStopped g.S.Store c.args.store.now at jobs old new error)
     (sym (taken_split job_of c.args.jobs.now c.loop-job.job-index c.job-item.result c.loop-job-test.true c.job-item.is))
-    (went_early g.S.Store c.args.store.now c.loop-job.store at done job old mid new c.loop-job.invariant.course rest
-    error c.in_err-answer.ensures.course))
+    (stopped_more g.S.Store c.args.store.now at (done ++ job ∷ []) rest old new error
+    (jobs_stopped g.S.Store c.args.store.now c.loop-job.store at done (job ∷ []) old mid new
+    (map answer_of c.loop-job.answers.items) error c.loop-job.invariant.course c.in_err-answer.ensures.course)))
 
 pub returns-clause-course : goal.returns-clause-course
 returns-clause-course g c =
-    subst (λ jobs. JobsWent g.S.Store c.args.store.now c.loop-job.store (map job_of jobs) (g.W.Sink.taken c.args.w.now)
-    (g.W.Sink.taken c.loop-job.w))
+    subst (λ jobs. JobsPassed g.S.Store c.args.store.now (map job_of jobs) c.loop-job.store (g.W.Sink.taken
+    c.args.w.now) (g.W.Sink.taken c.loop-job.w) (map answer_of c.loop-job.answers.items))
     (take_all c.loop-job.job-index c.args.jobs.now (omega (arith, c.loop-job-test.false))) c.loop-job.invariant.course

@@ -6,7 +6,7 @@ use Rattle.machine.specs.State.{State}
 use Rattle.smpe_zones.specs.Kept.{Keeps}
 use Rattle.smpe_zones.specs.Ends.{Follows}
 use Rattle.smpe.specs.Ending.{EndsJobs, KeepsClosed, job_of, answer_of}
-use Rattle.smpe.proofs.Coursing.{JobsWent}
+use Rattle.smpe.specs.Going.{JobsPassed}
 use Rattle.smpe.proofs.jobs.run_jobs.Given as goal
 
 abbrev pub invariant-loop-job : goal.invariant-loop-job
@@ -16,8 +16,8 @@ invariant-loop-job g l = record {
       EndsJobs g.S.Store l.fn.store l.store s (map job_of (take l.job-index l.jobs)) (g.W.Sink.taken l.fn.w)
       (g.W.Sink.taken l.w)
       (λ told. told) (Ok (map answer_of l.answers.items));
-  course : JobsWent g.S.Store l.fn.store l.store (map job_of (take l.job-index l.jobs)) (g.W.Sink.taken l.fn.w)
-      (g.W.Sink.taken l.w);
+  course : JobsPassed g.S.Store l.fn.store (map job_of (take l.job-index l.jobs)) l.store (g.W.Sink.taken l.fn.w)
+      (g.W.Sink.taken l.w) (map answer_of l.answers.items);
   closed : KeepsClosed g.S.Store l.fn.store l.store;
   count : length l.answers.items ≡ l.job-index;
   room : length l.jobs ≤ vec_capacity l.answers;

@@ -1,8 +1,8 @@
 use Rattle.std.proofs.Common.{◌∷◌, [], sym, subst}
-use Rattle.smpe.specs.Going.{JobGoes}
+use Rattle.smpe.specs.Going.{JobGoes, JobsStopped}
 use Rattle.smpe.specs.Ending.{EndsAmong, EndsJob, job_of, answer_of}
 use Rattle.smpe.proofs.Single.{job_err}
-use Rattle.smpe.proofs.Coursing.{JobsStopped, job_early}
+use Rattle.smpe.proofs.Coursing.{job_early}
 use Rattle.smpe.proofs.jobs.run_one.Goals as goal
 
 pub returns-in_err-code-in-Run-clause-ended : goal.returns-in_err-code-in-Run-clause-ended
@@ -29,7 +29,7 @@ returns-in_err-code-in-Run-clause-course g c =
     let new = g.W.Sink.taken c.run_job.new.w in
     let error = c.in_err-code-in-Run.field-0.0 in
     let at = c.run_job.new.store in
-    job_early g.S.Store c.args.store.now at (job_of c.args.job.now) old new c.from_residual.result error
+    job_early g.S.Store c.args.store.now at (job_of c.args.job.now) old new answer_of c.from_residual.result error
     c.from_residual.ensures.1
     (subst (λ job. JobsStopped g.S.Store c.args.store.now at (job_of job ∷ []) old new error)
     (sym c.in-Run.is) c.in_err-code-in-Run.ensures.course)
@@ -44,5 +44,6 @@ returns-in_ok-code-in-Run-clause-course g c = rw c.in-Run.is c.in_ok-code-in-Run
 pub returns-in-Zone-clause-course : goal.returns-in-Zone-clause-course
 returns-in-Zone-clause-course g c =
     let taken = g.W.Sink.taken c.args.w.now in
-    subst (λ job. JobGoes g.S.Store c.args.store.now c.define.new.store (job_of job) taken taken c.define.result)
+    subst (λ job. JobGoes g.S.Store c.args.store.now c.define.new.store (job_of job) taken taken answer_of
+    c.define.result)
     (sym c.in-Zone.is) (c.define.ensures.course taken)

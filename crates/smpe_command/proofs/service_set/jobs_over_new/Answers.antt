@@ -1,14 +1,28 @@
-use Rattle.std.proofs.Common.{inr}
+use Rattle.std.proofs.Common.{Err, map, ap, inl, inr, refl}
+use Rattle.smpe.specs.Ending.{answer_of, job_of}
+use Rattle.smpe.specs.FromEmpty.{empty_system}
+use Rattle.smpe.proofs.Early.{jobs_since}
 use Rattle.smpe_zones.specs.Kept.{kept}
-use Rattle.smpe_command.specs.ServiceSet.{empty_system}
 use Rattle.smpe_command.proofs.service_set.jobs_over_new.Goals as goal
 
 pub returns-in-Ok : goal.returns-in-Ok
-returns-in-Ok g c = inr (
-  c.in-Ok.store,
-  c.run_jobs-answers.new.store,
-  λ clean found. c.run_jobs-answers.ensures.ended clean empty_system (record {
-    now = c.in-Ok.ensures.tables (kept empty_system) found;
-    crash = c.in-Ok.ensures.leaves (kept empty_system) found;
-  }),
+returns-in-Ok g c =
+    let opened = c.in-Ok.ensures in
+    let store = c.run_jobs-answers.new.store in inr (
+      store,
+      λ clean found. jobs_since g.S.Store c.args.conn c.in-Ok.store store (opened.crash.counts, opened.crash.limit)
+          empty_system (map job_of c.args.jobs.now) (g.O.Sink.taken c.args.out.now)
+          (g.O.Sink.taken c.run_jobs-answers.new.out) (λ v. map answer_of v.items) c.run_jobs-answers.result
+          (c.run_jobs-answers.ensures.ended clean empty_system (record {
+            now = opened.tables (kept empty_system) found;
+            crash = opened.leaves (kept empty_system) found;
+          })),
+    )
+
+pub returns-in-Err : goal.returns-in-Err
+returns-in-Err g c = inl (
+  c.in-Err.error,
+  record { left = c.in-Err.conn; other = c.in-Err.ensures.other; none = c.in-Err.ensures.none },
+  ap Err c.from.ensures,
+  refl,
 )

@@ -23,18 +23,24 @@ returns g c =
     let hold = c.as_slice-hold in
     let one : c.unwrap-distribution.result ≡ codes "DLIB" = search rules in
     let other : c.unwrap-target.result ≡ codes "TGT" = search rules in
+    let conn = c.in_ok-conn.conn in
+    let empty = c.in_ok-conn.ensures.empty in
     let ran : Ran (jobs c.unwrap-distribution.result c.unwrap-target.result c.args.receive.now ptfin.result.now
-    hold.result.now) = elim c.jobs_over_new.ensures [
-      | inl unready ↦ inl unready
-      | inr (begun, store, ended) ↦ inr (
-        begun,
-        store,
-        ended (memory_is_clean store) (λ clean is_open. inl (
-          sym (ap (λ (db : Database). db.schema) c.in_ok-conn.ensures.empty.0.clean) ∙ c.in_ok-conn.ensures.empty.2,
-          refl,
-        )),
-      )
-    ] in
+    hold.result.now) = inr (
+      conn,
+      c.in_ok-conn.ensures.fresh,
+      empty,
+      elim c.jobs_over_new.ensures [
+        | inl unmade ↦ inl unmade
+        | inr (store, ended) ↦ inr (
+          store,
+          ended (memory_is_clean store) (λ clean is_open. inl (
+            sym (ap (λ (db : Database). db.schema) empty.0.clean) ∙ empty.2,
+            refl,
+          )),
+        )
+      ],
+    ) in
     subst (λ t. Ran (jobs (codes "DLIB") (codes "TGT") t c.args.files.now.ptfin.items c.args.files.now.hold.items))
     c.requires
     (subst (λ t. Ran (jobs (codes "DLIB") (codes "TGT") c.args.receive.now c.args.files.now.ptfin.items t))

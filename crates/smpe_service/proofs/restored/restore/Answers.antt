@@ -60,15 +60,15 @@ lines_of-requires c =
     (judged at.In_ok-judged).rising c.in_ok-kept.field-0.kept c.in_ok-kept.field-0.failed.items
     (decided_are at.In_ok-kept))
 
-pub returns : goal.returns
-returns c = λ new changed.
+pub returns-clause-restores : goal.returns-clause-restores
+returns-clause-restores c = λ new changed.
     let g = c.args.global.now in
     let r = restoring_from g c.args.zone.now c.args.accepted.now in
     let has = c.in_ok-candidates.ensures in
     let cands = c.in_ok-candidates.candidates.ids in
     let kept = c.in_ok-kept.field-0.kept in
     let failed = c.in_ok-kept.field-0.failed.items in
-    let decided = decided_are (goal.at.returns c).In_ok-kept in
+    let decided = decided_are (goal.at.returns-clause-restores c).In_ok-kept in
     let ids : c.as_slice-2.result.now ≡ has.listed =
     listed_are r _ c.in_ok-candidates.candidates has c.as_slice-2.result.now c.as_slice-2.ensures.rising
     (λ x. rw c.as_slice-2.ensures.items (c.in_ok-ids.ensures x)) in

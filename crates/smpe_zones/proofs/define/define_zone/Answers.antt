@@ -112,6 +112,7 @@ returns-in-Some-clause-course g c =
         none = λ clean bad. absurd (cc bad);
         which = λ bad. absurd (cc bad);
       };
+      done = tt;
       refused = λ refused. loads_read g.S.Store old new _ loads.reads;
     }
 
@@ -148,6 +149,11 @@ returns-clause-course g c =
             both.goes;
         none = λ clean bad. absurd (cc bad);
         which = λ bad. absurd (cc bad);
+      };
+      done = record {
+        before = before;
+        loads = loads_read g.S.Store old before _ c.in_ok-heads.ensures.reads;
+        commits = record { made = at.only.made; kept = λ clean. tt; crash = at.only.crash };
       };
       refused = λ refused. absurd (true≢false (sym refused));
     }

@@ -1,5 +1,6 @@
-use Rattle.std.proofs.Common.{subst, rules}
-use Rattle.std.specs.List.{flat_map}
+use Rattle.std.proofs.Common.{◌≡◌, map, subst₂, rules}
+use Rattle.std.specs.List.{flat_map, zip}
+use Rattle.zones_maps.specs.Delta.{entry_stood, element_stood}
 use Rattle.store_rows.specs.Calls.{RunsInside}
 use Rattle.store_rows.proofs.CallLemmas.{runs_then, runs_err, follows_err}
 use Rattle.store_rows.proofs.InsideLemmas.{on_ok}
@@ -12,15 +13,17 @@ use Rattle.store.proofs.delta.write_delta.Goals as goal
 pub returns-clause-ok : goal.returns-clause-ok
 returns-clause-ok g c =
     let s = g.S.Store in
+    let name = c.args.name in
     let old = c.args.tx.now.conn.now in
     let mid = c.edit_entries.new.tx.conn.now in
     let new = c.edit_elements.new.tx.conn.now in
-    on_ok c.edit_elements.result _ _
-    (λ later. both s c.args.name c.args.zone.now old mid new c.args.delta.now c.edit_elements.ensures.continues.inside
-    (subst (λ edits. ChangesZone s old mid c.args.name (EditsEntries c.args.zone.now edits)) c.entries.ensures
-    c.in_ok-edit_entries.ensures.ok)
-    (subst (λ edits. ChangesZone s mid new c.args.name (EditsElements c.args.zone.now edits)) c.elements.ensures later))
-    c.edit_elements.ensures.ok
+    on_ok c.edit_elements.result _ _ (λ later zone knows.
+    both s name zone old mid new c.args.delta.now c.edit_elements.ensures.continues.inside
+    (subst₂ (λ edits stood. stood ≡ map (entry_stood zone) edits → ChangesZone s old mid name (EditsEntries zone edits))
+    c.entries.ensures c.entries_stood.ensures (c.in_ok-edit_entries.ensures.ok zone) knows.entries)
+    (subst₂ (λ edits stood. stood ≡ map (element_stood zone) edits
+    → ChangesZone s mid new name (EditsElements zone edits))
+    c.elements.ensures c.elements_stood.ensures (later zone) knows.elements)) c.edit_elements.ensures.ok
 
 pub returns-clause-calls : goal.returns-clause-calls
 returns-clause-calls g c =
@@ -29,15 +32,16 @@ returns-clause-calls g c =
     let mid = c.edit_entries.new.tx.conn.now in
     let new = c.edit_elements.new.tx.conn.now in
     let delta = c.args.delta.now in
-    let entries = entry_calls c.args.name c.args.zone.now in
-    let elements = element_calls c.args.name c.args.zone.now in
-    runs_then s (flat_map entries delta.entries) (flat_map elements delta.elements) old mid new c.edit_entries.result
+    let entries = entry_calls c.args.name in
+    let elements = element_calls c.args.name in
+    runs_then s (flat_map entries (zip delta.edits.entries delta.entries_stood))
+    (flat_map elements (zip delta.edits.elements delta.elements_stood)) old mid new c.edit_entries.result
     (tt {0}) c.edit_elements.result c.edit_entries.ensures.continues.inside c.edit_elements.ensures.continues.inside
     c.in_ok-edit_entries.was
-    (subst (λ edits. RunsInside s (flat_map entries edits) old mid c.edit_entries.result) c.entries.ensures
-    c.edit_entries.ensures.calls)
-    (subst (λ edits. RunsInside s (flat_map elements edits) mid new c.edit_elements.result) c.elements.ensures
-    c.edit_elements.ensures.calls)
+    (subst₂ (λ edits stood. RunsInside s (flat_map entries (zip edits stood)) old mid c.edit_entries.result)
+    c.entries.ensures c.entries_stood.ensures c.edit_entries.ensures.calls)
+    (subst₂ (λ edits stood. RunsInside s (flat_map elements (zip edits stood)) mid new c.edit_elements.result)
+    c.elements.ensures c.elements_stood.ensures c.edit_elements.ensures.calls)
 
 pub returns-in_err-edit_entries-clause-calls : goal.returns-in_err-edit_entries-clause-calls
 returns-in_err-edit_entries-clause-calls g c =
@@ -45,10 +49,10 @@ returns-in_err-edit_entries-clause-calls g c =
     let old = c.args.tx.now.conn.now in
     let mid = c.edit_entries.new.tx.conn.now in
     let delta = c.args.delta.now in
-    let entries = entry_calls c.args.name c.args.zone.now in
-    runs_err s (flat_map entries delta.entries) (flat_map (element_calls c.args.name c.args.zone.now) delta.elements)
-    old mid
+    let entries = entry_calls c.args.name in
+    runs_err s (flat_map entries (zip delta.edits.entries delta.entries_stood))
+    (flat_map (element_calls c.args.name) (zip delta.edits.elements delta.elements_stood)) old mid
     c.edit_entries.result c.from_residual.result (search rules)
     (follows_err c.edit_entries.result _ _ c.in_err-edit_entries.was c.from_residual.ensures.1)
-    (subst (λ edits. RunsInside s (flat_map entries edits) old mid c.edit_entries.result) c.entries.ensures
-    c.edit_entries.ensures.calls)
+    (subst₂ (λ edits stood. RunsInside s (flat_map entries (zip edits stood)) old mid c.edit_entries.result)
+    c.entries.ensures c.entries_stood.ensures c.edit_entries.ensures.calls)

@@ -13,8 +13,7 @@ pub returns-in-Zone-clause-ok : goal.returns-in-Zone-clause-ok
 returns-in-Zone-clause-ok g c =
     let z = c.in-Zone in
     rw z.is (on_ok c.write_delta.result _ _
-    (delta_written g.S.Store c.args.tx.now.conn.now c.write_delta.new.tx.conn.now z.name z.zone z.delta
-    c.attest.ensures)
+    (delta_written g.S.Store c.args.tx.now.conn.now c.write_delta.new.tx.conn.now z.name z.delta)
     c.write_delta.ensures.ok)
 
 pub returns-in-Global-clause-ok : goal.returns-in-Global-clause-ok

@@ -1,4 +1,3 @@
-use Rattle.std.proofs.Common.{option_copied}
 use Rattle.store_rows.proofs.InsideLemmas.{on_ok}
 use Rattle.store_schema.specs.Stands.{rows_of}
 use Rattle.store_zones.proofs.ZoneLemmas.{element_put}
@@ -6,6 +5,6 @@ use Rattle.store_zones.proofs.element.put_element.Goals as goal
 
 pub returns-clause-stands : goal.returns-clause-stands
 returns-clause-stands g c =
-    on_ok c.put_row.result _ _ (λ turned i j was is change put clean held.
-    element_put i j c.args.zone was is change (option_copied c.args.stood) c.args.element.now _ put
+    on_ok c.put_row.result _ _ (λ turned old same i j was is change put clean held.
+    element_put i j c.args.zone was is change old c.args.stood c.args.element.now _ same put
     (turned clean (rows_of i) held)) c.put_row.ensures.ok

@@ -1,4 +1,4 @@
-use Rattle.std.proofs.Common.{◌≡◌, Bool, true, false, is_some, option_copied, sym, ap, subst, ◌∙◌}
+use Rattle.std.proofs.Common.{◌≡◌, Bool, true, false, sym, ap, subst, ◌∙◌}
 use Rattle.std.specs.List.{join_with_byte, concat}
 use Rattle.store_rows.proofs.InsideLemmas.{on_ok}
 use Rattle.terms.specs.Types.{Element}
@@ -16,7 +16,7 @@ use Rattle.store_zones.proofs.element.put_row.Goals as goal
 
 put : (g : Over) (c : After-put g) → WritesRow g.S.Store put_element insert_element zelem 3 c.args.tx.now.conn.now
     c.put.new.tx.conn.now c.put.result (zelem_row c.args.zone.now c.args.element.now)
-    (is_some (option_copied c.args.stood))
+    c.args.stood
 put g c =
     let e = the_view c.element.inside in
     let view : e ≡ c.args.element.now = c.element.view_is in
@@ -35,7 +35,7 @@ put g c =
     let ran = puts_row g.S.Store put_element zelem old new q 3 (zelem_row zone e) _ row (kept_element zone e)
     c.put.ensures.calls (on_ok q _ _ (λ ran. ran store_schema 8 zelem 3 puts_element) c.put.ensures.ok) in
     subst (λ (b : Bool). WritesRow g.S.Store put_element insert_element zelem 3 old new q
-    (zelem_row zone c.args.element.now) b) (sym (ap (λ o. is_some (option_copied o)) c.in-Some.is))
+    (zelem_row zone c.args.element.now) b) (sym c.if-stood.true)
     (subst (λ (x : Element). WritesRow g.S.Store put_element insert_element zelem 3 old new q (zelem_row zone x) true)
     view (
       ran.0,
@@ -47,7 +47,7 @@ put g c =
 
 insert : (g : Over) (c : After-insert g) → WritesRow g.S.Store put_element insert_element zelem 3
     c.args.tx.now.conn.now c.insert.new.tx.conn.now c.insert.result (zelem_row c.args.zone.now c.args.element.now)
-    (is_some (option_copied c.args.stood))
+    c.args.stood
 insert g c =
     let e = the_view c.element.inside in
     let view : e ≡ c.args.element.now = c.element.view_is in
@@ -64,20 +64,20 @@ insert g c =
     c.as_bytes.ensures.same c.type_text.ensures c.as_bytes-2.ensures.same c.as_bytes-3.ensures.same
     c.as_bytes-4.ensures.same umids c.as_bytes-5.ensures.same c.as_bytes-6.ensures.same text in
     subst (λ (b : Bool). WritesRow g.S.Store put_element insert_element zelem 3 old new q
-    (zelem_row zone c.args.element.now) b) (sym (ap (λ o. is_some (option_copied o)) c.in-None.is))
+    (zelem_row zone c.args.element.now) b) (sym c.if-stood.false)
     (subst (λ (x : Element). WritesRow g.S.Store put_element insert_element zelem 3 old new q (zelem_row zone x) false)
     view
     (inserts_row g.S.Store insert_element zelem old new q (zelem_row zone e) _ row (kept_element zone e)
     c.insert.ensures.calls (on_ok q _ _ (λ ran. ran store_schema 8 zelem adds_element) c.insert.ensures.ok)))
 
-pub returns-in-Some-clause-ok : goal.returns-in-Some-clause-ok
-returns-in-Some-clause-ok g c = (put g (goal.at.returns-in-Some-clause-ok g c).After-put).1
+pub returns-then-stood-clause-ok : goal.returns-then-stood-clause-ok
+returns-then-stood-clause-ok g c = (put g (goal.at.returns-then-stood-clause-ok g c).After-put).1
 
-pub returns-in-Some-clause-calls : goal.returns-in-Some-clause-calls
-returns-in-Some-clause-calls g c = (put g (goal.at.returns-in-Some-clause-calls g c).After-put).0
+pub returns-then-stood-clause-calls : goal.returns-then-stood-clause-calls
+returns-then-stood-clause-calls g c = (put g (goal.at.returns-then-stood-clause-calls g c).After-put).0
 
-pub returns-in-None-clause-ok : goal.returns-in-None-clause-ok
-returns-in-None-clause-ok g c = (insert g (goal.at.returns-in-None-clause-ok g c).After-insert).1
+pub returns-clause-ok : goal.returns-clause-ok
+returns-clause-ok g c = (insert g (goal.at.returns-clause-ok g c).After-insert).1
 
-pub returns-in-None-clause-calls : goal.returns-in-None-clause-calls
-returns-in-None-clause-calls g c = (insert g (goal.at.returns-in-None-clause-calls g c).After-insert).0
+pub returns-clause-calls : goal.returns-clause-calls
+returns-clause-calls g c = (insert g (goal.at.returns-clause-calls g c).After-insert).0

@@ -1,4 +1,4 @@
-use Rattle.std.proofs.Common.{◌≡◌, Bool, true, false, is_some, option_copied, sym, ap, subst, ◌∙◌}
+use Rattle.std.proofs.Common.{◌≡◌, Bool, true, false, sym, ap, subst, ◌∙◌}
 use Rattle.std.specs.List.{join_with_byte}
 use Rattle.terms.specs.Types.{Entry}
 use Rattle.store_rows.proofs.InsideLemmas.{on_ok}
@@ -15,7 +15,7 @@ use Rattle.store_zones.proofs.entry.put_row.Goals as goal
 
 put : (g : Over) (c : After-put g) → WritesRow g.S.Store put_entry insert_entry entry 2 c.args.tx.now.conn.now
     c.put.new.tx.conn.now c.put.result (entry_row c.args.zone.now c.args.entry.now)
-    (is_some (option_copied c.args.stood))
+    c.args.stood
 put g c =
     let e = the_view c.entry.inside in
     let view : e ≡ c.args.entry.now = c.entry.view_is in
@@ -30,7 +30,7 @@ put g c =
     let ran = puts_row g.S.Store put_entry entry old new q 2 (entry_row zone e) _ row (kept_entry zone e)
     c.put.ensures.calls (on_ok q _ _ (λ ran. ran store_schema 7 entry 2 puts_entry) c.put.ensures.ok) in
     subst (λ (b : Bool). WritesRow g.S.Store put_entry insert_entry entry 2 old new q
-    (entry_row zone c.args.entry.now) b) (sym (ap (λ o. is_some (option_copied o)) c.in-Some.is))
+    (entry_row zone c.args.entry.now) b) (sym c.if-stood.true)
     (subst (λ (x : Entry). WritesRow g.S.Store put_entry insert_entry entry 2 old new q (entry_row zone x) true) view (
       ran.0,
       on_ok q _ _ (λ put clean contents was.
@@ -39,7 +39,7 @@ put g c =
 
 insert : (g : Over) (c : After-insert g) → WritesRow g.S.Store put_entry insert_entry entry 2 c.args.tx.now.conn.now
     c.insert.new.tx.conn.now c.insert.result (entry_row c.args.zone.now c.args.entry.now)
-    (is_some (option_copied c.args.stood))
+    c.args.stood
 insert g c =
     let e = the_view c.entry.inside in
     let view : e ≡ c.args.entry.now = c.entry.view_is in
@@ -52,19 +52,19 @@ insert g c =
     c.date_value.ensures (c.requires.supby ∙ sym (ap (λ (x : Entry). join_with_byte 44 x.supby) view))
     c.text_or_null.ensures (c.requires.waived ∙ sym (ap (λ (x : Entry). join_with_byte 44 x.waived) view)) in
     subst (λ (b : Bool). WritesRow g.S.Store put_entry insert_entry entry 2 old new q
-    (entry_row zone c.args.entry.now) b) (sym (ap (λ o. is_some (option_copied o)) c.in-None.is))
+    (entry_row zone c.args.entry.now) b) (sym c.if-stood.false)
     (subst (λ (x : Entry). WritesRow g.S.Store put_entry insert_entry entry 2 old new q (entry_row zone x) false) view
     (inserts_row g.S.Store insert_entry entry old new q (entry_row zone e) _ row (kept_entry zone e)
     c.insert.ensures.calls (on_ok q _ _ (λ ran. ran store_schema 7 entry adds_entry) c.insert.ensures.ok)))
 
-pub returns-in-Some-clause-ok : goal.returns-in-Some-clause-ok
-returns-in-Some-clause-ok g c = (put g (goal.at.returns-in-Some-clause-ok g c).After-put).1
+pub returns-then-stood-clause-ok : goal.returns-then-stood-clause-ok
+returns-then-stood-clause-ok g c = (put g (goal.at.returns-then-stood-clause-ok g c).After-put).1
 
-pub returns-in-Some-clause-calls : goal.returns-in-Some-clause-calls
-returns-in-Some-clause-calls g c = (put g (goal.at.returns-in-Some-clause-calls g c).After-put).0
+pub returns-then-stood-clause-calls : goal.returns-then-stood-clause-calls
+returns-then-stood-clause-calls g c = (put g (goal.at.returns-then-stood-clause-calls g c).After-put).0
 
-pub returns-in-None-clause-ok : goal.returns-in-None-clause-ok
-returns-in-None-clause-ok g c = (insert g (goal.at.returns-in-None-clause-ok g c).After-insert).1
+pub returns-clause-ok : goal.returns-clause-ok
+returns-clause-ok g c = (insert g (goal.at.returns-clause-ok g c).After-insert).1
 
-pub returns-in-None-clause-calls : goal.returns-in-None-clause-calls
-returns-in-None-clause-calls g c = (insert g (goal.at.returns-in-None-clause-calls g c).After-insert).0
+pub returns-clause-calls : goal.returns-clause-calls
+returns-clause-calls g c = (insert g (goal.at.returns-clause-calls g c).After-insert).0

@@ -9,17 +9,17 @@ use Rattle.report.specs.Views.{line_view, header_view}
 use Rattle.store.specs.declared.change.Change.{Change}
 use Rattle.terms.specs.Types.{Zone}
 use Rattle.zones_maps.specs.Changed.{delta_of}
-use Rattle.zones_maps.specs.Delta.{IsChanged}
+use Rattle.zones_maps.specs.Delta.{IsEdited}
 use Rattle.smpe_zones.specs.Own.{IsOfZone}
-use Rattle.smpe_session.specs.Writing.{IsAtBoundary, TellsRun}
-use Rattle.smpe_session.proofs.CarriedOut.{checks, fails, carries, zone_of}
+use Rattle.smpe_session.specs.Writing.{IsAtBoundary, TellsOutcomeOf, TellsRun}
+use Rattle.smpe_session.proofs.CarriedOut.{checks, fails, carries}
 use Rattle.smpe_session.proofs.Installed.{install_session}
 use Rattle.smpe_session.proofs.Stepping.{stopped}
 use Rattle.smpe_session.proofs.Using.{nothing, answered, handed, ran_short, no_answer}
 use Rattle.smpe_session.proofs.session.Session.carry_out.Goals as goal
 
-pub returns-then-header : goal.returns-then-header
-returns-then-header g c = answered nothing (λ own none. absurd none)
+pub returns-then-header-clause-uses : goal.returns-then-header-clause-uses
+returns-then-header-clause-uses g c = answered nothing (λ own none. absurd none)
     (λ s inventory keeps is date files command planned. (
       s,
       checks date files command s c.args.self.now c.args.name c.args.delta c.args.header.check
@@ -29,42 +29,39 @@ returns-then-header g c = answered nothing (λ own none. absurd none)
       keeps,
     ))
 
-pub returns-in_default : goal.returns-in_default
-returns-in_default g c =
+pub returns-in_default-clause-uses : goal.returns-in_default-clause-uses
+returns-in_default-clause-uses g c =
     let none : get bytes_eq c.args.self.now.zones c.args.name ≡ None = search rules in
     answered nothing (λ own no. absurd no) (λ s inventory keeps is date files command planned.
     absurd (cc (sym none ∙ planned.has)))
 
-pub returns-in_err-prepared : goal.returns-in_err-prepared
-returns-in_err-prepared g c = ran_short c.from_residual.ensures.1 nothing
+pub returns-in_err-prepared-clause-uses : goal.returns-in_err-prepared-clause-uses
+returns-in_err-prepared-clause-uses g c = ran_short c.from_residual.ensures.1 nothing
     (λ s inventory keeps is date files command planned. stopped g.S.Store c.args.store.now s
     (Perform date files command) keeps)
 
-pub returns-in_err-outcome : goal.returns-in_err-outcome
-returns-in_err-outcome g c = handed c.from_residual-in_err-outcome.ensures.1 c.in_err-outcome.ensures.uses
+pub returns-in_err-outcome-clause-uses : goal.returns-in_err-outcome-clause-uses
+returns-in_err-outcome-clause-uses g c = handed c.from_residual-in_err-outcome.ensures.1 c.in_err-outcome.ensures.uses
     (λ own is. (
-      subst IsOfZone (sym is) tt,
+      subst IsOfZone (sym is) (c.requires.knows.0, c.attest.ensures, c.requires.knows.1),
       c.if-header.false,
       no_answer c.from_residual-in_err-outcome.result _ _ c.from_residual-in_err-outcome.ensures.1,
     ))
     (λ s inventory ended is date files command planned.
-    let here : get bytes_eq c.args.self.now.zones c.args.name ≡ Some c.in-Some.zone.now = sym c.in-Some.ensures.value in
-    let both : Some c.in-Some.zone.now ≡ Some planned.zone = sym here ∙ planned.has in
-    let same : c.in-Some.zone.now ≡ planned.zone = cc both in
     fails date files command s c.args.self.now c.args.name c.args.delta c.args.header.check
     (Ran (header_view c.args.header) (map line_view c.args.lines.items)) planned inventory c.if-header.false
-    (zone_of c.in_err-outcome.ensures.uses) same g.S.Store c.args.store.now c.commit_change.new.store
+    g.S.Store c.args.store.now c.commit_change.new.store
     (report.Ran c.args.header c.args.lines) refl
     (record c.args.self.now { zones = c.get_mut.follows.lender c.in-Some.zone.now }) c.attest.ensures
     c.in_err-outcome.field-0.0 ended)
 
-pub returns : goal.returns
-returns g c = answered c.in_ok-outcome.ensures.uses
+pub returns-clause-uses : goal.returns-clause-uses
+returns-clause-uses g c = answered c.in_ok-outcome.ensures.uses
     (λ own is. (
-      subst IsOfZone (sym is) tt,
+      subst IsOfZone (sym is) (c.requires.knows.0, c.attest.ensures, c.requires.knows.1),
       c.if-header.false,
       subst (TellsRun own) (sym c.in_ok-outcome.ensures.answer)
-          (subst (λ (change : Change). IsAtBoundary change (header_view c.args.header)) (sym is) c.requires),
+          (subst (λ (change : Change). IsAtBoundary change (header_view c.args.header)) (sym is) c.requires.boundary),
     ))
     (λ s inventory ended is date files command planned.
     let name = c.args.name in
@@ -73,12 +70,32 @@ returns g c = answered c.in_ok-outcome.ensures.uses
     let here : get bytes_eq c.args.self.now.zones name ≡ Some c.in-Some.zone.now = sym c.in-Some.ensures.value in
     let both : Some c.in-Some.zone.now ≡ Some planned.zone = sym here ∙ planned.has in
     let same : c.in-Some.zone.now ≡ planned.zone = cc both in
-    let changed = subst (λ d. IsChanged d planned.zone new) c.in_ok-prepared.ensures.is_delta
-    (subst (λ (zone : Zone). IsChanged (delta_of c.in_ok-prepared.prepared) zone new) same c.edit.ensures) in
+    let changed = subst (λ edits. IsEdited edits planned.zone new) c.in_ok-prepared.ensures.is_delta
+    (subst (λ (zone : Zone). IsEdited (delta_of c.in_ok-prepared.prepared) zone new) same c.edit.ensures) in
     carries date files command s c.args.self.now name c.args.delta c.args.header.check
     (Ran (header_view c.args.header) (map line_view c.args.lines.items)) planned inventory c.if-header.false
-    (zone_of c.in_ok-outcome.ensures.uses) same g.S.Store c.args.store.now c.commit_change.new.store
+    g.S.Store c.args.store.now c.commit_change.new.store
     (report.Ran c.args.header c.args.lines) refl session new changed c.attest.ensures
     (install_session s name planned.zone new inventory planned.is_there c.args.self.now session is refl refl
     ((c.get_mut.follows.holds new).3 (subst IsSome (sym here) refl)))
     (Ok c.in_ok-outcome.outcome) ended)
+
+-- ---- the header
+
+pub returns-then-header-clause-header : goal.returns-then-header-clause-header
+returns-then-header-clause-header g c = λ command boundary is. (boundary, is)
+
+pub returns-in_default-clause-header : goal.returns-in_default-clause-header
+returns-in_default-clause-header g c = λ command boundary is. (boundary, is)
+
+pub returns-in_err-prepared-clause-header : goal.returns-in_err-prepared-clause-header
+returns-in_err-prepared-clause-header g c = λ command boundary is.
+    no_answer c.from_residual.result _ _ c.from_residual.ensures.1
+
+pub returns-in_err-outcome-clause-header : goal.returns-in_err-outcome-clause-header
+returns-in_err-outcome-clause-header g c = λ command boundary is.
+    no_answer c.from_residual-in_err-outcome.result _ _ c.from_residual-in_err-outcome.ensures.1
+
+pub returns-clause-header : goal.returns-clause-header
+returns-clause-header g c = λ command boundary is.
+    subst (TellsOutcomeOf command) (sym c.in_ok-outcome.ensures.answer) (boundary, is)

@@ -7,7 +7,7 @@ use Rattle.mcs.specs.HoldItems.{items as hold_items}
 use Rattle.report.specs.Views.{line_view}
 use Rattle.store.specs.declared.change.Change.TheVariants as Change
 use Rattle.smpe_zones.specs.Own.{IsReceived}
-use Rattle.smpe_session.specs.Writing.{TellsRun}
+use Rattle.smpe_session.specs.Writing.{TellsOutcomeOf, TellsRun}
 use Rattle.smpe_session.proofs.Leading.{led, refused, stated_in}
 use Rattle.smpe_session.proofs.Places.{receive_at}
 use Rattle.smpe_session.proofs.Received.{each_external, received, received_here, take_faulty}
@@ -15,8 +15,8 @@ use Rattle.smpe_session.proofs.Stepping.{stopped}
 use Rattle.smpe_session.proofs.Using.{nothing, answered, ran_short, weaker}
 use Rattle.smpe_session.proofs.session.Session.receive.Goals as goal
 
-pub returns-in-Some : goal.returns-in-Some
-returns-in-Some g c = answered nothing (λ own none. absurd none) (λ s inventory keeps is date. (
+pub returns-in-Some-clause-uses : goal.returns-in-Some-clause-uses
+returns-in-Some-clause-uses g c = answered nothing (λ own none. absurd none) (λ s inventory keeps is date. (
   s,
   refused date c.args.files.now (Receive c.args.what.now) s c.args.self.now.boundary _ is.boundary
       (sym (c.in-Some.ensures.refused s (sym is.boundary) ∙ receive_at s c.args.what.now)),
@@ -24,12 +24,12 @@ returns-in-Some g c = answered nothing (λ own none. absurd none) (λ s inventor
   keeps,
 ))
 
-pub returns-in_err-found : goal.returns-in_err-found
-returns-in_err-found g c = ran_short c.from_residual.ensures.1 nothing (λ s inventory keeps is date.
+pub returns-in_err-found-clause-uses : goal.returns-in_err-found-clause-uses
+returns-in_err-found-clause-uses g c = ran_short c.from_residual.ensures.1 nothing (λ s inventory keeps is date.
     stopped g.S.Store c.args.store.now s (Perform date c.args.files.now (Receive c.args.what.now)) keeps)
 
-pub returns-in-Err : goal.returns-in-Err
-returns-in-Err g c = answered nothing (λ own none. absurd none) (λ s inventory keeps is date. (
+pub returns-in-Err-clause-uses : goal.returns-in-Err-clause-uses
+returns-in-Err-clause-uses g c = answered nothing (λ own none. absurd none) (λ s inventory keeps is date. (
   s,
   take_faulty date c.args.files.now c.args.what.now s c.args.self.now.boundary c.in-Err.refusal is.boundary
       (sym (c.in_default.ensures.refused s (sym is.boundary) ∙ receive_at s c.args.what.now))
@@ -42,16 +42,16 @@ pub take_found-requires : goal.take_found-requires
 take_found-requires g c = each_external c.args.what.now.holddata c.args.files.now.holds
     (hold_items c.in-Ok.found.holds.items) (rw c.in-Ok.is at c.in_ok-found.ensures).1
 
-pub returns-in_err-edits : goal.returns-in_err-edits
-returns-in_err-edits g c = ran_short c.from_residual-in_err-edits.ensures.1 nothing (λ s inventory keeps is date.
+pub returns-in_err-edits-clause-uses : goal.returns-in_err-edits-clause-uses
+returns-in_err-edits-clause-uses g c = ran_short c.from_residual-in_err-edits.ensures.1 nothing (λ s inventory keeps is date.
     stopped g.S.Store c.args.store.now s (Perform date c.args.files.now (Receive c.args.what.now)) keeps)
 
-pub returns-in_err-lines : goal.returns-in_err-lines
-returns-in_err-lines g c = ran_short c.from_residual-in_err-lines.ensures.1 nothing (λ s inventory keeps is date.
+pub returns-in_err-lines-clause-uses : goal.returns-in_err-lines-clause-uses
+returns-in_err-lines-clause-uses g c = ran_short c.from_residual-in_err-lines.ensures.1 nothing (λ s inventory keeps is date.
     stopped g.S.Store c.args.store.now s (Perform date c.args.files.now (Receive c.args.what.now)) keeps)
 
-pub returns : goal.returns
-returns g c =
+pub returns-clause-uses : goal.returns-clause-uses
+returns-clause-uses g c =
     let stays : c.match-this.self ≡ record c.args.self.now { global = c.take_found.new.global } = search rules in
     rw stays (weaker c.commit_change.ensures.uses
     (λ change is.
@@ -75,6 +75,20 @@ returns g c =
     c.in_ok-lines.ensures in
     led g.S.Store c.args.store.now c.commit_change.new.store date files (Receive what) s at.boundary at
     (record at { global = new }) taken.edits.items lines _ is.boundary is refl refl leads
-    (Change.Global (stated_in c.commit_change.ensures.uses) taken.edits) c.in_ok-edits.ensures.taken.receives
+    (Change.Global (stated_in c.commit_change.ensures.uses) taken.edits) c.in_ok-edits.ensures.taken.receives tt
     (leads.fits, leads.makes) c.commit_change.result
     (ended (record s { global = new }) (leads.fits, leads.makes) leads.inventory) refl))
+
+-- ---- the header
+
+pub returns-in-Some-clause-header : goal.returns-in-Some-clause-header
+returns-in-Some-clause-header g c = (c.args.self.now.boundary, refl)
+
+pub returns-in-Err-clause-header : goal.returns-in-Err-clause-header
+returns-in-Err-clause-header g c = (c.args.self.now.boundary, refl)
+
+pub returns-clause-header : goal.returns-clause-header
+returns-clause-header g c =
+    IfOk-weaker c.commit_change.result _ (TellsOutcomeOf (Receive c.args.what.now))
+    (λ told same. subst (TellsOutcomeOf (Receive c.args.what.now)) (sym same) (c.args.self.now.boundary, refl))
+    c.commit_change.ensures.answer

@@ -6,7 +6,7 @@ use Rattle.report.specs.Views.{line_view}
 use Rattle.store.specs.declared.change.Change.TheVariants as Change
 use Rattle.smpe_zones.specs.Own.{IsRejected}
 use Rattle.smpe_zones.proofs.Keeping.{act_unmoved}
-use Rattle.smpe_session.specs.Writing.{TellsRun}
+use Rattle.smpe_session.specs.Writing.{TellsOutcomeOf, TellsRun}
 use Rattle.smpe_session.proofs.AllZones.{alike}
 use Rattle.smpe_session.proofs.Leading.{led, refused, stated_in}
 use Rattle.smpe_session.proofs.Rejected.{rejected, rejected_here}
@@ -15,8 +15,8 @@ use Rattle.smpe_session.proofs.Stepping.{performs_since, stopped}
 use Rattle.smpe_session.proofs.Using.{nothing, after, answered, handed_on, ran_short, weaker}
 use Rattle.smpe_session.proofs.session.Session.reject.Goals as goal
 
-pub returns-in-Some : goal.returns-in-Some
-returns-in-Some g c = answered nothing (λ own none. absurd none) (λ s inventory keeps is date files. (
+pub returns-in-Some-clause-uses : goal.returns-in-Some-clause-uses
+returns-in-Some-clause-uses g c = answered nothing (λ own none. absurd none) (λ s inventory keeps is date files. (
   s,
   refused date files (Reject c.args.ids.now) s c.args.self.now.boundary _ is.boundary
       (sym (c.in-Some.ensures.refused s (sym is.boundary) ∙ reject_at s c.args.ids.now)),
@@ -24,18 +24,18 @@ returns-in-Some g c = answered nothing (λ own none. absurd none) (λ s inventor
   keeps,
 ))
 
-pub returns-in_err-load_zones : goal.returns-in_err-load_zones
-returns-in_err-load_zones g c = handed_on c.from_residual.ensures.1 c.in_err-load_zones.ensures
+pub returns-in_err-load_zones-clause-uses : goal.returns-in_err-load_zones-clause-uses
+returns-in_err-load_zones-clause-uses g c = handed_on c.from_residual.ensures.1 c.in_err-load_zones.ensures
     (λ s inventory un is date files. act_unmoved g.S.Store c.args.store.now c.load_zones.new.store s
     (Perform date files (Reject c.args.ids.now)) c.in_err-load_zones.field-0.0 (un is))
 
-pub returns-in_err-edits : goal.returns-in_err-edits
-returns-in_err-edits g c = ran_short c.from_residual-in_err-edits.ensures.1 c.in_ok-load_zones.ensures
+pub returns-in_err-edits-clause-uses : goal.returns-in_err-edits-clause-uses
+returns-in_err-edits-clause-uses g c = ran_short c.from_residual-in_err-edits.ensures.1 c.in_ok-load_zones.ensures
     (λ s inventory had is date files. stopped g.S.Store c.load_zones.new.store s
     (Perform date files (Reject c.args.ids.now)) (had is).1)
 
-pub returns : goal.returns
-returns g c =
+pub returns-clause-uses : goal.returns-clause-uses
+returns-clause-uses g c =
     let stays : c.match-this.self ≡ record c.load_zones.new.self { global = c.reject.new.global } = search rules in
     rw stays (weaker (after c.in_ok-load_zones.ensures c.commit_change.ensures.uses)
     (λ change is.
@@ -59,6 +59,17 @@ returns g c =
     c.load_zones.ensures.once.follows _ date files (Reject c.args.ids.now) c.commit_change.result
     (led g.S.Store c.load_zones.new.store c.commit_change.new.store date files (Reject c.args.ids.now) s
     c.args.self.now.boundary at (record at { global = new }) rejects.edits.items lines _ is.boundary had.0.session refl
-    refl leads (Change.Global (stated_in c.commit_change.ensures.uses) rejects.edits) c.in_ok-edits.ensures.rejects
+    refl leads (Change.Global (stated_in c.commit_change.ensures.uses) rejects.edits) c.in_ok-edits.ensures.rejects tt
     (leads.fits, leads.makes) c.commit_change.result
     (both.1 had.1 (record s { global = new }) (leads.fits, leads.makes) leads.inventory) refl)))
+
+-- ---- the header
+
+pub returns-in-Some-clause-header : goal.returns-in-Some-clause-header
+returns-in-Some-clause-header g c = (c.args.self.now.boundary, refl)
+
+pub returns-clause-header : goal.returns-clause-header
+returns-clause-header g c =
+    IfOk-weaker c.commit_change.result _ (TellsOutcomeOf (Reject c.args.ids.now))
+    (λ told same. subst (TellsOutcomeOf (Reject c.args.ids.now)) (sym same) (c.args.self.now.boundary, refl))
+    c.commit_change.ensures.answer

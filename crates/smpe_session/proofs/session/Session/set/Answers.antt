@@ -6,13 +6,13 @@ use Rattle.smpe_session.proofs.Seeking.{set_refused, set_ran, set_session}
 use Rattle.smpe_session.proofs.Using.{answered, handed_on}
 use Rattle.smpe_session.proofs.session.Session.set.Goals as goal
 
-pub returns-in_err-seek : goal.returns-in_err-seek
-returns-in_err-seek g c = handed_on c.from_residual.ensures.1 c.in_err-seek.ensures.uses
+pub returns-in_err-seek-clause-uses : goal.returns-in_err-seek-clause-uses
+returns-in_err-seek-clause-uses g c = handed_on c.from_residual.ensures.1 c.in_err-seek.ensures.uses
     (λ s inventory un is date files. act_unmoved g.S.Store c.args.store.now c.seek.new.store s
     (Perform date files (Set c.args.name)) c.in_err-seek.field-0.0 (un is))
 
-pub returns-then-not-branch : goal.returns-then-not-branch
-returns-then-not-branch g c = answered c.in_ok-seek.ensures.uses (λ own none. absurd none)
+pub returns-then-not-branch-clause-uses : goal.returns-then-not-branch-clause-uses
+returns-then-not-branch-clause-uses g c = answered c.in_ok-seek.ensures.uses (λ own none. absurd none)
     (λ s inventory found is date files.
     let sought = found is in (
       s,
@@ -21,8 +21,8 @@ returns-then-not-branch g c = answered c.in_ok-seek.ensures.uses (λ own none. a
       sought.1,
     ))
 
-pub returns : goal.returns
-returns g c = answered c.in_ok-seek.ensures.uses (λ own none. absurd none) (λ s inventory found is date files.
+pub returns-clause-uses : goal.returns-clause-uses
+returns-clause-uses g c = answered c.in_ok-seek.ensures.uses (λ own none. absurd none) (λ s inventory found is date files.
     let sought = found is in (
       record s { boundary = Some c.args.name },
       set_ran s c.seek.new.self c.args.name date files _ c.in_ok-seek.field-0 sought.0 c.if-not-branch.false
@@ -30,3 +30,11 @@ returns g c = answered c.in_ok-seek.ensures.uses (λ own none. absurd none) (λ 
       set_session s c.seek.new.self _ c.args.name c.in_ok-seek.field-0 sought.0 c.if-not-branch.false refl refl refl,
       sought.1,
     ))
+
+-- ---- the header
+
+pub returns-then-not-branch-clause-header : goal.returns-then-not-branch-clause-header
+returns-then-not-branch-clause-header g c = (Some c.args.name, refl)
+
+pub returns-clause-header : goal.returns-clause-header
+returns-clause-header g c = (Some c.args.name, refl)

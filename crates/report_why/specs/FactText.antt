@@ -1,0 +1,136 @@
+-- The text of facts, and the status of an answer.
+use Rattle.std.specs.Prelude.{ℕ, Bool, true, false, List, [], ◌∷◌, ◌++◌, Option, None, Some, codes, decimal, map, max}
+use Rattle.std.specs.List.{flat_map}
+use Rattle.terms.specs.declared.kinds.Kind.{Kind}
+use Rattle.terms.specs.declared.kinds.ZoneKind.TheVariants.{Target, Distribution}
+use Rattle.terms.specs.Types.{Text, Id, Hold}
+use Rattle.terms.specs.Spelling.{kind_text, hold_text, type_text, need_text}
+use Rattle.report_why.specs.Facts.{Standing, StandsApplied, StandsSuperseded, StandsDeleted, StandsReceived, StandsMissing}
+use Rattle.report_why.specs.Facts.{Requisite, Answer, Supplied, Waived, ByItself, Open, Rank, Itself, Over, NotOver, Maker, Found, Fact}
+use Rattle.report_why.specs.Facts.{StandingFact, EntryFact, VerFact, RequisiteFact, HoldFact, ElementFact, DeleteFact}
+use Rattle.report_why.specs.Facts.{TakesFact, NpreFact, ForbiddenFact, NeededFact}
+use Rattle.machine.specs.Report.{words_line, detail_line, left_in, optional_text, mark_text, entry_text}
+
+-- a line behind four blanks
+abbrev pub inner_line : List Text → Text
+inner_line words = 32 ∷ 32 ∷ detail_line words
+
+-- the word where it is so, else -
+abbrev pub word_if : Bool → Text → Text
+word_if true word = word
+word_if false word = codes "-"
+
+abbrev pub type_word : Option Kind → Text
+type_word None = codes "-"
+type_word (Some kind) = kind_text kind
+
+abbrev pub standing_text : Standing → Text
+standing_text (StandsApplied Target) = codes "APPLIED"
+standing_text (StandsApplied Distribution) = codes "ACCEPTED"
+standing_text StandsSuperseded = codes "SUPERSEDED"
+standing_text StandsDeleted = codes "DELETED"
+standing_text StandsReceived = codes "RECEIVED"
+standing_text StandsMissing = codes "MISSING"
+
+-- the word of an answer
+abbrev pub answer_word : Answer → Text
+answer_word (Supplied ids) = codes "SUPPLIED"
+answer_word Waived = codes "WAIVED"
+answer_word ByItself = codes "ITSELF"
+answer_word (Open ids) = codes "OPEN"
+
+-- an id a line; of none one line with -
+abbrev pub id_lines : Text → List Id → Text
+id_lines word [] = inner_line (word ∷ codes "-" ∷ [])
+id_lines word (x ∷ xs) = flat_map (λ id. inner_line (word ∷ id ∷ [])) (x ∷ xs)
+
+-- who supplies it, or who would serve it
+abbrev pub answer_lines : Answer → Text
+answer_lines (Supplied ids) = id_lines (codes "SUPPLIER") ids
+answer_lines Waived = []
+answer_lines ByItself = []
+answer_lines (Open ids) = id_lines (codes "CANDIDATE") ids
+
+-- the function of an ++IF, and who states it
+abbrev pub condition_words : Option Id → Id → List Text
+condition_words None by = []
+condition_words (Some f) by = codes "FMID" ∷ f ∷ codes "BY" ∷ by ∷ []
+
+abbrev pub requisite_text : Requisite → Answer → Text
+requisite_text r a =
+    detail_line (need_text r.kind ∷ r.id ∷ condition_words r.function r.by ++ answer_word a ∷ []) ++ answer_lines a
+
+abbrev pub resolution_words : Option Answer → List Text
+resolution_words None = []
+resolution_words (Some a) = answer_word a ∷ []
+
+abbrev pub resolution_lines : Option Answer → Text
+resolution_lines None = []
+resolution_lines (Some a) = answer_lines a
+
+abbrev pub comment_line : Option Text → Text
+comment_line None = []
+comment_line (Some text) = inner_line (codes "COMMENT" ∷ text ∷ [])
+
+abbrev pub hold_lines : Hold → Option Answer → Text
+hold_lines h o =
+    detail_line (codes "HOLD" ∷ left_in 6 (hold_text h.kind) ∷ h.reason ∷ mark_text h.internal
+    ∷ codes "CLASS" ∷ optional_text h.class ∷ codes "DATE" ∷ optional_text h.date ∷ resolution_words o)
+    ++ comment_line h.comment ++ resolution_lines o
+
+abbrev pub rank_text : Rank → Text
+rank_text Itself = codes "ITSELF"
+rank_text Over = codes "OVER"
+rank_text NotOver = codes "NOTOVER"
+
+abbrev pub owned_text : Bool → Text
+owned_text true = codes "OWNED"
+owned_text false = codes "NOTOWNED"
+
+abbrev pub maker_line : Text → Maker → Text
+maker_line word m = inner_line (word ∷ m.id ∷ rank_text m.rank ∷ [])
+
+-- what the zone has of an element, - where it has none
+abbrev pub found_words : Option Found → List Text
+found_words None = codes "-" ∷ []
+found_words (Some f) = f.fmid ∷ owned_text f.owned ∷ []
+
+abbrev pub found_lines : Option Found → Text
+found_lines None = []
+found_lines (Some f) = maker_line (codes "RMID") f.rmid ++ flat_map (maker_line (codes "UMID")) f.umids
+
+abbrev pub change_text : Bool → Text
+change_text true = codes "REPLACES"
+change_text false = codes "UPDATES"
+
+-- the lines of a fact
+abbrev pub fact_text : Fact → Text
+fact_text (StandingFact x kind s) = words_line (x ∷ left_in 8 (type_word kind) ∷ standing_text s ∷ [])
+fact_text (EntryFact kind e) = 32 ∷ 32 ∷ entry_text kind e
+fact_text (VerFact n fmid fit counts) =
+    detail_line (codes "VER" ∷ decimal n ∷ codes "FMID" ∷ optional_text fmid ∷ word_if fit (codes "FITS")
+    ∷ word_if counts (codes "COUNTS") ∷ [])
+fact_text (RequisiteFact r a) = requisite_text r a
+fact_text (HoldFact h o) = hold_lines h o
+fact_text (ElementFact type name replaces f) =
+    detail_line (codes "ELEM" ∷ left_in 5 (type_text type) ∷ left_in 8 name ∷ change_text replaces ∷ codes "FMID"
+    ∷ found_words f) ++ found_lines f
+fact_text (DeleteFact z own) = detail_line (codes "DELETE" ∷ z ∷ word_if own (codes "CHAIN") ∷ [])
+fact_text (TakesFact y) = detail_line (codes "TAKES" ∷ y ∷ [])
+fact_text (NpreFact y applied) = detail_line (codes "NPRE" ∷ y ∷ word_if applied (codes "APPLIED") ∷ [])
+fact_text (ForbiddenFact y) = detail_line (codes "FORBIDDEN" ∷ y ∷ [])
+fact_text (NeededFact y) = detail_line (codes "NEEDED" ∷ y ∷ [])
+
+-- the text of an answer
+abbrev pub facts_text : List Fact → Text
+facts_text facts = flat_map fact_text facts
+
+-- 4 where nothing is known of an id
+abbrev pub fact_code : Fact → ℕ
+fact_code (StandingFact x kind StandsMissing) = 4
+fact_code _ = 0
+
+-- the status of an answer: the greatest of its facts'
+abbrev pub facts_code : List Fact → ℕ
+facts_code [] = 0
+facts_code (f ∷ fs) = max (fact_code f) (facts_code fs)

@@ -1,0 +1,270 @@
+-- What is so of one id in a zone, and what an APPLY, ACCEPT or RESTORE of it would rest on.
+-- The tests and needs are those of an install whose only candidate is this id, without BYPASS.
+use Rattle.std.specs.Prelude.{◌≡◌, ◌≢◌, ◌↔◌, ◌+◌, ◌&&◌, ◌||◌, ◌==◌, ℕ, Bool, true, false, not, List, [], ◌∷◌, ◌++◌}
+use Rattle.std.specs.Prelude.{Option, None, Some, map, filter, option_map, is_some, Contains, IsTrue, IsFalse}
+use Rattle.std.specs.Prelude.{if◌then◌else◌}
+use Rattle.std.specs.List.{flat_map}
+use Rattle.std.specs.Option.{option_map_or}
+use Rattle.std.specs.Str.{bytes_eq}
+use Rattle.terms.specs.Beside.{Beside}
+use Rattle.terms.specs.declared.kinds.Kind.{Kind}
+use Rattle.terms.specs.declared.kinds.HoldKind.{HoldKind}
+use Rattle.terms.specs.declared.kinds.HoldKind.TheVariants.{Error, System, User}
+use Rattle.terms.specs.declared.kinds.ElemType.{ElemType}
+use Rattle.terms.specs.declared.kinds.ZoneKind.{ZoneKind}
+use Rattle.terms.specs.declared.codes.NeedKind.{NeedKind}
+use Rattle.terms.specs.declared.codes.NeedKind.TheVariants.{Fmid, Pre, Req, Ifreq, HoldError, Orphan, Dep}
+use Rattle.terms.specs.Types.{Text, Id, Ver, IfReq, Hold, Change, Global, Entry, Element, Zone}
+use Rattle.terms.specs.Lookups.{IsRising, is_nil, at_most_one, is_in, sysmod_of, is_received, is_function, changes_of}
+use Rattle.terms.specs.Lookups.{holds_of, entry_of, element_of, is_applied, supby_of, delby_of, waived_of, applied_ids}
+use Rattle.terms.specs.Choice.{Choice, vers_of, fits, place, counting, npre_of, del_of, ifs_of}
+use Rattle.terms.specs.Over.{IsOver, chain}
+use Rattle.terms.specs.Changes.{is_replacement}
+use Rattle.terms.specs.Deleted.{is_taken_out}
+use Rattle.terms.specs.Candidates.{is_installable}
+use Rattle.terms.specs.Tests.{Setting, view_of, owner_of}
+use Rattle.terms.specs.Needs.{asked, is_met, zone_left, Serves}
+use Rattle.terms.specs.CommandForms.{no_bypass}
+use Rattle.terms.specs.Judged.{setting}
+use Rattle.terms.specs.Restore.{NeedsInRestore}
+
+-- what an install would look at that has this id as its only candidate, and no BYPASS
+abbrev pub alone : Global → Zone → Id → Setting
+alone g zone x = setting g zone None (x ∷ []) no_bypass
+
+-- Where an id stands: applied (in a distribution zone accepted), superseded, deleted, received and none of these, or
+-- nothing is known of it.
+pub data Standing : Type 0 where
+  StandsApplied : ZoneKind → Standing
+  StandsSuperseded : Standing
+  StandsDeleted : Standing
+  StandsReceived : Standing
+  StandsMissing : Standing
+
+abbrev pub standing : Global → Zone → Id → Standing
+standing g zone x =
+    if is_applied zone x then StandsApplied zone.kind
+    else if not (is_nil (supby_of zone x)) then StandsSuperseded
+    else if is_some (delby_of zone x) then StandsDeleted
+    else if is_received g x then StandsReceived
+    else StandsMissing
+
+-- Something that an id asks for: of which kind, who states it, under which function an ++IF states it, and the id that
+-- is asked for.
+pub record Requisite : Type 0 where
+  pub kind : NeedKind
+  pub by : Id
+  pub function : Option Id
+  pub id : Id
+
+abbrev pub a_requisite : NeedKind → Id → Option Id → Id → Requisite
+a_requisite kind by function z = record { kind = kind; by = by; function = function; id = z }
+
+-- what it asks for of one kind
+abbrev pub requisites_of : Setting → Id → NeedKind → List Requisite
+requisites_of s x kind = map (a_requisite kind x None) (asked s (x ∷ []) x kind)
+
+-- what an ++IF of y states
+abbrev pub stated_by : Id → IfReq → List Requisite
+stated_by y i = map (a_requisite Ifreq y (Some i.function)) i.req
+
+-- what the ++IFs of y state under these functions
+abbrev pub conditions_of : Choice → (Id → Bool) → Id → List Requisite
+conditions_of c is_there y = flat_map (stated_by y) (filter (λ i. is_there i.function) (ifs_of c y))
+
+-- the applied SYSMODs of its view, but for x itself
+abbrev pub others_applied : Setting → Id → List Id
+others_applied s x = filter (λ y. not (bytes_eq x y)) (applied_ids (view_of s x))
+
+-- The requisites by ++IF, each with its function: x's own whose function is applied or x itself, and if x is a function
+-- those that other applied SYSMODs state for it. (Their ids are what x asks for as IFREQ.)
+abbrev pub conditions : Setting → Id → List Requisite
+conditions s x =
+    conditions_of s.choice (λ f. is_applied (view_of s x) f || is_in s.cands f) x
+    ++ (if is_function s.global x then flat_map (conditions_of s.choice (bytes_eq x)) (others_applied s x) else [])
+
+-- the ids that x asks for as ORPHAN, each once, rising
+pub record AreOrphans (s : Setting) (x : Id) (ids : List Id) : Type 0 where
+  pub rising : IsRising ids
+  pub members : (z : Id) → Contains ids z ↔ Contains (asked s (x ∷ []) x Orphan) z
+
+-- all that x asks for, with these as ORPHAN, but for the reasons of ERROR holds
+abbrev pub requisites : Setting → Id → List Id → List Requisite
+requisites s x lost =
+    requisites_of s x Fmid ++ requisites_of s x Pre ++ requisites_of s x Req ++ conditions s x
+    ++ map (a_requisite Orphan x None) lost
+
+-- whether requisites of the kind can be waived
+abbrev pub is_waivable : NeedKind → Bool
+is_waivable Pre = true
+is_waivable Req = true
+is_waivable Ifreq = true
+is_waivable _ = false
+
+-- whether x is applied, and who states the requisite waives it, or the function for which it is stated
+abbrev pub is_waived : Zone → Id → Requisite → Bool
+is_waived zone x r =
+    is_applied zone x && is_waivable r.kind
+    && (is_in (waived_of zone r.by) r.id || option_map_or (λ f. is_in (waived_of zone f) r.id) r.function false)
+
+-- who supplies what is asked for: as an FMID only what is applied does, else also what supersedes it
+abbrev pub suppliers : Zone → NeedKind → Id → List Id
+suppliers zone Fmid z = if is_applied zone z then z ∷ [] else []
+suppliers zone _ z = (if is_applied zone z then z ∷ [] else []) ++ supby_of zone z
+
+-- y is received, may be installed in the zone, and would serve it
+pub record MayServe (s : Setting) (kind : NeedKind) (z y : Id) : Type 0 where
+  pub installable : IsTrue (is_installable s.global s.zone y)
+  pub serves : Serves s.choice kind y z
+
+-- What becomes of something that x asks for: these SYSMODs supply it, it is waived, x would serve it itself, or it is
+-- open, and these received SYSMODs would serve it.
+pub data Answer : Type 0 where
+  Supplied : List Id → Answer
+  Waived : Answer
+  ByItself : Answer
+  Open : List Id → Answer
+
+-- where x is installed, with what its DELETE takes out
+abbrev pub left_by : Setting → Id → Zone
+left_by s x = zone_left s (x ∷ [])
+
+abbrev pub IsAnswer : Setting → Id → Requisite → Answer → Type 0
+IsAnswer s x r (Supplied ids) = IsTrue (is_met (left_by s x) r.kind r.id) × (ids ≡ suppliers (left_by s x) r.kind r.id)
+IsAnswer s x r Waived = IsFalse (is_met (left_by s x) r.kind r.id) × IsTrue (is_waived s.zone x r)
+IsAnswer s x r ByItself =
+    IsFalse (is_met (left_by s x) r.kind r.id) × IsFalse (is_waived s.zone x r) × MayServe s r.kind r.id x
+IsAnswer s x r (Open ids) =
+    IsFalse (is_met (left_by s x) r.kind r.id) × IsFalse (is_waived s.zone x r) × (¬ MayServe s r.kind r.id x)
+    × IsRising ids × ((y : Id) → Contains ids y ↔ MayServe s r.kind r.id y)
+
+-- how a SYSMOD stands to one that made an element
+pub data Rank : Type 0 where
+  Itself : Rank
+  Over : Rank
+  NotOver : Rank
+
+abbrev pub IsRank : Choice → Id → Id → Rank → Type 0
+IsRank c x z Itself = x ≡ z
+IsRank c x z Over = (x ≢ z) × IsOver c x z
+IsRank c x z NotOver = (x ≢ z) × ¬ IsOver c x z
+
+-- a SYSMOD that made an element, and how x stands to it
+pub record Maker : Type 0 where
+  pub id : Id
+  pub rank : Rank
+
+-- what the zone has of an element that x changes: the owner, whether that is x's own, the RMID and the UMIDs
+pub record Found : Type 0 where
+  pub fmid : Id
+  pub owned : Bool
+  pub rmid : Maker
+  pub umids : List Maker
+
+pub record IsFound (s : Setting) (x : Id) (e : Element) (f : Found) : Type 0 where
+  pub fmid : f.fmid ≡ e.fmid
+  pub owned : f.owned ≡ bytes_eq e.fmid (owner_of s x)
+  pub makers : Beside (λ n z m. (m.id ≡ z) × IsRank s.choice x z m.rank) (e.rmid ∷ e.umids) (f.rmid ∷ f.umids)
+
+-- the element that the zone has, or none
+abbrev pub HasFound : Setting → Id → Option Element → Option Found → Type 0
+HasFound s x None f = f ≡ None
+HasFound s x (Some e) f = (found : Found) × (f ≡ Some found) × IsFound s x e found
+
+pub data Fact : Type 0 where
+  -- the id, its type where it is received, and where it stands
+  StandingFact : Id → Option Kind → Standing → Fact
+  -- its entry in a zone of this kind
+  EntryFact : ZoneKind → Entry → Fact
+  -- a ++VER for the zone's SREL: its number, its FMID, whether it fits, and whether it is the one that counts
+  VerFact : ℕ → Option Id → Bool → Bool → Fact
+  -- something that it asks for
+  RequisiteFact : Requisite → Answer → Fact
+  -- a hold, and of an ERROR hold what becomes of its reason
+  HoldFact : Hold → Option Answer → Fact
+  -- an element that it replaces, or if not updates, as the zone has it
+  ElementFact : ElemType → Text → Bool → Option Found → Fact
+  -- an id that its DELETE names, and whether that is one of its own chain
+  DeleteFact : Id → Bool → Fact
+  -- an applied SYSMOD that its DELETE takes out
+  TakesFact : Id → Fact
+  -- an id that its NPRE names, and whether that is applied
+  NpreFact : Id → Bool → Fact
+  -- an applied function whose NPRE names it
+  ForbiddenFact : Id → Fact
+  -- an applied SYSMOD that needs what it supplies
+  NeededFact : Id → Fact
+
+abbrev pub standing_facts : Global → Zone → Id → List Fact
+standing_facts g zone x =
+    StandingFact x (option_map (λ s. s.kind) (sysmod_of g x)) (standing g zone x)
+    ∷ map (EntryFact zone.kind) (at_most_one (entry_of zone x))
+
+-- these ++VERs, numbered from n on, of which the one of a number counts
+abbrev pub numbered_facts : (Ver → Bool) → ℕ → ℕ → List Ver → List Fact
+numbered_facts fit counts n [] = []
+numbered_facts fit counts n (v ∷ vs) =
+    VerFact n v.fmid (fit v) (n == counts) ∷ numbered_facts fit counts (n + 1) vs
+
+abbrev pub ver_facts : Global → Zone → Id → List Fact
+ver_facts g zone x =
+    numbered_facts (fits zone (is_in (x ∷ []))) (place g zone (x ∷ []) x + 1) 1 (vers_of g zone.srel x)
+
+abbrev pub IsRequisiteFact : Setting → Id → Requisite → Fact → Type 0
+IsRequisiteFact s x r fact = (a : Answer) × (fact ≡ RequisiteFact r a) × IsAnswer s x r a
+
+-- the holds on an id: first for ERROR, then SYSTEM and USER
+abbrev pub holds_on : Global → Id → List Hold
+holds_on g x = holds_of g Error x ++ holds_of g System x ++ holds_of g User x
+
+-- of an ERROR hold the answer to its reason
+abbrev pub HasResolution : Setting → Id → Hold → HoldKind → Option Answer → Type 0
+HasResolution s x h Error o = (a : Answer) × (o ≡ Some a) × IsAnswer s x (a_requisite HoldError x None h.reason) a
+HasResolution s x h _ o = o ≡ None
+
+abbrev pub IsHoldFact : Setting → Id → Hold → Fact → Type 0
+IsHoldFact s x h fact = (o : Option Answer) × (fact ≡ HoldFact h o) × HasResolution s x h h.kind o
+
+abbrev pub IsElementFact : Setting → Id → Change → Fact → Type 0
+IsElementFact s x h fact =
+    (f : Option Found) × (fact ≡ ElementFact h.elem_type h.name (is_replacement h.action) f)
+    × HasFound s x (element_of (view_of s x) h.elem_type h.name) f
+
+abbrev pub delete_facts : Setting → Id → List Fact
+delete_facts s x =
+    map (λ z. DeleteFact z (is_in (chain s.global s.choice x) z)) (del_of s.choice x)
+    ++ map TakesFact (filter (is_taken_out s.global s.choice (del_of s.choice x) s.zone) (applied_ids s.zone))
+
+-- whether y is a function whose NPRE names x
+abbrev pub forbids : Setting → Id → Id → Bool
+forbids s x y = is_function s.global y && is_in (npre_of s.choice y) x
+
+abbrev pub npre_facts : Setting → Id → List Fact
+npre_facts s x =
+    map (λ y. NpreFact y (is_applied (view_of s x) y)) (npre_of s.choice x)
+    ++ map ForbiddenFact (filter (forbids s x) (applied_ids (view_of s x)))
+
+-- y needs what x supplies, as a RESTORE of x alone would find. (No such need looks at the distribution zone.)
+abbrev pub NeedsIt : Global → Zone → Id → Id → Type 0
+NeedsIt g zone x y =
+    (accepted : Zone)
+    → NeedsInRestore (record { global = g; choice = counting g zone []; zone = zone; accepted = accepted })
+    (is_in (x ∷ [])) x Dep y
+
+-- All facts of an id, in their order.
+pub record AreFacts (g : Global) (zone : Zone) (x : Id) (facts : List Fact) : Type 0 where
+  pub orphans : List Id
+  pub orphans_are : AreOrphans (alone g zone x) x orphans
+  pub of_requisites : List Fact
+  pub requisites_are : Beside (λ n r fact. IsRequisiteFact (alone g zone x) x r fact)
+      (requisites (alone g zone x) x orphans) of_requisites
+  pub of_holds : List Fact
+  pub holds_are : Beside (λ n h fact. IsHoldFact (alone g zone x) x h fact) (holds_on g x) of_holds
+  pub of_elements : List Fact
+  pub elements_are : Beside (λ n h fact. IsElementFact (alone g zone x) x h fact) (changes_of g x) of_elements
+  pub needed_by : List Id
+  pub needed_rising : IsRising needed_by
+  pub needed : (y : Id) → Contains needed_by y ↔ NeedsIt g zone x y
+  pub facts_are : facts
+      ≡ standing_facts g zone x ++ ver_facts g zone x ++ of_requisites ++ of_holds ++ of_elements
+      ++ delete_facts (alone g zone x) x ++ npre_facts (alone g zone x) x ++ map NeededFact needed_by

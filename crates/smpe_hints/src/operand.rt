@@ -1,0 +1,134 @@
+//! Which option has a value that has not its form.
+use fields::{Id, Srel, ZoneName};
+use smpe_invocation::read_date;
+use std::alloc::{AllocError, Global};
+
+/// What the value of an option looks like.
+#[derive(Clone, Copy, Debug)]
+enum Form {
+    ZoneName,
+    Srel,
+    Id,
+    Date,
+}
+
+impl Form {
+    /// The form that the option asks for, if its value has one.
+    fn of(option: &str) -> Option<Form> {
+        match option {
+            "--name" | "--related" | "--zone" => Some(Form::ZoneName),
+            "--srel" => Some(Form::Srel),
+            "--id" => Some(Form::Id),
+            "--date" => Some(Form::Date),
+            _ => None,
+        }
+    }
+
+    fn fits(self, value: &str) -> bool {
+        match self {
+            Form::ZoneName => ZoneName::read(value.as_bytes()).is_some(),
+            Form::Srel => Srel::read(value.as_bytes()).is_some(),
+            Form::Id => Id::read(value.as_bytes()).is_some(),
+            Form::Date => read_date(value).is_some(),
+        }
+    }
+
+    fn told(self) -> &'static str {
+        match self {
+            Form::ZoneName => {
+                "a zone name has 1 to 7 of A to Z, 0 to 9, $, # and @, and begins with a letter, as TGT1"
+            }
+            Form::Srel => "an SREL is a capital letter and three digits, as Z038",
+            Form::Id => "the id of a SYSMOD has seven of A to Z, 0 to 9, $, # and @, as UA00001",
+            Form::Date => "a date is YYYY-MM-DD and a day of the calendar, as 2024-05-17",
+        }
+    }
+}
+
+/// The words as `clap` has taken them: the value of an option is the next word, or follows its `=`.
+#[derive(Clone, Copy)]
+struct Words<'a> {
+    words: &'a [Vec<u8>],
+}
+
+impl<'a> Words<'a> {
+    fn at(self, place: usize) -> Option<&'a str> {
+        str::from_utf8(self.words.get(place)?.as_slice()).ok()
+    }
+
+    /// The option that begins at a place, with its value.
+    fn option(self, place: usize) -> Option<(&'a str, &'a str)> {
+        let word = self.at(place)?;
+        match word.split_once('=') {
+            Some(parts) => Some(parts),
+            None => Some((word, self.at(place.checked_add(1)?)?)),
+        }
+    }
+
+    fn value(self, option: &str) -> Option<&'a str> {
+        for place in 0..self.words.len() {
+            if let Some((name, value)) = self.option(place) {
+                if name == option {
+                    return Some(value);
+                }
+            }
+        }
+        None
+    }
+}
+
+/// The value of an option, where the words have it.
+pub(crate) fn value_of<'a>(words: &'a [Vec<u8>], option: &str) -> Option<&'a str> {
+    Words { words }.value(option)
+}
+
+/// What is wrong with the words, of which the first is the program's name, after `smpe: bad operand`.
+pub fn operand_hint(alloc: Global, words: &[Vec<u8>]) -> Result<Option<String>, AllocError> {
+    let words = Words { words };
+    for place in 0..words.words.len() {
+        let Some(word) = words.at(place) else {
+            return Ok(Some(format!(in alloc; "word {place} is not UTF-8")?));
+        };
+        if !word.starts_with("--") {
+            continue;
+        }
+        if let Some(told) = value_hint(alloc, words, place)? {
+            return Ok(Some(told));
+        }
+    }
+    missing_hint(alloc, words)
+}
+
+fn value_hint(alloc: Global, words: Words<'_>, place: usize) -> Result<Option<String>, AllocError> {
+    let Some((option, value)) = words.option(place) else {
+        return Ok(None);
+    };
+    match Form::of(option) {
+        Some(form) if !form.fits(value) => {
+            let told = form.told();
+            Ok(Some(format!(in alloc; "{option} has \"{value}\": {told}")?))
+        }
+        _ => Ok(None),
+    }
+}
+
+fn missing_hint(alloc: Global, words: Words<'_>) -> Result<Option<String>, AllocError> {
+    if words.value("--cntl").is_some() && words.value("--date").is_none() {
+        return Ok(Some(String::from_str(
+            alloc,
+            "--date is missing: with --cntl, check needs the date of the job, as 2024-05-17",
+        )?));
+    }
+    Ok(None)
+}
+
+/// What is said of a job that has printed nothing.
+pub fn empty_hint(alloc: Global, words: &[Vec<u8>]) -> Result<Option<String>, AllocError> {
+    let words = Words { words };
+    match words.value("--cntl") {
+        Some(name) if words.at(1) == Some("run") => {
+            Ok(Some(format!(in alloc; "{name} has no command")?))
+        }
+        _ => Ok(None),
+    }
+}

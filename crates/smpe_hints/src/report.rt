@@ -1,0 +1,283 @@
+//! What a report tells of that needs more words.
+use crate::card::{card_fault, card_text};
+use crate::operand::value_of;
+use std::alloc::{AllocError, Global};
+
+/// Of a line so many bytes are looked at.
+const LONGEST: usize = 100;
+
+/// A file that was read.
+#[derive(Drop)]
+pub struct ReadFile {
+    pub name: String,
+    pub bytes: Vec<u8>,
+}
+
+/// What needs more words.
+#[derive(Drop)]
+enum Remark {
+    /// A card of the file of this option is at fault.
+    Card {
+        option: &'static str,
+        record: usize,
+        code: String,
+    },
+    /// A command ran in a zone, and was meant for another that is not defined.
+    Elsewhere {
+        command: String,
+        zone: String,
+        meant: String,
+    },
+    /// No zone of this name is defined.
+    NoZone(String),
+    /// `why` was asked about a zone that is none.
+    NoZoneAsked,
+    /// The related zone of a zone is at fault.
+    Related,
+}
+
+/// Takes the bytes of a report, and tells what is to be said of it.
+#[derive(Drop)]
+pub struct ReportWatch {
+    alloc: Global,
+    line: Vec<u8>,
+    lines: usize,
+    first: String,
+    /// The header of the last command, and how many have ended.
+    header: String,
+    ended: usize,
+    /// The zone that the last SET named, until it was accepted.
+    meant: Option<String>,
+    /// Whether that SET was refused.
+    is_refused: bool,
+    remarks: Vec<Remark>,
+}
+
+impl ReportWatch {
+    pub fn new(alloc: Global) -> ReportWatch {
+        ReportWatch {
+            alloc,
+            line: Vec::new(alloc),
+            lines: 0,
+            first: String::new(alloc),
+            header: String::new(alloc),
+            ended: 0,
+            meant: None,
+            is_refused: false,
+            remarks: Vec::new(alloc),
+        }
+    }
+
+    /// The first line, if it has ended.
+    pub fn first_line(&self) -> &str {
+        self.first.as_str()
+    }
+
+    /// How many commands have ended.
+    pub fn ended(&self) -> usize {
+        self.ended
+    }
+
+    /// The header of the last command.
+    pub fn header(&self) -> &str {
+        self.header.as_str()
+    }
+
+    /// The next bytes of the report.
+    pub fn take(&mut self, piece: &[u8]) -> Result<(), AllocError> {
+        for &byte in piece {
+            if byte == b'\n' {
+                self.end_line()?;
+            } else if self.line.len() < LONGEST {
+                self.line.push(byte)?;
+            }
+        }
+        Ok(())
+    }
+
+    fn end_line(&mut self) -> Result<(), AllocError> {
+        let line = String::from_utf8_lossy(self.alloc, self.line.as_slice())?;
+        self.line.clear();
+        self.follow(line.as_str())?;
+        if self.lines == 0 {
+            self.first = String::from_str(self.alloc, line.as_str())?;
+        }
+        if line.as_str().starts_with("RC ") {
+            self.ended = self.ended.saturating_add(1);
+        }
+        self.lines = self.lines.saturating_add(1);
+        Ok(())
+    }
+
+    fn follow(&mut self, line: &str) -> Result<(), AllocError> {
+        let mut words = line.split(' ');
+        let first = words.next().unwrap_or("");
+        let second = words.next().unwrap_or("");
+        match (first, second) {
+            ("CONTROL", "RECORD") if self.lines == 0 => {
+                self.follow_card("--cntl", words.next(), words.next())
+            }
+            ("REFUSED", "Cm4") => self.follow_card("--ptfin", words.nth(1), words.next()),
+            ("REFUSED", "Cm5") => self.follow_card("--hold", words.nth(1), words.next()),
+            ("REFUSED", "Cm2") => self.follow_refused(),
+            ("ZONE", "REFUSED") if words.next() == Some("Zn2") => {
+                self.remarks.push(Remark::Related)?;
+                Ok(())
+            }
+            ("SET", zone) => {
+                self.header = String::from_str(self.alloc, line)?;
+                self.meant = Some(String::from_str(self.alloc, zone)?);
+                self.is_refused = false;
+                Ok(())
+            }
+            ("RECEIVE" | "REJECT" | "APPLY" | "ACCEPT" | "RESTORE" | "LIST" | "REPORT", zone) => {
+                self.header = String::from_str(self.alloc, line)?;
+                self.follow_command(first, zone)
+            }
+            _ => Ok(()),
+        }
+    }
+
+    fn follow_card(
+        &mut self,
+        option: &'static str,
+        record: Option<&str>,
+        code: Option<&str>,
+    ) -> Result<(), AllocError> {
+        let (Some(record), Some(code)) = (record, code) else {
+            return Ok(());
+        };
+        if let Ok(record) = record.parse() {
+            let code = String::from_str(self.alloc, code)?;
+            self.remarks.push(Remark::Card {
+                option,
+                record,
+                code,
+            })?;
+        }
+        Ok(())
+    }
+
+    // A SET that is refused, or a question about a zone.
+    fn follow_refused(&mut self) -> Result<(), AllocError> {
+        let remark = match &self.meant {
+            Some(zone) => {
+                self.is_refused = true;
+                Remark::NoZone(String::from_str(self.alloc, zone.as_str())?)
+            }
+            None => Remark::NoZoneAsked,
+        };
+        self.remarks.push(remark)?;
+        Ok(())
+    }
+
+    fn follow_command(&mut self, command: &str, zone: &str) -> Result<(), AllocError> {
+        if !self.is_refused || zone == "-" {
+            return Ok(());
+        }
+        self.is_refused = false;
+        if let Some(meant) = self.meant.take() {
+            let command = String::from_str(self.alloc, command)?;
+            let zone = String::from_str(self.alloc, zone)?;
+            self.remarks.push(Remark::Elsewhere {
+                command,
+                zone,
+                meant,
+            })?;
+        }
+        Ok(())
+    }
+
+    /// What there is to say, a line each, of a report that these words asked for over these files.
+    pub fn hints(&self, words: &[Vec<u8>], files: &[ReadFile]) -> Result<Vec<String>, AllocError> {
+        let mut lines = Vec::new(self.alloc);
+        for remark in &self.remarks {
+            if let Some(line) = told(self.alloc, remark, words, files)? {
+                lines.push(line)?;
+            }
+        }
+        Ok(lines)
+    }
+}
+
+fn told(
+    alloc: Global,
+    remark: &Remark,
+    words: &[Vec<u8>],
+    files: &[ReadFile],
+) -> Result<Option<String>, AllocError> {
+    match remark {
+        Remark::Card {
+            option,
+            record,
+            code,
+        } => card_told(
+            alloc,
+            value_of(words, option),
+            *record,
+            code.as_str(),
+            files,
+        ),
+        Remark::Elsewhere {
+            command,
+            zone,
+            meant,
+        } => Ok(Some(format!(in alloc;
+            "SET BDY({meant}) was refused, and {command} ran in the zone before it, {zone}"
+        )?)),
+        Remark::NoZone(zone) => Ok(Some(format!(in alloc;
+            "zone {zone} is not defined in this database; smpe zone defines one"
+        )?)),
+        Remark::NoZoneAsked => zone_told(alloc, value_of(words, "--zone")),
+        Remark::Related => related_told(alloc, words),
+    }
+}
+
+fn card_told(
+    alloc: Global,
+    name: Option<&str>,
+    record: usize,
+    code: &str,
+    files: &[ReadFile],
+) -> Result<Option<String>, AllocError> {
+    let Some(name) = name else {
+        return Ok(None);
+    };
+    for file in files {
+        if file.name.as_str() == name {
+            let card = card_text(alloc, file.bytes.as_slice(), record)?;
+            let fault = card_fault(alloc, file.bytes.as_slice(), record, code)?;
+            return Ok(Some(format!(in alloc; "{name} record {record} is \"{card}\": {fault}")?));
+        }
+    }
+    Ok(None)
+}
+
+fn zone_told(alloc: Global, zone: Option<&str>) -> Result<Option<String>, AllocError> {
+    match zone {
+        Some("GLOBAL") => Ok(Some(String::from_str(
+            alloc,
+            "GLOBAL has what was received; why tells of a target or distribution zone",
+        )?)),
+        Some(zone) => Ok(Some(format!(in alloc;
+            "zone {zone} is not defined in this database; smpe zone defines one"
+        )?)),
+        None => Ok(None),
+    }
+}
+
+fn related_told(alloc: Global, words: &[Vec<u8>]) -> Result<Option<String>, AllocError> {
+    let is_target = value_of(words, "--kind") == Some("target");
+    match value_of(words, "--related") {
+        Some(related) if is_target => Ok(Some(format!(in alloc;
+            "--related {related} is no distribution zone of this database, or has a target zone already"
+        )?)),
+        Some(related) => Ok(Some(format!(in alloc;
+            "--related {related} is for a target zone, and a distribution zone has none"
+        )?)),
+        None => Ok(Some(String::from_str(
+            alloc,
+            "--related is missing: a target zone names its distribution zone",
+        )?)),
+    }
+}

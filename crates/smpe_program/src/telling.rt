@@ -1,0 +1,107 @@
+//! What is said on standard error when the program ends, beside the line of its fault.
+use crate::host::{Database, ProgramHost};
+use crate::place::{has_other_form, place_told};
+use smpe_hints::{ReportWatch, empty_hint, operand_hint};
+use sqlite::{Error, ErrorCode};
+use std::alloc::AllocError;
+
+/// Says what a report and a fault leave unsaid: nothing, where memory runs out or nothing can be written.
+pub(crate) fn tell(
+    rt: &HostRuntime,
+    words: &[Vec<u8>],
+    host: &ProgramHost<'_>,
+    report: &ReportWatch,
+    faults: &ReportWatch,
+) {
+    if let Ok(lines) = hints(rt, words, host, report, faults) {
+        for line in lines {
+            let _ = eprintln!(rt; "smpe: {line}");
+        }
+    }
+}
+
+fn hints(
+    rt: &HostRuntime,
+    words: &[Vec<u8>],
+    host: &ProgramHost<'_>,
+    report: &ReportWatch,
+    faults: &ReportWatch,
+) -> Result<Vec<String>, AllocError> {
+    let mut lines = report.hints(words, host.files.as_slice())?;
+    match faults.first_line() {
+        "smpe: bad operand" => push(operand_hint(rt.alloc(), words)?, &mut lines)?,
+        "smpe: store Sf1" => push(database_hint(rt, &host.database)?, &mut lines)?,
+        "" if report.first_line().is_empty() && !host.files.is_empty() => push(
+            empty_hint(rt.alloc(), words)?,
+            &mut lines,
+        )?,
+        _ => {}
+    }
+    if let Some(unread) = &host.unread {
+        lines.push(String::from_str(rt.alloc(), unread.as_str())?)?;
+    }
+    push(made_hint(rt, &host.database)?, &mut lines)?;
+    Ok(lines)
+}
+
+fn push(line: Option<String>, lines: &mut Vec<String>) -> Result<(), AllocError> {
+    if let Some(line) = line {
+        lines.push(line)?;
+    }
+    Ok(())
+}
+
+fn made_hint(rt: &HostRuntime, database: &Database) -> Result<Option<String>, AllocError> {
+    match database {
+        Database::Opened {
+            name,
+            is_new: true,
+            ..
+        } => Ok(Some(format!(in rt.alloc(); "there was no database {name}, and it was made")?)),
+        _ => Ok(None),
+    }
+}
+
+// Why the database failed, as far as the library or its file shows that.
+fn database_hint(rt: &HostRuntime, database: &Database) -> Result<Option<String>, AllocError> {
+    match database {
+        Database::None => Ok(None),
+        Database::Missing(name) => Ok(Some(format!(in rt.alloc();
+            "there is no database {name}; smpe zone makes one"
+        )?)),
+        Database::Refused(name, Error::SqliteFailure(ErrorCode::CannotOpen)) => {
+            let told = place_told(rt, name.as_str());
+            Ok(Some(format!(in rt.alloc(); "the database can't be opened: {name}: {told}")?))
+        }
+        Database::Refused(name, Error::SqliteFailure(ErrorCode::NotADatabase))
+            if has_other_form(rt, name.as_str()) => {
+            Ok(Some(String::from_str(rt.alloc(), "the file is no database")?))
+        }
+        Database::Refused(_, error) => Ok(Some(String::from_str(rt.alloc(), refusal(*error))?)),
+        Database::Opened { meta, closing, .. } => {
+            Ok(Some(String::from_str(rt.alloc(), failure(*meta, *closing))?))
+        }
+    }
+}
+
+fn refusal(error: Error) -> &'static str {
+    match error {
+        Error::SqliteFailure(ErrorCode::DatabaseBusy) => "another program has the database",
+        Error::SqliteFailure(ErrorCode::NotADatabase) => {
+            "rows of the database break its own keys"
+        }
+        Error::SqliteFailure(ErrorCode::DatabaseCorrupt) => "the database breaks its own rules",
+        Error::SqliteFailure(ErrorCode::DiskFull) => "the disk is full",
+        _ => "a read or write of the database failed: is the disk full?",
+    }
+}
+
+fn failure(meta: Option<Error>, closing: Option<Error>) -> &'static str {
+    match (meta, closing) {
+        (Some(Error::SqlInputError(_)), _) => {
+            "the file is the database of another program: it has no table meta"
+        }
+        (None, None) => "a row of the database is not as smpe wrote it",
+        _ => "a read or write of the database failed: is the disk full?",
+    }
+}

@@ -1,0 +1,19 @@
+use Rattle.std.proofs.Common.{◌∙◌, ap, List}
+use Rattle.terms.specs.declared.kinds.ElemType.{ElemType}
+use Rattle.sorted.specs.declared.edits.Edit.{Edit}
+use Rattle.sorted.specs.declared.edits.Edit.TheVariants.{Remove}
+use Rattle.terms.specs.Types.{Text, Element}
+use Rattle.terms.specs.Lookups.{element_cmp, element_key}
+use Rattle.zones_maps.specs.Delta.{ZoneEdits}
+use Rattle.sorted.specs.Edits.{edit_key}
+use Rattle.terms.proofs.Placing.{with_item_agree}
+use Rattle.terms.proofs.ElementOrder.{cmp_keys}
+use Rattle.zones_maps.proofs.edits.ZoneEdits.remove_element.Goals as goal
+
+pub returns-clause-ok : goal.returns-clause-ok
+returns-clause-ok c =
+    let with_elements : List (Edit Element (ElemType × Text))
+    → ZoneEdits = λ es. record { entries = c.self.inside.entries; elements = es } in
+    rw (← c.self.view_is) (ap with_elements (c.in_ok-put.ensures.ok
+    ∙ with_item_agree _ element_cmp cmp_keys (edit_key element_key) c.self.inside.elements
+    (Remove (c.args.elem_type, c.args.name))))

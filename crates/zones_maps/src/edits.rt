@@ -1,0 +1,138 @@
+//! Edits of a zone.
+ghost use Rattle.std.specs.Prelude.{◌≡◌, [], IsTrue, OnOk, OnErr};
+ghost use Rattle.std.specs.Ordering.{nat_cmp};
+ghost use Rattle.std.specs.Cmp.Lexicographic.{slice_cmp};
+ghost use Rattle.sorted.specs.declared.edits.Edit.TheVariants.{Put, Remove};
+ghost use Rattle.terms.specs.Lookups.{element_cmp, element_key, has_content, waives_applied};
+ghost use Rattle.terms.specs.Rising.{with_item};
+ghost use Rattle.sorted.specs.Edits.{edit_key};
+
+use crate::entries::{Element, Entry};
+use fields::{Attest, Id, Name};
+use sorted::{Edit, Table};
+use std::alloc::{AllocError, Global};
+use std::marker::Model;
+use terms::ElemType;
+
+/// Entries and elements that are put and removed, one edit at a key.
+#[derive(Drop)]
+pub struct ZoneEdits {
+    entries: Table<Edit<Entry, Id>>,
+    elements: Table<Edit<Element, (ElemType, Name)>>,
+}
+
+impl Model for ZoneEdits {
+    ghost use Rattle.std.specs.Prelude.{All, IfSome, IsTrue};
+    ghost use Rattle.zones_maps.specs.Delta.{ZoneEdits as SomeZoneEdits};
+    ghost use Rattle.sorted.specs.Edits.{edit_put};
+    ghost use Rattle.terms.specs.Lookups.{has_content, waives_applied};
+
+    ghost Value = { SomeZoneEdits };
+
+    ghost view = { λ d. record { entries = d.entries; elements = d.elements } };
+
+    ghost invariant = { λ d. All (λ e. IfSome (edit_put e) (λ x. IsTrue (has_content x))) d.entries
+        × All (λ e. IfSome (edit_put e) (λ x. IsTrue (waives_applied x))) d.entries };
+}
+
+impl Attest for ZoneEdits {
+    ghost use Rattle.zones_maps.specs.Delta.{AreEdits};
+
+    ghost form = { AreEdits };
+
+    fn attest(&self) {
+        let _ = self.entries.as_slice();
+        let _ = self.elements.as_slice();
+    }
+}
+
+impl ZoneEdits {
+    /// No edits.
+    pub fn new(alloc: Global) -> Self
+        ensures entries { result.entries ≡ [] }
+        ensures elements { result.elements ≡ [] }
+    {
+        ZoneEdits {
+            entries: Table::new(alloc),
+            elements: Table::new(alloc),
+        }
+    }
+
+    /// What is put and removed of entries, rising by id.
+    pub fn entries(&self) -> &[Edit<Entry, Id>]
+        ensures { result.now ≡ self.now.entries }
+    {
+        self.entries.as_slice()
+    }
+
+    /// What is put and removed of elements, rising by type and name.
+    pub fn elements(&self) -> &[Edit<Element, (ElemType, Name)>]
+        ensures { result.now ≡ self.now.elements }
+    {
+        self.elements.as_slice()
+    }
+
+    pub(crate) fn entry_edits(&self) -> &Table<Edit<Entry, Id>>
+        ensures { result.now ≡ self.now.entries }
+    {
+        &self.entries
+    }
+
+    pub(crate) fn element_edits(&self) -> &Table<Edit<Element, (ElemType, Name)>>
+        ensures { result.now ≡ self.now.elements }
+    {
+        &self.elements
+    }
+
+    /// Puts an entry in place of the one of its id. At ids that rise it takes the least time. The error comes where
+    /// memory runs out, and changes nothing.
+    pub fn put_entry(&mut self, entry: Entry) -> Result<(), AllocError>
+        requires held { IsTrue (has_content entry) }
+        requires waived { IsTrue (waives_applied entry) }
+        ensures ok { OnOk result
+            (self.new ≡ record self.old {
+              entries = with_item (slice_cmp nat_cmp) (edit_key (λ e. e.id)) self.old.entries (Put entry);
+            }) }
+        ensures err { OnErr result (self.new ≡ self.old) }
+    {
+        self.entries.put(Edit::Put(entry))?;
+        Ok(())
+    }
+
+    /// The entry of this id goes. The error comes where memory runs out, and changes nothing.
+    pub fn remove_entry(&mut self, id: Id) -> Result<(), AllocError>
+        ensures ok { OnOk result
+            (self.new ≡ record self.old {
+              entries = with_item (slice_cmp nat_cmp) (edit_key (λ e. e.id)) self.old.entries (Remove id);
+            }) }
+        ensures err { OnErr result (self.new ≡ self.old) }
+    {
+        self.entries.put(Edit::Remove(id))?;
+        Ok(())
+    }
+
+    /// Puts an element in place of the one of its type and name. The error comes where memory runs out, and changes
+    /// nothing.
+    pub fn put_element(&mut self, element: Element) -> Result<(), AllocError>
+        ensures ok { OnOk result
+            (self.new ≡ record self.old {
+              elements = with_item element_cmp (edit_key element_key) self.old.elements (Put element);
+            }) }
+        ensures err { OnErr result (self.new ≡ self.old) }
+    {
+        self.elements.put(Edit::Put(element))?;
+        Ok(())
+    }
+
+    /// The element of this type and name goes. The error comes where memory runs out, and changes nothing.
+    pub fn remove_element(&mut self, elem_type: ElemType, name: Name) -> Result<(), AllocError>
+        ensures ok { OnOk result
+            (self.new ≡ record self.old {
+              elements = with_item element_cmp (edit_key element_key) self.old.elements (Remove (elem_type, name));
+            }) }
+        ensures err { OnErr result (self.new ≡ self.old) }
+    {
+        self.elements.put(Edit::Remove((elem_type, name)))?;
+        Ok(())
+    }
+}
