@@ -160,13 +160,14 @@ pub fn narrow(alloc: Global, files: &[WideFile], options: Options) -> Result<Nar
         (IsCarriedOf options.decide (flat_map (λ f. f.sysmods.items) files.now)) narrowed.items.items) }
     ensures held { IfOk result (λ narrowed. AreHeld files.now narrowed.items.items narrowed.hold_items.items) }
 {
-    let planned = options.for_files(alloc, files)?;
+    let mut options = options;
+    options.sort();
     let copies = OtherCopies::of_files(alloc, files)?;
     let mut remarks = Remarks::new(alloc);
     if are_refused(alloc, &mut remarks, files)? {
         return Err(NarrowError::Refused(remarks.list));
     }
-    let gathered = match of_files(alloc, &planned, &copies, &mut remarks, files) {
+    let gathered = match of_files(alloc, &options, &copies, &mut remarks, files) {
         Ok(gathered) => gathered,
         Err(HoldError::Memory) => return Err(NarrowError::Memory),
         Err(HoldError::BadHold) => return Err(NarrowError::Refused(remarks.list)),

@@ -33,7 +33,11 @@ pub(crate) fn serve_files<H: IntakeHost>(
     let mut remarks = Vec::new(alloc);
     let files = wide_files(alloc, host, &mut sources, asked, &mut remarks)?;
     let members = members(alloc, host, &mut sources, asked, &files, &mut remarks)?;
-    let options = Options::new(alloc, asked.decide, asked.syslibs.clone()?, members);
+    let options = Options {
+        decide: asked.decide,
+        syslibs: asked.syslibs.clone()?,
+        members,
+    };
     let narrowed = match narrow(alloc, &files, options) {
         Ok(narrowed) => narrowed,
         Err(NarrowError::Memory) => return Err(IntakeFault::Memory),

@@ -204,14 +204,8 @@ pub(crate) fn service_summary(
 
 fn check_line(alloc: Global, narrowed: &Narrowed, lines: &mut Vec<u8>) -> Result<(), AllocError> {
     let stand_ins = narrowed.stand_ins;
-    let passed = number_of(narrowed.remarks.as_slice(), RemarkReason::PassedOver);
-    let together = if passed > 0 {
-        ", and the answers hold for these files together"
-    } else {
-        ""
-    };
     let line = format!(in alloc;
-        "CHECK   {stand_ins:>7} have stand-ins: these files are for CHECK{together}\n"
+        "CHECK   {stand_ins:>7} have stand-ins: these files are for CHECK\n"
     )?;
     lines.extend_from_slice(line.as_bytes())
 }

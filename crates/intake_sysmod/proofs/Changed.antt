@@ -1,6 +1,5 @@
 -- What a SYSMOD changes, with one element statement more.
 use Rattle.std.proofs.Common.{◌≡◌, ◌==◌, ◌&&◌, true, Bool, List, [], ◌++◌, ◌∷◌, refl, sym, ap, ◌∙◌, Contains}
-use Rattle.std.proofs.Common.{◌⊎◌, inl, inr}
 use Rattle.std.specs.List.{All, list_any}
 use Rattle.std.specs.Str.{bytes_eq}
 use Rattle.std.proofs.lemmas.Bool.{and_parts, eqb-true}
@@ -18,8 +17,7 @@ use Rattle.terms.specs.Global.{change_cmp}
 use Rattle.terms.specs.Rising.{before, behind, with_item}
 use Rattle.terms.proofs.ElementOrder.{change_cmp_total, element_ties, same_key, type_from_number}
 use Rattle.intake_read.specs.declared.items.WideElement.{WideElement}
-use Rattle.intake_read.specs.declared.items.WideSysmod.{WideSysmod}
-use Rattle.intake_sysmod.specs.Elements.{Changes, IsElementChanged, IsPassedOver}
+use Rattle.intake_sysmod.specs.Elements.{Changes, IsElementChanged}
 
 abbrev pub put : List Change → Change → List Change
 put cs c = with_item change_cmp (λ x. x) cs c
@@ -81,14 +79,11 @@ changed_still decide old new e kept h = record {
   level_free = h.level_free;
 }
 
-abbrev pub IsDone : Bool → WideSysmod → List Change → WideElement → Type 0
-IsDone decide stated changes e = IsElementChanged decide changes e ⊎ IsPassedOver decide stated
-
-pub done_still : (decide : Bool) (stated : WideSysmod) (old new : List Change) (es : List WideElement) → Keeps old new
-    → All (IsDone decide stated old) es → All (IsDone decide stated new) es
-done_still decide stated old new es kept all =
-    All-weaker (IsDone decide stated old) (IsDone decide stated new)
-    (λ e h. elim h [ inl c ↦ inl (changed_still decide old new e kept c) | inr p ↦ inr p ]) es all
+pub changed_after : (decide : Bool) (old new : List Change) (es : List WideElement) → Keeps old new
+    → All (IsElementChanged decide old) es → All (IsElementChanged decide new) es
+changed_after decide old new es kept all =
+    All-weaker (IsElementChanged decide old) (IsElementChanged decide new)
+    (λ e h. changed_still decide old new e kept h) es all
 
 -- a statement for the element that the SYSMOD has already
 pub there_already : (cs : List Change) (type : ElemType) (name : Text)

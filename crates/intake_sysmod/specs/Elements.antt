@@ -1,6 +1,6 @@
 -- What the element statements of a file change. These are the statements that bring elements in IBM z/OS SMP/E
 -- Reference, "SMP/E modification control statements".
-use Rattle.std.specs.Prelude.{◌≡◌, ◌⊎◌, ◌<◌, Bool, false, List, length, IsTrue, if◌then◌else◌, codes, ◌||◌, All}
+use Rattle.std.specs.Prelude.{◌≡◌, ◌⊎◌, Bool, false, List, IsTrue, if◌then◌else◌, codes, ◌||◌, All}
 use Rattle.std.specs.List.{Any}
 use Rattle.std.specs.Str.{bytes_eq}
 use Rattle.terms.specs.declared.kinds.ElemType.{ElemType}
@@ -9,7 +9,6 @@ use Rattle.terms.specs.Types.{Text, Change}
 use Rattle.terms.specs.Spelling.{type_text}
 use Rattle.intake_read.specs.declared.items.WideElement.{WideElement}
 use Rattle.intake_read.specs.declared.items.WideOperand.{WideOperand}
-use Rattle.intake_read.specs.declared.items.WideSysmod.{WideSysmod}
 use Rattle.intake_sysmod.specs.StandInNames.{stand_in_name}
 
 -- the type of what stands for an element that the profile lacks, by its statement's word
@@ -55,8 +54,3 @@ pub record IsElementChanged (decide : Bool) (changes : List Change) (stated : Wi
   pub target_is : IsTarget decide stated.word.items stated.name.items type name
   pub changed : Changes changes type name
   pub level_free : IsTrue decide → All HasNoLevel stated.operands.items
-
--- The SYSMOD has more elements than can be carried, and stand-ins are asked for: an element that no other SYSMOD
--- changes may be missing.
-abbrev pub IsPassedOver : Bool → WideSysmod → Type 0
-IsPassedOver decide stated = IsTrue decide × (999 < length stated.elements.items)

@@ -1,6 +1,6 @@
 -- What a SYSMOD that is carried keeps of what the file states of it. The operands are those of ++VER and ++IF in
 -- IBM z/OS SMP/E Reference, "SMP/E modification control statements".
-use Rattle.std.specs.Prelude.{◌≡◌, ◌⊎◌, Bool, List, Some, All}
+use Rattle.std.specs.Prelude.{◌≡◌, Bool, List, Some, All}
 use Rattle.std.specs.List.{Any}
 use Rattle.terms.specs.Types.{Text, IfReq, Ver, Sysmod}
 use Rattle.terms.specs.Beside.{Beside}
@@ -10,7 +10,7 @@ use Rattle.intake_read.specs.declared.items.WideSysmod.{WideSysmod}
 use Rattle.intake_sysmod.specs.declared.ver_operands.Lists.{Lists}
 use Rattle.intake_sysmod.specs.declared.ver_operands.VerOperands.{VerOperands}
 use Rattle.intake_read.specs.Stated.{text_in, AreSame}
-use Rattle.intake_sysmod.specs.Elements.{IsElementChanged, IsPassedOver}
+use Rattle.intake_sysmod.specs.Elements.{IsElementChanged}
 
 -- the ++IF of the file: its function and its requisites
 pub record IsIf (stated : WideIf) (carried : IfReq) : Type 0 where
@@ -56,10 +56,9 @@ pub record AreVers (stated : List WideVer) (carried : List Ver) : Type 0 where
   pub said_all : All (λ w. Any (λ v. IsSaidBy v w) stated) carried
 
 -- It has the id and the kind, for each SREL the FMID and each PRE, REQ, ++IF REQ, NPRE and DELETE that is stated, no
--- SUP that is not, and changes each element that the file's SYSMOD changes; with stand-ins
--- some may be missing where it has more than can be carried.
+-- SUP that is not, and changes each element that the file's SYSMOD changes.
 pub record IsNoLooser (decide : Bool) (stated : WideSysmod) (carried : Sysmod) : Type 0 where
   pub id_is : carried.id ≡ stated.id.items
   pub kind_is : carried.kind ≡ stated.kind
   pub vers_are : AreVers stated.vers.items carried.vers
-  pub changed : All (λ e. IsElementChanged decide carried.changes e ⊎ IsPassedOver decide stated) stated.elements.items
+  pub changed : All (IsElementChanged decide carried.changes) stated.elements.items

@@ -6,13 +6,15 @@ use crate::changes::put_changes;
 use crate::ids::id_of;
 use crate::options::Options;
 use crate::others::tell_others;
-use crate::shared::MOST_ELEMENTS;
 use crate::vers::vers_of;
 use fields::spelling::kind_text;
 use intake_cards::{Deed, RemarkReason, Remarks, Subject};
 use intake_read::{WideSysmod, tell_no_decision, tell_odd};
 use std::alloc::{AllocError, Global};
 use sysmods_values::{Sysmod, Ver};
+
+/// The most elements that a SYSMOD may have.
+const MOST_ELEMENTS: usize = 999;
 
 fn subject_of(stated: &WideSysmod) -> Subject<'_> {
     Subject {
@@ -39,7 +41,7 @@ fn tell_rest(
         Deed::LeftOut,
     )?;
     let others = tell_others(alloc, options, remarks, stated.others.as_slice())?;
-    if !options.decide && stated.elements.len() > MOST_ELEMENTS {
+    if stated.elements.len() > MOST_ELEMENTS {
         remarks.leave_out(alloc, &subject, b"", RemarkReason::TooMany, b"")?;
         return Ok(false);
     }
@@ -110,8 +112,8 @@ fn tell_left_out(
     Ok(())
 }
 
-/// The SYSMOD without its holds, or nothing where it is left out. Why, and what differs, is told. The options are those
-/// for the files (`Options::for_files`). The error comes where memory runs out.
+/// The SYSMOD without its holds, or nothing where it is left out. Why, and what differs, is told. The options must be in
+/// order (`Options::sort`). The error comes where memory runs out.
 pub fn carried_sysmod(
     alloc: Global,
     options: &Options,

@@ -1,5 +1,5 @@
 //! What a SYSMOD changes.
-ghost use Rattle.std.specs.Prelude.{◌≡◌, ◌⊎◌, IfOk, IfSome, OnOk, IsTrue, All};
+ghost use Rattle.std.specs.Prelude.{◌≡◌, IfOk, IfSome, OnOk, IsTrue, All};
 ghost use Rattle.terms.specs.declared.kinds.ElemType.{ElemType as AnyType};
 ghost use Rattle.terms.specs.Types.{Text};
 ghost use Rattle.intake_sysmod.specs.Elements.{
@@ -9,18 +9,15 @@ ghost use Rattle.intake_sysmod.specs.Elements.{
   Changes,
   IsElementChanged,
   HasNoLevel,
-  IsPassedOver,
 };
 
 use crate::elements::profile_change;
 use crate::levels::level_operand;
 use crate::modules::{has_own_module, modules_of};
 use crate::options::Options;
-use crate::shared::{ElementKey, MOST_ELEMENTS};
 use crate::stand_ins::{module_change, short_change, stand_in_change, tell_stand_in};
 use crate::words::profile_type;
 use fields::Name;
-use fields::spelling::kind_text;
 use intake_cards::{Deed, RemarkReason, Remarks, Subject};
 use intake_read::{WideElement, WideSysmod, tell_no_decision, tell_odd};
 use std::alloc::{AllocError, Global};
@@ -282,28 +279,6 @@ fn put_modules(
     put_named_modules(alloc, options, remarks, element, sysmod)
 }
 
-/// Whether an element of a SYSMOD with more elements than may be carried is passed over: no other SYSMOD of the files
-/// changes it.
-fn is_passed_over(options: &Options, stated: &WideSysmod, element: &WideElement) -> bool
-    ensures { IsTrue result → IsPassedOver options.now.decide stated.now }
-{
-    if !options.decide || stated.elements.len() <= MOST_ELEMENTS {
-        return false;
-    }
-    is_alone(options, element)
-}
-
-/// Whether no other SYSMOD of the files changes it, nor what is assembled of it.
-fn is_alone(options: &Options, element: &WideElement) -> bool {
-    if has_own_module(element) || !modules_of(element).is_empty() {
-        return false;
-    }
-    match ElementKey::of(element) {
-        Some(key) => !options.is_shared(&key),
-        None => false,
-    }
-}
-
 fn both(one: bool, other: bool) -> bool
     ensures { IsTrue result → IsTrue one × IsTrue other }
 {
@@ -395,44 +370,12 @@ pub(crate) fn put_changes(
 ) -> Result<bool, AllocError>
     ensures rest { OnOk result (sysmod.new ≡ record sysmod.old { changes = sysmod.new.changes }) }
     ensures changed { IfOk result (λ all. IsTrue all
-        → All (λ e. IsElementChanged options.now.decide sysmod.new.changes e
-        ⊎ IsPassedOver options.now.decide stated.now) stated.now.elements.items) }
+        → All (IsElementChanged options.now.decide sysmod.new.changes) stated.now.elements.items) }
 {
     let mut all = true;
-    let mut passed = 0usize;
     for element in stated.elements.iter() {
-        if is_passed_over(options, stated, element) {
-            passed = passed.saturating_add(1);
-            continue;
-        }
         let put = put_element(alloc, options, remarks, stated.kind, element, sysmod)?;
         all = both(all, put);
     }
-    tell_passed_over(alloc, remarks, stated, passed)?;
     Ok(all)
-}
-
-/// Tells how many elements are passed over, since no other SYSMOD of the files changes them.
-fn tell_passed_over(
-    alloc: Global,
-    remarks: &mut Remarks,
-    stated: &WideSysmod,
-    passed: usize,
-) -> Result<(), AllocError> {
-    if passed == 0 {
-        return Ok(());
-    }
-    let subject = Subject {
-        place: stated.place,
-        word: kind_text(stated.kind),
-        id: stated.id.as_slice(),
-    };
-    let text = format!(in alloc; "{passed}")?;
-    remarks.tell_dropped(
-        alloc,
-        &subject,
-        b"",
-        RemarkReason::PassedOver,
-        text.as_bytes(),
-    )
 }

@@ -13,7 +13,6 @@ mod levels;
 mod modules;
 mod options;
 mod others;
-mod shared;
 mod stand_in_names;
 mod stand_ins;
 mod texts;

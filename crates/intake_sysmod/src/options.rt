@@ -1,10 +1,8 @@
 //! What the caller asks for besides.
 ghost use Rattle.std.specs.Prelude.{◌≡◌};
 
-use crate::shared::{ElementKey, SharedElements};
 use fields::Name;
-use intake_read::{Card, CardPlace, WideFile};
-use std::alloc::{AllocError, Global};
+use intake_read::{Card, CardPlace};
 
 /// The SYSLIB of elements that state this DISTLIB alone.
 #[derive(Clone, Copy, Debug)]
@@ -30,27 +28,9 @@ pub struct Options {
     pub syslibs: Vec<Syslib>,
     /// Of one element there is one.
     pub members: Vec<RelfileMember>,
-    shared: SharedElements,
 }
 
 impl Options {
-    /// Options for files that are not known yet.
-    pub fn new(
-        alloc: Global,
-        decide: bool,
-        syslibs: Vec<Syslib>,
-        members: Vec<RelfileMember>,
-    ) -> Options
-        ensures { result.decide ≡ decide }
-    {
-        Options {
-            decide,
-            syslibs,
-            members,
-            shared: SharedElements::none(alloc),
-        }
-    }
-
     /// The SYSLIB that goes with the DISTLIB.
     pub(crate) fn syslib_for(&self, distlib: Name) -> Option<Name> {
         for pair in self.syslibs.iter() {
@@ -72,33 +52,11 @@ impl Options {
         }
     }
 
-    /// Whether several SYSMODs of the files change the element.
-    pub(crate) fn is_shared(&self, key: &ElementKey) -> bool {
-        self.shared.contains(key)
-    }
-
-    /// The options for these files: puts the members in order, by which they are found, and gathers what several
-    /// SYSMODs change, where that is asked. The error comes where memory runs out.
-    pub fn for_files(self, alloc: Global, files: &[WideFile]) -> Result<Options, AllocError>
-        ensures { IfOk result (λ options. options.decide ≡ self.decide) }
+    /// Puts the members in order, by which they are found.
+    pub fn sort(&mut self)
+        ensures { self.new.decide ≡ self.old.decide }
     {
-        let Options {
-            decide,
-            syslibs,
-            mut members,
-            shared: _,
-        } = self;
-        members.sort_unstable_by(|one, other| one.element.cmp(&other.element));
-        let shared = if decide {
-            SharedElements::of_files(alloc, files)?
-        } else {
-            SharedElements::none(alloc)
-        };
-        Ok(Options {
-            decide,
-            syslibs,
-            members,
-            shared,
-        })
+        self.members
+            .sort_unstable_by(|one, other| one.element.cmp(&other.element));
     }
 }

@@ -147,6 +147,14 @@ fn second(kind: Kind, vers: &[Ver]) -> Option<&Ver> {
     None
 }
 
+/// Whether a `++VER` stands there that can't be read, which is told by itself.
+fn has_faulty_ver(sysmod: &WideSysmod) -> bool {
+    sysmod
+        .others
+        .iter()
+        .any(|other| other.word.as_slice() == b"VER".as_slice())
+}
+
 /// The `++VER`s of a SYSMOD by their SRELs, or nothing where they can't be carried. Why is told.
 pub(crate) fn vers_of(
     alloc: Global,
@@ -160,7 +168,9 @@ pub(crate) fn vers_of(
         return Ok(None);
     };
     if vers.is_empty() {
-        remarks.leave_out(alloc, subject, b"VER", RemarkReason::Missing, b"")?;
+        if !has_faulty_ver(sysmod) {
+            remarks.leave_out(alloc, subject, b"VER", RemarkReason::Missing, b"")?;
+        }
         return Ok(None);
     }
     if vers.len() > MOST_VERS {

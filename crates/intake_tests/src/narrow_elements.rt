@@ -143,7 +143,11 @@ fn options_elsewhere(alloc: Global) -> Result<Options, Fail> {
     if let (Some(distlib), Some(syslib)) = (Name::read(b"AMACLIB"), Name::read(b"MACLIB")) {
         syslibs.push(Syslib { distlib, syslib })?;
     }
-    Ok(Options::new(alloc, false, syslibs, members))
+    Ok(Options {
+        decide: false,
+        syslibs,
+        members,
+    })
 }
 
 #[test]

@@ -20,7 +20,11 @@ fn wide(alloc: Global, text: &[u8]) -> Result<Vec<WideFile>, Fail> {
 
 /// Options without members.
 pub(crate) fn options(alloc: Global, decide: bool) -> Options {
-    Options::new(alloc, decide, Vec::new(alloc), Vec::new(alloc))
+    Options {
+        decide,
+        syslibs: Vec::new(alloc),
+        members: Vec::new(alloc),
+    }
 }
 
 /// Appends the cards as lines without the blanks at their ends.

@@ -1,6 +1,6 @@
 //! What is longer than a card.
 
-use crate::narrow_lines::{check, check_with, options};
+use crate::narrow_lines::check;
 use std::alloc::{AllocError, Global};
 use std::test::Fail;
 
@@ -41,27 +41,6 @@ fn many_modules(alloc: Global) -> Result<Vec<u8>, AllocError> {
         b"++PTF(UA00005).\n++VER(Z038) FMID(HAA1100).\n++MOD(M1500) DISTLIB(AMOD).\n",
     )?;
     Ok(text)
-}
-
-const SHARED_CARRIED: &str =
-    "++FUNCTION(HAA1100).\n++VER(Z038).\n++MAC(W@F5VFBR) DISTLIB(AMOD) SYSLIB(AMOD).\n\
-    * ++MOD(M1500)                                                          00000100\n\
-    ++PTF(UA00005).\n++VER(Z038) FMID(HAA1100).\n++MAC(W@F5VFBR) DISTLIB(AMOD) SYSLIB(AMOD).\n\
-    * ++MOD(M1500)                                                          00000100\n\
-    ++ASSIGN SOURCEID(STANDIN) TO(HAA1100 UA00005).\n==\n\
-    - f line 502: ++MOD(M1500): carried otherwise: a stand-in: ++MAC(W@F5VFBR)\n\
-    - f line 1: ++FUNCTION(HAA1100): dropped: no other SYSMOD of these files changes so many of its elements: 1000\n\
-    - f line 1006: ++MOD(M1500): carried otherwise: a stand-in: ++MAC(W@F5VFBR)\n";
-
-#[test]
-fn elements_that_no_other_sysmod_changes_are_passed_over(rt: HostRuntime) -> Result<(), Fail> {
-    let text = many_modules(rt.alloc())?;
-    check_with(
-        rt.alloc(),
-        text.as_slice(),
-        options(rt.alloc(), true),
-        SHARED_CARRIED,
-    )
 }
 
 const LEFT_OUT: &str =

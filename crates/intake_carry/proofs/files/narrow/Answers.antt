@@ -11,9 +11,9 @@ use Rattle.intake_carry.proofs.files.narrow.Goals as goal
 pub returns-clause-no_looser : goal.returns-clause-no_looser
 returns-clause-no_looser c =
     let stated = flat_map (λ (f : WideFile). f.sysmods.items) c.args.files.now in
-    subst (λ d. All (IsCarriedOf d stated) c.new.result.items.items) c.in_ok-planned.ensures
-    (subst (All (IsCarriedOf c.in_ok-planned.planned.decide stated)) (sym (c.new.ensures.items ∙ c.in_ok-items.ensures))
-    (carried_assigns c.in_ok-planned.planned.decide stated c.in-Ok.gathered.items.items c.in_ok-assigns.assigns.items
+    subst (λ d. All (IsCarriedOf d stated) c.new.result.items.items) c.sort.ensures
+    (subst (All (IsCarriedOf c.sort.new.self.decide stated)) (sym (c.new.ensures.items ∙ c.in_ok-items.ensures))
+    (carried_assigns c.sort.new.self.decide stated c.in-Ok.gathered.items.items c.in_ok-assigns.assigns.items
     c.in-Ok.ensures.no_looser))
 
 pub returns-clause-held : goal.returns-clause-held

@@ -1,7 +1,8 @@
-use Rattle.std.proofs.Common.{ap, length, take, arith, ◌∙◌, inl, inr}
+use Rattle.std.proofs.Common.{ap, length, take, arith, ◌∙◌}
 use Rattle.terms.proofs.BesideLists.{all_next, all_through}
 use Rattle.terms.specs.Types.{Sysmod}
-use Rattle.intake_sysmod.proofs.Changed.{IsDone, done_still}
+use Rattle.intake_sysmod.specs.Elements.{IsElementChanged}
+use Rattle.intake_sysmod.proofs.Changed.{changed_after}
 use Rattle.intake_sysmod.proofs.changes.put_changes.Goals as goal
 
 pub loop-element-preserved : goal.loop-element-preserved
@@ -12,16 +13,16 @@ loop-element-preserved c =
       rest = c.in_ok-put.ensures.rest ∙ ap (λ (s : Sysmod). record s { changes = new }) at.invariant.rest;
       changed = λ t.
           let b = c.both-all.ensures t in
-          all_next (IsDone c.args.options.now.decide c.args.stated.now new) c.args.stated.now.elements.items
-          at.element-index c.element-item.result (omega (arith, ap length c.deref-element-items.ensures.value))
-          (rw c.deref-element-items.ensures.value at c.element-item.is) (inl (c.in_ok-put.ensures.changed b.1))
-          (done_still c.args.options.now.decide c.args.stated.now at.sysmod.changes new
+          all_next (IsElementChanged c.args.options.now.decide new) c.args.stated.now.elements.items at.element-index
+          c.element-item.result (omega (arith, ap length c.deref-element-items.ensures.value))
+          (rw c.deref-element-items.ensures.value at c.element-item.is) (c.in_ok-put.ensures.changed b.1)
+          (changed_after c.args.options.now.decide at.sysmod.changes new
           (take at.element-index c.args.stated.now.elements.items) c.in_ok-put.ensures.kept
           (at.invariant.changed b.0));
     }
 
 pub returns-clause-changed : goal.returns-clause-changed
 returns-clause-changed c = λ t.
-    all_through (IsDone c.args.options.now.decide c.args.stated.now c.loop-element.sysmod.changes)
+    all_through (IsElementChanged c.args.options.now.decide c.loop-element.sysmod.changes)
     c.args.stated.now.elements.items c.loop-element.element-index
     (omega (arith, ap length c.deref-element-items.ensures.value)) (c.loop-element.invariant.changed t)
