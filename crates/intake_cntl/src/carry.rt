@@ -131,12 +131,12 @@ fn tell_command(
     told.tell(alloc, wide.place, words, deed, reason)
 }
 
-fn carried_operands(
+fn carried_operands<'a>(
     alloc: Global,
     told: &mut CommandRemarks,
-    command: &CommandWords,
-    known: Option<&[KnownSysmod]>,
-    operands: &[WideOperand],
+    command: &'a CommandWords,
+    known: Option<&'a [KnownSysmod]>,
+    operands: &'a [WideOperand],
 ) -> Result<Vec<CarriedOperand>, AllocError> {
     let mut carried: Vec<CarriedOperand> = Vec::new(alloc);
     for operand in operands {
@@ -344,6 +344,26 @@ fn listed(
     Ok(members)
 }
 
+// Puts the source ids that begin so into the list. The answer is whether there is one.
+fn put_beginning(
+    alloc: Global,
+    known: &[KnownSysmod],
+    front: &[u8],
+    members: &mut Vec<Vec<u8>>,
+) -> Result<bool, AllocError> {
+    let mut is_found = false;
+    for sysmod in known {
+        for source in &sysmod.sources {
+            let source = source.as_bytes();
+            if source.starts_with(front) {
+                is_found = true;
+                put_once(alloc, members, source)?;
+            }
+        }
+    }
+    Ok(is_found)
+}
+
 // Puts the known source ids that begin as the member does, up to its asterisk, into the list.
 fn put_sources(
     alloc: Global,
@@ -356,17 +376,7 @@ fn put_sources(
         return asked.refuse(alloc, told, member, RemarkReason::NeedsKnown);
     };
     let front = member.strip_suffix(b"*").unwrap_or(member);
-    let mut is_found = false;
-    for sysmod in known {
-        for source in &sysmod.sources {
-            let source = source.as_bytes();
-            if source.starts_with(front) {
-                is_found = true;
-                put_once(alloc, members, source)?;
-            }
-        }
-    }
-    if is_found {
+    if put_beginning(alloc, known, front, members)? {
         asked.tell(
             alloc,
             told,
@@ -487,11 +497,11 @@ fn place_of(operands: &[CarriedOperand], word: &[u8]) -> Option<usize> {
 }
 
 // GROUP that stands alone is said by GROUP with SELECT's ids, in place of SELECT, where nothing else is chosen.
-fn with_group(
+fn with_group<'a>(
     alloc: Global,
     told: &mut CommandRemarks,
-    command: &CommandWords,
-    operands: &[WideOperand],
+    command: &'a CommandWords,
+    operands: &'a [WideOperand],
     mut carried: Vec<CarriedOperand>,
 ) -> Result<Vec<CarriedOperand>, AllocError> {
     let Some(group) = place_of(&carried, b"GROUP") else {

@@ -2,6 +2,7 @@
 
 use crate::carry::{AskedOperand, CarriedOperand, MOST, Value, has_word, put_once};
 use crate::command_remarks::CommandRemarks;
+use crate::known::KnownSysmod;
 use intake_cards::{Deed, RemarkReason};
 use std::alloc::{AllocError, Global};
 use terms::Kind;
@@ -44,17 +45,30 @@ pub(crate) fn with_excluded(
             Deed::Carried,
             RemarkReason::KnownExcluded,
         )?;
-        for sysmod in known {
-            if sysmod.kind == *kind && !is_selected(&carried, sysmod.id.as_bytes()) {
-                put_once(alloc, &mut ids, sysmod.id.as_bytes())?;
-            }
-        }
+        put_of_kind(alloc, known, *kind, &carried, &mut ids)?;
     }
     put_excluded(alloc, &mut carried, ids)?;
     if has_long_exclude(&carried) {
         asked.refuse(alloc, told, b"", RemarkReason::LongList)?;
     }
     Ok(carried)
+}
+
+// Puts the ids of the SYSMODs of the type, but for those that SELECT names, into the list.
+fn put_of_kind(
+    alloc: Global,
+    known: &[KnownSysmod],
+    kind: Kind,
+    carried: &[CarriedOperand],
+    ids: &mut Vec<Vec<u8>>,
+) -> Result<(), AllocError> {
+    for sysmod in known {
+        let id = sysmod.id.as_bytes();
+        if sysmod.kind == kind && !is_selected(carried, id) {
+            put_once(alloc, ids, id)?;
+        }
+    }
+    Ok(())
 }
 
 fn is_selected(carried: &[CarriedOperand], id: &[u8]) -> bool {

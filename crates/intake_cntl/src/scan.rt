@@ -288,7 +288,8 @@ impl CommandScanner {
             _ => CommandEnd::NoPeriod,
         };
         if self.is_in_comment() && self.words.is_empty() {
-            self.begin_word(self.comment)?;
+            let comment = self.comment;
+            self.begin_word(comment)?;
         }
         self.finish(end)?;
         Ok(self.commands)

@@ -1,5 +1,5 @@
 //! What is written, and read back before.
-ghost use Rattle.std.specs.Prelude.{◌≡◌, ◌∷◌, [], IfOk, OnOk, OnErr, List, Some, None, codes, map};
+ghost use Rattle.std.specs.Prelude.{◌≡◌, ◌∷◌, [], IfOk, OnOk, OnErr, List, Some, None, codes, map, option_map};
 ghost use Rattle.terms.specs.Types as terms;
 ghost use Rattle.terms.specs.Ptfin.{IsPtfin};
 ghost use Rattle.terms.specs.HoldFile.{IsHoldFile};

@@ -1,5 +1,5 @@
 //! What a SYSMOD changes.
-ghost use Rattle.std.specs.Prelude.{◌≡◌, IfOk, IfSome, OnOk, IsTrue, All};
+ghost use Rattle.std.specs.Prelude.{◌≡◌, IfOk, IfSome, OnOk, IsTrue, All, false};
 ghost use Rattle.terms.specs.declared.kinds.ElemType.{ElemType as AnyType};
 ghost use Rattle.terms.specs.Types.{Text};
 ghost use Rattle.intake_sysmod.specs.Elements.{
