@@ -1,12 +1,16 @@
 //! A card.
-use crate::place::Place;
+use crate::place::CardPlace;
 
-/// A card: 80 columns, with blanks behind a shorter line. The bytes are ASCII, whatever the file's code was; what ASCII
-/// lacks stands as its byte in ISO 8859-1, or as the file had it where the file is ASCII.
+/// A card: 80 columns, with blanks after a shorter line. The bytes are ASCII, whatever the file's code was. A letter that
+/// ASCII lacks is its byte in ISO 8859-1, or `NO_LATIN` if it has none.
 #[derive(Clone, Copy, Debug, PartialEq, Eq)]
 pub struct Card {
-    pub place: Place,
+    pub place: CardPlace,
     pub text: [u8; 80],
+    /// The line has more than blanks after column 80.
+    pub is_cut: bool,
+    /// The line is cut, and `*/` ends it.
+    pub ends_comment: bool,
 }
 
 /// What stands in columns 73 to 80.
@@ -53,6 +57,11 @@ impl Card {
     /// Whether a statement begins in it: `++` in columns 1 and 2.
     pub fn begins_statement(&self) -> bool {
         self.text[0] == b'+' && self.text[1] == b'+'
+    }
+
+    /// Whether it ends the data of a job and nothing else: `/*` or `$$` in columns 1 and 2.
+    pub(crate) fn is_delimiter(&self) -> bool {
+        (self.text.starts_with(b"/*") || self.text.starts_with(b"$$")) && is_blank(&self.text[2..])
     }
 
     /// Whether each column has a blank or a printable character of ASCII.

@@ -3,7 +3,7 @@ use crate::tables::{IBM037, IBM1047};
 
 /// How a file is laid out.
 #[derive(Clone, Copy, Debug, PartialEq, Eq)]
-pub enum Form {
+pub enum Layout {
     /// Lines, each with its end: a line feed, or a carriage return and a line feed; in EBCDIC X'15' or X'25' for the
     /// line feed.
     Text,
@@ -34,6 +34,14 @@ impl Code {
         match self {
             Code::Ascii => byte == b'\n',
             Code::Ibm1047 | Code::Ibm037 => byte == 0x15 || byte == 0x25,
+        }
+    }
+
+    /// Whether the byte pads a file after its last line: NUL, and in ASCII the end of file of older systems.
+    pub(crate) fn pads(self, byte: u8) -> bool {
+        match self {
+            Code::Ascii => byte == 0 || byte == 0x1A,
+            Code::Ibm1047 | Code::Ibm037 => byte == 0,
         }
     }
 

@@ -7,11 +7,17 @@ use thiserror::Error;
 pub enum CardError {
     #[error("out of memory")]
     Memory,
-    /// More than blanks stands behind column 80.
-    #[error("line {card} has more than 80 columns")]
-    LongLine { card: usize },
-    /// The file was to be records, and so many bytes are left over behind the last whole one.
-    #[error("records of 80 bytes were asked for, and {bytes} bytes are left over")]
+    #[error("it is compressed by gzip: unpack it first")]
+    Compressed,
+    #[error("it is in UTF-16: convert it to UTF-8 first, as iconv -f UTF-16 -t UTF-8 does")]
+    Utf16,
+    /// Each record has its length before it.
+    #[error("its records have their lengths before them (RDW): transfer it as records of 80 bytes")]
+    RecordLengths,
+    #[error("its lines end with carriage returns without line feeds: put line feeds there")]
+    CarriageReturns,
+    /// The file was to be records, and so many bytes are left over after the last whole one.
+    #[error("--records asks for records of 80 bytes, and {bytes} bytes are left over: leave the option out")]
     ShortRecord { bytes: usize },
 }
 

@@ -1,9 +1,12 @@
 //! The bytes of a file as its cards.
 use crate::card::Card;
-use crate::code::{Code, Form};
+use crate::code::{Code, Layout};
 use crate::errors::CardError;
-use crate::place::Place;
-use crate::told::{told_code, told_form};
+use crate::guessed::{
+    guessed_code, guessed_layout, has_bare_returns, shown_fault, without_padding,
+};
+use crate::line::{CutLine, PastColumns, cut_line};
+use crate::place::CardPlace;
 use std::alloc::Global;
 
 /// What cards of a file have that is no card's.
@@ -11,19 +14,25 @@ use std::alloc::Global;
 pub enum CardOddity {
     /// UTF-8's mark stands before the first card, and is left away.
     ByteOrderMark,
-    /// Blanks behind column 80 are left away.
+    /// Blanks after column 80 are left away.
     BlanksBehind80,
+    /// More than blanks stands after column 80, and is not read.
+    LongLine,
     /// Tabs stand in it, each as one column.
     Tab,
     /// Characters that are no printable ASCII stand in it.
     NotPrintable,
+    /// NULs or the end of file of older systems stand after the last card, and are left away.
+    Padding,
+    /// `/*` or `$$`, which ended the data in a job, stands after the last card, and is left away.
+    Delimiter,
 }
 
 /// An oddity, the first card that has it, and how many have it.
 #[derive(Clone, Copy, Debug, PartialEq, Eq)]
 pub struct CardNote {
     pub oddity: CardOddity,
-    pub first: Place,
+    pub first: CardPlace,
     pub cards: usize,
 }
 
@@ -31,7 +40,7 @@ pub struct CardNote {
 #[derive(Drop)]
 pub struct Cards {
     /// How it is laid out, as it was asked for or as the bytes tell.
-    pub form: Form,
+    pub form: Layout,
     /// Its code, likewise.
     pub code: Code,
     pub cards: Vec<Card>,
@@ -41,7 +50,7 @@ pub struct Cards {
 
 impl Cards {
     /// Notes the oddity of the card at that place.
-    fn note(&mut self, oddity: CardOddity, place: Place) -> Result<(), CardError> {
+    fn note(&mut self, oddity: CardOddity, place: CardPlace) -> Result<(), CardError> {
         for known in self.notes.iter_mut() {
             if known.oddity == oddity {
                 known.cards = known.cards.saturating_add(1);
@@ -56,12 +65,19 @@ impl Cards {
         Ok(())
     }
 
-    /// Adds a card that may be shorter than 80 columns.
-    fn add(&mut self, place: Place, line: &[u8]) -> Result<(), CardError> {
+    /// Adds the card of a line.
+    fn add(&mut self, place: CardPlace, line: &CutLine) -> Result<(), CardError> {
         let card = Card {
             place,
-            text: columns(line, self.code),
+            text: line.text,
+            is_cut: line.past == PastColumns::More,
+            ends_comment: line.past == PastColumns::More && line.ends_comment,
         };
+        match line.past {
+            PastColumns::Nothing => {}
+            PastColumns::Blanks => self.note(CardOddity::BlanksBehind80, place)?,
+            PastColumns::More => self.note(CardOddity::LongLine, place)?,
+        }
         if !card.is_printable() {
             if card.text.contains(&b'\t') {
                 self.note(CardOddity::Tab, place)?;
@@ -85,15 +101,8 @@ impl Cards {
             .split_inclusive(|byte| code.ends_line(*byte))
             .enumerate()
         {
-            let line = without_end(ended, code);
-            let place = Place { file, card: i + 1 };
-            if line.len() > 80 {
-                if line[80..].iter().any(|byte| *byte != code.blank()) {
-                    return Err(CardError::LongLine { card: i + 1 });
-                }
-                self.note(CardOddity::BlanksBehind80, place)?;
-            }
-            self.add(place, line)?;
+            let line = cut_line(without_end(ended, code), code);
+            self.add(CardPlace { file, card: i + 1 }, &line)?;
         }
         Ok(())
     }
@@ -105,19 +114,28 @@ impl Cards {
             return Err(CardError::ShortRecord { bytes: rest.len() });
         }
         for (i, record) in records.iter().enumerate() {
-            self.add(Place { file, card: i + 1 }, record)?;
+            let line = cut_line(record, self.code);
+            self.add(CardPlace { file, card: i + 1 }, &line)?;
         }
         Ok(())
     }
-}
 
-/// The first 80 columns of the line in ASCII, with blanks behind a shorter one.
-fn columns(line: &[u8], code: Code) -> [u8; 80] {
-    let mut text = [b' '; 80];
-    for (column, byte) in text.iter_mut().zip(line) {
-        *column = code.ascii(*byte);
+    /// Leaves out a delimiter after the last other card, and blank cards after it.
+    fn drop_delimiter(&mut self) -> Result<(), CardError> {
+        let mut last = None;
+        for (place, card) in self.cards.iter().enumerate() {
+            if !card.is_blank() {
+                last = Some((place, *card));
+            }
+        }
+        if let Some((place, card)) = last {
+            if card.is_delimiter() {
+                self.cards.truncate(place);
+                self.note(CardOddity::Delimiter, card.place)?;
+            }
+        }
+        Ok(())
     }
-    text
 }
 
 /// The line without its end.
@@ -131,20 +149,39 @@ fn without_end(ended: &[u8], code: Code) -> &[u8] {
     line.strip_suffix(b"\r").unwrap_or(line)
 }
 
-/// The cards of a file, which is the one of this number among those that are read. Form and code are those that are
-/// asked for, or those that the bytes tell. `LongLine` comes where more than blanks stands behind column 80 of a line,
-/// at the first such line; `ShortRecord` where the length is no multiple of 80, and records were asked for.
+/// The bytes that are lines or records, without what pads the file. Records stay whole.
+fn solid<'a>(bytes: &'a [u8], layout: Layout, code: Code) -> &'a [u8] {
+    let front = without_padding(bytes, code);
+    if layout == Layout::Text {
+        return front;
+    }
+    let missing = (80 - front.len() % 80) % 80;
+    match bytes.split_at_checked(front.len().saturating_add(missing)) {
+        Some((whole, _)) => whole,
+        None => front,
+    }
+}
+
+/// The cards of a file, which is the one of this number among those that are read. Layout and code are those that are
+/// asked for, or those that the bytes show. Returns an error if the bytes show that they are no cards, or if records
+/// are asked for and 80 does not divide the length.
 pub fn read_cards(
     alloc: Global,
     file: usize,
     bytes: &[u8],
-    form: Option<Form>,
+    form: Option<Layout>,
     code: Option<Code>,
 ) -> Result<Cards, CardError> {
+    if let Some(fault) = shown_fault(bytes) {
+        return Err(fault);
+    }
     let marked = bytes.strip_prefix(b"\xEF\xBB\xBF");
     let text = marked.unwrap_or(bytes);
-    let code = code.unwrap_or(told_code(text));
-    let form = form.unwrap_or(told_form(text, code));
+    let code = code.unwrap_or(guessed_code(text));
+    let form = form.unwrap_or(guessed_layout(text, code));
+    if form == Layout::Text && code == Code::Ascii && has_bare_returns(text) {
+        return Err(CardError::CarriageReturns);
+    }
     let mut found = Cards {
         form,
         code,
@@ -152,11 +189,17 @@ pub fn read_cards(
         notes: Vec::new(alloc),
     };
     if marked.is_some() {
-        found.note(CardOddity::ByteOrderMark, Place { file, card: 1 })?;
+        found.note(CardOddity::ByteOrderMark, CardPlace { file, card: 1 })?;
     }
+    let solid = solid(text, form, code);
     match form {
-        Form::Text => found.add_lines(file, text)?,
-        Form::Records => found.add_records(file, text)?,
+        Layout::Text => found.add_lines(file, solid)?,
+        Layout::Records => found.add_records(file, solid)?,
     }
+    if solid.len() < text.len() {
+        let card = found.cards.len();
+        found.note(CardOddity::Padding, CardPlace { file, card })?;
+    }
+    found.drop_delimiter()?;
     Ok(found)
 }

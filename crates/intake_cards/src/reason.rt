@@ -2,7 +2,7 @@
 
 /// Why a statement or an operand is not carried just as it stands.
 #[derive(Clone, Copy, Debug, PartialEq, Eq)]
-pub enum Reason {
+pub enum RemarkReason {
     // Carried in other words.
     /// Letters in lower case were read as upper case.
     LowerCase,
@@ -10,6 +10,8 @@ pub enum Reason {
     SpelledOut,
     /// Parentheses in a COMMENT became brackets.
     Brackets,
+    /// The asterisks of a box around a COMMENT are away.
+    Box,
     /// A COMMENT was cut at 200 characters.
     CutComment,
     /// A text without numbers got some.
@@ -32,8 +34,10 @@ pub enum Reason {
     Blanks,
     /// Characters of a COMMENT that no record may have became question marks.
     Unprintable,
-    /// A comment holds a card that begins like a statement.
-    StatementInComment,
+    /// A module that is assembled of a source or a macro has a stand-in that is replaced.
+    Assembled,
+    /// Of two internal holds of one reason RECEIVE keeps the later one.
+    LaterHold,
     /// Columns 73 to 80 of a statement's card hold a text, which is not read.
     TextInNumbers,
     /// A command stands on a card of its own.
@@ -42,7 +46,15 @@ pub enum Reason {
     GroupOfSelect,
     /// A hold in a SYSMOD that is on another one, or of another kind, stands in the file of holds.
     HeldOutside,
+    /// APARs and USERMODs of `--known` stand in EXCLUDE.
+    KnownExcluded,
+    /// The source ids of `--known` that begin so stand in the list.
+    KnownSources,
     // Dropped.
+    /// Blank cards end a text that has numbers.
+    BlankEnd,
+    /// A source id of more than the profile's characters, which no command of the profile can name.
+    LongSource,
     /// It changes no decision.
     NoDecision,
     /// A value that has not the form it must have.
@@ -55,6 +67,10 @@ pub enum Reason {
     EndOfUpdate,
     /// A statement about load modules.
     LoadModules,
+    /// Elements that no other SYSMOD of the files changes, of a SYSMOD with more than it may have.
+    PassedOver,
+    /// A hold of a copy of a SYSMOD that is not carried, where the copy that is carried has one of its reason.
+    HeldAlready,
     // Left out.
     /// FIXCAT holds hold nothing unless they are asked for.
     Fixcat,
@@ -88,6 +104,12 @@ pub enum Reason {
     Contradiction,
     /// A statement that may not stand there.
     OutOfPlace,
+    /// A card inside a comment begins like a statement.
+    StatementInComment,
+    /// Another copy of the SYSMOD is carried.
+    OtherCopy,
+    /// An operand that decides whether the SYSMOD goes on, which a stand-in can't have.
+    Level,
     /// The SYSMOD has a statement that can't be carried.
     WholeSysmod,
     /// A list names the SYSMOD itself.
@@ -108,6 +130,18 @@ pub enum Reason {
     OpenComment,
     /// More than blanks and comments stands behind the period.
     TextBehind,
+    /// No text follows the statement.
+    NoText,
+    /// A card of a text has no number, or one that is not higher than the one before.
+    Misnumbered,
+    /// A line has more than 80 columns.
+    LongLine,
+    /// SELECT or GROUP must stand there.
+    NoList,
+    /// The word stands for SYSMODs or source ids that are not known.
+    NeedsKnown,
+    /// No source id of `--known` begins so.
+    NoSource,
     /// The profile has no such operand.
     NoOperand,
     /// The profile has no such command.
@@ -116,64 +150,90 @@ pub enum Reason {
     NotRead,
 }
 
-impl Reason {
+impl RemarkReason {
     /// The reason in words.
     pub fn words(self) -> &'static str {
         match self {
-            Reason::LowerCase => "lower case was read as upper case",
-            Reason::SpelledOut => "spelled out",
-            Reason::Brackets => "inner parentheses became brackets",
-            Reason::CutComment => "cut at 200 characters",
-            Reason::Numbered => "the text got numbers",
-            Reason::EightDigits => "got eight digits",
-            Reason::GivenSyslib => "SYSLIB as given by --syslib",
-            Reason::RelfileText => "the text is that of a file of --relfile",
-            Reason::StandIn => "a stand-in",
-            Reason::FallTogether => "stands for two elements",
-            Reason::Split => "stands in several statements",
-            Reason::HeldOutside => "stands in the file of holds",
-            Reason::Double => "an id that stands there twice is named once",
-            Reason::Blanks => "its blanks are as cards have them",
-            Reason::Unprintable => "question marks for what no record may have",
-            Reason::StatementInComment => "a comment holds a card that begins with ++",
-            Reason::TextInNumbers => "columns 73 to 80 hold a text, which is not read",
-            Reason::OwnCard => "stands on a card of its own",
-            Reason::GroupOfSelect => "GROUP has the ids of SELECT",
-            Reason::Stricter => "without it more fails and nothing less",
-            Reason::NoDecision => "it changes no decision",
-            Reason::BadValue => "a bad value",
-            Reason::NoService => "no statement of service",
-            Reason::EndOfUpdate => "an update ends without it",
-            Reason::LoadModules => "load modules are not decided on",
-            Reason::Fixcat => "a FIXCAT hold holds nothing unless it is asked for",
-            Reason::BadId => "a bad id",
-            Reason::BadName => "a bad name",
-            Reason::UnknownOperand => "an unknown operand",
-            Reason::UnknownStatement => "an unknown statement",
-            Reason::OutsideProfile => "no statement of the profile",
-            Reason::Missing => "missing",
-            Reason::Twice => "stands there twice",
-            Reason::LongList => "more than 1,000 ids",
-            Reason::TooMany => "more statements than a SYSMOD may have",
-            Reason::NoSyslib => "no SYSLIB, and none given by --syslib",
-            Reason::TextElsewhere => "the text is elsewhere",
-            Reason::NoAscii => "characters that are no ASCII",
-            Reason::BadText => "a bad text",
-            Reason::Contradiction => "can't stand there together",
-            Reason::OutOfPlace => "may not stand there",
-            Reason::WholeSysmod => "a statement of it can't be carried",
-            Reason::NamesItself => "names the SYSMOD itself",
-            Reason::NotInService => "only a function may have it",
-            Reason::UpdateInFunction => "a function brings no update",
-            Reason::NoPeriod => "its period is missing",
-            Reason::OpenParenthesis => "a parenthesis is open",
-            Reason::StrayParenthesis => "a parenthesis without its partner",
-            Reason::StrayCharacter => "a character that stands in no word",
-            Reason::OpenComment => "a comment is open",
-            Reason::TextBehind => "more stands behind its period",
-            Reason::NoOperand => "the profile has no such operand",
-            Reason::NoCommand => "the profile has no such command",
-            Reason::NotRead => "what was written is not read",
+            RemarkReason::LowerCase => "lower case was read as upper case",
+            RemarkReason::SpelledOut => "spelled out",
+            RemarkReason::Brackets => "inner parentheses became brackets",
+            RemarkReason::Box => "the asterisks of its box are away",
+            RemarkReason::CutComment => "cut at 200 characters",
+            RemarkReason::Numbered => "the text got numbers",
+            RemarkReason::EightDigits => "got eight digits",
+            RemarkReason::GivenSyslib => "SYSLIB as given by --syslib",
+            RemarkReason::RelfileText => "the text is that of a file of --relfile",
+            RemarkReason::StandIn => "a stand-in",
+            RemarkReason::FallTogether => "stands for two elements",
+            RemarkReason::Split => "stands in several statements",
+            RemarkReason::HeldOutside => "stands in the file of holds",
+            RemarkReason::Double => "an id that stands there twice is named once",
+            RemarkReason::Blanks => "its blanks are as cards have them",
+            RemarkReason::Unprintable => "question marks for what no record may have",
+            RemarkReason::Assembled =>
+                "the stand-in of a module that is assembled of it is replaced",
+            RemarkReason::LaterHold => "RECEIVE keeps a later one of its reason",
+            RemarkReason::PassedOver =>
+                "no other SYSMOD of these files changes so many of its elements",
+            RemarkReason::HeldAlready => "the copy that is carried has one of its reason",
+            RemarkReason::StatementInComment => "it stands in a comment",
+            RemarkReason::OtherCopy => "another copy of it is carried",
+            RemarkReason::Level =>
+                "it decides whether the SYSMOD goes on, and a stand-in can't have it",
+            RemarkReason::TextInNumbers => "columns 73 to 80 hold a text, which is not read",
+            RemarkReason::OwnCard => "stands on a card of its own",
+            RemarkReason::GroupOfSelect => "GROUP has the ids of SELECT",
+            RemarkReason::Stricter => "without it more fails and nothing less",
+            RemarkReason::NoDecision => "it changes no decision",
+            RemarkReason::BadValue => "a bad value",
+            RemarkReason::NoService => "no statement of service",
+            RemarkReason::EndOfUpdate => "an update ends without it",
+            RemarkReason::LoadModules => "load modules are not decided on",
+            RemarkReason::Fixcat => "a FIXCAT hold holds nothing unless it is asked for",
+            RemarkReason::BadId => "a bad id",
+            RemarkReason::BadName => "a bad name",
+            RemarkReason::UnknownOperand => "smpe does not know this operand, and may not drop it",
+            RemarkReason::UnknownStatement => "an unknown statement",
+            RemarkReason::OutsideProfile => "no statement of the profile",
+            RemarkReason::Missing => "it is missing",
+            RemarkReason::Twice => "stands there twice",
+            RemarkReason::LongList => "more than 1,000 ids",
+            RemarkReason::TooMany => "more statements than a SYSMOD may have",
+            RemarkReason::NoSyslib => "no SYSLIB, and none given by --syslib",
+            RemarkReason::TextElsewhere =>
+                "its text is in another file or library: give --relfile, or put the text after the statement",
+            RemarkReason::NoAscii => "characters that are no ASCII",
+            RemarkReason::BadText => "the text has not the form that smpe reads",
+            RemarkReason::Contradiction => "these operands cannot stand together",
+            RemarkReason::OutOfPlace => "may not stand there",
+            RemarkReason::WholeSysmod => "a statement of it can't be carried",
+            RemarkReason::NamesItself => "names the SYSMOD itself",
+            RemarkReason::NotInService => "only a function may have it",
+            RemarkReason::UpdateInFunction => "a function brings no update",
+            RemarkReason::NoPeriod => "its period is missing",
+            RemarkReason::OpenParenthesis => "a parenthesis is not closed in columns 1 to 72",
+            RemarkReason::StrayParenthesis => "a parenthesis without its partner",
+            RemarkReason::StrayCharacter => "a character that stands in no word",
+            RemarkReason::OpenComment => "a comment is not closed: put */ at its end",
+            RemarkReason::TextBehind => "more stands behind its period",
+            RemarkReason::KnownExcluded => "EXCLUDE names the APARs or USERMODs of --known",
+            RemarkReason::KnownSources => "the list names the source ids of --known that begin so",
+            RemarkReason::BlankEnd => "blank cards end a text that has numbers",
+            RemarkReason::NoText => "no text follows: put it after the statement",
+            RemarkReason::Misnumbered => {
+                "columns 73 to 80 of a card must have eight digits, higher than those before"
+            }
+            RemarkReason::LongSource =>
+                "it changes no decision here, since no command can name this source id",
+            RemarkReason::LongLine =>
+                "the line has more than 80 columns; put the rest on a line of its own",
+            RemarkReason::NoList => "SELECT or GROUP is missing",
+            RemarkReason::NeedsKnown =>
+                "only --known FILE tells which these are: give it, or write their ids",
+            RemarkReason::NoSource => "no source id of --known begins so",
+            RemarkReason::NoOperand => "the profile has no such operand",
+            RemarkReason::NoCommand => "the profile has no such command",
+            RemarkReason::NotRead => "what was written is not read",
         }
     }
 }

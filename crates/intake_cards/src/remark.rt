@@ -1,7 +1,7 @@
 //! What is told of a statement that is not carried just as it stands.
 
-use crate::place::Place;
-use crate::reason::Reason;
+use crate::place::CardPlace;
+use crate::reason::RemarkReason;
 use std::alloc::{AllocError, Global};
 
 /// What was done with a statement or an operand.
@@ -21,7 +21,7 @@ pub enum Deed {
 #[derive(Debug, Drop)]
 pub struct Remark {
     /// Where the statement begins.
-    pub place: Place,
+    pub place: CardPlace,
     /// The statement's word, with its plus signs.
     pub statement: Vec<u8>,
     /// The id or the name in it, and nothing where it has none.
@@ -29,7 +29,7 @@ pub struct Remark {
     /// The operand's word, or nothing where the whole statement is meant.
     pub operand: Vec<u8>,
     pub deed: Deed,
-    pub reason: Reason,
+    pub reason: RemarkReason,
     /// The value or the text that is meant, as it stood.
     pub text: Vec<u8>,
 }
@@ -51,9 +51,17 @@ impl Remark {
     pub fn matters(&self) -> bool {
         match self.deed {
             Deed::Carried | Deed::Dropped => false,
-            Deed::LeftOut => self.reason != Reason::Fixcat,
+            Deed::LeftOut => self.reason != RemarkReason::Fixcat,
             Deed::Refused => true,
         }
+    }
+
+    /// Whether it tells the same of a statement of the same word.
+    pub(crate) fn says_the_same(&self, other: &Remark) -> bool {
+        self.deed == other.deed
+            && self.reason == other.reason
+            && self.statement.as_slice() == other.statement.as_slice()
+            && self.operand.as_slice() == other.operand.as_slice()
     }
 
     /// The line that tells it, without an end of line. `file` is the name of its file, `unit` is "record" or "line".
@@ -61,6 +69,7 @@ impl Remark {
     pub fn line(&self, alloc: Global, file: &str, unit: &str) -> Result<Vec<u8>, AllocError> {
         let card = self.place.card;
         let mut line = format!(in alloc; "{file} {unit} {card}: ")?.into_bytes();
+        let about = line.len();
         line.extend_from_slice(&self.statement)?;
         if !self.id.is_empty() {
             line.extend_from_slice(b"(")?;
@@ -71,7 +80,9 @@ impl Remark {
             line.extend_from_slice(b" ")?;
             line.extend_from_slice(&self.operand)?;
         }
-        line.extend_from_slice(b": ")?;
+        if line.len() > about {
+            line.extend_from_slice(b": ")?;
+        }
         line.extend_from_slice(self.deed.words().as_bytes())?;
         line.extend_from_slice(b": ")?;
         line.extend_from_slice(self.reason.words().as_bytes())?;

@@ -1,20 +1,35 @@
 //! How remarks are gathered.
 
-use crate::place::Place;
-use crate::reason::Reason;
+use crate::place::CardPlace;
+use crate::reason::RemarkReason;
 use crate::remark::{Deed, Remark};
-use fields::Id;
+use fields::{Id, Name};
 use std::alloc::{AllocError, Global};
 
 /// The statement that remarks are about.
 #[derive(Clone, Copy, Debug)]
 pub struct Subject<'a> {
     /// Where it begins.
-    pub place: Place,
+    pub place: CardPlace,
     /// Its word without the plus signs, or nothing where no statement is meant.
     pub word: &'a [u8],
     /// The id or the name in it, as it stands, and nothing where it has none.
     pub id: &'a [u8],
+}
+
+/// Which element a stand-in is for.
+#[derive(Debug, Drop)]
+pub struct StandIn {
+    /// Where the statement begins.
+    pub place: CardPlace,
+    /// Its type, as it is spelled, and its name.
+    pub elem_type: &'static [u8],
+    pub stand_in: Name,
+    /// The word of the statement that brings the element, and the element's name.
+    pub word: Vec<u8>,
+    pub name: Vec<u8>,
+    /// Its DISTLIB, or nothing.
+    pub library: Vec<u8>,
 }
 
 /// The remarks so far, and what is counted beside them.
@@ -24,10 +39,30 @@ pub struct Remarks {
     pub list: Vec<Remark>,
     /// How many stand-ins were told.
     pub stand_ins: usize,
+    /// Each stand-in for an element that the profile lacks.
+    pub named: Vec<StandIn>,
     /// The SYSMODs that have some.
     pub with_stand_ins: Vec<Id>,
     /// How many SYSMODs are left out that have elements, NPRE or DELETE.
     pub forbidding: usize,
+}
+
+/// A remark, and how many more say the same.
+#[derive(Drop)]
+struct Cause {
+    remark: Remark,
+    more: usize,
+}
+
+fn add_cause(causes: &mut Vec<Cause>, remark: Remark) -> Result<(), AllocError> {
+    for cause in causes.iter_mut() {
+        if cause.remark.says_the_same(&remark) {
+            cause.more = cause.more.saturating_add(1);
+            return Ok(());
+        }
+    }
+    causes.push(Cause { remark, more: 0 })?;
+    Ok(())
 }
 
 impl Remarks {
@@ -36,6 +71,7 @@ impl Remarks {
         Remarks {
             list: Vec::new(alloc),
             stand_ins: 0,
+            named: Vec::new(alloc),
             with_stand_ins: Vec::new(alloc),
             forbidding: 0,
         }
@@ -49,10 +85,10 @@ impl Remarks {
         subject: &Subject<'_>,
         operand: &[u8],
         deed: Deed,
-        reason: Reason,
+        reason: RemarkReason,
         text: &[u8],
     ) -> Result<(), AllocError> {
-        if reason == Reason::StandIn {
+        if matches!(reason, RemarkReason::StandIn | RemarkReason::Assembled) {
             self.stand_ins = self.stand_ins.saturating_add(1);
         }
         let mut statement = Vec::with_capacity(alloc, 2)?;
@@ -79,7 +115,7 @@ impl Remarks {
         alloc: Global,
         subject: &Subject<'_>,
         operand: &[u8],
-        reason: Reason,
+        reason: RemarkReason,
         text: &[u8],
     ) -> Result<(), AllocError> {
         self.tell(alloc, subject, operand, Deed::Carried, reason, text)
@@ -92,15 +128,44 @@ impl Remarks {
         alloc: Global,
         subject: &Subject<'_>,
         operand: &[u8],
-        reason: Reason,
+        reason: RemarkReason,
         text: &[u8],
     ) -> Result<(), AllocError> {
         self.tell(alloc, subject, operand, Deed::Dropped, reason, text)
     }
 
-    /// Puts the others behind these, and counts nothing. The error comes where memory runs out.
+    /// Puts the others behind these, with what is counted. The error comes where memory runs out.
     pub fn append(&mut self, mut others: Remarks) -> Result<(), AllocError> {
+        self.stand_ins = self.stand_ins.saturating_add(others.stand_ins);
+        self.named.append(&mut others.named)?;
+        self.with_stand_ins.append(&mut others.with_stand_ins)?;
         self.list.append(&mut others.list)
+    }
+
+    /// Puts the remarks of a SYSMOD that is left out behind these: of those that say the same of statements of one word
+    /// the first, with how many there are. The error comes where memory runs out.
+    pub fn append_causes(&mut self, alloc: Global, others: Remarks) -> Result<(), AllocError> {
+        let mut causes = Vec::new(alloc);
+        for remark in others.list {
+            add_cause(&mut causes, remark)?;
+        }
+        for cause in causes {
+            let Cause { mut remark, more } = cause;
+            if more > 0 {
+                remark.text = format!(in alloc; "{more} more")?.into_bytes();
+            }
+            self.list.push(remark)?;
+        }
+        Ok(())
+    }
+
+    /// Says that what was to be left out is dropped: what it belongs to is carried in another way.
+    pub fn drop_in_place_of_leaving_out(&mut self) {
+        for remark in self.list.iter_mut() {
+            if remark.deed == Deed::LeftOut {
+                remark.deed = Deed::Dropped;
+            }
+        }
     }
 
     /// Tells that a SYSMOD is left out because of this operand, or of the whole statement where `operand` is empty. The
@@ -110,7 +175,7 @@ impl Remarks {
         alloc: Global,
         subject: &Subject<'_>,
         operand: &[u8],
-        reason: Reason,
+        reason: RemarkReason,
         text: &[u8],
     ) -> Result<(), AllocError> {
         self.tell(alloc, subject, operand, Deed::LeftOut, reason, text)

@@ -7,13 +7,13 @@ use Rattle.mcs.specs.declared.file.Item.TheVariants.{Sysmod}
 use Rattle.mcs.specs.declared.hold_item.HoldItem.{HoldItem}
 use Rattle.intake_read.specs.declared.items.WideSysmod.{WideSysmod}
 use Rattle.intake_read.specs.declared.items.WideFile.{WideFile}
-use Rattle.intake_carry.specs.declared.placed.Placed.{Placed}
-use Rattle.intake_carry.specs.declared.sysmods.Part.{Part}
+use Rattle.intake_carry.specs.declared.placed.PlacedItem.{PlacedItem}
+use Rattle.intake_carry.specs.declared.sysmods.CarriedPart.{CarriedPart}
 use Rattle.intake_sysmod.specs.NoLooser.{IsNoLooser}
 use Rattle.intake_carry.specs.Carried.{IsCarriedOf}
 use Rattle.intake_carry.specs.Holds.{IsHeldBy, IsAHold, holds_inside, AreHeld}
 
-abbrev pub placed_items : List Placed → List HoldItem
+abbrev pub placed_items : List PlacedItem → List HoldItem
 placed_items placed = map (λ p. p.item) placed
 
 -- the item that a SYSMOD is, where it is carried
@@ -22,7 +22,7 @@ item_in None = []
 item_in (Some s) = Sysmod s ∷ []
 
 -- a SYSMOD that is no looser, where it is carried, and all its holds
-pub record IsPartOf (decide : Bool) (stated : WideSysmod) (part : Part) : Type 0 where
+pub record IsPartOf (decide : Bool) (stated : WideSysmod) (part : CarriedPart) : Type 0 where
   pub no_looser : IfSome part.sysmod (IsNoLooser decide stated)
   pub held : All (IsHeldBy (holds_inside (item_in part.sysmod)) (placed_items part.outside.items)) stated.holds.items
   pub outside_are : All IsAHold (placed_items part.outside.items)

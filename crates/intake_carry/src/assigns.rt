@@ -3,7 +3,7 @@ ghost use Rattle.std.specs.Prelude.{◌≡◌, ◌++◌, IfOk, map};
 ghost use Rattle.mcs.specs.declared.file.Item.TheVariants as item;
 
 use fields::{Id, Source};
-use intake_cards::{Deed, Reason, Remarks, Subject};
+use intake_cards::{Deed, RemarkReason, Remarks, Subject};
 use intake_read::{WideAssign, WideFile, tell_odd};
 use mcs::{Assign, Item};
 use std::alloc::{AllocError, Global};
@@ -42,13 +42,13 @@ fn ids_of(
     let mut seen = BTreeSet::new(alloc);
     for text in stated {
         let Some(id) = Id::read(text.as_slice()) else {
-            remarks.leave_out(alloc, subject, b"TO", Reason::BadId, text.as_slice())?;
+            remarks.leave_out(alloc, subject, b"TO", RemarkReason::BadId, text.as_slice())?;
             continue;
         };
         if seen.insert(id)? {
             ids.push(id)?;
         } else {
-            remarks.tell_carried(alloc, subject, b"TO", Reason::Double, text.as_slice())?;
+            remarks.tell_carried(alloc, subject, b"TO", RemarkReason::Double, text.as_slice())?;
         }
     }
     Ok(ids)
@@ -79,17 +79,24 @@ fn put_assign(
             Deed::LeftOut,
         );
     }
-    let Some(source) = Source::read(source) else {
-        return remarks.leave_out(alloc, &subject, b"SOURCEID", Reason::BadValue, source);
+    let upper = source.to_ascii_uppercase(alloc)?;
+    let Some(known) = Source::read(upper.as_slice()) else {
+        if source.contains(&b'.') {
+            return remarks.tell_dropped(alloc, &subject, b"", RemarkReason::LongSource, b"");
+        }
+        return remarks.leave_out(alloc, &subject, b"SOURCEID", RemarkReason::BadValue, source);
     };
+    if upper.as_slice() != source {
+        remarks.tell_carried(alloc, &subject, b"SOURCEID", RemarkReason::LowerCase, b"")?;
+    }
     if stated.to.is_empty() {
-        return remarks.leave_out(alloc, &subject, b"TO", Reason::Missing, b"");
+        return remarks.leave_out(alloc, &subject, b"TO", RemarkReason::Missing, b"");
     }
     let ids = ids_of(alloc, remarks, &subject, stated.to.as_slice())?;
     if ids.len() > MOST_IDS {
-        remarks.tell_carried(alloc, &subject, b"TO", Reason::Split, b"")?;
+        remarks.tell_carried(alloc, &subject, b"TO", RemarkReason::Split, b"")?;
     }
-    put_each(alloc, assigns, source, ids.as_slice())
+    put_each(alloc, assigns, known, ids.as_slice())
 }
 
 /// The assignments of the files, and that of the SYSMODs with stand-ins.

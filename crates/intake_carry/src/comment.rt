@@ -1,6 +1,6 @@
 //! COMMENT of a hold.
 
-use intake_cards::{Reason, Remarks, Subject, laid_out};
+use intake_cards::{RemarkReason, Remarks, Subject, laid_out};
 use std::alloc::{AllocError, Global};
 
 /// The most characters that a COMMENT may have.
@@ -28,6 +28,26 @@ fn cut(text: &[u8]) -> &[u8] {
     }
 }
 
+/// Whether it is an asterisk, or a row of them, as boxes have.
+fn is_box(word: &[u8]) -> bool {
+    !word.is_empty() && word.iter().all(|b| *b == b'*')
+}
+
+/// The text without the rows and sides of boxes.
+fn without_boxes(alloc: Global, text: &[u8]) -> Result<Vec<u8>, AllocError> {
+    let mut kept = Vec::with_capacity(alloc, text.len())?;
+    for word in text.split(|b| *b == b' ') {
+        if is_box(word) {
+            continue;
+        }
+        if !kept.is_empty() {
+            kept.push(b' ')?;
+        }
+        kept.extend_from_slice(word)?;
+    }
+    Ok(kept)
+}
+
 /// The text as it is carried, or nothing where none is left. How it differs is told, with the whole text.
 pub(crate) fn comment_of(
     alloc: Global,
@@ -40,22 +60,17 @@ pub(crate) fn comment_of(
     };
     let text = stated.as_slice();
     let mut changed = Vec::with_capacity(alloc, text.len())?;
-    for byte in text {
+    for byte in &without_boxes(alloc, text)? {
         changed.push(carried(*byte))?;
     }
     let laid = laid_out(alloc, changed.as_slice())?;
     let short = cut(laid.as_slice());
-    tell(
-        alloc,
-        remarks,
-        subject,
-        text,
-        changed.as_slice(),
-        laid.as_slice(),
-    )?;
     if short.is_empty() {
-        remarks.tell_dropped(alloc, subject, b"COMMENT", Reason::BadValue, b"")?;
+        remarks.tell_dropped(alloc, subject, b"COMMENT", RemarkReason::BadValue, text)?;
         return Ok(None);
+    }
+    if let Some(reason) = difference(text, laid.as_slice()) {
+        remarks.tell_carried(alloc, subject, b"COMMENT", reason, text)?;
     }
     match String::from_utf8(Vec::from_slice(alloc, short)?) {
         Ok(comment) => Ok(Some(comment)),
@@ -63,30 +78,22 @@ pub(crate) fn comment_of(
     }
 }
 
-/// Tells how a COMMENT differs; the first remark has its text.
-fn tell(
-    alloc: Global,
-    remarks: &mut Remarks,
-    subject: &Subject<'_>,
-    stated: &[u8],
-    changed: &[u8],
-    laid: &[u8],
-) -> Result<(), AllocError> {
-    let cases = [
-        (laid.len() > LONGEST, Reason::CutComment),
-        (stated.iter().any(|b| is_parenthesis(*b)), Reason::Brackets),
-        (
-            stated.iter().any(|b| !(0x20..=0x7e).contains(b)),
-            Reason::Unprintable,
-        ),
-        (laid != changed, Reason::Blanks),
-    ];
-    let mut text = stated;
-    for (applies, reason) in cases {
-        if applies {
-            remarks.tell_carried(alloc, subject, b"COMMENT", reason, text)?;
-            text = b"";
-        }
+/// The first of the ways in which a COMMENT differs.
+fn difference(stated: &[u8], laid: &[u8]) -> Option<RemarkReason> {
+    if laid.len() > LONGEST {
+        return Some(RemarkReason::CutComment);
     }
-    Ok(())
+    if stated.split(|b| *b == b' ').any(is_box) {
+        return Some(RemarkReason::Box);
+    }
+    if stated.iter().any(|b| is_parenthesis(*b)) {
+        return Some(RemarkReason::Brackets);
+    }
+    if stated.iter().any(|b| !(0x20..=0x7e).contains(b)) {
+        return Some(RemarkReason::Unprintable);
+    }
+    if laid != stated {
+        return Some(RemarkReason::Blanks);
+    }
+    None
 }

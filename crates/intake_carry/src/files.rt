@@ -6,12 +6,14 @@ ghost use Rattle.intake_carry.specs.Holds.{AreHeld};
 ghost use Rattle.intake_carry.specs.Gathered.{placed_items, item_in, AreSysmodsOf, AreFilesOf};
 
 use crate::assigns::{assigns_of, with_assigns};
+use crate::copies::OtherCopies;
 use crate::errors::HoldError;
+use crate::names::name_stand_ins;
 use crate::narrowed::{NarrowError, Narrowed};
-use crate::notes::tell_notes;
-use crate::placed::{Placed, in_order, placed_holds, placed_releases};
+use crate::notes::{tell_notes, tell_swallowed};
+use crate::placed::{PlacedItem, in_order, placed_holds, placed_releases};
 use crate::refusals::tell_refusals;
-use crate::sysmods::{Part, part_of};
+use crate::sysmods::{CarriedPart, part_of};
 use intake_cards::Remarks;
 use intake_read::WideFile;
 use intake_sysmod::{Options, tell_others};
@@ -20,13 +22,13 @@ use std::alloc::{AllocError, Global};
 
 /// SYSMODs, and the holds and releases of the hold file.
 #[derive(Drop)]
-pub(crate) struct Gathered {
+pub(crate) struct CarriedItems {
     pub items: Vec<Item>,
-    pub outside: Vec<Placed>,
+    pub outside: Vec<PlacedItem>,
 }
 
 /// With what becomes of one SYSMOD more.
-fn with_part(gathered: Gathered, part: Part) -> Result<Gathered, AllocError>
+fn with_part(gathered: CarriedItems, part: CarriedPart) -> Result<CarriedItems, AllocError>
     ensures items { IfOk result (λ all. all.items.items ≡ gathered.items.items ++ item_in part.sysmod) }
     ensures outside { IfOk result (λ all. placed_items all.outside.items
         ≡ placed_items gathered.outside.items ++ placed_items part.outside.items) }
@@ -38,32 +40,33 @@ fn with_part(gathered: Gathered, part: Part) -> Result<Gathered, AllocError>
     if let Some(sysmod) = part.sysmod {
         items.push(Item::Sysmod(sysmod))?;
     }
-    Ok(Gathered { items, outside })
+    Ok(CarriedItems { items, outside })
 }
 
 /// The SYSMODs of a file, and their holds.
 fn sysmods_of(
     alloc: Global,
     options: &Options,
+    copies: &OtherCopies,
     remarks: &mut Remarks,
     file: &WideFile,
-) -> Result<Gathered, HoldError>
+) -> Result<CarriedItems, HoldError>
     ensures { IfOk result (λ all. AreSysmodsOf options.now.decide file.now.sysmods.items all.items.items
         (placed_items all.outside.items)) }
 {
-    let mut gathered = Gathered {
+    let mut gathered = CarriedItems {
         items: Vec::new(alloc),
         outside: Vec::new(alloc),
     };
     for stated in file.sysmods.iter() {
-        let part = part_of(alloc, options, remarks, stated)?;
+        let part = part_of(alloc, options, copies, remarks, stated)?;
         gathered = with_part(gathered, part)?;
     }
     Ok(gathered)
 }
 
 /// With the items of others behind these.
-fn joined(one: Gathered, other: Gathered) -> Result<Gathered, AllocError>
+fn joined(one: CarriedItems, other: CarriedItems) -> Result<CarriedItems, AllocError>
     ensures items { IfOk result (λ all. all.items.items ≡ one.items.items ++ other.items.items) }
     ensures outside { IfOk result (λ all. placed_items all.outside.items
         ≡ placed_items one.outside.items ++ placed_items other.outside.items) }
@@ -74,11 +77,11 @@ fn joined(one: Gathered, other: Gathered) -> Result<Gathered, AllocError>
     let mut more = other.outside;
     items.append(&mut more_items)?;
     outside.append(&mut more)?;
-    Ok(Gathered { items, outside })
+    Ok(CarriedItems { items, outside })
 }
 
 /// With these holds and releases in the hold file.
-fn with_outside(gathered: Gathered, more: Vec<Placed>) -> Result<Gathered, AllocError>
+fn with_outside(gathered: CarriedItems, more: Vec<PlacedItem>) -> Result<CarriedItems, AllocError>
     ensures items { IfOk result (λ all. all.items.items ≡ gathered.items.items) }
     ensures outside { IfOk result (λ all. placed_items all.outside.items
         ≡ placed_items gathered.outside.items ++ placed_items more.items) }
@@ -87,21 +90,23 @@ fn with_outside(gathered: Gathered, more: Vec<Placed>) -> Result<Gathered, Alloc
     let mut outside = gathered.outside;
     let mut more = more;
     outside.append(&mut more)?;
-    Ok(Gathered { items, outside })
+    Ok(CarriedItems { items, outside })
 }
 
 /// What a file has of SYSMODs, holds and releases.
 fn of_file(
     alloc: Global,
     options: &Options,
+    copies: &OtherCopies,
     remarks: &mut Remarks,
     file: &WideFile,
-) -> Result<Gathered, HoldError>
+) -> Result<CarriedItems, HoldError>
     ensures { IfOk result (λ all. AreFilesOf options.now.decide (file.now ∷ []) all.items.items
         (placed_items all.outside.items)) }
 {
     tell_notes(alloc, remarks, file.notes.as_slice())?;
-    let gathered = sysmods_of(alloc, options, remarks, file)?;
+    tell_swallowed(alloc, remarks, file.swallowed.as_slice())?;
+    let gathered = sysmods_of(alloc, options, copies, remarks, file)?;
     let _ = tell_others(alloc, options, remarks, file.others.as_slice())?;
     let holds = placed_holds(alloc, remarks, file.holds.as_slice())?;
     let gathered = with_outside(gathered, holds)?;
@@ -114,18 +119,19 @@ fn of_file(
 fn of_files(
     alloc: Global,
     options: &Options,
+    copies: &OtherCopies,
     remarks: &mut Remarks,
     files: &[WideFile],
-) -> Result<Gathered, HoldError>
+) -> Result<CarriedItems, HoldError>
     ensures { IfOk result (λ all. AreFilesOf options.now.decide files.now all.items.items
         (placed_items all.outside.items)) }
 {
-    let mut gathered = Gathered {
+    let mut gathered = CarriedItems {
         items: Vec::new(alloc),
         outside: Vec::new(alloc),
     };
     for file in files {
-        let more = of_file(alloc, options, remarks, file)?;
+        let more = of_file(alloc, options, copies, remarks, file)?;
         gathered = joined(gathered, more)?;
     }
     Ok(gathered)
@@ -156,15 +162,17 @@ pub fn narrow(alloc: Global, files: &[WideFile], options: Options) -> Result<Nar
 {
     let mut options = options;
     options.sort();
+    let copies = OtherCopies::of_files(alloc, files)?;
     let mut remarks = Remarks::new(alloc);
     if are_refused(alloc, &mut remarks, files)? {
         return Err(NarrowError::Refused(remarks.list));
     }
-    let gathered = match of_files(alloc, &options, &mut remarks, files) {
+    let gathered = match of_files(alloc, &options, &copies, &mut remarks, files) {
         Ok(gathered) => gathered,
         Err(HoldError::Memory) => return Err(NarrowError::Memory),
         Err(HoldError::BadHold) => return Err(NarrowError::Refused(remarks.list)),
     };
+    name_stand_ins(alloc, &mut remarks, files)?;
     let assigns = assigns_of(alloc, &mut remarks, files)?;
     let items = with_assigns(alloc, gathered.items, assigns)?;
     let hold_items = in_order(alloc, gathered.outside)?;

@@ -9,7 +9,7 @@ ghost use Rattle.intake_carry.specs.Holds.{wide_kind, IsFormed, IsKey, IsHoldKey
 use crate::comment::comment_of;
 use crate::errors::HoldError;
 use fields::{Class, HoldDate, Id, Reason as HoldReason};
-use intake_cards::{Deed, Reason, Remarks, Subject};
+use intake_cards::{Deed, RemarkReason, Remarks, Subject};
 use intake_read::{
     OddOperand, WideHold, WideHoldKind, WideOperand, WideRelease, tell_no_decision, tell_odd,
 };
@@ -20,7 +20,7 @@ use terms::HoldKind;
 
 /// Why a hold or a release can't be carried.
 #[derive(Clone, Copy, Debug, PartialEq, Eq)]
-pub(crate) enum Fault {
+pub(crate) enum HoldFault {
     BadId,
     NoKind,
     NoReason,
@@ -29,23 +29,23 @@ pub(crate) enum Fault {
     BadFmid,
 }
 
-impl Fault {
+impl HoldFault {
     /// The operand that is at fault.
     pub(crate) fn operand(self) -> &'static [u8] {
         match self {
-            Fault::BadId => b"",
-            Fault::NoKind => b"ERROR, SYSTEM or USER",
-            Fault::NoReason | Fault::BadReason => b"REASON",
-            Fault::NoFmid | Fault::BadFmid => b"FMID",
+            HoldFault::BadId => b"",
+            HoldFault::NoKind => b"ERROR, SYSTEM or USER",
+            HoldFault::NoReason | HoldFault::BadReason => b"REASON",
+            HoldFault::NoFmid | HoldFault::BadFmid => b"FMID",
         }
     }
 
     /// What is wrong with it.
-    pub(crate) fn reason(self) -> Reason {
+    pub(crate) fn reason(self) -> RemarkReason {
         match self {
-            Fault::BadId | Fault::BadFmid => Reason::BadId,
-            Fault::NoKind | Fault::NoReason | Fault::NoFmid => Reason::Missing,
-            Fault::BadReason => Reason::BadValue,
+            HoldFault::BadId | HoldFault::BadFmid => RemarkReason::BadId,
+            HoldFault::NoKind | HoldFault::NoReason | HoldFault::NoFmid => RemarkReason::Missing,
+            HoldFault::BadReason => RemarkReason::BadValue,
         }
     }
 }
@@ -64,31 +64,31 @@ fn kind_of(kind: WideHoldKind) -> Option<HoldKind>
 }
 
 /// The reason of a hold of the kind. That of an ERROR hold is an id.
-fn reason_of(kind: HoldKind, stated: &Option<Vec<u8>>) -> Result<HoldReason, Fault>
+fn reason_of(kind: HoldKind, stated: &Option<Vec<u8>>) -> Result<HoldReason, HoldFault>
     ensures { IfOk result (λ reason. (text_in stated.now ≡ Some reason) × IsReason kind reason) }
 {
     let Some(text) = stated else {
-        return Err(Fault::NoReason);
+        return Err(HoldFault::NoReason);
     };
     let Some(reason) = HoldReason::read(text.as_slice()) else {
-        return Err(Fault::BadReason);
+        return Err(HoldFault::BadReason);
     };
     if kind == HoldKind::Error && !reason.is_id() {
-        return Err(Fault::BadReason);
+        return Err(HoldFault::BadReason);
     }
     Ok(reason)
 }
 
 /// The FMID of a hold.
-fn fmid_of(stated: &Option<Vec<u8>>) -> Result<Id, Fault>
+fn fmid_of(stated: &Option<Vec<u8>>) -> Result<Id, HoldFault>
     ensures { IfOk result (λ fmid. text_in stated.now ≡ Some fmid) }
 {
     let Some(text) = stated else {
-        return Err(Fault::NoFmid);
+        return Err(HoldFault::NoFmid);
     };
     match Id::read(text.as_slice()) {
         Some(fmid) => Ok(fmid),
-        None => Err(Fault::BadFmid),
+        None => Err(HoldFault::BadFmid),
     }
 }
 
@@ -98,18 +98,18 @@ fn key_of(
     kind: Option<WideHoldKind>,
     reason: &Option<Vec<u8>>,
     fmid: &Option<Vec<u8>>,
-) -> Result<Option<Release>, Fault>
+) -> Result<Option<Release>, HoldFault>
     ensures some { IfOk result (λ found. IfSome found (λ key. IsKey id.now kind reason.now fmid.now key)) }
     ensures none { IfOk result (λ found. IfNone found (kind ≡ Some Fixcat)) }
 {
     let Some(kind) = kind else {
-        return Err(Fault::NoKind);
+        return Err(HoldFault::NoKind);
     };
     let Some(kind) = kind_of(kind) else {
         return Ok(None);
     };
     let Some(id) = Id::read(id) else {
-        return Err(Fault::BadId);
+        return Err(HoldFault::BadId);
     };
     let reason = reason_of(kind, reason)?;
     let fmid = fmid_of(fmid)?;
@@ -122,7 +122,7 @@ fn key_of(
 }
 
 /// The key of a hold, or nothing for FIXCAT.
-pub(crate) fn hold_key(stated: &WideHold) -> Result<Option<Release>, Fault>
+pub(crate) fn hold_key(stated: &WideHold) -> Result<Option<Release>, HoldFault>
     ensures some { IfOk result (λ found. IfSome found (IsHoldKey stated.now)) }
     ensures none { IfOk result (λ found. IfNone found (stated.now.kind ≡ Some Fixcat)) }
 {
@@ -135,7 +135,7 @@ pub(crate) fn hold_key(stated: &WideHold) -> Result<Option<Release>, Fault>
 }
 
 /// The release, or nothing for FIXCAT.
-pub(crate) fn release_key(stated: &WideRelease) -> Result<Option<Release>, Fault>
+pub(crate) fn release_key(stated: &WideRelease) -> Result<Option<Release>, HoldFault>
     ensures some { IfOk result (λ found. IfSome found (IsRelease stated.now)) }
     ensures none { IfOk result (λ found. IfNone found (stated.now.kind ≡ Some Fixcat)) }
 {
@@ -161,7 +161,13 @@ fn class_of(
     };
     let class = Class::read(text.as_slice());
     if class.is_none() {
-        remarks.tell_dropped(alloc, subject, b"CLASS", Reason::BadValue, text.as_slice())?;
+        remarks.tell_dropped(
+            alloc,
+            subject,
+            b"CLASS",
+            RemarkReason::BadValue,
+            text.as_slice(),
+        )?;
     }
     Ok(class)
 }
@@ -180,7 +186,13 @@ fn date_of(
     };
     let date = HoldDate::read(text.as_slice());
     if date.is_none() {
-        remarks.tell_dropped(alloc, subject, b"DATE", Reason::BadValue, text.as_slice())?;
+        remarks.tell_dropped(
+            alloc,
+            subject,
+            b"DATE",
+            RemarkReason::BadValue,
+            text.as_slice(),
+        )?;
     }
     Ok(date)
 }
@@ -215,7 +227,8 @@ fn hold_of(
 
 /// Whether the hold stands in the SYSMOD of the id: a SYSTEM hold on it.
 fn is_internal(key: &Release, own: Option<Id>) -> bool
-    ensures { IsTrue result → (key.now.kind ≡ System) × (own ≡ Some key.now.id) }
+    ensures only { IsTrue result → (key.now.kind ≡ System) × (own ≡ Some key.now.id) }
+    ensures always { (key.now.kind ≡ System) × (own ≡ Some key.now.id) → IsTrue result }
 {
     key.kind == HoldKind::System && own == Some(key.id)
 }
@@ -231,7 +244,7 @@ fn tell_fixcat(
         subject,
         b"FIXCAT",
         Deed::LeftOut,
-        Reason::Fixcat,
+        RemarkReason::Fixcat,
         b"",
     )
 }

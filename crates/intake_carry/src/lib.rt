@@ -5,9 +5,11 @@
 
 mod assigns;
 mod comment;
+mod copies;
 mod errors;
 mod files;
 mod holds;
+mod names;
 mod narrowed;
 mod notes;
 mod placed;

@@ -1,8 +1,8 @@
 //! What comes of narrowing.
 ghost use Rattle.std.specs.Prelude.{◌≡◌};
 
-use intake_cards::{Deed, Reason, Remark, Remarks};
-use intake_read::Place;
+use intake_cards::{Deed, Remark, RemarkReason, Remarks, StandIn};
+use intake_read::CardPlace;
 use mcs::{HoldItem, Item};
 use std::alloc::{AllocError, AllocFailed};
 use thiserror::Error;
@@ -30,6 +30,8 @@ pub struct Narrowed {
     pub forbidding: usize,
     /// How many SYSMODs have stand-ins.
     pub stand_ins: usize,
+    /// Which element each stand-in is for, by the names of the stand-ins, each of them once.
+    pub named: Vec<StandIn>,
 }
 
 /// Why nothing comes of narrowing.
@@ -54,7 +56,7 @@ impl<T: Drop> From<AllocFailed<T>> for NarrowError {
 }
 
 /// How many of the remarks are about a statement that is left out for the reason.
-fn count(remarks: &[Remark], word: &[u8], reason: Reason) -> usize {
+fn count(remarks: &[Remark], word: &[u8], reason: RemarkReason) -> usize {
     remarks
         .iter()
         .filter(|one| one.reason == reason
@@ -65,11 +67,11 @@ fn count(remarks: &[Remark], word: &[u8], reason: Reason) -> usize {
 
 /// How many `++ASSIGN`s are left out: not those of which only an id is.
 fn assigns_left_out(remarks: &[Remark]) -> usize {
-    let mut last: Option<Place> = None;
+    let mut last: Option<CardPlace> = None;
     let mut found = 0usize;
     for one in remarks {
         let is_one = one.deed == Deed::LeftOut
-            && one.reason != Reason::BadId
+            && one.reason != RemarkReason::BadId
             && one.statement.as_slice() == b"++ASSIGN".as_slice();
         if is_one && last != Some(one.place) {
             found = found.saturating_add(1);
@@ -90,16 +92,16 @@ impl Narrowed {
             carried: sysmods_in(items.as_slice()),
             left_out: list
                 .iter()
-                .filter(|one| one.reason == Reason::WholeSysmod)
+                .filter(|one| one.reason == RemarkReason::WholeSysmod)
                 .count(),
         };
         let holds = Tally {
             carried: holds_in(items.as_slice(), hold_items.as_slice()),
-            left_out: count(list, b"++HOLD", Reason::Fixcat),
+            left_out: count(list, b"++HOLD", RemarkReason::Fixcat),
         };
         let releases = Tally {
             carried: releases_in(hold_items.as_slice()),
-            left_out: count(list, b"++RELEASE", Reason::Fixcat),
+            left_out: count(list, b"++RELEASE", RemarkReason::Fixcat),
         };
         let assigns = Tally {
             carried: items.len().saturating_sub(sysmods.carried),
@@ -114,6 +116,7 @@ impl Narrowed {
             assigns,
             forbidding: remarks.forbidding,
             stand_ins: remarks.with_stand_ins.len(),
+            named: remarks.named,
             remarks: remarks.list,
         }
     }

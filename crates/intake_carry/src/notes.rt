@@ -1,7 +1,7 @@
 //! What was read otherwise than it stands.
 
-use intake_cards::{Reason, Remarks, Subject};
-use intake_read::{Note, NoteReason};
+use intake_cards::{RemarkReason, Remarks, Subject};
+use intake_read::{Note, NoteReason, SwallowedStatement};
 use std::alloc::{AllocError, Global};
 
 /// Tells of what was read otherwise than it stands: where it is met first, and how often.
@@ -17,13 +17,36 @@ pub(crate) fn tell_notes(
             id: b"",
         };
         let reason = match note.reason {
-            NoteReason::LowerCase => Reason::LowerCase,
-            NoteReason::StatementInComment => Reason::StatementInComment,
-            NoteReason::TextIn73 => Reason::TextInNumbers,
+            NoteReason::LowerCase => RemarkReason::LowerCase,
+            NoteReason::TextIn73 => RemarkReason::TextInNumbers,
         };
+        if note.reason == NoteReason::TextIn73 {
+            remarks.tell_dropped(alloc, &subject, b"", reason, note.tail.trim_ascii())?;
+            continue;
+        }
         let count = note.count;
         let often = format!(in alloc; "{count} in all")?;
         remarks.tell_carried(alloc, &subject, b"", reason, often.as_bytes())?;
+    }
+    Ok(())
+}
+
+/// Tells of each statement that stands in a comment, with the card where the comment opens.
+pub(crate) fn tell_swallowed(
+    alloc: Global,
+    remarks: &mut Remarks,
+    swallowed: &[SwallowedStatement],
+) -> Result<(), AllocError> {
+    for one in swallowed {
+        let subject = Subject {
+            place: one.place,
+            word: one.word.as_slice(),
+            id: one.name.as_slice(),
+        };
+        let card = one.comment.card;
+        let opens = format!(in alloc; "which opens at {card}")?;
+        let reason = RemarkReason::StatementInComment;
+        remarks.leave_out(alloc, &subject, b"", reason, opens.as_bytes())?;
     }
     Ok(())
 }

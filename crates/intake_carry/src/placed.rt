@@ -7,27 +7,27 @@ ghost use Rattle.intake_carry.specs.Gathered.{placed_items};
 use crate::errors::HoldError;
 use crate::holds::{carried_hold, carried_release};
 use intake_cards::Remarks;
-use intake_read::{Place, WideHold, WideRelease};
+use intake_read::{CardPlace, WideHold, WideRelease};
 use mcs::{HoldItem, Release};
 use std::alloc::{AllocError, Global};
 use sysmods_values::Hold;
 
 /// A hold or a release of the hold file, and where it stood.
 #[derive(Drop)]
-pub(crate) struct Placed {
-    pub place: Place,
+pub(crate) struct PlacedItem {
+    pub place: CardPlace,
     pub item: HoldItem,
 }
 
 /// Puts a hold behind the others.
 pub(crate) fn put_outside(
-    placed: &mut Vec<Placed>,
-    place: Place,
+    placed: &mut Vec<PlacedItem>,
+    place: CardPlace,
     hold: Hold,
 ) -> Result<(), AllocError>
     ensures { OnOk result (placed_items placed.new.items ≡ placed_items placed.old.items ++ AHold hold ∷ []) }
 {
-    placed.push(Placed {
+    placed.push(PlacedItem {
         place,
         item: HoldItem::Hold(hold),
     })?;
@@ -35,10 +35,14 @@ pub(crate) fn put_outside(
 }
 
 /// Puts a release behind the others.
-fn put_release(placed: &mut Vec<Placed>, place: Place, release: Release) -> Result<(), AllocError>
+fn put_release(
+    placed: &mut Vec<PlacedItem>,
+    place: CardPlace,
+    release: Release,
+) -> Result<(), AllocError>
     ensures { OnOk result (placed_items placed.new.items ≡ placed_items placed.old.items ++ ARelease release ∷ []) }
 {
-    placed.push(Placed {
+    placed.push(PlacedItem {
         place,
         item: HoldItem::Release(release),
     })?;
@@ -50,7 +54,7 @@ pub(crate) fn placed_holds(
     alloc: Global,
     remarks: &mut Remarks,
     stated: &[WideHold],
-) -> Result<Vec<Placed>, HoldError>
+) -> Result<Vec<PlacedItem>, HoldError>
     ensures held { IfOk result (λ placed. All (IsHeldBy [] (placed_items placed.items)) stated.now) }
     ensures holds { IfOk result (λ placed. All IsAHold (placed_items placed.items)) }
 {
@@ -69,7 +73,7 @@ pub(crate) fn placed_releases(
     alloc: Global,
     remarks: &mut Remarks,
     stated: &[WideRelease],
-) -> Result<Vec<Placed>, HoldError>
+) -> Result<Vec<PlacedItem>, HoldError>
     ensures released { IfOk result (λ placed. All (IsReleased (placed_items placed.items)) stated.now) }
     ensures stated { IfOk result (λ placed. All (IsStatedRelease stated.now) (placed_items placed.items)) }
 {
@@ -84,7 +88,7 @@ pub(crate) fn placed_releases(
 }
 
 /// By their places.
-fn by_place(mut placed: Vec<Placed>) -> Vec<Placed>
+fn by_place(mut placed: Vec<PlacedItem>) -> Vec<PlacedItem>
     ensures { IsPermutation placed.items result.items }
 {
     placed.sort_unstable_by_key(|one| one.place);
@@ -92,7 +96,7 @@ fn by_place(mut placed: Vec<Placed>) -> Vec<Placed>
 }
 
 /// The items without their places.
-fn items_of(alloc: Global, placed: Vec<Placed>) -> Result<Vec<HoldItem>, AllocError>
+fn items_of(alloc: Global, placed: Vec<PlacedItem>) -> Result<Vec<HoldItem>, AllocError>
     ensures { IfOk result (λ items. items.items ≡ placed_items placed.items) }
 {
     let mut items = Vec::with_capacity(alloc, placed.len())?;
@@ -103,7 +107,7 @@ fn items_of(alloc: Global, placed: Vec<Placed>) -> Result<Vec<HoldItem>, AllocEr
 }
 
 /// The items in the order of the files.
-pub(crate) fn in_order(alloc: Global, placed: Vec<Placed>) -> Result<Vec<HoldItem>, AllocError>
+pub(crate) fn in_order(alloc: Global, placed: Vec<PlacedItem>) -> Result<Vec<HoldItem>, AllocError>
     ensures { IfOk result (λ items. IsPermutation (placed_items placed.items) items.items) }
 {
     let items = items_of(alloc, by_place(placed))?;

@@ -1,7 +1,7 @@
 //! Holds and releases that can't be carried. With one of them nothing is carried at all.
 
-use crate::holds::{Fault, hold_key, release_key};
-use intake_cards::{Deed, Reason, Remarks, Subject};
+use crate::holds::{HoldFault, hold_key, release_key};
+use intake_cards::{Deed, RemarkReason, Remarks, Subject};
 use intake_read::{OddOperand, WideFile, WideHold, WideOther, WideRelease};
 use std::alloc::{AllocError, Global};
 
@@ -21,12 +21,12 @@ fn tell_fault(
     remarks: &mut Remarks,
     subject: &Subject<'_>,
     odd: &[OddOperand],
-    fault: Option<Fault>,
+    fault: Option<HoldFault>,
 ) -> Result<bool, AllocError> {
     if let Some(one) = open_key(odd) {
         let operand = &one.operand;
         let name = operand.name.as_slice();
-        let reason = Reason::from(one.reason);
+        let reason = RemarkReason::from(one.reason);
         remarks.tell(alloc, subject, name, Deed::Refused, reason, operand.text())?;
         return Ok(true);
     }
@@ -84,10 +84,23 @@ fn tell_holds(
     Ok(any)
 }
 
-/// Whether it is a hold or a release that has something wrong with it.
+/// Whether it is a hold or a release that has something wrong with it, and not of the kind FIXCAT alone.
 fn is_broken_hold(other: &WideOther) -> bool {
     let word = other.word.as_slice();
-    word == b"HOLD".as_slice() || word == b"RELEASE".as_slice()
+    (word == b"HOLD".as_slice() || word == b"RELEASE".as_slice()) && !is_fixcat(other)
+}
+
+/// Whether FIXCAT is its only kind.
+fn is_fixcat(other: &WideOther) -> bool {
+    let mut has_fixcat = false;
+    for operand in other.operands.iter() {
+        match operand.name.as_slice() {
+            b"FIXCAT" => has_fixcat = true,
+            b"ERROR" | b"ERR" | b"SYSTEM" | b"SYS" | b"USER" => return false,
+            _ => {}
+        }
+    }
+    has_fixcat
 }
 
 fn tell_broken_hold(
@@ -105,7 +118,7 @@ fn tell_broken_hold(
         &subject,
         b"",
         Deed::Refused,
-        Reason::from(other.reason),
+        RemarkReason::from(other.reason),
         b"",
     )
 }

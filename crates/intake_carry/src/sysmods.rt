@@ -1,15 +1,18 @@
 //! SYSMODs with their holds.
-ghost use Rattle.std.specs.Prelude.{◌≡◌, IfOk, IfSome, OnOk, IsTrue, All};
+ghost use Rattle.std.specs.Prelude.{◌≡◌, [], IfOk, IfSome, OnOk, IsTrue, All};
 ghost use Rattle.terms.specs.declared.kinds.HoldKind.TheVariants.{System};
 ghost use Rattle.intake_read.specs.declared.items.WideHold.{WideHold as AnyWideHold};
 ghost use Rattle.intake_carry.specs.Holds.{IsHold, IsHeldBy, IsAHold, holds_inside};
+ghost use Rattle.intake_sysmod.specs.NoLooser.{IsNoLooser};
 ghost use Rattle.intake_carry.specs.Gathered.{placed_items, item_in, IsPartOf};
 
+use crate::copies::OtherCopies;
 use crate::errors::HoldError;
 use crate::holds::carried_hold;
-use crate::placed::{Placed, placed_holds, put_outside};
+use crate::placed::{PlacedItem, placed_holds, put_outside};
 use fields::Id;
-use intake_cards::{Place, Reason, Remarks, Subject};
+use fields::spelling::kind_text;
+use intake_cards::{CardPlace, RemarkReason, Remarks, Subject};
 use intake_read::{WideHold, WideHoldKind, WideSysmod};
 use intake_sysmod::{Options, carried_sysmod};
 use std::alloc::{AllocError, Global};
@@ -17,9 +20,9 @@ use sysmods_values::{Hold, Sysmod};
 
 /// What becomes of a SYSMOD: nothing where it is left out, and the holds in it that stand outside.
 #[derive(Drop)]
-pub(crate) struct Part {
+pub(crate) struct CarriedPart {
     pub sysmod: Option<Sysmod>,
-    pub outside: Vec<Placed>,
+    pub outside: Vec<PlacedItem>,
 }
 
 /// The id of a SYSMOD.
@@ -32,8 +35,8 @@ fn id_in(sysmod: &Sysmod) -> Id
 /// Puts an internal hold into the SYSMOD, and another one into the hold file.
 fn put_hold(
     sysmod: &mut Sysmod,
-    outside: &mut Vec<Placed>,
-    place: Place,
+    outside: &mut Vec<PlacedItem>,
+    place: CardPlace,
     hold: Hold,
 ) -> Result<(), AllocError>
     requires { IsTrue hold.internal → (hold.kind ≡ System) × (hold.id ≡ sysmod.old.id) }
@@ -61,7 +64,7 @@ fn tell_outside(alloc: Global, remarks: &mut Remarks, stated: &WideHold) -> Resu
         word: b"HOLD",
         id: stated.id.as_slice(),
     };
-    remarks.tell_carried(alloc, &subject, b"", Reason::HeldOutside, b"")
+    remarks.tell_carried(alloc, &subject, b"", RemarkReason::HeldOutside, b"")
 }
 
 /// Tells the same of all holds of a SYSMOD that is left out.
@@ -85,7 +88,7 @@ fn put_holds(
     remarks: &mut Remarks,
     stated: &WideSysmod,
     sysmod: &mut Sysmod,
-) -> Result<Vec<Placed>, HoldError>
+) -> Result<Vec<PlacedItem>, HoldError>
     ensures same { OnOk result (sysmod.new ≡ record sysmod.old { holds = sysmod.new.holds }) }
     ensures held { IfOk result (λ outside. All (IsHeldBy sysmod.new.holds (placed_items outside.items))
         stated.now.holds.items) }
@@ -105,39 +108,111 @@ fn put_holds(
     Ok(outside)
 }
 
+/// Whether both are internal holds of one reason, where the first is one.
+fn are_of_one_reason(one: &WideHold, other: &WideHold) -> bool {
+    one.kind == other.kind
+        && one.id.as_slice() == other.id.as_slice()
+        && text_of(&one.reason) == text_of(&other.reason)
+}
+
+/// What is stated, or nothing.
+fn text_of(stated: &Option<Vec<u8>>) -> &[u8] {
+    match stated {
+        Some(text) => text.as_slice(),
+        None => b"",
+    }
+}
+
+/// Tells of each internal hold behind which another one of its reason stands: RECEIVE keeps the later one.
+fn tell_later_holds(
+    alloc: Global,
+    remarks: &mut Remarks,
+    stated: &WideSysmod,
+) -> Result<(), AllocError> {
+    let holds = stated.holds.as_slice();
+    for (place, hold) in holds.iter().enumerate() {
+        let is_internal = hold.kind == Some(WideHoldKind::System)
+            && hold.id.as_slice() == stated.id.as_slice();
+        let has_later = holds
+            .iter()
+            .skip(place.saturating_add(1))
+            .any(|later| are_of_one_reason(hold, later));
+        if is_internal && has_later {
+            let subject = Subject {
+                place: hold.place,
+                word: b"HOLD",
+                id: hold.id.as_slice(),
+            };
+            let reason = text_of(&hold.reason);
+            remarks.tell_carried(alloc, &subject, b"REASON", RemarkReason::LaterHold, reason)?;
+        }
+    }
+    Ok(())
+}
+
 /// The SYSMOD with its holds, and those that stand in the hold file.
 fn carried_part(
     alloc: Global,
     remarks: &mut Remarks,
     stated: &WideSysmod,
     mut sysmod: Sysmod,
-) -> Result<Part, HoldError>
+) -> Result<CarriedPart, HoldError>
     ensures same { IfOk result (λ part. IfSome part.sysmod (λ s. s ≡ record sysmod { holds = s.holds })) }
     ensures held { IfOk result (λ part. All
         (IsHeldBy (holds_inside (item_in part.sysmod)) (placed_items part.outside.items)) stated.now.holds.items) }
     ensures outside { IfOk result (λ part. All IsAHold (placed_items part.outside.items)) }
 {
+    tell_later_holds(alloc, remarks, stated)?;
     let outside = put_holds(alloc, remarks, stated, &mut sysmod)?;
-    Ok(Part {
+    Ok(CarriedPart {
         sysmod: Some(sysmod),
         outside,
     })
+}
+
+/// Tells that another copy of the SYSMOD is carried.
+fn tell_copy(alloc: Global, remarks: &mut Remarks, stated: &WideSysmod) -> Result<(), AllocError> {
+    let subject = Subject {
+        place: stated.place,
+        word: kind_text(stated.kind),
+        id: stated.id.as_slice(),
+    };
+    remarks.leave_out(alloc, &subject, b"", RemarkReason::OtherCopy, b"")
+}
+
+/// The SYSMOD without its holds, or nothing where it is left out or another copy of it is carried, which is told.
+fn carried_copy(
+    alloc: Global,
+    options: &Options,
+    copies: &OtherCopies,
+    remarks: &mut Remarks,
+    stated: &WideSysmod,
+) -> Result<Option<Sysmod>, AllocError>
+    ensures { IfOk result (λ found. IfSome found (λ sysmod.
+        IsNoLooser options.now.decide stated.now sysmod × (sysmod.holds ≡ []))) }
+{
+    if copies.has(stated) {
+        tell_copy(alloc, remarks, stated)?;
+        return Ok(None);
+    }
+    carried_sysmod(alloc, options, remarks, stated)
 }
 
 /// What becomes of a SYSMOD and its holds. Why it is left out, and what differs, is told.
 pub(crate) fn part_of(
     alloc: Global,
     options: &Options,
+    copies: &OtherCopies,
     remarks: &mut Remarks,
     stated: &WideSysmod,
-) -> Result<Part, HoldError>
+) -> Result<CarriedPart, HoldError>
     ensures { IfOk result (IsPartOf options.now.decide stated.now) }
 {
-    let Some(sysmod) = carried_sysmod(alloc, options, remarks, stated)? else {
+    let Some(sysmod) = carried_copy(alloc, options, copies, remarks, stated)? else {
         let holds = stated.holds.as_slice();
         tell_all_outside(alloc, remarks, holds)?;
         let outside = placed_holds(alloc, remarks, holds)?;
-        return Ok(Part {
+        return Ok(CarriedPart {
             sysmod: None,
             outside,
         });

@@ -1,22 +1,31 @@
 //! What becomes of a command: each of its words is spelled out, dropped or named.
 
+use crate::command_remarks::{CommandRemarks, RemarkWords};
+use crate::group_extend::with_excluded;
+use crate::known::KnownSysmod;
 use crate::scan::{CommandEnd, WideCommand, words_in};
-use crate::told::{Told, Words};
-use crate::words::{Form, Known, Spelled, command_of, is_dropped, spelling_of};
+use crate::spelled::{CommandWords, OperandForm, Spelled, command_of, is_dropped, spelling_of};
 use fields::{Class, Id, Reason as HoldReason, Source, ZoneName};
-use intake_cards::{Deed, Reason};
-use intake_read::{Place, WideOperand};
+use intake_cards::{Deed, RemarkReason};
+use intake_read::{CardPlace, WideOperand};
 use std::alloc::{AllocError, Global};
 
 /// How many members a list may have.
-const MOST: usize = 1000;
+pub(crate) const MOST: usize = 1000;
 
 /// A command as it is written.
 #[derive(Drop)]
 pub(crate) struct Carried {
-    pub(crate) place: Place,
+    pub(crate) place: CardPlace,
     pub(crate) word: &'static [u8],
     pub(crate) operands: Vec<CarriedOperand>,
+}
+
+impl Carried {
+    /// Whether it has SELECT or GROUP.
+    pub(crate) fn has_list(&self) -> bool {
+        has_word(&self.operands, b"SELECT") || has_word(&self.operands, b"GROUP")
+    }
 }
 
 /// An operand as it is written, or a member of BYPASS.
@@ -44,7 +53,8 @@ pub(crate) struct CarriedMember {
 /// The command as it is written, where all of it can be said here. The error comes where memory runs out.
 pub(crate) fn carry_command(
     alloc: Global,
-    told: &mut Told,
+    told: &mut CommandRemarks,
+    known: Option<&[KnownSysmod]>,
     wide: &WideCommand,
 ) -> Result<Option<Carried>, AllocError> {
     let head = wide.head.name.as_slice();
@@ -52,20 +62,20 @@ pub(crate) fn carry_command(
         return Ok(None);
     }
     if is_dropped(head) {
-        tell_command(alloc, told, wide, Deed::Dropped, Reason::NoDecision)?;
+        tell_command(alloc, told, wide, Deed::Dropped, RemarkReason::NoDecision)?;
         return Ok(None);
     }
     let Some(command) = command_of(head) else {
-        tell_command(alloc, told, wide, Deed::Refused, Reason::NoCommand)?;
+        tell_command(alloc, told, wide, Deed::Refused, RemarkReason::NoCommand)?;
         return Ok(None);
     };
     if wide.head.value.is_some() {
-        tell_command(alloc, told, wide, Deed::Refused, Reason::BadValue)?;
+        tell_command(alloc, told, wide, Deed::Refused, RemarkReason::BadValue)?;
     }
     if wide.is_behind {
-        tell_command(alloc, told, wide, Deed::Carried, Reason::OwnCard)?;
+        tell_command(alloc, told, wide, Deed::Carried, RemarkReason::OwnCard)?;
     }
-    let operands = carried_operands(alloc, told, &command, &wide.operands)?;
+    let operands = carried_operands(alloc, told, &command, known, &wide.operands)?;
     Ok(Some(Carried {
         place: wide.place,
         word: command.word,
@@ -74,15 +84,33 @@ pub(crate) fn carry_command(
 }
 
 // Whether it has its period. What is said of the whole command is told.
-fn is_whole(alloc: Global, told: &mut Told, wide: &WideCommand) -> Result<bool, AllocError> {
+fn is_whole(
+    alloc: Global,
+    told: &mut CommandRemarks,
+    wide: &WideCommand,
+) -> Result<bool, AllocError> {
     if wide.has_lower_case {
-        tell_command(alloc, told, wide, Deed::Carried, Reason::LowerCase)?;
+        tell_command(alloc, told, wide, Deed::Carried, RemarkReason::LowerCase)?;
     }
     let reason = match wide.end {
         CommandEnd::Period => return Ok(true),
-        CommandEnd::NoPeriod => Reason::NoPeriod,
-        CommandEnd::OpenParenthesis => Reason::OpenParenthesis,
-        CommandEnd::OpenComment => Reason::OpenComment,
+        CommandEnd::NoPeriod => RemarkReason::NoPeriod,
+        CommandEnd::OpenParenthesis => RemarkReason::OpenParenthesis,
+        CommandEnd::OpenComment(opens) => {
+            let words = RemarkWords {
+                command: wide.head.name.as_slice(),
+                operand: b"",
+                text: b"",
+            };
+            told.tell(
+                alloc,
+                opens,
+                words,
+                Deed::Refused,
+                RemarkReason::OpenComment,
+            )?;
+            return Ok(false);
+        }
     };
     tell_command(alloc, told, wide, Deed::Refused, reason)?;
     Ok(false)
@@ -90,12 +118,12 @@ fn is_whole(alloc: Global, told: &mut Told, wide: &WideCommand) -> Result<bool, 
 
 fn tell_command(
     alloc: Global,
-    told: &mut Told,
+    told: &mut CommandRemarks,
     wide: &WideCommand,
     deed: Deed,
-    reason: Reason,
+    reason: RemarkReason,
 ) -> Result<(), AllocError> {
-    let words = Words {
+    let words = RemarkWords {
         command: wide.head.name.as_slice(),
         operand: b"",
         text: wide.head.text(),
@@ -103,48 +131,82 @@ fn tell_command(
     told.tell(alloc, wide.place, words, deed, reason)
 }
 
-fn carried_operands(
+fn carried_operands<'a>(
     alloc: Global,
-    told: &mut Told,
-    command: &Known,
-    operands: &[WideOperand],
+    told: &mut CommandRemarks,
+    command: &'a CommandWords,
+    known: Option<&'a [KnownSysmod]>,
+    operands: &'a [WideOperand],
 ) -> Result<Vec<CarriedOperand>, AllocError> {
     let mut carried: Vec<CarriedOperand> = Vec::new(alloc);
     for operand in operands {
-        let asked = Asked { command, operand };
+        let asked = AskedOperand {
+            command,
+            operand,
+            known,
+        };
         let Some(one) = carried_operand(alloc, told, &asked)? else {
             continue;
         };
         if has_word(&carried, one.word) {
-            asked.refuse(alloc, told, b"", Reason::Twice)?;
+            asked.refuse(alloc, told, b"", RemarkReason::Twice)?;
         } else {
             carried.push(one)?;
         }
     }
-    with_group(alloc, told, command, operands, carried)
+    let carried = with_group(alloc, told, command, operands, carried)?;
+    for operand in operands {
+        let asked = AskedOperand {
+            command,
+            operand,
+            known,
+        };
+        if asked.form() == Some(OperandForm::GroupExtend) && operand.value.is_some() {
+            return with_excluded(alloc, told, &asked, carried);
+        }
+    }
+    Ok(carried)
 }
 
-fn has_word(operands: &[CarriedOperand], word: &[u8]) -> bool {
+/// Whether an operand has this word.
+pub(crate) fn has_word(operands: &[CarriedOperand], word: &[u8]) -> bool {
     operands.iter().any(|operand| operand.word == word)
 }
 
-/// An operand of a command.
+/// An operand of a command, and the SYSMODs that are known.
 #[derive(Clone, Copy)]
-struct Asked<'a> {
-    command: &'a Known,
-    operand: &'a WideOperand,
+pub(crate) struct AskedOperand<'a> {
+    command: &'a CommandWords,
+    pub(crate) operand: &'a WideOperand,
+    pub(crate) known: Option<&'a [KnownSysmod]>,
 }
 
-impl Asked<'_> {
-    fn tell(
+impl AskedOperand<'_> {
+    // How its word is spelled, if the command has it. C with a list is COMPRESS.
+    fn spelling(&self) -> Option<Spelled> {
+        let word = self.operand.name.as_slice();
+        if word == b"C".as_slice() && self.operand.value.is_some() {
+            return spelling_of(self.command.operands, b"COMPRESS");
+        }
+        spelling_of(self.command.operands, word)
+    }
+
+    fn form(&self) -> Option<OperandForm> {
+        match self.spelling() {
+            Some(spelled) => Some(spelled.form),
+            None => None,
+        }
+    }
+
+    pub(crate) fn tell(
         &self,
         alloc: Global,
-        told: &mut Told,
+        told: &mut CommandRemarks,
         text: &[u8],
         deed: Deed,
-        reason: Reason,
+        reason: RemarkReason,
     ) -> Result<(), AllocError> {
-        let words = Words {
+        let words = RemarkWords {
             command: self.command.word,
             operand: self.operand.name.as_slice(),
             text,
@@ -152,12 +214,12 @@ impl Asked<'_> {
         told.tell(alloc, self.operand.place, words, deed, reason)
     }
 
-    fn refuse(
+    pub(crate) fn refuse(
         &self,
         alloc: Global,
-        told: &mut Told,
+        told: &mut CommandRemarks,
         text: &[u8],
-        reason: Reason,
+        reason: RemarkReason,
     ) -> Result<(), AllocError> {
         self.tell(alloc, told, text, Deed::Refused, reason)
     }
@@ -166,35 +228,35 @@ impl Asked<'_> {
     fn spell_out(
         &self,
         alloc: Global,
-        told: &mut Told,
+        told: &mut CommandRemarks,
         word: &[u8],
         full: &[u8],
     ) -> Result<(), AllocError> {
         if word == full {
             return Ok(());
         }
-        self.tell(alloc, told, full, Deed::Carried, Reason::SpelledOut)
+        self.tell(alloc, told, full, Deed::Carried, RemarkReason::SpelledOut)
     }
 }
 
 // The operand, where it can be said here.
 fn carried_operand(
     alloc: Global,
-    told: &mut Told,
-    asked: &Asked<'_>,
+    told: &mut CommandRemarks,
+    asked: &AskedOperand<'_>,
 ) -> Result<Option<CarriedOperand>, AllocError> {
     let operand = asked.operand;
-    let Some(known) = spelling_of(asked.command.operands, operand.name.as_slice()) else {
-        asked.refuse(alloc, told, operand.text(), Reason::NoOperand)?;
+    let Some(known) = asked.spelling() else {
+        asked.refuse(alloc, told, operand.text(), RemarkReason::NoOperand)?;
         return Ok(None);
     };
-    if known.form == Form::Dropped {
+    if known.form == OperandForm::Dropped {
         asked.tell(
             alloc,
             told,
             operand.text(),
             Deed::Dropped,
-            Reason::NoDecision,
+            RemarkReason::NoDecision,
         )?;
         return Ok(None);
     }
@@ -211,25 +273,33 @@ fn carried_operand(
 // What stands behind the operand's word, where it can be said here.
 fn carried_value(
     alloc: Global,
-    told: &mut Told,
-    asked: &Asked<'_>,
+    told: &mut CommandRemarks,
+    asked: &AskedOperand<'_>,
     known: &Spelled,
 ) -> Result<Option<Value>, AllocError> {
     let Some(list) = &asked.operand.value else {
         return match known.form {
-            Form::Flag | Form::Group => Ok(Some(Value::Nothing)),
+            OperandForm::Flag | OperandForm::Group | OperandForm::GroupExtend => Ok(Some(
+                Value::Nothing,
+            )),
             _ => {
-                asked.refuse(alloc, told, b"", Reason::Missing)?;
+                asked.refuse(alloc, told, b"", RemarkReason::Missing)?;
                 Ok(None)
             }
         };
     };
     match known.form {
-        Form::Flag => {
-            asked.refuse(alloc, told, list.as_slice(), Reason::NoOperand)?;
+        OperandForm::Flag => {
+            asked.refuse(alloc, told, list.as_slice(), RemarkReason::NoOperand)?;
             Ok(None)
         }
-        Form::Bypass | Form::ReceiveBypass => bypass(alloc, told, asked, list.as_slice()),
+        OperandForm::GroupExtend => Ok(Some(Value::Nothing)),
+        OperandForm::Bypass | OperandForm::ReceiveBypass => bypass(
+            alloc,
+            told,
+            asked,
+            list.as_slice(),
+        ),
         form => {
             let members = listed(alloc, told, asked, form, list.as_slice())?;
             Ok(Some(Value::List(members)))
@@ -240,9 +310,9 @@ fn carried_value(
 // The members of a list, each once. One that has not its form is named.
 fn listed(
     alloc: Global,
-    told: &mut Told,
-    asked: &Asked<'_>,
-    form: Form,
+    told: &mut CommandRemarks,
+    asked: &AskedOperand<'_>,
+    form: OperandForm,
     list: &[u8],
 ) -> Result<Vec<Vec<u8>>, AllocError> {
     let mut members: Vec<Vec<u8>> = Vec::new(alloc);
@@ -252,59 +322,123 @@ fn listed(
             continue;
         }
         is_empty = false;
-        if !has_form(form, member) {
-            asked.refuse(alloc, told, member, Reason::BadValue)?;
+        if form == OperandForm::Sources && member.ends_with(b"*") {
+            put_sources(alloc, told, asked, member, &mut members)?;
+        } else if !has_form(form, member) {
+            asked.refuse(alloc, told, member, RemarkReason::BadValue)?;
         } else if members.iter().any(|other| other.as_slice() == member) {
-            asked.tell(alloc, told, member, Deed::Dropped, Reason::Twice)?;
+            asked.tell(alloc, told, member, Deed::Dropped, RemarkReason::Twice)?;
         } else {
             members.push(Vec::from_slice(alloc, member)?)?;
         }
     }
     if is_empty {
-        asked.refuse(alloc, told, b"", Reason::Missing)?;
+        asked.refuse(alloc, told, b"", RemarkReason::Missing)?;
     }
     if members.len() > MOST {
-        asked.refuse(alloc, told, b"", Reason::LongList)?;
+        asked.refuse(alloc, told, b"", RemarkReason::LongList)?;
     }
-    if matches!(form, Form::Source | Form::Zone) && members.len() > 1 {
-        asked.refuse(alloc, told, list, Reason::BadValue)?;
+    if matches!(form, OperandForm::Source | OperandForm::Zone) && members.len() > 1 {
+        asked.refuse(alloc, told, list, RemarkReason::BadValue)?;
     }
     Ok(members)
 }
 
-fn has_form(form: Form, member: &[u8]) -> bool {
+// Puts the source ids that begin so into the list. The answer is whether there is one.
+fn put_beginning(
+    alloc: Global,
+    known: &[KnownSysmod],
+    front: &[u8],
+    members: &mut Vec<Vec<u8>>,
+) -> Result<bool, AllocError> {
+    let mut is_found = false;
+    for sysmod in known {
+        for source in &sysmod.sources {
+            let source = source.as_bytes();
+            if source.starts_with(front) {
+                is_found = true;
+                put_once(alloc, members, source)?;
+            }
+        }
+    }
+    Ok(is_found)
+}
+
+// Puts the known source ids that begin as the member does, up to its asterisk, into the list.
+fn put_sources(
+    alloc: Global,
+    told: &mut CommandRemarks,
+    asked: &AskedOperand<'_>,
+    member: &[u8],
+    members: &mut Vec<Vec<u8>>,
+) -> Result<(), AllocError> {
+    let Some(known) = asked.known else {
+        return asked.refuse(alloc, told, member, RemarkReason::NeedsKnown);
+    };
+    let front = member.strip_suffix(b"*").unwrap_or(member);
+    if put_beginning(alloc, known, front, members)? {
+        asked.tell(
+            alloc,
+            told,
+            member,
+            Deed::Carried,
+            RemarkReason::KnownSources,
+        )
+    } else {
+        asked.refuse(alloc, told, member, RemarkReason::NoSource)
+    }
+}
+
+/// Appends the member, unless the list has it.
+pub(crate) fn put_once(
+    alloc: Global,
+    members: &mut Vec<Vec<u8>>,
+    member: &[u8],
+) -> Result<(), AllocError> {
+    if !members.iter().any(|other| other.as_slice() == member) {
+        members.push(Vec::from_slice(alloc, member)?)?;
+    }
+    Ok(())
+}
+
+fn has_form(form: OperandForm, member: &[u8]) -> bool {
     match form {
-        Form::Ids | Form::Group => Id::read(member).is_some(),
-        Form::Sources | Form::Source => Source::read(member).is_some(),
-        Form::Zone => ZoneName::read(member).is_some(),
-        Form::Reasons => HoldReason::read(member).is_some(),
-        Form::Classes => Class::read(member).is_some(),
-        Form::Flag | Form::Bypass | Form::ReceiveBypass | Form::Dropped => false,
+        OperandForm::Ids | OperandForm::Group => Id::read(member).is_some(),
+        OperandForm::Sources | OperandForm::Source => Source::read(member).is_some(),
+        OperandForm::Zone => ZoneName::read(member).is_some(),
+        OperandForm::Reasons => HoldReason::read(member).is_some(),
+        OperandForm::Classes => Class::read(member).is_some(),
+        OperandForm::Flag
+        | OperandForm::GroupExtend
+        | OperandForm::Bypass
+        | OperandForm::ReceiveBypass
+        | OperandForm::Dropped => false,
     }
 }
 
 // The members of BYPASS. Where all of them are dropped, so is the operand.
 fn bypass(
     alloc: Global,
-    told: &mut Told,
-    asked: &Asked<'_>,
+    told: &mut CommandRemarks,
+    asked: &AskedOperand<'_>,
     list: &[u8],
 ) -> Result<Option<Value>, AllocError> {
     let mut members: Vec<CarriedMember> = Vec::new(alloc);
     let words = words_in(alloc, list, asked.operand.place)?;
     if words.is_empty() {
-        asked.refuse(alloc, told, list, Reason::Missing)?;
+        asked.refuse(alloc, told, list, RemarkReason::Missing)?;
     }
     for word in &words {
-        let asked = Asked {
+        let asked = AskedOperand {
             command: asked.command,
             operand: word,
+            known: asked.known,
         };
         let Some(member) = carried_member(alloc, told, &asked)? else {
             continue;
         };
         if members.iter().any(|other| other.word == member.word) {
-            asked.refuse(alloc, told, b"", Reason::Twice)?;
+            asked.refuse(alloc, told, b"", RemarkReason::Twice)?;
         } else {
             members.push(member)?;
         }
@@ -318,36 +452,36 @@ fn bypass(
 // The member of BYPASS, where it can be said here.
 fn carried_member(
     alloc: Global,
-    told: &mut Told,
-    asked: &Asked<'_>,
+    told: &mut CommandRemarks,
+    asked: &AskedOperand<'_>,
 ) -> Result<Option<CarriedMember>, AllocError> {
     let member = asked.operand;
     let Some(known) = spelling_of(asked.command.members, member.name.as_slice()) else {
-        asked.refuse(alloc, told, member.text(), Reason::NoOperand)?;
+        asked.refuse(alloc, told, member.text(), RemarkReason::NoOperand)?;
         return Ok(None);
     };
-    if known.form == Form::Dropped {
+    if known.form == OperandForm::Dropped {
         asked.tell(
             alloc,
             told,
             member.text(),
             Deed::Dropped,
-            Reason::NoDecision,
+            RemarkReason::NoDecision,
         )?;
         return Ok(None);
     }
     asked.spell_out(alloc, told, known.word, known.full)?;
     let Some(list) = &member.value else {
-        if known.form == Form::Classes {
-            asked.refuse(alloc, told, b"", Reason::Missing)?;
+        if known.form == OperandForm::Classes {
+            asked.refuse(alloc, told, b"", RemarkReason::Missing)?;
         }
         return Ok(Some(CarriedMember {
             word: known.full,
             listed: None,
         }));
     };
-    if known.form == Form::Flag {
-        asked.refuse(alloc, told, list.as_slice(), Reason::BadValue)?;
+    if known.form == OperandForm::Flag {
+        asked.refuse(alloc, told, list.as_slice(), RemarkReason::BadValue)?;
         return Ok(None);
     }
     let listed = listed(alloc, told, asked, known.form, list.as_slice())?;
@@ -363,11 +497,11 @@ fn place_of(operands: &[CarriedOperand], word: &[u8]) -> Option<usize> {
 }
 
 // GROUP that stands alone is said by GROUP with SELECT's ids, in place of SELECT, where nothing else is chosen.
-fn with_group(
+fn with_group<'a>(
     alloc: Global,
-    told: &mut Told,
-    command: &Known,
-    operands: &[WideOperand],
+    told: &mut CommandRemarks,
+    command: &'a CommandWords,
+    operands: &'a [WideOperand],
     mut carried: Vec<CarriedOperand>,
 ) -> Result<Vec<CarriedOperand>, AllocError> {
     let Some(group) = place_of(&carried, b"GROUP") else {
@@ -379,17 +513,21 @@ fn with_group(
     let Some(operand) = operands.iter().find(|operand| is_group(operand)) else {
         return Ok(carried);
     };
-    let asked = Asked { command, operand };
+    let asked = AskedOperand {
+        command,
+        operand,
+        known: None,
+    };
     carried.retain(|operand| operand.word != b"GROUP".as_slice());
     let Some(select) = place_of(&carried, b"SELECT") else {
-        asked.refuse(alloc, told, b"", Reason::NoOperand)?;
+        asked.refuse(alloc, told, b"", RemarkReason::NoOperand)?;
         return Ok(carried);
     };
     if carried.iter().any(|operand| chooses(operand.word)) {
-        asked.refuse(alloc, told, b"", Reason::NoOperand)?;
+        asked.refuse(alloc, told, b"", RemarkReason::NoOperand)?;
         return Ok(carried);
     }
-    asked.tell(alloc, told, b"", Deed::Carried, Reason::GroupOfSelect)?;
+    asked.tell(alloc, told, b"", Deed::Carried, RemarkReason::GroupOfSelect)?;
     if let Some(select) = carried.get_mut(select) {
         select.word = b"GROUP";
     }

@@ -3,13 +3,14 @@ ghost use Rattle.std.specs.Prelude.{List, IfOk, IfSome};
 ghost use Rattle.terms.specs.Types as terms;
 ghost use Rattle.terms.specs.Commands.{IsCommandFile};
 
-use crate::carry::carry_command;
+use crate::carry::{Carried, carry_command};
+use crate::command_remarks::{CommandRemarks, RemarkWords};
+use crate::known::KnownSysmod;
 use crate::print::put_command;
 use crate::scan::{WideCommand, wide_commands};
-use crate::told::{Told, Words};
 use cntl::{CntlError, read_cntl};
-use intake_cards::{Deed, PrintedCards, Reason, Remark};
-use intake_read::Card;
+use intake_cards::{Deed, PrintedCards, Remark, RemarkReason, Tail};
+use intake_read::{Card, CardPlace};
 use std::alloc::{AllocError, Global};
 use terms::CommandCode;
 
@@ -26,18 +27,24 @@ pub struct CommandFile {
     pub others: usize,
 }
 
-/// The command file as records that are read here, or every word that keeps it from that. The error comes where memory
-/// runs out.
-pub fn command_file(alloc: Global, cards: &[Card]) -> Result<CommandFile, AllocError>
+/// The command file as records that are read here, or every word that keeps it from that. `known` are the SYSMODs that
+/// are known. Returns an error if memory runs out.
+pub fn command_file(
+    alloc: Global,
+    cards: &[Card],
+    known: Option<&[KnownSysmod]>,
+) -> Result<CommandFile, AllocError>
     ensures { IfOk result (λ file. IfSome file.bytes (λ bytes. (cs : List terms.Command)
         × IsCommandFile bytes.items cs)) }
 {
-    let mut told = Told::new(alloc);
+    let mut told = CommandRemarks::new(alloc);
     let mut bytes = Vec::new(alloc);
     let mut count = 0usize;
     let mut others = 0usize;
-    for wide in &wide_commands(alloc, cards)? {
-        if append(alloc, &mut told, &mut bytes, wide)? {
+    let wide_commands = wide_commands(alloc, cards)?;
+    tell_cards(alloc, &mut told, cards, &wide_commands.cut)?;
+    for wide in &wide_commands.commands {
+        if append(alloc, &mut told, &mut bytes, known, wide)? {
             count = count.saturating_add(1);
         } else {
             others = others.saturating_add(1);
@@ -51,16 +58,66 @@ pub fn command_file(alloc: Global, cards: &[Card]) -> Result<CommandFile, AllocE
     })
 }
 
+// Tells the texts of columns 73 to 80, and the cards that are cut.
+fn tell_cards(
+    alloc: Global,
+    told: &mut CommandRemarks,
+    cards: &[Card],
+    cut: &[CardPlace],
+) -> Result<(), AllocError> {
+    for card in cards {
+        if card.tail() == Tail::Other {
+            let text = card.text[72..].trim_ascii();
+            tell_card(
+                alloc,
+                told,
+                card.place,
+                text,
+                Deed::Dropped,
+                RemarkReason::TextInNumbers,
+            )?;
+        }
+    }
+    for place in cut {
+        tell_card(
+            alloc,
+            told,
+            *place,
+            b"",
+            Deed::Refused,
+            RemarkReason::LongLine,
+        )?;
+    }
+    Ok(())
+}
+
+fn tell_card(
+    alloc: Global,
+    told: &mut CommandRemarks,
+    place: CardPlace,
+    text: &[u8],
+    deed: Deed,
+    reason: RemarkReason,
+) -> Result<(), AllocError> {
+    let words = RemarkWords {
+        command: b"",
+        operand: b"",
+        text,
+    };
+    told.tell(alloc, place, words, deed, reason)
+}
+
 // Puts the command's records behind the others, where all of it can be said, and answers whether it was put there. One
 // whose records are not read is named.
 fn append(
     alloc: Global,
-    told: &mut Told,
+    told: &mut CommandRemarks,
     bytes: &mut Vec<u8>,
+    known: Option<&[KnownSysmod]>,
     wide: &WideCommand,
 ) -> Result<bool, AllocError> {
     let before = told.refusals;
-    let Some(command) = carry_command(alloc, told, wide)? else {
+    let Some(command) = carry_command(alloc, told, known, wide)? else {
         return Ok(false);
     };
     if told.refusals != before {
@@ -75,9 +132,9 @@ fn append(
             return Ok(true);
         }
         Err(CntlError::Memory) => return Err(AllocError),
-        Err(CntlError::Fault { code, .. }) => reason_of(code),
+        Err(CntlError::Fault { code, .. }) => reason_of(&command, code),
     };
-    let words = Words {
+    let words = RemarkWords {
         command: command.word,
         operand: b"",
         text: b"",
@@ -87,12 +144,13 @@ fn append(
 }
 
 // Why a command of known words is not read.
-fn reason_of(code: CommandCode) -> Reason {
+fn reason_of(command: &Carried, code: CommandCode) -> RemarkReason {
     match code {
-        CommandCode::BadCommandOperand => Reason::Missing,
-        CommandCode::NoSingleList => Reason::Contradiction,
+        CommandCode::BadCommandOperand => RemarkReason::Missing,
+        CommandCode::NoSingleList if command.has_list() => RemarkReason::Contradiction,
+        CommandCode::NoSingleList => RemarkReason::NoList,
         CommandCode::UnknownCommand | CommandCode::OperandTwice | CommandCode::BadCommandForm =>
-            Reason::NotRead,
+            RemarkReason::NotRead,
     }
 }
 

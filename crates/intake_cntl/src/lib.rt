@@ -4,11 +4,14 @@
 #![tactic(auto)]
 
 mod carry;
+mod command_remarks;
 mod file;
+mod group_extend;
+mod known;
 mod print;
 mod scan;
-mod told;
-mod words;
+mod spelled;
 
 pub use file::{CommandFile, command_file};
-pub use scan::{CommandEnd, WideCommand, wide_commands};
+pub use known::{KnownList, KnownSysmod, read_known};
+pub use scan::{CommandEnd, WideCommand, WideCommands, wide_commands};

@@ -2,7 +2,7 @@
 //! A command is a word, operands, and the first period outside comments and parentheses. Comments may stand anywhere,
 //! in parentheses too; more than one command may stand on a card, and a command may run over cards.
 
-use intake_read::{Card, Place, WideOperand};
+use intake_read::{Card, CardPlace, WideOperand};
 use std::alloc::{AllocError, Global};
 
 /// The last column of a card that is read.
@@ -17,14 +17,14 @@ pub enum CommandEnd {
     NoPeriod,
     /// A parenthesis is open where the file ends.
     OpenParenthesis,
-    /// A comment is open where the file ends.
-    OpenComment,
+    /// A comment is open where the file ends, which opens there.
+    OpenComment(CardPlace),
 }
 
 /// A command as it stands, in upper case.
 #[derive(Drop)]
 pub struct WideCommand {
-    pub place: Place,
+    pub place: CardPlace,
     /// Its word, where it has one, and what stands in parentheses directly behind it.
     pub head: WideOperand,
     pub operands: Vec<WideOperand>,
@@ -33,6 +33,13 @@ pub struct WideCommand {
     pub has_lower_case: bool,
     /// It begins on the card on which another command ends.
     pub is_behind: bool,
+}
+
+/// The commands of a file, and the cards that are cut at column 80 outside comments.
+#[derive(Drop)]
+pub struct WideCommands {
+    pub commands: Vec<WideCommand>,
+    pub cut: Vec<CardPlace>,
 }
 
 // Where the scanner stands, as far as comments go.
@@ -46,33 +53,42 @@ enum Within {
 
 /// What was read so far, and the command that is begun.
 #[derive(Drop)]
-struct Scanner {
+struct CommandScanner {
     alloc: Global,
     commands: Vec<WideCommand>,
     words: Vec<WideOperand>,
     within: Within,
+    // Where the last comment opens.
+    comment: CardPlace,
     // Parentheses that are open.
     depth: usize,
     // The last word goes on with the next character.
     in_word: bool,
     has_lower_case: bool,
     // The card on which the last command ended.
-    ended: Option<Place>,
+    ended: Option<CardPlace>,
 }
 
 /// The commands of the cards. The last one may have no end, and none of them need be one that SMP/E has. The error
 /// comes where memory runs out.
-pub fn wide_commands(alloc: Global, cards: &[Card]) -> Result<Vec<WideCommand>, AllocError> {
-    let mut scanner = Scanner::new(alloc);
-    let mut last = Place { file: 0, card: 1 };
+pub fn wide_commands(alloc: Global, cards: &[Card]) -> Result<WideCommands, AllocError> {
+    let mut scanner = CommandScanner::new(alloc);
+    let mut cut = Vec::new(alloc);
     for card in cards {
-        last = card.place;
         for byte in &card.text[..COLUMNS] {
             scanner.take(*byte, card.place)?;
         }
         scanner.take(b' ', card.place)?;
+        if card.ends_comment && scanner.is_in_comment() {
+            scanner.within = Within::Words;
+        } else if card.is_cut && !scanner.is_in_comment() {
+            cut.push(card.place)?;
+        }
     }
-    scanner.end_of_file(last)
+    Ok(WideCommands {
+        commands: scanner.end_of_file()?,
+        cut,
+    })
 }
 
 /// The words of a list, each with the list behind it, all at the place of the operand that has the list. The error
@@ -80,9 +96,9 @@ pub fn wide_commands(alloc: Global, cards: &[Card]) -> Result<Vec<WideCommand>, 
 pub(crate) fn words_in(
     alloc: Global,
     list: &[u8],
-    place: Place,
+    place: CardPlace,
 ) -> Result<Vec<WideOperand>, AllocError> {
-    let mut scanner = Scanner::new(alloc);
+    let mut scanner = CommandScanner::new(alloc);
     for byte in list {
         if *byte == b'.' && scanner.depth == 0 {
             scanner.put_in_word(*byte, place)?;
@@ -93,13 +109,14 @@ pub(crate) fn words_in(
     Ok(scanner.words)
 }
 
-impl Scanner {
-    fn new(alloc: Global) -> Scanner {
-        Scanner {
+impl CommandScanner {
+    fn new(alloc: Global) -> CommandScanner {
+        CommandScanner {
             alloc,
             commands: Vec::new(alloc),
             words: Vec::new(alloc),
             within: Within::Words,
+            comment: CardPlace { file: 0, card: 1 },
             depth: 0,
             in_word: false,
             has_lower_case: false,
@@ -107,13 +124,18 @@ impl Scanner {
         }
     }
 
+    fn is_in_comment(&self) -> bool {
+        matches!(self.within, Within::Comment | Within::Star)
+    }
+
     // The next character of a card.
-    fn take(&mut self, byte: u8, place: Place) -> Result<(), AllocError> {
+    fn take(&mut self, byte: u8, place: CardPlace) -> Result<(), AllocError> {
         match self.within {
             Within::Comment => self.within = in_comment(byte),
             Within::Star => self.within = behind_star(byte),
             Within::Slash if byte == b'*' => {
                 self.within = Within::Comment;
+                self.comment = place;
                 self.put(b' ', place)?;
             }
             Within::Slash => {
@@ -126,7 +148,7 @@ impl Scanner {
     }
 
     // A character outside comments, which may begin one.
-    fn begin(&mut self, byte: u8, place: Place) -> Result<(), AllocError> {
+    fn begin(&mut self, byte: u8, place: CardPlace) -> Result<(), AllocError> {
         if byte == b'/' {
             self.within = Within::Slash;
             return Ok(());
@@ -136,16 +158,20 @@ impl Scanner {
     }
 
     // A character that belongs to no comment.
-    fn put(&mut self, byte: u8, place: Place) -> Result<(), AllocError> {
+    fn put(&mut self, byte: u8, place: CardPlace) -> Result<(), AllocError> {
         if byte.is_ascii_lowercase() {
             self.has_lower_case = true;
         }
-        let byte = byte.to_ascii_uppercase();
+        let byte = if byte == b'\t' {
+            b' '
+        } else {
+            byte.to_ascii_uppercase()
+        };
         if self.depth > 0 {
             return self.put_in_list(byte);
         }
         match byte {
-            b' ' | b',' | b'\t' => {
+            b' ' | b',' => {
                 self.in_word = false;
                 Ok(())
             }
@@ -155,7 +181,7 @@ impl Scanner {
         }
     }
 
-    fn put_in_word(&mut self, byte: u8, place: Place) -> Result<(), AllocError> {
+    fn put_in_word(&mut self, byte: u8, place: CardPlace) -> Result<(), AllocError> {
         if !self.in_word {
             self.begin_word(place)?;
         }
@@ -166,7 +192,7 @@ impl Scanner {
         Ok(())
     }
 
-    fn begin_word(&mut self, place: Place) -> Result<(), AllocError> {
+    fn begin_word(&mut self, place: CardPlace) -> Result<(), AllocError> {
         self.words.push(WideOperand {
             place,
             name: Vec::new(self.alloc),
@@ -176,7 +202,7 @@ impl Scanner {
     }
 
     // The list belongs to the word before it, or to none where that one has a list.
-    fn open_list(&mut self, place: Place) -> Result<(), AllocError> {
+    fn open_list(&mut self, place: CardPlace) -> Result<(), AllocError> {
         self.in_word = false;
         self.depth = 1;
         let is_free = match self.words.last() {
@@ -219,7 +245,7 @@ impl Scanner {
         Ok(())
     }
 
-    fn end_command(&mut self, place: Place) -> Result<(), AllocError> {
+    fn end_command(&mut self, place: CardPlace) -> Result<(), AllocError> {
         self.in_word = false;
         self.finish(CommandEnd::Period)?;
         self.ended = Some(place);
@@ -255,14 +281,15 @@ impl Scanner {
         Ok(())
     }
 
-    fn end_of_file(mut self, last: Place) -> Result<Vec<WideCommand>, AllocError> {
+    fn end_of_file(mut self) -> Result<Vec<WideCommand>, AllocError> {
         let end = match self.within {
-            Within::Comment | Within::Star => CommandEnd::OpenComment,
+            Within::Comment | Within::Star => CommandEnd::OpenComment(self.comment),
             _ if self.depth > 0 => CommandEnd::OpenParenthesis,
             _ => CommandEnd::NoPeriod,
         };
-        if end == CommandEnd::OpenComment && self.words.is_empty() {
-            self.begin_word(last)?;
+        if self.is_in_comment() && self.words.is_empty() {
+            let comment = self.comment;
+            self.begin_word(comment)?;
         }
         self.finish(end)?;
         Ok(self.commands)

@@ -9,7 +9,7 @@ use Rattle.mcs.specs.declared.hold_item.HoldItem.{HoldItem}
 use Rattle.intake_read.specs.declared.items.WideFile.{WideFile}
 use Rattle.intake_carry.specs.Carried.{IsCarriedOf}
 use Rattle.intake_carry.specs.Holds.{AreHeld}
-use Rattle.intake_command.specs.declared.host.Host.{Ghosts}
+use Rattle.intake_command.specs.declared.surroundings.IntakeHost.{Ghosts}
 use Rattle.intake_command.specs.Keeping.{KeepsService}
 use Rattle.intake_command.specs.Serving.{ServesFiles}
 

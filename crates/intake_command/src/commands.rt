@@ -3,27 +3,27 @@ ghost use Rattle.std.specs.Prelude.{List, IfSome};
 ghost use Rattle.terms.specs.Types as terms;
 ghost use Rattle.terms.specs.Commands.{IsCommandFile};
 
-use crate::asked::Asked;
-use crate::fault::Fault;
-use crate::host::Host;
+use crate::fault::IntakeFault;
 use crate::keep::{keep_commands, keep_remarks};
+use crate::options::IntakeOptions;
 use crate::remarks::tell;
-use crate::sources::{Sources, cards_of, read};
+use crate::sources::{InputFiles, cards_of, read};
 use crate::summary::{by_reason, print};
-use intake_cntl::command_file;
+use crate::surroundings::IntakeHost;
+use intake_cntl::{KnownList, KnownSysmod, command_file, read_known};
 use std::alloc::Global;
 
 /// The status where a command file has words that are not carried.
 const REFUSED_STATUS: u8 = 12;
 
 /// Puts the command file into the folder where all of it is carried, and the remarks in any case.
-pub(crate) fn serve_commands<H: Host>(
+pub(crate) fn serve_commands<H: IntakeHost>(
     alloc: Global,
     host: &mut H,
-    asked: &Asked,
+    asked: &IntakeOptions,
     name: &str,
-) -> Result<u8, Fault> {
-    let mut sources = Sources::new(alloc);
+) -> Result<u8, IntakeFault> {
+    let mut sources = InputFiles::new(alloc);
     let mut remarks = Vec::new(alloc);
     let bytes = read(alloc, host, name)?;
     let cards = cards_of(
@@ -35,31 +35,61 @@ pub(crate) fn serve_commands<H: Host>(
         asked.code,
         &mut remarks,
     )?;
-    let file = command_file(alloc, &cards)?;
+    let known = match &asked.known {
+        Some(name) => Some(known_sysmods(alloc, host, name.as_str())?),
+        None => None,
+    };
+    let file = match &known {
+        Some(known) => command_file(alloc, &cards, Some(known.as_slice()))?,
+        None => command_file(alloc, &cards, None)?,
+    };
     if file.carried == 0 && file.others == 0 {
-        return Err(Fault::NoStatement);
+        return Err(IntakeFault::NoStatement);
     }
     tell(alloc, &sources, &file.remarks, &mut remarks)?;
     let mut summary = Vec::new(alloc);
     let carried = file.carried;
     let others = file.others;
-    let line = format!(in alloc; "COMMAND {carried:>7} carried {others:>7} not\n")?;
+    let line = if file.bytes.is_some() {
+        format!(in alloc; "COMMAND {carried:>7} carried {others:>7} not\n")?
+    } else {
+        String::from_str(
+            alloc,
+            "COMMAND none is written: see what is refused in cntl.remarks\n",
+        )?
+    };
     summary.extend_from_slice(line.as_bytes())?;
     by_reason(alloc, &file.remarks, &mut summary)?;
     let folder = asked.out.as_str();
     let status = keep(alloc, host, folder, file.bytes, remarks)?;
-    print(alloc, host, folder, &summary, &["cntl", "remarks"])?;
+    print(alloc, host, folder, &summary, &["cntl", "cntl.remarks"])?;
     Ok(status)
 }
 
+// The SYSMODs of the list of this name.
+fn known_sysmods<H: IntakeHost>(
+    alloc: Global,
+    host: &mut H,
+    name: &str,
+) -> Result<Vec<KnownSysmod>, IntakeFault> {
+    let bytes = read(alloc, host, name)?;
+    match read_known(alloc, &bytes)? {
+        KnownList::Sysmods(known) => Ok(known),
+        KnownList::BadLine(line) => {
+            let name = Vec::from_slice(alloc, name.as_bytes())?;
+            Err(IntakeFault::KnownLine(name, line))
+        }
+    }
+}
+
 // Puts the files into the folder, and answers the status.
-fn keep<H: Host>(
+fn keep<H: IntakeHost>(
     alloc: Global,
     host: &mut H,
     folder: &str,
     bytes: Option<Vec<u8>>,
     remarks: Vec<u8>,
-) -> Result<u8, Fault>
+) -> Result<u8, IntakeFault>
     requires { IfSome bytes (λ bytes. (cs : List terms.Command) × IsCommandFile bytes.items cs) }
 {
     match bytes {

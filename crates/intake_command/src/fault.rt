@@ -1,18 +1,22 @@
 //! Why nothing is written.
 
-use crate::asked::WordsFault;
-use crate::sources::Sources;
+use crate::options::WordsFault;
+use crate::sources::InputFiles;
 use intake_cards::CardError;
 use intake_read::WideError;
 use std::alloc::{AllocError, AllocFailed, Global};
 
 /// Why a run ends without output.
 #[derive(Debug, Drop)]
-pub enum Fault {
+pub enum IntakeFault {
     Memory,
     Words(WordsFault),
     /// The name of a file that can't be read.
     CannotRead(Vec<u8>),
+    /// The input of the first name is the file of the second one, which would be written.
+    OutputIsInput(Vec<u8>, Vec<u8>),
+    /// The list of known SYSMODs of that name has a line that is not in form.
+    KnownLine(Vec<u8>, usize),
     /// The folder does not take the files.
     CannotWrite,
     /// Standard output takes nothing.
@@ -27,46 +31,46 @@ pub enum Fault {
     NotReadBack(&'static str),
 }
 
-impl From<AllocError> for Fault {
-    fn from(_error: AllocError) -> Fault {
-        Fault::Memory
+impl From<AllocError> for IntakeFault {
+    fn from(_error: AllocError) -> IntakeFault {
+        IntakeFault::Memory
     }
 }
 
-impl<T: Drop> From<AllocFailed<T>> for Fault {
-    fn from(_error: AllocFailed<T>) -> Fault {
-        Fault::Memory
+impl<T: Drop> From<AllocFailed<T>> for IntakeFault {
+    fn from(_error: AllocFailed<T>) -> IntakeFault {
+        IntakeFault::Memory
     }
 }
 
-impl From<WordsFault> for Fault {
-    fn from(fault: WordsFault) -> Fault {
-        Fault::Words(fault)
+impl From<WordsFault> for IntakeFault {
+    fn from(fault: WordsFault) -> IntakeFault {
+        IntakeFault::Words(fault)
     }
 }
 
-impl Fault {
+impl IntakeFault {
     /// The fault of a file that is no cards.
     pub(crate) fn of_cards(
         alloc: Global,
         name: &str,
         error: CardError,
-    ) -> Result<Fault, AllocError> {
+    ) -> Result<IntakeFault, AllocError> {
         match error {
-            CardError::Memory => Ok(Fault::Memory),
-            other => Ok(Fault::NoCards(Vec::from_slice(alloc, name.as_bytes())?, other)),
+            CardError::Memory => Ok(IntakeFault::Memory),
+            other => Ok(IntakeFault::NoCards(Vec::from_slice(alloc, name.as_bytes())?, other)),
         }
     }
 
     /// The fault of a file with a statement that no SYSMOD can be left out for.
     pub(crate) fn of_statement(
         alloc: Global,
-        sources: &Sources,
+        sources: &InputFiles,
         error: WideError,
-    ) -> Result<Fault, AllocError> {
+    ) -> Result<IntakeFault, AllocError> {
         let place = match &error {
-            WideError::Memory => return Ok(Fault::Memory),
-            WideError::NoStatement { place } => *place,
+            WideError::Memory => return Ok(IntakeFault::Memory),
+            WideError::NoStatement { place, .. } => *place,
             WideError::OpenComment { place } => *place,
             WideError::Statement { place, .. } => *place,
         };
@@ -87,36 +91,50 @@ impl Fault {
         line.extend_from_slice(format!(in alloc; "{error}")?.as_bytes())?;
         let mut lines = Vec::new(alloc);
         lines.push(line)?;
-        Ok(Fault::Statements(lines))
+        Ok(IntakeFault::Statements(lines))
     }
 
     /// The line that tells it. What `clap` says has none.
     pub(crate) fn line(&self, alloc: Global, folder: &str) -> Result<Vec<u8>, AllocError> {
         let mut line = Vec::from_slice(alloc, b"smpe-intake: ")?;
         match self {
-            Fault::Memory | Fault::Words(WordsFault::Memory) => line.extend_from_slice(
+            IntakeFault::Memory | IntakeFault::Words(WordsFault::Memory) => line.extend_from_slice(
                 b"out of memory",
             )?,
-            Fault::Words(WordsFault::Clap(_)) => return Ok(Vec::new(alloc)),
-            Fault::Words(WordsFault::NoText) => line.extend_from_slice(b"bad operand: no UTF-8")?,
-            Fault::Words(WordsFault::Syslib) => {
+            IntakeFault::Words(WordsFault::Clap(_)) => return Ok(Vec::new(alloc)),
+            IntakeFault::Words(WordsFault::NoText) => line.extend_from_slice(
+                b"bad operand: no UTF-8",
+            )?,
+            IntakeFault::Words(WordsFault::Syslib) => {
                 line.extend_from_slice(b"bad operand: --syslib takes DISTLIB=SYSLIB")?
             }
-            Fault::CannotRead(name) => {
+            IntakeFault::CannotRead(name) => {
                 line.extend_from_slice(b"cannot read ")?;
                 line.extend_from_slice(name)?;
             }
-            Fault::CannotWrite => {
+            IntakeFault::OutputIsInput(input, output) => {
+                line.extend_from_slice(output)?;
+                line.extend_from_slice(b" would replace the input ")?;
+                line.extend_from_slice(input)?;
+                line.extend_from_slice(b": give another folder with --out")?;
+            }
+            IntakeFault::KnownLine(name, number) => {
+                line.extend_from_slice(name)?;
+                line.extend_from_slice(format!(in alloc;
+                    " line {number}: a line has an id, a type and source ids"
+                )?.as_bytes())?;
+            }
+            IntakeFault::CannotWrite => {
                 line.extend_from_slice(b"cannot write into ")?;
                 line.extend_from_slice(folder.as_bytes())?;
             }
-            Fault::CannotPrint => line.extend_from_slice(b"write")?,
-            Fault::NoCards(name, error) => {
+            IntakeFault::CannotPrint => line.extend_from_slice(b"write")?,
+            IntakeFault::NoCards(name, error) => {
                 line.extend_from_slice(name)?;
                 line.extend_from_slice(b": ")?;
                 line.extend_from_slice(format!(in alloc; "{error}")?.as_bytes())?;
             }
-            Fault::Statements(texts) => {
+            IntakeFault::Statements(texts) => {
                 let mut is_first = true;
                 for text in texts {
                     if !is_first {
@@ -126,8 +144,8 @@ impl Fault {
                     line.extend_from_slice(text)?;
                 }
             }
-            Fault::NoStatement => line.extend_from_slice(b"no statement found")?,
-            Fault::NotReadBack(name) => {
+            IntakeFault::NoStatement => line.extend_from_slice(b"no statement found")?,
+            IntakeFault::NotReadBack(name) => {
                 line.extend_from_slice(b"what was made for ")?;
                 line.extend_from_slice(name.as_bytes())?;
                 line.extend_from_slice(b" is not read as it was meant; nothing is written")?;

@@ -1,5 +1,5 @@
 //! What is written, and read back before.
-ghost use Rattle.std.specs.Prelude.{◌≡◌, ◌∷◌, [], IfOk, OnOk, OnErr, List, Some, codes, map, option_map};
+ghost use Rattle.std.specs.Prelude.{◌≡◌, ◌∷◌, [], IfOk, OnOk, OnErr, List, Some, None, codes, map, option_map};
 ghost use Rattle.terms.specs.Types as terms;
 ghost use Rattle.terms.specs.Ptfin.{IsPtfin};
 ghost use Rattle.terms.specs.HoldFile.{IsHoldFile};
@@ -9,34 +9,36 @@ ghost use Rattle.mcs.specs.HoldItems as hold_files;
 ghost use Rattle.intake_command.specs.Files.{named};
 ghost use Rattle.intake_command.specs.Keeping.{KeepsService, KeepsCommands, KeepsRemarks, KeepsNothing};
 
-use crate::fault::Fault;
+use crate::fault::IntakeFault;
 use crate::files::Named;
-use crate::host::Host;
 use crate::same::{are_same_hold_items, are_same_items};
 use crate::statements::{hold_file, ptfin};
+use crate::surroundings::IntakeHost;
 use mcs::{HoldItem, Item, McsError, read_hold, read_ptfin};
 use std::alloc::{AllocError, Global};
 
-/// Puts the items into `ptfin`, the holds and releases into `hold`, and the remarks beside them. `NotReadBack` comes
+/// Puts the items into `ptfin`, the holds and releases into `hold`, and the remarks beside them, with what stand-ins
+/// are for; where there is nothing of these, a file of an earlier run is taken away. `NotReadBack` comes
 /// where a file is not read as what was meant, and `CannotWrite` where the folder does not take them.
-pub fn keep_service<H: Host>(
+pub fn keep_service<H: IntakeHost>(
     alloc: Global,
     host: &mut H,
     folder: &str,
     meant: &[Item],
     held: &[HoldItem],
+    stand_ins: Option<Vec<u8>>,
     remarks: Vec<u8>,
-) -> Result<(), Fault>
-    ensures ok { OnOk result (KeepsService H.Host host.old folder.now (items meant.now) (hold_files.items held.now)
+) -> Result<(), IntakeFault>
+    ensures ok { OnOk result (KeepsService H.IntakeHost host.old folder.now (items meant.now) (hold_files.items held.now)
         host.new) }
-    ensures err { OnErr result (KeepsNothing H.Host host.old folder.now host.new) }
+    ensures err { OnErr result (KeepsNothing H.IntakeHost host.old folder.now host.new) }
 {
     let ptfin = ptfin_of(alloc, meant)?;
     let hold = hold_of(alloc, held)?;
-    let files = service_files(alloc, ptfin, hold, remarks)?;
+    let files = service_files(alloc, ptfin, hold, stand_ins, remarks)?;
     match host.keep(folder, &files) {
         Ok(()) => Ok(()),
-        Err(_) => Err(Fault::CannotWrite),
+        Err(_) => Err(IntakeFault::CannotWrite),
     }
 }
 
@@ -53,101 +55,122 @@ fn service_files(
     alloc: Global,
     ptfin: Vec<u8>,
     hold: Vec<u8>,
+    stand_ins: Option<Vec<u8>>,
     remarks: Vec<u8>,
 ) -> Result<Vec<Named>, AllocError>
     ensures { IfOk result (λ files. map named files.items ≡ (codes "ptfin", Some ptfin.items)
-        ∷ (codes "hold", Some hold.items) ∷ (codes "remarks", Some remarks.items) ∷ []) }
+        ∷ (codes "hold", Some hold.items) ∷ (codes "stand-ins", option_map (λ bytes. bytes.items) stand_ins)
+        ∷ (codes "remarks", Some remarks.items) ∷ []) }
 {
     let mut files = Vec::new(alloc);
     files.push(file("ptfin", ptfin))?;
     files.push(file("hold", hold))?;
-    files.push(file("remarks", remarks))?;
-    Ok(files)
-}
-
-fn command_files(
-    alloc: Global,
-    cntl: Option<Vec<u8>>,
-    remarks: Vec<u8>,
-) -> Result<Vec<Named>, AllocError>
-    ensures { IfOk result (λ files. map named files.items
-        ≡ (codes "cntl", option_map (λ bytes. bytes.items) cntl) ∷ (codes "remarks", Some remarks.items) ∷ []) }
-{
-    let mut files = Vec::new(alloc);
     files.push(Named {
-        name: "cntl",
-        bytes: cntl,
+        name: "stand-ins",
+        bytes: stand_ins,
     })?;
     files.push(file("remarks", remarks))?;
     Ok(files)
 }
 
+fn command_files(alloc: Global, cntl: Vec<u8>, remarks: Vec<u8>) -> Result<Vec<Named>, AllocError>
+    ensures { IfOk result (λ files. map named files.items
+        ≡ (codes "cntl", Some cntl.items) ∷ (codes "cntl.remarks", Some remarks.items) ∷ []) }
+{
+    let mut files = Vec::new(alloc);
+    files.push(file("cntl", cntl))?;
+    files.push(file("cntl.remarks", remarks))?;
+    Ok(files)
+}
+
+fn gone(name: &'static str) -> Named
+    ensures { named result ≡ (name.now, None) }
+{
+    Named { name, bytes: None }
+}
+
+// The remarks of a command file, and no file of an earlier run.
+fn remark_files(alloc: Global, remarks: Vec<u8>) -> Result<Vec<Named>, AllocError>
+    ensures { IfOk result (λ files. map named files.items ≡ (codes "ptfin", None) ∷ (codes "hold", None)
+        ∷ (codes "stand-ins", None) ∷ (codes "remarks", None) ∷ (codes "cntl", None)
+        ∷ (codes "cntl.remarks", Some remarks.items) ∷ []) }
+{
+    let mut files = Vec::new(alloc);
+    files.push(gone("ptfin"))?;
+    files.push(gone("hold"))?;
+    files.push(gone("stand-ins"))?;
+    files.push(gone("remarks"))?;
+    files.push(gone("cntl"))?;
+    files.push(file("cntl.remarks", remarks))?;
+    Ok(files)
+}
+
 // The records of a PTFIN that is read as these items.
-fn ptfin_of(alloc: Global, meant: &[Item]) -> Result<Vec<u8>, Fault>
+fn ptfin_of(alloc: Global, meant: &[Item]) -> Result<Vec<u8>, IntakeFault>
     ensures { IfOk result (λ bytes. IsPtfin bytes.items (items meant.now)) }
 {
     let bytes = ptfin(alloc, meant)?;
     let read = match read_ptfin(alloc, &bytes) {
         Ok(read) => read,
-        Err(McsError::Memory) => return Err(Fault::Memory),
-        Err(McsError::Fault { .. }) => return Err(Fault::NotReadBack("ptfin")),
+        Err(McsError::Memory) => return Err(IntakeFault::Memory),
+        Err(McsError::Fault { .. }) => return Err(IntakeFault::NotReadBack("ptfin")),
     };
     if !are_same_items(&read, meant) {
-        return Err(Fault::NotReadBack("ptfin"));
+        return Err(IntakeFault::NotReadBack("ptfin"));
     }
     Ok(bytes)
 }
 
 // The records of a hold file that is read as these holds and releases.
-fn hold_of(alloc: Global, meant: &[HoldItem]) -> Result<Vec<u8>, Fault>
+fn hold_of(alloc: Global, meant: &[HoldItem]) -> Result<Vec<u8>, IntakeFault>
     ensures { IfOk result (λ bytes. IsHoldFile bytes.items (hold_files.items meant.now)) }
 {
     let bytes = hold_file(alloc, meant)?;
     let read = match read_hold(alloc, &bytes) {
         Ok(read) => read,
-        Err(McsError::Memory) => return Err(Fault::Memory),
-        Err(McsError::Fault { .. }) => return Err(Fault::NotReadBack("hold")),
+        Err(McsError::Memory) => return Err(IntakeFault::Memory),
+        Err(McsError::Fault { .. }) => return Err(IntakeFault::NotReadBack("hold")),
     };
     if !are_same_hold_items(&read, meant) {
-        return Err(Fault::NotReadBack("hold"));
+        return Err(IntakeFault::NotReadBack("hold"));
     }
     Ok(bytes)
 }
 
-/// Puts the command file into `cntl`, and the remarks beside it. `CannotWrite` comes where the folder does not take
+/// Puts the command file into `cntl`, and its remarks into `cntl.remarks`. `CannotWrite` comes where the folder does not take
 /// them.
-pub fn keep_commands<H: Host>(
+pub fn keep_commands<H: IntakeHost>(
     alloc: Global,
     host: &mut H,
     folder: &str,
     cntl: Vec<u8>,
     remarks: Vec<u8>,
-) -> Result<(), Fault>
+) -> Result<(), IntakeFault>
     requires { (cs : List terms.Command) × IsCommandFile cntl.items cs }
-    ensures ok { OnOk result (KeepsCommands H.Host host.old folder.now host.new) }
-    ensures err { OnErr result (KeepsNothing H.Host host.old folder.now host.new) }
+    ensures ok { OnOk result (KeepsCommands H.IntakeHost host.old folder.now host.new) }
+    ensures err { OnErr result (KeepsNothing H.IntakeHost host.old folder.now host.new) }
 {
-    let files = command_files(alloc, Some(cntl), remarks)?;
+    let files = command_files(alloc, cntl, remarks)?;
     match host.keep(folder, &files) {
         Ok(()) => Ok(()),
-        Err(_) => Err(Fault::CannotWrite),
+        Err(_) => Err(IntakeFault::CannotWrite),
     }
 }
 
-/// Puts the remarks into the folder, and takes a command file of an earlier run away. `CannotWrite` comes where that
+/// Puts the remarks on a command file into `cntl.remarks`, and takes all other files of earlier runs away. `CannotWrite` comes where that
 /// can't be done.
-pub fn keep_remarks<H: Host>(
+pub fn keep_remarks<H: IntakeHost>(
     alloc: Global,
     host: &mut H,
     folder: &str,
     remarks: Vec<u8>,
-) -> Result<(), Fault>
-    ensures ok { OnOk result (KeepsRemarks H.Host host.old folder.now host.new) }
-    ensures err { OnErr result (KeepsNothing H.Host host.old folder.now host.new) }
+) -> Result<(), IntakeFault>
+    ensures ok { OnOk result (KeepsRemarks H.IntakeHost host.old folder.now host.new) }
+    ensures err { OnErr result (KeepsNothing H.IntakeHost host.old folder.now host.new) }
 {
-    let files = command_files(alloc, None, remarks)?;
+    let files = remark_files(alloc, remarks)?;
     match host.keep(folder, &files) {
         Ok(()) => Ok(()),
-        Err(_) => Err(Fault::CannotWrite),
+        Err(_) => Err(IntakeFault::CannotWrite),
     }
 }

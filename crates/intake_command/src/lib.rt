@@ -4,13 +4,13 @@
 //! are read as just the items that were meant, or that nothing was written.
 #![tactic(auto)]
 
-mod asked;
+mod clearing;
 mod commands;
 mod fault;
 mod files;
-mod host;
 mod keep;
 mod members;
+mod options;
 mod program;
 mod remarks;
 mod same;
@@ -18,12 +18,14 @@ mod service;
 mod sources;
 mod statements;
 mod summary;
+mod summary_json;
+mod surroundings;
 
-pub use asked::{Asked, WordsFault};
-pub use fault::Fault;
+pub use fault::IntakeFault;
 pub use files::Named;
-pub use host::Host;
 pub use keep::{keep_commands, keep_remarks, keep_service};
+pub use options::{IntakeOptions, WordsFault};
 pub use program::command;
 pub use same::{are_same_hold_items, are_same_items};
 pub use statements::{hold_file, ptfin};
+pub use surroundings::IntakeHost;

@@ -1,13 +1,13 @@
 //! The remarks as lines.
 
-use crate::sources::Sources;
+use crate::sources::InputFiles;
 use intake_cards::Remark;
 use std::alloc::{AllocError, Global};
 
 /// Appends a line for each remark, with its file and card. The error comes where memory runs out.
 pub(crate) fn tell(
     alloc: Global,
-    sources: &Sources,
+    sources: &InputFiles,
     remarks: &[Remark],
     lines: &mut Vec<u8>,
 ) -> Result<(), AllocError> {

@@ -3,16 +3,17 @@ ghost use Rattle.std.specs.Prelude.{IfOk};
 ghost use Rattle.std.specs.String.{string_bytes};
 ghost use Rattle.intake_command.specs.Serving.{ServesFiles};
 
-use crate::asked::Asked;
-use crate::fault::Fault;
-use crate::host::Host;
+use crate::fault::IntakeFault;
 use crate::keep::keep_service;
 use crate::members::members;
+use crate::options::IntakeOptions;
 use crate::remarks::tell;
-use crate::sources::{Sources, cards_of, read};
-use crate::summary::{by_reason, print};
+use crate::sources::{InputFiles, cards_of, read};
+use crate::summary::{print, service_summary};
+use crate::summary_json::json_summary;
+use crate::surroundings::IntakeHost;
 use intake_cards::{Deed, Remark};
-use intake_carry::{NarrowError, Narrowed, Tally, narrow};
+use intake_carry::{NarrowError, Narrowed, narrow};
 use intake_read::{WideFile, read_wide};
 use intake_sysmod::Options;
 use std::alloc::{AllocError, Global};
@@ -21,10 +22,14 @@ use std::alloc::{AllocError, Global};
 const LEFT_OUT_STATUS: u8 = 4;
 
 /// Puts what the files state into the folder, and the remarks beside it, and answers the status.
-pub(crate) fn serve_files<H: Host>(alloc: Global, host: &mut H, asked: &Asked) -> Result<u8, Fault>
-    ensures { IfOk result (λ _. ServesFiles H.Host asked.now.decide (string_bytes asked.now.out)) }
+pub(crate) fn serve_files<H: IntakeHost>(
+    alloc: Global,
+    host: &mut H,
+    asked: &IntakeOptions,
+) -> Result<u8, IntakeFault>
+    ensures { IfOk result (λ _. ServesFiles H.IntakeHost asked.now.decide (string_bytes asked.now.out)) }
 {
-    let mut sources = Sources::new(alloc);
+    let mut sources = InputFiles::new(alloc);
     let mut remarks = Vec::new(alloc);
     let files = wide_files(alloc, host, &mut sources, asked, &mut remarks)?;
     let members = members(alloc, host, &mut sources, asked, &files, &mut remarks)?;
@@ -35,32 +40,40 @@ pub(crate) fn serve_files<H: Host>(alloc: Global, host: &mut H, asked: &Asked) -
     };
     let narrowed = match narrow(alloc, &files, options) {
         Ok(narrowed) => narrowed,
-        Err(NarrowError::Memory) => return Err(Fault::Memory),
+        Err(NarrowError::Memory) => return Err(IntakeFault::Memory),
         Err(NarrowError::Refused(remarks)) => return Err(refused(alloc, &sources, &remarks)?),
     };
     tell(alloc, &sources, &narrowed.remarks, &mut remarks)?;
     let folder = asked.out.as_str();
     let text = summary(alloc, asked, &narrowed)?;
+    let stand_ins = stand_ins_file(alloc, asked, &narrowed)?;
     keep_service(
         alloc,
         host,
         folder,
         &narrowed.items,
         &narrowed.hold_items,
+        stand_ins,
         remarks,
     )?;
-    print(alloc, host, folder, &text, &["ptfin", "hold", "remarks"])?;
+    print(
+        alloc,
+        host,
+        folder,
+        &text,
+        &["ptfin", "hold", "stand-ins", "remarks"],
+    )?;
     Ok(status(&narrowed))
 }
 
 // What the files state, one after the other.
-fn wide_files<H: Host>(
+fn wide_files<H: IntakeHost>(
     alloc: Global,
     host: &mut H,
-    sources: &mut Sources,
-    asked: &Asked,
+    sources: &mut InputFiles,
+    asked: &IntakeOptions,
     remarks: &mut Vec<u8>,
-) -> Result<Vec<WideFile>, Fault> {
+) -> Result<Vec<WideFile>, IntakeFault> {
     let mut files = Vec::new(alloc);
     let mut is_empty = true;
     for name in &asked.files {
@@ -72,7 +85,7 @@ fn wide_files<H: Host>(
         drop(bytes);
         let file = match read_wide(alloc, &cards) {
             Ok(file) => file,
-            Err(error) => return Err(Fault::of_statement(alloc, sources, error)?),
+            Err(error) => return Err(IntakeFault::of_statement(alloc, sources, error)?),
         };
         if has_statement(&file) {
             is_empty = false;
@@ -80,7 +93,7 @@ fn wide_files<H: Host>(
         files.push(file)?;
     }
     if is_empty {
-        return Err(Fault::NoStatement);
+        return Err(IntakeFault::NoStatement);
     }
     Ok(files)
 }
@@ -94,7 +107,11 @@ fn has_statement(file: &WideFile) -> bool {
 }
 
 // Where something is refused, nothing is written: each such remark is a line of the fault.
-fn refused(alloc: Global, sources: &Sources, remarks: &[Remark]) -> Result<Fault, AllocError> {
+fn refused(
+    alloc: Global,
+    sources: &InputFiles,
+    remarks: &[Remark],
+) -> Result<IntakeFault, AllocError> {
     let mut lines = Vec::new(alloc);
     for remark in remarks {
         if remark.deed == Deed::Refused {
@@ -103,7 +120,7 @@ fn refused(alloc: Global, sources: &Sources, remarks: &[Remark]) -> Result<Fault
             lines.push(line)?;
         }
     }
-    Ok(Fault::Statements(lines))
+    Ok(IntakeFault::Statements(lines))
 }
 
 fn status(narrowed: &Narrowed) -> u8 {
@@ -114,34 +131,35 @@ fn status(narrowed: &Narrowed) -> u8 {
     }
 }
 
-fn summary(alloc: Global, asked: &Asked, narrowed: &Narrowed) -> Result<Vec<u8>, AllocError> {
-    let mut lines = Vec::new(alloc);
-    tally(alloc, "SYSMOD", narrowed.sysmods, &mut lines)?;
-    tally(alloc, "HOLD", narrowed.holds, &mut lines)?;
-    tally(alloc, "RELEASE", narrowed.releases, &mut lines)?;
-    tally(alloc, "ASSIGN", narrowed.assigns, &mut lines)?;
-    by_reason(alloc, &narrowed.remarks, &mut lines)?;
-    let forbidding = narrowed.forbidding;
-    if forbidding > 0 {
-        let line = format!(in alloc;
-            "FORBIDS {forbidding:>7} left out have elements, NPRE or DELETE, which nothing asks for now\n"
-        )?;
-        lines.extend_from_slice(line.as_bytes())?;
+fn summary(
+    alloc: Global,
+    asked: &IntakeOptions,
+    narrowed: &Narrowed,
+) -> Result<Vec<u8>, AllocError> {
+    if asked.json {
+        json_summary(alloc, narrowed)
+    } else {
+        service_summary(alloc, asked.decide, narrowed)
     }
-    let stand_ins = narrowed.stand_ins;
-    if asked.decide {
-        let line = format!(in alloc;
-            "CHECK   {stand_ins:>7} have stand-ins: these files are for CHECK\n"
-        )?;
-        lines.extend_from_slice(line.as_bytes())?;
-    }
-    Ok(lines)
 }
 
-fn tally(alloc: Global, word: &str, tally: Tally, lines: &mut Vec<u8>) -> Result<(), AllocError> {
-    let carried = tally.carried;
-    let left_out = tally.left_out;
-    let line = format!(in alloc; "{word:<7} {carried:>7} carried {left_out:>7} left out\n")?;
-    lines.extend_from_slice(line.as_bytes())?;
-    Ok(())
+// A line for each stand-in: its name, and the type, name and library of the element that it is for.
+fn stand_ins_file(
+    alloc: Global,
+    asked: &IntakeOptions,
+    narrowed: &Narrowed,
+) -> Result<Option<Vec<u8>>, AllocError> {
+    if !asked.decide {
+        return Ok(None);
+    }
+    let mut lines = Vec::new(alloc);
+    for one in &narrowed.named {
+        lines.extend_from_slice(one.stand_in.as_bytes())?;
+        for word in [&one.word, &one.name, &one.library] {
+            lines.push(b' ')?;
+            lines.extend_from_slice(word.as_slice())?;
+        }
+        lines.push(b'\n')?;
+    }
+    Ok(Some(lines))
 }

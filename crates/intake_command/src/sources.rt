@@ -1,27 +1,27 @@
 //! The files that are read, by their numbers.
 
-use crate::fault::Fault;
-use crate::host::Host;
-use intake_cards::{Card, CardOddity, Cards, Code, Form, read_cards};
+use crate::fault::IntakeFault;
+use crate::surroundings::IntakeHost;
+use intake_cards::{Card, CardOddity, Cards, Code, Layout, read_cards};
 use std::alloc::{AllocError, Global};
 use std::io::ErrorKind;
 
 /// A file that was read: its name, and how it is laid out.
 #[derive(Debug, Drop)]
-pub(crate) struct Source {
+pub(crate) struct InputFile {
     pub(crate) name: String,
-    pub(crate) form: Form,
+    pub(crate) form: Layout,
 }
 
 /// The files so far. A place names its file by the number that it has here.
 #[derive(Debug, Drop)]
-pub(crate) struct Sources {
-    all: Vec<Source>,
+pub(crate) struct InputFiles {
+    all: Vec<InputFile>,
 }
 
-impl Sources {
-    pub(crate) fn new(alloc: Global) -> Sources {
-        Sources {
+impl InputFiles {
+    pub(crate) fn new(alloc: Global) -> InputFiles {
+        InputFiles {
             all: Vec::new(alloc),
         }
     }
@@ -31,8 +31,13 @@ impl Sources {
         self.all.len()
     }
 
-    pub(crate) fn add(&mut self, alloc: Global, name: &str, form: Form) -> Result<(), AllocError> {
-        self.all.push(Source {
+    pub(crate) fn add(
+        &mut self,
+        alloc: Global,
+        name: &str,
+        form: Layout,
+    ) -> Result<(), AllocError> {
+        self.all.push(InputFile {
             name: String::from_str(alloc, name)?,
             form,
         })?;
@@ -51,20 +56,24 @@ impl Sources {
     pub(crate) fn unit(&self, file: usize) -> &'static str {
         match self.all.get(file) {
             Some(source) => unit(source.form),
-            None => unit(Form::Records),
+            None => unit(Layout::Records),
         }
     }
 }
 
-fn unit(form: Form) -> &'static str {
+fn unit(form: Layout) -> &'static str {
     match form {
-        Form::Text => "line",
-        Form::Records => "record",
+        Layout::Text => "line",
+        Layout::Records => "record",
     }
 }
 
 /// The bytes of a file.
-pub(crate) fn read<H: Host>(alloc: Global, host: &mut H, name: &str) -> Result<Vec<u8>, Fault> {
+pub(crate) fn read<H: IntakeHost>(
+    alloc: Global,
+    host: &mut H,
+    name: &str,
+) -> Result<Vec<u8>, IntakeFault> {
     match host.read(name) {
         Ok(bytes) => Ok(bytes),
         Err(error) => Err(unread(alloc, name, error.kind())?),
@@ -72,11 +81,11 @@ pub(crate) fn read<H: Host>(alloc: Global, host: &mut H, name: &str) -> Result<V
 }
 
 /// The bytes of a file, if there is one of this name.
-pub(crate) fn read_if_there<H: Host>(
+pub(crate) fn read_if_there<H: IntakeHost>(
     alloc: Global,
     host: &mut H,
     name: &str,
-) -> Result<Option<Vec<u8>>, Fault> {
+) -> Result<Option<Vec<u8>>, IntakeFault> {
     match host.read(name) {
         Ok(bytes) => Ok(Some(bytes)),
         Err(error) => match error.kind() {
@@ -86,27 +95,27 @@ pub(crate) fn read_if_there<H: Host>(
     }
 }
 
-fn unread(alloc: Global, name: &str, kind: ErrorKind) -> Result<Fault, AllocError> {
+fn unread(alloc: Global, name: &str, kind: ErrorKind) -> Result<IntakeFault, AllocError> {
     match kind {
-        ErrorKind::OutOfMemory => Ok(Fault::Memory),
-        _ => Ok(Fault::CannotRead(Vec::from_slice(alloc, name.as_bytes())?)),
+        ErrorKind::OutOfMemory => Ok(IntakeFault::Memory),
+        _ => Ok(IntakeFault::CannotRead(Vec::from_slice(alloc, name.as_bytes())?)),
     }
 }
 
 /// The cards of the file of this name, which is the next one, and what was assumed of it in the remarks.
 pub(crate) fn cards_of(
     alloc: Global,
-    sources: &mut Sources,
+    sources: &mut InputFiles,
     name: &str,
     bytes: &[u8],
-    form: Option<Form>,
+    form: Option<Layout>,
     code: Option<Code>,
     remarks: &mut Vec<u8>,
-) -> Result<Vec<Card>, Fault> {
+) -> Result<Vec<Card>, IntakeFault> {
     let file = sources.count();
     let found = match read_cards(alloc, file, bytes, form, code) {
         Ok(found) => found,
-        Err(error) => return Err(Fault::of_cards(alloc, name, error)?),
+        Err(error) => return Err(IntakeFault::of_cards(alloc, name, error)?),
     };
     sources.add(alloc, name, found.form)?;
     tell_assumed(alloc, name, &found, remarks)?;
@@ -135,10 +144,10 @@ fn tell_assumed(
     Ok(())
 }
 
-fn form_words(form: Form) -> &'static str {
+fn form_words(form: Layout) -> &'static str {
     match form {
-        Form::Text => "lines",
-        Form::Records => "records of 80 bytes",
+        Layout::Text => "lines",
+        Layout::Records => "records of 80 bytes",
     }
 }
 
@@ -153,7 +162,11 @@ fn code_words(code: Code) -> &'static str {
 fn oddity_words(oddity: CardOddity) -> &'static str {
     match oddity {
         CardOddity::ByteOrderMark => "a byte order mark is passed over",
-        CardOddity::BlanksBehind80 => "blanks behind column 80 are passed over",
+        CardOddity::BlanksBehind80 => "blanks after column 80 are passed over",
+        CardOddity::LongLine => "more than 80 columns",
+        CardOddity::Padding =>
+            "NULs or the end of file of older systems at its end are passed over",
+        CardOddity::Delimiter => "a delimiter of JCL at its end is passed over",
         CardOddity::Tab => "a tab counts as one column",
         CardOddity::NotPrintable => "characters that are no ASCII",
     }

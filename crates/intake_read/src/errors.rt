@@ -1,6 +1,6 @@
 //! Why a file of statements is not read.
 use crate::items::OtherReason;
-use intake_cards::Place;
+use intake_cards::CardPlace;
 use std::alloc::{AllocError, AllocFailed};
 use thiserror::Error;
 
@@ -11,19 +11,21 @@ pub enum WideError {
     #[error("out of memory")]
     Memory,
     /// Before the first statement stands more than blanks and comments.
-    #[error("no statement begins there")]
+    #[error("{hint}")]
     NoStatement {
-        place: Place,
+        place: CardPlace,
+        /// What to do about it.
+        hint: &'static str,
     },
     /// A comment is open where the file ends.
     #[error("the comment is not closed")]
     OpenComment {
-        place: Place,
+        place: CardPlace,
     },
     /// A statement outside of SYSMODs, or a hold, a release or an assignment, is none, for that reason.
     #[error("{reason}")]
     Statement {
-        place: Place,
+        place: CardPlace,
         /// Its word without `++`, and what stands in parentheses behind it, both in upper case.
         word: Vec<u8>,
         name: Vec<u8>,

@@ -1,24 +1,24 @@
 //! Statements one behind the other, gathered as SYSMODs and what stands beside them.
 use crate::errors::WideError;
-use crate::items::{Note, NoteReason, OtherReason, WideFile, WideSysmod};
-use crate::known::{Known, known_as};
+use crate::items::{Note, NoteReason, OtherReason, SwallowedStatement, WideFile, WideSysmod};
+use crate::known::{WideWord, known_as};
 use crate::made::{assign, condition, element, hold, other, release, sysmod, ver};
 use crate::operands::members;
-use crate::statement::Statement;
-use intake_cards::Place;
-use std::alloc::Global;
+use crate::statement::WideStatement;
+use intake_cards::{Card, CardPlace};
+use std::alloc::{AllocError, Global};
 
 /// The statements so far: a file's items, and the SYSMOD that is begun.
 #[derive(Drop)]
-pub(crate) struct Gathered {
+pub(crate) struct FileSoFar {
     alloc: Global,
     file: WideFile,
     begun: Option<WideSysmod>,
 }
 
-impl Gathered {
-    pub fn new(alloc: Global) -> Gathered {
-        Gathered {
+impl FileSoFar {
+    pub fn new(alloc: Global) -> FileSoFar {
+        FileSoFar {
             alloc,
             file: WideFile {
                 sysmods: Vec::new(alloc),
@@ -26,6 +26,7 @@ impl Gathered {
                 releases: Vec::new(alloc),
                 assigns: Vec::new(alloc),
                 others: Vec::new(alloc),
+                swallowed: Vec::new(alloc),
                 notes: Vec::new(alloc),
             },
             begun: None,
@@ -34,7 +35,7 @@ impl Gathered {
 
     /// The whole file.
     pub fn into_file(self) -> Result<WideFile, WideError> {
-        let Gathered {
+        let FileSoFar {
             alloc: _,
             mut file,
             begun,
@@ -45,8 +46,14 @@ impl Gathered {
         Ok(file)
     }
 
+    /// Keeps a statement that stands in a comment.
+    pub fn keep_swallowed(&mut self, swallowed: SwallowedStatement) -> Result<(), AllocError> {
+        self.file.swallowed.push(swallowed)?;
+        Ok(())
+    }
+
     /// Notes what was read otherwise than it stands.
-    pub fn note(&mut self, reason: NoteReason, place: Place) -> Result<(), WideError> {
+    pub fn note(&mut self, reason: NoteReason, place: CardPlace) -> Result<(), WideError> {
         for known in self.file.notes.iter_mut() {
             if known.reason == reason {
                 known.count = known.count.saturating_add(1);
@@ -57,23 +64,40 @@ impl Gathered {
             place,
             reason,
             count: 1,
+            tail: [b' '; 8],
+        })?;
+        Ok(())
+    }
+
+    /// Notes what columns 73 to 80 of the card hold.
+    pub fn note_tail(&mut self, card: &Card) -> Result<(), AllocError> {
+        let mut tail = [b' '; 8];
+        tail.copy_from_slice(&card.text[72..]);
+        self.file.notes.push(Note {
+            place: card.place,
+            reason: NoteReason::TextIn73,
+            count: 1,
+            tail,
         })?;
         Ok(())
     }
 
     /// Adds the next statement.
-    pub fn add(&mut self, statement: Statement) -> Result<(), WideError> {
+    pub fn add(&mut self, statement: WideStatement) -> Result<(), WideError> {
         if statement.has_lower {
             self.note(NoteReason::LowerCase, statement.place)?;
         }
         let known = known_as(statement.word.as_slice());
-        if let Known::Header(kind) = known {
+        if let WideWord::Header(kind) = known {
             let begun = sysmod(self.alloc, kind, statement)?;
             return self.begin(begun);
         }
         if let Some(reason) = statement.fault {
-            let is_kept = matches!(known, Known::Hold | Known::Release | Known::Assign);
-            return self.add_other(reason, is_kept, statement);
+            if known.stands_alone() {
+                self.file.others.push(other(reason, statement))?;
+                return Ok(());
+            }
+            return self.add_other(reason, statement);
         }
         self.add_good(known, statement)
     }
@@ -85,20 +109,18 @@ impl Gathered {
         Ok(())
     }
 
-    /// Adds to the SYSMOD a statement that is none of the others. The error comes where no SYSMOD is begun, or where
-    /// the statement may not be left out.
+    /// Adds to the SYSMOD a statement that is none of the others. Returns an error if no SYSMOD is begun.
     fn add_other(
         &mut self,
         reason: OtherReason,
-        is_kept: bool,
-        statement: Statement,
+        statement: WideStatement,
     ) -> Result<(), WideError> {
         match &mut self.begun {
-            Some(sysmod) if !is_kept => {
+            Some(sysmod) => {
                 sysmod.others.push(other(reason, statement))?;
                 Ok(())
             }
-            _ => Err(WideError::Statement {
+            None => Err(WideError::Statement {
                 place: statement.place,
                 word: statement.word,
                 name: statement.name,
@@ -107,29 +129,28 @@ impl Gathered {
         }
     }
 
-    fn add_good(&mut self, known: Known, statement: Statement) -> Result<(), WideError> {
+    fn add_good(&mut self, known: WideWord, statement: WideStatement) -> Result<(), WideError> {
         match known {
-            Known::Hold => self.add_hold(statement)?,
-            Known::Release => self.file.releases.push(release(self.alloc, statement)?)?,
-            Known::Assign => self.file.assigns.push(assign(self.alloc, statement)?)?,
-            Known::NoService => self
+            WideWord::Hold => self.add_hold(statement)?,
+            WideWord::Release => self.file.releases.push(release(self.alloc, statement)?)?,
+            WideWord::Assign => self.file.assigns.push(assign(self.alloc, statement)?)?,
+            WideWord::NoService => self
                 .file
                 .others
                 .push(other(OtherReason::NoService, statement))?,
-            Known::Ver => self.add_ver(statement)?,
-            Known::If => self.add_if(statement)?,
-            Known::Element => self.add_element(statement)?,
-            Known::LoadModules => self.add_other(OtherReason::LoadModules, false, statement)?,
-            Known::Header(_) | Known::Unknown => self.add_other(
+            WideWord::Ver => self.add_ver(statement)?,
+            WideWord::If => self.add_if(statement)?,
+            WideWord::Element => self.add_element(statement)?,
+            WideWord::LoadModules => self.add_other(OtherReason::LoadModules, statement)?,
+            WideWord::Header(_) | WideWord::Unknown => self.add_other(
                 OtherReason::UnknownWord,
-                false,
                 statement,
             )?,
         }
         Ok(())
     }
 
-    fn add_hold(&mut self, statement: Statement) -> Result<(), WideError> {
+    fn add_hold(&mut self, statement: WideStatement) -> Result<(), WideError> {
         let found = hold(self.alloc, statement)?;
         match &mut self.begun {
             Some(sysmod) => sysmod.holds.push(found)?,
@@ -138,30 +159,30 @@ impl Gathered {
         Ok(())
     }
 
-    fn add_ver(&mut self, statement: Statement) -> Result<(), WideError> {
+    fn add_ver(&mut self, statement: WideStatement) -> Result<(), WideError> {
         let Some(srels) = members(self.alloc, statement.name.as_slice())? else {
-            return self.add_other(OtherReason::NoName, false, statement);
+            return self.add_other(OtherReason::NoName, statement);
         };
         let Some(sysmod) = &mut self.begun else {
-            return self.add_other(OtherReason::Misplaced, false, statement);
+            return self.add_other(OtherReason::Misplaced, statement);
         };
         sysmod.vers.push(ver(self.alloc, srels, statement)?)?;
         Ok(())
     }
 
-    fn add_if(&mut self, statement: Statement) -> Result<(), WideError> {
+    fn add_if(&mut self, statement: WideStatement) -> Result<(), WideError> {
         if let Some(sysmod) = &mut self.begun {
             if let Some(last) = sysmod.vers.last_mut() {
                 last.ifs.push(condition(self.alloc, statement)?)?;
                 return Ok(());
             }
         }
-        self.add_other(OtherReason::Misplaced, false, statement)
+        self.add_other(OtherReason::Misplaced, statement)
     }
 
-    fn add_element(&mut self, statement: Statement) -> Result<(), WideError> {
+    fn add_element(&mut self, statement: WideStatement) -> Result<(), WideError> {
         let Some(sysmod) = &mut self.begun else {
-            return self.add_other(OtherReason::Misplaced, false, statement);
+            return self.add_other(OtherReason::Misplaced, statement);
         };
         sysmod.elements.push(element(self.alloc, statement)?)?;
         Ok(())

@@ -1,5 +1,5 @@
 //! What the statements of a shop's files say, with SMP/E's own names. Names and values in lists are in upper case.
-use intake_cards::{Card, Place};
+use intake_cards::{Card, CardPlace};
 use terms::Kind;
 use thiserror::Error;
 
@@ -7,7 +7,7 @@ use thiserror::Error;
 /// for blanks at either end of a card and of the whole, and one blank stands between two cards.
 #[derive(Drop)]
 pub struct WideOperand {
-    pub place: Place,
+    pub place: CardPlace,
     pub name: Vec<u8>,
     pub value: Option<Vec<u8>>,
 }
@@ -43,7 +43,7 @@ pub struct OddOperand {
 /// `++FUNCTION`, `++PTF`, `++APAR` or `++USERMOD`, with the statements that belong to it.
 #[derive(Drop)]
 pub struct WideSysmod {
-    pub place: Place,
+    pub place: CardPlace,
     pub kind: Kind,
     /// What stands in the header's parentheses, in upper case; empty where there are none.
     pub id: Vec<u8>,
@@ -60,7 +60,7 @@ pub struct WideSysmod {
 /// `++VER`. A list that the statement lacks is empty.
 #[derive(Drop)]
 pub struct WideVer {
-    pub place: Place,
+    pub place: CardPlace,
     pub srels: Vec<Vec<u8>>,
     pub fmid: Option<Vec<u8>>,
     pub pre: Vec<Vec<u8>>,
@@ -76,7 +76,7 @@ pub struct WideVer {
 /// `++IF`, with THEN or without it.
 #[derive(Drop)]
 pub struct WideIf {
-    pub place: Place,
+    pub place: CardPlace,
     pub fmid: Option<Vec<u8>>,
     pub then: bool,
     pub req: Vec<Vec<u8>>,
@@ -95,7 +95,7 @@ pub enum WideHoldKind {
 /// `++HOLD`.
 #[derive(Drop)]
 pub struct WideHold {
-    pub place: Place,
+    pub place: CardPlace,
     /// What stands in its parentheses, in upper case; empty where there are none.
     pub id: Vec<u8>,
     /// None: it has no word for its kind. A second word is among the odd operands.
@@ -114,7 +114,7 @@ pub struct WideHold {
 /// `++RELEASE`.
 #[derive(Drop)]
 pub struct WideRelease {
-    pub place: Place,
+    pub place: CardPlace,
     pub id: Vec<u8>,
     pub kind: Option<WideHoldKind>,
     pub reason: Option<Vec<u8>>,
@@ -127,7 +127,8 @@ pub struct WideRelease {
 /// `++ASSIGN`.
 #[derive(Drop)]
 pub struct WideAssign {
-    pub place: Place,
+    pub place: CardPlace,
+    /// As it is typed, in lower case too.
     pub source: Option<Vec<u8>>,
     pub to: Vec<Vec<u8>>,
     pub odd: Vec<OddOperand>,
@@ -137,7 +138,7 @@ pub struct WideAssign {
 /// and each element of a file system.
 #[derive(Drop)]
 pub struct WideElement {
-    pub place: Place,
+    pub place: CardPlace,
     /// The word without its `++`, in upper case.
     pub word: Vec<u8>,
     /// What stands in its parentheses, in upper case.
@@ -146,6 +147,10 @@ pub struct WideElement {
     pub syslib: Option<Vec<u8>>,
     /// What RELFILE says, where its text is in another file.
     pub relfile: Option<Vec<u8>>,
+    /// The library of the modules that are assembled of it.
+    pub distmod: Option<Vec<u8>>,
+    /// The modules that are assembled of a macro besides.
+    pub assem: Vec<Vec<u8>>,
     /// TXLIB, LKLIB and FROMDS, as they stand: its text is in another library.
     pub libraries: Vec<WideOperand>,
     /// All its other operands, as they stand: SSI, ALIAS, DELETE, LMOD and so on.
@@ -186,6 +191,9 @@ pub enum OtherReason {
     /// It lacks its list, as `++VER` without SRELs, or `++MAC` without a name.
     #[error("what belongs in parentheses behind its word is missing")]
     NoName,
+    /// A line of it has more than 80 columns.
+    #[error("a line has more than 80 columns: put the rest on a line of its own")]
+    LongLine,
     /// It is an `++IF`, and its SYSMOD has no `++VER` before it; or no SYSMOD stands before it.
     #[error("it may not stand there")]
     Misplaced,
@@ -195,7 +203,7 @@ pub enum OtherReason {
 /// with it.
 #[derive(Drop)]
 pub struct WideOther {
-    pub place: Place,
+    pub place: CardPlace,
     pub reason: OtherReason,
     /// The word without its `++`, in upper case.
     pub word: Vec<u8>,
@@ -210,18 +218,30 @@ pub struct WideOther {
 pub enum NoteReason {
     /// Words in lower case are read in upper case.
     LowerCase,
-    /// A comment holds a card that begins with `++`, which begins no statement there.
-    StatementInComment,
-    /// Columns 73 to 80 hold something that is no number; they are not read.
+    /// Columns 73 to 80 hold something that is no number; they are not read. Each card has a note of its own.
     TextIn73,
 }
 
 /// Something that was read otherwise than it stands: the first statement or card with it, and how many there are.
 #[derive(Clone, Copy, Debug, PartialEq, Eq)]
 pub struct Note {
-    pub place: Place,
+    pub place: CardPlace,
     pub reason: NoteReason,
     pub count: usize,
+    /// What columns 73 to 80 hold, if the note is about them.
+    pub tail: [u8; 8],
+}
+
+/// A card that begins with `++` inside a comment, where it begins no statement.
+#[derive(Drop)]
+pub struct SwallowedStatement {
+    pub place: CardPlace,
+    /// Where the comment opens.
+    pub comment: CardPlace,
+    /// The word without its `++`, in upper case.
+    pub word: Vec<u8>,
+    /// What stands in its parentheses, in upper case.
+    pub name: Vec<u8>,
 }
 
 /// A file's statements. Each list keeps the order of the file, and the places say how the lists go together.
@@ -234,6 +254,8 @@ pub struct WideFile {
     pub assigns: Vec<WideAssign>,
     /// `++FEATURE`, `++PRODUCT` and `++NULL`, wherever they stand.
     pub others: Vec<WideOther>,
+    /// Those that stand in comments.
+    pub swallowed: Vec<SwallowedStatement>,
     /// One for each reason at most.
     pub notes: Vec<Note>,
 }

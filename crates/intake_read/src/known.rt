@@ -3,7 +3,7 @@ use terms::Kind;
 
 /// What a statement's word says that it is.
 #[derive(Clone, Copy, Debug, PartialEq, Eq)]
-pub(crate) enum Known {
+pub(crate) enum WideWord {
     Header(Kind),
     Ver,
     If,
@@ -16,6 +16,16 @@ pub(crate) enum Known {
     /// FEATURE, PRODUCT, NULL.
     NoService,
     Unknown,
+}
+
+impl WideWord {
+    /// Whether a statement of this word that is at fault costs no SYSMOD: it is kept beside them.
+    pub(crate) fn stands_alone(self) -> bool {
+        matches!(
+            self,
+            WideWord::Hold | WideWord::Release | WideWord::Assign | WideWord::NoService
+        )
+    }
 }
 
 /// Elements whose names go without a language.
@@ -63,42 +73,42 @@ pub fn is_element(word: &[u8]) -> bool {
 }
 
 /// What the word, without its `++`, says that the statement is.
-pub(crate) fn known_as(word: &[u8]) -> Known {
+pub(crate) fn known_as(word: &[u8]) -> WideWord {
     match word {
-        b"FUNCTION" => Known::Header(Kind::Function),
-        b"PTF" => Known::Header(Kind::Ptf),
-        b"APAR" => Known::Header(Kind::Apar),
-        b"USERMOD" => Known::Header(Kind::Usermod),
-        b"VER" => Known::Ver,
-        b"IF" => Known::If,
-        b"HOLD" => Known::Hold,
-        b"RELEASE" => Known::Release,
-        b"ASSIGN" => Known::Assign,
-        b"JCLIN" | b"MOVE" | b"RENAME" | b"DELETE" => Known::LoadModules,
-        b"FEATURE" | b"PRODUCT" | b"NULL" => Known::NoService,
+        b"FUNCTION" => WideWord::Header(Kind::Function),
+        b"PTF" => WideWord::Header(Kind::Ptf),
+        b"APAR" => WideWord::Header(Kind::Apar),
+        b"USERMOD" => WideWord::Header(Kind::Usermod),
+        b"VER" => WideWord::Ver,
+        b"IF" => WideWord::If,
+        b"HOLD" => WideWord::Hold,
+        b"RELEASE" => WideWord::Release,
+        b"ASSIGN" => WideWord::Assign,
+        b"JCLIN" | b"MOVE" | b"RENAME" | b"DELETE" => WideWord::LoadModules,
+        b"FEATURE" | b"PRODUCT" | b"NULL" => WideWord::NoService,
         _ => {
             if is_element(word) {
-                Known::Element
+                WideWord::Element
             } else {
-                Known::Unknown
+                WideWord::Unknown
             }
         }
     }
 }
 
 /// Whether a statement of this word needs what stands in parentheses behind the word.
-pub(crate) fn needs_name(known: Known) -> bool {
+pub(crate) fn needs_name(known: WideWord) -> bool {
     matches!(
         known,
-        Known::Header(_) | Known::Ver | Known::Hold | Known::Release | Known::Element
+        WideWord::Header(_) | WideWord::Ver | WideWord::Hold | WideWord::Release | WideWord::Element
     )
 }
 
 /// Whether cards behind a statement of this word may be its text.
 pub(crate) fn takes_text(word: &[u8]) -> bool {
     match known_as(word) {
-        Known::Element | Known::Unknown => true,
-        Known::LoadModules => word == b"JCLIN".as_slice(),
+        WideWord::Element | WideWord::Unknown => true,
+        WideWord::LoadModules => word == b"JCLIN".as_slice(),
         _ => false,
     }
 }
@@ -128,7 +138,8 @@ pub(crate) fn is_upper(operand: &[u8]) -> bool {
             | b"DISTLIB"
             | b"SYSLIB"
             | b"RELFILE"
-            | b"SOURCEID"
+            | b"DISTMOD"
+            | b"ASSEM"
             | b"TO"
     )
 }

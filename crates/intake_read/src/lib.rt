@@ -14,10 +14,11 @@ mod told;
 mod words;
 
 pub use errors::WideError;
-pub use intake_cards::{Card, Place};
+pub use intake_cards::{Card, CardPlace};
 pub use items::{
-    Note, NoteReason, OddOperand, OddReason, OtherReason, WideAssign, WideElement, WideFile,
-    WideHold, WideHoldKind, WideIf, WideOperand, WideOther, WideRelease, WideSysmod, WideVer,
+    Note, NoteReason, OddOperand, OddReason, OtherReason, SwallowedStatement, WideAssign,
+    WideElement, WideFile, WideHold, WideHoldKind, WideIf, WideOperand, WideOther, WideRelease,
+    WideSysmod, WideVer,
 };
 pub use known::is_element;
 pub use read::read_wide;

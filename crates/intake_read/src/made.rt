@@ -4,7 +4,7 @@ use crate::items::{
     WideOperand, WideOther, WideRelease, WideSysmod, WideVer,
 };
 use crate::operands::{keep_odd, take_list, take_text, take_value};
-use crate::statement::Statement;
+use crate::statement::WideStatement;
 use std::alloc::{AllocError, Global};
 use terms::Kind;
 
@@ -12,7 +12,7 @@ use terms::Kind;
 pub(crate) fn sysmod(
     alloc: Global,
     kind: Kind,
-    statement: Statement,
+    statement: WideStatement,
 ) -> Result<WideSysmod, AllocError> {
     let mut sysmod = WideSysmod {
         place: statement.place,
@@ -51,7 +51,7 @@ pub(crate) fn sysmod(
 pub(crate) fn ver(
     alloc: Global,
     srels: Vec<Vec<u8>>,
-    statement: Statement,
+    statement: WideStatement,
 ) -> Result<WideVer, AllocError> {
     let mut ver = WideVer {
         place: statement.place,
@@ -87,7 +87,7 @@ fn add_to_ver(alloc: Global, ver: &mut WideVer, operand: WideOperand) -> Result<
 }
 
 /// The `++IF`.
-pub(crate) fn condition(alloc: Global, statement: Statement) -> Result<WideIf, AllocError> {
+pub(crate) fn condition(alloc: Global, statement: WideStatement) -> Result<WideIf, AllocError> {
     let mut found = WideIf {
         place: statement.place,
         fmid: None,
@@ -144,7 +144,7 @@ fn take_kind(
 }
 
 /// The `++HOLD`.
-pub(crate) fn hold(alloc: Global, statement: Statement) -> Result<WideHold, AllocError> {
+pub(crate) fn hold(alloc: Global, statement: WideStatement) -> Result<WideHold, AllocError> {
     let mut hold = WideHold {
         place: statement.place,
         id: statement.name,
@@ -183,7 +183,7 @@ fn add_to_hold(alloc: Global, hold: &mut WideHold, operand: WideOperand) -> Resu
 }
 
 /// The `++RELEASE`.
-pub(crate) fn release(alloc: Global, statement: Statement) -> Result<WideRelease, AllocError> {
+pub(crate) fn release(alloc: Global, statement: WideStatement) -> Result<WideRelease, AllocError> {
     let mut release = WideRelease {
         place: statement.place,
         id: statement.name,
@@ -220,7 +220,7 @@ fn add_to_release(
 }
 
 /// The `++ASSIGN`.
-pub(crate) fn assign(alloc: Global, statement: Statement) -> Result<WideAssign, AllocError> {
+pub(crate) fn assign(alloc: Global, statement: WideStatement) -> Result<WideAssign, AllocError> {
     let mut assign = WideAssign {
         place: statement.place,
         source: None,
@@ -230,7 +230,7 @@ pub(crate) fn assign(alloc: Global, statement: Statement) -> Result<WideAssign, 
     for operand in statement.operands {
         let odd = &mut assign.odd;
         match operand.name.as_slice() {
-            b"SOURCEID" => take_value(alloc, &mut assign.source, operand, odd)?,
+            b"SOURCEID" => take_text(&mut assign.source, operand, odd)?,
             b"TO" => take_list(alloc, &mut assign.to, operand, odd)?,
             _ => keep_odd(odd, operand, OddReason::Unknown)?,
         }
@@ -239,7 +239,7 @@ pub(crate) fn assign(alloc: Global, statement: Statement) -> Result<WideAssign, 
 }
 
 /// The statement for an element.
-pub(crate) fn element(alloc: Global, statement: Statement) -> Result<WideElement, AllocError> {
+pub(crate) fn element(alloc: Global, statement: WideStatement) -> Result<WideElement, AllocError> {
     let mut element = WideElement {
         place: statement.place,
         word: statement.word,
@@ -247,6 +247,8 @@ pub(crate) fn element(alloc: Global, statement: Statement) -> Result<WideElement
         distlib: None,
         syslib: None,
         relfile: None,
+        distmod: None,
+        assem: Vec::new(alloc),
         libraries: Vec::new(alloc),
         operands: Vec::new(alloc),
         odd: Vec::new(alloc),
@@ -268,6 +270,8 @@ fn add_to_element(
         b"DISTLIB" => take_value(alloc, &mut element.distlib, operand, odd),
         b"SYSLIB" => take_value(alloc, &mut element.syslib, operand, odd),
         b"RELFILE" => take_value(alloc, &mut element.relfile, operand, odd),
+        b"DISTMOD" => take_value(alloc, &mut element.distmod, operand, odd),
+        b"ASSEM" => take_list(alloc, &mut element.assem, operand, odd),
         b"TXLIB" | b"LKLIB" | b"FROMDS" => {
             element.libraries.push(operand)?;
             Ok(())
@@ -280,7 +284,7 @@ fn add_to_element(
 }
 
 /// The statement as one that is none of the others, for this reason.
-pub(crate) fn other(reason: OtherReason, statement: Statement) -> WideOther {
+pub(crate) fn other(reason: OtherReason, statement: WideStatement) -> WideOther {
     WideOther {
         place: statement.place,
         reason,

@@ -1,16 +1,16 @@
 //! Cards as statements, one behind the other.
 use crate::errors::WideError;
-use crate::gather::Gathered;
-use crate::items::{NoteReason, OtherReason, WideFile};
+use crate::gather::FileSoFar;
+use crate::items::{OtherReason, SwallowedStatement, WideFile};
 use crate::known::{is_text_elsewhere, takes_text};
-use crate::statement::{Statement, statement_of};
-use crate::words::{Open, Piece, Scanner, Token};
-use intake_cards::{Card, Place, Tail};
+use crate::statement::{WideStatement, statement_of};
+use crate::words::{CardPiece, CardScanner, Open, Token, is_word_byte};
+use intake_cards::{Card, CardPlace, Tail};
 use std::alloc::{AllocError, Global};
 
 /// What a card belongs to.
 #[derive(Clone, Copy, Debug, PartialEq, Eq)]
-enum Part {
+enum CardPart {
     /// The first statement comes behind it.
     Before,
     /// The statement's own text.
@@ -25,17 +25,65 @@ enum Part {
 #[derive(Drop)]
 struct Reader {
     alloc: Global,
-    scanner: Scanner,
-    part: Part,
+    scanner: CardScanner,
+    part: CardPart,
     /// Where the statement begins that is begun.
-    place: Place,
+    place: CardPlace,
+    /// A card of its own text is cut at column 80 outside comments.
+    is_cut: bool,
     /// It, once its own text is whole.
-    whole: Option<Statement>,
-    gathered: Gathered,
+    whole: Option<WideStatement>,
+    gathered: FileSoFar,
+}
+
+/// The letters and digits at the beginning, in upper case.
+fn upper_word(alloc: Global, text: &[u8]) -> Result<Vec<u8>, AllocError> {
+    let mut word = Vec::new(alloc);
+    for byte in text {
+        if !is_word_byte(*byte) {
+            return Ok(word);
+        }
+        word.push(byte.to_ascii_uppercase())?;
+    }
+    Ok(word)
+}
+
+/// What follows the first opening parenthesis.
+fn behind_parenthesis(text: &[u8]) -> &[u8] {
+    match text.iter().position(|byte| *byte == b'(') {
+        Some(place) => &text[place + 1..],
+        None => b"",
+    }
+}
+
+/// The statement that a card would begin, if no comment were open.
+fn swallowed_by(
+    alloc: Global,
+    comment: CardPlace,
+    card: &Card,
+) -> Result<SwallowedStatement, AllocError> {
+    let text = &card.text[2..72];
+    Ok(SwallowedStatement {
+        place: card.place,
+        comment,
+        word: upper_word(alloc, text)?,
+        name: upper_word(alloc, behind_parenthesis(text).trim_ascii_start())?,
+    })
+}
+
+/// What to do about a card that stands before the first statement.
+fn hint_for(card: &Card) -> &'static str {
+    if card.text.starts_with(b"//") {
+        "JCL stands there: give the cards after its DD * without it"
+    } else if card.text.starts_with(b"./") {
+        "input of IEBUPDTE stands there: give the cards between its ./ statements"
+    } else {
+        "no statement begins there: a statement has ++ in columns 1 and 2"
+    }
 }
 
 /// Whether cards behind the statement of these pieces are its text.
-fn has_inline(pieces: &[Piece]) -> bool {
+fn has_inline(pieces: &[CardPiece]) -> bool {
     let mut has_word = false;
     for piece in pieces {
         if let Token::Word(word) = &piece.token {
@@ -55,26 +103,31 @@ impl Reader {
     /// Takes the next card.
     fn card(&mut self, card: &Card) -> Result<(), WideError> {
         if card.begins_statement() {
-            if !matches!(self.scanner.open(), Open::Comment(_)) {
+            let Open::Comment(comment) = self.scanner.open() else {
                 return self.begin(card);
-            }
-            self.gathered
-                .note(NoteReason::StatementInComment, card.place)?;
+            };
+            let swallowed = swallowed_by(self.alloc, comment, card)?;
+            self.gathered.keep_swallowed(swallowed)?;
         }
         match self.part {
-            Part::Inline => {
+            CardPart::Inline => {
                 if let Some(statement) = &mut self.whole {
                     statement.inline.push(*card)?;
+                    if card.is_cut {
+                        statement.blame(OtherReason::LongLine);
+                    }
                 }
                 Ok(())
             }
-            Part::Own => {
+            CardPart::Own => {
                 self.note_tail(card)?;
                 self.scanner.take_card(card)?;
+                self.end_line(card);
                 self.end_own()
             }
-            Part::Before | Part::Behind => {
+            CardPart::Before | CardPart::Behind => {
                 self.scanner.take_card(card)?;
+                self.end_line(card);
                 self.check_idle(card)
             }
         }
@@ -83,26 +136,42 @@ impl Reader {
     /// Begins the statement of the card, and ends the one before.
     fn begin(&mut self, card: &Card) -> Result<(), WideError> {
         self.end()?;
-        self.part = Part::Own;
+        self.part = CardPart::Own;
         self.place = card.place;
         self.note_tail(card)?;
+        self.is_cut = false;
         self.scanner.take(card.place, &card.text[2..72])?;
+        self.end_line(card);
         self.end_own()
+    }
+
+    /// Takes note of a line that is cut at column 80. One that ends inside a comment loses nothing.
+    fn end_line(&mut self, card: &Card) {
+        let is_open = matches!(self.scanner.open(), Open::Comment(_));
+        if is_open && card.ends_comment {
+            self.scanner.end_comment();
+        } else if card.is_cut && !is_open {
+            self.is_cut = true;
+        }
     }
 
     fn note_tail(&mut self, card: &Card) -> Result<(), WideError> {
         if card.tail() == Tail::Other {
-            self.gathered.note(NoteReason::TextIn73, card.place)?;
+            self.gathered.note_tail(card)?;
         }
         Ok(())
     }
 
     /// Makes the statement of what was scanned.
-    fn scanned(&mut self) -> Result<Statement, AllocError> {
+    fn scanned(&mut self) -> Result<WideStatement, AllocError> {
         let open = self.scanner.open();
         let has_lower = self.scanner.has_lower();
         let pieces = self.scanner.take_pieces();
-        statement_of(self.alloc, self.place, pieces, open, has_lower)
+        let mut statement = statement_of(self.alloc, self.place, pieces, open, has_lower)?;
+        if self.is_cut {
+            statement.fault = Some(OtherReason::LongLine);
+        }
+        Ok(statement)
     }
 
     /// Goes on to what is behind the statement, if its period was met and no comment is open.
@@ -111,9 +180,9 @@ impl Reader {
             return Ok(());
         }
         self.part = if has_inline(self.scanner.pieces()) {
-            Part::Inline
+            CardPart::Inline
         } else {
-            Part::Behind
+            CardPart::Behind
         };
         self.whole = Some(self.scanned()?);
         Ok(())
@@ -128,7 +197,12 @@ impl Reader {
         }
         match &mut self.whole {
             Some(statement) => statement.blame(OtherReason::TextBehind),
-            None => return Err(WideError::NoStatement { place: card.place }),
+            None => {
+                return Err(WideError::NoStatement {
+                    place: card.place,
+                    hint: hint_for(card),
+                });
+            }
         }
         Ok(())
     }
@@ -138,7 +212,7 @@ impl Reader {
         if let Some(statement) = self.whole.take() {
             return self.gathered.add(statement);
         }
-        if self.part == Part::Own {
+        if self.part == CardPart::Own {
             let statement = self.scanned()?;
             return self.gathered.add(statement);
         }
@@ -153,11 +227,12 @@ impl Reader {
 pub fn read_wide(alloc: Global, cards: &[Card]) -> Result<WideFile, WideError> {
     let mut reader = Reader {
         alloc,
-        scanner: Scanner::new(alloc),
-        part: Part::Before,
-        place: Place { file: 0, card: 0 },
+        scanner: CardScanner::new(alloc),
+        part: CardPart::Before,
+        place: CardPlace { file: 0, card: 0 },
+        is_cut: false,
         whole: None,
-        gathered: Gathered::new(alloc),
+        gathered: FileSoFar::new(alloc),
     };
     for card in cards {
         reader.card(card)?;
@@ -171,6 +246,7 @@ pub fn read_wide(alloc: Global, cards: &[Card]) -> Result<WideFile, WideError> {
         scanner: _,
         part: _,
         place: _,
+        is_cut: _,
         whole: _,
         gathered,
     } = reader;

@@ -1,14 +1,14 @@
 //! A statement as it stands: its word, its name and its operands.
 use crate::items::{OtherReason, WideOperand};
 use crate::known::{is_upper, known_as, needs_name};
-use crate::words::{Open, Piece, Token};
-use intake_cards::{Card, Place};
+use crate::words::{CardPiece, Open, Token};
+use intake_cards::{Card, CardPlace};
 use std::alloc::{AllocError, Global};
 
 /// A statement as it stands.
 #[derive(Drop)]
-pub(crate) struct Statement {
-    pub place: Place,
+pub(crate) struct WideStatement {
+    pub place: CardPlace,
     /// Without its `++`, in upper case.
     pub word: Vec<u8>,
     /// What stands in its parentheses, in upper case.
@@ -23,8 +23,8 @@ pub(crate) struct Statement {
 
 /// A statement that is begun, and how far.
 #[derive(Drop)]
-struct Said {
-    statement: Statement,
+struct BegunStatement {
+    statement: WideStatement,
     has_word: bool,
     has_name: bool,
     is_ended: bool,
@@ -44,7 +44,7 @@ fn has_lower(text: &[u8]) -> bool {
     text.iter().any(|byte| byte.is_ascii_lowercase())
 }
 
-impl Statement {
+impl WideStatement {
     /// Notes what is wrong with it, unless something was before.
     pub(crate) fn blame(&mut self, fault: OtherReason) {
         if self.fault.is_none() {
@@ -53,9 +53,9 @@ impl Statement {
     }
 }
 
-impl Said {
-    fn piece(&mut self, piece: Piece) -> Result<(), AllocError> {
-        let Piece { place, token } = piece;
+impl BegunStatement {
+    fn piece(&mut self, piece: CardPiece) -> Result<(), AllocError> {
+        let CardPiece { place, token } = piece;
         if self.is_ended {
             self.statement.blame(OtherReason::TextBehind);
             return Ok(());
@@ -70,7 +70,7 @@ impl Said {
         Ok(())
     }
 
-    fn word(&mut self, place: Place, word: Vec<u8>) -> Result<(), AllocError> {
+    fn word(&mut self, place: CardPlace, word: Vec<u8>) -> Result<(), AllocError> {
         if !self.has_word {
             self.has_word = true;
             self.statement.word = word;
@@ -113,13 +113,13 @@ impl Said {
 /// The statement of these pieces, which begins at this place. What is open behind them tells why it has no period.
 pub(crate) fn statement_of(
     alloc: Global,
-    place: Place,
-    pieces: Vec<Piece>,
+    place: CardPlace,
+    pieces: Vec<CardPiece>,
     open: Open,
     has_lower: bool,
-) -> Result<Statement, AllocError> {
-    let mut said = Said {
-        statement: Statement {
+) -> Result<WideStatement, AllocError> {
+    let mut said = BegunStatement {
+        statement: WideStatement {
             place,
             word: Vec::new(alloc),
             name: Vec::new(alloc),
@@ -135,7 +135,7 @@ pub(crate) fn statement_of(
     for piece in pieces {
         said.piece(piece)?;
     }
-    let Said {
+    let BegunStatement {
         mut statement,
         has_word: _,
         has_name: _,

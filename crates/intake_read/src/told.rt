@@ -1,6 +1,6 @@
 //! What is told of operands and statements that are dropped, or could not be taken for what they say.
 use crate::items::{OddOperand, OddReason, OtherReason, WideOperand};
-use intake_cards::{Deed, Reason, Remarks, Subject};
+use intake_cards::{Deed, RemarkReason, Remarks, Subject};
 use std::alloc::{AllocError, Global};
 
 /// Tells of each of the operands, with its text, that it is dropped because it changes no decision. The error comes
@@ -13,7 +13,13 @@ pub fn tell_no_decision(
 ) -> Result<(), AllocError> {
     for operand in operands {
         let name = operand.name.as_slice();
-        remarks.tell_dropped(alloc, subject, name, Reason::NoDecision, operand.text())?;
+        remarks.tell_dropped(
+            alloc,
+            subject,
+            name,
+            RemarkReason::NoDecision,
+            operand.text(),
+        )?;
     }
     Ok(())
 }
@@ -28,35 +34,36 @@ pub fn tell_odd(
 ) -> Result<(), AllocError> {
     for one in odd {
         let name = one.operand.name.as_slice();
-        let reason = Reason::from(one.reason);
+        let reason = RemarkReason::from(one.reason);
         remarks.tell(alloc, subject, name, deed, reason, one.operand.text())?;
     }
     Ok(())
 }
 
-impl From<OddReason> for Reason {
-    fn from(reason: OddReason) -> Reason {
+impl From<OddReason> for RemarkReason {
+    fn from(reason: OddReason) -> RemarkReason {
         match reason {
-            OddReason::Unknown => Reason::UnknownOperand,
-            OddReason::Repeated => Reason::Twice,
-            OddReason::BadValue => Reason::BadValue,
+            OddReason::Unknown => RemarkReason::UnknownOperand,
+            OddReason::Repeated => RemarkReason::Twice,
+            OddReason::BadValue => RemarkReason::BadValue,
         }
     }
 }
 
-impl From<OtherReason> for Reason {
-    fn from(reason: OtherReason) -> Reason {
+impl From<OtherReason> for RemarkReason {
+    fn from(reason: OtherReason) -> RemarkReason {
         match reason {
-            OtherReason::NoService => Reason::NoService,
-            OtherReason::LoadModules => Reason::OutsideProfile,
-            OtherReason::UnknownWord => Reason::UnknownStatement,
-            OtherReason::NoPeriod => Reason::NoPeriod,
-            OtherReason::OpenParenthesis => Reason::OpenParenthesis,
-            OtherReason::StrayParenthesis => Reason::StrayParenthesis,
-            OtherReason::StrayCharacter => Reason::StrayCharacter,
-            OtherReason::TextBehind => Reason::TextBehind,
-            OtherReason::NoName => Reason::Missing,
-            OtherReason::Misplaced => Reason::OutOfPlace,
+            OtherReason::NoService => RemarkReason::NoService,
+            OtherReason::LoadModules => RemarkReason::OutsideProfile,
+            OtherReason::UnknownWord => RemarkReason::UnknownStatement,
+            OtherReason::NoPeriod => RemarkReason::NoPeriod,
+            OtherReason::OpenParenthesis => RemarkReason::OpenParenthesis,
+            OtherReason::StrayParenthesis => RemarkReason::StrayParenthesis,
+            OtherReason::StrayCharacter => RemarkReason::StrayCharacter,
+            OtherReason::TextBehind => RemarkReason::TextBehind,
+            OtherReason::LongLine => RemarkReason::LongLine,
+            OtherReason::NoName => RemarkReason::Missing,
+            OtherReason::Misplaced => RemarkReason::OutOfPlace,
         }
     }
 }

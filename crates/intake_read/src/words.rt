@@ -1,7 +1,7 @@
 //! The words of cards, one after the other: words, what stands in parentheses, periods. Comments separate them, and so
 //! do blanks, commas and the ends of cards; in parentheses a comment is a blank, but in those of a text (COMMENT, DESC)
 //! it belongs to the text.
-use intake_cards::{Card, Place};
+use intake_cards::{Card, CardPlace};
 use std::alloc::{AllocError, Global};
 use std::mem;
 
@@ -22,8 +22,8 @@ pub(crate) enum Token {
 
 /// A word, a list or another character, and the card where it begins.
 #[derive(Drop)]
-pub(crate) struct Piece {
-    pub place: Place,
+pub(crate) struct CardPiece {
+    pub place: CardPlace,
     pub token: Token,
 }
 
@@ -45,21 +45,21 @@ enum State {
 pub(crate) enum Open {
     Nothing,
     /// Parentheses, and where the first of them opens.
-    Parenthesis(Place),
+    Parenthesis(CardPlace),
     /// A comment, and where it opens.
-    Comment(Place),
+    Comment(CardPlace),
 }
 
 /// Takes cards, one after the other, and finds their pieces.
 #[derive(Drop)]
-pub(crate) struct Scanner {
+pub(crate) struct CardScanner {
     alloc: Global,
     state: State,
     /// How many parentheses are open.
     depth: usize,
     /// Where the list, or the comment, or both, opened.
-    list_place: Place,
-    comment_place: Place,
+    list_place: CardPlace,
+    comment_place: CardPlace,
     /// What there is so far of the word or the list.
     text: Vec<u8>,
     /// Blanks of the list that are text if more text follows in the card.
@@ -70,11 +70,11 @@ pub(crate) struct Scanner {
     is_text: bool,
     has_lower: bool,
     has_period: bool,
-    pieces: Vec<Piece>,
+    pieces: Vec<CardPiece>,
 }
 
 /// Whether words have the character.
-fn is_word_byte(byte: u8) -> bool {
+pub(crate) fn is_word_byte(byte: u8) -> bool {
     byte.is_ascii_alphanumeric() || matches!(byte, b'$' | b'#' | b'@' | b'+' | b'_' | b'-')
 }
 
@@ -83,11 +83,11 @@ fn has_text(word: &[u8]) -> bool {
     matches!(word, b"COMMENT" | b"DESC" | b"DESCRIPTION")
 }
 
-impl Scanner {
+impl CardScanner {
     /// A scanner that has taken no card.
-    pub(crate) fn new(alloc: Global) -> Scanner {
-        let nowhere = Place { file: 0, card: 0 };
-        Scanner {
+    pub(crate) fn new(alloc: Global) -> CardScanner {
+        let nowhere = CardPlace { file: 0, card: 0 };
+        CardScanner {
             alloc,
             state: State::Gap,
             depth: 0,
@@ -118,7 +118,7 @@ impl Scanner {
     }
 
     /// The pieces so far.
-    pub(crate) fn pieces(&self) -> &[Piece] {
+    pub(crate) fn pieces(&self) -> &[CardPiece] {
         self.pieces.as_slice()
     }
 
@@ -133,7 +133,7 @@ impl Scanner {
     }
 
     /// Takes the pieces so far out of it. Parentheses that are open are forgotten, and a comment stays open.
-    pub(crate) fn take_pieces(&mut self) -> Vec<Piece> {
+    pub(crate) fn take_pieces(&mut self) -> Vec<CardPiece> {
         self.depth = 0;
         self.has_lower = false;
         self.has_period = false;
@@ -145,7 +145,7 @@ impl Scanner {
     }
 
     /// Takes columns of a card, up to column 72. The error comes where memory runs out.
-    pub(crate) fn take(&mut self, place: Place, columns: &[u8]) -> Result<(), AllocError> {
+    pub(crate) fn take(&mut self, place: CardPlace, columns: &[u8]) -> Result<(), AllocError> {
         for byte in columns {
             self.byte(place, *byte)?;
         }
@@ -157,7 +157,7 @@ impl Scanner {
         self.take(card.place, card.columns())
     }
 
-    fn byte(&mut self, place: Place, byte: u8) -> Result<(), AllocError> {
+    fn byte(&mut self, place: CardPlace, byte: u8) -> Result<(), AllocError> {
         match self.state {
             State::Gap => self.in_gap(place, byte),
             State::Word => self.in_word(place, byte),
@@ -172,7 +172,7 @@ impl Scanner {
     }
 
     /// What the end of a card ends.
-    fn end_card(&mut self, place: Place) -> Result<(), AllocError> {
+    fn end_card(&mut self, place: CardPlace) -> Result<(), AllocError> {
         match self.state {
             State::Word => self.end_word(place)?,
             State::Slash => self.stray_slash(place)?,
@@ -184,12 +184,12 @@ impl Scanner {
         Ok(())
     }
 
-    fn push(&mut self, place: Place, token: Token) -> Result<(), AllocError> {
-        self.pieces.push(Piece { place, token })?;
+    fn push(&mut self, place: CardPlace, token: Token) -> Result<(), AllocError> {
+        self.pieces.push(CardPiece { place, token })?;
         Ok(())
     }
 
-    fn in_gap(&mut self, place: Place, byte: u8) -> Result<(), AllocError> {
+    fn in_gap(&mut self, place: CardPlace, byte: u8) -> Result<(), AllocError> {
         match byte {
             b' ' | b',' | b'\t' => {}
             b'/' => self.state = State::Slash,
@@ -217,7 +217,7 @@ impl Scanner {
         Ok(())
     }
 
-    fn in_word(&mut self, place: Place, byte: u8) -> Result<(), AllocError> {
+    fn in_word(&mut self, place: CardPlace, byte: u8) -> Result<(), AllocError> {
         if is_word_byte(byte) {
             return self.word_byte(byte);
         }
@@ -225,14 +225,14 @@ impl Scanner {
         self.in_gap(place, byte)
     }
 
-    fn end_word(&mut self, place: Place) -> Result<(), AllocError> {
+    fn end_word(&mut self, place: CardPlace) -> Result<(), AllocError> {
         self.state = State::Gap;
         let word = mem::replace(&mut self.text, Vec::new(self.alloc));
         self.push(place, Token::Word(word))
     }
 
     /// Begins a list. It is text if the word before it says so.
-    fn open_list(&mut self, place: Place) {
+    fn open_list(&mut self, place: CardPlace) {
         self.state = State::List;
         self.depth = 1;
         self.list_place = place;
@@ -247,7 +247,7 @@ impl Scanner {
         };
     }
 
-    fn in_list(&mut self, place: Place, byte: u8) -> Result<(), AllocError> {
+    fn in_list(&mut self, place: CardPlace, byte: u8) -> Result<(), AllocError> {
         match byte {
             b' ' | b'\t' => {
                 self.list_blank();
@@ -296,7 +296,7 @@ impl Scanner {
         self.push(self.list_place, Token::List(list))
     }
 
-    fn behind_slash(&mut self, place: Place, byte: u8) -> Result<(), AllocError> {
+    fn behind_slash(&mut self, place: CardPlace, byte: u8) -> Result<(), AllocError> {
         if byte == b'*' {
             self.state = State::Comment;
             self.comment_place = place;
@@ -311,7 +311,7 @@ impl Scanner {
     }
 
     /// Takes the slash before for itself.
-    fn stray_slash(&mut self, place: Place) -> Result<(), AllocError> {
+    fn stray_slash(&mut self, place: CardPlace) -> Result<(), AllocError> {
         if self.depth > 0 {
             self.state = State::List;
             self.list_byte(b'/')
@@ -342,7 +342,7 @@ impl Scanner {
     }
 
     /// Goes on behind a comment, which is a blank in a list.
-    fn end_comment(&mut self) {
+    pub(crate) fn end_comment(&mut self) {
         if self.depth > 0 {
             self.state = State::List;
             self.list_blank();

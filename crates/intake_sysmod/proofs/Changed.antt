@@ -17,7 +17,7 @@ use Rattle.terms.specs.Global.{change_cmp}
 use Rattle.terms.specs.Rising.{before, behind, with_item}
 use Rattle.terms.proofs.ElementOrder.{change_cmp_total, element_ties, same_key, type_from_number}
 use Rattle.intake_read.specs.declared.items.WideElement.{WideElement}
-use Rattle.intake_sysmod.specs.Elements.{Changes, IsChanged}
+use Rattle.intake_sysmod.specs.Elements.{Changes, IsElementChanged}
 
 abbrev pub put : List Change → Change → List Change
 put cs c = with_item change_cmp (λ x. x) cs c
@@ -68,11 +68,22 @@ kept_after cs c type name any =
 abbrev pub Keeps : List Change → List Change → Type 0
 Keeps old new = (type : ElemType) (name : Text) → Changes old type name → Changes new type name
 
+changed_still : (decide : Bool) (old new : List Change) (e : WideElement) → Keeps old new
+    → IsElementChanged decide old e
+    → IsElementChanged decide new e
+changed_still decide old new e kept h = record {
+  type = h.type;
+  name = h.name;
+  target_is = h.target_is;
+  changed = kept h.type h.name h.changed;
+  level_free = h.level_free;
+}
+
 pub changed_after : (decide : Bool) (old new : List Change) (es : List WideElement) → Keeps old new
-    → All (IsChanged decide old) es → All (IsChanged decide new) es
+    → All (IsElementChanged decide old) es → All (IsElementChanged decide new) es
 changed_after decide old new es kept all =
-    All-weaker (IsChanged decide old) (IsChanged decide new)
-    (λ e h. (h.0, h.1, kept h.0 e.name.items h.2)) es all
+    All-weaker (IsElementChanged decide old) (IsElementChanged decide new)
+    (λ e h. changed_still decide old new e kept h) es all
 
 -- a statement for the element that the SYSMOD has already
 pub there_already : (cs : List Change) (type : ElemType) (name : Text)

@@ -11,7 +11,7 @@ use Rattle.terms.proofs.Places.{at_place}
 use Rattle.std.proofs.lemmas.Option.{slice_get_within}
 use Rattle.terms.specs.Types.{Text, Ver}
 use Rattle.intake_read.specs.declared.items.WideVer.{WideVer}
-use Rattle.intake_sysmod.specs.declared.ver_operands.Operands.{Operands}
+use Rattle.intake_sysmod.specs.declared.ver_operands.VerOperands.{VerOperands}
 use Rattle.intake_read.specs.Stated.{AreSame}
 use Rattle.intake_sysmod.specs.NoLooser.{IsIf, IsVer, IsSaidBy, IsCarriedIn, AreVers, AreOperands}
 use Rattle.intake_sysmod.proofs.Quantified.{Any_append_right, Any_permuted, All_permuted, contains_at, stands_at}
@@ -80,11 +80,12 @@ vers_whole xs made i whole are = subst (λ l. AreVers l made) (take_all i xs who
 
 -- ---- the ++VER of its operands
 
-abbrev pub IsOf : Operands → Text → Ver → Type 0
+abbrev pub IsOf : VerOperands → Text → Ver → Type 0
 IsOf o s w = (w.srel ≡ s) × (w.fmid ≡ o.fmid) × (w.pre ≡ o.lists.pre) × (w.req ≡ o.lists.req) × (w.sup ≡ o.lists.sup)
     × (w.npre ≡ o.lists.npre) × (w.del ≡ o.lists.delete) × (w.ifs ≡ o.ifs.items)
 
-pub ver_made : (v : WideVer) (o : Operands) (s t : Text) (w : Ver) → AreOperands v o → t ≡ s → IsOf o t w → IsVer v s w
+pub ver_made : (v : WideVer) (o : VerOperands) (s t : Text) (w : Ver) → AreOperands v o → t ≡ s → IsOf o t w
+    → IsVer v s w
 ver_made v o s t w are e is = record {
   srel_is = is.0 ∙ e;
   fmid_is = are.fmid_is ∙ sym is.1;

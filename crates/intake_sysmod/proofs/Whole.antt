@@ -4,13 +4,13 @@ use Rattle.std.specs.List.{All}
 use Rattle.terms.specs.Types.{Text, Ver, Sysmod}
 use Rattle.terms.specs.Ptfin.{begun}
 use Rattle.intake_read.specs.declared.items.WideSysmod.{WideSysmod}
-use Rattle.intake_sysmod.specs.Elements.{IsChanged}
+use Rattle.intake_sysmod.specs.Elements.{IsElementChanged}
 use Rattle.intake_sysmod.specs.NoLooser.{AreVers, IsNoLooser}
 
 pub whole : (decide : Bool) (stated : WideSysmod) (id : Text) (new put after : Sysmod) (vers : List Ver)
     → new ≡ (begun stated.kind id).sysmod → put ≡ record new { changes = put.changes }
     → after ≡ record put { vers = vers } → id ≡ stated.id.items → AreVers stated.vers.items vers
-    → All (IsChanged decide put.changes) stated.elements.items
+    → All (IsElementChanged decide put.changes) stated.elements.items
     → IsNoLooser decide stated after × (after.holds ≡ [])
 whole decide stated id new put after vers new_is put_is after_is id_is are changed =
     let p = put_is ∙ ap (λ (s : Sysmod). record s { changes = put.changes }) new_is in

@@ -8,9 +8,9 @@ use Rattle.intake_read.specs.declared.items.WideIf.{WideIf}
 use Rattle.intake_read.specs.declared.items.WideVer.{WideVer}
 use Rattle.intake_read.specs.declared.items.WideSysmod.{WideSysmod}
 use Rattle.intake_sysmod.specs.declared.ver_operands.Lists.{Lists}
-use Rattle.intake_sysmod.specs.declared.ver_operands.Operands.{Operands}
+use Rattle.intake_sysmod.specs.declared.ver_operands.VerOperands.{VerOperands}
 use Rattle.intake_read.specs.Stated.{text_in, AreSame}
-use Rattle.intake_sysmod.specs.Elements.{IsChanged}
+use Rattle.intake_sysmod.specs.Elements.{IsElementChanged}
 
 -- the ++IF of the file: its function and its requisites
 pub record IsIf (stated : WideIf) (carried : IfReq) : Type 0 where
@@ -37,7 +37,7 @@ pub record AreLists (stated : WideVer) (lists : Lists) : Type 0 where
   pub delete_is : AreSame stated.delete.items lists.delete
 
 -- all that it says for whichever SREL
-pub record AreOperands (stated : WideVer) (operands : Operands) : Type 0 where
+pub record AreOperands (stated : WideVer) (operands : VerOperands) : Type 0 where
   pub fmid_is : text_in stated.fmid ≡ operands.fmid
   pub lists_are : AreLists stated operands.lists
   pub ifs_are : Beside (λ _. IsIf) stated.ifs.items operands.ifs.items
@@ -61,4 +61,4 @@ pub record IsNoLooser (decide : Bool) (stated : WideSysmod) (carried : Sysmod) :
   pub id_is : carried.id ≡ stated.id.items
   pub kind_is : carried.kind ≡ stated.kind
   pub vers_are : AreVers stated.vers.items carried.vers
-  pub changed : All (IsChanged decide carried.changes) stated.elements.items
+  pub changed : All (IsElementChanged decide carried.changes) stated.elements.items

@@ -8,7 +8,7 @@ use crate::options::Options;
 use crate::others::tell_others;
 use crate::vers::vers_of;
 use fields::spelling::kind_text;
-use intake_cards::{Deed, Reason, Remarks, Subject};
+use intake_cards::{Deed, RemarkReason, Remarks, Subject};
 use intake_read::{WideSysmod, tell_no_decision, tell_odd};
 use std::alloc::{AllocError, Global};
 use sysmods_values::{Sysmod, Ver};
@@ -42,7 +42,7 @@ fn tell_rest(
     )?;
     let others = tell_others(alloc, options, remarks, stated.others.as_slice())?;
     if stated.elements.len() > MOST_ELEMENTS {
-        remarks.leave_out(alloc, &subject, b"", Reason::TooMany, b"")?;
+        remarks.leave_out(alloc, &subject, b"", RemarkReason::TooMany, b"")?;
         return Ok(false);
     }
     Ok(others && stated.odd.is_empty())
@@ -86,6 +86,10 @@ fn sysmod_of(
     if !all || !good {
         return Ok(None);
     }
+    if sysmod.changes.len() > MOST_ELEMENTS {
+        remarks.leave_out(alloc, &subject, b"", RemarkReason::TooMany, b"")?;
+        return Ok(None);
+    }
     Ok(Some(with_vers(sysmod, vers)))
 }
 
@@ -96,7 +100,7 @@ fn tell_left_out(
     stated: &WideSysmod,
 ) -> Result<(), AllocError> {
     let subject = subject_of(stated);
-    remarks.leave_out(alloc, &subject, b"", Reason::WholeSysmod, b"")?;
+    remarks.leave_out(alloc, &subject, b"", RemarkReason::WholeSysmod, b"")?;
     let forbids = !stated.elements.is_empty()
         || stated
             .vers
@@ -108,8 +112,8 @@ fn tell_left_out(
     Ok(())
 }
 
-/// The SYSMOD without its holds, or nothing where it is left out. Why, and what differs, is told. The members of the
-/// options stand in order (`Options::sort`). The error comes where memory runs out.
+/// The SYSMOD without its holds, or nothing where it is left out. Why, and what differs, is told. The options must be in
+/// order (`Options::sort`). The error comes where memory runs out.
 pub fn carried_sysmod(
     alloc: Global,
     options: &Options,
@@ -119,13 +123,15 @@ pub fn carried_sysmod(
     ensures { IfOk result (λ found. IfSome found (λ sysmod.
         IsNoLooser options.now.decide stated.now sysmod × (sysmod.holds ≡ []))) }
 {
-    let stand_ins = remarks.stand_ins;
-    let Some(sysmod) = sysmod_of(alloc, options, remarks, stated)? else {
+    let mut told = Remarks::new(alloc);
+    let Some(sysmod) = sysmod_of(alloc, options, &mut told, stated)? else {
+        remarks.append_causes(alloc, told)?;
         tell_left_out(alloc, remarks, stated)?;
         return Ok(None);
     };
-    if remarks.stand_ins != stand_ins {
-        remarks.with_stand_ins.push(sysmod.id)?;
+    if told.stand_ins > 0 {
+        told.with_stand_ins.push(sysmod.id)?;
     }
+    remarks.append(told)?;
     Ok(Some(sysmod))
 }

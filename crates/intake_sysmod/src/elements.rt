@@ -2,14 +2,16 @@
 ghost use Rattle.std.specs.Prelude.{◌≡◌, ◌⊎◌, IfOk, IfSome};
 ghost use Rattle.terms.specs.declared.kinds.ElemType.TheVariants.{Mac, Src};
 ghost use Rattle.terms.specs.Texts.{IsReplacement, IsUpdate};
-ghost use Rattle.intake_sysmod.specs.Elements.{IsProfileType};
 
 use crate::options::Options;
-use crate::texts::{MOST_RECORDS, are_printable, begins_statement, needs_numbers, text_of};
+use crate::texts::{
+    MOST_RECORDS, are_printable, begins_statement, first_misnumbered, needs_numbers, text_of,
+    without_blank_end,
+};
 use crate::updates::update_lines;
-use crate::words::{is_update, profile_type};
+use crate::words::{is_update, is_update_word, profile_type};
 use fields::Name;
-use intake_cards::{Deed, Reason, Remarks, Subject};
+use intake_cards::{Deed, RemarkReason, Remarks, Subject};
 use intake_read::{Card, WideElement, tell_odd};
 use std::alloc::{AllocError, Global};
 use sysmods_values::{Action, ElemChange};
@@ -18,7 +20,7 @@ use text80::{Line, TextError, Update};
 
 /// Operands that change no decision.
 const DROPPED: &[&[u8]] = &[
-    b"SSI", b"ALIAS", b"MALIAS", b"DISTMOD", b"DISTSRC", b"ASSEM", b"PREFIX", b"VERSION",
+    b"SSI", b"ALIAS", b"MALIAS", b"DISTSRC", b"PREFIX", b"VERSION",
 ];
 
 fn is_dropped(name: &[u8]) -> bool {
@@ -29,11 +31,15 @@ fn is_dropped(name: &[u8]) -> bool {
 /// are none of these.
 fn tell_operands(
     alloc: Global,
+    options: &Options,
     remarks: &mut Remarks,
     subject: &Subject<'_>,
     element: &WideElement,
 ) -> Result<bool, AllocError> {
     let mut good = element.odd.is_empty();
+    if !options.decide {
+        tell_assembled(alloc, remarks, subject, element)?;
+    }
     tell_odd(
         alloc,
         remarks,
@@ -45,18 +51,60 @@ fn tell_operands(
         let name = operand.name.as_slice();
         let text = operand.text();
         if is_dropped(name) {
-            remarks.tell_dropped(alloc, subject, name, Reason::NoDecision, text)?;
+            remarks.tell_dropped(alloc, subject, name, RemarkReason::NoDecision, text)?;
         } else {
-            remarks.leave_out(alloc, subject, name, Reason::UnknownOperand, text)?;
+            remarks.leave_out(alloc, subject, name, RemarkReason::UnknownOperand, text)?;
             good = false;
         }
     }
     for library in element.libraries.iter() {
         let name = library.name.as_slice();
-        remarks.leave_out(alloc, subject, name, Reason::TextElsewhere, library.text())?;
+        remarks.leave_out(
+            alloc,
+            subject,
+            name,
+            RemarkReason::TextElsewhere,
+            library.text(),
+        )?;
         good = false;
     }
     Ok(good)
+}
+
+/// Tells that what is assembled of the element is not carried.
+fn tell_assembled(
+    alloc: Global,
+    remarks: &mut Remarks,
+    subject: &Subject<'_>,
+    element: &WideElement,
+) -> Result<(), AllocError> {
+    if let Some(distmod) = &element.distmod {
+        let text = distmod.as_slice();
+        remarks.tell_dropped(alloc, subject, b"DISTMOD", RemarkReason::NoDecision, text)?;
+    }
+    if !element.assem.is_empty() {
+        let text = listed(alloc, element.assem.as_slice())?;
+        remarks.tell_dropped(
+            alloc,
+            subject,
+            b"ASSEM",
+            RemarkReason::NoDecision,
+            text.as_slice(),
+        )?;
+    }
+    Ok(())
+}
+
+/// The members with commas between.
+fn listed(alloc: Global, members: &[Vec<u8>]) -> Result<Vec<u8>, AllocError> {
+    let mut text = Vec::new(alloc);
+    for member in members {
+        if !text.is_empty() {
+            text.push(b',')?;
+        }
+        text.extend_from_slice(member.as_slice())?;
+    }
+    Ok(text)
 }
 
 /// The name of a library that must be stated. Where there is none to answer it is told.
@@ -69,7 +117,7 @@ fn library_of(
 ) -> Result<Option<Name>, AllocError> {
     let name = Name::read(stated);
     if name.is_none() {
-        remarks.leave_out(alloc, subject, operand, Reason::BadValue, stated)?;
+        remarks.leave_out(alloc, subject, operand, RemarkReason::BadValue, stated)?;
     }
     Ok(name)
 }
@@ -83,7 +131,7 @@ fn libraries_of(
     element: &WideElement,
 ) -> Result<Option<(Name, Name)>, AllocError> {
     let Some(distlib) = &element.distlib else {
-        remarks.leave_out(alloc, subject, b"DISTLIB", Reason::Missing, b"")?;
+        remarks.leave_out(alloc, subject, b"DISTLIB", RemarkReason::Missing, b"")?;
         return Ok(None);
     };
     let Some(distlib) = library_of(alloc, remarks, subject, b"DISTLIB", distlib.as_slice())? else {
@@ -98,7 +146,7 @@ fn libraries_of(
             alloc,
             subject,
             b"SYSLIB",
-            Reason::NoSyslib,
+            RemarkReason::NoSyslib,
             distlib.as_bytes(),
         )?;
         return Ok(None);
@@ -107,7 +155,7 @@ fn libraries_of(
         alloc,
         subject,
         b"SYSLIB",
-        Reason::GivenSyslib,
+        RemarkReason::GivenSyslib,
         syslib.as_bytes(),
     )?;
     Ok(Some((distlib, syslib)))
@@ -124,12 +172,12 @@ fn cards_of<'a>(
     let Some(relfile) = &element.relfile else {
         return Ok(Some(element.inline.as_slice()));
     };
-    let Some(member) = options.member(relfile.as_slice(), element.name.as_slice()) else {
+    let Some(member) = options.member(element.place) else {
         remarks.leave_out(
             alloc,
             subject,
             b"RELFILE",
-            Reason::TextElsewhere,
+            RemarkReason::TextElsewhere,
             relfile.as_slice(),
         )?;
         return Ok(None);
@@ -138,25 +186,36 @@ fn cards_of<'a>(
         alloc,
         subject,
         b"RELFILE",
-        Reason::RelfileText,
+        RemarkReason::RelfileText,
         relfile.as_slice(),
     )?;
     Ok(Some(member.cards.as_slice()))
 }
 
+/// The number of the card in its file.
+fn where_at(alloc: Global, card: Option<&Card>) -> Result<String, AllocError> {
+    match card {
+        Some(card) => {
+            let number = card.place.card;
+            format!(in alloc; "at {number}")
+        }
+        None => Ok(String::new(alloc)),
+    }
+}
+
 /// Why the cards are no text at all, if they are none.
-fn fault_of(cards: &[Card]) -> Option<Reason> {
+fn fault_of(cards: &[Card]) -> Option<RemarkReason> {
     if cards.is_empty() {
-        return Some(Reason::TextElsewhere);
+        return Some(RemarkReason::NoText);
     }
     if cards.len() > MOST_RECORDS {
-        return Some(Reason::TooMany);
+        return Some(RemarkReason::TooMany);
     }
     if !are_printable(cards) {
-        return Some(Reason::NoAscii);
+        return Some(RemarkReason::NoAscii);
     }
     if begins_statement(cards) {
-        return Some(Reason::BadText);
+        return Some(RemarkReason::BadText);
     }
     None
 }
@@ -172,15 +231,29 @@ fn lines_for(
     ensures { IfOk result (λ found. IfSome found (λ lines. IsReplacement elem_type lines.items)) }
 {
     if let Some(reason) = fault_of(cards) {
-        remarks.leave_out(alloc, subject, b"", reason, b"")?;
+        let text = where_at(alloc, cards.iter().find(|card| !card.is_printable()))?;
+        remarks.leave_out(alloc, subject, b"", reason, text.as_bytes())?;
         return Ok(None);
     }
+    let whole = cards;
+    let cards = without_blank_end(elem_type, whole);
+    if cards.len() < whole.len() {
+        let text = where_at(alloc, whole.last())?;
+        remarks.tell_dropped(alloc, subject, b"", RemarkReason::BlankEnd, text.as_bytes())?;
+    }
     let Some(lines) = text_of(alloc, elem_type, cards)? else {
-        remarks.leave_out(alloc, subject, b"", Reason::BadText, b"")?;
+        let text = where_at(alloc, first_misnumbered(cards))?;
+        remarks.leave_out(
+            alloc,
+            subject,
+            b"",
+            RemarkReason::Misnumbered,
+            text.as_bytes(),
+        )?;
         return Ok(None);
     };
     if needs_numbers(elem_type, cards) {
-        remarks.tell_carried(alloc, subject, b"", Reason::Numbered, b"")?;
+        remarks.tell_carried(alloc, subject, b"", RemarkReason::Numbered, b"")?;
     }
     Ok(Some(lines))
 }
@@ -218,8 +291,18 @@ fn replacement(
     }))
 }
 
-/// The update of a macro or a source.
-pub(crate) fn update_change(elem_type: ElemType, name: Name, update: Update) -> ElemChange
+/// The update of a macro or a source. An element of another type has none.
+pub(crate) fn update_change(elem_type: ElemType, name: Name, update: Update) -> Option<ElemChange>
+    requires { IsUpdate name update }
+    ensures { IfSome result (λ c. (c.elem_type ≡ elem_type) × (c.name ≡ name)) }
+{
+    match elem_type {
+        ElemType::Mac | ElemType::Src => Some(change_by(elem_type, name, update)),
+        ElemType::Clist | ElemType::Data | ElemType::Exec | ElemType::Parm | ElemType::Proc => None,
+    }
+}
+
+fn change_by(elem_type: ElemType, name: Name, update: Update) -> ElemChange
     requires kind { (elem_type ≡ Mac) ⊎ (elem_type ≡ Src) }
     requires update { IsUpdate name update }
     ensures { (result.elem_type ≡ elem_type) × (result.name ≡ name) }
@@ -240,7 +323,6 @@ fn update(
     elem_type: ElemType,
     name: Name,
 ) -> Result<Option<ElemChange>, AllocError>
-    requires { (elem_type ≡ Mac) ⊎ (elem_type ≡ Src) }
     ensures { IfOk result (λ found. IfSome found (λ c. (c.elem_type ≡ elem_type) × (c.name ≡ name))) }
 {
     tell_libraries(alloc, remarks, subject, element)?;
@@ -248,14 +330,14 @@ fn update(
         return Ok(None);
     };
     if lines.len() > MOST_RECORDS {
-        remarks.leave_out(alloc, subject, b"", Reason::TooMany, b"")?;
+        remarks.leave_out(alloc, subject, b"", RemarkReason::TooMany, b"")?;
         return Ok(None);
     }
     match Update::read(alloc, lines, name.as_bytes()) {
-        Ok(update) => Ok(Some(update_change(elem_type, name, update))),
+        Ok(update) => Ok(update_change(elem_type, name, update)),
         Err(TextError::Memory) => Err(AllocError),
         Err(TextError::Fault(_)) => {
-            remarks.leave_out(alloc, subject, b"", Reason::BadText, b"")?;
+            remarks.leave_out(alloc, subject, b"", RemarkReason::BadText, b"")?;
             Ok(None)
         }
     }
@@ -270,11 +352,11 @@ fn tell_libraries(
 ) -> Result<(), AllocError> {
     if let Some(distlib) = &element.distlib {
         let text = distlib.as_slice();
-        remarks.tell_dropped(alloc, subject, b"DISTLIB", Reason::NoDecision, text)?;
+        remarks.tell_dropped(alloc, subject, b"DISTLIB", RemarkReason::NoDecision, text)?;
     }
     if let Some(syslib) = &element.syslib {
         let text = syslib.as_slice();
-        remarks.tell_dropped(alloc, subject, b"SYSLIB", Reason::NoDecision, text)?;
+        remarks.tell_dropped(alloc, subject, b"SYSLIB", RemarkReason::NoDecision, text)?;
     }
     Ok(())
 }
@@ -287,25 +369,21 @@ pub(crate) fn profile_change(
     subject: &Subject<'_>,
     kind: Kind,
     element: &WideElement,
+    elem_type: ElemType,
     name: Name,
 ) -> Result<Option<ElemChange>, AllocError>
-    ensures { IfOk result (λ found. IfSome found (λ c. IsProfileType element.now.word.items c.elem_type
-        × (c.name ≡ name))) }
+    ensures { IfOk result (λ found. IfSome found (λ c. (c.elem_type ≡ elem_type) × (c.name ≡ name))) }
 {
     let word = element.word.as_slice();
-    let Some(elem_type) = profile_type(word) else {
-        remarks.leave_out(alloc, subject, b"", Reason::OutsideProfile, b"")?;
-        return Ok(None);
-    };
-    if !tell_operands(alloc, remarks, subject, element)? {
+    if !tell_operands(alloc, options, remarks, subject, element)? {
         return Ok(None);
     }
-    if !is_update(word) {
-        return replacement(alloc, options, remarks, subject, element, elem_type, name);
+    if is_update(kind, word) {
+        return update(alloc, remarks, subject, element, elem_type, name);
     }
-    if kind == Kind::Function {
-        remarks.leave_out(alloc, subject, b"", Reason::UpdateInFunction, b"")?;
+    if is_update_word(word) {
+        remarks.leave_out(alloc, subject, b"", RemarkReason::UpdateInFunction, b"")?;
         return Ok(None);
     }
-    update(alloc, remarks, subject, element, elem_type, name)
+    replacement(alloc, options, remarks, subject, element, elem_type, name)
 }

@@ -3,7 +3,7 @@ ghost use Rattle.std.specs.Prelude.{◌≡◌, IfOk, IfSome};
 ghost use Rattle.intake_read.specs.Stated.{texts, AreSame};
 
 use fields::{Id, IdList};
-use intake_cards::{Reason, Remarks, Subject};
+use intake_cards::{RemarkReason, Remarks, Subject};
 use std::alloc::{AllocError, Global};
 
 /// The most ids that a list may have.
@@ -55,15 +55,15 @@ pub(crate) fn ids_of(
     ensures { IfOk result (λ found. IfSome found (λ ids. AreSame stated.now ids)) }
 {
     let Some(ids) = read_list(alloc, stated)? else {
-        remarks.leave_out(alloc, subject, operand, Reason::BadId, bad_id(stated))?;
+        remarks.leave_out(alloc, subject, operand, RemarkReason::BadId, bad_id(stated))?;
         return Ok(None);
     };
     if ids.len() > MOST_IDS {
-        remarks.leave_out(alloc, subject, operand, Reason::LongList, b"")?;
+        remarks.leave_out(alloc, subject, operand, RemarkReason::LongList, b"")?;
         return Ok(None);
     }
     if ids.len() != stated.len() {
-        remarks.tell_carried(alloc, subject, operand, Reason::Double, b"")?;
+        remarks.tell_carried(alloc, subject, operand, RemarkReason::Double, b"")?;
     }
     Ok(Some(ids))
 }
@@ -80,7 +80,7 @@ pub(crate) fn id_of(
 {
     let id = Id::read(stated);
     if id.is_none() {
-        remarks.leave_out(alloc, subject, operand, Reason::BadId, stated)?;
+        remarks.leave_out(alloc, subject, operand, RemarkReason::BadId, stated)?;
     }
     Ok(id)
 }

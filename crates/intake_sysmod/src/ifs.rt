@@ -4,7 +4,7 @@ ghost use Rattle.terms.specs.Beside.{Beside};
 ghost use Rattle.intake_sysmod.specs.NoLooser.{IsIf};
 
 use crate::ids::{id_of, ids_of};
-use intake_cards::{Deed, Reason, Remarks, Subject};
+use intake_cards::{Deed, RemarkReason, Remarks, Subject};
 use intake_read::{WideIf, tell_odd};
 use std::alloc::{AllocError, Global};
 use sysmods_values::IfReq;
@@ -37,7 +37,7 @@ fn if_of(
         return Ok(None);
     }
     let Some(fmid) = &stated.fmid else {
-        remarks.leave_out(alloc, &subject, b"FMID", Reason::Missing, b"")?;
+        remarks.leave_out(alloc, &subject, b"FMID", RemarkReason::Missing, b"")?;
         return Ok(None);
     };
     let Some(function) = id_of(alloc, remarks, &subject, b"FMID", fmid.as_slice())? else {
@@ -47,11 +47,11 @@ fn if_of(
         return Ok(None);
     };
     if req.is_empty() {
-        remarks.leave_out(alloc, &subject, b"REQ", Reason::Missing, b"")?;
+        remarks.leave_out(alloc, &subject, b"REQ", RemarkReason::Missing, b"")?;
         return Ok(None);
     }
     if req.iter().any(|id| id.as_bytes() == own) {
-        remarks.leave_out(alloc, &subject, b"REQ", Reason::NamesItself, own)?;
+        remarks.leave_out(alloc, &subject, b"REQ", RemarkReason::NamesItself, own)?;
         return Ok(None);
     }
     Ok(Some(IfReq { function, req }))
@@ -75,7 +75,7 @@ pub(crate) fn ifs_of(
         ifs.push(condition)?;
     }
     if ifs.len() > MOST_IFS {
-        remarks.leave_out(alloc, subject, b"IF", Reason::TooMany, b"")?;
+        remarks.leave_out(alloc, subject, b"IF", RemarkReason::TooMany, b"")?;
         return Ok(None);
     }
     Ok(Some(ifs))

@@ -9,8 +9,11 @@ mod changes;
 mod elements;
 mod ids;
 mod ifs;
+mod levels;
+mod modules;
 mod options;
 mod others;
+mod stand_in_names;
 mod stand_ins;
 mod texts;
 mod updates;
@@ -19,5 +22,5 @@ mod vers;
 mod words;
 
 pub use carried::carried_sysmod;
-pub use options::{Member, Options, Syslib};
+pub use options::{Options, RelfileMember, Syslib};
 pub use others::tell_others;

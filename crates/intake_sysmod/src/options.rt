@@ -2,8 +2,7 @@
 ghost use Rattle.std.specs.Prelude.{◌≡◌};
 
 use fields::Name;
-use intake_read::Card;
-use std::cmp::Ordering;
+use intake_read::{Card, CardPlace};
 
 /// The SYSLIB of elements that state this DISTLIB alone.
 #[derive(Clone, Copy, Debug)]
@@ -14,11 +13,9 @@ pub struct Syslib {
 
 /// The text of an element that is in a file of its own.
 #[derive(Drop)]
-pub struct Member {
-    /// What RELFILE says.
-    pub relfile: Vec<u8>,
-    /// The element's name.
-    pub name: Vec<u8>,
+pub struct RelfileMember {
+    /// Where the element's statement begins.
+    pub element: CardPlace,
     pub cards: Vec<Card>,
 }
 
@@ -29,8 +26,8 @@ pub struct Options {
     pub decide: bool,
     /// The first one of a DISTLIB counts.
     pub syslibs: Vec<Syslib>,
-    /// Of one RELFILE and name there is one.
-    pub members: Vec<Member>,
+    /// Of one element there is one.
+    pub members: Vec<RelfileMember>,
 }
 
 impl Options {
@@ -44,11 +41,11 @@ impl Options {
         None
     }
 
-    /// The text of an element.
-    pub(crate) fn member(&self, relfile: &[u8], name: &[u8]) -> Option<&Member> {
+    /// The text of the element whose statement begins there.
+    pub(crate) fn member(&self, element: CardPlace) -> Option<&RelfileMember> {
         let place = self
             .members
-            .binary_search_by(|member| member.order(relfile, name));
+            .binary_search_by(|member| member.element.cmp(&element));
         match place {
             Ok(place) => self.members.get(place),
             Err(_) => None,
@@ -59,18 +56,7 @@ impl Options {
     pub fn sort(&mut self)
         ensures { self.new.decide ≡ self.old.decide }
     {
-        self.members.sort_unstable_by(|one, other| one.order(
-            other.relfile.as_slice(),
-            other.name.as_slice(),
-        ));
-    }
-}
-
-impl Member {
-    fn order(&self, relfile: &[u8], name: &[u8]) -> Ordering {
-        self.relfile
-            .as_slice()
-            .cmp(relfile)
-            .then(self.name.as_slice().cmp(name))
+        self.members
+            .sort_unstable_by(|one, other| one.element.cmp(&other.element));
     }
 }

@@ -1,7 +1,7 @@
 //! Statements that are carried nowhere.
 
 use crate::options::Options;
-use intake_cards::{Reason, Remarks, Subject};
+use intake_cards::{RemarkReason, Remarks, Subject};
 use intake_read::{OtherReason, WideOther};
 use std::alloc::{AllocError, Global};
 
@@ -21,11 +21,11 @@ pub fn tell_others(
             id: other.name.as_slice(),
         };
         if other.reason == OtherReason::NoService {
-            remarks.tell_dropped(alloc, &subject, b"", Reason::NoService, b"")?;
+            remarks.tell_dropped(alloc, &subject, b"", RemarkReason::NoService, b"")?;
         } else if other.reason == OtherReason::LoadModules && options.decide {
-            remarks.tell_dropped(alloc, &subject, b"", Reason::LoadModules, b"")?;
+            remarks.tell_dropped(alloc, &subject, b"", RemarkReason::LoadModules, b"")?;
         } else {
-            remarks.leave_out(alloc, &subject, b"", Reason::from(other.reason), b"")?;
+            remarks.leave_out(alloc, &subject, b"", RemarkReason::from(other.reason), b"")?;
             good = false;
         }
     }

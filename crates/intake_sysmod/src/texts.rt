@@ -43,6 +43,42 @@ fn has_no_number(card: &Card) -> bool {
     number.iter().all(|b| *b == b' ')
 }
 
+/// Whether all columns are blank.
+fn is_empty_card(card: &Card) -> bool {
+    card.text.iter().all(|b| *b == b' ')
+}
+
+/// The cards without the blank ones at the end of a text that has numbers.
+pub(crate) fn without_blank_end(elem_type: ElemType, cards: &[Card]) -> &[Card] {
+    if !matches!(elem_type, ElemType::Mac | ElemType::Src) || cards.iter().all(has_no_number) {
+        return cards;
+    }
+    let mut solid = 0;
+    for (place, card) in cards.iter().enumerate() {
+        if !is_empty_card(card) {
+            solid = place + 1;
+        }
+    }
+    match cards.split_at_checked(solid) {
+        Some((front, _)) => front,
+        None => cards,
+    }
+}
+
+/// The first card of a text with numbers that has none of eight digits, or none that is higher than the one before.
+pub(crate) fn first_misnumbered(cards: &[Card]) -> Option<&Card> {
+    let mut before = [b' '; 8];
+    for card in cards {
+        let mut number = [b' '; 8];
+        number.copy_from_slice(&card.text[FRONT..]);
+        if !number.iter().all(|b| b.is_ascii_digit()) || number <= before {
+            return Some(card);
+        }
+        before = number;
+    }
+    None
+}
+
 /// The record with this number in columns 73 to 80.
 fn with_number(line: &Line, number: u32) -> Line {
     let mut bytes = [b' '; 80];

@@ -1,7 +1,7 @@
 //! `./` records of updates.
 
 use crate::texts::are_printable;
-use intake_cards::{Reason, Remarks, Subject};
+use intake_cards::{RemarkReason, Remarks, Subject};
 use intake_read::Card;
 use std::alloc::{AllocError, Global};
 use text80::Line;
@@ -134,7 +134,7 @@ fn tell_list(
         return Ok(());
     }
     let text = card.text.as_slice().trim_ascii_end();
-    remarks.tell_dropped(alloc, subject, b"LIST", Reason::NoDecision, text)
+    remarks.tell_dropped(alloc, subject, b"LIST", RemarkReason::NoDecision, text)
 }
 
 /// The DELETE record of these numbers. Where the card has it otherwise this is told.
@@ -157,7 +157,13 @@ fn delete_record(
     )?;
     if !is_alike(card, &line) {
         let text = card.text.as_slice().trim_ascii_end();
-        remarks.tell_carried(alloc, subject, b"./ DELETE", Reason::EightDigits, text)?;
+        remarks.tell_carried(
+            alloc,
+            subject,
+            b"./ DELETE",
+            RemarkReason::EightDigits,
+            text,
+        )?;
     }
     Ok(line)
 }
@@ -179,11 +185,11 @@ fn put_control(
             lines.push(delete_record(alloc, remarks, subject, card, low, high)?)?;
         }
         Control::EndOfUpdate => {
-            remarks.tell_dropped(alloc, subject, b"./ ENDUP", Reason::EndOfUpdate, b"")?;
+            remarks.tell_dropped(alloc, subject, b"./ ENDUP", RemarkReason::EndOfUpdate, b"")?;
         }
         Control::Other => {
             let text = card.text.as_slice().trim_ascii_end();
-            remarks.leave_out(alloc, subject, b"./", Reason::BadText, text)?;
+            remarks.leave_out(alloc, subject, b"./", RemarkReason::BadText, text)?;
             return Ok(false);
         }
     }
@@ -198,7 +204,7 @@ pub(crate) fn update_lines(
     cards: &[Card],
 ) -> Result<Option<Vec<Line>>, AllocError> {
     if !are_printable(cards) {
-        remarks.leave_out(alloc, subject, b"", Reason::NoAscii, b"")?;
+        remarks.leave_out(alloc, subject, b"", RemarkReason::NoAscii, b"")?;
         return Ok(None);
     }
     let mut lines = Vec::with_capacity(alloc, cards.len())?;

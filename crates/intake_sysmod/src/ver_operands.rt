@@ -6,7 +6,7 @@ ghost use Rattle.intake_sysmod.specs.NoLooser.{AreLists, AreOperands};
 use crate::ids::{id_of, ids_of};
 use crate::ifs::ifs_of;
 use fields::{Id, IdList};
-use intake_cards::{Deed, Reason, Remarks, Subject};
+use intake_cards::{Deed, RemarkReason, Remarks, Subject};
 use intake_read::{WideSysmod, WideVer, tell_odd};
 use std::alloc::{AllocError, Global};
 use sysmods_values::IfReq;
@@ -24,7 +24,7 @@ pub(crate) struct Lists {
 
 /// What a `++VER` says for each of its SRELs.
 #[derive(Drop)]
-pub(crate) struct Operands {
+pub(crate) struct VerOperands {
     pub fmid: Option<Id>,
     pub lists: Lists,
     pub ifs: Vec<IfReq>,
@@ -87,7 +87,7 @@ pub(crate) fn operands_of(
     remarks: &mut Remarks,
     sysmod: &WideSysmod,
     stated: &WideVer,
-) -> Result<Option<Operands>, AllocError>
+) -> Result<Option<VerOperands>, AllocError>
     ensures { IfOk result (λ found. IfSome found (AreOperands stated.now)) }
 {
     let own = sysmod.id.as_slice();
@@ -102,7 +102,7 @@ pub(crate) fn operands_of(
         return Ok(None);
     }
     if !stated.version.is_empty() {
-        remarks.tell_dropped(alloc, &subject, b"VERSION", Reason::Stricter, b"")?;
+        remarks.tell_dropped(alloc, &subject, b"VERSION", RemarkReason::Stricter, b"")?;
     }
     let Some(fmid) = fmid_of(alloc, remarks, &subject, &stated.fmid)? else {
         return Ok(None);
@@ -116,7 +116,7 @@ pub(crate) fn operands_of(
     let Some(ifs) = ifs_of(alloc, remarks, own, &subject, stated.ifs.as_slice())? else {
         return Ok(None);
     };
-    Ok(Some(Operands { fmid, lists, ifs }))
+    Ok(Some(VerOperands { fmid, lists, ifs }))
 }
 
 /// Whether a SYSMOD of the kind may have these operands. What it may not have is told.
@@ -130,22 +130,22 @@ fn are_allowed(
 ) -> Result<bool, AllocError> {
     let own = subject.id;
     if let Some(operand) = names_itself(own, fmid, lists) {
-        remarks.leave_out(alloc, subject, operand, Reason::NamesItself, own)?;
+        remarks.leave_out(alloc, subject, operand, RemarkReason::NamesItself, own)?;
         return Ok(false);
     }
     if kind == Kind::Function {
         return Ok(true);
     }
     if fmid.is_none() {
-        remarks.leave_out(alloc, subject, b"FMID", Reason::Missing, b"")?;
+        remarks.leave_out(alloc, subject, b"FMID", RemarkReason::Missing, b"")?;
         return Ok(false);
     }
     if !lists.npre.is_empty() {
-        remarks.leave_out(alloc, subject, b"NPRE", Reason::NotInService, b"")?;
+        remarks.leave_out(alloc, subject, b"NPRE", RemarkReason::NotInService, b"")?;
         return Ok(false);
     }
     if !lists.delete.is_empty() {
-        remarks.leave_out(alloc, subject, b"DELETE", Reason::NotInService, b"")?;
+        remarks.leave_out(alloc, subject, b"DELETE", RemarkReason::NotInService, b"")?;
         return Ok(false);
     }
     Ok(true)

@@ -3,9 +3,9 @@ ghost use Rattle.std.specs.Prelude.{◌≡◌, IfOk, IfSome, IsPermutation};
 ghost use Rattle.terms.specs.Beside.{Beside};
 ghost use Rattle.intake_sysmod.specs.NoLooser.{IsVer, AreVers, AreOperands};
 
-use crate::ver_operands::{Operands, operands_of};
+use crate::ver_operands::{VerOperands, operands_of};
 use fields::Srel;
-use intake_cards::{Reason, Remarks, Subject};
+use intake_cards::{RemarkReason, Remarks, Subject};
 use intake_read::{WideSysmod, WideVer};
 use std::alloc::{AllocError, Global};
 use sysmods_values::{IfReq, Ver};
@@ -29,7 +29,7 @@ fn copies_of(alloc: Global, ifs: &[IfReq]) -> Result<Vec<IfReq>, AllocError>
 }
 
 /// The `++VER` of these operands for one SREL.
-fn ver_of(alloc: Global, srel: Srel, operands: &Operands) -> Result<Ver, AllocError>
+fn ver_of(alloc: Global, srel: Srel, operands: &VerOperands) -> Result<Ver, AllocError>
     ensures { IfOk result (λ ver. (ver.srel ≡ srel) × (ver.fmid ≡ operands.now.fmid)
         × (ver.pre ≡ operands.now.lists.pre) × (ver.req ≡ operands.now.lists.req)
         × (ver.sup ≡ operands.now.lists.sup) × (ver.npre ≡ operands.now.lists.npre)
@@ -54,7 +54,7 @@ fn for_srels(
     remarks: &mut Remarks,
     subject: &Subject<'_>,
     stated: &WideVer,
-    operands: &Operands,
+    operands: &VerOperands,
 ) -> Result<Option<Vec<Ver>>, AllocError>
     requires { AreOperands stated.now operands.now }
     ensures { IfOk result (λ found. IfSome found (λ vers.
@@ -63,7 +63,13 @@ fn for_srels(
     let mut vers = Vec::with_capacity(alloc, stated.srels.len())?;
     for srel in stated.srels.iter() {
         let Some(srel) = Srel::read(srel.as_slice()) else {
-            remarks.leave_out(alloc, subject, b"SREL", Reason::BadValue, srel.as_slice())?;
+            remarks.leave_out(
+                alloc,
+                subject,
+                b"SREL",
+                RemarkReason::BadValue,
+                srel.as_slice(),
+            )?;
             return Ok(None);
         };
         vers.push(ver_of(alloc, srel, operands)?)?;
@@ -87,7 +93,7 @@ fn vers_for(
         id: sysmod.id.as_slice(),
     };
     if stated.srels.is_empty() {
-        remarks.leave_out(alloc, &subject, b"SREL", Reason::Missing, b"")?;
+        remarks.leave_out(alloc, &subject, b"SREL", RemarkReason::Missing, b"")?;
         return Ok(None);
     }
     match operands_of(alloc, remarks, sysmod, stated)? {
@@ -141,6 +147,14 @@ fn second(kind: Kind, vers: &[Ver]) -> Option<&Ver> {
     None
 }
 
+/// Whether a `++VER` stands there that can't be read, which is told by itself.
+fn has_faulty_ver(sysmod: &WideSysmod) -> bool {
+    sysmod
+        .others
+        .iter()
+        .any(|other| other.word.as_slice() == b"VER".as_slice())
+}
+
 /// The `++VER`s of a SYSMOD by their SRELs, or nothing where they can't be carried. Why is told.
 pub(crate) fn vers_of(
     alloc: Global,
@@ -154,15 +168,23 @@ pub(crate) fn vers_of(
         return Ok(None);
     };
     if vers.is_empty() {
-        remarks.leave_out(alloc, subject, b"VER", Reason::Missing, b"")?;
+        if !has_faulty_ver(sysmod) {
+            remarks.leave_out(alloc, subject, b"VER", RemarkReason::Missing, b"")?;
+        }
         return Ok(None);
     }
     if vers.len() > MOST_VERS {
-        remarks.leave_out(alloc, subject, b"VER", Reason::TooMany, b"")?;
+        remarks.leave_out(alloc, subject, b"VER", RemarkReason::TooMany, b"")?;
         return Ok(None);
     }
     if let Some(ver) = second(sysmod.kind, vers.as_slice()) {
-        remarks.leave_out(alloc, subject, b"VER", Reason::Twice, ver.srel.as_bytes())?;
+        remarks.leave_out(
+            alloc,
+            subject,
+            b"VER",
+            RemarkReason::Twice,
+            ver.srel.as_bytes(),
+        )?;
         return Ok(None);
     }
     Ok(Some(by_srel(vers)?))

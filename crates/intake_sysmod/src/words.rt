@@ -1,13 +1,15 @@
 //! The words of statements that bring or update elements.
-ghost use Rattle.std.specs.Prelude.{◌≡◌, ◌⊎◌, IfSome, IsTrue, codes};
-ghost use Rattle.intake_sysmod.specs.Elements.{IsProfileType, stand_in};
+ghost use Rattle.std.specs.Prelude.{◌≡◌, IfSome, IfNone};
+ghost use Rattle.intake_sysmod.specs.Elements.{IsProfileType, IsLacked, stand_in};
 
 use fields::spelling::read_type;
-use terms::ElemType;
+use terms::{ElemType, Kind};
 
 /// The type of the element that a statement of the profile changes.
+#[tactic(auto, using(crate::proofs::Targets::lacked))]
 pub(crate) fn profile_type(word: &[u8]) -> Option<ElemType>
-    ensures { IfSome result (IsProfileType word.now) }
+    ensures found { IfSome result (IsProfileType word.now) }
+    ensures none { IfNone result (IsLacked word.now) }
 {
     if word == b"MACUPD".as_slice() {
         return Some(ElemType::Mac);
@@ -18,18 +20,29 @@ pub(crate) fn profile_type(word: &[u8]) -> Option<ElemType>
     read_type(word)
 }
 
-/// Whether it updates a macro or a source.
-pub(crate) fn is_update(word: &[u8]) -> bool
-    ensures { IsTrue result → (word.now ≡ codes "MACUPD") ⊎ (word.now ≡ codes "SRCUPD") }
-{
-    word == b"MACUPD".as_slice() || word == b"SRCUPD".as_slice()
+/// Whether a statement of the word updates its element.
+pub(crate) fn is_update_word(word: &[u8]) -> bool {
+    word == b"MACUPD".as_slice()
+        || word == b"SRCUPD".as_slice()
+        || word == b"ZAP".as_slice()
+        || word == b"JARUPD".as_slice()
+}
+
+/// Whether a statement of a SYSMOD of the kind updates its element. What a function brings is whole.
+pub(crate) fn is_update(kind: Kind, word: &[u8]) -> bool {
+    kind != Kind::Function && is_update_word(word)
 }
 
 /// The type of what stands for the element of a statement that the profile lacks.
 pub(crate) fn stand_in(word: &[u8]) -> ElemType
     ensures { result ≡ stand_in word.now }
 {
-    if word == b"MOD".as_slice() || word == b"PROGRAM".as_slice() || word == b"ZAP".as_slice() {
+    if word == b"MOD".as_slice()
+        || word == b"PROGRAM".as_slice()
+        || word == b"JAR".as_slice()
+        || word == b"ZAP".as_slice()
+        || word == b"JARUPD".as_slice()
+    {
         ElemType::Mac
     } else {
         ElemType::Data

@@ -1,6 +1,6 @@
 //! Files as cards: lines and records, the codes, and what no card should have.
 
-use intake_cards::{CardError, CardOddity, Cards, Code, Form, Place, Tail, read_cards};
+use intake_cards::{CardError, CardOddity, CardPlace, Cards, Code, Layout, Tail, read_cards};
 use std::alloc::{AllocError, Global};
 use std::process::Abort;
 use std::test::Fail;
@@ -64,10 +64,10 @@ fn lines_may_end_in_each_way(rt: HostRuntime) -> Result<(), Fail> {
     ];
     for file in files {
         let cards = read_cards(rt.alloc(), 3, file, None, None)?;
-        assert_eq!(rt; (cards.form, cards.code), (Form::Text, Code::Ascii));
+        assert_eq!(rt; (cards.form, cards.code), (Layout::Text, Code::Ascii));
         check_texts(&rt, rt.alloc(), &cards, &lines)?;
         let last = cards.cards.last().ok_or("no card")?;
-        assert_eq!(rt; last.place, Place { file: 3, card: 3 });
+        assert_eq!(rt; last.place, CardPlace { file: 3, card: 3 });
         assert!(rt; cards.notes.is_empty());
     }
     Ok(())
@@ -78,7 +78,7 @@ fn a_file_of_records_is_told(rt: HostRuntime) -> Result<(), Fail> {
     let lines: [&[u8]; 2] = [b"++PTF(UA00001).", b"++VER(Z038)."];
     let records = records(rt.alloc(), &lines)?;
     let cards = read_cards(rt.alloc(), 0, records.as_slice(), None, None)?;
-    assert_eq!(rt; (cards.form, cards.code), (Form::Records, Code::Ascii));
+    assert_eq!(rt; (cards.form, cards.code), (Layout::Records, Code::Ascii));
     check_texts(&rt, rt.alloc(), &cards, &lines)?;
     let none = read_cards(rt.alloc(), 0, b"", None, None)?;
     assert!(rt; none.cards.is_empty());
@@ -94,7 +94,7 @@ fn ebcdic_is_told(rt: HostRuntime) -> Result<(), Fail> {
     let cards = read_cards(rt.alloc(), 0, records.as_slice(), None, None)?;
     assert_eq!(rt;
         (cards.form, cards.code, cards.cards.len()),
-        (Form::Records, Code::Ibm1047, 3)
+        (Layout::Records, Code::Ibm1047, 3)
     );
     let first = cards.cards.first().ok_or("no card")?;
     assert_eq!(rt;
@@ -107,7 +107,7 @@ fn ebcdic_is_told(rt: HostRuntime) -> Result<(), Fail> {
     lines.extend_from_slice(SET)?;
     lines.extend_from_slice(b"\x0D\x25")?;
     let cards = read_cards(rt.alloc(), 0, lines.as_slice(), None, None)?;
-    assert_eq!(rt; (cards.form, cards.code), (Form::Text, Code::Ibm1047));
+    assert_eq!(rt; (cards.form, cards.code), (Layout::Text, Code::Ibm1047));
     let lines: [&[u8]; 2] = [b"SET BDY(A$#@).", b"SET BDY(A$#@)."];
     check_texts(&rt, rt.alloc(), &cards, &lines)
 }
@@ -115,7 +115,7 @@ fn ebcdic_is_told(rt: HostRuntime) -> Result<(), Fail> {
 #[test]
 fn a_code_that_is_asked_for_is_taken(rt: HostRuntime) -> Result<(), Fail> {
     let brackets = b"\xAD\xBD\x5F\xBA\xBB\xB0\x15";
-    let text = Some(Form::Text);
+    let text = Some(Layout::Text);
     let open = read_cards(rt.alloc(), 0, brackets, text, Some(Code::Ibm1047))?;
     check_texts(&rt, rt.alloc(), &open, &[b"[]^\xDD\xA8\xAC"])?;
     let data_set = read_cards(rt.alloc(), 0, brackets, text, Some(Code::Ibm037))?;
@@ -142,8 +142,17 @@ fn a_line_longer_than_a_card_is_told(rt: HostRuntime) -> Result<(), Fail> {
         2
     );
     let long = line_of(rt.alloc(), b'A', 81, b"\nB\n")?;
-    let refused = read_cards(rt.alloc(), 0, long.as_slice(), None, None).err();
-    assert_eq!(rt; refused, Some(CardError::LongLine { card: 1 }));
+    let cut = read_cards(rt.alloc(), 0, long.as_slice(), None, None)?;
+    let note = cut.notes.first().ok_or("no note")?;
+    assert_eq!(rt;
+        (note.oddity, note.first.card, note.cards),
+        (CardOddity::LongLine, 1, 1)
+    );
+    let mut are_cut = Vec::new(rt.alloc());
+    for card in cut.cards.as_slice() {
+        are_cut.push(card.is_cut)?;
+    }
+    assert_eq!(rt; are_cut.as_slice(), [true, false].as_slice());
     let blanks = line_of(rt.alloc(), b' ', 90, b"\n A\n")?;
     let cards = read_cards(rt.alloc(), 0, blanks.as_slice(), None, None)?;
     let note = cards.notes.first().ok_or("no note")?;
@@ -152,7 +161,7 @@ fn a_line_longer_than_a_card_is_told(rt: HostRuntime) -> Result<(), Fail> {
         (CardOddity::BlanksBehind80, 1, 1)
     );
     let short = line_of(rt.alloc(), b'A', 163, b"")?;
-    let refused = read_cards(rt.alloc(), 0, short.as_slice(), Some(Form::Records), None).err();
+    let refused = read_cards(rt.alloc(), 0, short.as_slice(), Some(Layout::Records), None).err();
     assert_eq!(rt; refused, Some(CardError::ShortRecord { bytes: 3 }));
     Ok(())
 }
@@ -171,7 +180,7 @@ fn odd_characters_are_noted(rt: HostRuntime) -> Result<(), Fail> {
         (CardOddity::NotPrintable, 3, 2),
     ];
     assert_eq!(rt; found.as_slice(), wanted.as_slice());
-    let lines: [&[u8]; 4] = [b"++PTF(UA00001).", b"\tX", b"\x00\t", b"\xC3\x9C"];
+    let lines: [&[u8]; 4] = [b"++PTF(UA00001).", b"\tX", b"\x00\t", b"\xDC"];
     check_texts(&rt, rt.alloc(), &cards, &lines)
 }
 
@@ -191,5 +200,68 @@ fn columns_73_to_80_are_told_apart(rt: HostRuntime) -> Result<(), Fail> {
         (Tail::Blank, false),
     ];
     assert_eq!(rt; found.as_slice(), wanted.as_slice());
+    Ok(())
+}
+
+#[test]
+fn a_letter_of_utf_8_has_one_column(rt: HostRuntime) -> Result<(), Fail> {
+    let line =
+        "/* \u{e4}\u{f6}\u{fc}\u{20ac}\u{e4}\u{f6}\u{fc}\u{e4}\u{f6}\u{fc} */ PRE(UI00001,UI00002,\
+                                          UI00003,";
+    let cards = read_cards(rt.alloc(), 0, line.as_bytes(), None, None)?;
+    let card = cards.cards.first().ok_or("no card")?;
+    assert_eq!(rt;
+        &card.text[..13],
+        b"/* \xE4\xF6\xFC\xBF\xE4\xF6\xFC\xE4\xF6\xFC".as_slice()
+    );
+    assert!(rt; card.columns().trim_ascii_end().ends_with(b"UI00003,"));
+    assert!(rt; !card.is_cut);
+    let latin = b"/* \xE4\xF6 */ LIST.\n";
+    let cards = read_cards(rt.alloc(), 0, latin, None, None)?;
+    check_texts(&rt, rt.alloc(), &cards, &[b"/* \xE4\xF6 */ LIST."])
+}
+
+#[test]
+fn what_ends_a_file_is_passed_over(rt: HostRuntime) -> Result<(), Fail> {
+    let padded = (CardOddity::Padding, 1);
+    let ended = (CardOddity::Delimiter, 2);
+    for (file, wanted) in [
+        (b"LIST.\n\x1A".as_slice(), padded),
+        (b"LIST.\n\x00\x00\x00".as_slice(), padded),
+        (b"LIST.\n/*\n".as_slice(), ended),
+        (b"LIST.\n$$\n\n".as_slice(), ended),
+    ] {
+        let cards = read_cards(rt.alloc(), 0, file, None, None)?;
+        check_texts(&rt, rt.alloc(), &cards, &[b"LIST."])?;
+        let note = cards.notes.first().ok_or("no note")?;
+        assert_eq!(rt; (note.oddity, note.first.card), wanted);
+    }
+    let mut records = records(rt.alloc(), &[b"LIST.", b"/* A */"])?;
+    records.extend_from_slice(&[0; 100])?;
+    let cards = read_cards(rt.alloc(), 0, records.as_slice(), None, None)?;
+    assert_eq!(rt; cards.form, Layout::Records);
+    check_texts(&rt, rt.alloc(), &cards, &[b"LIST.", b"/* A */"])
+}
+
+#[test]
+fn files_that_are_no_cards_are_told_apart(rt: HostRuntime) -> Result<(), Fail> {
+    for (file, wanted) in [
+        (b"\x1F\x8B\x08\x00".as_slice(), CardError::Compressed),
+        (b"\xFF\xFE+\x00+\x00".as_slice(), CardError::Utf16),
+        (b"\x00+\x00+\x00P".as_slice(), CardError::Utf16),
+        (
+            b"\x00\x09\x00\x00LIST.\x00\x09\x00\x00LIST.".as_slice(),
+            CardError::RecordLengths,
+        ),
+        (
+            b"++PTF(UA00001).\r++VER(Z038).\r".as_slice(),
+            CardError::CarriageReturns,
+        ),
+    ] {
+        assert_eq!(rt;
+            read_cards(rt.alloc(), 0, file, None, None).err(),
+            Some(wanted)
+        );
+    }
     Ok(())
 }

@@ -2,8 +2,8 @@
 
 use crate::narrow_lines::compare;
 use crate::wide::file_of;
-use intake_cards::{Form, read_cards};
-use intake_cntl::command_file;
+use intake_cards::{Layout, read_cards};
+use intake_cntl::{KnownList, KnownSysmod, command_file, read_known};
 use std::alloc::Global;
 use std::test::Fail;
 
@@ -64,34 +64,56 @@ REJECT SELECT(UA00001,UA00001). => REJECT SELECT(UA00001).|line 1: REJECT SELECT
 const NAMED: &str = "\
 APPLY PTFS RC(APPLY=8)| SOURCEID(RSU*,HIPER) GROUPEXTEND(NOUSERMODS)| BYPASS(XZIFREQ,ID) EXSRCID(PE). => \
 line 1: APPLY RC: refused: the profile has no such operand: APPLY=8|\
-line 2: APPLY SOURCEID: refused: a bad value: RSU*|\
-line 2: APPLY GROUPEXTEND: refused: the profile has no such operand: NOUSERMODS|\
+line 2: APPLY SOURCEID: refused: only --known FILE tells which these are: give it, or write their ids: RSU*|\
 line 3: APPLY XZIFREQ: refused: the profile has no such operand|\
-line 3: APPLY EXSRCID: refused: the profile has no such operand: PE
+line 3: APPLY EXSRCID: refused: the profile has no such operand: PE|\
+line 2: APPLY GROUPEXTEND: refused: only --known FILE tells which these are: give it, or write their ids: NOUSERMODS
+APPLY PTFS C(ALL) GEXT(NOPTFS). => line 1: APPLY C: dropped: it changes no decision: ALL|\
+line 1: APPLY GEXT: carried otherwise: spelled out: GROUPEXTEND|\
+line 1: APPLY GEXT: refused: the profile has no such operand: NOPTFS
+LIST.|APPLY PTFS /* A| B. => line 2: APPLY: refused: a comment is not closed: put */ at its end
 UCLIN.|ADD TARGETZONE(T).|ENDUCL.|LIST. => line 1: UCLIN: refused: the profile has no such command|\
 line 2: ADD: refused: the profile has no such command|line 3: ENDUCL: refused: the profile has no such command
 APPLY PTFS GROUP. => line 1: APPLY GROUP: refused: the profile has no such operand
 APPLY PTFS PTF. => line 1: APPLY PTF: carried otherwise: spelled out: PTFS|\
 line 1: APPLY PTF: refused: stands there twice
 APPLY SELECT(UA1). => line 1: APPLY SELECT: refused: a bad value: UA1
-APPLY SELECT. => line 1: APPLY SELECT: refused: missing
+APPLY SELECT. => line 1: APPLY SELECT: refused: it is missing
 APPLY BYPASS(X.PRE). => line 1: APPLY X.PRE: refused: the profile has no such operand
 SET BDY(A,B). => line 1: SET BDY: refused: a bad value: A,B
-SET. => line 1: SET: refused: missing
-RESTORE CHECK. => line 1: RESTORE: refused: can't stand there together
+SET. => line 1: SET: refused: it is missing
+RESTORE CHECK. => line 1: RESTORE: refused: SELECT or GROUP is missing
 RECEIVE S(UA00001). => line 1: RECEIVE S: refused: the profile has no such operand: UA00001
 LOG('A. B').|LIST SYSMODS. => line 1: LOG: dropped: it changes no decision: 'A. B'|\
 line 2: LIST SYSMODS: refused: the profile has no such operand
 LIST => line 1: LIST: refused: its period is missing
-APPLY SELECT(UA00001. => line 1: APPLY: refused: a parenthesis is open
-LIST /* A. => line 1: LIST: refused: a comment is open
+APPLY SELECT(UA00001. => line 1: APPLY: refused: a parenthesis is not closed in columns 1 to 72
+LIST /* A. => line 1: LIST: refused: a comment is not closed: put */ at its end
 ";
+
+/// What is about SYSMODs that are known.
+const KNOWN_ONES: &str = "\
+APPLY S(AA00001) GROUPEXTEND(NOAPARS,NOUSERMODS) E(UA00009). => \
+APPLY SELECT(AA00001) GROUPEXTEND EXCLUDE(UA00009,AA00002,UM00001).|\
+line 1: APPLY S: carried otherwise: spelled out: SELECT|line 1: APPLY E: carried otherwise: spelled out: EXCLUDE|\
+line 1: APPLY GROUPEXTEND: carried otherwise: EXCLUDE names the APARs or USERMODs of --known: NOAPARS|\
+line 1: APPLY GROUPEXTEND: carried otherwise: EXCLUDE names the APARs or USERMODs of --known: NOUSERMODS
+APPLY PTFS SOURCEID(HIPER,RSU*). => APPLY PTFS SOURCEID(HIPER,RSU2401,RSU2402).|\
+line 1: APPLY SOURCEID: carried otherwise: the list names the source ids of --known that begin so: RSU*
+APPLY PTFS SOURCEID(PUT*). => line 1: APPLY SOURCEID: refused: no source id of --known begins so: PUT*
+APPLY APARS GROUPEXTEND(NOAPARS). => line 1: APPLY GROUPEXTEND: refused: these operands cannot stand together: NOAPARS|\
+line 1: APPLY GROUPEXTEND: carried otherwise: EXCLUDE names the APARs or USERMODs of --known: NOAPARS
+";
+
+/// SYSMODs that are known.
+const LIST: &[u8] =
+    b"id,kind,sources\nUA00001,PTF,\"RSU2401 HIPER\"\nAA00001,APAR,\nAA00002,APAR,RSU2402\n\nUM00001,USERMOD,\n";
 
 /// What comes of a command file: the records without the blanks at their ends, and none where there is no file; then
 /// the remarks.
-fn outcome(alloc: Global, text: &[u8]) -> Result<String, Fail> {
-    let found = read_cards(alloc, 0, text, Some(Form::Text), None)?;
-    let file = command_file(alloc, &found.cards)?;
+fn outcome(alloc: Global, text: &[u8], known: Option<&[KnownSysmod]>) -> Result<String, Fail> {
+    let found = read_cards(alloc, 0, text, Some(Layout::Text), None)?;
+    let file = command_file(alloc, &found.cards, known)?;
     let mut lines = Vec::new(alloc);
     if let Some(bytes) = &file.bytes {
         for record in bytes.chunks(80) {
@@ -108,28 +130,78 @@ fn outcome(alloc: Global, text: &[u8]) -> Result<String, Fail> {
 }
 
 /// A failure, unless these lines come of these cards. There is a bar between two lines, and between two cards.
-fn check_case(alloc: Global, cards: &str, lines: &str) -> Result<(), Fail> {
+fn check_case(
+    alloc: Global,
+    known: Option<&[KnownSysmod]>,
+    cards: &str,
+    lines: &str,
+) -> Result<(), Fail> {
     let file = file_of(alloc, cards)?;
-    let got = outcome(alloc, file.as_slice())?;
+    let got = outcome(alloc, file.as_slice(), known)?;
     let lines = file_of(alloc, lines)?;
     let wanted = std::str::from_utf8(lines.as_slice())?;
     compare(cards, got.as_str().trim_end(), wanted)
 }
 
 /// Each case is a command file, by its cards, and behind an arrow the lines that come of it.
-fn check(alloc: Global, cases: &str) -> Result<(), Fail> {
+fn check(alloc: Global, known: Option<&[KnownSysmod]>, cases: &str) -> Result<(), Fail> {
     for line in cases.lines() {
         let (cards, lines) = line.split_once(" => ").ok_or("no arrow in a case")?;
-        check_case(alloc, cards, lines)?;
+        check_case(alloc, known, cards, lines)?;
     }
     Ok(())
 }
 
 #[test]
 fn carries_drops_or_names(rt: HostRuntime) -> Result<(), Fail> {
-    check_case(rt.alloc(), "/* nothing */", "")?;
+    check_case(rt.alloc(), None, "/* nothing */", "")?;
     for cases in [AS_THEY_STAND, COMMENTED, SPELLED_OUT, DROPPED, NAMED] {
-        check(rt.alloc(), cases)?;
+        check(rt.alloc(), None, cases)?;
+    }
+    Ok(())
+}
+
+#[test]
+fn known_sysmods_tell_what_is_meant(rt: HostRuntime) -> Result<(), Fail> {
+    let KnownList::Sysmods(known) = read_known(rt.alloc(), LIST)? else {
+        return Err("the list is in form".into());
+    };
+    check(rt.alloc(), Some(known.as_slice()), KNOWN_ONES)
+}
+
+#[test]
+fn a_line_of_the_list_that_is_not_in_form_is_named(rt: HostRuntime) -> Result<(), Fail> {
+    for (list, wanted) in [
+        (b"id kind\nUA00001 PTF\nUA1 PTF\n".as_slice(), 3),
+        (b"UA00001 PTF\nUA00002 FIX\n".as_slice(), 2),
+        (b"UA00001 PTF\nUA00002 PTF RSU-2401\n".as_slice(), 2),
+    ] {
+        let found = read_known(rt.alloc(), list)?;
+        assert!(rt; matches!(found, KnownList::BadLine(line) if line == wanted));
+    }
+    Ok(())
+}
+
+#[test]
+fn a_long_line_is_refused_unless_it_is_a_comment(rt: HostRuntime) -> Result<(), Fail> {
+    let long = "                                                                               X";
+    for (before, behind, wanted) in [
+        (
+            "LIST.",
+            "",
+            "line 1: refused: the line has more than 80 columns; put the rest on a line of its own",
+        ),
+        ("/*", " */", "LIST."),
+    ] {
+        let alloc = rt.alloc();
+        let text = format!(in alloc; "{before}{long}{behind}\nLIST.\n")?;
+        let got = outcome(alloc, text.as_bytes(), None)?;
+        let lines = file_of(alloc, wanted)?;
+        compare(
+            before,
+            got.as_str().trim_end(),
+            str::from_utf8(lines.as_slice())?,
+        )?;
     }
     Ok(())
 }

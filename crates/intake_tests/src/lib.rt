@@ -6,6 +6,8 @@ mod cards;
 #[cfg(test)]
 mod commands;
 #[cfg(test)]
+mod narrow_copies;
+#[cfg(test)]
 mod narrow_elements;
 #[cfg(test)]
 mod narrow_holds;

@@ -2,8 +2,8 @@
 
 use crate::narrow_lines::{check, check_with};
 use fields::Name;
-use intake_cards::read_cards;
-use intake_sysmod::{Member, Options, Syslib};
+use intake_cards::{CardPlace, read_cards};
+use intake_sysmod::{Options, RelfileMember, Syslib};
 use std::alloc::Global;
 use std::test::Fail;
 
@@ -25,11 +25,11 @@ const ELEMENTS_CARRIED: &str =
     ! f line 1: ++PTF(UA00001): left out: a statement of it can't be carried\n\
     ! f line 6: ++MAC(MACA) SYSLIB: left out: no SYSLIB, and none given by --syslib: AMACLIB\n\
     ! f line 4: ++PTF(UA00002): left out: a statement of it can't be carried\n\
-    ! f line 10: ++MAC(MACA) RELFILE: left out: the text is elsewhere: 1\n\
+    ! f line 10: ++MAC(MACA) RELFILE: left out: its text is in another file or library: give --relfile, or put the text after the statement: 1\n\
     ! f line 8: ++PTF(UA00003): left out: a statement of it can't be carried\n\
-    ! f line 13: ++MAC(MACA) TXLIB: left out: the text is elsewhere: SMPTX\n\
+    ! f line 13: ++MAC(MACA) TXLIB: left out: its text is in another file or library: give --relfile, or put the text after the statement: SMPTX\n\
     ! f line 11: ++PTF(UA00004): left out: a statement of it can't be carried\n\
-    ! f line 16: ++MAC(MACA) DISTLIB: left out: missing\n\
+    ! f line 16: ++MAC(MACA) DISTLIB: left out: it is missing\n\
     ! f line 14: ++PTF(UA00005): left out: a statement of it can't be carried\n\
     - f line 20: ++MAC(MACA): carried otherwise: the text got numbers\n\
     ! f line 22: ++MACUPD(MACA): left out: stands there twice\n\
@@ -40,7 +40,7 @@ const ELEMENTS_CARRIED: &str =
     ! f line 28: ++PTF(UA00008): left out: a statement of it can't be carried\n\
     ! f line 34: ++STRANGE(X): left out: an unknown statement\n\
     ! f line 32: ++PTF(UA00009): left out: a statement of it can't be carried\n\
-    ! f line 37: ++MAC(MACA) DELETE: left out: an unknown operand\n\
+    ! f line 37: ++MAC(MACA) DELETE: left out: smpe does not know this operand, and may not drop it\n\
     ! f line 35: ++PTF(UA00010): left out: a statement of it can't be carried\n";
 
 #[test]
@@ -67,11 +67,11 @@ const UPDATES_CARRIED: &str =
     - f line 3: ++MACUPD(MACA) LIST: dropped: it changes no decision: ./ CHANGE NAME=MACA,LIST=ALL\n\
     - f line 3: ++MACUPD(MACA) ./ DELETE: carried otherwise: got eight digits: ./  DELETE SEQ1=300,SEQ2=00000400\n\
     - f line 3: ++MACUPD(MACA) ./ ENDUP: dropped: an update ends without it\n\
-    ! f line 12: ++SRCUPD(SRCA) ./: left out: a bad text: ./ NUMBER SEQ1=ALL,NEW1=100,INCR=100\n\
+    ! f line 12: ++SRCUPD(SRCA) ./: left out: the text has not the form that smpe reads: ./ NUMBER SEQ1=ALL,NEW1=100,INCR=100\n\
     ! f line 10: ++PTF(UA00002): left out: a statement of it can't be carried\n\
-    ! f line 17: ++SRCUPD(SRCA): left out: a bad text\n\
+    ! f line 17: ++SRCUPD(SRCA): left out: the text has not the form that smpe reads\n\
     ! f line 15: ++PTF(UA00003): left out: a statement of it can't be carried\n\
-    ! f line 21: ++SRCUPD(SRCA): left out: a bad text\n\
+    ! f line 21: ++SRCUPD(SRCA): left out: the text has not the form that smpe reads\n\
     ! f line 19: ++PTF(UA00004): left out: a statement of it can't be carried\n";
 
 #[test]
@@ -94,11 +94,12 @@ const NUMBERS_CARRIED: &str =
     "++PTF(UA00001).\n++VER(Z038) FMID(HAA1100).\n++MAC(MACA) DISTLIB(AMACLIB) SYSLIB(MACLIB).\n\
     \x20        TEXT                                                           00000010\n\
     \x20        TEXT                                                           00000020\n==\n\
-    ! f line 8: ++MAC(MACA): left out: a bad text\n\
+    ! f line 8: ++MAC(MACA): left out: columns 73 to 80 of a card must have eight digits, higher than those \
+    before: at 10\n\
     ! f line 6: ++PTF(UA00002): left out: a statement of it can't be carried\n\
-    ! f line 13: ++MAC(MACA): left out: the text is elsewhere\n\
+    ! f line 13: ++MAC(MACA): left out: no text follows: put it after the statement\n\
     ! f line 11: ++PTF(UA00003): left out: a statement of it can't be carried\n\
-    ! f line 16: ++MAC(MACA): left out: characters that are no ASCII\n\
+    ! f line 16: ++MAC(MACA): left out: characters that are no ASCII: at 17\n\
     ! f line 14: ++PTF(UA00004): left out: a statement of it can't be carried\n";
 
 #[test]
@@ -121,15 +122,14 @@ const ELSEWHERE_CARRIED: &str =
     - f line 3: ++MAC(MACA): carried otherwise: the text got numbers\n\
     - f line 4: ++DATA(DATAA) RELFILE: carried otherwise: the text is that of a file of --relfile: 12\n\
     - f line 7: ++MAC(MACA) SYSLIB: carried otherwise: SYSLIB as given by --syslib: MACLIB\n\
-    ! f line 7: ++MAC(MACA) RELFILE: left out: the text is elsewhere: 12\n\
+    ! f line 7: ++MAC(MACA) RELFILE: left out: its text is in another file or library: give --relfile, or put the text after the statement: 12\n\
     ! f line 5: ++PTF(UA00002): left out: a statement of it can't be carried\n";
 
 /// The cards of a text.
-fn member(alloc: Global, relfile: &[u8], name: &[u8], text: &[u8]) -> Result<Member, Fail> {
+fn member(alloc: Global, card: usize, text: &[u8]) -> Result<RelfileMember, Fail> {
     let read = read_cards(alloc, 0, text, None, None)?;
-    Ok(Member {
-        relfile: Vec::from_slice(alloc, relfile)?,
-        name: Vec::from_slice(alloc, name)?,
+    Ok(RelfileMember {
+        element: CardPlace { file: 0, card },
         cards: read.cards,
     })
 }
@@ -137,8 +137,8 @@ fn member(alloc: Global, relfile: &[u8], name: &[u8], text: &[u8]) -> Result<Mem
 /// Options with a SYSLIB and two members.
 fn options_elsewhere(alloc: Global) -> Result<Options, Fail> {
     let mut members = Vec::new(alloc);
-    members.push(member(alloc, b"12", b"DATAA", b"A LINE\nANOTHER LINE\n")?)?;
-    members.push(member(alloc, b"1", b"MACA", b"         MACRO\n")?)?;
+    members.push(member(alloc, 4, b"A LINE\nANOTHER LINE\n")?)?;
+    members.push(member(alloc, 3, b"         MACRO\n")?)?;
     let mut syslibs = Vec::new(alloc);
     if let (Some(distlib), Some(syslib)) = (Name::read(b"AMACLIB"), Name::read(b"MACLIB")) {
         syslibs.push(Syslib { distlib, syslib })?;

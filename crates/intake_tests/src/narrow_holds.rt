@@ -45,9 +45,9 @@ const REFUSED_HOLDS: &[u8] =
     ++RELEASE(UA00007) SYSTEM FMID(HAA110) REASON(DOC).\n++HOLD(UA00008) SYSTEM FMID(HAA1100) REASON(DOC).\n";
 
 const REFUSED_HOLDS_CARRIED: &str = "refused\n! f line 1: ++HOLD(UA0001): refused: a bad id\n\
-    ! f line 2: ++HOLD(UA00002) REASON: refused: a bad value\n! f line 3: ++HOLD(UA00003) FMID: refused: missing\n\
-    ! f line 4: ++HOLD(UA00004) REASON: refused: missing\n\
-    ! f line 5: ++HOLD(UA00005) ERROR, SYSTEM or USER: refused: missing\n\
+    ! f line 2: ++HOLD(UA00002) REASON: refused: a bad value\n! f line 3: ++HOLD(UA00003) FMID: refused: it is missing\n\
+    ! f line 4: ++HOLD(UA00004) REASON: refused: it is missing\n\
+    ! f line 5: ++HOLD(UA00005) ERROR, SYSTEM or USER: refused: it is missing\n\
     ! f line 6: ++HOLD(UA00006) USER: refused: stands there twice\n\
     ! f line 7: ++RELEASE(UA00007) FMID: refused: a bad id\n";
 
@@ -71,8 +71,6 @@ const COMMENTS_CARRIED: &str = "==\n++HOLD(UA00001) SYSTEM FMID(HAA1100) REASON(
     - f line 1: ++HOLD(UA00001) COMMENT: carried otherwise: cut at 200 characters: THE FIRST OF SEVERAL CARDS \
     (WITH (MORE) IN IT) IS LONG, AND THE NEXT ONE CONTINUES; EACH WORD STANDS ON ONE CARD, WHICH ASKS FOR BLANKS \
     AT THE END OF A CARD, AND THE END OF IT ALL IS CUT OFF BECAUSE MORE THAN TWO HUNDRED CHARACTERS STAND THERE\n\
-    - f line 1: ++HOLD(UA00001) COMMENT: carried otherwise: inner parentheses became brackets\n\
-    - f line 1: ++HOLD(UA00001) COMMENT: carried otherwise: its blanks are as cards have them\n\
     - f line 6: ++HOLD(UA00002) COMMENT: dropped: a bad value\n";
 
 #[test]

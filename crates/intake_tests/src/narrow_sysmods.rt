@@ -59,19 +59,19 @@ const BAD_IDS_CARRIED: &str =
     ! f line 7: ++PTF(UA00003): left out: a statement of it can't be carried\n\
     ! f line 10: ++VER(UA00004) REQ: left out: names the SYSMOD itself: UA00004\n\
     ! f line 9: ++PTF(UA00004): left out: a statement of it can't be carried\n\
-    ! f line 12: ++VER(UA00005) FMID: left out: missing\n\
+    ! f line 12: ++VER(UA00005) FMID: left out: it is missing\n\
     ! f line 11: ++PTF(UA00005): left out: a statement of it can't be carried\n\
     ! f line 14: ++VER(UA00006) NPRE: left out: only a function may have it\n\
     ! f line 13: ++PTF(UA00006): left out: a statement of it can't be carried\n\
     ! f line 16: ++VER(UA00007) DELETE: left out: only a function may have it\n\
     ! f line 15: ++PTF(UA00007): left out: a statement of it can't be carried\n\
-    ! f line 18: ++VER(UA00008) NOTHING: left out: an unknown operand: A\n\
+    ! f line 18: ++VER(UA00008) NOTHING: left out: smpe does not know this operand, and may not drop it: A\n\
     ! f line 17: ++PTF(UA00008): left out: a statement of it can't be carried\n\
     ! f line 19: ++PTF(UA00009) VER: left out: stands there twice: Z038\n\
     ! f line 19: ++PTF(UA00009): left out: a statement of it can't be carried\n\
     ! f line 23: ++IF(UA00010) REQ: left out: names the SYSMOD itself: UA00010\n\
     ! f line 21: ++PTF(UA00010): left out: a statement of it can't be carried\n\
-    ! f line 24: ++PTF(UA00011) FUNNY: left out: an unknown operand: X\n\
+    ! f line 24: ++PTF(UA00011) FUNNY: left out: smpe does not know this operand, and may not drop it: X\n\
     ! f line 24: ++PTF(UA00011): left out: a statement of it can't be carried\n";
 
 #[test]
@@ -129,4 +129,50 @@ const ASSIGNS_CARRIED: &str =
 #[test]
 fn assignments_are_carried_or_told(rt: HostRuntime) -> Result<(), Fail> {
     check(rt.alloc(), ASSIGNS, ASSIGNS_CARRIED)
+}
+
+/// Source ids of fix categories, and what else costs nothing but itself: an `++ASSIGN`, a `++FEATURE` and a FIXCAT hold
+/// that are at fault.
+const COSTS_ITSELF: &[u8] =
+    b"++ASSIGN SOURCEID(IBM.Device.Server..RequiredService) TO(UA00001).\n++ASSIGN SOURCEID(rsu2401) TO(UA00001).\n\
+    ++ASSIGN SOURCEID(RSU2402) TO(UA00001)\n++FEATURE(FEAT1)\n\
+    ++HOLD(UA00001) FIXCAT FMID(HAA1100) REASON(AA00001)\n++PTF(UA00001).\n++VER(Z038) FMID(HAA1100).\n";
+
+const COSTS_ITSELF_CARRIED: &str =
+    "++PTF(UA00001).\n++VER(Z038) FMID(HAA1100).\n++ASSIGN SOURCEID(RSU2401) TO(UA00001).\n==\n\
+    ! f line 3: ++ASSIGN: left out: its period is missing\n\
+    ! f line 4: ++FEATURE(FEAT1): left out: its period is missing\n\
+    ! f line 5: ++HOLD(UA00001): left out: its period is missing\n\
+    - f line 1: ++ASSIGN(IBM.Device.Server..RequiredService): dropped: it changes no decision here, since no command \
+    can name this source id\n\
+    - f line 2: ++ASSIGN(rsu2401) SOURCEID: carried otherwise: lower case was read as upper case\n";
+
+#[test]
+fn what_is_at_fault_outside_sysmods_costs_itself(rt: HostRuntime) -> Result<(), Fail> {
+    check(rt.alloc(), COSTS_ITSELF, COSTS_ITSELF_CARRIED)
+}
+
+/// Columns 73 to 80 with a text, a line over 80 columns in a statement and in a comment, and a blank card that ends a
+/// numbered text.
+const LONG_LINES: &[u8] = b"++PTF(UA00001).\n\
+    ++VER(Z038) FMID(HAA1100)                                               .ABC1\n.\n\
+    ++PTF(UA00002).\n\
+    ++VER(Z038) FMID(HAA1100)                                                       PRE(UA00001)\n.\n\
+    ++PTF(UA00003).\n\
+    /* A COMMENT                                                                                */\n\
+    ++VER(Z038) FMID(HAA1100).\n++MAC(MACA) DISTLIB(AMACLIB) SYSLIB(MACLIB).\n\
+    \x20        MACRO                                                          00000010\n\n";
+
+const LONG_LINES_CARRIED: &str =
+    "++PTF(UA00001).\n++VER(Z038) FMID(HAA1100).\n++PTF(UA00003).\n++VER(Z038) FMID(HAA1100).\n\
+    ++MAC(MACA) DISTLIB(AMACLIB) SYSLIB(MACLIB).\n\
+    \x20        MACRO                                                          00000010\n==\n\
+    - f line 2: dropped: columns 73 to 80 hold a text, which is not read: .ABC1\n\
+    ! f line 5: ++VER(Z038): left out: the line has more than 80 columns; put the rest on a line of its own\n\
+    ! f line 4: ++PTF(UA00002): left out: a statement of it can't be carried\n\
+    - f line 10: ++MAC(MACA): dropped: blank cards end a text that has numbers: at 12\n";
+
+#[test]
+fn long_lines_cost_their_statement(rt: HostRuntime) -> Result<(), Fail> {
+    check(rt.alloc(), LONG_LINES, LONG_LINES_CARRIED)
 }

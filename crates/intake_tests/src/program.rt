@@ -1,7 +1,7 @@
 //! The program over files in memory: statuses, what is left in the folder, and what is told on standard error.
 
 use fields::{Id, Reason};
-use intake_command::{Fault, Host, Named, command, keep_service};
+use intake_command::{IntakeFault, IntakeHost, Named, command, keep_service};
 use mcs::HoldItem;
 use std::alloc::Global;
 use std::io::{Error, ErrorKind};
@@ -25,6 +25,30 @@ const FILES: &[(&str, &[u8])] = &[
     ("bad", b"++HOLD(UA1) ERROR FMID(HAA1100) REASON(AA00001).\n"),
     ("cntl", b" SET BOUNDARY(TGT1).\n"),
     ("rc", b" APPLY PTFS RC(APPLY=8).\n"),
+    (
+        "group",
+        b" APPLY PTFS GROUPEXTEND(NOAPARS) SOURCEID(RSU*).\n",
+    ),
+    (
+        "known",
+        b"id kind sources\nUA00001 PTF RSU2401\nAA00001 APAR\n",
+    ),
+    (
+        "relfile",
+        b"++PTF(UA00003).\n++VER(Z038) FMID(HAA1100).\n++DATA(D3) DISTLIB(A) SYSLIB(B) RELFILE(1).\n",
+    ),
+    (
+        "other",
+        b"++PTF(UA00004).\n++VER(Z038) FMID(HAA1100).\n++DATA(D3) DISTLIB(A) SYSLIB(B) RELFILE(1).\n",
+    ),
+    ("r/F1/D3", b"A TEXT\n"),
+    ("r/UA00004/F1/D3", b"ANOTHER TEXT\n"),
+    ("gzip", b"\x1F\x8B\x08"),
+    ("jcl", b"//STEP EXEC PGM=GIMSMP\n++PTF(UA00001).\n"),
+    (
+        "holds",
+        b"++HOLD(UA00001) ERROR FMID(HAA1100) REASON(AA00001)\n",
+    ),
 ];
 
 /// The words behind the program's name, with blanks between; the status, what is left in the folder, and what is told.
@@ -32,9 +56,21 @@ const CASES: &str = "\
 --out d ptf => 0 ptfin hold remarks
 --out d ptf hold => 0 ptfin hold remarks
 --out d mod => 4 ptfin hold remarks
---out d --decide mod => 0 ptfin hold remarks
---out d --cntl cntl => 0 cntl remarks
---out d --cntl rc => 12 remarks
+--out d --decide mod => 0 ptfin hold stand-ins remarks
+--out d --relfile r relfile => 0 ptfin hold remarks
+--out d --relfile r other => 0 ptfin hold remarks
+--out d --relfile r relfile other => 4 ptfin hold remarks
+--out d --relfile s relfile => 4 ptfin hold remarks
+--out d --cntl cntl => 0 cntl cntl.remarks
+--out d --cntl rc => 12 cntl.remarks
+--out d --cntl group => 12 cntl.remarks
+--out d --cntl group --known known => 0 cntl cntl.remarks
+--out d --cntl group --known ptf => 16 smpe-intake: ptf line 2: a line has an id, a type and source ids
+--out . hold => 16 smpe-intake: ./hold would replace the input hold: give another folder with --out
+--out . --cntl cntl => 16 smpe-intake: ./cntl would replace the input cntl: give another folder with --out
+--out d gzip => 16 smpe-intake: gzip: it is compressed by gzip: unpack it first
+--out d jcl => 16 smpe-intake: jcl line 1: JCL stands there: give the cards after its DD * without it
+--out d holds => 16 smpe-intake: holds line 1: ++HOLD(UA00001): refused: its period is missing
 --out d empty => 16 smpe-intake: no statement found
 --out d ptf none => 16 smpe-intake: cannot read none
 --out full ptf => 16 smpe-intake: cannot write into full
@@ -52,6 +88,7 @@ ptf => 16 shown
 struct Memory {
     alloc: Global,
     left: Vec<u8>,
+    printed: Vec<u8>,
     told: Vec<u8>,
 }
 
@@ -60,12 +97,13 @@ impl Memory {
         Memory {
             alloc,
             left: Vec::new(alloc),
+            printed: Vec::new(alloc),
             told: Vec::new(alloc),
         }
     }
 }
 
-impl Host for Memory {
+impl IntakeHost for Memory {
     ghost gives = { λ _ _ _ _. Unit {0} };
 
     ghost withholds = { λ _ _ _ _. Unit {0} };
@@ -96,8 +134,12 @@ impl Host for Memory {
         Ok(())
     }
 
-    fn print(&mut self, _text: &[u8]) -> io::Result<()> {
-        Ok(())
+    fn is_same(&mut self, one: &str, other: &str) -> bool {
+        one.strip_prefix("./").unwrap_or(one) == other
+    }
+
+    fn print(&mut self, text: &[u8]) -> io::Result<()> {
+        Ok(self.printed.extend_from_slice(text)?)
     }
 
     fn tell(&mut self, text: &[u8]) {
@@ -140,6 +182,41 @@ fn answers_its_status(rt: HostRuntime) -> Result<(), Fail> {
     Ok(())
 }
 
+/// What is printed of a PTF and of one with a module: first what is left out, and then how much there is of each.
+const SUMMARY: &str = "LEFTOUT ++PTF(UA00002): ++MOD(M2): no statement of the profile
+FORBIDS       1 left out have elements, NPRE or DELETE, which nothing asks for now
+SYSMOD        1 carried       1 left out
+HOLD          0 carried       0 left out
+RELEASE       0 carried       0 left out
+ASSIGN        0 carried       0 left out
+REMARK        1 left out: no statement of the profile
+REMARK        1 left out: a statement of it can't be carried
+";
+
+/// The same for a program.
+const JSON: &str =
+    "{\"left_out\":[{\"statement\":\"++PTF\",\"id\":\"UA00002\",\"cause\":\"++MOD(M2): no statement \
+of the profile\"}],\"holds_outside\":0,\"in_comments\":0,\"forbids\":1,\"stand_ins\":0,\
+\"sysmods\":{\"carried\":1,\"left_out\":1},\"holds\":{\"carried\":0,\"left_out\":0},\
+\"releases\":{\"carried\":0,\"left_out\":0},\"assigns\":{\"carried\":0,\"left_out\":0},\
+\"remarks\":[{\"count\":1,\"deed\":\"left out\",\"reason\":\"no statement of the profile\"},\
+{\"count\":1,\"deed\":\"left out\",\"reason\":\"a statement of it can't be carried\"}]}
+";
+
+#[test]
+fn a_summary_begins_with_what_is_left_out(rt: HostRuntime) -> Result<(), Fail> {
+    let alloc = rt.alloc();
+    for (line, wanted) in [
+        ("--out d ptf mod", SUMMARY),
+        ("--out d --summary json ptf mod", JSON),
+    ] {
+        let mut memory = Memory::new(alloc);
+        let _ = command(alloc, &mut memory, &Ok(words(alloc, line)?));
+        assert_eq!(rt; str::from_utf8(&memory.printed)?, wanted, "at {line}");
+    }
+    Ok(())
+}
+
 // A hold with this comment, which cards may not be able to say.
 fn held(alloc: Global, comment: &str) -> Result<Vec<HoldItem>, Fail> {
     let mut holds = Vec::new(alloc);
@@ -167,10 +244,10 @@ fn writes_nothing_that_is_not_read_back(rt: HostRuntime) -> Result<(), Fail> {
     ] {
         let mut memory = Memory::new(alloc);
         let holds = held(alloc, comment)?;
-        let kept = keep_service(alloc, &mut memory, "d", &[], &holds, Vec::new(alloc));
+        let kept = keep_service(alloc, &mut memory, "d", &[], &holds, None, Vec::new(alloc));
         assert_eq!(rt; kept.is_ok(), is_kept, "at {comment}");
         assert_eq!(rt;
-            matches!(kept, Err(Fault::NotReadBack(_))),
+            matches!(kept, Err(IntakeFault::NotReadBack(_))),
             !is_kept,
             "at {comment}"
         );

@@ -53,7 +53,7 @@ const HOLDS: &str = "\
 /// `++ASSIGN`s, and the items of each file.
 const ASSIGNS: &str = "\
 ++ASSIGN SOURCEID(S) TO(A,B).|++PTF(A).|++ASSIGN SOURCEID(A,B) TO() FOR(C).|++VER(Z038). => \
-; PTF A; VER SREL Z038; ASSIGN SOURCEID(S) TO A B; ASSIGN bad:SOURCEID(A,B) bad:TO() unknown:FOR(C)
+; PTF A; VER SREL Z038; ASSIGN SOURCEID(S) TO A B; ASSIGN SOURCEID(A,B) bad:TO() unknown:FOR(C)
 ";
 
 /// Elements, and the items of each file.
@@ -107,13 +107,17 @@ SET BDY(GLOBAL).|++PTF(A). => ; refused: no statement 1
 ++IF FMID(F) REQ(A). => ; refused: misplaced 1
 ++JCLIN. => ; refused: load modules 1
 ++NEWS(A). => ; refused: unknown 1
-++FEATURE(A)|++PTF(A). => ; refused: no period 1
-++PTF(A).|++HOLD(A) COMMENT(B.|++PTF(B). => ; refused: open 2
-++HOLD(A) ERROR|++HOLD(B) ERROR. => ; refused: no period 1
-++HOLD ERROR. => ; refused: no name 1
-++RELEASE(A) ERROR).  => ; refused: parenthesis 1
-++ASSIGN SOURCEID='S' TO(A). => ; refused: character 1
-++ASSIGN SOURCEID(S) TO(A).|WHAT => ; refused: behind 1
+";
+
+/// Statements beside SYSMODs that are at fault, and the items of each file.
+const AT_FAULT_BESIDE: &str = "\
+++FEATURE(A)|++PTF(A). => ; PTF A; no period: FEATURE A +0
+++PTF(A).|++HOLD(A) COMMENT(B.|++PTF(B). => ; PTF A; PTF B; open: HOLD A COMMENT +0
+++HOLD(A) ERROR|++HOLD(B) ERROR. => ; HOLD B ERROR; no period: HOLD A ERROR +0
+++HOLD ERROR. => ; no name: HOLD  ERROR +0
+++RELEASE(A) ERROR).  => ; parenthesis: RELEASE A ERROR +0
+++ASSIGN SOURCEID='S' TO(A). => ; character: ASSIGN  SOURCEID S TO(A) +0
+++ASSIGN SOURCEID(S) TO(A).|WHAT => ; behind: ASSIGN  SOURCEID(S) TO(A) +0
 ";
 
 /// The lines of a file, with a bar between two.
@@ -165,12 +169,17 @@ fn a_faulty_statement_outside_sysmods_refuses_the_file(rt: HostRuntime) -> Resul
     check(rt.alloc(), REFUSED, false)
 }
 
+#[test]
+fn a_faulty_statement_beside_sysmods_is_kept_beside_them(rt: HostRuntime) -> Result<(), Fail> {
+    check(rt.alloc(), AT_FAULT_BESIDE, false)
+}
+
 /// Files, and their items with what is noted.
 const NOTED: &str = "\
 ++ptf(ua00001) desc(First Fix).|++ver(z038)| fmid(haa1100).|++hold(A) comment(Text).|++MOD(a) RELFILE(1). => \
 ; PTF UA00001 -DESC(First Fix); VER SREL Z038 FMID(HAA1100); HOLD A COMMENT(Text); MOD A RELFILE(1) +0; lower 1 x 4
 ++PTF(A) DESC(First). => ; PTF A -DESC(First)
-++PTF(A).|/*|++PTF(B).|++PTF(C).|*/|++PTF(D). => ; PTF A; PTF D; commented 3 x 2
+++PTF(A).|/*|++PTF(B).|++PTF(C).|*/|++PTF(D). => ; PTF A; PTF D; in the comment of 2: PTF B; in the comment of 2: PTF C
 ";
 
 #[test]

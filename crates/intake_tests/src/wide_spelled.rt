@@ -1,6 +1,6 @@
 //! The items of a wide file as text.
 
-use intake_cards::{Code, Form, Place, read_cards};
+use intake_cards::{CardPlace, Code, Layout, read_cards};
 use intake_read::{
     NoteReason, OddOperand, OddReason, OtherReason, WideAssign, WideElement, WideError, WideFile,
     WideHold, WideHoldKind, WideIf, WideOperand, WideOther, WideRelease, WideSysmod, WideVer,
@@ -237,10 +237,17 @@ impl Spelled {
     }
 
     fn notes(&mut self, file: &WideFile) -> Result<(), AllocError> {
+        for one in file.swallowed.as_slice() {
+            self.put(b"; in the comment of ")?;
+            self.number(one.comment.card)?;
+            self.put(b": ")?;
+            self.put(one.word.as_slice())?;
+            self.put(b" ")?;
+            self.put(one.name.as_slice())?;
+        }
         for note in file.notes.as_slice() {
             self.put(match note.reason {
                 NoteReason::LowerCase => b"; lower ",
-                NoteReason::StatementInComment => b"; commented ",
                 NoteReason::TextIn73 => b"; behind 72 ",
             })?;
             self.number(note.place.card)?;
@@ -263,6 +270,7 @@ pub(crate) fn reason_text(reason: OtherReason) -> &'static [u8] {
         OtherReason::StrayCharacter => b"character",
         OtherReason::TextBehind => b"behind",
         OtherReason::NoName => b"no name",
+        OtherReason::LongLine => b"long line",
         OtherReason::Misplaced => b"misplaced",
     }
 }
@@ -280,7 +288,7 @@ pub(crate) fn with_notes(alloc: Global, bytes: &[u8]) -> Result<Spelled, AllocEr
 pub(crate) fn spelled_file(
     alloc: Global,
     bytes: &[u8],
-    form: Option<Form>,
+    form: Option<Layout>,
     code: Option<Code>,
     has_notes: bool,
 ) -> Result<Spelled, AllocError> {
@@ -302,9 +310,9 @@ pub(crate) fn spelled_file(
 }
 
 fn put_error(found: &mut Spelled, error: WideError) -> Result<(), AllocError> {
-    let (text, place): (&[u8], Place) = match error {
+    let (text, place): (&[u8], CardPlace) = match error {
         WideError::Memory => return Err(AllocError),
-        WideError::NoStatement { place } => (b"no statement", place),
+        WideError::NoStatement { place, .. } => (b"no statement", place),
         WideError::OpenComment { place } => (b"open comment", place),
         WideError::Statement { place, reason, .. } => (reason_text(reason), place),
     };

@@ -2,16 +2,16 @@
 //! What it does is `intake_command::command`; here is the input and output that it asks for, which is proved safe.
 #![tactic(auto)]
 
-mod host;
-mod words;
+mod arguments;
+mod file_system;
 
-use host::System;
+use arguments::words;
+use file_system::FileSystem;
 use intake_command::command;
 use std::process::ExitCode;
-use words::words;
 
 fn main(rt: HostRuntime) -> ExitCode {
     let words = words(&rt);
-    let mut host = System { rt: &rt };
+    let mut host = FileSystem { rt: &rt };
     ExitCode::from(command(rt.alloc(), &mut host, &words))
 }

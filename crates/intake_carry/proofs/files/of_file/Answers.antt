@@ -15,6 +15,6 @@ returns c =
     (sym (c.in_ok-gathered-3.ensures.items ∙ c.in_ok-gathered-2.ensures.items))
     (sym (c.in_ok-gathered-3.ensures.outside ∙ ap (λ o. o ++ back) c.in_ok-gathered-2.ensures.outside))
     (one_file c.args.options.now.decide c.args.file.now g.items.items front holds back c.in_ok-gathered.ensures
-    (subst (All (IsHeldBy [] holds)) c.as_slice-3.ensures.value c.in_ok-holds.ensures.held) c.in_ok-holds.ensures.holds
-    (subst (All (IsReleased back)) c.as_slice-4.ensures.value c.in_ok-releases.ensures.released)
-    (subst (λ l. All (IsStatedRelease l) back) c.as_slice-4.ensures.value c.in_ok-releases.ensures.stated))
+    (subst (All (IsHeldBy [] holds)) c.as_slice-4.ensures.value c.in_ok-holds.ensures.held) c.in_ok-holds.ensures.holds
+    (subst (All (IsReleased back)) c.as_slice-5.ensures.value c.in_ok-releases.ensures.released)
+    (subst (λ l. All (IsStatedRelease l) back) c.as_slice-5.ensures.value c.in_ok-releases.ensures.stated))

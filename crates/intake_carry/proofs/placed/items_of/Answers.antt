@@ -2,11 +2,11 @@ use Rattle.std.proofs.Common.{◌≡◌, ◌∷◌, [], ◌++◌, length, sym, a
 use Rattle.std.specs.Vec.Iter.{into_iter_items}
 use Rattle.std.proofs.lemmas.List.{map-append, nil_from_length}
 use Rattle.mcs.specs.declared.hold_item.HoldItem.{HoldItem}
-use Rattle.intake_carry.specs.declared.placed.Placed.{Placed}
+use Rattle.intake_carry.specs.declared.placed.PlacedItem.{PlacedItem}
 use Rattle.intake_carry.specs.Gathered.{placed_items}
 use Rattle.intake_carry.proofs.placed.items_of.Goals as goal
 
-item_of : Placed → HoldItem
+item_of : PlacedItem → HoldItem
 item_of p = p.item
 
 pub loop-one-preserved : goal.loop-one-preserved

@@ -9,6 +9,6 @@ returns-in-Ok-clause-ok g c = (
   c.args.remarks.items,
   c.requires.0,
   c.requires.1,
-  kept g.H.Host _ _ _ _ _ (ap (λ files. map named files) c.deref.ensures.value ∙ c.in_ok-files.ensures)
+  kept g.H.IntakeHost _ _ _ _ _ (ap (λ files. map named files) c.deref.ensures.value ∙ c.in_ok-files.ensures)
       c.in-Ok.ensures.ok,
 )

@@ -6,6 +6,6 @@ use Rattle.intake_command.proofs.keep.keep_remarks.Goals as goal
 pub returns-in-Ok-clause-ok : goal.returns-in-Ok-clause-ok
 returns-in-Ok-clause-ok g c = (
   c.args.remarks.items,
-  kept g.H.Host _ _ _ _ _ (ap (λ files. map named files) c.deref.ensures.value ∙ c.in_ok-files.ensures)
+  kept g.H.IntakeHost _ _ _ _ _ (ap (λ files. map named files) c.deref.ensures.value ∙ c.in_ok-files.ensures)
       c.in-Ok.ensures.ok,
 )

@@ -23,30 +23,30 @@ fn word(rt: &HostRuntime, place: usize) -> Result<Option<Vec<u8>>, AllocError> {
     let mut size = FIRST_SIZE;
     for _ in 0..usize::BITS {
         match word_within(rt, place, size)? {
-            Found::There(word) => return Ok(Some(word)),
-            Found::NoMore => return Ok(None),
-            Found::TooLong => size = size.saturating_add(size),
+            FoundWord::There(word) => return Ok(Some(word)),
+            FoundWord::NoMore => return Ok(None),
+            FoundWord::TooLong => size = size.saturating_add(size),
         }
     }
     Err(AllocError)
 }
 
 #[derive(Drop)]
-enum Found {
+enum FoundWord {
     There(Vec<u8>),
     NoMore,
     TooLong,
 }
 
-fn word_within(rt: &HostRuntime, place: usize, size: usize) -> Result<Found, AllocError> {
+fn word_within(rt: &HostRuntime, place: usize, size: usize) -> Result<FoundWord, AllocError> {
     let mut word = Vec::new(rt.alloc());
     word.resize(size, 0)?;
     match rt.arg(place, word.as_mut_slice()) {
         Ok(length) => {
             word.truncate(length);
-            Ok(Found::There(word))
+            Ok(FoundWord::There(word))
         }
-        Err(FillError::TooLong) => Ok(Found::TooLong),
-        Err(FillError::NotPresent) => Ok(Found::NoMore),
+        Err(FillError::TooLong) => Ok(FoundWord::TooLong),
+        Err(FillError::NotPresent) => Ok(FoundWord::NoMore),
     }
 }

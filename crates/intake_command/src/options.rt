@@ -4,29 +4,35 @@
 use clap::error::ErrorKind;
 use clap::{Arg, ArgAction, ArgMatches, Command};
 use fields::Name;
-use intake_cards::{Code, Form};
+use intake_cards::{Code, Layout};
 use intake_sysmod::Syslib;
 use std::alloc::{AllocError, AllocFailed, Global};
 
 /// What `--version` prints behind the name.
 const VERSION: &str = "1.0.0";
 
+static SUMMARIES: [&str; 2] = ["text", "json"];
+
 static CODES: [&str; 3] = ["ascii", "ibm1047", "ibm037"];
 
 /// What the program is asked to do. The texts are the names of files and folders.
 #[derive(Drop)]
-pub struct Asked {
+pub struct IntakeOptions {
     /// The folder of what is written.
     pub out: String,
     pub files: Vec<String>,
     /// The command file, in place of the files.
     pub cntl: Option<String>,
+    /// The list of the SYSMODs that are known, for the command file.
+    pub known: Option<String>,
     /// The folder of the files that RELFILE speaks of.
     pub relfile: Option<String>,
     /// For each DISTLIB, the SYSLIB that is given.
     pub syslibs: Vec<Syslib>,
     pub decide: bool,
-    pub form: Option<Form>,
+    /// The summary is for programs.
+    pub json: bool,
+    pub form: Option<Layout>,
     pub code: Option<Code>,
 }
 
@@ -64,7 +70,7 @@ impl From<clap::Error> for WordsFault {
 }
 
 /// Reads the words, of which the first is the program's name.
-pub(crate) fn read_words(alloc: Global, words: &[Vec<u8>]) -> Result<Asked, WordsFault> {
+pub(crate) fn read_words(alloc: Global, words: &[Vec<u8>]) -> Result<IntakeOptions, WordsFault> {
     let mut texts: Vec<String> = Vec::new(alloc);
     for word in words {
         match str::from_utf8(word.as_slice()) {
@@ -103,6 +109,12 @@ fn command_line<'a>(alloc: Global) -> Result<Command<'a>, AllocError> {
             "FILE",
             "A command file, in place of the others",
         ))?
+        .arg(named(
+            alloc,
+            "known",
+            "FILE",
+            "With --cntl: the SYSMODs that GROUPEXTEND(NOAPARS) and SOURCEID(RSU*) are about",
+        ))?
         .arg(flag(alloc, "text", "The files have lines").conflicts_with("records")?)?
         .arg(flag(alloc, "records", "The files have records of 80 bytes"))?
         .arg(named(alloc, "code", "CODE", "The code of the files").value_parser(CODES.as_slice()))?
@@ -123,6 +135,9 @@ fn command_line<'a>(alloc: Global) -> Result<Command<'a>, AllocError> {
             alloc,
             "decide",
             "Carries stand-ins for elements that smpe lacks",
+        ))?
+        .arg(named(alloc, "summary", "FORM", "The form of the summary").value_parser(
+            SUMMARIES.as_slice(),
         ))?
         .arg(files(alloc)?)
 }
@@ -148,14 +163,16 @@ fn files<'a>(alloc: Global) -> Result<Arg<'a>, AllocError> {
         .required_unless_present("cntl")
 }
 
-fn values(alloc: Global, found: &ArgMatches<'_>) -> Result<Asked, WordsFault> {
-    Ok(Asked {
+fn values(alloc: Global, found: &ArgMatches<'_>) -> Result<IntakeOptions, WordsFault> {
+    Ok(IntakeOptions {
         out: text(alloc, found, "out")?.unwrap_or(String::new(alloc)),
         files: texts(alloc, found, "file")?,
         cntl: text(alloc, found, "cntl")?,
+        known: text(alloc, found, "known")?,
         relfile: text(alloc, found, "relfile")?,
         syslibs: syslibs(alloc, found)?,
         decide: found.get_flag("decide"),
+        json: found.get_str("summary") == Some("json"),
         form: form(found),
         code: code(found),
     })
@@ -178,11 +195,11 @@ fn texts(alloc: Global, found: &ArgMatches<'_>, id: &str) -> Result<Vec<String>,
     Ok(texts)
 }
 
-fn form(found: &ArgMatches<'_>) -> Option<Form> {
+fn form(found: &ArgMatches<'_>) -> Option<Layout> {
     if found.get_flag("text") {
-        Some(Form::Text)
+        Some(Layout::Text)
     } else if found.get_flag("records") {
-        Some(Form::Records)
+        Some(Layout::Records)
     } else {
         None
     }

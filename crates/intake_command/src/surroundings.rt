@@ -8,7 +8,7 @@ use std::io;
 
 /// The surroundings of the program. Each ghost member relates them before a call, what was asked and answered, and them
 /// after it.
-pub trait Host {
+pub trait IntakeHost {
     /// The file of this name was read, and has these bytes.
     ghost gives: { Self → List ℕ → List ℕ → Self → Type 0 };
 
@@ -26,11 +26,15 @@ pub trait Host {
         ensures ok { IfOk result (λ bytes. gives self.old name.now bytes.items self.new) }
         ensures err { IfErr result (λ error. withholds self.old name.now error self.new) };
 
-    /// Puts all files into the folder, which is made where it is not there, and takes those away that have no bytes.
+    /// Puts all files into the folder, and takes those away that have no bytes. The folder is made if it is not there
+    /// and a file has bytes.
     /// The error tells why that can't be done; then nothing of these is left in it.
     fn keep(&mut self, folder: &str, files: &[Named]) -> io::Result<()>
         ensures ok { OnOk result (keeps self.old folder.now (map named files.now) self.new) }
         ensures err { IfErr result (λ error. loses self.old folder.now (map named files.now) error self.new) };
+
+    /// Whether both names are of one file that is there.
+    fn is_same(&mut self, one: &str, other: &str) -> bool;
 
     /// Writes on standard output. The error tells why that can't be done.
     fn print(&mut self, text: &[u8]) -> io::Result<()>;

@@ -1,19 +1,19 @@
 //! What is told of a command.
 
-use intake_cards::{Deed, Reason, Remark};
-use intake_read::Place;
+use intake_cards::{Deed, Remark, RemarkReason};
+use intake_read::CardPlace;
 use std::alloc::{AllocError, Global};
 
 /// The remarks so far, and how many of them say that nothing is written.
 #[derive(Drop)]
-pub(crate) struct Told {
+pub(crate) struct CommandRemarks {
     pub(crate) remarks: Vec<Remark>,
     pub(crate) refusals: usize,
 }
 
-impl Told {
-    pub(crate) fn new(alloc: Global) -> Told {
-        Told {
+impl CommandRemarks {
+    pub(crate) fn new(alloc: Global) -> CommandRemarks {
+        CommandRemarks {
             remarks: Vec::new(alloc),
             refusals: 0,
         }
@@ -23,10 +23,10 @@ impl Told {
     pub(crate) fn tell(
         &mut self,
         alloc: Global,
-        place: Place,
-        words: Words<'_>,
+        place: CardPlace,
+        words: RemarkWords<'_>,
         deed: Deed,
-        reason: Reason,
+        reason: RemarkReason,
     ) -> Result<(), AllocError> {
         if deed == Deed::Refused {
             self.refusals = self.refusals.saturating_add(1);
@@ -46,7 +46,7 @@ impl Told {
 
 /// The words that a remark names.
 #[derive(Clone, Copy, Debug)]
-pub(crate) struct Words<'a> {
+pub(crate) struct RemarkWords<'a> {
     pub(crate) command: &'a [u8],
     pub(crate) operand: &'a [u8],
     pub(crate) text: &'a [u8],

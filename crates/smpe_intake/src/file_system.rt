@@ -1,17 +1,17 @@
 //! The files, input and output of the system that the program runs on.
 
-use intake_command::{Host, Named};
+use intake_command::{IntakeHost, Named};
 use std::io::Write;
 use std::{fs, io};
 
 /// The system, by what the program was started with.
 #[derive(Drop)]
-pub(crate) struct System<'a> {
+pub(crate) struct FileSystem<'a> {
     pub(crate) rt: &'a HostRuntime,
 }
 
 // Nothing is said of the system: the relations hold of all.
-impl Host for System<'_> {
+impl IntakeHost for FileSystem<'_> {
     ghost gives = { λ _ _ _ _. Unit {0} };
 
     ghost withholds = { λ _ _ _ _. Unit {0} };
@@ -25,12 +25,23 @@ impl Host for System<'_> {
     }
 
     fn keep(&mut self, folder: &str, files: &[Named]) -> io::Result<()> {
-        fs::create_dir_all(self.rt, folder)?;
+        if files.iter().any(|file| file.bytes.is_some()) {
+            fs::create_dir_all(self.rt, folder)?;
+        }
         let kept = self.keep_in(folder, files);
         if kept.is_err() {
             self.take_away(folder, files, ".new");
         }
         kept
+    }
+
+    fn is_same(&mut self, one: &str, other: &str) -> bool {
+        let one = fs::canonicalize(self.rt, one);
+        let other = fs::canonicalize(self.rt, other);
+        match (one, other) {
+            (Ok(one), Ok(other)) => one == other,
+            _ => false,
+        }
     }
 
     fn print(&mut self, text: &[u8]) -> io::Result<()> {
@@ -46,7 +57,7 @@ impl Host for System<'_> {
     }
 }
 
-impl System<'_> {
+impl FileSystem<'_> {
     // All files are written under other names first. Then those of earlier runs go, and these come in their places; the
     // remarks are last, so that where they are, all are.
     fn keep_in(&self, folder: &str, files: &[Named]) -> io::Result<()> {

@@ -1,0 +1,115 @@
+//! GROUPEXTEND without APARs or USERMODs.
+
+use crate::carry::{AskedOperand, CarriedOperand, MOST, Value, has_word, put_once};
+use crate::command_remarks::CommandRemarks;
+use crate::known::KnownSysmod;
+use intake_cards::{Deed, RemarkReason};
+use std::alloc::{AllocError, Global};
+use terms::Kind;
+
+/// A member of GROUPEXTEND: the word, the type that it keeps out, and the operand that chooses all SYSMODs of the type.
+type KeptOut = (&'static [u8], Kind, &'static [u8]);
+
+const KEPT_OUT: &[KeptOut] = &[
+    (b"NOAPARS", Kind::Apar, b"APARS"),
+    (b"NOUSERMODS", Kind::Usermod, b"USERMODS"),
+];
+
+/// The operands, with the known SYSMODs of each type that GROUPEXTEND keeps out in EXCLUDE. Those that SELECT names stay.
+pub(crate) fn with_excluded(
+    alloc: Global,
+    told: &mut CommandRemarks,
+    asked: &AskedOperand<'_>,
+    mut carried: Vec<CarriedOperand>,
+) -> Result<Vec<CarriedOperand>, AllocError> {
+    let mut ids: Vec<Vec<u8>> = Vec::new(alloc);
+    for member in asked.operand.text().split(|b| *b == b' ' || *b == b',') {
+        if member.is_empty() {
+            continue;
+        }
+        let Some((_, kind, choosing)) = KEPT_OUT.iter().find(|(word, _, _)| *word == member) else {
+            asked.refuse(alloc, told, member, RemarkReason::NoOperand)?;
+            continue;
+        };
+        if has_word(&carried, *choosing) {
+            asked.refuse(alloc, told, member, RemarkReason::Contradiction)?;
+        }
+        let Some(known) = asked.known else {
+            asked.refuse(alloc, told, member, RemarkReason::NeedsKnown)?;
+            continue;
+        };
+        asked.tell(
+            alloc,
+            told,
+            member,
+            Deed::Carried,
+            RemarkReason::KnownExcluded,
+        )?;
+        put_of_kind(alloc, known, *kind, &carried, &mut ids)?;
+    }
+    put_excluded(alloc, &mut carried, ids)?;
+    if has_long_exclude(&carried) {
+        asked.refuse(alloc, told, b"", RemarkReason::LongList)?;
+    }
+    Ok(carried)
+}
+
+// Puts the ids of the SYSMODs of the type, but for those that SELECT names, into the list.
+fn put_of_kind(
+    alloc: Global,
+    known: &[KnownSysmod],
+    kind: Kind,
+    carried: &[CarriedOperand],
+    ids: &mut Vec<Vec<u8>>,
+) -> Result<(), AllocError> {
+    for sysmod in known {
+        let id = sysmod.id.as_bytes();
+        if sysmod.kind == kind && !is_selected(carried, id) {
+            put_once(alloc, ids, id)?;
+        }
+    }
+    Ok(())
+}
+
+fn is_selected(carried: &[CarriedOperand], id: &[u8]) -> bool {
+    for operand in carried {
+        if operand.word == b"SELECT".as_slice() {
+            if let Value::List(ids) = &operand.value {
+                return ids.iter().any(|other| other.as_slice() == id);
+            }
+        }
+    }
+    false
+}
+
+// Appends the ids to EXCLUDE, which is made if it is not there.
+fn put_excluded(
+    alloc: Global,
+    carried: &mut Vec<CarriedOperand>,
+    ids: Vec<Vec<u8>>,
+) -> Result<(), AllocError> {
+    for operand in carried.iter_mut() {
+        if operand.word == b"EXCLUDE".as_slice() {
+            if let Value::List(excluded) = &mut operand.value {
+                for id in &ids {
+                    put_once(alloc, excluded, id.as_slice())?;
+                }
+                return Ok(());
+            }
+        }
+    }
+    if !ids.is_empty() {
+        carried.push(CarriedOperand {
+            word: b"EXCLUDE",
+            value: Value::List(ids),
+        })?;
+    }
+    Ok(())
+}
+
+fn has_long_exclude(carried: &[CarriedOperand]) -> bool {
+    carried.iter().any(|operand| match &operand.value {
+        Value::List(ids) => operand.word == b"EXCLUDE".as_slice() && ids.len() > MOST,
+        _ => false,
+    })
+}

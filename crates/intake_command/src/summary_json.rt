@@ -1,0 +1,122 @@
+//! The summary of a run over files for programs: one object in JSON.
+
+use crate::summary::{cause_of, cause_text, counts_of, is_left_out, number_of};
+use intake_cards::{Remark, RemarkReason};
+use intake_carry::{Narrowed, Tally};
+use std::alloc::{AllocError, Global};
+
+// A text in quotation marks. A byte that is no printable ASCII is a question mark.
+fn put_text(json: &mut Vec<u8>, text: &[u8]) -> Result<(), AllocError> {
+    json.push(b'"')?;
+    for byte in text {
+        match byte {
+            b'"' | b'\\' => {
+                json.push(b'\\')?;
+                json.push(*byte)?;
+            }
+            0x20..=0x7e => json.push(*byte)?,
+            _ => json.push(b'?')?,
+        }
+    }
+    json.push(b'"')?;
+    Ok(())
+}
+
+// The name of a member of an object.
+fn put_name(json: &mut Vec<u8>, name: &str) -> Result<(), AllocError> {
+    if !json.as_slice().ends_with(b"{") {
+        json.push(b',')?;
+    }
+    put_text(json, name.as_bytes())?;
+    json.push(b':')?;
+    Ok(())
+}
+
+fn put_number(
+    alloc: Global,
+    json: &mut Vec<u8>,
+    name: &str,
+    number: usize,
+) -> Result<(), AllocError> {
+    put_name(json, name)?;
+    json.extend_from_slice(format!(in alloc; "{number}")?.as_bytes())
+}
+
+fn put_tally(
+    alloc: Global,
+    json: &mut Vec<u8>,
+    name: &str,
+    tally: Tally,
+) -> Result<(), AllocError> {
+    put_name(json, name)?;
+    json.push(b'{')?;
+    put_number(alloc, json, "carried", tally.carried)?;
+    put_number(alloc, json, "left_out", tally.left_out)?;
+    json.push(b'}')?;
+    Ok(())
+}
+
+// Begins an object of a list.
+fn begin(json: &mut Vec<u8>) -> Result<(), AllocError> {
+    if !json.as_slice().ends_with(b"[") {
+        json.push(b',')?;
+    }
+    json.push(b'{')?;
+    Ok(())
+}
+
+fn put_left_out(json: &mut Vec<u8>, remarks: &[Remark]) -> Result<(), AllocError> {
+    put_name(json, "left_out")?;
+    json.push(b'[')?;
+    for (place, remark) in remarks.iter().enumerate() {
+        if is_left_out(remark) {
+            begin(json)?;
+            put_name(json, "statement")?;
+            put_text(json, &remark.statement)?;
+            put_name(json, "id")?;
+            put_text(json, &remark.id)?;
+            put_name(json, "cause")?;
+            put_text(json, &cause_text(cause_of(remarks, place, remark))?)?;
+            json.push(b'}')?;
+        }
+    }
+    json.push(b']')?;
+    Ok(())
+}
+
+fn put_remarks(alloc: Global, json: &mut Vec<u8>, remarks: &[Remark]) -> Result<(), AllocError> {
+    put_name(json, "remarks")?;
+    json.push(b'[')?;
+    for told in &counts_of(alloc, remarks)? {
+        begin(json)?;
+        put_number(alloc, json, "count", told.count)?;
+        put_name(json, "deed")?;
+        put_text(json, told.deed.words().as_bytes())?;
+        put_name(json, "reason")?;
+        put_text(json, told.reason.words().as_bytes())?;
+        json.push(b'}')?;
+    }
+    json.push(b']')?;
+    Ok(())
+}
+
+/// The same as the summary in lines: what is left out and why, what else matters, and how much there is of each.
+pub(crate) fn json_summary(alloc: Global, narrowed: &Narrowed) -> Result<Vec<u8>, AllocError> {
+    let remarks = narrowed.remarks.as_slice();
+    let mut json = Vec::new(alloc);
+    json.push(b'{')?;
+    put_left_out(&mut json, remarks)?;
+    let held = number_of(remarks, RemarkReason::HeldOutside);
+    put_number(alloc, &mut json, "holds_outside", held)?;
+    let swallowed = number_of(remarks, RemarkReason::StatementInComment);
+    put_number(alloc, &mut json, "in_comments", swallowed)?;
+    put_number(alloc, &mut json, "forbids", narrowed.forbidding)?;
+    put_number(alloc, &mut json, "stand_ins", narrowed.stand_ins)?;
+    put_tally(alloc, &mut json, "sysmods", narrowed.sysmods)?;
+    put_tally(alloc, &mut json, "holds", narrowed.holds)?;
+    put_tally(alloc, &mut json, "releases", narrowed.releases)?;
+    put_tally(alloc, &mut json, "assigns", narrowed.assigns)?;
+    put_remarks(alloc, &mut json, remarks)?;
+    json.extend_from_slice(b"}\n")?;
+    Ok(json)
+}
