@@ -1,8 +1,8 @@
 //! A card.
 use crate::place::CardPlace;
 
-/// A card: 80 columns, with blanks after a shorter line. The bytes are ASCII, whatever the file's code was. A letter that
-/// ASCII lacks is its byte in ISO 8859-1, or `NO_LATIN` if it has none.
+/// A card: 80 columns, with blanks after a shorter line. The bytes are ASCII, whatever the file's code was. A letter
+/// that ASCII lacks is its byte in ISO 8859-1, or `NO_LATIN` if it has none.
 #[derive(Clone, Copy, Debug, PartialEq, Eq)]
 pub struct Card {
     pub place: CardPlace,
@@ -13,7 +13,7 @@ pub struct Card {
     pub ends_comment: bool,
 }
 
-/// What stands in columns 73 to 80.
+/// Columns 73 to 80.
 #[derive(Clone, Copy, Debug, PartialEq, Eq)]
 pub enum Tail {
     Blank,
@@ -33,7 +33,7 @@ impl Card {
         &self.text[..72]
     }
 
-    /// What stands in columns 73 to 80.
+    /// Columns 73 to 80.
     pub fn tail(&self) -> Tail {
         let tail = &self.text[72..];
         if is_blank(tail) {

@@ -1,18 +1,18 @@
-//! The text of a COMMENT, and how it stands on cards.
-//! A card has 71 characters of it, in columns 2 to 72, and between two cards stand two blanks.
+//! The text of a COMMENT, and its form on cards.
+//! A card has 71 characters of it, in columns 2 to 72; two blanks are between two cards.
 
 use crate::printed::PrintedCards;
 use std::alloc::{AllocError, Global};
 
-/// How many characters of a COMMENT stand on a card.
+/// How many characters of a COMMENT a card has.
 const ON_CARD: usize = 71;
 
 /// How many characters one card takes of a COMMENT, with the two blanks before the next card.
 const STRIDE: usize = 73;
 
-/// The words of the text with blanks between, as they stand on cards: where a word would run over the end of a card,
+/// The words of the text with blanks between, as they are on cards: if a word would run over the end of a card,
 /// more blanks move it to the next one, and a word that is longer than a card is cut in pieces. So what this answers
-/// is read as it is when it was printed. The error comes where memory runs out.
+/// is read as it is when it was printed.
 pub fn laid_out(alloc: Global, text: &[u8]) -> Result<Vec<u8>, AllocError> {
     let mut laid = Vec::with_capacity(alloc, text.len())?;
     for word in text.split(|b| *b == b' ') {
@@ -23,7 +23,7 @@ pub fn laid_out(alloc: Global, text: &[u8]) -> Result<Vec<u8>, AllocError> {
     Ok(laid)
 }
 
-/// Lays the word behind the others.
+/// Adds the word after the others.
 fn lay(laid: &mut Vec<u8>, word: &[u8]) -> Result<(), AllocError> {
     if !laid.is_empty() {
         laid.push(b' ')?;
@@ -38,7 +38,7 @@ fn lay(laid: &mut Vec<u8>, word: &[u8]) -> Result<(), AllocError> {
     Ok(())
 }
 
-/// Puts the text on cards of its own, in parentheses. The error comes where memory runs out.
+/// Puts the text on cards of its own, in parentheses.
 pub fn put_comment(cards: &mut PrintedCards, text: &[u8]) -> Result<(), AllocError> {
     cards.word(b"COMMENT(")?;
     for piece in text.chunks(STRIDE) {
@@ -48,7 +48,7 @@ pub fn put_comment(cards: &mut PrintedCards, text: &[u8]) -> Result<(), AllocErr
     cards.joined(b")")
 }
 
-/// What of a piece stands on a card.
+/// The part of a piece that is on a card.
 fn on_card(piece: &[u8]) -> &[u8] {
     match piece.split_at_checked(ON_CARD) {
         Some((front, _)) => front,

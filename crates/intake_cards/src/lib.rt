@@ -1,6 +1,6 @@
 //! A shop's file as cards, whatever its lines and its code are: 80 columns of ASCII each, and what was assumed. Also
-//! words on cards as they are printed, and what is told of a statement that is not carried just as it stands on its
-//! cards.
+//! words on cards as they are printed, and the remarks on a statement that is not carried exactly as it is on its
+//! cards. Every call that allocates fails with `AllocError` if memory runs out.
 #![tactic(auto)]
 
 mod card;

@@ -1,10 +1,10 @@
 //! A line as the columns of a card.
 use crate::code::Code;
 
-/// What stands in the column of a letter that ISO 8859-1 lacks.
+/// The character in place of a letter that ISO 8859-1 lacks.
 pub const NO_LATIN: u8 = 0xBF;
 
-/// What stands after column 80.
+/// The text after column 80.
 #[derive(Clone, Copy, Debug, PartialEq, Eq)]
 pub(crate) enum PastColumns {
     Nothing,
@@ -12,7 +12,7 @@ pub(crate) enum PastColumns {
     More,
 }
 
-/// The first 80 columns of a line, with blanks after a shorter one, and what stands after them.
+/// The first 80 columns of a line, with blanks after a shorter one, and the text after them.
 #[derive(Clone, Copy)]
 pub(crate) struct CutLine {
     pub(crate) text: [u8; 80],

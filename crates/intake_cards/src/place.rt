@@ -1,4 +1,4 @@
-//! Where something stands.
+//! The place of something in a file.
 
 /// A card of one of the files that are read: the file by its place among them, from 0, and the line or record in it,
 /// from 1.

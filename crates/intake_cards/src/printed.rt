@@ -6,7 +6,7 @@ use std::alloc::{AllocError, Global};
 /// The length of a card.
 const CARD: usize = 80;
 
-/// The last column that a word may stand in.
+/// The last column that a word may use.
 const LAST: usize = 71;
 
 /// A card of blanks.
@@ -33,7 +33,7 @@ impl PrintedCards {
         self.bytes.len() % CARD
     }
 
-    /// Fills the card that is begun with blanks. The error comes where memory runs out.
+    /// Fills the card that is begun with blanks.
     pub fn end_card(&mut self) -> Result<(), AllocError> {
         let column = self.column();
         if column != 0 {
@@ -43,15 +43,14 @@ impl PrintedCards {
         Ok(())
     }
 
-    /// Begins a card with the text. The error comes where memory runs out.
+    /// Begins a card with the text.
     pub fn begin(&mut self, text: &[u8]) -> Result<(), AllocError> {
         self.end_card()?;
         self.bytes.extend_from_slice(text)?;
         Ok(())
     }
 
-    /// Puts the word behind a blank, or at the front of a card where it does not fit into 71 columns. The error comes
-    /// where memory runs out.
+    /// Adds a blank and the word, or begins a card with the word if it does not fit into 71 columns.
     pub fn word(&mut self, word: &[u8]) -> Result<(), AllocError> {
         if word.len() < LAST && self.column() + word.len() < LAST {
             self.bytes.push(b' ')?;
@@ -61,8 +60,7 @@ impl PrintedCards {
         self.begin(word)
     }
 
-    /// Puts the text directly behind what is there, or at the front of a card where it does not fit into 71 columns.
-    /// The error comes where memory runs out.
+    /// Adds the text directly, or begins a card with it if it does not fit into 71 columns.
     pub fn joined(&mut self, text: &[u8]) -> Result<(), AllocError> {
         if text.len() <= LAST && self.column() + text.len() <= LAST {
             self.bytes.extend_from_slice(text)?;
@@ -71,26 +69,26 @@ impl PrintedCards {
         self.begin(text)
     }
 
-    /// Puts the text directly behind what is there, wherever it ends. The error comes where memory runs out.
+    /// Adds the text directly, wherever it ends.
     pub fn text(&mut self, text: &[u8]) -> Result<(), AllocError> {
         self.bytes.extend_from_slice(text)?;
         Ok(())
     }
 
-    /// Puts a word with one member in parentheses behind it. The error comes where memory runs out.
+    /// Adds a word with one member in parentheses.
     pub fn value(&mut self, word: &[u8], member: &[u8]) -> Result<(), AllocError> {
         self.word(word)?;
         self.listed(member)
     }
 
-    /// Puts one member in parentheses. The error comes where memory runs out.
+    /// Puts one member in parentheses.
     pub fn listed(&mut self, member: &[u8]) -> Result<(), AllocError> {
         self.joined(b"(")?;
         self.joined(member)?;
         self.joined(b")")
     }
 
-    /// The bytes of all cards. The error comes where memory runs out.
+    /// The bytes of all cards.
     pub fn into_bytes(mut self) -> Result<Vec<u8>, AllocError> {
         self.end_card()?;
         Ok(self.bytes)

@@ -12,19 +12,19 @@ use std::alloc::Global;
 /// What cards of a file have that is no card's.
 #[derive(Clone, Copy, Debug, PartialEq, Eq)]
 pub enum CardOddity {
-    /// UTF-8's mark stands before the first card, and is left away.
+    /// UTF-8's mark is before the first card, and is skipped.
     ByteOrderMark,
     /// Blanks after column 80 are left away.
     BlanksBehind80,
-    /// More than blanks stands after column 80, and is not read.
+    /// There is more than blanks after column 80. It is not read.
     LongLine,
-    /// Tabs stand in it, each as one column.
+    /// It has tabs, each as one column.
     Tab,
-    /// Characters that are no printable ASCII stand in it.
+    /// It has characters that are not printable ASCII.
     NotPrintable,
-    /// NULs or the end of file of older systems stand after the last card, and are left away.
+    /// NULs or the end of file of older systems follow the last card. They are skipped.
     Padding,
-    /// `/*` or `$$`, which ended the data in a job, stands after the last card, and is left away.
+    /// `/*` or `$$`, which ended the data in a job, follows the last card. It is skipped.
     Delimiter,
 }
 

@@ -1,6 +1,6 @@
-//! Why a statement or an operand is not carried just as it stands, or not at all.
+//! Why a statement or an operand is changed, or not carried at all.
 
-/// Why a statement or an operand is not carried just as it stands.
+/// Why a statement or an operand is not carried unchanged.
 #[derive(Clone, Copy, Debug, PartialEq, Eq)]
 pub enum RemarkReason {
     // Carried in other words.
@@ -26,9 +26,9 @@ pub enum RemarkReason {
     StandIn,
     /// Two elements of the input have one name and type here.
     FallTogether,
-    /// A list stands in several statements.
+    /// Several statements share a list.
     Split,
-    /// An id that a list names twice stands there once.
+    /// An id that a list names twice is written once.
     Double,
     /// The blanks of a COMMENT are as cards have them.
     Blanks,
@@ -40,15 +40,15 @@ pub enum RemarkReason {
     LaterHold,
     /// Columns 73 to 80 of a statement's card hold a text, which is not read.
     TextInNumbers,
-    /// A command stands on a card of its own.
+    /// A command begins on a card of its own.
     OwnCard,
     /// GROUP has the ids of SELECT.
     GroupOfSelect,
-    /// A hold in a SYSMOD that is on another one, or of another kind, stands in the file of holds.
+    /// A hold in a SYSMOD that is on another one, or of another kind, goes to the hold file.
     HeldOutside,
-    /// APARs and USERMODs of `--known` stand in EXCLUDE.
+    /// APARs and USERMODs of `--known` are in EXCLUDE.
     KnownExcluded,
-    /// The source ids of `--known` that begin so stand in the list.
+    /// The list has the source ids of `--known` that begin so.
     KnownSources,
     // Dropped.
     /// Blank cards end a text that has numbers.
@@ -86,7 +86,7 @@ pub enum RemarkReason {
     OutsideProfile,
     /// An operand that must be there is not.
     Missing,
-    /// An operand or a statement that stands there twice.
+    /// An operand or a statement that is given twice.
     Twice,
     /// A list of more than 1,000 ids.
     LongList,
@@ -100,9 +100,9 @@ pub enum RemarkReason {
     NoAscii,
     /// A text or an update that is not as the profile has it.
     BadText,
-    /// Operands that can't stand together.
+    /// Operands that exclude each other.
     Contradiction,
-    /// A statement that may not stand there.
+    /// A statement that is not allowed at this place.
     OutOfPlace,
     /// A card inside a comment begins like a statement.
     StatementInComment,
@@ -124,11 +124,11 @@ pub enum RemarkReason {
     OpenParenthesis,
     /// A parenthesis without its partner.
     StrayParenthesis,
-    /// A character that stands in no word.
+    /// A character that no word has.
     StrayCharacter,
     /// A comment is open.
     OpenComment,
-    /// More than blanks and comments stands behind the period.
+    /// The period is followed by more than blanks and comments.
     TextBehind,
     /// No text follows the statement.
     NoText,
@@ -136,7 +136,7 @@ pub enum RemarkReason {
     Misnumbered,
     /// A line has more than 80 columns.
     LongLine,
-    /// SELECT or GROUP must stand there.
+    /// SELECT or GROUP is missing.
     NoList,
     /// The word stands for SYSMODs or source ids that are not known.
     NeedsKnown,

@@ -1,4 +1,4 @@
-//! What is told of a statement that is not carried just as it stands.
+//! The remark on a statement that is not carried unchanged.
 
 use crate::place::CardPlace;
 use crate::reason::RemarkReason;
@@ -17,7 +17,7 @@ pub enum Deed {
     Refused,
 }
 
-/// What is told of one statement, or one operand of it.
+/// A remark on one statement, or one operand of it.
 #[derive(Debug, Drop)]
 pub struct Remark {
     /// Where the statement begins.
@@ -65,7 +65,6 @@ impl Remark {
     }
 
     /// The line that tells it, without an end of line. `file` is the name of its file, `unit` is "record" or "line".
-    /// The error comes where memory runs out.
     pub fn line(&self, alloc: Global, file: &str, unit: &str) -> Result<Vec<u8>, AllocError> {
         let card = self.place.card;
         let mut line = format!(in alloc; "{file} {unit} {card}: ")?.into_bytes();

@@ -13,7 +13,7 @@ pub struct Subject<'a> {
     pub place: CardPlace,
     /// Its word without the plus signs, or nothing where no statement is meant.
     pub word: &'a [u8],
-    /// The id or the name in it, as it stands, and nothing where it has none.
+    /// The id or the name in it, unchanged; empty if it has none.
     pub id: &'a [u8],
 }
 
@@ -78,7 +78,7 @@ impl Remarks {
     }
 
     /// Tells what was done with an operand, or with the whole statement where `operand` is empty. `text` is the value
-    /// or the text that is meant, as it stands. A stand-in is counted. The error comes where memory runs out.
+    /// or the text that is meant, as it stands. A stand-in is counted.
     pub fn tell(
         &mut self,
         alloc: Global,
@@ -109,7 +109,7 @@ impl Remarks {
     }
 
     /// Tells that the operand, or the whole statement where `operand` is empty, says the same in other words, or is a
-    /// shorter text. The error comes where memory runs out.
+    /// shorter text.
     pub fn tell_carried(
         &mut self,
         alloc: Global,
@@ -122,7 +122,7 @@ impl Remarks {
     }
 
     /// Tells that the operand, or the whole statement where `operand` is empty, is not there, but what it belongs to
-    /// is. The error comes where memory runs out.
+    /// is.
     pub fn tell_dropped(
         &mut self,
         alloc: Global,
@@ -134,7 +134,7 @@ impl Remarks {
         self.tell(alloc, subject, operand, Deed::Dropped, reason, text)
     }
 
-    /// Puts the others behind these, with what is counted. The error comes where memory runs out.
+    /// Adds the others after these, and their counts.
     pub fn append(&mut self, mut others: Remarks) -> Result<(), AllocError> {
         self.stand_ins = self.stand_ins.saturating_add(others.stand_ins);
         self.named.append(&mut others.named)?;
@@ -143,7 +143,7 @@ impl Remarks {
     }
 
     /// Puts the remarks of a SYSMOD that is left out behind these: of those that say the same of statements of one word
-    /// the first, with how many there are. The error comes where memory runs out.
+    /// the first, with how many there are.
     pub fn append_causes(&mut self, alloc: Global, others: Remarks) -> Result<(), AllocError> {
         let mut causes = Vec::new(alloc);
         for remark in others.list {
@@ -168,8 +168,7 @@ impl Remarks {
         }
     }
 
-    /// Tells that a SYSMOD is left out because of this operand, or of the whole statement where `operand` is empty. The
-    /// error comes where memory runs out.
+    /// Tells that a SYSMOD is left out because of this operand, or of the whole statement where `operand` is empty.
     pub fn leave_out(
         &mut self,
         alloc: Global,

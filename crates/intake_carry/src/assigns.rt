@@ -31,7 +31,7 @@ fn put_each(
     Ok(())
 }
 
-/// The ids as they stand, none twice. One that has not the form is told.
+/// The ids in their order, none twice. One without the form of an id gets a remark.
 fn ids_of(
     alloc: Global,
     remarks: &mut Remarks,
@@ -133,7 +133,7 @@ fn assign_items(alloc: Global, assigns: Vec<Assign>) -> Result<Vec<Item>, AllocE
     Ok(items)
 }
 
-/// The items with the assignments behind them.
+/// The items, then the assignments.
 pub(crate) fn with_assigns(
     alloc: Global,
     mut items: Vec<Item>,

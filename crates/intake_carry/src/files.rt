@@ -65,7 +65,7 @@ fn sysmods_of(
     Ok(gathered)
 }
 
-/// With the items of others behind these.
+/// These items, then those of others.
 fn joined(one: CarriedItems, other: CarriedItems) -> Result<CarriedItems, AllocError>
     ensures items { IfOk result (λ all. all.items.items ≡ one.items.items ++ other.items.items) }
     ensures outside { IfOk result (λ all. placed_items all.outside.items

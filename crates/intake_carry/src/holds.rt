@@ -225,7 +225,7 @@ fn hold_of(
     })
 }
 
-/// Whether the hold stands in the SYSMOD of the id: a SYSTEM hold on it.
+/// Whether the hold stays in the SYSMOD of the id: a SYSTEM hold on it.
 fn is_internal(key: &Release, own: Option<Id>) -> bool
     ensures only { IsTrue result → (key.now.kind ≡ System) × (own ≡ Some key.now.id) }
     ensures always { (key.now.kind ≡ System) × (own ≡ Some key.now.id) → IsTrue result }

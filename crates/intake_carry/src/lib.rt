@@ -1,6 +1,6 @@
-//! From what a shop's files state to what RECEIVE takes: each statement is carried, or it is told why not.
-//! A hold stands in its SYSMOD or in the hold file, so that none is lost, and a SYSMOD is never looser than what the
-//! file states: `narrow` promises both.
+//! From what a shop's files state to what RECEIVE takes: each statement is carried, or a remark says why not.
+//! A hold is in its SYSMOD or in the hold file, so that none is lost, and a SYSMOD is never looser than what the file
+//! states: `narrow` promises both. Every call that allocates fails with `AllocError` if memory runs out.
 #![tactic(auto)]
 
 mod assigns;

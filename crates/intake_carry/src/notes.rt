@@ -1,10 +1,10 @@
-//! What was read otherwise than it stands.
+//! What was read differently than it is written.
 
 use intake_cards::{RemarkReason, Remarks, Subject};
 use intake_read::{Note, NoteReason, SwallowedStatement};
 use std::alloc::{AllocError, Global};
 
-/// Tells of what was read otherwise than it stands: where it is met first, and how often.
+/// Tells what was read differently than it is written: where it occurs first, and how often.
 pub(crate) fn tell_notes(
     alloc: Global,
     remarks: &mut Remarks,
@@ -31,7 +31,7 @@ pub(crate) fn tell_notes(
     Ok(())
 }
 
-/// Tells of each statement that stands in a comment, with the card where the comment opens.
+/// A remark on each statement inside a comment, with the card on which the comment opens.
 pub(crate) fn tell_swallowed(
     alloc: Global,
     remarks: &mut Remarks,

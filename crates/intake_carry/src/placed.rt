@@ -19,7 +19,7 @@ pub(crate) struct PlacedItem {
     pub item: HoldItem,
 }
 
-/// Puts a hold behind the others.
+/// Adds a hold after the others.
 pub(crate) fn put_outside(
     placed: &mut Vec<PlacedItem>,
     place: CardPlace,
@@ -34,7 +34,7 @@ pub(crate) fn put_outside(
     Ok(())
 }
 
-/// Puts a release behind the others.
+/// Adds a release after the others.
 fn put_release(
     placed: &mut Vec<PlacedItem>,
     place: CardPlace,

@@ -140,7 +140,6 @@ fn tell_broken(
 
 /// Tells of the holds and releases of a file that can't be carried, those in SYSMODs too, and answers whether there
 /// are any. These lack something that tells a hold from others, or leave it open, or have something wrong with them.
-/// The error comes where memory runs out.
 pub(crate) fn tell_refusals(
     alloc: Global,
     remarks: &mut Remarks,

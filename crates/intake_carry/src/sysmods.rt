@@ -18,7 +18,7 @@ use intake_sysmod::{Options, carried_sysmod};
 use std::alloc::{AllocError, Global};
 use sysmods_values::{Hold, Sysmod};
 
-/// What becomes of a SYSMOD: nothing where it is left out, and the holds in it that stand outside.
+/// What becomes of a SYSMOD: nothing if it is left out, and its holds that go to the hold file.
 #[derive(Drop)]
 pub(crate) struct CarriedPart {
     pub sysmod: Option<Sysmod>,
@@ -57,7 +57,7 @@ fn put_hold(
     }
 }
 
-/// Tells that a hold of a SYSMOD stands in the hold file.
+/// A remark that a hold of a SYSMOD is in the hold file.
 fn tell_outside(alloc: Global, remarks: &mut Remarks, stated: &WideHold) -> Result<(), AllocError> {
     let subject = Subject {
         place: stated.place,
@@ -81,7 +81,7 @@ fn tell_all_outside(
     Ok(())
 }
 
-/// Puts the SYSTEM holds on the SYSMOD into it, and answers the others, which stand in the hold file. What differs is
+/// Puts the SYSTEM holds on the SYSMOD into it, and returns the others, which are in the hold file. What differs is
 /// told.
 fn put_holds(
     alloc: Global,
@@ -123,7 +123,7 @@ fn text_of(stated: &Option<Vec<u8>>) -> &[u8] {
     }
 }
 
-/// Tells of each internal hold behind which another one of its reason stands: RECEIVE keeps the later one.
+/// A remark on each internal hold that another one of its reason follows: RECEIVE keeps the later one.
 fn tell_later_holds(
     alloc: Global,
     remarks: &mut Remarks,
@@ -150,7 +150,7 @@ fn tell_later_holds(
     Ok(())
 }
 
-/// The SYSMOD with its holds, and those that stand in the hold file.
+/// The SYSMOD with its holds, and those that are in the hold file.
 fn carried_part(
     alloc: Global,
     remarks: &mut Remarks,

@@ -35,7 +35,7 @@ pub(crate) struct CarriedOperand {
     pub(crate) value: Value,
 }
 
-/// What stands behind the word of an operand.
+/// What follows the word of an operand.
 #[derive(Drop)]
 pub(crate) enum Value {
     Nothing,
@@ -50,7 +50,7 @@ pub(crate) struct CarriedMember {
     pub(crate) listed: Option<Vec<Vec<u8>>>,
 }
 
-/// The command as it is written, where all of it can be said here. The error comes where memory runs out.
+/// The command as it is written, where all of it can be said here.
 pub(crate) fn carry_command(
     alloc: Global,
     told: &mut CommandRemarks,

@@ -15,7 +15,8 @@ const KEPT_OUT: &[KeptOut] = &[
     (b"NOUSERMODS", Kind::Usermod, b"USERMODS"),
 ];
 
-/// The operands, with the known SYSMODs of each type that GROUPEXTEND keeps out in EXCLUDE. Those that SELECT names stay.
+/// The operands, with the known SYSMODs of each type that GROUPEXTEND keeps out in EXCLUDE. It keeps those that SELECT
+/// names.
 pub(crate) fn with_excluded(
     alloc: Global,
     told: &mut CommandRemarks,

@@ -4,7 +4,7 @@ use crate::carry::{Carried, CarriedMember, CarriedOperand, Value};
 use intake_cards::PrintedCards;
 use std::alloc::{AllocError, Global};
 
-/// Puts the command on cards of its own. The error comes where memory runs out.
+/// Puts the command on cards of its own.
 pub(crate) fn put_command(
     alloc: Global,
     cards: &mut PrintedCards,
@@ -36,7 +36,7 @@ fn put_operand(
     }
 }
 
-// Commas between the members, and the parenthesis behind the last one.
+// Commas between the members, and the parenthesis after the last one.
 fn put_list(
     alloc: Global,
     cards: &mut PrintedCards,
@@ -72,7 +72,7 @@ fn put_members(
     Ok(())
 }
 
-// The text with a sign directly behind it.
+// The text, directly followed by a sign.
 fn with(alloc: Global, text: &[u8], sign: &[u8]) -> Result<Vec<u8>, AllocError> {
     let mut both = Vec::from_slice(alloc, text)?;
     both.extend_from_slice(sign)?;

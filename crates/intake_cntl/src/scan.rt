@@ -1,4 +1,4 @@
-//! The commands of a shop's command file, as they stand.
+//! The commands of a shop's command file, unchanged.
 //! A command is a word, operands, and the first period outside comments and parentheses. Comments may stand anywhere,
 //! in parentheses too; more than one command may stand on a card, and a command may run over cards.
 
@@ -21,7 +21,7 @@ pub enum CommandEnd {
     OpenComment(CardPlace),
 }
 
-/// A command as it stands, in upper case.
+/// A command, unchanged but in upper case.
 #[derive(Drop)]
 pub struct WideCommand {
     pub place: CardPlace,
@@ -42,7 +42,7 @@ pub struct WideCommands {
     pub cut: Vec<CardPlace>,
 }
 
-// Where the scanner stands, as far as comments go.
+// Whether the scanner is in a comment.
 #[derive(Clone, Copy, Debug, PartialEq, Eq)]
 enum Within {
     Words,
@@ -69,8 +69,7 @@ struct CommandScanner {
     ended: Option<CardPlace>,
 }
 
-/// The commands of the cards. The last one may have no end, and none of them need be one that SMP/E has. The error
-/// comes where memory runs out.
+/// The commands of the cards. The last one may have no end, and none of them need be one that SMP/E has.
 pub fn wide_commands(alloc: Global, cards: &[Card]) -> Result<WideCommands, AllocError> {
     let mut scanner = CommandScanner::new(alloc);
     let mut cut = Vec::new(alloc);
@@ -91,8 +90,7 @@ pub fn wide_commands(alloc: Global, cards: &[Card]) -> Result<WideCommands, Allo
     })
 }
 
-/// The words of a list, each with the list behind it, all at the place of the operand that has the list. The error
-/// comes where memory runs out.
+/// The words of a list, each with the list behind it, all at the place of the operand that has the list.
 pub(crate) fn words_in(
     alloc: Global,
     list: &[u8],

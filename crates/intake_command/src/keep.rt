@@ -137,8 +137,8 @@ fn hold_of(alloc: Global, meant: &[HoldItem]) -> Result<Vec<u8>, IntakeFault>
     Ok(bytes)
 }
 
-/// Puts the command file into `cntl`, and its remarks into `cntl.remarks`. `CannotWrite` comes where the folder does not take
-/// them.
+/// Puts the command file into `cntl`, and its remarks into `cntl.remarks`. Returns `CannotWrite` if the folder does not
+/// take them.
 pub fn keep_commands<H: IntakeHost>(
     alloc: Global,
     host: &mut H,
@@ -157,8 +157,8 @@ pub fn keep_commands<H: IntakeHost>(
     }
 }
 
-/// Puts the remarks on a command file into `cntl.remarks`, and takes all other files of earlier runs away. `CannotWrite` comes where that
-/// can't be done.
+/// Puts the remarks on a command file into `cntl.remarks`, and removes all other files of earlier runs. Returns
+/// `CannotWrite` if that can't be done.
 pub fn keep_remarks<H: IntakeHost>(
     alloc: Global,
     host: &mut H,

@@ -1,7 +1,8 @@
 //! What `smpe-intake` makes of its command line.
 //! `command` reads the words, then the files, and puts into the folder what RECEIVE takes of them, or a command file,
-//! with the remarks beside it. What it puts there has been read back: `keep_service` says that PTFIN and the hold file
-//! are read as just the items that were meant, or that nothing was written.
+//! with the remarks beside it. It has read back what it puts there: `keep_service` says that PTFIN and the hold file
+//! are read as exactly the items that were meant, or that nothing was written. Every call that allocates fails if
+//! memory runs out.
 #![tactic(auto)]
 
 mod clearing;

@@ -25,7 +25,7 @@ struct RelfileElement<'a> {
 }
 
 /// The texts of the elements with RELFILE that have a file in the folder, lines or records, in whichever code each is.
-/// DIR/SYSMOD/Fn/NAME comes first, and DIR/Fn/NAME counts where one SYSMOD alone has RELFILE(n).
+/// DIR/SYSMOD/Fn/NAME is tried first; DIR/Fn/NAME counts if only one SYSMOD has RELFILE(n).
 pub(crate) fn members<H: IntakeHost>(
     alloc: Global,
     host: &mut H,

@@ -8,7 +8,7 @@ use intake_cards::{Code, Layout};
 use intake_sysmod::Syslib;
 use std::alloc::{AllocError, AllocFailed, Global};
 
-/// What `--version` prints behind the name.
+/// What `--version` prints after the name.
 const VERSION: &str = "1.0.0";
 
 static SUMMARIES: [&str; 2] = ["text", "json"];
@@ -44,7 +44,7 @@ pub enum WordsFault {
     Clap(clap::Error),
     /// A word that is no UTF-8.
     NoText,
-    /// What stands behind `--syslib` is not DISTLIB=SYSLIB.
+    /// The value of `--syslib` is not DISTLIB=SYSLIB.
     Syslib,
 }
 

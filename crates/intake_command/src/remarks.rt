@@ -4,7 +4,7 @@ use crate::sources::InputFiles;
 use intake_cards::Remark;
 use std::alloc::{AllocError, Global};
 
-/// Appends a line for each remark, with its file and card. The error comes where memory runs out.
+/// Appends a line for each remark, with its file and card.
 pub(crate) fn tell(
     alloc: Global,
     sources: &InputFiles,

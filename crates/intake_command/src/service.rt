@@ -106,7 +106,7 @@ fn has_statement(file: &WideFile) -> bool {
         || !file.others.is_empty()
 }
 
-// Where something is refused, nothing is written: each such remark is a line of the fault.
+// If something is refused, nothing is written: each such remark is a line of the fault.
 fn refused(
     alloc: Global,
     sources: &InputFiles,

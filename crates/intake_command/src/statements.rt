@@ -10,7 +10,7 @@ use sysmods_values::{Action, ElemChange, Hold, IfReq, Sysmod, Ver};
 use terms::ElemType;
 use text80::Line;
 
-/// PTFIN of these items. The error comes where memory runs out.
+/// PTFIN of these items.
 pub fn ptfin(alloc: Global, items: &[Item]) -> Result<Vec<u8>, AllocError> {
     let mut cards = PrintedCards::new(alloc);
     for item in items {
@@ -22,7 +22,7 @@ pub fn ptfin(alloc: Global, items: &[Item]) -> Result<Vec<u8>, AllocError> {
     cards.into_bytes()
 }
 
-/// The hold file of these items. The error comes where memory runs out.
+/// The hold file of these items.
 pub fn hold_file(alloc: Global, items: &[HoldItem]) -> Result<Vec<u8>, AllocError> {
     let mut cards = PrintedCards::new(alloc);
     for item in items {

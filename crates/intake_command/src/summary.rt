@@ -18,8 +18,7 @@ pub(crate) struct ToldCount {
     pub(crate) count: usize,
 }
 
-/// How many remarks tell each deed and reason, in the order in which they first come. The error comes where memory runs
-/// out.
+/// How many remarks have each deed and reason, in the order in which they first occur.
 pub(crate) fn counts_of(alloc: Global, remarks: &[Remark]) -> Result<Vec<ToldCount>, AllocError> {
     let mut all: Vec<ToldCount> = Vec::new(alloc);
     for remark in remarks {
@@ -28,7 +27,7 @@ pub(crate) fn counts_of(alloc: Global, remarks: &[Remark]) -> Result<Vec<ToldCou
     Ok(all)
 }
 
-/// A line for each deed and reason, with how many remarks tell them. The error comes where memory runs out.
+/// A line for each deed and reason, with how many remarks tell them.
 pub(crate) fn by_reason(
     alloc: Global,
     remarks: &[Remark],
@@ -67,8 +66,8 @@ pub(crate) fn is_left_out(remark: &Remark) -> bool {
     )
 }
 
-/// Why the SYSMOD of the remark at the place, `header`, is left out: the first remark on one of its statements that says
-/// so, or itself.
+/// Why the SYSMOD of the remark at the place, `header`, is left out: the first remark on one of its statements that
+/// says so, or itself.
 pub(crate) fn cause_of<'a>(remarks: &'a [Remark], place: usize, header: &'a Remark) -> &'a Remark {
     let mut cause = header;
     let Some((before, _)) = remarks.split_at_checked(place) else {

@@ -1,5 +1,5 @@
-//! The statements of a shop's files, in the wide grammar of SMP/E, as plain structs, and what is told of those that
-//! could not be taken for what they say.
+//! The statements of a shop's files, in the wide grammar of SMP/E, as plain structs, and the remarks on those that
+//! could not be taken for what they say. Every call that allocates fails with `AllocError` if memory runs out.
 #![tactic(auto)]
 
 mod errors;

@@ -3,8 +3,7 @@ use crate::items::{OddOperand, OddReason, OtherReason, WideOperand};
 use intake_cards::{Deed, RemarkReason, Remarks, Subject};
 use std::alloc::{AllocError, Global};
 
-/// Tells of each of the operands, with its text, that it is dropped because it changes no decision. The error comes
-/// where memory runs out.
+/// Tells of each of the operands, with its text, that it is dropped because it changes no decision.
 pub fn tell_no_decision(
     alloc: Global,
     remarks: &mut Remarks,
@@ -24,7 +23,7 @@ pub fn tell_no_decision(
     Ok(())
 }
 
-/// Tells of each of the odd operands what is done with it, with its text. The error comes where memory runs out.
+/// Tells of each of the odd operands what is done with it, with its text.
 pub fn tell_odd(
     alloc: Global,
     remarks: &mut Remarks,

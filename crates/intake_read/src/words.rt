@@ -16,7 +16,7 @@ pub(crate) enum Token {
     Period,
     /// A closing parenthesis without a partner.
     Closing,
-    /// A character that stands in no word.
+    /// A character that no word has.
     Stray(u8),
 }
 
@@ -144,7 +144,7 @@ impl CardScanner {
         mem::replace(&mut self.pieces, Vec::new(self.alloc))
     }
 
-    /// Takes columns of a card, up to column 72. The error comes where memory runs out.
+    /// Takes columns of a card, up to column 72.
     pub(crate) fn take(&mut self, place: CardPlace, columns: &[u8]) -> Result<(), AllocError> {
         for byte in columns {
             self.byte(place, *byte)?;
@@ -152,7 +152,7 @@ impl CardScanner {
         self.end_card(place)
     }
 
-    /// Takes columns 1 to 72 of a card. The error comes where memory runs out.
+    /// Takes columns 1 to 72 of a card.
     pub(crate) fn take_card(&mut self, card: &Card) -> Result<(), AllocError> {
         self.take(card.place, card.columns())
     }

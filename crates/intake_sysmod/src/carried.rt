@@ -62,7 +62,7 @@ fn with_vers(sysmod: Sysmod, vers: Vec<Ver>) -> Sysmod
     }
 }
 
-/// The SYSMOD without its holds, or nothing where it can't be carried. Why is told.
+/// The SYSMOD without its holds, or nothing if it can't be carried. A remark says why.
 fn sysmod_of(
     alloc: Global,
     options: &Options,
@@ -112,8 +112,8 @@ fn tell_left_out(
     Ok(())
 }
 
-/// The SYSMOD without its holds, or nothing where it is left out. Why, and what differs, is told. The options must be in
-/// order (`Options::sort`). The error comes where memory runs out.
+/// The SYSMOD without its holds, or nothing if it is left out. Remarks say why, and what differs. The options must be
+/// in order (`Options::sort`).
 pub fn carried_sysmod(
     alloc: Global,
     options: &Options,

@@ -360,7 +360,7 @@ fn put_element(
 }
 
 /// Puts what all elements change into the SYSMOD, and answers whether it could. Why it could not is told, and so is
-/// what differs. The error comes where memory runs out; then the SYSMOD has some of the changes.
+/// what differs. If memory runs out, the SYSMOD has some of the changes.
 pub(crate) fn put_changes(
     alloc: Global,
     options: &Options,

@@ -1,7 +1,7 @@
-//! The SYSMODs of a shop's files, but for their holds: `++VER`s with their `++IF`s, and the elements that are brought
-//! or updated, with their texts. Each element is carried, or has a stand-in where that is asked for, or is told.
+//! The SYSMODs of a shop's files, except their holds: `++VER`s with their `++IF`s, and the elements that they bring or
+//! update, with their texts. Each element is carried, or has a stand-in if that is asked for, or a remark.
 //! A SYSMOD is carried whole or not at all, so that it is never looser than what the file states: `carried_sysmod`
-//! promises it.
+//! promises it. Every call that allocates fails with `AllocError` if memory runs out.
 #![tactic(auto)]
 
 mod carried;

@@ -6,7 +6,7 @@ use intake_read::{OtherReason, WideOther};
 use std::alloc::{AllocError, Global};
 
 /// Tells of the statements of a SYSMOD or of a file that are carried nowhere, and answers whether a SYSMOD can be
-/// carried without them. The error comes where memory runs out.
+/// carried without them.
 pub fn tell_others(
     alloc: Global,
     options: &Options,
