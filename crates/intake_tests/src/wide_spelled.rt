@@ -1,6 +1,6 @@
 //! The items of a wide file as text.
 
-use intake_cards::{CardPlace, Code, Layout, read_cards};
+use intake_cards::{Code, Layout, read_cards};
 use intake_read::{
     NoteReason, OddOperand, OddReason, OtherReason, WideAssign, WideElement, WideError, WideFile,
     WideHold, WideHoldKind, WideIf, WideOperand, WideOther, WideRelease, WideSysmod, WideVer,
@@ -310,14 +310,22 @@ pub(crate) fn spelled_file(
 }
 
 fn put_error(found: &mut Spelled, error: WideError) -> Result<(), AllocError> {
-    let (text, place): (&[u8], CardPlace) = match error {
-        WideError::Memory => return Err(AllocError),
-        WideError::NoStatement { place, .. } => (b"no statement", place),
-        WideError::OpenComment { place } => (b"open comment", place),
-        WideError::Statement { place, reason, .. } => (reason_text(reason), place),
-    };
     found.put(b"; refused: ")?;
-    found.put(text)?;
+    let place = match &error {
+        WideError::Memory => return Err(AllocError),
+        WideError::NoStatement { place, .. } => {
+            found.put(b"no statement")?;
+            *place
+        }
+        WideError::OpenComment { place } => {
+            found.put(b"open comment")?;
+            *place
+        }
+        WideError::Statement { place, reason, .. } => {
+            found.put(reason_text(*reason))?;
+            *place
+        }
+    };
     found.put(b" ")?;
     found.number(place.card)
 }
