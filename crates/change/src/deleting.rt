@@ -39,8 +39,8 @@ impl<'a, 'b> Deleting<'a, 'b> {
         }
     }
 
-    /// For a function that is taken out, the first kept SYSMOD whose DELETE meets its chain. For any other id, the
-    /// first one that names it.
+    // For a function that is taken out, the first kept SYSMOD whose DELETE meets its chain. For any other id, the
+    // first one that names it.
     fn first_deleter(&self, id: Id) -> Option<Id>
         requires { AreDeletions self.now }
         ensures { result ≡ first_deleter self.now id }
@@ -92,7 +92,7 @@ pub(crate) fn left_entry(alloc: Global, deleting: &Deleting, id: Id) -> Result<E
     }
 }
 
-/// What the SYSMOD names in DELETE.
+// What the SYSMOD names in DELETE.
 fn del_of<'a>(vers: &VerChoice<'a>, id: Id) -> &'a [Id]
     ensures { result.now ≡ del_of (choice vers.now) id }
 {

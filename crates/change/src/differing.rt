@@ -63,7 +63,7 @@ pub(crate) fn edit_elements(
     Ok(())
 }
 
-/// Puts the element, unless the zone already has the same one, or removes it, if the zone has it.
+// Puts the element, unless the zone already has the same one, or removes it, if the zone has it.
 fn edit_element(
     zone: &Zone,
     edit: ElementEdit,

@@ -37,7 +37,7 @@ pub(crate) fn taking_effect(
     Ok(Effective { ids, superseded })
 }
 
-/// What any of the kept SYSMODs supersedes: what they name in SUP, what that names, and so on.
+// What any of the kept SYSMODs supersedes: what they name in SUP, what that names, and so on.
 fn all_superseded(
     alloc: Global,
     vers: &VerChoice<'_>,
@@ -61,7 +61,7 @@ fn all_superseded(
     Ok(seen)
 }
 
-/// Adds what the SYSMOD names in SUP.
+// Adds what the SYSMOD names in SUP.
 fn see_named(vers: &VerChoice<'_>, id: Id, seen: &mut IndexSet<Id>) -> Result<(), AllocError>
     ensures { OnOk result (AddsAll seen.old.keys (sup_of (choice vers.now) id) seen.new.keys) }
 {
@@ -83,7 +83,7 @@ fn without(alloc: Global, ids: &[Id], seen: &IndexSet<Id>) -> Result<Vec<Id>, Al
         .collect(alloc)
 }
 
-/// Each id that one of these SYSMODs supersedes, with that one.
+// Each id that one of these SYSMODs supersedes, with that one.
 fn with_superseders(
     alloc: Global,
     vers: &VerChoice<'_>,

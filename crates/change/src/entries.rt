@@ -41,8 +41,8 @@ pub(crate) fn put_entries(
     Ok(())
 }
 
-/// The entry of a SYSMOD that takes effect: what is left of it, applied on this date. It waives its bypassed requisites
-/// that nothing supplies.
+// The entry of a SYSMOD that takes effect: what is left of it, applied on this date. It waives its bypassed requisites
+// that nothing supplies.
 fn applied_entry(
     alloc: Global,
     deleting: &Deleting,
@@ -69,7 +69,7 @@ fn applied_entry(
     })
 }
 
-/// Those of these ids that nothing supplies after the install.
+// Those of these ids that nothing supplies after the install.
 fn unsupplied(
     alloc: Global,
     deleting: &Deleting,
@@ -84,7 +84,7 @@ fn unsupplied(
         .collect(alloc)
 }
 
-/// Whether nothing supplies the id after the install.
+// Whether nothing supplies the id after the install.
 fn is_open(deleting: &Deleting, plan: &Plan, id: Id) -> bool
     ensures { result ≡ is_open deleting.now plan.now id }
 {
@@ -93,7 +93,7 @@ fn is_open(deleting: &Deleting, plan: &Plan, id: Id) -> bool
         && !supplies_left(deleting.vers, deleting.dels, deleting.zone, id)
 }
 
-/// The entry of any other id: what is left of it, with more in SUPBY.
+// The entry of any other id: what is left of it, with more in SUPBY.
 fn other_entry(alloc: Global, deleting: &Deleting, plan: &Plan, id: Id) -> Result<Entry, AllocError>
     requires { AreDeletions deleting.now }
     ensures { IfOk result (IsOtherEntry deleting.now plan.now id) }

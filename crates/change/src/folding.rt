@@ -50,7 +50,7 @@ pub(crate) fn element_after(
     }
 }
 
-/// The place of the last of these SYSMODs that replaces the element.
+// The place of the last of these SYSMODs that replaces the element.
 fn last_replacement(
     global: &GlobalZone,
     elem_type: ElemType,
@@ -75,7 +75,7 @@ fn last_replacement(
     None
 }
 
-/// Whether the SYSMOD, which changes the element, replaces it.
+// Whether the SYSMOD, which changes the element, replaces it.
 fn replaces(global: &GlobalZone, id: Id, elem_type: ElemType, name: Name) -> bool
     requires { IsTrue (has_change global.now id elem_type name) }
     ensures { result ≡ has_replacement global.now id elem_type name }
@@ -86,7 +86,7 @@ fn replaces(global: &GlobalZone, id: Id, elem_type: ElemType, name: Name) -> boo
     }
 }
 
-/// What these SYSMODs make of the old element, if there is one.
+// What these SYSMODs make of the old element, if there is one.
 fn folded(
     alloc: Global,
     vers: &VerChoice<'_>,
@@ -114,7 +114,7 @@ fn folded(
     Ok(element.unwrap())
 }
 
-/// The SYSMOD's statement for the element.
+// The SYSMOD's statement for the element.
 fn change_of(global: &GlobalZone, id: Id, elem_type: ElemType, name: Name) -> &ElemChange
     requires { IsTrue (has_change global.now id elem_type name) }
     ensures change { change_of global.now id elem_type name ≡ Some result.now }
@@ -126,7 +126,7 @@ fn change_of(global: &GlobalZone, id: Id, elem_type: ElemType, name: Name) -> &E
     &sysmod.changes[place]
 }
 
-/// The place of the statement for the element.
+// The place of the statement for the element.
 fn find_change(changes: &[ElemChange], elem_type: ElemType, name: Name) -> Option<usize>
     ensures place { result ≡ position (is_for elem_type name) changes.now }
     ensures within { IfSome result (λ i. i < length changes.now) }
@@ -134,7 +134,7 @@ fn find_change(changes: &[ElemChange], elem_type: ElemType, name: Name) -> Optio
     changes.iter().position(|change| change.elem_type == elem_type && change.name == name)
 }
 
-/// The element after one statement that changes it.
+// The element after one statement that changes it.
 fn changed(
     alloc: Global,
     owner: Id,
@@ -170,7 +170,7 @@ fn changed(
     }
 }
 
-/// The element after an update by the SYSMOD.
+// The element after an update by the SYSMOD.
 fn updated(alloc: Global, id: Id, update: &Update, old: Element) -> Result<Element, AllocError>
     requires { IsNumbered old.text }
     ensures { IfOk result (IsUpdateOf id update.now old) }

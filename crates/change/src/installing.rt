@@ -88,7 +88,7 @@ pub fn install(alloc: Global, installing: Installing<'_, '_>) -> Result<Installe
     })
 }
 
-/// Removes the elements whose owner's chain contains one of the deletions. Usually nothing is deleted.
+// Removes the elements whose owner's chain contains one of the deletions. Usually nothing is deleted.
 fn remove_elements(deleting: &Deleting, edits: &mut Table<ElementEdit>) -> Result<(), AllocError>
     ensures { OnOk result (edits.new ≡ less_elements deleting.now edits.old deleting.now.zone.now.elements) }
 {
@@ -103,7 +103,7 @@ fn remove_elements(deleting: &Deleting, edits: &mut Table<ElementEdit>) -> Resul
     Ok(())
 }
 
-/// Puts these elements.
+// Puts these elements.
 fn put_elements(elements: Vec<Element>, edits: &mut Table<ElementEdit>) -> Result<(), AllocError>
     ensures { OnOk result (edits.new ≡ with_elements edits.old elements.items) }
 {

@@ -27,8 +27,8 @@ pub(crate) fn in_order(
     Ok(ordered)
 }
 
-/// The place of an id among others, which over orders: after the last one that it is over. It tests the last one first,
-/// and then halves the rest.
+// The place of an id among others, which over orders: after the last one that it is over. It tests the last one first,
+// and then halves the rest.
 fn place_of(
     alloc: Global,
     overs: &mut Overs<'_, '_>,

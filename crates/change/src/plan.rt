@@ -50,8 +50,8 @@ pub(crate) fn planned(
     })
 }
 
-/// The ids whose entries may change: those that take effect, what they supersede, and if something is deleted all that
-/// is deleted or has an entry. Usually nothing is.
+// The ids whose entries may change: those that take effect, what they supersede, and if something is deleted all that
+// is deleted or has an entry. Usually nothing is.
 fn touched(
     alloc: Global,
     effective: &[Id],

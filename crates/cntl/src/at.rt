@@ -25,7 +25,7 @@ fn is_part_of_word(byte: u8) -> bool
         || byte == b'+'
 }
 
-/// After a character of a word.
+// After a character of a word.
 fn behind_part<'n>(left: &'n [u8], byte: u8) -> At<'n>
     ensures at { (name run : List ℕ) → run ++ left.now ≡ name → IsAt name result (run ++ byte ∷ []) }
     ensures outer { is_inner result ≡ false }
@@ -40,7 +40,7 @@ fn behind_part<'n>(left: &'n [u8], byte: u8) -> At<'n>
     }
 }
 
-/// After a character that belongs to no word.
+// After a character that belongs to no word.
 fn behind_run<'n>(byte: u8, name: &'n [u8]) -> At<'n>
     ensures at { IsAt name.now result [] }
     ensures inner { is_inner result ≡ (byte == 40) }

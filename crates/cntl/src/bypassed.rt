@@ -19,7 +19,7 @@ use rec80::{BadOperand, OperandError, Text, Word, are_members, flag, named_membe
 use std::alloc::Global;
 use terms::{CommandWord, HoldKind};
 
-/// Whether there is a member of that name, which has no list.
+// Whether there is a member of that name, which has no list.
 fn member_flag(list: &Text<'_>, name: &[u8]) -> Result<bool, BadOperand>
     ensures ok { (ms : List grammar.Word) → HasMembers (text_of list.now) ms
         → IfOk result (λ flag. HasFlag (operand name.now ms) flag) }
@@ -38,7 +38,7 @@ fn suits_kind(kind: HoldKind, reason: Reason) -> bool
     }
 }
 
-/// The reasons in the list of a member, which are those of holds of this kind.
+// The reasons in the list of a member, which are those of holds of this kind.
 fn reason_list(alloc: Global, kind: HoldKind, member: &Word<'_>) -> Result<ReasonList, OperandError>
     ensures ok { IfOk result (λ list. HasSorted (IsReason kind) (word_of member.now) list × IsShort list) }
     ensures bad { IfErr result (λ e. Excludes e ((values : List (List ℕ))
@@ -51,7 +51,7 @@ fn reason_list(alloc: Global, kind: HoldKind, member: &Word<'_>) -> Result<Reaso
     Ok(reasons)
 }
 
-/// The reasons of the member of that name, or all of them if it has no list.
+// The reasons of the member of that name, or all of them if it has no list.
 fn reasons(
     alloc: Global,
     kind: HoldKind,
@@ -84,7 +84,7 @@ fn classes(alloc: Global, list: &Text<'_>) -> Result<ClassList, OperandError>
     }
 }
 
-/// The values of the members of the list.
+// The values of the members of the list.
 fn bypassed(alloc: Global, list: &Text<'_>) -> Result<Bypass, OperandError>
     ensures ok { (ms : List grammar.Word) → HasMembers (text_of list.now) ms → IfOk result (λ b. HasBypassed ms b) }
     ensures bad { (ms : List grammar.Word) → HasMembers (text_of list.now) ms

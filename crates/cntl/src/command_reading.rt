@@ -19,7 +19,7 @@ use rec80::{OperandError, Piece, Words};
 use std::alloc::Global;
 use terms::{CommandCode, CommandWord};
 
-/// Takes the word with which a command begins.
+// Takes the word with which a command begins.
 fn take_command_word(left: &mut Words<'_>) -> Option<CommandWord>
     ensures word { IfSome result (λ w. (pieces : List AnyPiece) → LeavesPieces left.old pieces
         → (rest : List AnyPiece) × BeginsWith pieces w rest × LeavesPieces left.new rest) }

@@ -74,7 +74,7 @@ fn install(alloc: Global, word: CommandWord, words: &[Word<'_>]) -> Result<Insta
     })
 }
 
-/// The ids of SELECT or of GROUP; exactly one of them is present.
+// The ids of SELECT or of GROUP; exactly one of them is present.
 fn restore_list(alloc: Global, words: &[Word<'_>]) -> Result<RestoreList, OperandError>
     ensures ok { IfOk result (λ list. HasRestoreList (words_of words.now) (restore_list_of list)) }
     ensures bad { IfErr result (λ e. Excludes e ((list : terms.RestoreList)

@@ -9,7 +9,7 @@ ghost use Rattle.rec80.specs.Cursors.{text_of};
 use crate::at::{At, behind, ends_before, is_whole};
 use rec80::Text;
 
-/// The text after the first run that is the name.
+// The text after the first run that is the name.
 fn behind_name<'a>(list: &Text<'a>, name: &[u8]) -> Option<Text<'a>>
     ensures found { IfSome result (λ after. 0 < length name.now → count name.now (runs_from false [] (text_of list.now))
         ≡ 1 + count name.now (runs_from false [] (text_of after))) }

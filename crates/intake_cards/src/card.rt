@@ -22,7 +22,7 @@ pub enum Tail {
     Other,
 }
 
-/// Whether all bytes are blanks.
+// Whether all bytes are blanks.
 fn is_blank(bytes: &[u8]) -> bool {
     bytes.iter().all(|byte| *byte == b' ')
 }

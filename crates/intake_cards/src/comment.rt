@@ -23,7 +23,7 @@ pub fn laid_out(alloc: Global, text: &[u8]) -> Result<Vec<u8>, AllocError> {
     Ok(laid)
 }
 
-/// Adds the word after the others.
+// Adds the word after the others.
 fn lay(laid: &mut Vec<u8>, word: &[u8]) -> Result<(), AllocError> {
     if !laid.is_empty() {
         laid.push(b' ')?;
@@ -48,7 +48,7 @@ pub fn put_comment(cards: &mut PrintedCards, text: &[u8]) -> Result<(), AllocErr
     cards.joined(b")")
 }
 
-/// The part of a piece that is on a card.
+// The part of a piece that is on a card.
 fn on_card(piece: &[u8]) -> &[u8] {
     match piece.split_at_checked(ON_CARD) {
         Some((front, _)) => front,

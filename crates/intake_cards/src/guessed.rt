@@ -2,7 +2,7 @@
 use crate::code::{Code, Layout};
 use crate::errors::CardError;
 
-/// The code of three bytes, if they begin a statement: two plus signs and a letter.
+// The code of three bytes, if they begin a statement: two plus signs and a letter.
 fn statement_code(bytes: &[u8]) -> Option<Code> {
     match bytes {
         [b'+', b'+', letter, ..] if letter.is_ascii_alphabetic() => Some(Code::Ascii),
@@ -11,12 +11,12 @@ fn statement_code(bytes: &[u8]) -> Option<Code> {
     }
 }
 
-/// Whether the byte ends a line in one of the codes.
+// Whether the byte ends a line in one of the codes.
 fn may_end_line(byte: u8) -> bool {
     Code::Ascii.ends_line(byte) || Code::Ibm1047.ends_line(byte)
 }
 
-/// The code of the first statement, where a card may begin.
+// The code of the first statement, where a card may begin.
 fn first_statement_code(bytes: &[u8]) -> Option<Code> {
     let mut before = b'\n';
     for (i, three) in bytes.windows(3).enumerate() {
@@ -31,7 +31,7 @@ fn first_statement_code(bytes: &[u8]) -> Option<Code> {
     None
 }
 
-/// Whether most bytes are blanks, letters and digits of EBCDIC, whose codes are above those of ASCII.
+// Whether most bytes are blanks, letters and digits of EBCDIC, whose codes are above those of ASCII.
 fn is_mostly_ebcdic(bytes: &[u8]) -> bool {
     let high = bytes
         .iter()
@@ -91,7 +91,7 @@ pub(crate) fn shown_fault(bytes: &[u8]) -> Option<CardError> {
     }
 }
 
-/// Whether the first record has this length, its own four bytes among it, and the next record has one too.
+// Whether the first record has this length, its own four bytes among it, and the next record has one too.
 fn has_record_length(bytes: &[u8], high: u8, low: u8) -> bool {
     let length = usize::from(u16::from_be_bytes([high, low]));
     match bytes.split_at_checked(length) {

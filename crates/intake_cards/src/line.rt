@@ -29,7 +29,7 @@ impl CutLine {
         }
     }
 
-    /// Puts the letter into the column, which counts from 0.
+    // Puts the letter into the column, which counts from 0.
     fn put(&mut self, column: usize, letter: u8) {
         match self.text.get_mut(column) {
             Some(there) => *there = letter,

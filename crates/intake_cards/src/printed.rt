@@ -26,7 +26,7 @@ impl PrintedCards {
         }
     }
 
-    /// How many columns of the last card are filled, and 0 where none is begun.
+    // How many columns of the last card are filled, and 0 where none is begun.
     fn column(&self) -> usize
         ensures { result < 80 }
     {

@@ -49,7 +49,7 @@ pub struct Cards {
 }
 
 impl Cards {
-    /// Notes the oddity of the card at that place.
+    // Notes the oddity of the card at that place.
     fn note(&mut self, oddity: CardOddity, place: CardPlace) -> Result<(), CardError> {
         for known in self.notes.iter_mut() {
             if known.oddity == oddity {
@@ -65,7 +65,7 @@ impl Cards {
         Ok(())
     }
 
-    /// Adds the card of a line.
+    // Adds the card of a line.
     fn add(&mut self, place: CardPlace, line: &CutLine) -> Result<(), CardError> {
         let card = Card {
             place,
@@ -94,7 +94,7 @@ impl Cards {
         Ok(())
     }
 
-    /// Adds the lines.
+    // Adds the lines.
     fn add_lines(&mut self, file: usize, bytes: &[u8]) -> Result<(), CardError> {
         let code = self.code;
         for (i, ended) in bytes
@@ -107,7 +107,7 @@ impl Cards {
         Ok(())
     }
 
-    /// Adds the records.
+    // Adds the records.
     fn add_records(&mut self, file: usize, bytes: &[u8]) -> Result<(), CardError> {
         let (records, rest) = bytes.as_chunks::<80>();
         if !rest.is_empty() {
@@ -120,7 +120,7 @@ impl Cards {
         Ok(())
     }
 
-    /// Leaves out a delimiter after the last other card, and blank cards after it.
+    // Leaves out a delimiter after the last other card, and blank cards after it.
     fn drop_delimiter(&mut self) -> Result<(), CardError> {
         let mut last = None;
         for (place, card) in self.cards.iter().enumerate() {
@@ -138,7 +138,7 @@ impl Cards {
     }
 }
 
-/// The line without its end.
+// The line without its end.
 fn without_end(ended: &[u8], code: Code) -> &[u8] {
     let Some((last, line)) = ended.split_last() else {
         return ended;
@@ -149,7 +149,7 @@ fn without_end(ended: &[u8], code: Code) -> &[u8] {
     line.strip_suffix(b"\r").unwrap_or(line)
 }
 
-/// The bytes that are lines or records, without what pads the file. Records stay whole.
+// The bytes that are lines or records, without what pads the file. Records stay whole.
 fn solid<'a>(bytes: &'a [u8], layout: Layout, code: Code) -> &'a [u8] {
     let front = without_padding(bytes, code);
     if layout == Layout::Text {

@@ -15,7 +15,7 @@ const MOST_IDS: usize = 1000;
 /// The source of the SYSMODs with stand-ins.
 const STAND_IN: &[u8] = b"STANDIN";
 
-/// Appends one assignment for each 1,000 ids.
+// Appends one assignment for each 1,000 ids.
 fn put_each(
     alloc: Global,
     assigns: &mut Vec<Assign>,
@@ -31,7 +31,7 @@ fn put_each(
     Ok(())
 }
 
-/// The ids in their order, none twice. One without the form of an id gets a remark.
+// The ids in their order, none twice. One without the form of an id gets a remark.
 fn ids_of(
     alloc: Global,
     remarks: &mut Remarks,
@@ -54,7 +54,7 @@ fn ids_of(
     Ok(ids)
 }
 
-/// Appends what an `++ASSIGN` says. What is left out or differs is told.
+// Appends what an `++ASSIGN` says. What is left out or differs is told.
 fn put_assign(
     alloc: Global,
     remarks: &mut Remarks,
@@ -122,7 +122,7 @@ pub(crate) fn assigns_of(
     Ok(assigns)
 }
 
-/// The assignments as items.
+// The assignments as items.
 fn assign_items(alloc: Global, assigns: Vec<Assign>) -> Result<Vec<Item>, AllocError>
     ensures { IfOk result (λ items. items.items ≡ map item.Assign assigns.items) }
 {

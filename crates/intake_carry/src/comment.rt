@@ -6,7 +6,7 @@ use std::alloc::{AllocError, Global};
 /// The most characters that a COMMENT may have.
 const LONGEST: usize = 200;
 
-/// What stands for a character of a COMMENT.
+// What stands for a character of a COMMENT.
 fn carried(byte: u8) -> u8 {
     match byte {
         b'(' => b'[',
@@ -20,7 +20,7 @@ fn is_parenthesis(byte: u8) -> bool {
     byte == b'(' || byte == b')'
 }
 
-/// The first 200 characters, without blanks at their end.
+// The first 200 characters, without blanks at their end.
 fn cut(text: &[u8]) -> &[u8] {
     match text.split_at_checked(LONGEST) {
         Some((front, _)) => front.trim_ascii_end(),
@@ -28,12 +28,12 @@ fn cut(text: &[u8]) -> &[u8] {
     }
 }
 
-/// Whether it is an asterisk, or a row of them, as boxes have.
+// Whether it is an asterisk, or a row of them, as boxes have.
 fn is_box(word: &[u8]) -> bool {
     !word.is_empty() && word.iter().all(|b| *b == b'*')
 }
 
-/// The text without the rows and sides of boxes.
+// The text without the rows and sides of boxes.
 fn without_boxes(alloc: Global, text: &[u8]) -> Result<Vec<u8>, AllocError> {
     let mut kept = Vec::with_capacity(alloc, text.len())?;
     for word in text.split(|b| *b == b' ') {
@@ -78,7 +78,7 @@ pub(crate) fn comment_of(
     }
 }
 
-/// The first of the ways in which a COMMENT differs.
+// The first of the ways in which a COMMENT differs.
 fn difference(stated: &[u8], laid: &[u8]) -> Option<RemarkReason> {
     if laid.len() > LONGEST {
         return Some(RemarkReason::CutComment);

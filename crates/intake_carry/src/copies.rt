@@ -18,7 +18,7 @@ pub(crate) struct OtherCopies {
     places: BTreeSet<CardPlace>,
 }
 
-/// The number, or the most that there is where it is greater.
+// The number, or the most that there is where it is greater.
 fn number_of(text: &[u8]) -> u64 {
     let mut number = 0u64;
     for byte in text {
@@ -31,7 +31,7 @@ fn number_of(text: &[u8]) -> u64 {
     number
 }
 
-/// The level that REWORK states, or 0 where it states none.
+// The level that REWORK states, or 0 where it states none.
 fn rework_of(sysmod: &WideSysmod) -> u64 {
     for operand in sysmod.dropped.iter() {
         if operand.name.as_slice() == b"REWORK".as_slice() {
@@ -56,7 +56,7 @@ impl OtherCopies {
         Ok(others)
     }
 
-    /// Adds a SYSMOD: of it and the best one so far, the other is not carried.
+    // Adds a SYSMOD: of it and the best one so far, the other is not carried.
     fn add(
         &mut self,
         best: &mut BTreeMap<Id, SysmodCopy>,

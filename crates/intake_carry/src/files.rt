@@ -27,7 +27,7 @@ pub(crate) struct CarriedItems {
     pub outside: Vec<PlacedItem>,
 }
 
-/// With what becomes of one SYSMOD more.
+// With what becomes of one SYSMOD more.
 fn with_part(gathered: CarriedItems, part: CarriedPart) -> Result<CarriedItems, AllocError>
     ensures items { IfOk result (λ all. all.items.items ≡ gathered.items.items ++ item_in part.sysmod) }
     ensures outside { IfOk result (λ all. placed_items all.outside.items
@@ -43,7 +43,7 @@ fn with_part(gathered: CarriedItems, part: CarriedPart) -> Result<CarriedItems, 
     Ok(CarriedItems { items, outside })
 }
 
-/// The SYSMODs of a file, and their holds.
+// The SYSMODs of a file, and their holds.
 fn sysmods_of(
     alloc: Global,
     options: &Options,
@@ -65,7 +65,7 @@ fn sysmods_of(
     Ok(gathered)
 }
 
-/// These items, then those of others.
+// These items, then those of others.
 fn joined(one: CarriedItems, other: CarriedItems) -> Result<CarriedItems, AllocError>
     ensures items { IfOk result (λ all. all.items.items ≡ one.items.items ++ other.items.items) }
     ensures outside { IfOk result (λ all. placed_items all.outside.items
@@ -80,7 +80,7 @@ fn joined(one: CarriedItems, other: CarriedItems) -> Result<CarriedItems, AllocE
     Ok(CarriedItems { items, outside })
 }
 
-/// With these holds and releases in the hold file.
+// With these holds and releases in the hold file.
 fn with_outside(gathered: CarriedItems, more: Vec<PlacedItem>) -> Result<CarriedItems, AllocError>
     ensures items { IfOk result (λ all. all.items.items ≡ gathered.items.items) }
     ensures outside { IfOk result (λ all. placed_items all.outside.items
@@ -93,7 +93,7 @@ fn with_outside(gathered: CarriedItems, more: Vec<PlacedItem>) -> Result<Carried
     Ok(CarriedItems { items, outside })
 }
 
-/// What a file has of SYSMODs, holds and releases.
+// What a file has of SYSMODs, holds and releases.
 fn of_file(
     alloc: Global,
     options: &Options,
@@ -115,7 +115,7 @@ fn of_file(
     Ok(gathered)
 }
 
-/// What the files have of SYSMODs, holds and releases.
+// What the files have of SYSMODs, holds and releases.
 fn of_files(
     alloc: Global,
     options: &Options,
@@ -137,7 +137,7 @@ fn of_files(
     Ok(gathered)
 }
 
-/// Tells of the holds and releases that can't be carried, and answers whether there are any.
+// Tells of the holds and releases that can't be carried, and answers whether there are any.
 fn are_refused(
     alloc: Global,
     remarks: &mut Remarks,

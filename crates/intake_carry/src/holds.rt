@@ -50,7 +50,7 @@ impl HoldFault {
     }
 }
 
-/// The kind of a hold, or nothing for FIXCAT.
+// The kind of a hold, or nothing for FIXCAT.
 fn kind_of(kind: WideHoldKind) -> Option<HoldKind>
     ensures some { IfSome result (λ found. kind ≡ wide_kind found) }
     ensures none { IfNone result (kind ≡ Fixcat) }
@@ -63,7 +63,7 @@ fn kind_of(kind: WideHoldKind) -> Option<HoldKind>
     }
 }
 
-/// The reason of a hold of the kind. That of an ERROR hold is an id.
+// The reason of a hold of the kind. That of an ERROR hold is an id.
 fn reason_of(kind: HoldKind, stated: &Option<Vec<u8>>) -> Result<HoldReason, HoldFault>
     ensures { IfOk result (λ reason. (text_in stated.now ≡ Some reason) × IsReason kind reason) }
 {
@@ -79,7 +79,7 @@ fn reason_of(kind: HoldKind, stated: &Option<Vec<u8>>) -> Result<HoldReason, Hol
     Ok(reason)
 }
 
-/// The FMID of a hold.
+// The FMID of a hold.
 fn fmid_of(stated: &Option<Vec<u8>>) -> Result<Id, HoldFault>
     ensures { IfOk result (λ fmid. text_in stated.now ≡ Some fmid) }
 {
@@ -92,7 +92,7 @@ fn fmid_of(stated: &Option<Vec<u8>>) -> Result<Id, HoldFault>
     }
 }
 
-/// What tells a hold from others, and its FMID: nothing for FIXCAT.
+// What tells a hold from others, and its FMID: nothing for FIXCAT.
 fn key_of(
     id: &[u8],
     kind: Option<WideHoldKind>,
@@ -147,7 +147,7 @@ pub(crate) fn release_key(stated: &WideRelease) -> Result<Option<Release>, HoldF
     )
 }
 
-/// CLASS, where it has the form; else this is told.
+// CLASS, where it has the form; else this is told.
 fn class_of(
     alloc: Global,
     remarks: &mut Remarks,
@@ -172,7 +172,7 @@ fn class_of(
     Ok(class)
 }
 
-/// DATE, where it has the form; else this is told.
+// DATE, where it has the form; else this is told.
 fn date_of(
     alloc: Global,
     remarks: &mut Remarks,
@@ -197,7 +197,7 @@ fn date_of(
     Ok(date)
 }
 
-/// The hold of the key.
+// The hold of the key.
 fn hold_of(
     alloc: Global,
     remarks: &mut Remarks,
@@ -225,7 +225,7 @@ fn hold_of(
     })
 }
 
-/// Whether the hold stays in the SYSMOD of the id: a SYSTEM hold on it.
+// Whether the hold stays in the SYSMOD of the id: a SYSTEM hold on it.
 fn is_internal(key: &Release, own: Option<Id>) -> bool
     ensures only { IsTrue result → (key.now.kind ≡ System) × (own ≡ Some key.now.id) }
     ensures always { (key.now.kind ≡ System) × (own ≡ Some key.now.id) → IsTrue result }
@@ -233,7 +233,7 @@ fn is_internal(key: &Release, own: Option<Id>) -> bool
     key.kind == HoldKind::System && own == Some(key.id)
 }
 
-/// Tells that it is left out, since it is of FIXCAT.
+// Tells that it is left out, since it is of FIXCAT.
 fn tell_fixcat(
     alloc: Global,
     remarks: &mut Remarks,
@@ -249,7 +249,7 @@ fn tell_fixcat(
     )
 }
 
-/// Tells of the operands that are dropped, those that are odd too.
+// Tells of the operands that are dropped, those that are odd too.
 fn tell_operands(
     alloc: Global,
     remarks: &mut Remarks,

@@ -8,7 +8,7 @@ use std::cmp::Ordering;
 use std::mem;
 use terms::ElemType;
 
-/// By their names and types, and then by the elements.
+// By their names and types, and then by the elements.
 fn order(one: &StandIn, other: &StandIn) -> Ordering {
     let words = one.word.as_slice().cmp(other.word.as_slice());
     let names = one.name.as_slice().cmp(other.name.as_slice());
@@ -19,17 +19,17 @@ fn order(one: &StandIn, other: &StandIn) -> Ordering {
         .then(names)
 }
 
-/// Whether both have one name and type.
+// Whether both have one name and type.
 fn fall_together(one: &StandIn, other: &StandIn) -> bool {
     one.stand_in == other.stand_in && one.elem_type == other.elem_type
 }
 
-/// Whether both are for one element.
+// Whether both are for one element.
 fn are_for_one(one: &StandIn, other: &StandIn) -> bool {
     one.word.as_slice() == other.word.as_slice() && one.name.as_slice() == other.name.as_slice()
 }
 
-/// Tells that the stand-in stands for another element too.
+// Tells that the stand-in stands for another element too.
 fn tell(alloc: Global, remarks: &mut Remarks, stand_in: &StandIn) -> Result<(), AllocError> {
     let subject = Subject {
         place: stand_in.place,
@@ -40,7 +40,7 @@ fn tell(alloc: Global, remarks: &mut Remarks, stand_in: &StandIn) -> Result<(), 
     remarks.tell_carried(alloc, &subject, b"", RemarkReason::FallTogether, name)
 }
 
-/// The stand-ins in order, one for each element. Two that have one name are told.
+// The stand-ins in order, one for each element. Two that have one name are told.
 fn apart(
     alloc: Global,
     remarks: &mut Remarks,
@@ -62,7 +62,7 @@ fn apart(
     Ok(kept)
 }
 
-/// Tells of an element of the profile that has the name and type of a stand-in.
+// Tells of an element of the profile that has the name and type of a stand-in.
 fn tell_real(
     alloc: Global,
     remarks: &mut Remarks,

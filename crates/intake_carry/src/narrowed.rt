@@ -55,7 +55,7 @@ impl<T: Drop> From<AllocFailed<T>> for NarrowError {
     }
 }
 
-/// How many of the remarks are about a statement that is left out for the reason.
+// How many of the remarks are about a statement that is left out for the reason.
 fn count(remarks: &[Remark], word: &[u8], reason: RemarkReason) -> usize {
     remarks
         .iter()
@@ -65,7 +65,7 @@ fn count(remarks: &[Remark], word: &[u8], reason: RemarkReason) -> usize {
         .count()
 }
 
-/// How many `++ASSIGN`s are left out: not those of which only an id is.
+// How many `++ASSIGN`s are left out: not those of which only an id is.
 fn assigns_left_out(remarks: &[Remark]) -> usize {
     let mut last: Option<CardPlace> = None;
     let mut found = 0usize;

@@ -34,7 +34,7 @@ pub(crate) fn put_outside(
     Ok(())
 }
 
-/// Adds a release after the others.
+// Adds a release after the others.
 fn put_release(
     placed: &mut Vec<PlacedItem>,
     place: CardPlace,
@@ -87,7 +87,7 @@ pub(crate) fn placed_releases(
     Ok(placed)
 }
 
-/// By their places.
+// By their places.
 fn by_place(mut placed: Vec<PlacedItem>) -> Vec<PlacedItem>
     ensures { IsPermutation placed.items result.items }
 {
@@ -95,7 +95,7 @@ fn by_place(mut placed: Vec<PlacedItem>) -> Vec<PlacedItem>
     placed
 }
 
-/// The items without their places.
+// The items without their places.
 fn items_of(alloc: Global, placed: Vec<PlacedItem>) -> Result<Vec<HoldItem>, AllocError>
     ensures { IfOk result (λ items. items.items ≡ placed_items placed.items) }
 {

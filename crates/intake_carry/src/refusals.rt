@@ -10,12 +10,12 @@ const KEYS: &[&[u8]] = &[
     b"ERROR", b"ERR", b"SYSTEM", b"SYS", b"USER", b"FIXCAT", b"REASON", b"FMID",
 ];
 
-/// The first odd operand that leaves open which hold is meant.
+// The first odd operand that leaves open which hold is meant.
 fn open_key(odd: &[OddOperand]) -> Option<&OddOperand> {
     odd.iter().find(|one| KEYS.iter().any(|key| *key == one.operand.name.as_slice()))
 }
 
-/// Tells of a hold or a release that can't be carried, and answers whether it is one.
+// Tells of a hold or a release that can't be carried, and answers whether it is one.
 fn tell_fault(
     alloc: Global,
     remarks: &mut Remarks,
@@ -84,13 +84,13 @@ fn tell_holds(
     Ok(any)
 }
 
-/// Whether it is a hold or a release that has something wrong with it, and not of the kind FIXCAT alone.
+// Whether it is a hold or a release that has something wrong with it, and not of the kind FIXCAT alone.
 fn is_broken_hold(other: &WideOther) -> bool {
     let word = other.word.as_slice();
     (word == b"HOLD".as_slice() || word == b"RELEASE".as_slice()) && !is_fixcat(other)
 }
 
-/// Whether FIXCAT is its only kind.
+// Whether FIXCAT is its only kind.
 fn is_fixcat(other: &WideOther) -> bool {
     let mut has_fixcat = false;
     for operand in other.operands.iter() {

@@ -25,14 +25,14 @@ pub(crate) struct CarriedPart {
     pub outside: Vec<PlacedItem>,
 }
 
-/// The id of a SYSMOD.
+// The id of a SYSMOD.
 fn id_in(sysmod: &Sysmod) -> Id
     ensures { result ≡ sysmod.now.id }
 {
     sysmod.id
 }
 
-/// Puts an internal hold into the SYSMOD, and another one into the hold file.
+// Puts an internal hold into the SYSMOD, and another one into the hold file.
 fn put_hold(
     sysmod: &mut Sysmod,
     outside: &mut Vec<PlacedItem>,
@@ -57,7 +57,7 @@ fn put_hold(
     }
 }
 
-/// A remark that a hold of a SYSMOD is in the hold file.
+// A remark that a hold of a SYSMOD is in the hold file.
 fn tell_outside(alloc: Global, remarks: &mut Remarks, stated: &WideHold) -> Result<(), AllocError> {
     let subject = Subject {
         place: stated.place,
@@ -67,7 +67,7 @@ fn tell_outside(alloc: Global, remarks: &mut Remarks, stated: &WideHold) -> Resu
     remarks.tell_carried(alloc, &subject, b"", RemarkReason::HeldOutside, b"")
 }
 
-/// Tells the same of all holds of a SYSMOD that is left out.
+// Tells the same of all holds of a SYSMOD that is left out.
 fn tell_all_outside(
     alloc: Global,
     remarks: &mut Remarks,
@@ -81,8 +81,8 @@ fn tell_all_outside(
     Ok(())
 }
 
-/// Puts the SYSTEM holds on the SYSMOD into it, and returns the others, which are in the hold file. What differs is
-/// told.
+// Puts the SYSTEM holds on the SYSMOD into it, and returns the others, which are in the hold file. What differs is
+// told.
 fn put_holds(
     alloc: Global,
     remarks: &mut Remarks,
@@ -108,14 +108,14 @@ fn put_holds(
     Ok(outside)
 }
 
-/// Whether both are internal holds of one reason, where the first is one.
+// Whether both are internal holds of one reason, where the first is one.
 fn are_of_one_reason(one: &WideHold, other: &WideHold) -> bool {
     one.kind == other.kind
         && one.id.as_slice() == other.id.as_slice()
         && text_of(&one.reason) == text_of(&other.reason)
 }
 
-/// What is stated, or nothing.
+// What is stated, or nothing.
 fn text_of(stated: &Option<Vec<u8>>) -> &[u8] {
     match stated {
         Some(text) => text.as_slice(),
@@ -123,7 +123,7 @@ fn text_of(stated: &Option<Vec<u8>>) -> &[u8] {
     }
 }
 
-/// A remark on each internal hold that another one of its reason follows: RECEIVE keeps the later one.
+// A remark on each internal hold that another one of its reason follows: RECEIVE keeps the later one.
 fn tell_later_holds(
     alloc: Global,
     remarks: &mut Remarks,
@@ -150,7 +150,7 @@ fn tell_later_holds(
     Ok(())
 }
 
-/// The SYSMOD with its holds, and those that are in the hold file.
+// The SYSMOD with its holds, and those that are in the hold file.
 fn carried_part(
     alloc: Global,
     remarks: &mut Remarks,
@@ -170,7 +170,7 @@ fn carried_part(
     })
 }
 
-/// Tells that another copy of the SYSMOD is carried.
+// Tells that another copy of the SYSMOD is carried.
 fn tell_copy(alloc: Global, remarks: &mut Remarks, stated: &WideSysmod) -> Result<(), AllocError> {
     let subject = Subject {
         place: stated.place,
@@ -180,7 +180,7 @@ fn tell_copy(alloc: Global, remarks: &mut Remarks, stated: &WideSysmod) -> Resul
     remarks.leave_out(alloc, &subject, b"", RemarkReason::OtherCopy, b"")
 }
 
-/// The SYSMOD without its holds, or nothing where it is left out or another copy of it is carried, which is told.
+// The SYSMOD without its holds, or nothing where it is left out or another copy of it is carried, which is told.
 fn carried_copy(
     alloc: Global,
     options: &Options,

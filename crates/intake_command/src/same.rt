@@ -15,7 +15,7 @@ trait Same {
         ensures { IsTrue result ↔ (self.now ≡ other.now) };
 }
 
-/// Whether two lists have the same items, one after the other.
+// Whether two lists have the same items, one after the other.
 fn are_same<T: Same>(one: &[T], other: &[T]) -> bool
     ensures { IsTrue result ↔ (one.now ≡ other.now) }
 {

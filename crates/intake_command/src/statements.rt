@@ -51,7 +51,7 @@ fn put_sysmod(cards: &mut PrintedCards, sysmod: &Sysmod) -> Result<(), AllocErro
     Ok(())
 }
 
-/// An operand with ids, where there are any.
+// An operand with ids, where there are any.
 fn put_ids(cards: &mut PrintedCards, word: &[u8], ids: &[Id]) -> Result<(), AllocError> {
     let Some((first, others)) = ids.split_first() else {
         return Ok(());
@@ -149,7 +149,7 @@ fn put_change(cards: &mut PrintedCards, change: &ElemChange) -> Result<(), Alloc
     }
 }
 
-/// The word of an update. Only macros and sources have any.
+// The word of an update. Only macros and sources have any.
 fn update_word(elem_type: ElemType) -> &'static [u8] {
     match elem_type {
         ElemType::Src => b"++SRCUPD",

@@ -109,7 +109,7 @@ impl FileSoFar {
         Ok(())
     }
 
-    /// Adds to the SYSMOD a statement that is none of the others. Returns an error if no SYSMOD is begun.
+    // Adds to the SYSMOD a statement that is none of the others. Returns an error if no SYSMOD is begun.
     fn add_other(
         &mut self,
         reason: OtherReason,

@@ -46,19 +46,19 @@ static LANGUAGES: &[u8] =
     b"ARA CHS CHT DAN DES DEU ELL ENG ENP ENU ESP FIN FRA FRB FRC FRS HEB ISL ITA ITS JPN KOR NLB \
     NLD NOR PTB PTG RMS RUS SVE THA TRK";
 
-/// Whether the word is among these, which blanks separate.
+// Whether the word is among these, which blanks separate.
 fn is_among(word: &[u8], words: &[u8]) -> bool {
     words
         .split(|byte| *byte == b' ')
         .any(|known| *known == *word)
 }
 
-/// Whether the word is one that a language may follow.
+// Whether the word is one that a language may follow.
 fn may_have_language(word: &[u8]) -> bool {
     is_among(word, DATA_ELEMENTS) || is_among(word, FILE_ELEMENTS)
 }
 
-/// Whether the word has a language at its end.
+// Whether the word has a language at its end.
 fn has_language(word: &[u8]) -> bool {
     if word.len() < 3 {
         return false;

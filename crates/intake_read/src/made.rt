@@ -115,7 +115,7 @@ pub(crate) fn condition(alloc: Global, statement: WideStatement) -> Result<WideI
     Ok(found)
 }
 
-/// The kind that a word names.
+// The kind that a word names.
 fn hold_kind(word: &[u8]) -> Option<WideHoldKind> {
     match word {
         b"ERROR" | b"ERR" => Some(WideHoldKind::Error),
@@ -126,7 +126,7 @@ fn hold_kind(word: &[u8]) -> Option<WideHoldKind> {
     }
 }
 
-/// Takes the kind that the operand names.
+// Takes the kind that the operand names.
 fn take_kind(
     slot: &mut Option<WideHoldKind>,
     kind: WideHoldKind,

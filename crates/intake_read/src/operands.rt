@@ -28,7 +28,7 @@ pub(crate) fn members(alloc: Global, text: &[u8]) -> Result<Option<Vec<Vec<u8>>>
     Ok(Some(found))
 }
 
-/// The only member of a list in upper case. None: it is no list of one.
+// The only member of a list in upper case. None: it is no list of one.
 fn only_member(alloc: Global, text: &[u8]) -> Result<Option<Vec<u8>>, AllocError> {
     let Some(mut found) = members(alloc, text)? else {
         return Ok(None);

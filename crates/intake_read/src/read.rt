@@ -36,7 +36,7 @@ struct Reader {
     gathered: FileSoFar,
 }
 
-/// The letters and digits at the beginning, in upper case.
+// The letters and digits at the beginning, in upper case.
 fn upper_word(alloc: Global, text: &[u8]) -> Result<Vec<u8>, AllocError> {
     let mut word = Vec::new(alloc);
     for byte in text {
@@ -48,7 +48,7 @@ fn upper_word(alloc: Global, text: &[u8]) -> Result<Vec<u8>, AllocError> {
     Ok(word)
 }
 
-/// What follows the first opening parenthesis.
+// What follows the first opening parenthesis.
 fn behind_parenthesis(text: &[u8]) -> &[u8] {
     match text.iter().position(|byte| *byte == b'(') {
         Some(place) => &text[place + 1..],
@@ -56,7 +56,7 @@ fn behind_parenthesis(text: &[u8]) -> &[u8] {
     }
 }
 
-/// The statement that a card would begin, if no comment were open.
+// The statement that a card would begin, if no comment were open.
 fn swallowed_by(
     alloc: Global,
     comment: CardPlace,
@@ -71,7 +71,7 @@ fn swallowed_by(
     })
 }
 
-/// What to do about a card that stands before the first statement.
+// What to do about a card that stands before the first statement.
 fn hint_for(card: &Card) -> &'static str {
     if card.text.starts_with(b"//") {
         "JCL stands there: give the cards after its DD * without it"
@@ -82,7 +82,7 @@ fn hint_for(card: &Card) -> &'static str {
     }
 }
 
-/// Whether cards behind the statement of these pieces are its text.
+// Whether cards behind the statement of these pieces are its text.
 fn has_inline(pieces: &[CardPiece]) -> bool {
     let mut has_word = false;
     for piece in pieces {
@@ -100,7 +100,7 @@ fn has_inline(pieces: &[CardPiece]) -> bool {
 }
 
 impl Reader {
-    /// Takes the next card.
+    // Takes the next card.
     fn card(&mut self, card: &Card) -> Result<(), WideError> {
         if card.begins_statement() {
             let Open::Comment(comment) = self.scanner.open() else {
@@ -133,7 +133,7 @@ impl Reader {
         }
     }
 
-    /// Begins the statement of the card, and ends the one before.
+    // Begins the statement of the card, and ends the one before.
     fn begin(&mut self, card: &Card) -> Result<(), WideError> {
         self.end()?;
         self.part = CardPart::Own;
@@ -145,7 +145,7 @@ impl Reader {
         self.end_own()
     }
 
-    /// Takes note of a line that is cut at column 80. One that ends inside a comment loses nothing.
+    // Takes note of a line that is cut at column 80. One that ends inside a comment loses nothing.
     fn end_line(&mut self, card: &Card) {
         let is_open = matches!(self.scanner.open(), Open::Comment(_));
         if is_open && card.ends_comment {
@@ -162,7 +162,7 @@ impl Reader {
         Ok(())
     }
 
-    /// Makes the statement of what was scanned.
+    // Makes the statement of what was scanned.
     fn scanned(&mut self) -> Result<WideStatement, AllocError> {
         let open = self.scanner.open();
         let has_lower = self.scanner.has_lower();
@@ -174,7 +174,7 @@ impl Reader {
         Ok(statement)
     }
 
-    /// Goes on to what is behind the statement, if its period was met and no comment is open.
+    // Goes on to what is behind the statement, if its period was met and no comment is open.
     fn end_own(&mut self) -> Result<(), WideError> {
         if !self.scanner.has_period() || matches!(self.scanner.open(), Open::Comment(_)) {
             return Ok(());
@@ -188,7 +188,7 @@ impl Reader {
         Ok(())
     }
 
-    /// Checks that nothing but comments and blanks stands in the card that was taken.
+    // Checks that nothing but comments and blanks stands in the card that was taken.
     fn check_idle(&mut self, card: &Card) -> Result<(), WideError> {
         let is_open = matches!(self.scanner.open(), Open::Parenthesis(_));
         let pieces = self.scanner.take_pieces();
@@ -207,7 +207,7 @@ impl Reader {
         Ok(())
     }
 
-    /// Ends the statement that is begun, if one is.
+    // Ends the statement that is begun, if one is.
     fn end(&mut self) -> Result<(), WideError> {
         if let Some(statement) = self.whole.take() {
             return self.gathered.add(statement);

@@ -78,7 +78,7 @@ pub(crate) fn is_word_byte(byte: u8) -> bool {
     byte.is_ascii_alphanumeric() || matches!(byte, b'$' | b'#' | b'@' | b'+' | b'_' | b'-')
 }
 
-/// Whether the list of the word is text, in which everything stands for itself.
+// Whether the list of the word is text, in which everything stands for itself.
 fn has_text(word: &[u8]) -> bool {
     matches!(word, b"COMMENT" | b"DESC" | b"DESCRIPTION")
 }
@@ -171,7 +171,7 @@ impl CardScanner {
         }
     }
 
-    /// What the end of a card ends.
+    // What the end of a card ends.
     fn end_card(&mut self, place: CardPlace) -> Result<(), AllocError> {
         match self.state {
             State::Word => self.end_word(place)?,
@@ -231,7 +231,7 @@ impl CardScanner {
         self.push(place, Token::Word(word))
     }
 
-    /// Begins a list. It is text if the word before it says so.
+    // Begins a list. It is text if the word before it says so.
     fn open_list(&mut self, place: CardPlace) {
         self.state = State::List;
         self.depth = 1;
@@ -276,7 +276,7 @@ impl CardScanner {
         }
     }
 
-    /// Adds a character that is no blank to the list, behind the blanks before it.
+    // Adds a character that is no blank to the list, behind the blanks before it.
     fn list_byte(&mut self, byte: u8) -> Result<(), AllocError> {
         if !self.text.is_empty() {
             for _ in 0..self.blanks {
@@ -310,7 +310,7 @@ impl CardScanner {
         }
     }
 
-    /// Takes the slash before for itself.
+    // Takes the slash before for itself.
     fn stray_slash(&mut self, place: CardPlace) -> Result<(), AllocError> {
         if self.depth > 0 {
             self.state = State::List;

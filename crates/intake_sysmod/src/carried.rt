@@ -24,7 +24,7 @@ fn subject_of(stated: &WideSysmod) -> Subject<'_> {
     }
 }
 
-/// Tells of what the header and other statements have besides, and answers whether the SYSMOD can be carried with it.
+// Tells of what the header and other statements have besides, and answers whether the SYSMOD can be carried with it.
 fn tell_rest(
     alloc: Global,
     options: &Options,
@@ -48,7 +48,7 @@ fn tell_rest(
     Ok(others && stated.odd.is_empty())
 }
 
-/// The SYSMOD with these `++VER`s.
+// The SYSMOD with these `++VER`s.
 fn with_vers(sysmod: Sysmod, vers: Vec<Ver>) -> Sysmod
     ensures { result ≡ record sysmod { vers = vers.items } }
 {
@@ -62,7 +62,7 @@ fn with_vers(sysmod: Sysmod, vers: Vec<Ver>) -> Sysmod
     }
 }
 
-/// The SYSMOD without its holds, or nothing if it can't be carried. A remark says why.
+// The SYSMOD without its holds, or nothing if it can't be carried. A remark says why.
 fn sysmod_of(
     alloc: Global,
     options: &Options,
@@ -93,7 +93,7 @@ fn sysmod_of(
     Ok(Some(with_vers(sysmod, vers)))
 }
 
-/// Tells that a SYSMOD is left out, and counts it where it would have forbidden something.
+// Tells that a SYSMOD is left out, and counts it where it would have forbidden something.
 fn tell_left_out(
     alloc: Global,
     remarks: &mut Remarks,

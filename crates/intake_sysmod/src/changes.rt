@@ -24,7 +24,7 @@ use std::alloc::{AllocError, Global};
 use sysmods_values::{Action, ElemChange, Sysmod};
 use terms::{ElemType, Kind};
 
-/// The statement of an element.
+// The statement of an element.
 fn subject_of(element: &WideElement) -> Subject<'_> {
     Subject {
         place: element.place,
@@ -33,7 +33,7 @@ fn subject_of(element: &WideElement) -> Subject<'_> {
     }
 }
 
-/// Tells of an operand that names modules and can't be read. The answer is whether there is none.
+// Tells of an operand that names modules and can't be read. The answer is whether there is none.
 fn has_good_modules(
     alloc: Global,
     remarks: &mut Remarks,
@@ -52,8 +52,8 @@ fn has_good_modules(
     Ok(good)
 }
 
-/// Tells of an operand that decides whether the SYSMOD goes on, which a stand-in can't have, and of one that names
-/// modules and can't be read. The answer is whether there is none.
+// Tells of an operand that decides whether the SYSMOD goes on, which a stand-in can't have, and of one that names
+// modules and can't be read. The answer is whether there is none.
 fn may_stand_in(
     alloc: Global,
     remarks: &mut Remarks,
@@ -70,7 +70,7 @@ fn may_stand_in(
     has_good_modules(alloc, remarks, subject, element)
 }
 
-/// Tells of all operands of an element that is carried as a stand-in that they are dropped.
+// Tells of all operands of an element that is carried as a stand-in that they are dropped.
 fn tell_operands(
     alloc: Global,
     remarks: &mut Remarks,
@@ -93,7 +93,7 @@ fn tell_operands(
     Ok(())
 }
 
-/// What a statement of a word that the profile lacks changes, or nothing where it can't be carried, which is told.
+// What a statement of a word that the profile lacks changes, or nothing where it can't be carried, which is told.
 fn lacked_change(
     alloc: Global,
     options: &Options,
@@ -114,8 +114,8 @@ fn lacked_change(
     stand_in_change(alloc, remarks, &subject, kind, element)
 }
 
-/// What a statement of the profile changes, or nothing where it can't be carried, which is told. Where stand-ins are
-/// asked for, it has a text of one record in place of one that can't be carried.
+// What a statement of the profile changes, or nothing where it can't be carried, which is told. Where stand-ins are
+// asked for, it has a text of one record in place of one that can't be carried.
 #[tactic(auto, using(crate::proofs::Targets::known_target))]
 fn known_change(
     alloc: Global,
@@ -152,7 +152,7 @@ fn known_change(
     Ok(Some(change))
 }
 
-/// What an element statement itself changes, or nothing where it can't be carried, which is told.
+// What an element statement itself changes, or nothing where it can't be carried, which is told.
 fn change_of(
     alloc: Global,
     options: &Options,
@@ -169,7 +169,7 @@ fn change_of(
     }
 }
 
-/// Whether the statement replaces an element.
+// Whether the statement replaces an element.
 fn replaces(change: &ElemChange) -> bool {
     match &change.action {
         Action::Replaces { .. } => true,
@@ -177,7 +177,7 @@ fn replaces(change: &ElemChange) -> bool {
     }
 }
 
-/// Puts the statement among those of the SYSMOD, in the place of one for its element.
+// Puts the statement among those of the SYSMOD, in the place of one for its element.
 fn put_change(sysmod: &mut Sysmod, change: ElemChange) -> Result<(), AllocError>
     ensures rest { OnOk result (sysmod.new ≡ record sysmod.old { changes = sysmod.new.changes }) }
     ensures kept { OnOk result ((type : AnyType) (name : Text) → Changes sysmod.old.changes type name
@@ -188,8 +188,8 @@ fn put_change(sysmod: &mut Sysmod, change: ElemChange) -> Result<(), AllocError>
     Ok(())
 }
 
-/// Puts the statement among those of the SYSMOD, and answers whether it could. Where another one is for its element,
-/// this is told: without stand-ins a SYSMOD has no two; with them one stays, a replacement rather than an update.
+// Puts the statement among those of the SYSMOD, and answers whether it could. Where another one is for its element,
+// this is told: without stand-ins a SYSMOD has no two; with them one stays, a replacement rather than an update.
 #[tactic(auto, using(crate::proofs::Changed::there_already))]
 fn join(
     alloc: Global,
@@ -219,7 +219,7 @@ fn join(
     Ok(true)
 }
 
-/// Puts a replacement of the module's stand-in into the SYSMOD, and answers whether it could.
+// Puts a replacement of the module's stand-in into the SYSMOD, and answers whether it could.
 fn put_module(
     alloc: Global,
     options: &Options,
@@ -240,7 +240,7 @@ fn put_module(
     Ok(joined)
 }
 
-/// The same for modules that a macro names.
+// The same for modules that a macro names.
 fn put_named_modules(
     alloc: Global,
     options: &Options,
@@ -260,7 +260,7 @@ fn put_named_modules(
     Ok(all)
 }
 
-/// Puts replacements of the modules that are assembled of the element into the SYSMOD, and answers whether it could.
+// Puts replacements of the modules that are assembled of the element into the SYSMOD, and answers whether it could.
 fn put_modules(
     alloc: Global,
     options: &Options,
@@ -285,7 +285,7 @@ fn both(one: bool, other: bool) -> bool
     one && other
 }
 
-/// Puts what the statement of a SYSMOD with stand-ins changes into it, and answers whether it could.
+// Puts what the statement of a SYSMOD with stand-ins changes into it, and answers whether it could.
 fn put_decided(
     alloc: Global,
     options: &Options,
@@ -312,7 +312,7 @@ fn put_decided(
     Ok(both(joined, assembled))
 }
 
-/// Puts what the statement changes into the SYSMOD, and answers whether it could.
+// Puts what the statement changes into the SYSMOD, and answers whether it could.
 fn put_stated(
     alloc: Global,
     options: &Options,
@@ -336,8 +336,8 @@ fn put_stated(
     Ok(joined)
 }
 
-/// Puts what the element statement changes into the SYSMOD, and answers whether it could. Why it could not is told, and
-/// so is what differs.
+// Puts what the element statement changes into the SYSMOD, and answers whether it could. Why it could not is told, and
+// so is what differs.
 fn put_element(
     alloc: Global,
     options: &Options,

@@ -27,8 +27,8 @@ fn is_dropped(name: &[u8]) -> bool {
     DROPPED.iter().any(|dropped| *dropped == name)
 }
 
-/// Tells of the operands that are dropped, and of those for which the SYSMOD is left out. The answer is whether there
-/// are none of these.
+// Tells of the operands that are dropped, and of those for which the SYSMOD is left out. The answer is whether there
+// are none of these.
 fn tell_operands(
     alloc: Global,
     options: &Options,
@@ -71,7 +71,7 @@ fn tell_operands(
     Ok(good)
 }
 
-/// Tells that what is assembled of the element is not carried.
+// Tells that what is assembled of the element is not carried.
 fn tell_assembled(
     alloc: Global,
     remarks: &mut Remarks,
@@ -95,7 +95,7 @@ fn tell_assembled(
     Ok(())
 }
 
-/// The members with commas between.
+// The members with commas between.
 fn listed(alloc: Global, members: &[Vec<u8>]) -> Result<Vec<u8>, AllocError> {
     let mut text = Vec::new(alloc);
     for member in members {
@@ -107,7 +107,7 @@ fn listed(alloc: Global, members: &[Vec<u8>]) -> Result<Vec<u8>, AllocError> {
     Ok(text)
 }
 
-/// The name of a library that must be stated. Where there is none to answer it is told.
+// The name of a library that must be stated. Where there is none to answer it is told.
 fn library_of(
     alloc: Global,
     remarks: &mut Remarks,
@@ -122,7 +122,7 @@ fn library_of(
     Ok(name)
 }
 
-/// DISTLIB and SYSLIB, or nothing where one is missing or has not the form, which is told.
+// DISTLIB and SYSLIB, or nothing where one is missing or has not the form, which is told.
 fn libraries_of(
     alloc: Global,
     options: &Options,
@@ -161,7 +161,7 @@ fn libraries_of(
     Ok(Some((distlib, syslib)))
 }
 
-/// The cards of an element's text, or nothing where they are elsewhere, which is told.
+// The cards of an element's text, or nothing where they are elsewhere, which is told.
 fn cards_of<'a>(
     alloc: Global,
     options: &'a Options,
@@ -192,7 +192,7 @@ fn cards_of<'a>(
     Ok(Some(member.cards.as_slice()))
 }
 
-/// The number of the card in its file.
+// The number of the card in its file.
 fn where_at(alloc: Global, card: Option<&Card>) -> Result<String, AllocError> {
     match card {
         Some(card) => {
@@ -203,7 +203,7 @@ fn where_at(alloc: Global, card: Option<&Card>) -> Result<String, AllocError> {
     }
 }
 
-/// Why the cards are no text at all, if they are none.
+// Why the cards are no text at all, if they are none.
 fn fault_of(cards: &[Card]) -> Option<RemarkReason> {
     if cards.is_empty() {
         return Some(RemarkReason::NoText);
@@ -220,7 +220,7 @@ fn fault_of(cards: &[Card]) -> Option<RemarkReason> {
     None
 }
 
-/// The records of a replacement, or nothing where the cards are none, which is told.
+// The records of a replacement, or nothing where the cards are none, which is told.
 fn lines_for(
     alloc: Global,
     remarks: &mut Remarks,
@@ -258,7 +258,7 @@ fn lines_for(
     Ok(Some(lines))
 }
 
-/// A replacement, or nothing where it can't be carried, which is told.
+// A replacement, or nothing where it can't be carried, which is told.
 fn replacement(
     alloc: Global,
     options: &Options,
@@ -314,7 +314,7 @@ fn change_by(elem_type: ElemType, name: Name, update: Update) -> ElemChange
     }
 }
 
-/// An update, or nothing where it can't be carried, which is told.
+// An update, or nothing where it can't be carried, which is told.
 fn update(
     alloc: Global,
     remarks: &mut Remarks,
@@ -343,7 +343,7 @@ fn update(
     }
 }
 
-/// Tells that an update is of what lies in the libraries anyway.
+// Tells that an update is of what lies in the libraries anyway.
 fn tell_libraries(
     alloc: Global,
     remarks: &mut Remarks,

@@ -9,7 +9,7 @@ use std::alloc::{AllocError, Global};
 /// The most ids that a list may have.
 pub(crate) const MOST_IDS: usize = 1000;
 
-/// The texts as ids, or nothing where one has not the form.
+// The texts as ids, or nothing where one has not the form.
 fn read_ids(alloc: Global, stated: &[Vec<u8>]) -> Result<Option<Vec<Id>>, AllocError>
     ensures { IfOk result (λ found. IfSome found (λ ids. ids.items ≡ texts stated.now)) }
 {
@@ -23,7 +23,7 @@ fn read_ids(alloc: Global, stated: &[Vec<u8>]) -> Result<Option<Vec<Id>>, AllocE
     Ok(Some(ids))
 }
 
-/// The texts as a list of ids, or nothing where one has not the form.
+// The texts as a list of ids, or nothing where one has not the form.
 fn read_list(alloc: Global, stated: &[Vec<u8>]) -> Result<Option<IdList>, AllocError>
     ensures { IfOk result (λ found. IfSome found (λ ids. AreSame stated.now ids)) }
 {
@@ -33,7 +33,7 @@ fn read_list(alloc: Global, stated: &[Vec<u8>]) -> Result<Option<IdList>, AllocE
     }
 }
 
-/// The first of the texts that is no id, or nothing.
+// The first of the texts that is no id, or nothing.
 fn bad_id(stated: &[Vec<u8>]) -> &[u8] {
     for text in stated {
         if Id::read(text.as_slice()).is_none() {

@@ -12,7 +12,7 @@ use sysmods_values::IfReq;
 /// The most `++IF`s that a `++VER` may have.
 const MOST_IFS: usize = 100;
 
-/// The `++IF`, or nothing where it can't be carried, which is told.
+// The `++IF`, or nothing where it can't be carried, which is told.
 fn if_of(
     alloc: Global,
     remarks: &mut Remarks,

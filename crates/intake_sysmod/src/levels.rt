@@ -4,7 +4,7 @@ ghost use Rattle.intake_sysmod.specs.Elements.{is_level, HasNoLevel};
 
 use intake_read::WideOperand;
 
-/// Whether the operand of this name decides whether a SYSMOD goes on.
+// Whether the operand of this name decides whether a SYSMOD goes on.
 fn is_level(name: &[u8]) -> bool
     ensures { result ≡ is_level name.now }
 {

@@ -11,7 +11,7 @@ const CHARACTERS: &[u8; 39] = b"ABCDEFGHIJKLMNOPQRSTUVWXYZ$#@0123456789";
 /// How many names of eight characters there are.
 const NAMES: u64 = 3979699193691;
 
-/// The hash with these bytes behind those before.
+// The hash with these bytes behind those before.
 fn hashed(start: u64, text: &[u8]) -> u64
     requires { start < 3979699193691 }
     ensures below { result < 3979699193691 }
@@ -24,7 +24,7 @@ fn hashed(start: u64, text: &[u8]) -> u64
     hash
 }
 
-/// The character that a digit of the number to the base 39 stands for.
+// The character that a digit of the number to the base 39 stands for.
 fn character(number: u64, power: u64) -> u8
     requires { 0 < power }
     ensures { result ≡ character number power }
@@ -45,7 +45,7 @@ pub(crate) fn owner_word(word: &[u8]) -> &[u8]
     }
 }
 
-/// The hash of a word and a name.
+// The hash of a word and a name.
 #[tactic(auto, using(crate::proofs::Targets::hash_parts))]
 fn hash_of(word: &[u8], name: &[u8]) -> u64
     ensures { result ≡ hash_of (word.now ++ codes "(" ++ name.now) }
@@ -53,7 +53,7 @@ fn hash_of(word: &[u8], name: &[u8]) -> u64
     hashed(hashed(hashed(0, word), b"("), name)
 }
 
-/// The name that a hash is.
+// The name that a hash is.
 fn name_of(hash: u64) -> Option<Name>
     ensures { IfSome result (λ found. found ≡ name_of hash) }
 {

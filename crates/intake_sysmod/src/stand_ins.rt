@@ -23,7 +23,7 @@ struct Libraries {
     syslib: Name,
 }
 
-/// A blank for a byte that no record may have.
+// A blank for a byte that no record may have.
 fn printable(byte: u8) -> u8 {
     match byte {
         0x20..=0x7e => byte,
@@ -31,7 +31,7 @@ fn printable(byte: u8) -> u8 {
     }
 }
 
-/// A card that names the statement, with a number.
+// A card that names the statement, with a number.
 fn card_of(place: CardPlace, word: &[u8], name: &[u8]) -> Card {
     let mut text = [b' '; 80];
     let parts = b"* ++".iter().chain(word.iter()).chain(b"(".iter());
@@ -49,7 +49,7 @@ fn card_of(place: CardPlace, word: &[u8], name: &[u8]) -> Card {
     }
 }
 
-/// The library that is stated, where it has the form.
+// The library that is stated, where it has the form.
 fn library(stated: &Option<Vec<u8>>) -> Option<Name> {
     match stated {
         Some(text) => Name::read(text.as_slice()),
@@ -57,14 +57,14 @@ fn library(stated: &Option<Vec<u8>>) -> Option<Name> {
     }
 }
 
-/// The libraries of an element. One that is not stated has the name of what stands for the element.
+// The libraries of an element. One that is not stated has the name of what stands for the element.
 fn libraries_of(element: &WideElement, name: Name) -> Libraries {
     let distlib = library(&element.distlib).unwrap_or(name);
     let syslib = library(&element.syslib).unwrap_or(distlib);
     Libraries { distlib, syslib }
 }
 
-/// The library of the modules that are assembled of an element.
+// The library of the modules that are assembled of an element.
 fn module_libraries(element: &WideElement, name: Name) -> Libraries {
     let distlib = library(&element.distmod).unwrap_or(name);
     Libraries {
@@ -73,7 +73,7 @@ fn module_libraries(element: &WideElement, name: Name) -> Libraries {
     }
 }
 
-/// The update that stands for an element's, or nothing where there is none.
+// The update that stands for an element's, or nothing where there is none.
 fn update(
     alloc: Global,
     elem_type: ElemType,
@@ -92,7 +92,7 @@ fn update(
     }
 }
 
-/// The replacement that stands for an element's, or nothing where there is none.
+// The replacement that stands for an element's, or nothing where there is none.
 fn replacement(
     alloc: Global,
     elem_type: ElemType,
@@ -181,7 +181,7 @@ pub(crate) fn tell_stand_in(
     remarks.tell_carried(alloc, subject, b"", RemarkReason::StandIn, text.as_slice())
 }
 
-/// Keeps which element a stand-in is for, under the word of the statement that brings the element.
+// Keeps which element a stand-in is for, under the word of the statement that brings the element.
 fn keep_name(
     alloc: Global,
     remarks: &mut Remarks,
@@ -200,7 +200,7 @@ fn keep_name(
     Ok(())
 }
 
-/// What is stated, or nothing.
+// What is stated, or nothing.
 fn library_text(alloc: Global, stated: &Option<Vec<u8>>) -> Result<Vec<u8>, AllocError> {
     match stated {
         Some(text) => text.clone(),

@@ -37,13 +37,13 @@ pub(crate) fn lines_of(alloc: Global, cards: &[Card]) -> Result<Vec<Line>, Alloc
     Ok(lines)
 }
 
-/// Whether columns 73 to 80 are blank.
+// Whether columns 73 to 80 are blank.
 fn has_no_number(card: &Card) -> bool {
     let (_, number) = card.text.split_at(FRONT);
     number.iter().all(|b| *b == b' ')
 }
 
-/// Whether all columns are blank.
+// Whether all columns are blank.
 fn is_empty_card(card: &Card) -> bool {
     card.text.iter().all(|b| *b == b' ')
 }
@@ -79,7 +79,7 @@ pub(crate) fn first_misnumbered(cards: &[Card]) -> Option<&Card> {
     None
 }
 
-/// The record with this number in columns 73 to 80.
+// The record with this number in columns 73 to 80.
 fn with_number(line: &Line, number: u32) -> Line {
     let mut bytes = [b' '; 80];
     bytes.copy_from_slice(line.bytes());
@@ -91,7 +91,7 @@ fn with_number(line: &Line, number: u32) -> Line {
     Line::new(bytes)
 }
 
-/// The records with the numbers 00000100, 00000200 and so on.
+// The records with the numbers 00000100, 00000200 and so on.
 fn renumbered(alloc: Global, lines: &[Line]) -> Result<Vec<Line>, AllocError> {
     let mut numbered = Vec::with_capacity(alloc, lines.len())?;
     let mut number = 0u32;
@@ -102,7 +102,7 @@ fn renumbered(alloc: Global, lines: &[Line]) -> Result<Vec<Line>, AllocError> {
     Ok(numbered)
 }
 
-/// The records as a numbered text, or nothing where they are none.
+// The records as a numbered text, or nothing where they are none.
 fn numbered_text(lines: Vec<Line>) -> Option<Vec<Line>>
     ensures { IfSome result (λ text. IsNumbered text.items × (0 < length text.items)) }
 {
@@ -124,7 +124,7 @@ pub(crate) fn needs_numbers(elem_type: ElemType, cards: &[Card]) -> bool {
     }
 }
 
-/// The cards as records with numbers.
+// The cards as records with numbers.
 fn numbered_lines(
     alloc: Global,
     elem_type: ElemType,

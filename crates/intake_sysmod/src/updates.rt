@@ -19,7 +19,7 @@ enum Control<'a> {
 /// Eight digits.
 type Number = [u8; 8];
 
-/// What stands before the first blank, and what follows the blanks behind it.
+// What stands before the first blank, and what follows the blanks behind it.
 fn split_word(text: &[u8]) -> (&[u8], &[u8]) {
     let solid = text.iter().take_while(|b| **b != b' ').count();
     let (word, rest) = text.split_at(solid);
@@ -28,7 +28,7 @@ fn split_word(text: &[u8]) -> (&[u8], &[u8]) {
     (word, rest)
 }
 
-/// The number in eight digits, where the text is one to eight digits.
+// The number in eight digits, where the text is one to eight digits.
 fn number_of(text: &[u8]) -> Option<Number> {
     if text.is_empty() || text.len() > 8 || !text.iter().all(|b| b.is_ascii_digit()) {
         return None;
@@ -38,7 +38,7 @@ fn number_of(text: &[u8]) -> Option<Number> {
     Some(number)
 }
 
-/// The value of an operand of the list.
+// The value of an operand of the list.
 fn operand<'a>(list: &'a [u8], name: &[u8]) -> Option<&'a [u8]> {
     for member in list.split(|b| *b == b',') {
         if let Some(value) = member.strip_prefix(name) {
@@ -48,7 +48,7 @@ fn operand<'a>(list: &'a [u8], name: &[u8]) -> Option<&'a [u8]> {
     None
 }
 
-/// Whether the list has these operands and no others.
+// Whether the list has these operands and no others.
 fn has_only(list: &[u8], names: &[&[u8]]) -> bool {
     for member in list.split(|b| *b == b',') {
         if !names.iter().any(|name| member.starts_with(name)) {
@@ -58,7 +58,7 @@ fn has_only(list: &[u8], names: &[&[u8]]) -> bool {
     true
 }
 
-/// What a record that begins with `./` is.
+// What a record that begins with `./` is.
 fn control_of(card: &Card) -> Control<'_> {
     let (front, _) = card.text.split_at(72);
     let (_, rest) = split_word(front);
@@ -92,7 +92,7 @@ fn deletion(list: &[u8]) -> Control<'_> {
     }
 }
 
-/// A record of these texts, one behind the other, cut at 80.
+// A record of these texts, one behind the other, cut at 80.
 fn record(alloc: Global, parts: &[&[u8]]) -> Result<Line, AllocError> {
     let mut text = Vec::with_capacity(alloc, 80)?;
     for part in parts {
@@ -110,20 +110,20 @@ pub(crate) fn change_record(alloc: Global, name: &[u8]) -> Result<Line, AllocErr
     record(alloc, &[b"./ CHANGE NAME=", name])
 }
 
-/// Whether columns 1 to 72 are the same.
+// Whether columns 1 to 72 are the same.
 fn is_alike(card: &Card, line: &Line) -> bool {
     let (one, _) = card.text.split_at(72);
     let (other, _) = line.bytes().split_at(72);
     one == other
 }
 
-/// Whether a CHANGE has LIST.
+// Whether a CHANGE has LIST.
 fn has_list(card: &Card) -> bool {
     let (front, _) = card.text.split_at(72);
     front.windows(6).any(|part| part == b",LIST=".as_slice())
 }
 
-/// Tells that the LIST of a CHANGE is dropped, where it has one.
+// Tells that the LIST of a CHANGE is dropped, where it has one.
 fn tell_list(
     alloc: Global,
     remarks: &mut Remarks,
@@ -137,7 +137,7 @@ fn tell_list(
     remarks.tell_dropped(alloc, subject, b"LIST", RemarkReason::NoDecision, text)
 }
 
-/// The DELETE record of these numbers. Where the card has it otherwise this is told.
+// The DELETE record of these numbers. Where the card has it otherwise this is told.
 fn delete_record(
     alloc: Global,
     remarks: &mut Remarks,
@@ -168,7 +168,7 @@ fn delete_record(
     Ok(line)
 }
 
-/// Appends the record for a `./` card, and answers whether it can be carried. What becomes of it is told.
+// Appends the record for a `./` card, and answers whether it can be carried. What becomes of it is told.
 fn put_control(
     alloc: Global,
     remarks: &mut Remarks,

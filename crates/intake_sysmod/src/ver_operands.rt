@@ -30,7 +30,7 @@ pub(crate) struct VerOperands {
     pub ifs: Vec<IfReq>,
 }
 
-/// The lists, or nothing where one can't be carried, which is told.
+// The lists, or nothing where one can't be carried, which is told.
 fn lists_of(
     alloc: Global,
     remarks: &mut Remarks,
@@ -63,7 +63,7 @@ fn lists_of(
     }))
 }
 
-/// The FMID: `Some(None)` where none is stated, and nothing where it has not the form, which is told.
+// The FMID: `Some(None)` where none is stated, and nothing where it has not the form, which is told.
 fn fmid_of(
     alloc: Global,
     remarks: &mut Remarks,
@@ -119,7 +119,7 @@ pub(crate) fn operands_of(
     Ok(Some(VerOperands { fmid, lists, ifs }))
 }
 
-/// Whether a SYSMOD of the kind may have these operands. What it may not have is told.
+// Whether a SYSMOD of the kind may have these operands. What it may not have is told.
 fn are_allowed(
     alloc: Global,
     remarks: &mut Remarks,
@@ -151,7 +151,7 @@ fn are_allowed(
     Ok(true)
 }
 
-/// The first operand that names the SYSMOD itself.
+// The first operand that names the SYSMOD itself.
 fn names_itself(own: &[u8], fmid: &Option<Id>, lists: &Lists) -> Option<&'static [u8]> {
     if let Some(fmid) = fmid {
         if fmid.as_bytes() == own {

@@ -14,7 +14,7 @@ use terms::Kind;
 /// The most `++VER`s that a SYSMOD may have.
 const MOST_VERS: usize = 8;
 
-/// Copies of the conditions, for one more `++VER`.
+// Copies of the conditions, for one more `++VER`.
 fn copies_of(alloc: Global, ifs: &[IfReq]) -> Result<Vec<IfReq>, AllocError>
     ensures { IfOk result (λ copies. copies.items ≡ ifs.now) }
 {
@@ -28,7 +28,7 @@ fn copies_of(alloc: Global, ifs: &[IfReq]) -> Result<Vec<IfReq>, AllocError>
     Ok(copies)
 }
 
-/// The `++VER` of these operands for one SREL.
+// The `++VER` of these operands for one SREL.
 fn ver_of(alloc: Global, srel: Srel, operands: &VerOperands) -> Result<Ver, AllocError>
     ensures { IfOk result (λ ver. (ver.srel ≡ srel) × (ver.fmid ≡ operands.now.fmid)
         × (ver.pre ≡ operands.now.lists.pre) × (ver.req ≡ operands.now.lists.req)
@@ -48,7 +48,7 @@ fn ver_of(alloc: Global, srel: Srel, operands: &VerOperands) -> Result<Ver, Allo
     })
 }
 
-/// The `++VER`s for the SRELs, or nothing where one of these has not the form, which is told.
+// The `++VER`s for the SRELs, or nothing where one of these has not the form, which is told.
 fn for_srels(
     alloc: Global,
     remarks: &mut Remarks,
@@ -77,7 +77,7 @@ fn for_srels(
     Ok(Some(vers))
 }
 
-/// The `++VER`s of one statement, one for each SREL, or nothing where it can't be carried, which is told.
+// The `++VER`s of one statement, one for each SREL, or nothing where it can't be carried, which is told.
 fn vers_for(
     alloc: Global,
     remarks: &mut Remarks,
@@ -102,7 +102,7 @@ fn vers_for(
     }
 }
 
-/// The `++VER`s of all statements, as they stand, or nothing where one can't be carried. Each of those is told.
+// The `++VER`s of all statements, as they stand, or nothing where one can't be carried. Each of those is told.
 fn stated_vers(
     alloc: Global,
     remarks: &mut Remarks,
@@ -122,7 +122,7 @@ fn stated_vers(
     if all { Ok(Some(vers)) } else { Ok(None) }
 }
 
-/// The `++VER`s by their SRELs, those of one SREL as they stand.
+// The `++VER`s by their SRELs, those of one SREL as they stand.
 fn by_srel(mut vers: Vec<Ver>) -> Result<Vec<Ver>, AllocError>
     ensures { IfOk result (λ sorted. IsPermutation vers.items sorted.items) }
 {
@@ -130,12 +130,12 @@ fn by_srel(mut vers: Vec<Ver>) -> Result<Vec<Ver>, AllocError>
     Ok(vers)
 }
 
-/// Whether a SYSMOD of the kind may have both.
+// Whether a SYSMOD of the kind may have both.
 fn are_apart(kind: Kind, one: &Ver, other: &Ver) -> bool {
     one.srel != other.srel || (kind != Kind::Function && one.fmid != other.fmid)
 }
 
-/// A `++VER` that may not stand beside an earlier one.
+// A `++VER` that may not stand beside an earlier one.
 fn second(kind: Kind, vers: &[Ver]) -> Option<&Ver> {
     for (place, ver) in vers.iter().enumerate() {
         for earlier in &vers[..place] {
@@ -147,7 +147,7 @@ fn second(kind: Kind, vers: &[Ver]) -> Option<&Ver> {
     None
 }
 
-/// Whether a `++VER` stands there that can't be read, which is told by itself.
+// Whether a `++VER` stands there that can't be read, which is told by itself.
 fn has_faulty_ver(sysmod: &WideSysmod) -> bool {
     sysmod
         .others

@@ -11,7 +11,7 @@ const PTF: &[u8] = b"\x4E\x4E\xD7\xE3\xC6\x4D\xE4\xC1\xF0\xF0\xF0\xF0\xF1\x5D\x4
 /// `SET BDY(A$#@).` in EBCDIC.
 const SET: &[u8] = b"\xE2\xC5\xE3\x40\xC2\xC4\xE8\x4D\xC1\x5B\x7B\x7C\x5D\x4B";
 
-/// A card with this text at its beginning.
+// A card with this text at its beginning.
 fn card_text(text: &[u8]) -> [u8; 80] {
     let mut card = [b' '; 80];
     for (column, byte) in card.iter_mut().zip(text) {
@@ -20,7 +20,7 @@ fn card_text(text: &[u8]) -> [u8; 80] {
     card
 }
 
-/// The texts of cards, one behind the other.
+// The texts of cards, one behind the other.
 fn texts(alloc: Global, cards: &Cards) -> Result<Vec<u8>, AllocError> {
     let mut all = Vec::new(alloc);
     for card in cards.cards.as_slice() {
@@ -29,7 +29,7 @@ fn texts(alloc: Global, cards: &Cards) -> Result<Vec<u8>, AllocError> {
     Ok(all)
 }
 
-/// Records with these texts.
+// Records with these texts.
 fn records(alloc: Global, lines: &[&[u8]]) -> Result<Vec<u8>, AllocError> {
     let mut all = Vec::new(alloc);
     for line in lines {
@@ -38,14 +38,14 @@ fn records(alloc: Global, lines: &[&[u8]]) -> Result<Vec<u8>, AllocError> {
     Ok(all)
 }
 
-/// The cards have these texts.
+// The cards have these texts.
 fn check_texts(rt: &impl Abort, alloc: Global, cards: &Cards, lines: &[&[u8]]) -> Result<(), Fail> {
     let wanted = records(alloc, lines)?;
     assert_eq!(rt; texts(alloc, cards)?.as_slice(), wanted.as_slice());
     Ok(())
 }
 
-/// A record of EBCDIC with this text at its beginning.
+// A record of EBCDIC with this text at its beginning.
 fn ebcdic_record(text: &[u8]) -> [u8; 80] {
     let mut record = [0x40; 80];
     for (column, byte) in record.iter_mut().zip(text) {
@@ -122,7 +122,7 @@ fn a_code_that_is_asked_for_is_taken(rt: HostRuntime) -> Result<(), Fail> {
     check_texts(&rt, rt.alloc(), &data_set, &[b"\xDD\xA8\xAC[]^"])
 }
 
-/// A line of so many of this byte.
+// A line of so many of this byte.
 fn line_of(alloc: Global, byte: u8, len: usize, tail: &[u8]) -> Result<Vec<u8>, AllocError> {
     let mut line = Vec::new(alloc);
     for _ in 0..len {

@@ -109,8 +109,8 @@ line 1: APPLY GROUPEXTEND: carried otherwise: EXCLUDE names the APARs or USERMOD
 const LIST: &[u8] =
     b"id,kind,sources\nUA00001,PTF,\"RSU2401 HIPER\"\nAA00001,APAR,\nAA00002,APAR,RSU2402\n\nUM00001,USERMOD,\n";
 
-/// What comes of a command file: the records without the blanks at their ends, and none where there is no file; then
-/// the remarks.
+// What comes of a command file: the records without the blanks at their ends, and none where there is no file; then
+// the remarks.
 fn outcome(alloc: Global, text: &[u8], known: Option<&[KnownSysmod]>) -> Result<String, Fail> {
     let found = read_cards(alloc, 0, text, Some(Layout::Text), None)?;
     let file = command_file(alloc, &found.cards, known)?;
@@ -129,7 +129,7 @@ fn outcome(alloc: Global, text: &[u8], known: Option<&[KnownSysmod]>) -> Result<
     Ok(String::from_utf8_lossy(alloc, &lines)?)
 }
 
-/// A failure, unless these lines come of these cards. There is a bar between two lines, and between two cards.
+// A failure, unless these lines come of these cards. There is a bar between two lines, and between two cards.
 fn check_case(
     alloc: Global,
     known: Option<&[KnownSysmod]>,
@@ -143,7 +143,7 @@ fn check_case(
     compare(cards, got.as_str().trim_end(), wanted)
 }
 
-/// Each case is a command file, by its cards, and behind an arrow the lines that come of it.
+// Each case is a command file, by its cards, and behind an arrow the lines that come of it.
 fn check(alloc: Global, known: Option<&[KnownSysmod]>, cases: &str) -> Result<(), Fail> {
     for line in cases.lines() {
         let (cards, lines) = line.split_once(" => ").ok_or("no arrow in a case")?;

@@ -125,7 +125,7 @@ const ELSEWHERE_CARRIED: &str =
     ! f line 7: ++MAC(MACA) RELFILE: left out: its text is in another file or library: give --relfile, or put the text after the statement: 12\n\
     ! f line 5: ++PTF(UA00002): left out: a statement of it can't be carried\n";
 
-/// The cards of a text.
+// The cards of a text.
 fn member(alloc: Global, card: usize, text: &[u8]) -> Result<RelfileMember, Fail> {
     let read = read_cards(alloc, 0, text, None, None)?;
     Ok(RelfileMember {
@@ -134,7 +134,7 @@ fn member(alloc: Global, card: usize, text: &[u8]) -> Result<RelfileMember, Fail
     })
 }
 
-/// Options with a SYSLIB and two members.
+// Options with a SYSLIB and two members.
 fn options_elsewhere(alloc: Global) -> Result<Options, Fail> {
     let mut members = Vec::new(alloc);
     members.push(member(alloc, 4, b"A LINE\nANOTHER LINE\n")?)?;

@@ -9,7 +9,7 @@ use mcs::{read_hold, read_ptfin};
 use std::alloc::{AllocError, Global};
 use std::test::Fail;
 
-/// The statements of a file.
+// The statements of a file.
 fn wide(alloc: Global, text: &[u8]) -> Result<Vec<WideFile>, Fail> {
     let cards = read_cards(alloc, 0, text, None, None)?;
     let file = read_wide(alloc, cards.cards.as_slice())?;
@@ -27,7 +27,7 @@ pub(crate) fn options(alloc: Global, decide: bool) -> Options {
     }
 }
 
-/// Appends the cards as lines without the blanks at their ends.
+// Appends the cards as lines without the blanks at their ends.
 fn put_cards(lines: &mut Vec<u8>, cards: &[u8]) -> Result<(), AllocError> {
     for card in cards.chunks(80) {
         let solid = card
@@ -40,7 +40,7 @@ fn put_cards(lines: &mut Vec<u8>, cards: &[u8]) -> Result<(), AllocError> {
     Ok(())
 }
 
-/// Appends the lines of the remarks.
+// Appends the lines of the remarks.
 fn put_remarks(alloc: Global, lines: &mut Vec<u8>, remarks: &[Remark]) -> Result<(), AllocError> {
     for remark in remarks {
         let mark: &[u8] = if remark.matters() { b"! " } else { b"- " };
@@ -52,8 +52,8 @@ fn put_remarks(alloc: Global, lines: &mut Vec<u8>, remarks: &[Remark]) -> Result
     Ok(())
 }
 
-/// What was carried, as lines of PTFIN, `==`, lines of the hold file, and a line for each remark, which begins with `!`
-/// where it matters. It is read back first.
+// What was carried, as lines of PTFIN, `==`, lines of the hold file, and a line for each remark, which begins with `!`
+// where it matters. It is read back first.
 fn lines(alloc: Global, narrowed: &Narrowed) -> Result<Vec<u8>, Fail> {
     let items = narrowed.items.as_slice();
     let hold_items = narrowed.hold_items.as_slice();
@@ -75,7 +75,7 @@ fn lines(alloc: Global, narrowed: &Narrowed) -> Result<Vec<u8>, Fail> {
     Ok(lines)
 }
 
-/// What comes of a file.
+// What comes of a file.
 fn outcome(alloc: Global, text: &[u8], options: Options) -> Result<String, Fail> {
     let files = wide(alloc, text)?;
     let lines = match narrow(alloc, files.as_slice(), options) {
@@ -91,7 +91,7 @@ fn outcome(alloc: Global, text: &[u8], options: Options) -> Result<String, Fail>
     Ok(String::from_utf8(lines)?)
 }
 
-/// The first line of two texts that differs, of each. Behind the end of one stands no line.
+// The first line of two texts that differs, of each. Behind the end of one stands no line.
 fn first_difference<'a>(got: &'a str, wanted: &'a str) -> (Option<&'a str>, Option<&'a str>) {
     let mut wanted_lines = wanted.split('\n');
     for line in got.split('\n') {

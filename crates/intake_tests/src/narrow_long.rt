@@ -30,7 +30,7 @@ fn what_is_longer_than_a_card_runs_on(rt: HostRuntime) -> Result<(), Fail> {
     check(rt.alloc(), LONG, LONG_CARRIED)
 }
 
-/// A function with 1,001 modules, and a PTF that replaces one of them.
+// A function with 1,001 modules, and a PTF that replaces one of them.
 fn many_modules(alloc: Global) -> Result<Vec<u8>, AllocError> {
     let mut text = Vec::from_slice(alloc, b"++FUNCTION(HAA1100).\n++VER(Z038).\n")?;
     for number in 1001u32..2002 {

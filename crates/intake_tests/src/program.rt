@@ -163,7 +163,7 @@ fn words(alloc: Global, line: &str) -> Result<Vec<Vec<u8>>, Fail> {
     Ok(words)
 }
 
-/// The status, the names that are left in the folder, and what is told.
+// The status, the names that are left in the folder, and what is told.
 fn outcome(alloc: Global, line: &str) -> Result<String, Fail> {
     let mut memory = Memory::new(alloc);
     let status = command(alloc, &mut memory, &Ok(words(alloc, line)?));

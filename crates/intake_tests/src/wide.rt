@@ -129,7 +129,7 @@ pub(crate) fn file_of(alloc: Global, lines: &str) -> Result<Vec<u8>, AllocError>
     Ok(bytes)
 }
 
-/// Each case is a file, by lines with a bar between two, and behind an arrow its items.
+// Each case is a file, by lines with a bar between two, and behind an arrow its items.
 fn check(alloc: Global, cases: &str, has_notes: bool) -> Result<(), Fail> {
     for line in cases.lines() {
         let (lines, wanted) = line.split_once(" => ").ok_or("no arrow in a case")?;
@@ -208,7 +208,7 @@ fn texts_behind_column_72_are_noted(rt: HostRuntime) -> Result<(), Fail> {
     Ok(())
 }
 
-/// So many parentheses in one another.
+// So many parentheses in one another.
 fn deep(alloc: Global, depth: usize) -> Result<Vec<u8>, AllocError> {
     let mut text = Vec::new(alloc);
     text.extend_from_slice(b"++HOLD(A) USER COMMENT\n")?;

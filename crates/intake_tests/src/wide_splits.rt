@@ -31,7 +31,7 @@ fn is_part_of_word(byte: u8) -> bool {
     byte.is_ascii_alphanumeric() || byte == b'+'
 }
 
-/// Whether the text may be split there: not inside a word.
+// Whether the text may be split there: not inside a word.
 fn is_gap(text: &[u8], at: usize) -> bool {
     let (front, back) = text.split_at(at.min(text.len()));
     match (front.last(), back.first()) {
@@ -40,7 +40,7 @@ fn is_gap(text: &[u8], at: usize) -> bool {
     }
 }
 
-/// The text with some more in it.
+// The text with some more in it.
 fn with_inserted(
     alloc: Global,
     text: &[u8],
@@ -55,14 +55,14 @@ fn with_inserted(
     Ok(whole)
 }
 
-/// Whether a statement begins there.
+// Whether a statement begins there.
 fn is_beginning(text: &[u8], at: usize) -> bool {
     let (_, back) = text.split_at(at.min(text.len()));
     back.starts_with(b"++")
 }
 
-/// The first place where the service file reads otherwise with this inserted, and what it reads then. What is no whole
-/// line is not inserted before a statement, and a comment not in the text of DESC.
+// The first place where the service file reads otherwise with this inserted, and what it reads then. What is no whole
+// line is not inserted before a statement, and a comment not in the text of DESC.
 fn first_other(
     alloc: Global,
     more: &[u8],
@@ -82,7 +82,7 @@ fn first_other(
     Ok(None)
 }
 
-/// Where it reads otherwise, and what is read there.
+// Where it reads otherwise, and what is read there.
 fn told(found: &Option<(usize, Spelled)>) -> (usize, &str) {
     match found {
         Some((at, spelled)) => (*at, spelled.as_text()),

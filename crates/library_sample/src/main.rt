@@ -15,7 +15,7 @@ use sysmods::GlobalZone;
 use terms::ZoneKind;
 use zones::Zone;
 
-/// A global zone that has received these SYSMODs. The first one that is refused ends the program.
+// A global zone that has received these SYSMODs. The first one that is refused ends the program.
 fn received(alloc: Global, ptfin: &[u8]) -> Result<GlobalZone> {
     let mut global = GlobalZone::new(alloc);
     for item in read_ptfin(alloc, ptfin)? {
@@ -26,7 +26,7 @@ fn received(alloc: Global, ptfin: &[u8]) -> Result<GlobalZone> {
     Ok(global)
 }
 
-/// FUNCTIONS PTFS, without any other operand.
+// FUNCTIONS PTFS, without any other operand.
 fn functions_and_ptfs(alloc: Global) -> Selection {
     Selection {
         functions: true,
@@ -42,7 +42,7 @@ fn functions_and_ptfs(alloc: Global) -> Selection {
     }
 }
 
-/// A line for each candidate: that it is kept, or which failures cause its own.
+// A line for each candidate: that it is kept, or which failures cause its own.
 fn print<W: Write>(decided: &Decided, out: &mut W) -> Result<()> {
     for id in decided.kept.as_slice() {
         out.write_all(id.as_bytes())?;
@@ -60,7 +60,7 @@ fn print<W: Write>(decided: &Decided, out: &mut W) -> Result<()> {
     Ok(())
 }
 
-/// Which candidates an APPLY into the zone would keep.
+// Which candidates an APPLY into the zone would keep.
 fn decide(alloc: Global, global: &GlobalZone, zone: &Zone) -> Result<Decided> {
     let candidates = candidates(alloc, global, zone, &functions_and_ptfs(alloc))?;
     let judged = install_system(alloc, global, zone, None, &candidates, &Bypass::none(alloc))?;

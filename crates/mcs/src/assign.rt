@@ -25,7 +25,7 @@ use terms::StatementCode;
 /// The operands of `++ASSIGN`.
 const OPERANDS: &[&[u8]] = &[b"SOURCEID", b"TO"];
 
-/// The ids of the operand, which must be present, in the order of the statement.
+// The ids of the operand, which must be present, in the order of the statement.
 fn required_ids(alloc: Global, words: &[Word<'_>], name: &[u8]) -> Result<Vec<Id>, OperandError>
     ensures ok { IfOk result (λ ids. IsSomeAnd (operand name.now (words_of words.now))
         (λ w. HasListed IsId w ids.items)) }
@@ -38,7 +38,7 @@ fn required_ids(alloc: Global, words: &[Word<'_>], name: &[u8]) -> Result<Vec<Id
     listed_ids(alloc, &word)
 }
 
-/// The `++ASSIGN`.
+// The `++ASSIGN`.
 fn read_assign(alloc: Global, known: &Known<'_>) -> Result<Assign, OperandError>
     ensures ok { (rest : List Piece) → IsRead rest known.now.operands
         → IfOk result (λ a. (ws : List grammar.Word) × grammar.HasWords rest ws
@@ -63,7 +63,7 @@ fn read_assign(alloc: Global, known: &Known<'_>) -> Result<Assign, OperandError>
     Ok(Assign { source, to })
 }
 
-/// Whether the list is no longer than the limit.
+// Whether the list is no longer than the limit.
 fn is_within(assign: &Assign) -> bool
     ensures { IsTrue result ↔ grammar.IsShort assign.now.to }
 {

@@ -71,7 +71,7 @@ fn lines(alloc: Global, inline: &[Record]) -> Result<Vec<Line>, AllocError>
     Ok(lines)
 }
 
-/// The records as the text of a replacement.
+// The records as the text of a replacement.
 fn text_of(
     alloc: Global,
     elem_type: ElemType,
@@ -137,7 +137,7 @@ pub fn change_statement(
     }))
 }
 
-/// The records as an update of the element of this name.
+// The records as an update of the element of this name.
 fn update_of(alloc: Global, name: Name, inline: &[Record]) -> Result<Update, StatementError>
     ensures text { IfOk result (λ update. update ≡ inline.now) }
     ensures good { IfOk result (λ update. IsUpdate name inline.now) }
@@ -185,7 +185,7 @@ pub fn update_statement(
     }))
 }
 
-/// Whether the SYSMOD may have one more element, and the text is no longer than the limit.
+// Whether the SYSMOD may have one more element, and the text is no longer than the limit.
 fn is_within(current: &Option<Begun>, inline: &[Record]) -> bool
     ensures { IsTrue result ↔ (IfSome (begun_in current.now) (λ b. length b.sysmod.changes < 999)
         × (length inline.now ≤ 99999)) }

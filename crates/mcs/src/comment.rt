@@ -13,7 +13,7 @@ ghost use Rattle.mcs.specs.Trimmed.{SkipsSomeBlanks, DropsBlanks, BeginsNoBlank}
 use rec80::{OperandError, Text, Word, operand};
 use std::alloc::{AllocError, Global};
 
-/// A copy of the text.
+// A copy of the text.
 fn bytes_of(alloc: Global, text: &Text<'_>) -> Result<Vec<u8>, AllocError>
     ensures { IfOk result (λ bytes. bytes.items ≡ text_of text.now) }
 {
@@ -26,7 +26,7 @@ fn bytes_of(alloc: Global, text: &Text<'_>) -> Result<Vec<u8>, AllocError>
     Ok(bytes)
 }
 
-/// The text after the blanks.
+// The text after the blanks.
 #[tactic(auto, using(crate::proofs::Trimming::skips_more))]
 fn behind_blanks(text: &[u8]) -> &[u8]
     ensures skips { SkipsSomeBlanks text.now result.now }
@@ -42,7 +42,7 @@ fn behind_blanks(text: &[u8]) -> &[u8]
     rest
 }
 
-/// The text before the blanks at the end.
+// The text before the blanks at the end.
 fn before_blanks(text: &[u8]) -> &[u8]
     ensures drops { DropsBlanks text.now result.now }
     ensures dark { BeginsNoBlank (reverse result.now) }
@@ -57,7 +57,7 @@ fn before_blanks(text: &[u8]) -> &[u8]
     rest
 }
 
-/// The text without the blanks at both ends, if anything is left.
+// The text without the blanks at both ends, if anything is left.
 fn trimmed(text: &[u8]) -> Option<&[u8]>
     ensures cut { IfSome result (λ cut. IsTrimmed text.now cut.now) }
     ensures none { IfNone result ((cut : List ℕ) → IsTrimmed text.now cut → ⊥) }
@@ -69,7 +69,7 @@ fn trimmed(text: &[u8]) -> Option<&[u8]>
     Some(cut)
 }
 
-/// The text with the blanks at both ends cut.
+// The text with the blanks at both ends cut.
 fn comment_in(alloc: Global, text: &Text<'_>) -> Result<String, OperandError>
     ensures cut { IfOk result (λ comment. IsTrimmed (text_of text.now) (string_bytes comment)) }
     ensures bad { All IsPrintable (text_of text.now) → IfErr result (λ e. Excludes e ((cut : List ℕ)

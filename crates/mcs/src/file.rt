@@ -48,7 +48,7 @@ pub(crate) struct SoFar {
     pub current: Option<Begun>,
 }
 
-/// The items, followed by the SYSMOD.
+// The items, followed by the SYSMOD.
 fn with_current(mut whole: Vec<Item>, current: Option<Begun>) -> Result<Vec<Item>, AllocError>
     ensures { IfOk result (λ found. items found.items ≡ items_of (record {
       whole = items whole.items;

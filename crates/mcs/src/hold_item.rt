@@ -24,7 +24,7 @@ pub enum HoldItem {
     Release(Release),
 }
 
-/// What a `++HOLD` says. Its hold is external.
+// What a `++HOLD` says. Its hold is external.
 fn hold_item(alloc: Global, known: &Known<'_>) -> Result<HoldItem, StatementError>
     requires { known.now.word ≡ word.Hold }
     ensures said { (rest : List Piece) → IsRead rest known.now.operands
@@ -42,7 +42,7 @@ fn hold_item(alloc: Global, known: &Known<'_>) -> Result<HoldItem, StatementErro
     Ok(HoldItem::Hold(hold))
 }
 
-/// What a `++RELEASE` says.
+// What a `++RELEASE` says.
 fn release_item(known: &Known<'_>) -> Result<HoldItem, StatementError>
     requires { known.now.word ≡ word.Release }
     ensures said { (rest : List Piece) → IsRead rest known.now.operands

@@ -54,7 +54,7 @@ impl Model for Release {
     ghost inverse = { λ r. record { id = r.id; kind = r.kind; reason = r.reason; fmid = r.fmid } };
 }
 
-/// The key of a hold and its FMID.
+// The key of a hold and its FMID.
 fn read_key(known: &Known<'_>, words: &[Word<'_>]) -> Option<Release>
     ensures some { IfSome result (λ r. HasKey (own_list known.now) (words_of words.now) r) }
     ensures none { IfNone result ((r : AnyRelease) → HasKey (own_list known.now) (words_of words.now) r → ⊥) }

@@ -22,7 +22,7 @@ use std::alloc::Global;
 use sysmods_values::{IfReq, Sysmod, Ver};
 use terms::StatementCode;
 
-/// Whether the word is this one.
+// Whether the word is this one.
 fn is_named(word: &Word<'_>, name: &[u8]) -> bool
     ensures { IsTrue result ↔ ((word_of word.now).word ≡ name.now) }
 {
@@ -36,7 +36,7 @@ struct IfLists<'a> {
     req: Word<'a>,
 }
 
-/// FMID, THEN and REQ, in this order and nothing else.
+// FMID, THEN and REQ, in this order and nothing else.
 fn read_lists<'a>(words: &[Word<'a>]) -> Option<IfLists<'a>>
     ensures some { IfSome result (λ l. (words_of words.now
         ≡ word_of l.fmid ∷ grammar.plain (codes "THEN") ∷ word_of l.req ∷ [])
@@ -59,7 +59,7 @@ fn read_lists<'a>(words: &[Word<'a>]) -> Option<IfLists<'a>>
     })
 }
 
-/// The `++IF` of these words.
+// The `++IF` of these words.
 fn read_if(
     alloc: Global,
     sysmod: &Sysmod,
@@ -89,7 +89,7 @@ fn read_if(
     Ok(IfReq { function, req })
 }
 
-/// The last `++VER`.
+// The last `++VER`.
 fn last_ver(begun: &Begun) -> Option<&Ver>
     ensures { option_copied result ≡ last_of (begun_of begun.now) }
 {
@@ -97,7 +97,7 @@ fn last_ver(begun: &Begun) -> Option<&Ver>
     begun.sysmod.vers.get(place)
 }
 
-/// Whether the last `++VER` may have this `++IF` too.
+// Whether the last `++VER` may have this `++IF` too.
 fn is_within(begun: &Begun, condition: &IfReq) -> bool
     ensures { IsTrue result ↔ (IfSome (last_of (begun_of begun.now)) (λ v. length v.ifs < 100)
         × grammar.IsShort condition.now.req) }

@@ -22,14 +22,14 @@ use std::alloc::Global;
 use sysmods_values::{Hold, Sysmod};
 use terms::{HoldKind, StatementCode};
 
-/// Whether it is a SYSTEM hold of the SYSMOD.
+// Whether it is a SYSTEM hold of the SYSMOD.
 fn is_own(sysmod: &Sysmod, hold: &Hold) -> bool
     ensures { IsTrue result ↔ ((hold.now.kind ≡ System) × (hold.now.id ≡ sysmod.now.id)) }
 {
     matches!(hold.kind, HoldKind::System) && hold.id == sysmod.id
 }
 
-/// The `++HOLD` of the SYSMOD.
+// The `++HOLD` of the SYSMOD.
 fn read_own_hold(alloc: Global, sysmod: &Sysmod, known: &Known<'_>) -> Result<Hold, OperandError>
     ensures ok { (rest : List Piece) → IsRead rest known.now.operands
         → IfOk result (λ h. (ws : List grammar.Word) × grammar.HasWords rest ws

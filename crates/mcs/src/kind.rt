@@ -8,7 +8,7 @@ ghost use Rattle.mcs.specs.Holds.{kind_from};
 use rec80::{Word, flag, operand};
 use terms::HoldKind;
 
-/// The kind of the only kind word.
+// The kind of the only kind word.
 fn kind_from(error: bool, system: bool, user: bool) -> Option<HoldKind>
     ensures { result ≡ kind_from error system user }
 {

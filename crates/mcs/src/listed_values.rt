@@ -10,7 +10,7 @@ use rec80::{OperandError, Word, ids, operand, required};
 use std::alloc::Global;
 use terms::HoldKind;
 
-/// Whether the reason may be that of a hold of the kind.
+// Whether the reason may be that of a hold of the kind.
 fn suits_kind(kind: HoldKind, reason: Reason) -> bool
     ensures { IsTrue result ↔ IsReason kind reason }
 {

@@ -16,7 +16,7 @@ use rec80::{Operands, Record, Word, one};
 use sysmods_values::{Sysmod, Ver};
 use terms::{ElemType, Kind, StatementWord};
 
-/// The type of the element that a statement of the word changes.
+// The type of the element that a statement of the word changes.
 fn changed_type(word: StatementWord) -> Option<ElemType>
     ensures { result ≡ changed_type word }
 {
@@ -33,7 +33,7 @@ fn changed_type(word: StatementWord) -> Option<ElemType>
     }
 }
 
-/// Whether a statement of the word may come next.
+// Whether a statement of the word may come next.
 fn may_stand(current: &Option<Begun>, word: StatementWord) -> bool
     ensures { IsTrue result ↔ MayStand (sysmod_in (begun_in current.now)) word }
 {
@@ -59,7 +59,7 @@ fn may_stand(current: &Option<Begun>, word: StatementWord) -> bool
 /// The operand that names an FMID if it occurs once.
 const FMID: &[&[u8]] = &[b"FMID"];
 
-/// The id that FMID names, whatever other operands there are.
+// The id that FMID names, whatever other operands there are.
 fn named_fmid(operands: &Operands<'_>) -> Option<Id>
     ensures some { (rest : List Piece) → IsRead rest operands.now → IfSome result (NamesFmid rest) }
     ensures none { (rest : List Piece) → IsRead rest operands.now
@@ -75,7 +75,7 @@ fn named_fmid(operands: &Operands<'_>) -> Option<Id>
     })
 }
 
-/// Whether the `++VER` is for the FMID that is named.
+// Whether the `++VER` is for the FMID that is named.
 fn has_fmid(ver: &Ver, named: Option<Id>) -> bool
     ensures { IsTrue result ↔ IsSomeAnd ver.now.fmid (λ f. named ≡ Some f) }
 {
@@ -85,7 +85,7 @@ fn has_fmid(ver: &Ver, named: Option<Id>) -> bool
     }
 }
 
-/// Whether the `++VER`, in a SYSMOD of the kind, excludes another one of the SREL and FMID.
+// Whether the `++VER`, in a SYSMOD of the kind, excludes another one of the SREL and FMID.
 fn is_like(kind: Kind, ver: &Ver, srel: Srel, named: Option<Id>) -> bool
     ensures { IsTrue result ↔ ((ver.now.srel ≡ srel) × ((kind ≡ Function) ⊎ IsSomeAnd ver.now.fmid
         (λ f. named ≡ Some f))) }
@@ -93,7 +93,7 @@ fn is_like(kind: Kind, ver: &Ver, srel: Srel, named: Option<Id>) -> bool
     ver.srel == srel && (matches!(kind, Kind::Function) || has_fmid(ver, named))
 }
 
-/// Whether one of the `++VER`s, in a SYSMOD of the kind, excludes another one of the SREL and FMID.
+// Whether one of the `++VER`s, in a SYSMOD of the kind, excludes another one of the SREL and FMID.
 fn has_like(kind: Kind, vers: &[Ver], srel: Srel, named: Option<Id>) -> bool
     ensures { IsTrue result ↔ Any (λ v. (v.srel ≡ srel) × ((kind ≡ Function) ⊎ IsSomeAnd v.fmid
         (λ f. named ≡ Some f))) vers.now }
@@ -101,7 +101,7 @@ fn has_like(kind: Kind, vers: &[Ver], srel: Srel, named: Option<Id>) -> bool
     vers.iter().any(|ver| is_like(kind, ver, srel, named))
 }
 
-/// Whether it is a second `++VER` of one SREL in a function, or of one SREL and FMID in another SYSMOD.
+// Whether it is a second `++VER` of one SREL in a function, or of one SREL and FMID in another SYSMOD.
 fn is_second_ver(sysmod: &Sysmod, known: &Known<'_>) -> bool
     requires { known.now.word ≡ word.Ver }
     ensures { (rest : List Piece) → IsRead rest known.now.operands
@@ -113,7 +113,7 @@ fn is_second_ver(sysmod: &Sysmod, known: &Known<'_>) -> bool
     }
 }
 
-/// Whether it is a second `++VER`, or a second change of one element.
+// Whether it is a second `++VER`, or a second change of one element.
 fn is_second(sysmod: &Sysmod, known: &Known<'_>) -> bool
     ensures { (rest : List Piece) → IsRead rest known.now.operands
         → IsTrue result ↔ IsSecond sysmod.now known.now.word (own_list known.now) rest }

@@ -22,7 +22,7 @@ use rec80::{Group, Record};
 use std::alloc::Global;
 use terms::{ElemType, StatementCode, StatementWord};
 
-/// What a statement of this word says.
+// What a statement of this word says.
 fn said_by(
     alloc: Global,
     current: &Option<Begun>,

@@ -7,7 +7,7 @@ ghost use Rattle.mcs.specs.KnownWords.{IsFixed};
 use fields::spelling::{read_kind, read_type};
 use terms::StatementWord;
 
-/// The word, without a kind or a type, that is spelled so after `++`.
+// The word, without a kind or a type, that is spelled so after `++`.
 fn fixed_word(rest: &[u8]) -> Option<StatementWord>
     ensures found { IfSome result (λ w. statement_text w ≡ codes "++" ++ rest.now) }
     ensures none { IfNone result ((w : AnyWord) → IsFixed w → statement_text w ≢ codes "++" ++ rest.now) }

@@ -27,7 +27,7 @@ use terms::{Kind, StatementCode};
 /// The operands of `++VER`.
 const OPERANDS: &[&[u8]] = &[b"FMID", b"PRE", b"REQ", b"SUP", b"NPRE", b"DELETE"];
 
-/// Whether the operands are those of a SYSMOD of the kind.
+// Whether the operands are those of a SYSMOD of the kind.
 fn suits_kind(kind: Kind, words: &[Word<'_>]) -> bool
     ensures { IsTrue result ↔ SuitsKind kind (words_of words.now) }
 {
@@ -41,7 +41,7 @@ fn suits_kind(kind: Kind, words: &[Word<'_>]) -> bool
     }
 }
 
-/// Whether no list names the SYSMOD.
+// Whether no list names the SYSMOD.
 fn names_others(own: Id, ver: &Ver) -> bool
     ensures { result ≡ list_all (λ ids. not (is_in ids own)) (lists_of ver.now) }
 {
@@ -62,7 +62,7 @@ struct VerLists {
     del: IdList,
 }
 
-/// Whether its FMID is this id.
+// Whether its FMID is this id.
 fn has_fmid(ver: &Ver, id: Id) -> bool
     ensures { IsTrue result ↔ (ver.now.fmid ≡ Some id) }
 {
@@ -123,7 +123,7 @@ fn made_of(alloc: Global, srel: Srel, fmid: Option<Id>, lists: VerLists) -> Ver
     }
 }
 
-/// The `++VER` of these operands, all of which are known.
+// The `++VER` of these operands, all of which are known.
 fn read_ver(
     alloc: Global,
     sysmod: &Sysmod,
@@ -159,7 +159,7 @@ fn read_ver(
     Ok(ver)
 }
 
-/// Whether the SYSMOD may have this `++VER` too.
+// Whether the SYSMOD may have this `++VER` too.
 fn is_within(sysmod: &Sysmod, ver: &Ver) -> bool
     ensures { IsTrue result ↔ ((length sysmod.now.vers < 8) × All IsShort (lists_of ver.now)) }
 {

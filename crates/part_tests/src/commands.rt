@@ -9,7 +9,7 @@ use std::alloc::{AllocError, Global};
 use std::process::Abort;
 use std::test::Fail;
 
-/// The operand of this name in the first command.
+// The operand of this name in the first command.
 fn operand_in<'a>(alloc: Global, cards: &'a [Record], name: &[u8]) -> Option<Word<'a>> {
     let mut commands = Records { all: cards }.commands();
     let command = commands.next_command().ok()??;
@@ -17,7 +17,7 @@ fn operand_in<'a>(alloc: Global, cards: &'a [Record], name: &[u8]) -> Option<Wor
     operand(operands.only()?, name)
 }
 
-/// Whether there is such an operand, and its list as ids, as sources and as the name of a zone, if it is that.
+// Whether there is such an operand, and its list as ids, as sources and as the name of a zone, if it is that.
 fn taken(alloc: Global, cards: &[Record], name: &[u8]) -> Spelled {
     let mut spelled = Spelled::new();
     let found = operand_in(alloc, cards, name);

@@ -29,7 +29,7 @@ const NO_FIELDS: &[&str] = &[
     "",
 ];
 
-/// Whether the letter's field has this text.
+// Whether the letter's field has this text.
 fn is_field(letter: u8, text: &[u8]) -> bool {
     match letter {
         b'I' => Id::read(text).is_some(),
@@ -71,7 +71,7 @@ fn a_date_is_spelled(rt: HostRuntime) {
     assert_eq!(rt; YyDdd::new(2024, 138).as_bytes(), b"24.138".as_slice());
 }
 
-/// Puts the ids in and takes them out in this order, and returns how often one was new.
+// Puts the ids in and takes them out in this order, and returns how often one was new.
 fn filled(list: &mut IdList, ids: &[Id]) -> Result<usize, AllocError> {
     let mut count = 0usize;
     for id in ids {

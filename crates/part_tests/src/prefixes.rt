@@ -14,8 +14,8 @@ const PTFIN: &str = "++PTF(UA00024).|++VER(Z038) FMID(HAA1100).";
 const CNTL: &str = "SET BDY(GLOBAL).|RECEIVE SYSMODS.|SET BDY(TGT1).|APPLY SELECT(UA00024) CHECK.|\
     APPLY SELECT(UA00024).|APPLY SELECT(UA00024).|SET BDY(GLOBAL).|RECEIVE SYSMODS.";
 
-/// For a PTFIN that is cut after so many whole records and so many bytes of the next: the number of its items, or its
-/// fault. A cut record is not a record, and a header needs a statement after it.
+// For a PTFIN that is cut after so many whole records and so many bytes of the next: the number of its items, or its
+// fault. A cut record is not a record, and a header needs a statement after it.
 fn ptfin_wanted(whole: usize, more: usize) -> Result<usize, (usize, StatementCode)> {
     match (whole, more) {
         (0, 0) => Ok(0),
@@ -33,7 +33,7 @@ fn ptfin_got(alloc: Global, bytes: &[u8]) -> Result<usize, (usize, StatementCode
     }
 }
 
-/// The same for the command file, in which each whole record is a command.
+// The same for the command file, in which each whole record is a command.
 fn cntl_wanted(whole: usize, more: usize) -> Result<usize, (usize, CommandCode)> {
     if more == 0 {
         return Ok(whole);

@@ -76,7 +76,7 @@ fn put_items(spelled: &mut Spelled, items: &[Item]) {
     }
 }
 
-/// What is read from these cards.
+// What is read from these cards.
 fn received(alloc: Global, bytes: &[u8]) -> Spelled {
     let mut spelled = Spelled::new();
     match read_ptfin(alloc, bytes) {
@@ -86,7 +86,7 @@ fn received(alloc: Global, bytes: &[u8]) -> Spelled {
     spelled
 }
 
-/// The files of a case, with a semicolon between two, are read as it says after the cards in front.
+// The files of a case, with a semicolon between two, are read as it says after the cards in front.
 fn check_case(rt: &impl Abort, alloc: Global, front: &str, line: &str) -> Result<(), Fail> {
     let (files, wanted) = case(line)?;
     for cards in files.split(';') {

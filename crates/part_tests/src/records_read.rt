@@ -8,7 +8,7 @@ use rec80::{
 use std::alloc::{AllocError, Global};
 use std::test::Fail;
 
-/// Each member with its own list in parentheses and a semicolon; a `?` for anything else.
+// Each member with its own list in parentheses and a semicolon; a `?` for anything else.
 fn put_members(spelled: &mut Spelled, list: &Text<'_>) {
     let mut members = list.members();
     for _ in 0..9 {
@@ -28,7 +28,7 @@ fn put_members(spelled: &mut Spelled, list: &Text<'_>) {
     }
 }
 
-/// Each word with its members in parentheses and a blank; a `?` for anything else.
+// Each word with its members in parentheses and a blank; a `?` for anything else.
 fn put_words(spelled: &mut Spelled, mut words: Words<'_>) {
     for _ in 0..9 {
         match words.next_word() {
@@ -107,7 +107,7 @@ fn put_groups(spelled: &mut Spelled, mut groups: Groups<'_>) {
     }
 }
 
-/// The number of records of each of a file's statements.
+// The number of records of each of a file's statements.
 fn grouped(cards: &[Record]) -> Spelled {
     let mut spelled = Spelled::new();
     match (Records { all: cards }).groups() {
@@ -128,7 +128,7 @@ fn a_file_is_cut_into_statements(rt: HostRuntime) {
     assert_eq!(rt; grouped(&cards[2..]).text(), "outside");
 }
 
-/// The fault of a file of 161 bytes, one of which is this one.
+// The fault of a file of 161 bytes, one of which is this one.
 fn fault_at(place: usize, byte: u8) -> Option<RecError> {
     let mut bytes = [b' '; 161];
     if let Some(at) = bytes.get_mut(place) {
@@ -199,7 +199,7 @@ fn commands_have_words_or_a_fault(rt: HostRuntime) -> Result<(), Fail> {
     Ok(())
 }
 
-/// A letter for each piece, and the characters that belong to no word.
+// A letter for each piece, and the characters that belong to no word.
 fn put_pieces(spelled: &mut Spelled, mut words: Words<'_>) {
     for _ in 0..9 {
         match words.next_piece() {
@@ -211,7 +211,7 @@ fn put_pieces(spelled: &mut Spelled, mut words: Words<'_>) {
     }
 }
 
-/// The pieces of the first command.
+// The pieces of the first command.
 fn pieces_of(card: &str) -> Spelled {
     let mut spelled = Spelled::new();
     let cards = [record(card)];
@@ -227,7 +227,7 @@ fn pieces_are_words_lists_and_strays(rt: HostRuntime) {
     assert_eq!(rt; pieces_of("APPLY CHECK -, (A) CHECK.").text(), "WW-LW");
 }
 
-/// The lines of the list of the statement's first word, and the first byte of the last one, if there are any.
+// The lines of the list of the statement's first word, and the first byte of the last one, if there are any.
 fn put_lines(spelled: &mut Spelled, records: &[Record]) -> Option<()> {
     let mut words = statement(&Group { number: 1, records }).ok()?;
     let text = words.next_word().ok()??.list?;

@@ -28,7 +28,7 @@ fn add_needs(alloc: Global, s: &mut System, needs: Needs<'_>) -> Result<(), Syst
     Ok(())
 }
 
-/// A system of these candidates and needs, one by one.
+// A system of these candidates and needs, one by one.
 fn system(alloc: Global, eligible: &[bool], needs: Needs<'_>) -> Result<System, SystemError> {
     let mut s = System::new(alloc, Vec::new(alloc))?;
     add_candidates(&mut s, eligible)?;
@@ -119,7 +119,7 @@ fn candidates_stay_or_fail_by_their_causers(rt: HostRuntime) -> Result<(), Syste
     Ok(())
 }
 
-/// The needs of a chain: each of so many candidates needs the one before it, and the first one needs `start`.
+// The needs of a chain: each of so many candidates needs the one before it, and the first one needs `start`.
 fn chain(alloc: Global, n: u32, start: &[u32]) -> Result<Vec<Need>, AllocError> {
     let mut needs = Vec::new(alloc);
     for of in 0..n {
@@ -131,8 +131,8 @@ fn chain(alloc: Global, n: u32, start: &[u32]) -> Result<Vec<Need>, AllocError> 
     Ok(needs)
 }
 
-/// How many of so many eligible candidates stay in a chain with this start, how many strikes that takes, and whether
-/// both solvers agree.
+// How many of so many eligible candidates stay in a chain with this start, how many strikes that takes, and whether
+// both solvers agree.
 fn chained(alloc: Global, n: u32, start: &[u32]) -> Result<(usize, u128, bool), SystemError> {
     let eligible = vec![in alloc; true; n as usize]?;
     let s = System::from_needs(eligible, chain(alloc, n, start)?)?;
@@ -150,7 +150,7 @@ fn a_chain_of_thousands_falls_or_stays(rt: HostRuntime) -> Result<(), SystemErro
     Ok(())
 }
 
-/// A system of so many eligible candidates with one need.
+// A system of so many eligible candidates with one need.
 fn with_need(alloc: Global, n: usize, of: u32, any: &[u32]) -> Result<System, SystemError> {
     let mut needs = Vec::new(alloc);
     let any = any.to_vec(alloc)?;
@@ -190,7 +190,7 @@ fn add_rule(alloc: Global, s: &mut Rules, these: &[u32], that: u32) -> Result<()
     Ok(())
 }
 
-/// Four numbers, the first of which is in the start, and rules for the others.
+// Four numbers, the first of which is in the start, and rules for the others.
 fn rules(alloc: Global) -> Result<Rules, SystemError> {
     let mut rules = Rules::new(alloc, &[true, false, false])?;
     rules.add_number(false)?;

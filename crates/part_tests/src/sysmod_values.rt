@@ -25,7 +25,7 @@ fn ver(alloc: Global, srel: Srel, fmid: Id) -> Ver {
     }
 }
 
-/// An element statement of a data element with one record.
+// An element statement of a data element with one record.
 fn data(alloc: Global, name: Name) -> Result<ElemChange, AllocError> {
     let mut lines = Vec::new(alloc);
     lines.push(Line::new([b' '; 80]))?;
@@ -40,7 +40,7 @@ fn data(alloc: Global, name: Name) -> Result<ElemChange, AllocError> {
     })
 }
 
-/// A `++VER` for each SREL and FMID.
+// A `++VER` for each SREL and FMID.
 fn put_vers(alloc: Global, sysmod: &mut Sysmod, vers: &[(Srel, Id)]) -> Result<(), AllocError> {
     for (srel, fmid) in vers {
         sysmod.insert_ver(ver(alloc, *srel, *fmid))?;
@@ -48,7 +48,7 @@ fn put_vers(alloc: Global, sysmod: &mut Sysmod, vers: &[(Srel, Id)]) -> Result<(
     Ok(())
 }
 
-/// A data element of each name.
+// A data element of each name.
 fn put_data(alloc: Global, sysmod: &mut Sysmod, names: &[Name]) -> Result<(), AllocError> {
     for name in names {
         sysmod.insert_change(data(alloc, *name)?)?;
@@ -56,7 +56,7 @@ fn put_data(alloc: Global, sysmod: &mut Sysmod, names: &[Name]) -> Result<(), Al
     Ok(())
 }
 
-/// The ids that it names for the SREL.
+// The ids that it names for the SREL.
 fn named_for(alloc: Global, sysmod: &Sysmod, srel: Srel) -> Result<Vec<Id>, AllocError> {
     let mut found = Vec::new(alloc);
     sysmod.append_named(srel, &mut found)?;

@@ -12,7 +12,7 @@ use sysmods_values::Hold;
 use terms::{ElemType, ZoneKind};
 use zones::{Applied, Element, Entry, Zone};
 
-/// RECEIVE of the SYSMODs of these cards.
+// RECEIVE of the SYSMODs of these cards.
 fn receive(alloc: Global, global: &mut GlobalZone, cards: &[u8]) -> Result<(), Fail> {
     for item in read_ptfin(alloc, cards)? {
         if let Item::Sysmod(sysmod) = item {
@@ -22,7 +22,7 @@ fn receive(alloc: Global, global: &mut GlobalZone, cards: &[u8]) -> Result<(), F
     Ok(())
 }
 
-/// The holds of these cards.
+// The holds of these cards.
 fn take_holds(alloc: Global, cards: &[u8], holds: &mut Vec<Hold>) -> Result<(), Fail> {
     for item in read_hold(alloc, cards)? {
         if let HoldItem::Hold(hold) = item {
@@ -32,7 +32,7 @@ fn take_holds(alloc: Global, cards: &[u8], holds: &mut Vec<Hold>) -> Result<(), 
     Ok(())
 }
 
-/// The global zone of the holds and of the SYSMODs of these records.
+// The global zone of the holds and of the SYSMODs of these records.
 fn global_of(alloc: Global, cards: &[u8], holds: &[u8]) -> Result<GlobalZone, Fail> {
     let mut external = Vec::new(alloc);
     take_holds(alloc, holds, &mut external)?;
@@ -42,7 +42,7 @@ fn global_of(alloc: Global, cards: &[u8], holds: &[u8]) -> Result<GlobalZone, Fa
     Ok(global)
 }
 
-/// The global zone of the holds and of the SYSMODs of these cards.
+// The global zone of the holds and of the SYSMODs of these cards.
 fn global(alloc: Global, cards: &str, holds: &str) -> Result<GlobalZone, Fail> {
     let cards = file_of(alloc, cards)?;
     let holds = file_of(alloc, holds)?;
@@ -94,7 +94,7 @@ pub(crate) fn zone(entries: Table<Entry>, elements: Table<Element>) -> Result<Zo
     Ok(zone.ok_or("no zone")?)
 }
 
-/// What is told about these ids, and its code.
+// What is told about these ids, and its code.
 fn told(
     alloc: Global,
     global: &GlobalZone,

@@ -41,7 +41,7 @@ UA00099 -        MISSING
     code: 4,
 };
 
-/// The function and the first PTF, which replaced the function's element, are applied.
+// The function and the first PTF, which replaced the function's element, are applied.
 fn applied(alloc: Global) -> Result<Zone, Fail> {
     let (function, fix) = (id(b"HAA1100")?, id(b"UA00001")?);
     let mut entries = Table::new(alloc);

@@ -46,14 +46,14 @@ UA00000 -        SUPERSEDED
     code: 0,
 };
 
-/// An entry with what was bypassed when it was applied.
+// An entry with what was bypassed when it was applied.
 fn waiving(alloc: Global, id: Id, waived: Id) -> Result<Entry, AllocError> {
     let mut entry = entry(alloc, id);
     entry.waived.insert(waived)?;
     Ok(entry)
 }
 
-/// An entry of what is superseded.
+// An entry of what is superseded.
 fn superseded(alloc: Global, id: Id, by: Id) -> Result<Entry, AllocError> {
     let mut entry = entry(alloc, id);
     entry.applied = None;
@@ -61,7 +61,7 @@ fn superseded(alloc: Global, id: Id, by: Id) -> Result<Entry, AllocError> {
     Ok(entry)
 }
 
-/// Both functions and their service are applied.
+// Both functions and their service are applied.
 fn applied(alloc: Global) -> Result<Zone, Fail> {
     let functions = [id(b"HAA1100")?, id(b"HBB1100")?];
     let service = [id(b"UB00001")?, id(b"UB00003")?];

@@ -16,7 +16,7 @@ use crate::members::Members;
 use crate::text::Text;
 use crate::words::Word;
 
-/// The first word of that name.
+// The first word of that name.
 fn first<'w, 'a>(words: &'w [Word<'a>], name: &[u8]) -> Option<&'w Word<'a>>
     ensures { option_copied result ≡ find (λ w. bytes_eq w.word.now name.now) words.now }
 {
@@ -30,7 +30,7 @@ pub fn operand<'a>(words: &[Word<'a>], name: &[u8]) -> Option<Word<'a>>
     first(words, name).copied()
 }
 
-/// How many words have that name.
+// How many words have that name.
 fn count_of(words: &[Word<'_>], name: &[u8]) -> usize
     ensures { result ≡ length (filter (λ w. bytes_eq name.now w.word.now) words.now) }
 {
@@ -50,7 +50,7 @@ pub(crate) fn any_twice(words: &[Word<'_>], names: &[&[u8]]) -> bool
     names.iter().any(|name| is_twice(words, name))
 }
 
-/// Whether each word has one of the names.
+// Whether each word has one of the names.
 fn are_known(words: &[Word<'_>], names: &[&[u8]]) -> bool
     ensures { IsTrue result ↔ All (λ w. IsTrue (is_in (map (λ name. name.now) names.now) w.word.now)) words.now }
 {
@@ -64,7 +64,7 @@ pub(crate) fn are_operands(words: &[Word<'_>], names: &[&[u8]]) -> bool
     are_known(words, names) && !any_twice(words, names)
 }
 
-/// Takes the next member, if there is one. It returns none too if something else follows.
+// Takes the next member, if there is one. It returns none too if something else follows.
 fn take_member<'a>(left: &mut Members<'a>) -> Option<Word<'a>>
     ensures member { IfSome result (λ m. (ms : List grammar.Word) → LeavesMembers left.old ms
         → (more : List grammar.Word) × (ms ≡ word_of m ∷ more) × LeavesMembers left.new more) }

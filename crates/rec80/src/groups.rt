@@ -41,14 +41,14 @@ fn is_later(card: &Record) -> bool
     !is_first(card)
 }
 
-/// How many records come before the next statement.
+// How many records come before the next statement.
 fn later_len(records: &[Record]) -> usize
     ensures { result ≡ prefix_len (λ r. not (begins_statement r)) records.now }
 {
     records.iter().take_while(|card| is_later(card)).count()
 }
 
-/// The first statement's records, and the rest.
+// The first statement's records, and the rest.
 fn split_group(records: &[Record]) -> (&[Record], &[Record])
     requires starts { starts_outside records.now ≡ false }
     requires some { 0 < length records.now }

@@ -13,7 +13,7 @@ use crate::members::{Members, NoMembers, split_member};
 use crate::text::Text;
 use crate::words::Word;
 
-/// The text after the blanks.
+// The text after the blanks.
 fn behind_blanks<'a>(text: &Text<'a>) -> Text<'a>
     ensures { SkipsBlanks (text_of text.now) (text_of result) }
 {
@@ -27,7 +27,7 @@ fn behind_blanks<'a>(text: &Text<'a>) -> Text<'a>
     at
 }
 
-/// The text before the first parenthesis, and the text after it.
+// The text before the first parenthesis, and the text after it.
 fn split_inner<'a>(inside: &Text<'a>) -> (Text<'a>, Text<'a>)
     ensures cut { text_of inside.now ≡ text_of result.0 ++ text_of result.1 }
     ensures each { All (λ b. is_inner_byte b ≡ true) (text_of result.0) }
@@ -45,7 +45,7 @@ fn split_inner<'a>(inside: &Text<'a>) -> (Text<'a>, Text<'a>)
     (inside.front(len), at)
 }
 
-/// The text after the byte, if it begins with the byte.
+// The text after the byte, if it begins with the byte.
 fn behind_byte<'a>(text: &Text<'a>, byte: u8) -> Option<Text<'a>>
     ensures found { IfSome result (λ next. text_of text.now ≡ byte ∷ text_of next) }
     ensures none { IfNone result ((next : List ℕ) → text_of text.now ≡ byte ∷ next → ⊥) }
@@ -54,7 +54,7 @@ fn behind_byte<'a>(text: &Text<'a>, byte: u8) -> Option<Text<'a>>
     if first == byte { Some(next) } else { None }
 }
 
-/// A member's own list, if it has one, and the text after it. None if a list begins and is not closed.
+// A member's own list, if it has one, and the text after it. None if a list begins and is not closed.
 fn own_list<'a>(behind: &Text<'a>) -> Option<(Option<Text<'a>>, Text<'a>)>
     ensures list { IfSome result (λ x. TakesInner (text_of behind.now) (option_map text_of x.0) (text_of x.1)) }
     ensures none { IfNone result ((list : Option (List ℕ)) (after : List ℕ)
@@ -71,7 +71,7 @@ fn own_list<'a>(behind: &Text<'a>) -> Option<(Option<Text<'a>>, Text<'a>)>
     Some((Some(list), after))
 }
 
-/// The place where the next member begins, if one may begin there.
+// The place where the next member begins, if one may begin there.
 fn member_start<'a>(rest: &Text<'a>, first: bool) -> Option<Text<'a>>
     ensures start { IfSome result (λ t. (gap : List ℕ) × (text_of rest.now ≡ gap ++ text_of t) × IsBefore first gap) }
     ensures only { (gap next : List ℕ) → text_of rest.now ≡ gap ++ next → IsBefore first gap → BeginsMember next
@@ -90,7 +90,7 @@ fn member_start<'a>(rest: &Text<'a>, first: bool) -> Option<Text<'a>>
     Some(dark)
 }
 
-/// The next member, and the text after it.
+// The next member, and the text after it.
 fn member_in<'a>(rest: &Text<'a>, first: bool) -> Option<(Word<'a>, Text<'a>)>
     ensures member { IfSome result (λ x. TakesNext first (text_of rest.now) (word_of x.0) (text_of x.1)) }
     ensures none { IfNone result ((m : grammar.Word) (after : List ℕ) → TakesNext first (text_of rest.now) m after
@@ -108,7 +108,7 @@ fn member_in<'a>(rest: &Text<'a>, first: bool) -> Option<(Word<'a>, Text<'a>)>
     Some((Word { word, list }, after))
 }
 
-/// Whether only blanks are left.
+// Whether only blanks are left.
 fn is_blank(rest: &Text) -> bool
     ensures blank { result ≡ true → AreBlanks (text_of rest.now) }
     ensures dark { result ≡ false → AreBlanks (text_of rest.now) → ⊥ }

@@ -28,7 +28,7 @@ fn is_part_of_member(byte: u8) -> bool
     !(byte == b' ' || byte == b',' || byte == b'(' || byte == b')')
 }
 
-/// How many bytes of a member come first.
+// How many bytes of a member come first.
 fn member_len(line: &[u8]) -> usize
     ensures { result ≡ prefix_len is_member_byte line.now }
 {

@@ -11,7 +11,7 @@ use crate::text::Text;
 use crate::words::Word;
 use std::alloc::Global;
 
-/// The value of a member that has no list of its own.
+// The value of a member that has no list of its own.
 fn read_member<T: Member>(member: &Word<'_>) -> Option<T>
     ensures good { IfSome result (λ x. (word_of member.now ≡ plain (T.text x)) × T.form (T.text x)) }
     ensures none { IfNone result ((m : List ℕ) → word_of member.now ≡ plain m → T.form m → ⊥) }

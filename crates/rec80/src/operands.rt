@@ -25,7 +25,7 @@ pub struct Operands<'a> {
 }
 
 impl<'a> Operands<'a> {
-    /// Takes in the next piece: a word, or what is there instead of one.
+    // Takes in the next piece: a word, or what is there instead of one.
     fn add(&mut self, found: Result<Word<'a>, NoWord>) -> Result<(), AllocError>
         ensures word { OnOk result (IfOk found.entry (λ w. (self.new.words.items ≡ self.old.words.items ++ w ∷ [])
             × (self.new.alone ≡ self.old.alone))) }

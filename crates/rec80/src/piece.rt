@@ -54,7 +54,7 @@ fn is_part_of_word(byte: u8) -> bool
         || byte == b'+'
 }
 
-/// The length of the word that comes first.
+// The length of the word that comes first.
 fn word_len(line: &[u8]) -> usize
     ensures { result ≡ prefix_len is_word_byte line.now }
 {
@@ -63,7 +63,7 @@ fn word_len(line: &[u8]) -> usize
         .count()
 }
 
-/// The word that begins here, and the place after it. No word continues in the next record.
+// The word that begins here, and the place after it. No word continues in the next record.
 fn split_word<'a>(at: &Cursor<'a>) -> (&'a [u8], Cursor<'a>)
     requires { is_word_byte (slice_index (rest_of at.now) 0) ≡ true }
     ensures word { TakesPiece (rest_of at.now) (TheWord result.0.now) (rest_of result.1) }

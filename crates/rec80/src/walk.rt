@@ -37,7 +37,7 @@ pub fn first_stop<'a>(from: &Cursor<'a>) -> (Cursor<'a>, Stop)
     }
 }
 
-/// Whether the rest of a record has only blanks and whole comments.
+// Whether the rest of a record has only blanks and whole comments.
 fn is_idle(tail: &[u8]) -> bool
     ensures idle { IsTrue result → IsIdle tail.now }
     ensures text { result ≡ false → IsIdle tail.now → ⊥ }

@@ -34,7 +34,7 @@ pub struct Words<'a> {
     pub inline: &'a [Record],
 }
 
-/// The list that begins here, and the place after it.
+// The list that begins here, and the place after it.
 fn own_list<'a>(at: &Cursor<'a>) -> Option<(Text<'a>, Cursor<'a>)>
     ensures list { IfSome result (λ x. TakesPiece (rest_of at.now) (TheList (text_of x.0)) (rest_of x.1)) }
     ensures none { IfNone result ((list after : List ℕ) → TakesPiece (rest_of at.now) (TheList list) after → ⊥) }

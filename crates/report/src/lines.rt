@@ -33,7 +33,7 @@ pub(crate) fn put_header<W: Sink>(header: &Header, page: &mut Page<'_, W>)
     put_words(word, &[zone], page);
 }
 
-/// The place of a fault, and its code.
+// The place of a fault, and its code.
 fn put_fault<W: Sink>(word: &[u8], number: usize, code: StatementCode, page: &mut Page<'_, W>)
     ensures { Paged W.Sink page.old page.new
         (words_line (codes "REFUSED" ∷ word.now ∷ codes "RECORD" ∷ decimal number ∷ statement_code_text code ∷ [])) }
@@ -108,7 +108,7 @@ fn status_detail(status: &Status) -> Option<&[u8]>
     }
 }
 
-/// The lines after FAILED.
+// The lines after FAILED.
 fn put_failure<W: Sink>(failure: &Failure, page: &mut Page<'_, W>)
     ensures { Paged W.Sink page.old page.new (failure_text (failure_view failure.now)) }
 {
@@ -127,7 +127,7 @@ fn put_failure<W: Sink>(failure: &Failure, page: &mut Page<'_, W>)
     }
 }
 
-/// A status line, without further lines.
+// A status line, without further lines.
 fn put_status<'a, W: Sink>(id: Id, place: &'a Place, status: &'a Status, page: &mut Page<'_, W>)
     ensures { Paged W.Sink page.old page.new (words_line (id ∷ left_in 8 (place_text (place_view place.now))
         ∷ status_word (status_view status.now) ∷ status_detail (status_view status.now))) }
@@ -140,8 +140,8 @@ fn put_status<'a, W: Sink>(id: Id, place: &'a Place, status: &'a Status, page: &
     }
 }
 
-/// A held SYSMOD with its reason, and the SYSMODs that resolve it: `RESOLVER` lines, or one that says that there are
-/// none.
+// A held SYSMOD with its reason, and the SYSMODs that resolve it: `RESOLVER` lines, or one that says that there are
+// none.
 fn put_errsysmod<'a, W: Sink>(
     id: &'a Id,
     reason: &'a Reason,

@@ -34,7 +34,7 @@ fn line_code(line: &ReportLine) -> u8
     }
 }
 
-/// Puts lines on the page, and returns the greatest of their codes, or 0 if there are none.
+// Puts lines on the page, and returns the greatest of their codes, or 0 if there are none.
 fn put_lines<W: Sink>(lines: &[ReportLine], page: &mut Page<'_, W>) -> u8
     ensures paged { Paged W.Sink page.old page.new (flat_map line_text (map line_view lines.now)) }
     ensures code { result ≡ lines_code (map line_view lines.now) }
@@ -48,7 +48,7 @@ fn put_lines<W: Sink>(lines: &[ReportLine], page: &mut Page<'_, W>) -> u8
     code
 }
 
-/// Puts the last line of a report on the page.
+// Puts the last line of a report on the page.
 fn put_code<W: Sink>(code: u8, page: &mut Page<'_, W>)
     requires { code ≤ 12 }
     ensures paged { Paged W.Sink page.old page.new (code_text code) }
@@ -57,7 +57,7 @@ fn put_code<W: Sink>(code: u8, page: &mut Page<'_, W>)
     page.put(&[b'R', b'C', b' ', b'0' + code / 10, b'0' + code % 10, b'\n']);
 }
 
-/// Puts the text of an outcome on the page, and returns its return code.
+// Puts the text of an outcome on the page, and returns its return code.
 fn put_outcome<W: Sink>(outcome: &Outcome<'_>, page: &mut Page<'_, W>) -> u8
     ensures paged { Paged W.Sink page.old page.new (text (outcome_view outcome.now)) }
     ensures some { 0 < length page.new.waiting.items }

@@ -57,7 +57,7 @@ fn put_entry<W: Sink>(kind: ZoneKind, entry: &Entry, page: &mut Page<'_, W>)
     }
 }
 
-/// An element, and with TEXT its records.
+// An element, and with TEXT its records.
 fn put_element<W: Sink>(element: &Element, text: bool, page: &mut Page<'_, W>)
     ensures { Paged W.Sink page.old page.new (flat_map line_text (element_lines text element.now)) }
 {

@@ -105,7 +105,7 @@ impl<'a> Selecting<'a> {
         }
     }
 
-    /// Whether it has a `++VER` for the zone's SREL, and is neither supplied nor deleted.
+    // Whether it has a `++VER` for the zone's SREL, and is neither supplied nor deleted.
     fn is_installable(&self, id: Id) -> bool
         ensures { result ≡ is_installable_in self.now id }
     {

@@ -10,7 +10,7 @@ use sqlite_disk::Crash;
 use std::alloc::Global;
 use store::{Store, StoreError};
 
-/// Takes apart what is left of the connection, without a call of its disks, brings these back, and opens their files.
+// Takes apart what is left of the connection, without a call of its disks, brings these back, and opens their files.
 fn connected_again<D: Crash + Drop>(
     alloc: Global,
     conn: Connection<FileStore<D>>,

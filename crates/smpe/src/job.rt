@@ -21,7 +21,7 @@ use sqlite::Alter;
 use std::alloc::Global;
 use store::Store;
 
-/// Performs a command, and reports it once it is committed.
+// Performs a command, and reports it once it is committed.
 fn run_command<S: Alter, W: Sink>(
     alloc: Global,
     session: &mut Session,
@@ -48,7 +48,7 @@ fn run_command<S: Alter, W: Sink>(
     }
 }
 
-/// Performs commands one after the other, and returns the highest return code.
+// Performs commands one after the other, and returns the highest return code.
 fn run_commands<S: Alter, W: Sink>(
     alloc: Global,
     session: &mut Session,

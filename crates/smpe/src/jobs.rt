@@ -46,7 +46,7 @@ pub enum Answer {
     Refused(ZoneFault),
 }
 
-/// Defines a zone, and returns how that ended.
+// Defines a zone, and returns how that ended.
 fn define<S: Alter>(
     store: &mut Store<S>,
     name: ZoneName,
@@ -72,7 +72,7 @@ fn define<S: Alter>(
     }
 }
 
-/// Runs one job.
+// Runs one job.
 fn run_one<S: Alter, W: Sink>(
     alloc: Global,
     store: &mut Store<S>,

@@ -16,7 +16,7 @@ use std::alloc::{AllocError, Global};
 use sysmods::{GlobalEdit, GlobalZone};
 use sysmods_values::Sysmod;
 
-/// The SYSMOD with its sources, but without its statements, which have rows of their own that stay.
+// The SYSMOD with its sources, but without its statements, which have rows of their own that stay.
 fn head_of(alloc: Global, sysmod: &Sysmod) -> Result<Sysmod, AllocError>
     ensures { IfOk result (λ head. head ≡ head_of sysmod.now) }
 {
@@ -30,7 +30,7 @@ fn head_of(alloc: Global, sysmod: &Sysmod) -> Result<Sysmod, AllocError>
     })
 }
 
-/// Appends the edit that writes the sources of a received SYSMOD. It appends nothing for an id that is not received.
+// Appends the edit that writes the sources of a received SYSMOD. It appends nothing for an id that is not received.
 fn write_sources(
     alloc: Global,
     edits: &mut Vec<GlobalEdit>,
@@ -76,7 +76,7 @@ fn assign_id(
     Ok(())
 }
 
-/// Gives the source to one id after another.
+// Gives the source to one id after another.
 fn assign_each(
     alloc: Global,
     global: &mut GlobalZone,

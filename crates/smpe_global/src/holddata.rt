@@ -22,7 +22,7 @@ use sysmods::{GlobalEdit, GlobalZone, Placed, ReleaseError};
 use sysmods_values::Hold;
 use terms::{HoldKind, IdRefusal};
 
-/// A copy of the hold, marked as internal if the hold of its key is.
+// A copy of the hold, marked as internal if the hold of its key is.
 fn marked_copy(global: &GlobalZone, hold: &Hold) -> Result<Hold, AllocError>
     ensures { IfOk result (λ copy. copy ≡ marked (hold_of global.now hold.now.id hold.now.kind hold.now.reason)
         hold.now) }
@@ -83,7 +83,7 @@ fn release_status(answer: Result<(), ReleaseError>, reason: Reason) -> Status
     }
 }
 
-/// Appends the edit that removes a hold that is released.
+// Appends the edit that removes a hold that is released.
 fn write_release(
     edits: &mut Vec<GlobalEdit>,
     answer: Result<(), ReleaseError>,

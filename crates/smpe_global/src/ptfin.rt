@@ -30,7 +30,7 @@ fn with_source(mut sysmod: Sysmod, source: &Option<Source>) -> Result<Sysmod, Al
     Ok(sysmod)
 }
 
-/// The status of a SYSMOD that RECEIVE has taken in or refused.
+// The status of a SYSMOD that RECEIVE has taken in or refused.
 fn status_of(answer: Result<(), Refused>) -> Result<Status, AllocError>
     ensures { IfOk result (λ status. (new : AGlobal)
         → option_map receive_status (answer_of new answer) ≡ Some (status_view status)) }
@@ -45,7 +45,7 @@ fn status_of(answer: Result<(), Refused>) -> Result<Status, AllocError>
     }
 }
 
-/// Receives a SYSMOD, with the source that the command adds.
+// Receives a SYSMOD, with the source that the command adds.
 fn take_sysmod(
     alloc: Global,
     global: &mut GlobalZone,

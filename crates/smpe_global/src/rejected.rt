@@ -28,14 +28,14 @@ pub struct Rejected {
     pub lines: Vec<ReportLine>,
 }
 
-/// Whether some zone has it applied.
+// Whether some zone has it applied.
 fn is_applied(zones: &IndexMap<ZoneName, Zone>, id: Id) -> bool
     ensures { result ≡ list_any (λ zone. is_applied zone id) (values zones.now) }
 {
     zones.values().any(|zone| zone.is_applied(id))
 }
 
-/// Takes a SYSMOD out of the global zone, or refuses it.
+// Takes a SYSMOD out of the global zone, or refuses it.
 fn take_out(
     global: &mut GlobalZone,
     zones: &IndexMap<ZoneName, Zone>,

@@ -44,7 +44,7 @@ impl CardWords {
         }
     }
 
-    /// The words that begin in this record.
+    // The words that begin in this record.
     fn read(alloc: Global, file: &[u8], record: usize) -> Result<CardWords, AllocError> {
         let mut found = CardWords::new(alloc);
         let start = start_of(record);

@@ -13,7 +13,7 @@ enum Form {
 }
 
 impl Form {
-    /// The form that the option demands, if it has a value.
+    // The form that the option demands, if it has a value.
     fn of(option: &str) -> Option<Form> {
         match option {
             "--name" | "--related" | "--zone" => Some(Form::ZoneName),
@@ -56,7 +56,7 @@ impl<'a> Words<'a> {
         str::from_utf8(self.words.get(place)?.as_slice()).ok()
     }
 
-    /// The option that begins at a place, with its value.
+    // The option that begins at a place, with its value.
     fn option(self, place: usize) -> Option<(&'a str, &'a str)> {
         let word = self.at(place)?;
         match word.split_once('=') {

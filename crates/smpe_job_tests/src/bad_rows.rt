@@ -76,7 +76,7 @@ const TABLES: [&str; 13] = [
     "SELECT zone || '/' || id || '/' || n FROM chosen ORDER BY zone, id",
 ];
 
-/// Runs a statement that must change some row.
+// Runs a statement that must change some row.
 fn run<S: Alter>(conn: &mut Connection<S>, sql: &str) -> Result<(), Fail> {
     if conn.execute(sql, &[])? == 0 {
         return Err(Fail::from(sql));
@@ -84,7 +84,7 @@ fn run<S: Alter>(conn: &mut Connection<S>, sql: &str) -> Result<(), Fail> {
     Ok(())
 }
 
-/// A database in which the function is installed and then one row is damaged.
+// A database in which the function is installed and then one row is damaged.
 fn spoilt<S: Alter + Drop>(
     alloc: Global,
     conn: Connection<S>,
@@ -95,7 +95,7 @@ fn spoilt<S: Alter + Drop>(
     Ok(conn)
 }
 
-/// All rows of it once these statements are run.
+// All rows of it once these statements are run.
 fn rows_written<S: Alter + Drop>(
     alloc: Global,
     conn: Connection<S>,
@@ -109,7 +109,7 @@ fn rows_written<S: Alter + Drop>(
     lines_of(alloc, &mut conn, &TABLES)
 }
 
-/// Runs the job, which must report this and then end by `Sf3`.
+// Runs the job, which must report this and then end by `Sf3`.
 fn run_job_over<S: Alter>(alloc: Global, store: &mut Store<S>, wanted: &str) -> Result<(), Fail> {
     let mut report = Vec::new(alloc);
     match run_step(alloc, store, &CHECKED, &mut report)? {
@@ -123,7 +123,7 @@ fn run_job_over<S: Alter>(alloc: Global, store: &mut Store<S>, wanted: &str) -> 
     }
 }
 
-/// Defines a zone, which must succeed, or must end by `Sf3`.
+// Defines a zone, which must succeed, or must end by `Sf3`.
 fn define_over<S: Alter>(store: &mut Store<S>, is_defined: bool) -> Result<(), Fail> {
     let name = zone_name(b"NEW1")?;
     let srel = Srel::read(b"Z038").ok_or("no SREL")?;
@@ -151,7 +151,7 @@ fn act_on<S: Alter>(alloc: Global, store: &mut Store<S>, act: Act) -> Result<(),
     }
 }
 
-/// All rows after it.
+// All rows after it.
 fn rows_behind<S: Alter + Drop>(
     alloc: Global,
     conn: Connection<S>,
@@ -163,7 +163,7 @@ fn rows_behind<S: Alter + Drop>(
     lines_of(alloc, &mut store.close(), &TABLES)
 }
 
-/// After each of these edits it leaves the rows as these statements do.
+// After each of these edits it leaves the rows as these statements do.
 fn check_each(alloc: Global, edits: &[&str], act: Act, written: &[&str]) -> Result<(), Fail> {
     for bad in edits {
         let got = rows_behind(alloc, in_memory(alloc)?, bad, act)?;

@@ -17,7 +17,7 @@ enum Fused {
     Database,
 }
 
-/// Runs the job over files, and opens these again once the disks are back.
+// Runs the job over files, and opens these again once the disks are back.
 fn run_on<D: Crash + Drop>(
     alloc: Global,
     files: Files<D>,
@@ -43,7 +43,7 @@ fn run_on<D: Crash + Drop>(
     }
 }
 
-/// The job over disks that may fail in it, and what is found once they are back.
+// The job over disks that may fail in it, and what is found once they are back.
 fn check_on<D: Crash + Drop>(alloc: Global, files: Files<D>) -> Result<Ended, Fail>
     requires log { IsTrue (D.Disk.is_usable files.log) }
     requires db { IsTrue (D.Disk.is_usable files.db) }
@@ -54,7 +54,7 @@ fn check_on<D: Crash + Drop>(alloc: Global, files: Files<D>) -> Result<Ended, Fa
     Ok(how)
 }
 
-/// The same with one of the connection's disks failing at the next of so many calls.
+// The same with one of the connection's disks failing at the next of so many calls.
 fn check_over<D: Crash + Drop>(
     alloc: Global,
     conn: Connection<FileStore<D>>,
@@ -75,7 +75,7 @@ fn check_over<D: Crash + Drop>(
     }
 }
 
-/// The same over disks on which the function is installed, with more and more calls until none fails.
+// The same over disks on which the function is installed, with more and more calls until none fails.
 fn check_each(alloc: Global, fused: Fused) -> Result<(), Fail> {
     for calls in 0..10_000u64 {
         if check_over(alloc, installed_files(alloc)?, fused, calls)? == Ended::Well {

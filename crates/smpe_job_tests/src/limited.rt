@@ -6,7 +6,7 @@ use sqlite::{Alter, Connection};
 use std::alloc::Global;
 use std::test::Fail;
 
-/// Runs the job over the connection with so many steps for each query.
+// Runs the job over the connection with so many steps for each query.
 fn run_limited<S: Alter + Drop>(
     alloc: Global,
     conn: Connection<S>,
@@ -21,7 +21,7 @@ fn run_limited<S: Alter + Drop>(
     Ok(how)
 }
 
-/// The same in memory and over files: whether both succeed.
+// The same in memory and over files: whether both succeed.
 fn run_both(alloc: Global, steps: u64) -> Result<Ended, Fail> {
     let how = run_limited(alloc, in_memory(alloc)?, steps)?;
     let on_disks = run_limited(alloc, new_files(alloc)?, steps)?;

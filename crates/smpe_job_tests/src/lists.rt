@@ -23,14 +23,14 @@ fn srel(text: &[u8]) -> Result<Srel, Fail> {
     Ok(Srel::read(text).ok_or("no SREL")?)
 }
 
-/// A failure, unless both lists of answers are the same.
+// A failure, unless both lists of answers are the same.
 fn compare_answers(alloc: Global, got: &[Answer], wanted: &[Answer]) -> Result<(), Fail> {
     let got = format!(in alloc; "{got:?}")?;
     let wanted = format!(in alloc; "{wanted:?}")?;
     compare("answers", got.as_bytes(), wanted.as_str())
 }
 
-/// Runs the jobs in one call over new files, and compares what they print and return.
+// Runs the jobs in one call over new files, and compares what they print and return.
 fn run(alloc: Global, jobs: &[Job<'_>], wanted: &str, answers: &[Answer]) -> Result<(), Fail> {
     let mut store = opened(alloc, new_files(alloc)?, "jobs in one call")?;
     let mut report = Vec::new(alloc);
@@ -39,7 +39,7 @@ fn run(alloc: Global, jobs: &[Job<'_>], wanted: &str, answers: &[Answer]) -> Res
     compare_answers(alloc, got.as_slice(), answers)
 }
 
-/// Two jobs after the definitions of three zones.
+// Two jobs after the definitions of three zones.
 fn define_and_run<'a>(
     alloc: Global,
     receive: &'a [u8],

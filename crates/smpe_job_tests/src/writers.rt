@@ -35,7 +35,7 @@ impl Write for Cut {
     }
 }
 
-/// Runs the job with this writer.
+// Runs the job with this writer.
 fn run_cut<S: Alter>(
     alloc: Global,
     store: &mut Store<S>,
@@ -47,7 +47,7 @@ fn run_cut<S: Alter>(
     Ok(run_jobs(alloc, store, &jobs, &mut Out::new(writer)))
 }
 
-/// The whole report.
+// The whole report.
 fn whole(alloc: Global) -> Result<Vec<u8>, Fail> {
     let mut text = Vec::new(alloc);
     for report in REPORTS {
@@ -56,7 +56,7 @@ fn whole(alloc: Global) -> Result<Vec<u8>, Fail> {
     Ok(text)
 }
 
-/// What went out is the first bytes of the report, and the job ended as it must.
+// What went out is the first bytes of the report, and the job ended as it must.
 fn compare_cut(
     wanted: &[u8],
     len: usize,
@@ -74,7 +74,7 @@ fn compare_cut(
     }
 }
 
-/// The job with a writer that takes so many bytes, over a new database.
+// The job with a writer that takes so many bytes, over a new database.
 fn cut_at<S: Alter + Drop>(
     alloc: Global,
     conn: Connection<S>,
@@ -102,7 +102,7 @@ fn cut_at<S: Alter + Drop>(
     Ok(store)
 }
 
-/// The job once more with a sound writer, over a store in which both its commits were made.
+// The job once more with a sound writer, over a store in which both its commits were made.
 fn again<S: Alter + Drop>(alloc: Global, mut store: Store<S>) -> Result<(), Fail> {
     let mut writer = Cut {
         taken: Vec::new(alloc),

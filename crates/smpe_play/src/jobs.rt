@@ -36,7 +36,7 @@ pub fn compare(name: &str, got: &[u8], wanted: &str) -> Result<(), Fail> {
     Err(Fail::new(format_args!("{name}: line {number}: got {got:?}, wanted {wanted:?}")))
 }
 
-/// A card with this text; a tab leads to column 73.
+// A card with this text; a tab leads to column 73.
 fn card(text: &str) -> [u8; 80] {
     let mut card = [b' '; 80];
     let mut column: usize = 0;

@@ -4,7 +4,7 @@ use sqlite::{Alter, Connection};
 use std::alloc::Global;
 use std::test::Fail;
 
-/// Appends the rows that a query finds, a line each.
+// Appends the rows that a query finds, a line each.
 fn put_lines<S: Alter>(
     conn: &mut Connection<S>,
     sql: &str,

@@ -44,7 +44,7 @@ pub fn run_step<S: Alter>(
     Ok(run_printing(alloc, store, &jobs, report))
 }
 
-/// A failure, unless the step printed and returned what it must.
+// A failure, unless the step printed and returned what it must.
 fn check(step: &JobStep, place: StepPlace, report: &[u8], answers: &[Answer]) -> Result<(), Fail> {
     let code = match answers {
         [Answer::Code(code)] => Some(*code),
@@ -91,7 +91,7 @@ impl Plays for JobStep {
     }
 }
 
-/// Plays the steps one after the other over one store.
+// Plays the steps one after the other over one store.
 fn play_all<S: Alter, P: Plays>(
     alloc: Global,
     store: &mut Store<S>,
@@ -110,7 +110,7 @@ pub fn play<S: Alter>(alloc: Global, store: &mut Store<S>, step: &JobStep) -> Re
     step.play_at(alloc, store, StepPlace { shows, disk: "" })
 }
 
-/// A store over a new database with both zones, in which these steps were played.
+// A store over a new database with both zones, in which these steps were played.
 fn begun<S: Alter + Drop>(
     alloc: Global,
     conn: Connection<S>,
@@ -129,7 +129,7 @@ pub fn installed<S: Alter + Drop>(alloc: Global, conn: Connection<S>) -> Result<
     begun(alloc, conn, BEGINNING, StepPlace { shows, disk: "" })
 }
 
-/// Plays steps over one store.
+// Plays steps over one store.
 fn play_over<S: Alter + Drop, P: Plays>(
     alloc: Global,
     conn: Connection<S>,
@@ -142,7 +142,7 @@ fn play_over<S: Alter + Drop, P: Plays>(
     Ok(store.close())
 }
 
-/// Plays a step over a store that is opened for it.
+// Plays a step over a store that is opened for it.
 fn play_anew<S: Alter + Drop, P: Plays>(
     alloc: Global,
     conn: Connection<S>,
@@ -154,7 +154,7 @@ fn play_anew<S: Alter + Drop, P: Plays>(
     Ok(store.close())
 }
 
-/// Plays steps in memory, each over a store that is opened for it.
+// Plays steps in memory, each over a store that is opened for it.
 fn play_each<P: Plays>(
     alloc: Global,
     before: &[JobStep],
@@ -170,7 +170,7 @@ fn play_each<P: Plays>(
     Ok(conn)
 }
 
-/// Plays steps over files, which are closed and opened again before each.
+// Plays steps over files, which are closed and opened again before each.
 fn play_closed<P: Plays>(
     alloc: Global,
     before: &[JobStep],
@@ -204,7 +204,7 @@ const UNSEEN: Rows<'static> = Rows {
     wanted: "",
 };
 
-/// A failure, unless the database has these rows.
+// A failure, unless the database has these rows.
 fn check_rows<S: Alter + Drop>(
     alloc: Global,
     mut conn: Connection<S>,
@@ -215,8 +215,8 @@ fn check_rows<S: Alter + Drop>(
     compare(shows, got.as_bytes(), rows.wanted)
 }
 
-/// Plays steps in memory and on disks in memory: over one store, and over one for each step, for which the files are
-/// closed and opened again.
+// Plays steps in memory and on disks in memory: over one store, and over one for each step, for which the files are
+// closed and opened again.
 fn play_steps<P: Plays>(
     alloc: Global,
     before: &[JobStep],

@@ -21,7 +21,7 @@ fn installed_status(kind: ZoneKind) -> Status
     }
 }
 
-/// The status of a kept id; those in the list take effect.
+// The status of a kept id; those in the list take effect.
 fn kept_status(kind: ZoneKind, effective: &IdList, id: Id) -> Status
     ensures { status_view result ≡ kept_status kind effective.now id }
 {

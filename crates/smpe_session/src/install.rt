@@ -23,7 +23,7 @@ use std::alloc::Global;
 use store::{Store, StoreError};
 use terms::{CommandWord, ZoneKind};
 
-/// The header of the command that installs into a zone of this kind.
+// The header of the command that installs into a zone of this kind.
 fn header(kind: ZoneKind, boundary: Option<ZoneName>, check: bool) -> Header
     ensures view { (i : AnInstall) → i.check ≡ check
         → header_view result ≡ header_of (install_command kind i) boundary }
@@ -42,8 +42,8 @@ fn header(kind: ZoneKind, boundary: Option<ZoneName>, check: bool) -> Header
 }
 
 impl Session {
-    /// The name of the other zone at which the command looks, if there is one: ACCEPT at the target zone whose related
-    /// zone is that of the boundary. The call loads it.
+    // The name of the other zone at which the command looks, if there is one: ACCEPT at the target zone whose related
+    // zone is that of the boundary. The call loads it.
     fn seek_related<S: Alter>(
         &mut self,
         store: &mut Store<S>,

@@ -27,7 +27,7 @@ use store::{Change, Store, StoreError};
 use sysmods::GlobalZone;
 use terms::CommandWord;
 
-/// Takes in the items of PTFIN, and then those of the hold file.
+// Takes in the items of PTFIN, and then those of the hold file.
 fn take_found(
     alloc: Global,
     global: &mut GlobalZone,

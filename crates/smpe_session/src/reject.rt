@@ -21,7 +21,7 @@ use store::{Change, Store, StoreError};
 use terms::CommandWord;
 
 impl Session {
-    /// Loads each zone that it does not have yet.
+    // Loads each zone that it does not have yet.
     fn load_zones<S: Alter>(&mut self, store: &mut Store<S>) -> Result<(), StoreError>
         ensures { UsesStore S.Store store.old store.new (λ _. ⊥) (λ s ended. IsSessionOf s self.old
             → HasLoaded S.Store store.old store.new s (λ _. HasAllZones s self.new) ended) result }

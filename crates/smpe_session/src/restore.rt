@@ -20,7 +20,7 @@ use store::{Store, StoreError};
 use terms::{CommandWord, ZoneKind};
 
 impl Session {
-    /// The name of the zone to which that of the boundary is related, if there is one. The call loads it.
+    // The name of the zone to which that of the boundary is related, if there is one. The call loads it.
     fn seek_accepted<S: Alter>(
         &mut self,
         store: &mut Store<S>,

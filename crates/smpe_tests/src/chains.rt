@@ -21,7 +21,7 @@ enum Chain {
     Open,
 }
 
-/// The `++VER` of the PTF of this number.
+// The `++VER` of the PTF of this number.
 fn ver(alloc: Global, chain: Chain, k: u32) -> Result<String, Fail> {
     let (operand, other) = match (chain, k) {
         (Chain::Back, 1) => return Ok(format!(in alloc; "++VER(Z038) FMID(HAA1100).")?),
@@ -33,14 +33,14 @@ fn ver(alloc: Global, chain: Chain, k: u32) -> Result<String, Fail> {
     Ok(format!(in alloc; "++VER(Z038) FMID(HAA1100) {operand}(UB{other:05}).")?)
 }
 
-/// Appends the PTF of this number.
+// Appends the PTF of this number.
 fn put_ptf(alloc: Global, bytes: &mut Vec<u8>, chain: Chain, k: u32) -> Result<(), Fail> {
     let ver = ver(alloc, chain, k)?;
     let cards = format!(in alloc; "++PTF(UB{k:05}).\n{ver}")?;
     put_cards(bytes, cards.as_str())
 }
 
-/// The PTFs of a chain, from this number on.
+// The PTFs of a chain, from this number on.
 fn ptfin(alloc: Global, chain: Chain, first: u32) -> Result<Vec<u8>, Fail> {
     let mut bytes = Vec::new(alloc);
     for k in first..=LEN {
@@ -76,7 +76,7 @@ fn said_of(alloc: Global, said: Said, k: u32) -> Result<String, Fail> {
     )?)
 }
 
-/// A report of these first lines, of lines for each PTF from this number on, and of these last lines.
+// A report of these first lines, of lines for each PTF from this number on, and of these last lines.
 fn report(alloc: Global, front: &str, said: Said, first: u32, back: &str) -> Result<String, Fail> {
     let mut text = String::new(alloc);
     text.push_str(front)?;
@@ -138,7 +138,7 @@ const CHAINS: &[Links] = &[BROUGHT_IN, HELD, CIRCLE, OPEN];
 
 const RECEIVED: &str = "SET GLOBAL\nRC 00\nRECEIVE GLOBAL\n";
 
-/// Receives a chain over a store in which the function is applied.
+// Receives a chain over a store in which the function is applied.
 fn receive_chain<S: Alter>(alloc: Global, store: &mut Store<S>, links: Links) -> Result<(), Fail> {
     let ptfs = ptfin(alloc, links.chain, 1)?;
     let hold = card_file(alloc, links.hold)?;
@@ -148,7 +148,7 @@ fn receive_chain<S: Alter>(alloc: Global, store: &mut Store<S>, links: Links) ->
     run_job(alloc, store, name, cntl, ptfs, hold, wanted)
 }
 
-/// Applies it.
+// Applies it.
 fn apply_chain<S: Alter>(alloc: Global, store: &mut Store<S>, links: Links) -> Result<(), Fail> {
     let front = "SET TGT1\nRC 00\nAPPLY TGT1\n";
     let wanted = report(alloc, front, links.said, 1, links.code)?;
@@ -201,7 +201,7 @@ enum LoopJob {
     First,
 }
 
-/// Receives all but the first PTF of a chain.
+// Receives all but the first PTF of a chain.
 fn receive_most<S: Alter>(alloc: Global, store: &mut Store<S>) -> Result<(), Fail> {
     let ptfs = ptfin(alloc, Chain::Back, 2)?;
     let wanted = report(alloc, RECEIVED, Said::Received, 2, "RC 00\n")?;

@@ -10,7 +10,7 @@ use std::alloc::Global;
 use std::test::Fail;
 use store::Store;
 
-/// Appends so many ids, a card each.
+// Appends so many ids, a card each.
 fn put_ids(alloc: Global, bytes: &mut Vec<u8>, count: u32) -> Result<(), Fail> {
     for k in 1..=count {
         put_cards(bytes, format!(in alloc; "UB{k:05}")?.as_str())?;
@@ -18,7 +18,7 @@ fn put_ids(alloc: Global, bytes: &mut Vec<u8>, count: u32) -> Result<(), Fail> {
     Ok(())
 }
 
-/// A PTF whose `++VER` is good except for its PRE of 1,001 ids.
+// A PTF whose `++VER` is good except for its PRE of 1,001 ids.
 fn long_list(alloc: Global) -> Result<Vec<u8>, Fail> {
     let mut bytes = card_file(alloc, "++PTF(UA00001).\n++VER(Z038) FMID(HAA1100) PRE(")?;
     put_ids(alloc, &mut bytes, 1_001)?;
@@ -26,7 +26,7 @@ fn long_list(alloc: Global) -> Result<Vec<u8>, Fail> {
     Ok(bytes)
 }
 
-/// A list of 1,001 ids is refused over a new database.
+// A list of 1,001 ids is refused over a new database.
 fn refuse_list<S: Alter + Drop>(alloc: Global, conn: Connection<S>) -> Result<(), Fail> {
     let name = "a list of 1,001 ids";
     let mut store = opened(alloc, conn, name)?;
@@ -42,7 +42,7 @@ fn a_list_of_too_many_ids_is_refused(rt: HostRuntime) -> Result<(), Fail> {
     refuse_list(rt.alloc(), new_files(rt.alloc())?)
 }
 
-/// Appends a data element and its record.
+// Appends a data element and its record.
 fn put_element(alloc: Global, bytes: &mut Vec<u8>, k: u32) -> Result<(), Fail> {
     let cards = format!(in alloc;
         "++DATA(N{k:05}) DISTLIB(ADATA) SYSLIB(DATA).\nRECORD OF N{k:05}"
@@ -50,13 +50,13 @@ fn put_element(alloc: Global, bytes: &mut Vec<u8>, k: u32) -> Result<(), Fail> {
     put_cards(bytes, cards.as_str())
 }
 
-/// Appends a PTF for the function.
+// Appends a PTF for the function.
 fn put_ptf(alloc: Global, bytes: &mut Vec<u8>, k: u32) -> Result<(), Fail> {
     let cards = format!(in alloc; "++PTF(UC{k:05}).\n++VER(Z038) FMID(HBB1100).")?;
     put_cards(bytes, cards.as_str())
 }
 
-/// A function with 999 data elements, and 998 PTFs for it.
+// A function with 999 data elements, and 998 PTFs for it.
 fn many(alloc: Global) -> Result<Vec<u8>, Fail> {
     let mut bytes = card_file(alloc, "++FUNCTION(HBB1100).\n++VER(Z038).")?;
     for k in 1..=999u32 {
@@ -68,7 +68,7 @@ fn many(alloc: Global) -> Result<Vec<u8>, Fail> {
     Ok(bytes)
 }
 
-/// A report of these first lines, and what is said about each PTF.
+// A report of these first lines, and what is said about each PTF.
 fn said(alloc: Global, front: &str, word: &str) -> Result<String, Fail> {
     let mut text = String::new(alloc);
     text.push_str(front)?;
@@ -103,7 +103,7 @@ const ROWS: [&str; 2] = [
         || syslib || '/' || length(text) FROM zelem ORDER BY zone, type, name",
 ];
 
-/// The rows of a zone with so many of the PTFs.
+// The rows of a zone with so many of the PTFs.
 fn rows_of(alloc: Global, ptfs: u32) -> Result<String, Fail> {
     let mut text = String::new(alloc);
     text.push_str("TGT1/HAA1100/24.138//-/\nTGT1/HBB1100/24.138//-/\n")?;

@@ -11,7 +11,7 @@ use crate::sets::{Kept, serves};
 use crate::system::System;
 use std::alloc::{AllocError, Global};
 
-/// Which candidates have a need that no candidate serves.
+// Which candidates have a need that no candidate serves.
 fn bare_needs(alloc: Global, s: &System) -> Result<Vec<bool>, AllocError>
     ensures size { IfOk result (λ bare. length bare.items ≡ s.now.size) }
     ensures exact { IfOk result (λ bare. (x : ℕ) → IsTrue (holds bare.items x) ↔ HasBareNeed s.now x) }
@@ -25,7 +25,7 @@ fn bare_needs(alloc: Global, s: &System) -> Result<Vec<bool>, AllocError>
     Ok(bare)
 }
 
-/// Whether a candidate has failed for a reason of its own: it is not eligible, or no candidate serves one of its needs.
+// Whether a candidate has failed for a reason of its own: it is not eligible, or no candidate serves one of its needs.
 fn is_root(s: &System, kept: &[bool], bare: &[bool], x: u32) -> bool
     requires x { x < s.now.size }
     requires kept { length kept.now ≡ s.now.size }
@@ -36,7 +36,7 @@ fn is_root(s: &System, kept: &[bool], bare: &[bool], x: u32) -> bool
     !kept[x as usize] && (!s.eligible()[x as usize] || bare[x as usize])
 }
 
-/// For each candidate those that lead to it.
+// For each candidate those that lead to it.
 fn leads_to(alloc: Global, s: &System, kept: &[bool]) -> Result<Vec<Vec<u32>>, AllocError>
     requires { length kept.now ≡ s.now.size }
     ensures { IfOk result (λ leads. AreLeads s.now kept.now leads.items) }
@@ -50,7 +50,7 @@ fn leads_to(alloc: Global, s: &System, kept: &[bool]) -> Result<Vec<Vec<u32>>, A
     Ok(leads)
 }
 
-/// Marks the members of a row, and adds those that were not marked to the list.
+// Marks the members of a row, and adds those that were not marked to the list.
 fn mark_row(row: &[u32], marks: &mut [bool], list: &mut Vec<u32>) -> Result<(), AllocError>
     requires { All (λ x. x < length marks.old) row.now }
     ensures { OnOk result (IsMarked row.now marks.old marks.new list.old.items list.new.items) }
@@ -64,7 +64,7 @@ fn mark_row(row: &[u32], marks: &mut [bool], list: &mut Vec<u32>) -> Result<(), 
     Ok(())
 }
 
-/// Removes the marks of a list.
+// Removes the marks of a list.
 fn clear(marks: &mut [bool], list: &[u32])
     requires { All (λ x. x < length marks.old) list.now }
     ensures { (x : ℕ) → holds marks.new x ≡ (holds marks.old x && not (is_in list.now x)) }
@@ -74,7 +74,7 @@ fn clear(marks: &mut [bool], list: &[u32])
     }
 }
 
-/// The candidates from which steps lead to y, each once: a search backwards from y.
+// The candidates from which steps lead to y, each once: a search backwards from y.
 fn reaching(
     alloc: Global,
     leads: &[Vec<u32>],

@@ -38,7 +38,7 @@ impl Model for Rules {
     ghost invariant = { λ r. IsSystem r.outside };
 }
 
-/// The flags, negated.
+// The flags, negated.
 fn turned(alloc: Global, flags: &[bool]) -> Result<Vec<bool>, AllocError>
     ensures { IfOk result (λ turned. turned.items ≡ map not flags.now) }
 {

@@ -17,7 +17,7 @@ pub struct Need {
     pub any: Vec<u32>,
 }
 
-/// Whether each number is above the one before it.
+// Whether each number is above the one before it.
 fn rises(list: &[u32]) -> bool
     ensures { IsTrue result ↔ AllPairs (λ a b. a < b) list.now }
 {
@@ -29,14 +29,14 @@ fn rises(list: &[u32]) -> bool
     true
 }
 
-/// Whether a system of so many candidates admits the need.
+// Whether a system of so many candidates admits the need.
 fn is_need(size: u32, of: u32, any: &[u32]) -> bool
     ensures { IsTrue result ↔ IsNeed size (record { of = of; any = any.now }) }
 {
     of < size && any.iter().all(|y| *y < size) && rises(any)
 }
 
-/// Whether a system of so many candidates admits all the needs.
+// Whether a system of so many candidates admits all the needs.
 fn are_needs(size: u32, needs: &[Need]) -> bool
     ensures { IsTrue result ↔ All (λ need. IsNeed size (numbered need)) needs.now }
 {

@@ -34,7 +34,7 @@ struct Board {
 }
 
 impl Board {
-    /// Drops a candidate, if it lives. There is room for all that may be dropped.
+    // Drops a candidate, if it lives. There is room for all that may be dropped.
     fn drop_candidate(&mut self, x: u32)
         requires x { x < length self.old.standing.items }
         requires room { open_in self.old ≤ self.old.dropped.cap }
@@ -50,7 +50,7 @@ impl Board {
         }
     }
 
-    /// Takes a living member from a need, and drops the need's candidate with the last one.
+    // Takes a living member from a need, and drops the need's candidate with the last one.
     fn strike(&mut self, s: &System, need: usize)
         requires need { need < length s.now.needs }
         requires due { (rest : List ℕ) × AtRest s.now (need ∷ rest) self.old }
@@ -68,7 +68,7 @@ impl Board {
         }
     }
 
-    /// Makes the strikes of one dropped candidate; `row` lists the needs that it serves.
+    // Makes the strikes of one dropped candidate; `row` lists the needs that it serves.
     fn strike_row(&mut self, s: &System, row: &[usize])
         requires row { All (λ k. k < length s.now.needs) row.now }
         requires board { AtRest s.now row.now self.old }
@@ -85,7 +85,7 @@ impl Board {
         }
     }
 
-    /// Drops the candidates with a need that no eligible candidate serves.
+    // Drops the candidates with a need that no eligible candidate serves.
     fn drop_unserved(&mut self, s: &System)
         requires board { SettledBelow s.now 0 self.old }
         requires turns { self.old.count.turns + length s.now.needs < 2 ^ 128 }
@@ -102,7 +102,7 @@ impl Board {
         }
     }
 
-    /// Makes the strikes of all dropped candidates, and of those that are dropped in turn.
+    // Makes the strikes of all dropped candidates, and of those that are dropped in turn.
     fn run(&mut self, s: &System, served: &[Vec<usize>])
         requires served { AreServed s.now.needs served.now }
         requires size { length served.now ≡ s.now.size }
@@ -121,7 +121,7 @@ impl Board {
     }
 }
 
-/// Puts a need into the row of each candidate that serves it, and returns how many of these are eligible.
+// Puts a need into the row of each candidate that serves it, and returns how many of these are eligible.
 fn add_served(
     eligible: &[bool],
     any: &[u32],
@@ -146,7 +146,7 @@ fn add_served(
     Ok(living)
 }
 
-/// The board at the start, and for each candidate the needs that it serves.
+// The board at the start, and for each candidate the needs that it serves.
 fn prepare(alloc: Global, s: &System) -> Result<(Board, Vec<Vec<usize>>), AllocError>
     ensures board { IfOk result (λ r. SettledBelow s.now 0 r.0) }
     ensures strikes { IfOk result (λ r. r.0.count.strikes ≡ 0) }

@@ -30,7 +30,7 @@ pub(crate) fn edited_copy<T: Keyed + TryClone>(
     Ok(new)
 }
 
-/// Copies the items before the key, and returns those that are left.
+// Copies the items before the key, and returns those that are left.
 fn copy_before<'a, T: Keyed + TryClone>(
     alloc: Global,
     items: &'a [T],
@@ -55,7 +55,7 @@ fn copy_before<'a, T: Keyed + TryClone>(
     Ok(rest)
 }
 
-/// The items without the one of the key, if no item is before it.
+// The items without the one of the key, if no item is before it.
 fn past<T: Keyed>(items: &[T], key: T::Key) -> &[T]
     requires rises { Rises T.Key.cmp T.key_of items.now }
     requires none { before T.Key.cmp T.key_of key items.now ≡ [] }
@@ -67,7 +67,7 @@ fn past<T: Keyed>(items: &[T], key: T::Key) -> &[T]
     if first.key() == key { others } else { items }
 }
 
-/// Copies the item that the edit puts, if it puts one.
+// Copies the item that the edit puts, if it puts one.
 fn copy_put<T: Keyed + TryClone>(
     alloc: Global,
     edit: &Edit<T, T::Key>,

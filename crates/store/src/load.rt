@@ -17,7 +17,7 @@ use store_zones::ZoneHead;
 use sysmods::GlobalZone;
 use zones_maps::Zone;
 
-/// The error for a reading that failed: rows that stand for nothing stand for no state.
+// The error for a reading that failed: rows that stand for nothing stand for no state.
 fn store_error(error: ReadError) -> StoreError
     ensures { result ≡ store_error error }
 {

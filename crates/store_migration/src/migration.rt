@@ -12,14 +12,14 @@ use std::alloc::Global;
 use store::{Store, told};
 use store_schema::{Schema, StoreError, found_schema, set_up};
 
-/// What an open connection shows is a database. The call does nothing.
+// What an open connection shows is a database. The call does nothing.
 fn attest<S: Alter>(conn: &Connection<S>)
     ensures { IsLive (state S.Store conn.now) }
 {
     let _ = conn.schema();
 }
 
-/// Reads all rows, and then writes.
+// Reads all rows, and then writes.
 fn migrated<S: Alter>(alloc: Global, conn: &mut Connection<S>) -> Result<(), StoreError>
     requires { conn.old.in_transaction ≡ false }
     ensures { Migrates S.Store conn.old conn.new result }

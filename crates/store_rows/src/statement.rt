@@ -21,7 +21,7 @@ use std::alloc::{AllocError, Global};
 /// How many rows one statement puts.
 const MANY: usize = 16;
 
-/// Runs a statement that shows no rows.
+// Runs a statement that shows no rows.
 fn run<S: Alter>(
     tx: &mut Transaction<'_, S>,
     sql: &str,

@@ -30,7 +30,7 @@ pub fn joined_ids(alloc: Global, ids: &[Id]) -> Result<Vec<u8>, AllocError>
     Ok(text)
 }
 
-/// The parts of the text between commas; the empty text has none.
+// The parts of the text between commas; the empty text has none.
 fn parts(alloc: Global, text: &[u8]) -> Result<Vec<&[u8]>, AllocError>
     ensures { IfOk result (λ parts. map (λ part. part.now) parts.items ≡ parts_of text.now) }
 {
@@ -102,7 +102,7 @@ pub fn sources_in(alloc: Global, row: &Row, at: usize) -> Result<SourceList, Rea
     source_list(alloc, &parts)
 }
 
-/// The records of the bytes, if these end with a whole record.
+// The records of the bytes, if these end with a whole record.
 fn lines_in(alloc: Global, bytes: &[u8]) -> Result<Vec<Line>, ReadError>
     ensures some { IfOk result (λ lines. (bytes.now ≡ concat lines.items) × AreRecords lines.items) }
     ensures none { IsErrOf result ReadError.BadRow → (lines : List (List ℕ)) → AreRecords lines

@@ -23,7 +23,7 @@ pub(crate) fn run<S: Alter>(tx: &mut Transaction<'_, S>, sql: &str) -> Result<()
     Ok(())
 }
 
-/// SYSMODs with their `++VER`s, `++IF`s and elements, and holds.
+// SYSMODs with their `++VER`s, `++IF`s and elements, and holds.
 fn make_global<S: Alter>(tx: &mut Transaction<'_, S>) -> Result<(), Error>
     ensures continues { Continues S.Store tx.old tx.new }
     ensures ok { OnOk result (Leads S.Store tx.old.conn.now tx.new.conn.now (HasTables (meta ∷ []))
@@ -60,7 +60,7 @@ fn make_global<S: Alter>(tx: &mut Transaction<'_, S>) -> Result<(), Error>
     )
 }
 
-/// Zones with their entries.
+// Zones with their entries.
 fn make_zones<S: Alter>(tx: &mut Transaction<'_, S>) -> Result<(), Error>
     ensures continues { Continues S.Store tx.old tx.new }
     ensures ok { OnOk result (Leads S.Store tx.old.conn.now tx.new.conn.now (HasTables (meta ∷ global_tables))
@@ -112,7 +112,7 @@ pub(crate) fn add_source<S: Alter>(tx: &mut Transaction<'_, S>) -> Result<(), Er
     )
 }
 
-/// Further `++VER`s of one SREL with their `++IF`s, and which of them installed an entry.
+// Further `++VER`s of one SREL with their `++IF`s, and which of them installed an entry.
 fn add_more<S: Alter>(tx: &mut Transaction<'_, S>) -> Result<(), Error>
     ensures continues { Continues S.Store tx.old tx.new }
     ensures ok { OnOk result ((contents : Contents) → Leads S.Store tx.old.conn.now tx.new.conn.now

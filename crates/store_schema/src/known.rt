@@ -17,7 +17,7 @@ use crate::tables::{create, is_blank, is_schema_under};
 use sqlite::{Alter, Connection};
 use std::alloc::Global;
 
-/// Recognizes the store's tables by all that they are.
+// Recognizes the store's tables by all that they are.
 fn check_own<S: Alter>(alloc: Global, conn: &mut Connection<S>) -> Result<(), StoreError>
     ensures ours { HasCleanDisk (state S.Store conn.new) → OnOk result (HasOwnTables (state S.Store conn.old).now) }
     ensures none { HasCleanDisk (state S.Store conn.new) → IsErrOf result StoreError.NoState
@@ -34,7 +34,7 @@ fn check_own<S: Alter>(alloc: Global, conn: &mut Connection<S>) -> Result<(), St
     check_number(conn, Schema::Third)
 }
 
-/// Recognizes the store's tables by their number, and then by all that they are.
+// Recognizes the store's tables by their number, and then by all that they are.
 fn check<S: Alter>(alloc: Global, conn: &mut Connection<S>) -> Result<(), StoreError>
     ensures ours { HasCleanDisk (state S.Store conn.new) → OnOk result (HasOwnTables (state S.Store conn.old).now) }
     ensures other { HasCleanDisk (state S.Store conn.new) → IsErrOf result StoreError.OtherSchema

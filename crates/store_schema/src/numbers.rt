@@ -14,7 +14,7 @@ use crate::schema::Schema;
 use sqlite::{Alter, Connection, Error, Row};
 use sqlite_value::value::ValueRef;
 
-/// What `meta` says, whatever the other tables are.
+// What `meta` says, whatever the other tables are.
 fn meta_rows<S: Alter>(conn: &mut Connection<S>) -> Result<Vec<Row>, Error>
     ensures shown { HasCleanDisk (state S.Store conn.new) → IfOk result
         (λ rows. Shown select_meta [] (state S.Store conn.old) (state S.Store conn.new) rows.items) }
@@ -26,7 +26,7 @@ fn meta_rows<S: Alter>(conn: &mut Connection<S>) -> Result<Vec<Row>, Error>
     conn.query_all("SELECT k, v FROM meta", &[])
 }
 
-/// All rows of the `meta` of a schema.
+// All rows of the `meta` of a schema.
 fn own_rows<S: Alter>(conn: &mut Connection<S>) -> Result<Vec<Row>, Error>
     ensures shown { HasCleanDisk (state S.Store conn.new) → IfOk result
         (λ rows. Shown select_own [] (state S.Store conn.old) (state S.Store conn.new) rows.items) }
@@ -44,7 +44,7 @@ fn is_schema_word(word: &[u8]) -> bool
     word == b"schema".as_slice()
 }
 
-/// The number that a row of `meta` gives to the schema.
+// The number that a row of `meta` gives to the schema.
 fn number_of(row: &Row) -> Option<i64>
     ensures some { IfSome result (λ n. Gives n row.now) }
     ensures none { IfNone result ((n : ℤ) → ¬ Gives n row.now) }
@@ -60,7 +60,7 @@ fn number_of(row: &Row) -> Option<i64>
     }
 }
 
-/// The number that a row of the `meta` of a schema gives to the schema.
+// The number that a row of the `meta` of a schema gives to the schema.
 fn own_number_of(row: &Row) -> Option<i64>
     ensures some { IfSome result (λ n. GivesOwn n row.now) }
     ensures none { IfNone result ((n : ℤ) → ¬ GivesOwn n row.now) }
@@ -93,7 +93,7 @@ fn gives_own_number(row: &Row, schema: Schema) -> bool
     }
 }
 
-/// Whether a row gives a number that is none of these.
+// Whether a row gives a number that is none of these.
 fn has_other_number(rows: &[Row], numbers: &[i64]) -> bool
     ensures { IsTrue result ↔ Any (GivesOther numbers.now) rows.now }
 {
@@ -127,7 +127,7 @@ pub(crate) fn check_numbers<S: Alter>(
     Ok(())
 }
 
-/// Whether `meta` has one row, with the number of the schema.
+// Whether `meta` has one row, with the number of the schema.
 fn is_number(rows: &[Row], schema: Schema) -> bool
     ensures { IsTrue result ↔ IsNumber (number_under schema) rows.now }
 {

@@ -15,7 +15,7 @@ use crate::tables::{is_blank, schema_with};
 use sqlite::{Alter, Connection};
 use std::alloc::Global;
 
-/// Recognizes the tables of a schema by all that they are.
+// Recognizes the tables of a schema by all that they are.
 fn schema_by_tables<S: Alter>(alloc: Global, conn: &mut Connection<S>) -> Result<Schema, StoreError>
     ensures known { HasCleanDisk (state S.Store conn.new) → IfOk result
         (λ schema. HasTablesUnder schema (state S.Store conn.old).now) }
@@ -34,7 +34,7 @@ fn schema_by_tables<S: Alter>(alloc: Global, conn: &mut Connection<S>) -> Result
     Ok(schema)
 }
 
-/// The schema of the tables, whatever number the database gives.
+// The schema of the tables, whatever number the database gives.
 fn known_schema<S: Alter>(alloc: Global, conn: &mut Connection<S>) -> Result<Schema, StoreError>
     ensures known { HasCleanDisk (state S.Store conn.new) → IfOk result
         (λ schema. HasTablesUnder schema (state S.Store conn.old).now) }

@@ -28,7 +28,7 @@ fn make_all<S: Alter>(tx: &mut Transaction<'_, S>) -> Result<(), Error>
     run(tx, "INSERT INTO meta (k, v) VALUES ('schema', 3)")
 }
 
-/// The tables of a schema, without its number.
+// The tables of a schema, without its number.
 fn make_under<S: Alter>(tx: &mut Transaction<'_, S>, schema: Schema) -> Result<(), Error>
     ensures continues { Continues S.Store tx.old tx.new }
     ensures ok { OnOk result (Leads S.Store tx.old.conn.now tx.new.conn.now IsBlank
@@ -69,7 +69,7 @@ pub(crate) fn is_blank(held: &SqliteSchema) -> bool
     held.tables.is_empty() && held.indexes.is_empty() && held.views.is_empty()
 }
 
-/// Creates the tables of a schema in a database that has none.
+// Creates the tables of a schema in a database that has none.
 fn create_under<S: Alter>(conn: &mut Connection<S>, schema: Schema) -> Result<(), Error>
     requires { conn.old.in_transaction ≡ false }
     ensures made { HasCleanDisk (state S.Store conn.new) → OnOk result

@@ -21,7 +21,7 @@ use store_sysmods::{ElemRow, HeadRow, IfRow, VerRow};
 use sysmods_values::{Action, ElemChange, Sysmod, Ver};
 use terms::Kind;
 
-/// Whether the operands of the `++VER` are those of a SYSMOD of this kind.
+// Whether the operands of the `++VER` are those of a SYSMOD of this kind.
 fn suits_kind(kind: Kind, ver: &Ver) -> bool
     ensures { IsTrue result ↔ VerSuitsKind kind ver.now }
 {
@@ -31,7 +31,7 @@ fn suits_kind(kind: Kind, ver: &Ver) -> bool
     }
 }
 
-/// Whether a SYSMOD of this kind may have such a statement.
+// Whether a SYSMOD of this kind may have such a statement.
 fn may_do(kind: Kind, change: &ElemChange) -> bool
     ensures { IsTrue result ↔ MayDo kind change.now.action }
 {
@@ -47,14 +47,14 @@ fn all_suit(kind: Kind, vers: &[Ver]) -> bool
     vers.iter().all(|ver| suits_kind(kind, ver))
 }
 
-/// Whether two `++VER`s of these FMIDs may be for one SREL in a SYSMOD of this kind.
+// Whether two `++VER`s of these FMIDs may be for one SREL in a SYSMOD of this kind.
 fn may_share(kind: Kind, fmid: Option<Id>, other: Option<Id>) -> bool
     ensures { IsTrue result ↔ ((kind ≢ Function) × (fmid ≢ other)) }
 {
     kind != Kind::Function && fmid != other
 }
 
-/// Whether the second `++VER` may follow the first in a SYSMOD of this kind.
+// Whether the second `++VER` may follow the first in a SYSMOD of this kind.
 fn is_apart(kind: Kind, ver: &Ver, other: &Ver) -> bool
     ensures { IsTrue result ↔ AreVersApart kind ver.now other.now }
 {
@@ -87,7 +87,7 @@ fn all_may(kind: Kind, changes: &[ElemChange]) -> bool
     changes.iter().all(|change| may_do(kind, change))
 }
 
-/// The SYSMOD of these parts.
+// The SYSMOD of these parts.
 fn built(
     alloc: Global,
     head: HeadRow,
@@ -124,7 +124,7 @@ fn built(
     })
 }
 
-/// Takes the SYSMOD of the row.
+// Takes the SYSMOD of the row.
 fn take_sysmod(
     alloc: Global,
     head: HeadRow,

@@ -83,7 +83,7 @@ pub(crate) fn next_of<T: Drop>(rows: &mut VecDeque<T>) -> Option<T>
     rows.pop_front()
 }
 
-/// Whether the first row belongs to the parent.
+// Whether the first row belongs to the parent.
 fn begins<T: Child>(rows: &VecDeque<T>, parent: T::Parent) -> bool
     ensures { IsTrue result ↔ Begins T.parent_of parent rows.now.items }
 {
@@ -146,7 +146,7 @@ fn with_ifs(ver: Ver, ifs: Vec<IfReq>) -> Ver
     }
 }
 
-/// The `++VER` with its `++IF`s, which it takes.
+// The `++VER` with its `++IF`s, which it takes.
 fn filled(alloc: Global, ifs: &mut VecDeque<IfRow>, id: Id, row: VerRow) -> Result<Ver, ReadError>
     ensures same { IfOk result (λ ver. ver ≡ record row.ver { ifs = ver.ifs }) }
     ensures taken { IfOk result (λ ver. HasIfs id row.ver.srel row.number 1 ifs.old.items ver.ifs ifs.new.items) }
@@ -161,7 +161,7 @@ fn filled(alloc: Global, ifs: &mut VecDeque<IfRow>, id: Id, row: VerRow) -> Resu
     Ok(with_ifs(row.ver, found))
 }
 
-/// Whether the row has the next number after these `++VER`s, of which there are fewer than eight.
+// Whether the row has the next number after these `++VER`s, of which there are fewer than eight.
 fn comes_next(vers: &[Ver], row: &VerRow) -> bool
     ensures { IsTrue result ↔ (length vers.now < 8) × (row.now.number ≡ number_behind vers.now row.now.ver) }
 {

@@ -20,7 +20,7 @@ use store_rows::ReadError;
 use store_schema::Schema;
 use store_sysmods::{BareHead, BareHeads, HeadRow, Heads, SourceRow, Sources, load_sorted};
 
-/// The heads of schema 1, whose rows have the sources.
+// The heads of schema 1, whose rows have the sources.
 fn load_with_sources<S: Alter>(
     alloc: Global,
     conn: &mut Connection<S>,
@@ -53,7 +53,7 @@ fn load_sources<S: Alter>(
     load_sorted::<S, Sources>(alloc, conn)
 }
 
-/// The heads and their sources, each from a table of its own.
+// The heads and their sources, each from a table of its own.
 fn load_joined<S: Alter>(alloc: Global, conn: &mut Connection<S>) -> Result<Vec<HeadRow>, ReadError>
     ensures part { (r : ARelease) → r ≢ First → LoadsPart S.Store r
         (λ heads contents. HoldHeads r heads.items contents)

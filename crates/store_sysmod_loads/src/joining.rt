@@ -14,7 +14,7 @@ use std::collections::VecDeque;
 use store_rows::ReadError;
 use store_sysmods::{BareHead, HeadRow, SourceRow};
 
-/// Takes the sources of a SYSMOD, which rise.
+// Takes the sources of a SYSMOD, which rise.
 fn take_sources(
     alloc: Global,
     rows: &mut VecDeque<SourceRow>,

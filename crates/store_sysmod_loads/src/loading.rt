@@ -63,7 +63,7 @@ impl InTwo for IfRow {
     ghost third = { refl };
 }
 
-/// The items of both lists, by their keys.
+// The items of both lists, by their keys.
 fn merged<T: Listed>(
     mut items: Vec<<T::Rows as FromRow>::Item>,
     mut more: Vec<<T::Rows as FromRow>::Item>,
@@ -76,7 +76,7 @@ fn merged<T: Listed>(
     Ok(by_keys::<T>(items))
 }
 
-/// What the rows of both tables stand for, by their keys.
+// What the rows of both tables stand for, by their keys.
 fn load_both<S: Alter, T: InTwo>(
     alloc: Global,
     conn: &mut Connection<S>,

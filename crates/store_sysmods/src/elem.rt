@@ -62,7 +62,7 @@ pub struct ElemRow {
     pub change: ElemChange,
 }
 
-/// The records of a replacement, at least one.
+// The records of a replacement, at least one.
 fn replacement_in(
     alloc: Global,
     row: &Row,
@@ -82,7 +82,7 @@ fn replacement_in(
     Ok(text)
 }
 
-/// The records as an update of the element of this name.
+// The records as an update of the element of this name.
 fn checked_update(alloc: Global, records: Vec<Line>, name: &[u8]) -> Result<Update, ReadError>
     ensures some { IfOk result (λ update. (update ≡ records.items) × IsUpdate name.now records.items) }
     ensures none { IsErrOf result ReadError.BadRow → ¬ IsUpdate name.now records.items }
@@ -95,7 +95,7 @@ fn checked_update(alloc: Global, records: Vec<Line>, name: &[u8]) -> Result<Upda
     }
 }
 
-/// An update of the element of this type and name.
+// An update of the element of this type and name.
 fn update_in(
     alloc: Global,
     row: &Row,
@@ -116,7 +116,7 @@ fn update_in(
     checked_update(alloc, lines, name.as_bytes())
 }
 
-/// What the statement does to the element of this type and name, from the column on.
+// What the statement does to the element of this type and name, from the column on.
 fn action_in(alloc: Global, row: &Row, elem_type: ElemType, name: Name) -> Result<Action, ReadError>
     ensures some { IfOk result (λ action. (column row.now 3 ∷ column row.now 4 ∷ column row.now 5 ∷ column row.now 6 ∷
         [] ≡ action_cells (action_of action)) × HasActionForms Ptf elem_type name (action_of action)) }

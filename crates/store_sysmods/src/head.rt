@@ -72,7 +72,7 @@ fn are_short(names: &[Source]) -> bool
     names.iter().all(|name| is_short(*name))
 }
 
-/// The sources of schema 1, which had at most 8 characters.
+// The sources of schema 1, which had at most 8 characters.
 fn short_sources_in(alloc: Global, row: &Row, at: usize) -> Result<SourceList, ReadError>
     ensures some { IfOk result (λ names. (column row.now at ≡ ids names) × AreSorted IsSource names × AreShort names) }
     ensures none { IsErrOf result ReadError.BadRow → (names : List (List ℕ)) → AreSorted IsSource names
@@ -151,7 +151,7 @@ impl Listed for Heads {
     ghost whole = { refl };
 }
 
-/// Whether the column says that there is no source.
+// Whether the column says that there is no source.
 fn is_bare(row: &Row, at: usize) -> bool
     ensures { IsTrue result ↔ (column row.now at ≡ ids []) }
 {

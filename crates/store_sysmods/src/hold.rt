@@ -48,7 +48,7 @@ const DELETE: &str = "DELETE FROM hold WHERE id = ?1 AND kind = ?2 AND reason = 
 
 // ---- as it is read
 
-/// Whether the reason suits the kind.
+// Whether the reason suits the kind.
 fn suits(kind: HoldKind, reason: Reason) -> bool
     ensures { IsTrue result ↔ IsReason kind reason }
 {

@@ -7,7 +7,7 @@ ghost use Rattle.store_schema.specs.Forms.{IsComment, IsPaired};
 /// The greatest number of characters in a comment.
 const LONGEST: usize = 200;
 
-/// Whether the first character is not a blank.
+// Whether the first character is not a blank.
 fn begins_dark(text: &[u8]) -> bool
     ensures { IsTrue result ↔ BeginsDark text.now }
 {
@@ -17,7 +17,7 @@ fn begins_dark(text: &[u8]) -> bool
     }
 }
 
-/// Whether the last character is not a blank.
+// Whether the last character is not a blank.
 fn ends_dark(text: &[u8]) -> bool
     ensures { IsTrue result ↔ BeginsDark (reverse text.now) }
 {
@@ -33,7 +33,7 @@ fn is_printable(text: &[u8]) -> bool
     text.iter().all(|byte| (b' '..=b'~').contains(byte))
 }
 
-/// Whether each parenthesis has its partner, and no pair is inside another.
+// Whether each parenthesis has its partner, and no pair is inside another.
 fn is_paired(text: &[u8]) -> bool
     ensures { IsTrue result ↔ IsPaired text.now }
 {

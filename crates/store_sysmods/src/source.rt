@@ -42,7 +42,7 @@ pub struct SourceRow {
     pub name: Source,
 }
 
-/// The name of a source.
+// The name of a source.
 fn source_in(row: &Row, at: usize) -> Option<Source>
     ensures some { IfSome result (λ name. (column row.now at ≡ Text name) × IsSource name) }
     ensures none { IfNone result ((name : List ℕ) → IsSource name → column row.now at ≢ Text name) }

@@ -40,7 +40,7 @@ fn fault_of_part<S: Alter>(store: &mut Store<S>, part: Part) -> Result<Option<St
     })
 }
 
-/// Why the store is not opened, or the part is not loaded, if it is not.
+// Why the store is not opened, or the part is not loaded, if it is not.
 fn fault<S: Alter + Drop>(
     alloc: Global,
     conn: Connection<S>,
@@ -55,7 +55,7 @@ fn fault<S: Alter + Drop>(
     }
 }
 
-/// The known rows, including those of further `++VER`s if the part needs them.
+// The known rows, including those of further `++VER`s if the part needs them.
 fn known_for(alloc: Global, part: Part) -> Result<Connection<MemStore>, Fail> {
     match part {
         Part::Further => known_with(alloc, FURTHER),
@@ -63,14 +63,14 @@ fn known_for(alloc: Global, part: Part) -> Result<Connection<MemStore>, Fail> {
     }
 }
 
-/// The known rows, changed by these statements.
+// The known rows, changed by these statements.
 fn edited(alloc: Global, sql: &str, part: Part) -> Result<Connection<MemStore>, Fail> {
     let mut conn = known_for(alloc, part)?;
     conn.execute_batch(sql)?;
     Ok(conn)
 }
 
-/// The part gives this answer after each of these edits of the known rows.
+// The part gives this answer after each of these edits of the known rows.
 fn check(
     alloc: Global,
     edits: &[&str],
@@ -86,7 +86,7 @@ fn check(
     Ok(())
 }
 
-/// The part gives this answer once the statement with this value, made from the text, has changed the known rows.
+// The part gives this answer once the statement with this value, made from the text, has changed the known rows.
 fn check_with(
     alloc: Global,
     sql: &str,

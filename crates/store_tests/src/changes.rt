@@ -19,7 +19,7 @@ fn id(text: &[u8]) -> Result<Id, Fail> {
     Ok(Id::read(text).ok_or("no id")?)
 }
 
-/// An entry and an element of TGT1 go.
+// An entry and an element of TGT1 go.
 fn removals(alloc: Global) -> Result<ZoneEdits, Fail> {
     let mut edits = ZoneEdits::new(alloc);
     edits.remove_entry(id(b"UAA0001")?)?;
@@ -37,7 +37,7 @@ fn new_sources(alloc: Global) -> Result<Vec<GlobalEdit>, Fail> {
     Ok(vec![in alloc; GlobalEdit::ReplaceSources(sysmod)]?)
 }
 
-/// A hold and a SYSMOD go.
+// A hold and a SYSMOD go.
 fn rejections(alloc: Global) -> Result<Vec<GlobalEdit>, Fail> {
     let reason = Reason::read(b"MINE").ok_or("no reason")?;
     Ok(vec![in alloc;
@@ -57,7 +57,7 @@ const LEFT: &str =
         FROM hold UNION ALL SELECT zone||' '||id FROM entry UNION ALL SELECT zone||' '||name FROM zelem WHERE type \
         = 'MAC' ORDER BY 1";
 
-/// The rows that are left of the known ones.
+// The rows that are left of the known ones.
 fn left<S: Alter + Drop>(alloc: Global, known: Connection<S>) -> Result<String, Fail> {
     let mut store = opened(alloc, known)?;
     commit_all(alloc, &mut store)?;
@@ -76,7 +76,7 @@ fn rows_go_and_are_replaced(rt: HostRuntime) -> Result<(), Fail> {
     compare("what is left", got.as_str(), LEFT_LINES)
 }
 
-/// The answer for entries and elements of TGT1 in an undefined zone.
+// The answer for entries and elements of TGT1 in an undefined zone.
 fn told_of_no_zone<S: Alter>(
     alloc: Global,
     store: &mut Store<S>,
@@ -107,7 +107,7 @@ const AGAIN: &[&str] = &[
         distlib, syslib, text FROM zelem WHERE name >= 'M1' AND name < 'M2'",
 ];
 
-/// 1,024 entries and as many elements.
+// 1,024 entries and as many elements.
 fn add_many<S: Alter>(conn: &mut Connection<S>) -> Result<(), Fail> {
     conn.execute_batch(FIRST)?;
     for sql in AGAIN {
@@ -116,7 +116,7 @@ fn add_many<S: Alter>(conn: &mut Connection<S>) -> Result<(), Fail> {
     Ok(())
 }
 
-/// This entry of DLB1 is installed so.
+// This entry of DLB1 is installed so.
 fn put_applied(alloc: Global, id: Id, applied: Option<Applied>) -> Result<ZoneEdits, Fail> {
     let mut edits = ZoneEdits::new(alloc);
     let entry = Entry {
@@ -139,7 +139,7 @@ const OTHERS: &str =
 
 const CHANGED: &str = "SELECT zone||' '||id||' '||date FROM entry WHERE id = 'U100500'";
 
-/// The database once that entry has another date.
+// The database once that entry has another date.
 fn with_entry<S: Alter + Drop>(alloc: Global, conn: Connection<S>) -> Result<Connection<S>, Fail> {
     let applied = Applied::on(YyDdd::read(b"24.139").ok_or("no date")?);
     let edits = put_applied(alloc, id(b"U100500")?, Some(applied))?;
@@ -160,7 +160,7 @@ fn other_rows_stay(rt: HostRuntime) -> Result<(), Fail> {
     compare("the row", changed.as_str(), "DLB1 U100500 24.139\n")
 }
 
-/// The entry of DLB1, installed by the `++VER` of this number.
+// The entry of DLB1, installed by the `++VER` of this number.
 fn numbered(alloc: Global, number: usize) -> Result<ZoneEdits, Fail> {
     if number == 0 || number > i64::MAX as usize {
         return Err(Fail::from("no number"));
@@ -170,7 +170,7 @@ fn numbered(alloc: Global, number: usize) -> Result<ZoneEdits, Fail> {
     put_applied(alloc, id(b"HAA1100")?, Some(Applied { date, number }))
 }
 
-/// Puts the entry with this number, or takes it out.
+// Puts the entry with this number, or takes it out.
 fn commit_number<S: Alter>(
     alloc: Global,
     store: &mut Store<S>,
@@ -185,7 +185,7 @@ fn commit_number<S: Alter>(
     commit_zone(alloc, store, zone, numbered(alloc, number)?)
 }
 
-/// The number of the entry that is loaded, if there is one.
+// The number of the entry that is loaded, if there is one.
 fn number_loaded<S: Alter>(store: &mut Store<S>) -> Result<Option<usize>, Fail> {
     let zone = loaded(store, zone_name(b"DLB1")?)?;
     let Some(applied) = zone.applied(id(b"HAA1100")?) else {
@@ -194,7 +194,7 @@ fn number_loaded<S: Alter>(store: &mut Store<S>) -> Result<Option<usize>, Fail> 
     Ok(Some(applied.number.get()))
 }
 
-/// The same after these commits, one after the other.
+// The same after these commits, one after the other.
 fn number_after<S: Alter>(
     alloc: Global,
     store: &mut Store<S>,
@@ -208,7 +208,7 @@ fn number_after<S: Alter>(
 
 const NUMBERS: &str = "SELECT zone||' '||id||' '||n FROM chosen ORDER BY zone, id";
 
-/// The rows of numbers after these commits, and the number that is loaded.
+// The rows of numbers after these commits, and the number that is loaded.
 fn numbers_after(
     alloc: Global,
     numbers: &[Option<usize>],
@@ -277,7 +277,7 @@ fn commit_two<S: Alter>(alloc: Global, store: &mut Store<S>, zone: &Zone) -> Res
     commit_edits(alloc, store, new_sources(alloc)?)
 }
 
-/// All rows once one is bad and both are committed. The zone is as it was before.
+// All rows once one is bad and both are committed. The zone is as it was before.
 fn rows_committed(alloc: Global, bad: &str) -> Result<String, Fail> {
     let mut store = opened(alloc, known_with(alloc, &[])?)?;
     let zone = loaded(&mut store, zone_name(b"TGT1")?)?;
@@ -288,7 +288,7 @@ fn rows_committed(alloc: Global, bad: &str) -> Result<String, Fail> {
     all_lines(alloc, &mut store.close())
 }
 
-/// All rows once one is bad and these statements are run.
+// All rows once one is bad and these statements are run.
 fn rows_written(alloc: Global, bad: &str) -> Result<String, Fail> {
     let mut conn = known_with(alloc, &[bad])?;
     run_all(&mut conn, WRITTEN)?;

@@ -18,7 +18,7 @@ fn name(text: &[u8]) -> Result<Name, Fail> {
     Ok(Name::read(text).ok_or("no name")?)
 }
 
-/// Puts an entry that is installed on 24.140 by the second `++VER`.
+// Puts an entry that is installed on 24.140 by the second `++VER`.
 fn put_second(alloc: Global, edits: &mut ZoneEdits, id: Id) -> Result<(), Fail> {
     let date = YyDdd::read(b"24.140").ok_or("no date")?;
     let entry = Entry {
@@ -37,7 +37,7 @@ fn put_second(alloc: Global, edits: &mut ZoneEdits, id: Id) -> Result<(), Fail> 
     Ok(())
 }
 
-/// Puts an element as this one, but with another name, that a PTF has replaced.
+// Puts an element as this one, but with another name, that a PTF has replaced.
 fn put_replaced(
     alloc: Global,
     edits: &mut ZoneEdits,
@@ -59,8 +59,8 @@ fn put_replaced(
     Ok(())
 }
 
-/// Edits of TGT1. Of the entries UAA0001, whose number has a row, goes, HAA1100 gets a number, and UAA0009 comes; an
-/// entry that is not there goes too. Of the elements MAC2 goes, MAC1 is replaced, and MAC9 comes.
+// Edits of TGT1. Of the entries UAA0001, whose number has a row, goes, HAA1100 gets a number, and UAA0009 comes; an
+// entry that is not there goes too. Of the elements MAC2 goes, MAC1 is replaced, and MAC9 comes.
 fn edits(alloc: Global, zone: &Zone) -> Result<ZoneEdits, Fail> {
     let mut edits = ZoneEdits::new(alloc);
     edits.remove_entry(id(b"UAA0001")?)?;
@@ -85,7 +85,7 @@ const TGT1: &str =
 const TGT1_LINES: &str = "AAA0001 - 1\nHAA1000 - 1\nHAA1100 24.140 2\nMAC1 UAA0001\nMAC9 UAA0001\n\
     UAA0009 24.140 2\n";
 
-/// Commits the edits, and what they leave when they are applied beside the zone.
+// Commits the edits, and what they leave when they are applied beside the zone.
 fn committed(alloc: Global, store: &mut Store<MemStore>) -> Result<Zone, Fail> {
     let zone = loaded(store, zone_name(b"TGT1")?)?;
     let delta = ZoneDelta::of(alloc, edits(alloc, &zone)?, &zone)?;
@@ -98,7 +98,7 @@ fn store(alloc: Global) -> Result<Store<MemStore>, Fail> {
     opened(alloc, known_with(alloc, CHOSEN)?)
 }
 
-/// The connection once the edits are committed.
+// The connection once the edits are committed.
 fn edited(alloc: Global) -> Result<Connection<MemStore>, Fail> {
     let mut store = store(alloc)?;
     committed(alloc, &mut store)?;

@@ -95,7 +95,7 @@ const TEXTS: &[(&str, &str)] = &[
     ),
 ];
 
-/// A record with this text; a tab leads to column 73.
+// A record with this text; a tab leads to column 73.
 fn record(text: &str) -> [u8; RECORD] {
     let mut record = [b' '; RECORD];
     let mut column: usize = 0;
@@ -187,7 +187,7 @@ pub(crate) fn fill_first<S: Alter>(alloc: Global, conn: &mut Connection<S>) -> R
     run(conn, ELEMENTS, &[])
 }
 
-/// Gives the element statements their texts.
+// Gives the element statements their texts.
 fn fill_texts<S: Alter>(alloc: Global, conn: &mut Connection<S>) -> Result<(), Fail> {
     for (sql, text) in TEXTS {
         let records = records(alloc, text)?;
@@ -295,7 +295,7 @@ pub(crate) fn zone_name(text: &[u8]) -> Result<ZoneName, Fail> {
     Ok(ZoneName::read(text).ok_or("no name of a zone")?)
 }
 
-/// A connection to a database in these files.
+// A connection to a database in these files.
 fn files(alloc: Global, log: Memory, db: Memory) -> Result<Connection<FileStore<Memory>>, Error>
     requires { IsTrue (memory_is_usable log) × IsTrue (memory_is_usable db) }
 {

@@ -45,7 +45,7 @@ const JOINED: &[&str] = &[
     "UPDATE sysmod SET sources = 'PUT2401' WHERE id = 'UAA0001'",
 ];
 
-/// The known rows under an earlier schema: after these statements, with these sources.
+// The known rows under an earlier schema: after these statements, with these sources.
 fn earlier<S: Alter + Drop>(
     alloc: Global,
     mut conn: Connection<S>,
@@ -60,12 +60,12 @@ fn earlier<S: Alter + Drop>(
     Ok(conn)
 }
 
-/// The known rows under schema 1.
+// The known rows under schema 1.
 fn first<S: Alter + Drop>(alloc: Global, conn: Connection<S>) -> Result<Connection<S>, Fail> {
     earlier(alloc, conn, &[FIRST], JOINED)
 }
 
-/// The connection after a migration, and how it ended.
+// The connection after a migration, and how it ended.
 fn migrated<S: Alter + Drop>(
     alloc: Global,
     conn: Connection<S>,
@@ -79,7 +79,7 @@ fn migrated<S: Alter + Drop>(
     }
 }
 
-/// All rows after a migration that must succeed.
+// All rows after a migration that must succeed.
 fn rows_taken<S: Alter + Drop>(alloc: Global, conn: Connection<S>) -> Result<String, Fail> {
     let (mut conn, fault) = migrated(alloc, conn)?;
     match fault {
@@ -88,13 +88,13 @@ fn rows_taken<S: Alter + Drop>(alloc: Global, conn: Connection<S>) -> Result<Str
     }
 }
 
-/// All rows that the store itself writes.
+// All rows that the store itself writes.
 fn own_rows(alloc: Global) -> Result<String, Fail> {
     let mut conn = known_with(alloc, &[])?;
     all_lines(alloc, &mut conn)
 }
 
-/// All rows after a migration are the store's own.
+// All rows after a migration are the store's own.
 fn check_taken<S: Alter + Drop>(
     alloc: Global,
     name: &str,
@@ -157,7 +157,7 @@ const LEFT: &str =
     "SELECT k||' '||v FROM meta UNION ALL SELECT id||' '||kind||' '||sources FROM sysmod UNION ALL SELECT \
         name||' '||kind FROM zone UNION ALL SELECT zone||' '||id FROM entry ORDER BY 1";
 
-/// The answer for the database with this edit, and whether its rows stay.
+// The answer for the database with this edit, and whether its rows stay.
 fn told_of(alloc: Global, sql: &str) -> Result<(Option<StoreError>, bool), Fail> {
     let mut conn = first(alloc, in_memory(alloc)?)?;
     conn.execute_batch(sql)?;
@@ -167,7 +167,7 @@ fn told_of(alloc: Global, sql: &str) -> Result<(Option<StoreError>, bool), Fail>
     Ok((fault, before.as_str() == after.as_str()))
 }
 
-/// The database gives this answer with each of these edits, and its rows stay.
+// The database gives this answer with each of these edits, and its rows stay.
 fn check_told(alloc: Global, edits: &[&str], wanted: StoreError) -> Result<(), Fail> {
     for sql in edits {
         let (told, is_same) = told_of(alloc, sql)?;
@@ -186,7 +186,7 @@ fn other_databases_stay_as_they_are(rt: HostRuntime) -> Result<(), Fail> {
     check_told(rt.alloc(), UNKNOWN, StoreError::OtherSchema)
 }
 
-/// Migrates over these files, and returns them as they are, with whether it succeeded.
+// Migrates over these files, and returns them as they are, with whether it succeeded.
 fn migrated_on<D: Disk + Drop>(alloc: Global, files: Files<D>) -> Result<(Files<D>, bool), Fail>
     requires log { IsTrue (D.Disk.is_usable files.log) }
     requires db { IsTrue (D.Disk.is_usable files.db) }
@@ -200,7 +200,7 @@ fn migrated_on<D: Disk + Drop>(alloc: Global, files: Files<D>) -> Result<(Files<
     }
 }
 
-/// The disks come back. A second migration finds all rows, and so does anyone to whom the first one reported success.
+// The disks come back. A second migration finds all rows, and so does anyone to whom the first one reported success.
 fn rows_behind<D: Crash + Drop>(alloc: Global, mut files: Files<D>) -> Result<String, Fail> {
     files.log.crash();
     files.db.crash();
@@ -210,7 +210,7 @@ fn rows_behind<D: Crash + Drop>(alloc: Global, mut files: Files<D>) -> Result<St
     }
 }
 
-/// The rows after a migration over disks that fail at the next of so many calls, and whether it succeeded.
+// The rows after a migration over disks that fail at the next of so many calls, and whether it succeeded.
 fn over_fused(alloc: Global, in_log: u64, in_db: u64) -> Result<(String, bool), Fail> {
     let Files { log, db } = close(first(alloc, new_files(alloc)?)?)?;
     let log = Fuse::new(log, in_log);
@@ -219,7 +219,7 @@ fn over_fused(alloc: Global, in_log: u64, in_db: u64) -> Result<(String, bool), 
     Ok((rows_behind(alloc, files)?, went_well))
 }
 
-/// Whether a migration with so many calls or steps succeeded. The rows after it must be these.
+// Whether a migration with so many calls or steps succeeded. The rows after it must be these.
 fn went_well(count: u64, behind: (String, bool), wanted: &str) -> Result<bool, Fail> {
     let (rows, went_well) = behind;
     if rows.as_str() == wanted {
@@ -244,8 +244,8 @@ fn no_row_is_lost_where_a_disk_fails(rt: HostRuntime) -> Result<(), Fail> {
     Err(Fail::from("the migration does not end with ten thousand calls of a disk"))
 }
 
-/// The rows once a migration with so many steps for each query has ended, and another without a limit, and whether the
-/// first one succeeded.
+// The rows once a migration with so many steps for each query has ended, and another without a limit, and whether the
+// first one succeeded.
 fn with_limit(alloc: Global, steps: u64) -> Result<(String, bool), Fail> {
     let mut conn = first(alloc, in_memory(alloc)?)?;
     conn.set_step_limit(Some(steps));

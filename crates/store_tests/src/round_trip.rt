@@ -53,7 +53,7 @@ fn add_hold(alloc: Global, edits: &mut Vec<GlobalEdit>, hold: &Hold) -> Result<(
     Ok(())
 }
 
-/// Each SYSMOD, followed by the holds on it.
+// Each SYSMOD, followed by the holds on it.
 fn add_sysmods(
     alloc: Global,
     edits: &mut Vec<GlobalEdit>,
@@ -81,7 +81,7 @@ fn add_all(alloc: Global, edits: &mut Vec<GlobalEdit>, global: &GlobalZone) -> R
     Ok(())
 }
 
-/// The edits that make this global zone from an empty one.
+// The edits that make this global zone from an empty one.
 fn edits_to(alloc: Global, global: &GlobalZone) -> Result<Change<'_>, Fail> {
     let mut edits = Vec::new(alloc);
     add_all(alloc, &mut edits, global)?;
@@ -129,7 +129,7 @@ fn copy_zone<S: Alter, T: Alter>(
     commit_zone(alloc, to, name, edits_of(alloc, &zone)?)
 }
 
-/// Commits all that one store holds to another that is empty.
+// Commits all that one store holds to another that is empty.
 fn copy_all<S: Alter, T: Alter>(
     alloc: Global,
     from: &mut Store<S>,
@@ -142,7 +142,7 @@ fn copy_all<S: Alter, T: Alter>(
     Ok(())
 }
 
-/// A database without tables after all that another one holds is committed to it.
+// A database without tables after all that another one holds is committed to it.
 fn copied<S: Alter + Drop, T: Alter + Drop>(
     alloc: Global,
     from: Connection<S>,
@@ -154,7 +154,7 @@ fn copied<S: Alter + Drop, T: Alter + Drop>(
     Ok(to.close())
 }
 
-/// The copy in files, which were closed and are opened again.
+// The copy in files, which were closed and are opened again.
 fn in_files<S: Alter + Drop>(
     alloc: Global,
     from: Connection<S>,
@@ -162,13 +162,13 @@ fn in_files<S: Alter + Drop>(
     Ok(again(alloc, copied(alloc, from, new_files(alloc)?)?)?)
 }
 
-/// The rows of the copy in memory.
+// The rows of the copy in memory.
 fn rows_of_copy<S: Alter + Drop>(alloc: Global, from: Connection<S>) -> Result<String, Fail> {
     let mut conn = copied(alloc, from, in_memory(alloc)?)?;
     all_lines(alloc, &mut conn)
 }
 
-/// Its contents are copied into files, and from there into memory.
+// Its contents are copied into files, and from there into memory.
 fn copy_twice(alloc: Global, name: &str, mut conn: Connection<MemStore>) -> Result<(), Fail> {
     let rows = all_lines(alloc, &mut conn)?;
     let copy = rows_of_copy(alloc, in_files(alloc, conn)?)?;
@@ -221,7 +221,7 @@ const AGAIN: &[&str] = &[
         internal FROM hold WHERE id >= 'U1' AND id < 'U2'",
 ];
 
-/// The known rows, and 512 SYSMODs in addition.
+// The known rows, and 512 SYSMODs in addition.
 fn many_sysmods(alloc: Global) -> Result<Connection<MemStore>, Fail> {
     let mut conn = known_with(alloc, FIRST)?;
     for sql in AGAIN {
@@ -241,7 +241,7 @@ const BESIDE: &str =
         source WHERE id >= 'U100099' AND id <= 'U100101' UNION ALL SELECT id||' '||reason FROM hold WHERE id >= \
         'U100099' AND id <= 'U100101' ORDER BY 1";
 
-/// The one goes, or has one source instead of two.
+// The one goes, or has one source instead of two.
 fn edit_of_one(alloc: Global, goes: bool) -> Result<GlobalEdit, Fail> {
     let id = Id::read(b"U100100").ok_or("no id")?;
     if goes {
@@ -252,7 +252,7 @@ fn edit_of_one(alloc: Global, goes: bool) -> Result<GlobalEdit, Fail> {
     Ok(GlobalEdit::ReplaceSources(sysmod))
 }
 
-/// Edits that insert all SYSMODs, and then the edit of the one.
+// Edits that insert all SYSMODs, and then the edit of the one.
 fn come_and_change(
     alloc: Global,
     global: &GlobalZone,
@@ -306,7 +306,7 @@ fn rejection(alloc: Global) -> Result<Vec<GlobalEdit>, Fail> {
     Ok(vec![in alloc; GlobalEdit::RemoveSysmod(id)]?)
 }
 
-/// The rows of further `++VER`s that are left when their SYSMOD is removed.
+// The rows of further `++VER`s that are left when their SYSMOD is removed.
 fn left_of_further(alloc: Global) -> Result<String, Fail> {
     let mut store = opened(alloc, known_with(alloc, FURTHER)?)?;
     commit_edits(alloc, &mut store, rejection(alloc)?)?;

@@ -9,7 +9,7 @@ use fields::{Srel, ZoneName};
 use store_rows::ReadError;
 use terms::ZoneKind;
 
-/// Whether it is the distribution zone of this name and SREL.
+// Whether it is the distribution zone of this name and SREL.
 fn is_distribution(head: &ZoneHead, name: ZoneName, srel: Srel) -> bool
     ensures { IsTrue result ↔ IsDistributionOf name srel head.now }
 {
@@ -22,7 +22,7 @@ fn has_distribution(heads: &[ZoneHead], name: ZoneName, srel: Srel) -> bool
     heads.iter().any(|head| is_distribution(head, name, srel))
 }
 
-/// Whether the zone that it names is among them.
+// Whether the zone that it names is among them.
 fn is_related(heads: &[ZoneHead], head: &ZoneHead) -> bool
     ensures { IsTrue result ↔ IsRelatedAmong heads.now head.now }
 {
@@ -38,7 +38,7 @@ fn are_related(heads: &[ZoneHead]) -> bool
     heads.iter().all(|head| is_related(heads, head))
 }
 
-/// Whether the second names no zone that the first names.
+// Whether the second names no zone that the first names.
 fn is_apart(head: &ZoneHead, other: &ZoneHead) -> bool
     ensures { IsTrue result ↔ HeadsAreApart head.now other.now }
 {

@@ -23,7 +23,7 @@ use store_rows::ReadError;
 use store_schema::Schema;
 use zones_maps::{Element, Entry, Zone};
 
-/// The zone of these parts, if they may be in one.
+// The zone of these parts, if they may be in one.
 fn join(head: ZoneHead, entries: Table<Entry>, elements: Table<Element>) -> Result<Zone, ReadError>
     ensures same { IfOk result (λ zone. zone ≡ a_zone head.kind head.srel head.related entries elements) }
     ensures may_be { IfOk result (λ zone. MayBeZone head.kind head.related entries) }
@@ -36,7 +36,7 @@ fn join(head: ZoneHead, entries: Table<Entry>, elements: Table<Element>) -> Resu
     }
 }
 
-/// The entries of the zone of this name with their numbers, if the tables are those of this schema.
+// The entries of the zone of this name with their numbers, if the tables are those of this schema.
 fn load_numbered<S: Alter>(
     alloc: Global,
     conn: &mut Connection<S>,
@@ -61,7 +61,7 @@ fn load_numbered<S: Alter>(
     }
 }
 
-/// The zone that has this head.
+// The zone that has this head.
 fn load_rest<S: Alter>(
     alloc: Global,
     conn: &mut Connection<S>,
@@ -83,7 +83,7 @@ fn load_rest<S: Alter>(
     join(head, entries, elements)
 }
 
-/// The zone of this name, if the tables are those of this schema.
+// The zone of this name, if the tables are those of this schema.
 fn load_under<S: Alter>(
     alloc: Global,
     conn: &mut Connection<S>,

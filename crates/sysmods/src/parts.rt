@@ -39,7 +39,7 @@ pub(crate) fn received_from(
     Ok(Some(received))
 }
 
-/// Takes in a SYSMOD that comes after all others, if they are those of a global zone with it.
+// Takes in a SYSMOD that comes after all others, if they are those of a global zone with it.
 fn push_last(alloc: Global, received: &mut Received, sysmod: Sysmod) -> Result<bool, AllocError>
     requires global { IsGlobal (zone_of received.old) }
     requires last { All (λ s. IsTrue (is_lt (slice_cmp nat_cmp s.id sysmod.id))) received.old }

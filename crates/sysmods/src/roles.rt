@@ -97,7 +97,7 @@ fn own_fit(received: &Received, sysmod: &Sysmod) -> bool
         .all(|ver| ver_fits(received, sysmod, ver))
 }
 
-/// Whether every received SYSMOD that names it names it in its own role.
+// Whether every received SYSMOD that names it names it in its own role.
 fn others_fit(received: &Received, sysmod: &Sysmod) -> bool
     ensures { result ≡ (if is_function_kind sysmod.now.kind
         then not (list_any (λ s. list_any (λ v. is_in v.sup sysmod.now.id) s.vers) received.now)

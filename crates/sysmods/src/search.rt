@@ -18,7 +18,7 @@ pub trait Names {
         ensures { OnOk result (found.new.items ≡ found.old.items ++ named self.now id) };
 }
 
-/// Adds the ids that this one names to those seen. It forgets what `found` had.
+// Adds the ids that this one names to those seen. It forgets what `found` had.
 fn see_named<N: Names>(
     names: &N,
     id: Id,
@@ -35,7 +35,7 @@ fn see_named<N: Names>(
     Ok(())
 }
 
-/// Whether there is an id at which to stop and it has been seen.
+// Whether there is an id at which to stop and it has been seen.
 fn is_met(seen: &IndexSet<Id>, stop: Option<&Id>) -> bool
     ensures { IsTrue result ↔ IsSomeAnd stop.entry (λ z. Contains seen.now.keys z.now) }
 {
@@ -45,7 +45,7 @@ fn is_met(seen: &IndexSet<Id>, stop: Option<&Id>) -> bool
     }
 }
 
-/// Goes through one of the ids that have been seen.
+// Goes through one of the ids that have been seen.
 fn go_on<N: Names>(
     names: &N,
     gone: usize,
@@ -60,8 +60,8 @@ fn go_on<N: Names>(
     Ok(())
 }
 
-/// The ids that x reaches, each where the search met it first: the list serves both as marks and as a queue. Once the
-/// search has seen the id at which to stop, it goes no further.
+// The ids that x reaches, each where the search met it first: the list serves both as marks and as a queue. Once the
+// search has seen the id at which to stop, it goes no further.
 fn reached<N: Names>(
     alloc: Global,
     names: &N,
@@ -95,7 +95,7 @@ pub fn leads<N: Names>(alloc: Global, names: &N, x: Id, z: Id) -> Result<bool, A
     Ok(seen.contains(&z))
 }
 
-/// Whether the search from x has seen z, or the one back from z has seen x.
+// Whether the search from x has seen z, or the one back from z has seen x.
 fn have_met(ahead: &IndexSet<Id>, behind: &IndexSet<Id>, x: Id, z: Id) -> bool
     ensures { result ≡ (is_in ahead.now.keys z || is_in behind.now.keys x) }
 {

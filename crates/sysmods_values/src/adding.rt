@@ -87,14 +87,14 @@ impl Sysmod {
     }
 }
 
-/// The first `++VER` for a later release.
+// The first `++VER` for a later release.
 fn first_later(vers: &[Ver], srel: Srel) -> Option<usize>
     ensures { result ≡ position (λ v. is_before srel v.srel) vers.now }
 {
     vers.iter().position(|ver| srel < ver.srel)
 }
 
-/// The place after the `++VER`s of its release and of earlier ones.
+// The place after the `++VER`s of its release and of earlier ones.
 fn ver_place(vers: &[Ver], ver: &Ver) -> usize
     ensures { result ≡ place_of ver.now vers.now }
 {
@@ -104,7 +104,7 @@ fn ver_place(vers: &[Ver], ver: &Ver) -> usize
     }
 }
 
-/// The place of the statement for this one's element, or the place where it would come in.
+// The place of the statement for this one's element, or the place where it would come in.
 fn change_place(changes: &[ElemChange], change: &ElemChange) -> Result<usize, usize>
     requires { Rises change_cmp (λ c. c) changes.now }
     ensures found { IfOk result

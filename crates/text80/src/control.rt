@@ -12,7 +12,7 @@ pub struct Range {
     pub high: u32,
 }
 
-/// The text after the prefix.
+// The text after the prefix.
 fn behind<'a>(text: &'a [u8], prefix: &[u8]) -> Option<&'a [u8]>
     ensures some { IfSome result (λ rest. text.now ≡ prefix.now ++ rest.now) }
     ensures none { IfNone result ((rest : List ℕ) → text.now ≢ prefix.now ++ rest) }
@@ -20,7 +20,7 @@ fn behind<'a>(text: &'a [u8], prefix: &[u8]) -> Option<&'a [u8]>
     text.strip_prefix(prefix)
 }
 
-/// The leading blanks, and the rest.
+// The leading blanks, and the rest.
 #[tactic(auto, using(crate::proofs::Cuts::cut_prefix, crate::proofs::Cuts::prefix_within))]
 fn split_blanks(text: &[u8]) -> (&[u8], &[u8])
     ensures { IsCut (λ b. b == 32) text.now result.0.now result.1.now }
@@ -29,7 +29,7 @@ fn split_blanks(text: &[u8]) -> (&[u8], &[u8])
     text.split_at(blanks)
 }
 
-/// The bytes up to the first blank, and the rest.
+// The bytes up to the first blank, and the rest.
 #[tactic(auto, using(crate::proofs::Cuts::cut_prefix, crate::proofs::Cuts::prefix_within))]
 fn split_solid(text: &[u8]) -> (&[u8], &[u8])
     ensures { IsCut (λ b. not (b == 32)) text.now result.0.now result.1.now }
@@ -38,7 +38,7 @@ fn split_solid(text: &[u8]) -> (&[u8], &[u8])
     text.split_at(solid)
 }
 
-/// The word and the operand of a control record.
+// The word and the operand of a control record.
 fn control(line: &Line) -> Option<(&[u8], &[u8])>
     ensures some { IfSome result (λ found. IsControl found.0.now found.1.now line.now) }
     ensures none { IfNone result ((word operand : List ℕ) → ¬ IsControl word operand line.now) }
@@ -73,7 +73,7 @@ pub(crate) fn changed(line: &Line) -> Option<&[u8]>
     behind(operand, b"NAME=")
 }
 
-/// The range in the operand of a DELETE record.
+// The range in the operand of a DELETE record.
 fn range_in(operand: &[u8]) -> Option<Range>
     ensures some { IfSome result (λ range. IsRange operand.now range.low range.high) }
     ensures none { IfNone result ((low high : ℕ) → ¬ IsRange operand.now low high) }

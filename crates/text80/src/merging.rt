@@ -39,7 +39,7 @@ pub fn merge(alloc: Global, old: &Numbered, update: &Update) -> Result<Numbered,
     Ok(Numbered { lines: merged })
 }
 
-/// The records below the number, and the rest.
+// The records below the number, and the rest.
 fn split_below(lines: &[Line], number: u32) -> (&[Line], &[Line])
     requires { All IsNumberedLine lines.now }
     ensures { IsSplitBelow number lines.now result.0.now result.1.now }
@@ -52,7 +52,7 @@ fn split_below(lines: &[Line], number: u32) -> (&[Line], &[Line])
     (lines, &[])
 }
 
-/// The record of the number, if it comes first, and the remaining records.
+// The record of the number, if it comes first, and the remaining records.
 fn split_number(lines: &[Line], number: u32) -> (Option<&Line>, &[Line])
     requires { All IsNumberedLine lines.now }
     ensures some { IfSome result.0 (λ line. StandsFirst number lines.now line.now result.1.now) }
@@ -64,8 +64,8 @@ fn split_number(lines: &[Line], number: u32) -> (Option<&Line>, &[Line])
     }
 }
 
-/// The ranges that begin above the number, and the reach of those before them: of the numbers from this one on, the
-/// deleted ones are those below `reach` and those in a range that is left.
+// The ranges that begin above the number, and the reach of those before them: of the numbers from this one on, the
+// deleted ones are those below `reach` and those in a range that is left.
 fn sweep(ranges: &[Range], reach: u64, number: u32) -> (&[Range], u64)
     ensures swept { (all : List DeletedRange) → IsSwept all number ranges.now reach
         → IsSwept all number result.0.now result.1 }

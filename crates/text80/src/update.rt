@@ -86,7 +86,7 @@ impl Clone for Update {
     }
 }
 
-/// The records after a CHANGE record of this name.
+// The records after a CHANGE record of this name.
 fn behind_change<'a>(records: &'a [Line], name: &[u8]) -> Result<&'a [Line], TextFault>
     ensures rest { IfOk result (λ rest. StandsBefore name.now records.now rest.now) }
     ensures fault { IfErr result (IsUpdateFault name.now records.now) }
@@ -110,7 +110,7 @@ fn behind_change<'a>(records: &'a [Line], name: &[u8]) -> Result<&'a [Line], Tex
     }
 }
 
-/// The ranges that the records after the CHANGE record delete. These records count from 2.
+// The ranges that the records after the CHANGE record delete. These records count from 2.
 fn ranges_of(alloc: Global, lines: &[Line]) -> Result<Vec<Range>, TextError>
     ensures good { IfOk result (λ ranges. AreGood lines.now ranges.items) }
     ensures fault { IfErr result (IsRestError lines.now) }

@@ -17,7 +17,7 @@ fn are_none(terms: &Terms) -> bool
     terms.roots.is_empty()
 }
 
-/// Whether no default reads the time.
+// Whether no default reads the time.
 fn is_timeless(stamps: &Stamps) -> bool
     ensures { IsTrue result ↔ (stamps.now ≡ no_stamps) }
 {

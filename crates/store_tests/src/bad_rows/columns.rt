@@ -70,7 +70,7 @@ const ZONE_NAMES: &[&str] = &[
 
 const NO_NAMES: &[&str] = &["1CLS", "cls1", "LIBRARY01", "A B", "A,B", ""];
 
-/// Each of the texts gives this answer in each of the columns.
+// Each of the texts gives this answer in each of the columns.
 fn check_columns(alloc: Global, columns: &[&str], texts: &[&str], part: Part) -> Result<(), Fail> {
     for sql in columns {
         for text in texts {

@@ -63,7 +63,7 @@ const TEXTS: &[(&str, [bool; 3])] = &[
     ("./ CHANGE NAME=MAC1\n./ DELETE SEQ1=10,SEQ2=20", NOWHERE),
 ];
 
-/// The text is loaded, or refused, wherever the statement puts its records.
+// The text is loaded, or refused, wherever the statement puts its records.
 fn check_text(
     alloc: Global,
     sql: &str,

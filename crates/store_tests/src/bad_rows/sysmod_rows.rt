@@ -66,7 +66,7 @@ const ONE_TOO_MANY: &str = "DELETE FROM sysmod WHERE id > 'M' AND id < 'M100005'
 
 const AS_MANY: &str = "DELETE FROM sysmod WHERE id > 'M' AND id < 'M100006'";
 
-/// The known rows and 65,536 further SYSMODs, once the statement has removed some.
+// The known rows and 65,536 further SYSMODs, once the statement has removed some.
 fn many_without(alloc: Global, sql: &str) -> Result<Connection<MemStore>, Fail> {
     let mut conn = known_with(alloc, &[FIRST])?;
     doubled(&mut conn, AGAIN, 16)?;
@@ -75,7 +75,7 @@ fn many_without(alloc: Global, sql: &str) -> Result<Connection<MemStore>, Fail> 
     Ok(conn)
 }
 
-/// How many SYSMODs are loaded, or why none are.
+// How many SYSMODs are loaded, or why none are.
 fn size<S: Alter + Drop>(
     alloc: Global,
     conn: Connection<S>,
