@@ -4,7 +4,7 @@ use crate::command_remarks::{CommandRemarks, RemarkWords};
 use crate::group_extend::with_excluded;
 use crate::known::KnownSysmod;
 use crate::scan::{CommandEnd, WideCommand, words_in};
-use crate::spelled::{CommandWords, OperandForm, Spelled, command_of, is_dropped, spelling_of};
+use crate::spelled::{CarriedCommand, OperandForm, Spelled, command_of, is_dropped, spelling_of};
 use fields::{Class, Id, Reason as HoldReason, Source, ZoneName};
 use intake_cards::{Deed, RemarkReason};
 use intake_read::{CardPlace, WideOperand};
@@ -134,7 +134,7 @@ fn tell_command(
 fn carried_operands<'a>(
     alloc: Global,
     told: &mut CommandRemarks,
-    command: &'a CommandWords,
+    command: &'a CarriedCommand,
     known: Option<&'a [KnownSysmod]>,
     operands: &'a [WideOperand],
 ) -> Result<Vec<CarriedOperand>, AllocError> {
@@ -176,7 +176,7 @@ pub(crate) fn has_word(operands: &[CarriedOperand], word: &[u8]) -> bool {
 /// An operand of a command, and the SYSMODs that are known.
 #[derive(Clone, Copy)]
 pub(crate) struct AskedOperand<'a> {
-    command: &'a CommandWords,
+    command: &'a CarriedCommand,
     pub(crate) operand: &'a WideOperand,
     pub(crate) known: Option<&'a [KnownSysmod]>,
 }
@@ -500,7 +500,7 @@ fn place_of(operands: &[CarriedOperand], word: &[u8]) -> Option<usize> {
 fn with_group<'a>(
     alloc: Global,
     told: &mut CommandRemarks,
-    command: &'a CommandWords,
+    command: &'a CarriedCommand,
     operands: &'a [WideOperand],
     mut carried: Vec<CarriedOperand>,
 ) -> Result<Vec<CarriedOperand>, AllocError> {

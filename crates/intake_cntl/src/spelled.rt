@@ -42,7 +42,7 @@ pub(crate) struct Spelled {
 
 /// A command, with its operands and the members of its BYPASS.
 #[derive(Clone, Copy, Debug)]
-pub(crate) struct CommandWords {
+pub(crate) struct CarriedCommand {
     pub(crate) word: &'static [u8],
     pub(crate) operands: &'static [Row],
     pub(crate) members: &'static [Row],
@@ -193,10 +193,10 @@ const COMMANDS: &[(&[u8], &[Row], &[Row])] = &[
 const DROPPED: &[&[u8]] = &[b"RESETRC", b"LOG", b"DEBUG"];
 
 /// The command of this word, where it is carried.
-pub(crate) fn command_of(word: &[u8]) -> Option<CommandWords> {
+pub(crate) fn command_of(word: &[u8]) -> Option<CarriedCommand> {
     for (known, operands, members) in COMMANDS {
         if *known == word {
-            return Some(CommandWords {
+            return Some(CarriedCommand {
                 word: *known,
                 operands: *operands,
                 members: *members,

@@ -12,7 +12,7 @@ use Rattle.terms.specs.declared.kinds.ZoneKind.TheVariants.{Target, Distribution
 use Rattle.terms.specs.declared.kinds.ElemType.{ElemType}
 use Rattle.terms.specs.Types.{Hold, Entry, Applied}
 use Rattle.terms.specs.Spelling.{need_text, hold_text, type_text}
-use Rattle.report_why.specs.Facts.{Requisite, Answer, Found, RequisiteFact, HoldFact, ElementFact, EntryFact, StandsApplied}
+use Rattle.report_why.specs.Facts.{Requisite, Resolution, Found, RequisiteFact, HoldFact, ElementFact, EntryFact, StandsApplied}
 use Rattle.machine.specs.Report.{words_line, left_in, list_text, mark_text, optional_text}
 use Rattle.report_why.specs.FactText.{inner_line, id_lines, answer_word, answer_lines, owned_text, change_text, word_if}
 use Rattle.report_why.specs.FactText.{maker_line, standing_text, comment_line, fact_text, fact_code, facts_code}
@@ -75,14 +75,14 @@ lines_behind : (old line lines : List ℕ) {t : List ℕ} → t ≡ old ++ line 
 lines_behind old line lines is = ap (λ t. t ++ lines) is ∙ append_assoc old line lines
 
 -- something that is asked for by an ++IF, or otherwise
-pub requisite_by_if : (r : Requisite) (a : Answer) (f old : List ℕ) {kind id fmid by answered t : List ℕ}
+pub requisite_by_if : (r : Requisite) (a : Resolution) (f old : List ℕ) {kind id fmid by answered t : List ℕ}
     → r.function ≡ Some f → kind ≡ need_text r.kind → id ≡ r.id → fmid ≡ f → by ≡ r.by → answered ≡ answer_word a
     → t ≡ old ++ words_line (codes " " ∷ kind ∷ id ∷ codes "FMID" ∷ fmid ∷ codes "BY" ∷ by ∷ answered ∷ [])
     → t ++ answer_lines a ≡ old ++ fact_text (RequisiteFact r a)
 requisite_by_if r a f old is kind id fmid by answered put =
     lines_behind old _ (answer_lines a) put ∙ rw (is, kind, id, fmid, by, answered) refl
 
-pub requisite_by_itself : (r : Requisite) (a : Answer) (old : List ℕ) {kind id answered t : List ℕ}
+pub requisite_by_itself : (r : Requisite) (a : Resolution) (old : List ℕ) {kind id answered t : List ℕ}
     → r.function ≡ None → kind ≡ need_text r.kind → id ≡ r.id → answered ≡ answer_word a
     → t ≡ old ++ words_line (codes " " ∷ kind ∷ id ∷ answered ∷ [])
     → t ++ answer_lines a ≡ old ++ fact_text (RequisiteFact r a)
@@ -90,7 +90,7 @@ requisite_by_itself r a old is kind id answered put =
     lines_behind old _ (answer_lines a) put ∙ rw (is, kind, id, answered) refl
 
 -- a hold whose reason has an answer, or none
-pub hold_answered : (h : Hold) (a : Answer) (old : List ℕ) {kind reason class date answered t1 t2 : List ℕ}
+pub hold_answered : (h : Hold) (a : Resolution) (old : List ℕ) {kind reason class date answered t1 t2 : List ℕ}
     → kind ≡ hold_text h.kind → reason ≡ h.reason → class ≡ optional_text h.class → date ≡ optional_text h.date
     → answered ≡ answer_word a
     → t1 ≡ old ++ words_line (codes "  HOLD" ∷ left_in 6 kind ∷ reason

@@ -6,7 +6,7 @@ use Rattle.terms.specs.declared.kinds.ZoneKind.TheVariants.{Target, Distribution
 use Rattle.terms.specs.Types.{Text, Id, Hold}
 use Rattle.terms.specs.Spelling.{kind_text, hold_text, type_text, need_text}
 use Rattle.report_why.specs.Facts.{Standing, StandsApplied, StandsSuperseded, StandsDeleted, StandsReceived, StandsMissing}
-use Rattle.report_why.specs.Facts.{Requisite, Answer, Supplied, Waived, ByItself, Open, Rank, Itself, Over, NotOver, Maker, Found, Fact}
+use Rattle.report_why.specs.Facts.{Requisite, Resolution, Supplied, Waived, ByItself, Open, Rank, Itself, Over, NotOver, Maker, Found, Fact}
 use Rattle.report_why.specs.Facts.{StandingFact, EntryFact, VerFact, RequisiteFact, HoldFact, ElementFact, DeleteFact}
 use Rattle.report_why.specs.Facts.{TakesFact, NpreFact, ForbiddenFact, NeededFact}
 use Rattle.machine.specs.Report.{words_line, detail_line, left_in, optional_text, mark_text, entry_text}
@@ -33,7 +33,7 @@ standing_text StandsReceived = codes "RECEIVED"
 standing_text StandsMissing = codes "MISSING"
 
 -- the word of an answer
-abbrev pub answer_word : Answer → Text
+abbrev pub answer_word : Resolution → Text
 answer_word (Supplied ids) = codes "SUPPLIED"
 answer_word Waived = codes "WAIVED"
 answer_word ByItself = codes "ITSELF"
@@ -45,7 +45,7 @@ id_lines word [] = inner_line (word ∷ codes "-" ∷ [])
 id_lines word (x ∷ xs) = flat_map (λ id. inner_line (word ∷ id ∷ [])) (x ∷ xs)
 
 -- the SYSMODs that supply it, or that would serve it
-abbrev pub answer_lines : Answer → Text
+abbrev pub answer_lines : Resolution → Text
 answer_lines (Supplied ids) = id_lines (codes "SUPPLIER") ids
 answer_lines Waived = []
 answer_lines ByItself = []
@@ -56,15 +56,15 @@ abbrev pub condition_words : Option Id → Id → List Text
 condition_words None by = []
 condition_words (Some f) by = codes "FMID" ∷ f ∷ codes "BY" ∷ by ∷ []
 
-abbrev pub requisite_text : Requisite → Answer → Text
+abbrev pub requisite_text : Requisite → Resolution → Text
 requisite_text r a =
     detail_line (need_text r.kind ∷ r.id ∷ condition_words r.function r.by ++ answer_word a ∷ []) ++ answer_lines a
 
-abbrev pub resolution_words : Option Answer → List Text
+abbrev pub resolution_words : Option Resolution → List Text
 resolution_words None = []
 resolution_words (Some a) = answer_word a ∷ []
 
-abbrev pub resolution_lines : Option Answer → Text
+abbrev pub resolution_lines : Option Resolution → Text
 resolution_lines None = []
 resolution_lines (Some a) = answer_lines a
 
@@ -72,7 +72,7 @@ abbrev pub comment_line : Option Text → Text
 comment_line None = []
 comment_line (Some text) = inner_line (codes "COMMENT" ∷ text ∷ [])
 
-abbrev pub hold_lines : Hold → Option Answer → Text
+abbrev pub hold_lines : Hold → Option Resolution → Text
 hold_lines h o =
     detail_line (codes "HOLD" ∷ left_in 6 (hold_text h.kind) ∷ h.reason ∷ mark_text h.internal
     ∷ codes "CLASS" ∷ optional_text h.class ∷ codes "DATE" ∷ optional_text h.date ∷ resolution_words o)

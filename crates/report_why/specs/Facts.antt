@@ -120,22 +120,22 @@ pub record MayServe (s : Setting) (kind : NeedKind) (z y : Id) : Type 0 where
 
 -- The answer to something that x asks for: these SYSMODs supply it, it is waived, x would serve it itself, or it is
 -- open and these received SYSMODs would serve it.
-pub data Answer : Type 0 where
-  Supplied : List Id → Answer
-  Waived : Answer
-  ByItself : Answer
-  Open : List Id → Answer
+pub data Resolution : Type 0 where
+  Supplied : List Id → Resolution
+  Waived : Resolution
+  ByItself : Resolution
+  Open : List Id → Resolution
 
 -- the zone into which x is installed, less what its DELETE takes out
 abbrev pub left_by : Setting → Id → Zone
 left_by s x = zone_left s (x ∷ [])
 
-abbrev pub IsAnswer : Setting → Id → Requisite → Answer → Type 0
-IsAnswer s x r (Supplied ids) = IsTrue (is_met (left_by s x) r.kind r.id) × (ids ≡ suppliers (left_by s x) r.kind r.id)
-IsAnswer s x r Waived = IsFalse (is_met (left_by s x) r.kind r.id) × IsTrue (is_waived s.zone x r)
-IsAnswer s x r ByItself =
+abbrev pub IsResolution : Setting → Id → Requisite → Resolution → Type 0
+IsResolution s x r (Supplied ids) = IsTrue (is_met (left_by s x) r.kind r.id) × (ids ≡ suppliers (left_by s x) r.kind r.id)
+IsResolution s x r Waived = IsFalse (is_met (left_by s x) r.kind r.id) × IsTrue (is_waived s.zone x r)
+IsResolution s x r ByItself =
     IsFalse (is_met (left_by s x) r.kind r.id) × IsFalse (is_waived s.zone x r) × MayServe s r.kind r.id x
-IsAnswer s x r (Open ids) =
+IsResolution s x r (Open ids) =
     IsFalse (is_met (left_by s x) r.kind r.id) × IsFalse (is_waived s.zone x r) × (¬ MayServe s r.kind r.id x)
     × IsRising ids × ((y : Id) → Contains ids y ↔ MayServe s r.kind r.id y)
 
@@ -180,9 +180,9 @@ pub data Fact : Type 0 where
   -- a ++VER for the zone's SREL: its number, its FMID, whether it fits, and whether it is the one that counts
   VerFact : ℕ → Option Id → Bool → Bool → Fact
   -- something that it asks for
-  RequisiteFact : Requisite → Answer → Fact
+  RequisiteFact : Requisite → Resolution → Fact
   -- a hold, and for an ERROR hold the answer to its reason
-  HoldFact : Hold → Option Answer → Fact
+  HoldFact : Hold → Option Resolution → Fact
   -- an element that it replaces, or otherwise updates, as the zone has it
   ElementFact : ElemType → Text → Bool → Option Found → Fact
   -- an id that its DELETE names, and whether the id is in its own chain
@@ -212,19 +212,19 @@ ver_facts g zone x =
     numbered_facts (fits zone (is_in (x ∷ []))) (place g zone (x ∷ []) x + 1) 1 (vers_of g zone.srel x)
 
 abbrev pub IsRequisiteFact : Setting → Id → Requisite → Fact → Type 0
-IsRequisiteFact s x r fact = (a : Answer) × (fact ≡ RequisiteFact r a) × IsAnswer s x r a
+IsRequisiteFact s x r fact = (a : Resolution) × (fact ≡ RequisiteFact r a) × IsResolution s x r a
 
 -- the holds on an id: first for ERROR, then SYSTEM and USER
 abbrev pub holds_on : Global → Id → List Hold
 holds_on g x = holds_of g Error x ++ holds_of g System x ++ holds_of g User x
 
 -- for an ERROR hold the answer to its reason
-abbrev pub HasResolution : Setting → Id → Hold → HoldKind → Option Answer → Type 0
-HasResolution s x h Error o = (a : Answer) × (o ≡ Some a) × IsAnswer s x (a_requisite HoldError x None h.reason) a
+abbrev pub HasResolution : Setting → Id → Hold → HoldKind → Option Resolution → Type 0
+HasResolution s x h Error o = (a : Resolution) × (o ≡ Some a) × IsResolution s x (a_requisite HoldError x None h.reason) a
 HasResolution s x h _ o = o ≡ None
 
 abbrev pub IsHoldFact : Setting → Id → Hold → Fact → Type 0
-IsHoldFact s x h fact = (o : Option Answer) × (fact ≡ HoldFact h o) × HasResolution s x h h.kind o
+IsHoldFact s x h fact = (o : Option Resolution) × (fact ≡ HoldFact h o) × HasResolution s x h h.kind o
 
 abbrev pub IsElementFact : Setting → Id → Change → Fact → Type 0
 IsElementFact s x h fact =

@@ -17,7 +17,7 @@ use Rattle.terms.specs.Spelling.{hold_text, type_text, need_text, test_text}
 use Rattle.machine.specs.Outcome.{Status, Applied, Accepted, Superseded, Failed}
 use Rattle.machine.specs.Outcome.{Failure, OpenNeed, Line, StatusLine}
 use Rattle.machine.specs.Report.{detail_line, optional_text, list_text, status_word}
-use Rattle.report_why.specs.Facts.{Answer, ByItself, Open, Rank, Over, Maker, Found, Fact}
+use Rattle.report_why.specs.Facts.{Resolution, ByItself, Open, Rank, Over, Maker, Found, Fact}
 use Rattle.report_why.specs.Facts.{VerFact, RequisiteFact, HoldFact, ElementFact, DeleteFact, NpreFact, ForbiddenFact}
 use Rattle.report_why.specs.FactText.{inner_line}
 
@@ -123,22 +123,22 @@ test_told facts t =
 -- ---- open needs
 
 -- the answer of the fact to what is needed
-abbrev pub answered : NeedKind → Id → Fact → Option Answer
+abbrev pub answered : NeedKind → Id → Fact → Option Resolution
 answered kind z (RequisiteFact r a) = if bytes_eq (need_text kind) (need_text r.kind) && bytes_eq z r.id then Some a else None
 answered kind z (HoldFact h o) = if bytes_eq (need_text kind) (need_text HoldError) && bytes_eq z h.reason then o else None
 answered kind z _ = None
 
-abbrev pub or_other : Option Answer → Option Answer → Option Answer
+abbrev pub or_other : Option Resolution → Option Resolution → Option Resolution
 or_other (Some a) other = Some a
 or_other None other = other
 
 -- the answer of the first fact that has one
-abbrev pub first_answer : NeedKind → Id → List Fact → Option Answer
+abbrev pub first_answer : NeedKind → Id → List Fact → Option Resolution
 first_answer kind z [] = None
 first_answer kind z (f ∷ fs) = or_other (answered kind z f) (first_answer kind z fs)
 
 -- the SYSMODs that would supply it
-abbrev pub supply_words : Option Answer → List Text
+abbrev pub supply_words : Option Resolution → List Text
 supply_words (Some ByItself) = codes "it supplies this itself" ∷ []
 supply_words (Some (Open (y ∷ ys))) = list_text (y ∷ ys) ∷ codes "would supply it" ∷ []
 supply_words (Some (Open [])) = codes "no SYSMOD that supplies it is received" ∷ []

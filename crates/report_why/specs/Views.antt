@@ -21,7 +21,7 @@ standing_view standing.Deleted = facts.StandsDeleted
 standing_view standing.Received = facts.StandsReceived
 standing_view standing.Missing = facts.StandsMissing
 
-abbrev pub answer_view : Resolution → facts.Answer
+abbrev pub answer_view : Resolution → facts.Resolution
 answer_view (answer.Supplied ids) = facts.Supplied ids.items
 answer_view answer.Waived = facts.Waived
 answer_view answer.ByItself = facts.ByItself

@@ -7,7 +7,7 @@ ghost use Rattle.terms.specs.Needs.{Serves};
 ghost use Rattle.terms.specs.Candidates.{is_installable};
 ghost use Rattle.sysmods.specs.Choices.{choice};
 ghost use Rattle.zones.specs.Scopes.{global_of};
-ghost use Rattle.report_why.specs.Facts.{suppliers, is_waivable, is_waived, MayServe, IsAnswer};
+ghost use Rattle.report_why.specs.Facts.{suppliers, is_waivable, is_waived, MayServe, IsResolution};
 ghost use Rattle.report_why.specs.Asking.{setting_in, left_in};
 ghost use Rattle.report_why.specs.Views.{answer_view};
 
@@ -152,7 +152,7 @@ pub(crate) fn answer(
     asking: &Asking<'_, '_>,
     requisite: Requisite,
 ) -> Result<Resolution, AllocError>
-    ensures { IfOk result (λ a. IsAnswer (setting_in asking.now) asking.now.id requisite (answer_view a)) }
+    ensures { IfOk result (λ a. IsResolution (setting_in asking.now) asking.now.id requisite (answer_view a)) }
 {
     let Requisite { kind, id, .. } = requisite;
     if asking.meets(kind, id) {

@@ -47,11 +47,11 @@ impl Form {
 
 /// The words as `clap` took them: the value of an option is the next word, or follows its `=`.
 #[derive(Clone, Copy)]
-struct Words<'a> {
+struct CommandLine<'a> {
     words: &'a [Vec<u8>],
 }
 
-impl<'a> Words<'a> {
+impl<'a> CommandLine<'a> {
     fn at(self, place: usize) -> Option<&'a str> {
         str::from_utf8(self.words.get(place)?.as_slice()).ok()
     }
@@ -79,12 +79,12 @@ impl<'a> Words<'a> {
 
 /// The value of an option, if the words have it.
 pub(crate) fn value_of<'a>(words: &'a [Vec<u8>], option: &str) -> Option<&'a str> {
-    Words { words }.value(option)
+    CommandLine { words }.value(option)
 }
 
 /// What is wrong with the words, the first of which is the program's name, after `smpe: bad operand`.
 pub fn operand_hint(alloc: Global, words: &[Vec<u8>]) -> Result<Option<String>, AllocError> {
-    let words = Words { words };
+    let words = CommandLine { words };
     for place in 0..words.words.len() {
         let Some(word) = words.at(place) else {
             return Ok(Some(format!(in alloc; "word {place} is not UTF-8")?));
@@ -99,7 +99,11 @@ pub fn operand_hint(alloc: Global, words: &[Vec<u8>]) -> Result<Option<String>, 
     missing_hint(alloc, words)
 }
 
-fn value_hint(alloc: Global, words: Words<'_>, place: usize) -> Result<Option<String>, AllocError> {
+fn value_hint(
+    alloc: Global,
+    words: CommandLine<'_>,
+    place: usize,
+) -> Result<Option<String>, AllocError> {
     let Some((option, value)) = words.option(place) else {
         return Ok(None);
     };
@@ -112,7 +116,7 @@ fn value_hint(alloc: Global, words: Words<'_>, place: usize) -> Result<Option<St
     }
 }
 
-fn missing_hint(alloc: Global, words: Words<'_>) -> Result<Option<String>, AllocError> {
+fn missing_hint(alloc: Global, words: CommandLine<'_>) -> Result<Option<String>, AllocError> {
     if words.value("--cntl").is_some() && words.value("--date").is_none() {
         return Ok(Some(String::from_str(
             alloc,
@@ -124,7 +128,7 @@ fn missing_hint(alloc: Global, words: Words<'_>) -> Result<Option<String>, Alloc
 
 /// What to say about a job that has printed nothing.
 pub fn empty_hint(alloc: Global, words: &[Vec<u8>]) -> Result<Option<String>, AllocError> {
-    let words = Words { words };
+    let words = CommandLine { words };
     match words.value("--cntl") {
         Some(name) if words.at(1) == Some("run") => {
             Ok(Some(format!(in alloc; "{name} has no command")?))

@@ -15,7 +15,7 @@ pub struct ReadFile {
 
 /// What needs more words.
 #[derive(Drop)]
-enum Remark {
+enum Notice {
     /// A card of the file of this option is at fault.
     Card {
         option: &'static str,
@@ -50,7 +50,7 @@ pub struct ReportWatch {
     meant: Option<String>,
     /// Whether that SET was refused.
     is_refused: bool,
-    remarks: Vec<Remark>,
+    notices: Vec<Notice>,
 }
 
 impl ReportWatch {
@@ -64,7 +64,7 @@ impl ReportWatch {
             ended: 0,
             meant: None,
             is_refused: false,
-            remarks: Vec::new(alloc),
+            notices: Vec::new(alloc),
         }
     }
 
@@ -121,7 +121,7 @@ impl ReportWatch {
             ("REFUSED", "Cm5") => self.follow_card("--hold", words.nth(1), words.next()),
             ("REFUSED", "Cm2") => self.follow_refused(),
             ("ZONE", "REFUSED") if words.next() == Some("Zn2") => {
-                self.remarks.push(Remark::Related)?;
+                self.notices.push(Notice::Related)?;
                 Ok(())
             }
             ("SET", zone) => {
@@ -149,7 +149,7 @@ impl ReportWatch {
         };
         if let Ok(record) = record.parse() {
             let code = String::from_str(self.alloc, code)?;
-            self.remarks.push(Remark::Card {
+            self.notices.push(Notice::Card {
                 option,
                 record,
                 code,
@@ -160,14 +160,14 @@ impl ReportWatch {
 
     // A SET that is refused, or a question about a zone.
     fn follow_refused(&mut self) -> Result<(), AllocError> {
-        let remark = match &self.meant {
+        let notice = match &self.meant {
             Some(zone) => {
                 self.is_refused = true;
-                Remark::NoZone(String::from_str(self.alloc, zone.as_str())?)
+                Notice::NoZone(String::from_str(self.alloc, zone.as_str())?)
             }
-            None => Remark::NoZoneAsked,
+            None => Notice::NoZoneAsked,
         };
-        self.remarks.push(remark)?;
+        self.notices.push(notice)?;
         Ok(())
     }
 
@@ -179,7 +179,7 @@ impl ReportWatch {
         if let Some(meant) = self.meant.take() {
             let command = String::from_str(self.alloc, command)?;
             let zone = String::from_str(self.alloc, zone)?;
-            self.remarks.push(Remark::Elsewhere {
+            self.notices.push(Notice::Elsewhere {
                 command,
                 zone,
                 meant,
@@ -191,8 +191,8 @@ impl ReportWatch {
     /// What to say, a line each, about a report for which these words asked over these files.
     pub fn hints(&self, words: &[Vec<u8>], files: &[ReadFile]) -> Result<Vec<String>, AllocError> {
         let mut lines = Vec::new(self.alloc);
-        for remark in &self.remarks {
-            if let Some(line) = told(self.alloc, remark, words, files)? {
+        for notice in &self.notices {
+            if let Some(line) = told(self.alloc, notice, words, files)? {
                 lines.push(line)?;
             }
         }
@@ -202,12 +202,12 @@ impl ReportWatch {
 
 fn told(
     alloc: Global,
-    remark: &Remark,
+    notice: &Notice,
     words: &[Vec<u8>],
     files: &[ReadFile],
 ) -> Result<Option<String>, AllocError> {
-    match remark {
-        Remark::Card {
+    match notice {
+        Notice::Card {
             option,
             record,
             code,
@@ -218,18 +218,18 @@ fn told(
             code.as_str(),
             files,
         ),
-        Remark::Elsewhere {
+        Notice::Elsewhere {
             command,
             zone,
             meant,
         } => Ok(Some(format!(in alloc;
             "SET BDY({meant}) was refused, and {command} ran in the zone before it, {zone}"
         )?)),
-        Remark::NoZone(zone) => Ok(Some(format!(in alloc;
+        Notice::NoZone(zone) => Ok(Some(format!(in alloc;
             "zone {zone} is not defined in this database; smpe zone defines one"
         )?)),
-        Remark::NoZoneAsked => zone_told(alloc, value_of(words, "--zone")),
-        Remark::Related => related_told(alloc, words),
+        Notice::NoZoneAsked => zone_told(alloc, value_of(words, "--zone")),
+        Notice::Related => related_told(alloc, words),
     }
 }
 

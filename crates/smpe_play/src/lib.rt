@@ -17,6 +17,6 @@ pub use disks::{connected, in_memory, new_files, opened};
 pub use jobs::{card_file, compare, define_both, job_over, put_cards, run_printing, zone_name};
 pub use rows::lines_of;
 pub use steps::{
-    Plays, Rows, StepPlace, installed, installed_files, play, play_cases, play_installed,
+    Plays, RowsLeft, StepPlace, installed, installed_files, play, play_cases, play_installed,
     play_made, play_rows, run_step,
 };

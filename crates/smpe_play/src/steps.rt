@@ -193,13 +193,13 @@ pub fn installed_files(alloc: Global) -> Result<Connection<FileStore<Memory>>, F
 
 /// The rows that steps leave, as these queries find them.
 #[derive(Clone, Copy)]
-pub struct Rows<'a> {
+pub struct RowsLeft<'a> {
     pub queries: &'a [&'a str],
     pub wanted: &'a str,
 }
 
 /// No look at rows.
-const UNSEEN: Rows<'static> = Rows {
+const UNSEEN: RowsLeft<'static> = RowsLeft {
     queries: &[],
     wanted: "",
 };
@@ -209,7 +209,7 @@ fn check_rows<S: Alter + Drop>(
     alloc: Global,
     mut conn: Connection<S>,
     shows: &str,
-    rows: Rows<'_>,
+    rows: RowsLeft<'_>,
 ) -> Result<(), Fail> {
     let got = lines_of(alloc, &mut conn, rows.queries)?;
     compare(shows, got.as_bytes(), rows.wanted)
@@ -222,7 +222,7 @@ fn play_steps<P: Plays>(
     before: &[JobStep],
     steps: &[P],
     shows: &'static str,
-    rows: Rows<'_>,
+    rows: RowsLeft<'_>,
 ) -> Result<(), Fail> {
     let place = StepPlace {
         shows,
@@ -281,7 +281,7 @@ pub fn play_rows<P: Plays>(
     alloc: Global,
     steps: &[P],
     shows: &'static str,
-    rows: Rows<'_>,
+    rows: RowsLeft<'_>,
 ) -> Result<(), Fail> {
     play_steps(alloc, BEGINNING, steps, shows, rows)
 }

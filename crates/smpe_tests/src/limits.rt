@@ -2,7 +2,7 @@
 
 use crate::generated::run_job;
 use smpe_play::{
-    JOB, JobStep, Plays, RECEIVE, RECEIVING, Rows, StepPlace, card_file, in_memory, new_files,
+    JOB, JobStep, Plays, RECEIVE, RECEIVING, RowsLeft, StepPlace, card_file, in_memory, new_files,
     opened, play_rows, put_cards,
 };
 use sqlite::{Alter, Connection};
@@ -167,5 +167,5 @@ fn one_ptf_among_a_thousand_is_added_alone(rt: HostRuntime) -> Result<(), Fail> 
     let rows = rows_of(rt.alloc(), 999)?;
     let (queries, wanted) = (ROWS.as_slice(), rows.as_str());
     let shows = "one PTF more in a zone of 1,000 entries and 1,000 elements";
-    play_rows(rt.alloc(), &jobs, shows, Rows { queries, wanted })
+    play_rows(rt.alloc(), &jobs, shows, RowsLeft { queries, wanted })
 }

@@ -34,7 +34,7 @@ use Rattle.terms.specs.Tests.{Setting, view_of, owner_of, standing_holds, is_byp
 use Rattle.terms.specs.Needs.{asked, is_met}
 use Rattle.report_why.specs.Facts.{AreFacts, alone, standing_facts, ver_facts, numbered_facts, Requisite, requisites}
 use Rattle.report_why.specs.Facts.{requisites_of, a_requisite, stated_by, conditions_of, conditions}
-use Rattle.report_why.specs.Facts.{left_by, IsAnswer, Answer}
+use Rattle.report_why.specs.Facts.{left_by, IsResolution, Resolution}
 use Rattle.report_why.specs.Facts.{Supplied, Waived, ByItself, Open, Rank, Itself, Over, NotOver, IsRank, Maker}
 use Rattle.report_why.specs.Facts.{Found, IsFound, HasFound}
 use Rattle.report_why.specs.Facts.{Fact, EntryFact, VerFact, DeleteFact}
@@ -218,15 +218,15 @@ module _ (g : Global) (zone : Zone) (x : Id) (facts : List Fact) (are : AreFacts
 
   -- ---- the holds
 
-  resolved : (h : Hold) (kind : HoldKind) (o : Option Answer) → HasResolution s x h kind o → is_resolved o ≡ true
-      → (kind ≡ Error) × ((a : Answer) × IsAnswer s x (a_requisite HoldError x None h.reason) a
+  resolved : (h : Hold) (kind : HoldKind) (o : Option Resolution) → HasResolution s x h kind o → is_resolved o ≡ true
+      → (kind ≡ Error) × ((a : Resolution) × IsResolution s x (a_requisite HoldError x None h.reason) a
       × (is_supplied a ≡ true))
   resolved h Error o res ok = (refl, (res.0, res.2, sym (ap is_resolved res.1) ∙ ok))
   resolved h System o res ok = never (sym (ap is_resolved res) ∙ ok)
   resolved h User o res ok = never (sym (ap is_resolved res) ∙ ok)
 
   on_hold : (h : Hold) → Contains (holds_on g x) h → (h.kind ≡ Error)
-      × ((a : Answer) × IsAnswer s x (a_requisite HoldError x None h.reason) a × (is_supplied a ≡ true))
+      × ((a : Resolution) × IsResolution s x (a_requisite HoldError x None h.reason) a × (is_supplied a ≡ true))
   on_hold h is =
       let it = beside_passes _ Clear (holds_on g x) are.of_holds are.holds_are holds_clear h is in
       resolved h h.kind it.2.0 it.2.2 (sym (ap is_clear it.2.1) ∙ it.3)
@@ -248,7 +248,7 @@ module _ (g : Global) (zone : Zone) (x : Id) (facts : List Fact) (are : AreFacts
 
   -- ---- what it asks for
 
-  answered : (r : Requisite) (a : Answer) → IsAnswer s x r a → is_supplied a ≡ true
+  answered : (r : Requisite) (a : Resolution) → IsResolution s x r a → is_supplied a ≡ true
       → IsTrue (is_met (left_by s x) r.kind r.id)
   answered r (Supplied ids) answer ok = answer.0
   answered r Waived answer ok = never ok

@@ -6,7 +6,7 @@ use Rattle.terms.specs.declared.kinds.ZoneKind.TheVariants.{Target}
 use Rattle.terms.specs.Types.{Text, Id, Global, Zone, Selection}
 use Rattle.terms.specs.CommandForms.{no_bypass}
 use Rattle.report_why.specs.Facts.{Standing, StandsReceived}
-use Rattle.report_why.specs.Facts.{Answer, Supplied, Found, Fact}
+use Rattle.report_why.specs.Facts.{Resolution, Supplied, Found, Fact}
 use Rattle.report_why.specs.Verdict.{is_over}
 use Rattle.report_why.specs.Facts.{StandingFact, EntryFact, VerFact, RequisiteFact, HoldFact, ElementFact, DeleteFact}
 use Rattle.report_why.specs.Facts.{TakesFact, NpreFact, ForbiddenFact, NeededFact, AreFacts}
@@ -19,12 +19,12 @@ abbrev pub is_received_alone : Standing → Bool
 is_received_alone StandsReceived = true
 is_received_alone _ = false
 
-abbrev pub is_supplied : Answer → Bool
+abbrev pub is_supplied : Resolution → Bool
 is_supplied (Supplied ids) = true
 is_supplied _ = false
 
 -- a hold for ERROR whose reason is supplied; a SYSTEM or USER hold has no answer
-abbrev pub is_resolved : Option Answer → Bool
+abbrev pub is_resolved : Option Resolution → Bool
 is_resolved None = false
 is_resolved (Some answer) = is_supplied answer
 

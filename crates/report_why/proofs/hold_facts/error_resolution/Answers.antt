@@ -1,7 +1,7 @@
 use Rattle.std.proofs.Common.{◌∙◌, None, refl, ap, subst}
 use Rattle.terms.specs.declared.codes.NeedKind.TheVariants.{HoldError}
 use Rattle.terms.specs.Types.{Hold}
-use Rattle.report_why.specs.Facts.{a_requisite, IsAnswer}
+use Rattle.report_why.specs.Facts.{a_requisite, IsResolution}
 use Rattle.report_why.specs.Asking.{setting_in}
 use Rattle.report_why.specs.Views.{answer_view}
 use Rattle.report_why.proofs.hold_facts.error_resolution.Goals as goal
@@ -12,7 +12,7 @@ returns-in_ok-answer-in-Some c =
     let answer = answer_view c.in_ok-answer-in-Some.field-0 in (
       answer,
       refl,
-      subst (λ reason. IsAnswer (setting_in a) a.id (a_requisite HoldError a.id None reason) answer)
+      subst (λ reason. IsResolution (setting_in a) a.id (a_requisite HoldError a.id None reason) answer)
           (c.in-Some.ensures.same ∙ ap (λ (h : Hold). h.reason) c.hold.view_is)
           c.in_ok-answer-in-Some.ensures,
     )
