@@ -1,6 +1,6 @@
-// measure FILE COMMAND WORD..: runs the command with what it says in FILE, and prints its seconds of processor time, the
-// most memory that it had, in kilobytes, and its status. What Python starts by itself is told at least Python's memory,
-// since the kernel keeps that mark over exec; this program is small.
+// measure FILE COMMAND WORD..: runs the command with its output in FILE, and prints its seconds of processor time, the
+// most memory that it had, in kilobytes, and its status. A command that Python starts would be told Python's own memory
+// at least, since the kernel keeps that mark over exec; this program is small.
 #include <fcntl.h>
 #include <stdio.h>
 #include <sys/resource.h>
