@@ -1,5 +1,5 @@
 -- Searches down: the marks, and what they tell at the end.
-use Rattle.std.proofs.Common.{◌≡◌, ℕ, suc, ◌+◌, ◌<◌, ◌≤◌, ◌⊎◌, inl, inr, ◌↔◌, Bool, true, false, List, [], ◌∷◌, ◌++◌}
+use Rattle.std.proofs.Common.{◌≡◌, ℕ, ◌+◌, ◌<◌, ◌≤◌, ◌⊎◌, inl, inr, ◌↔◌, Bool, true, false, List, [], ◌∷◌, ◌++◌}
 use Rattle.std.proofs.Common.{length, take, set, get_or, Contains, refl, sym, subst, ap, ◌∙◌, true≢false, arith}
 use Rattle.std.specs.Prelude.{All, IsTrue, Vec, replicate}
 use Rattle.std.specs.Option.{option_map_or}

@@ -1,6 +1,7 @@
 -- Ids and their numbers: what one leads to, the other does.
-use Rattle.std.proofs.Common.{◌≡◌, ℕ, ◌+◌, ◌<◌, ◌≤◌, ◌⊎◌, inl, inr, ◌↔◌, Bool, true, false, List, [], ◌∷◌, ◌++◌, length}
-use Rattle.std.proofs.Common.{take, map, get_or, Contains, Option, Some, None, is_some, refl, sym, subst, ap, ap₂, ◌∙◌, true≢false, arith}
+use Rattle.std.proofs.Common.{◌≡◌, ℕ, ◌+◌, ◌<◌, inl, inr, ◌↔◌, false, List, [], ◌∷◌, ◌++◌, length}
+use Rattle.std.proofs.Common.{take, map, get_or, Contains, Option, Some, None, is_some, refl, sym, subst, ap, ap₂, ◌∙◌}
+use Rattle.std.proofs.Common.{true≢false, arith}
 use Rattle.std.specs.Prelude.{All, Vec, position, slice_get}
 use Rattle.std.specs.List.{IsDistinct}
 use Rattle.std.specs.Map.{keys_of, values_of}
@@ -19,9 +20,8 @@ use Rattle.terms.proofs.ListMembers.{none_in, in_map, map_in}
 use Rattle.terms.proofs.Places.{at_place}
 use Rattle.terms.proofs.TextOrder.{same_from, same_itself}
 use Rattle.terms.specs.Types.{Id}
-use Rattle.terms.specs.Beside.{Beside}
 use Rattle.terms.specs.Choice.{Choice}
-use Rattle.terms.specs.Over.{IsOver, Leads, Reaches, names}
+use Rattle.terms.specs.Over.{IsOver, Leads, names}
 use Rattle.sysmods_values.proofs.Places.{no_place}
 use Rattle.sysmods.specs.Graphs.{Descends, IsFalling, IsGraph, IsNode, LeadsDown, list_at}
 use Rattle.sysmods.proofs.Descents.{leads_lower}
@@ -96,6 +96,9 @@ numbers_within ids numbers named e = λ i d within.
 
 -- ---- one more id
 
+abbrev Node : Type 0
+Node = Id × Vec ℕ AnyGlobal
+
 module _ (c : Choice) where
   node_stays : (ids : List Id) (x : Id) (n : ℕ) (y : Id) (numbers : List ℕ) → IsNode c ids n y numbers
       → IsNode c (ids ++ x ∷ []) n y numbers
@@ -121,18 +124,19 @@ module _ (c : Choice) where
   pub graph_none : IsGraph c [] []
   graph_none = record { lengths = refl; each = λ n x v at also. absurd (cc at) }
 
-  pub graph_more : (nodes new : List (Id × Vec ℕ AnyGlobal)) (x : Id) (numbers : Vec ℕ AnyGlobal)
+  pub graph_more : (nodes new : List Node) (x : Id) (numbers : Vec ℕ AnyGlobal)
       → IsGraph c (keys_of nodes) (values_of nodes)
       → map (slice_get (keys_of nodes)) numbers.items ≡ map (λ z. Some z) (names c x)
       → new ≡ nodes ++ (x, numbers) ∷ [] → IsGraph c (keys_of new) (values_of new)
   graph_more nodes new x numbers graph are made =
-      let one : List (Id × Vec ℕ AnyGlobal) = (x, numbers) ∷ [] in
+      let one : List Node = (x, numbers) ∷ [] in
       let ids : keys_of new ≡ keys_of nodes ++ x ∷ [] =
-      ap (λ (l : List (Id × Vec ℕ AnyGlobal)). keys_of l) made ∙ map-append (λ (e : Id × Vec ℕ AnyGlobal). e.0) nodes one in
+      ap (λ (l : List Node). keys_of l) made ∙ map-append (λ (e : Node). e.0) nodes one in
       let lists : values_of new ≡ values_of nodes ++ numbers ∷ [] =
-      ap (λ (l : List (Id × Vec ℕ AnyGlobal)). values_of l) made ∙ map-append (λ (e : Id × Vec ℕ AnyGlobal). e.1) nodes one in
+      ap (λ (l : List Node). values_of l) made ∙ map-append (λ (e : Node). e.1) nodes one in
+      let both = more (keys_of nodes) (values_of nodes) x numbers graph are in
       subst (λ l. IsGraph c l (values_of new)) (sym ids)
-      (subst (IsGraph c (keys_of nodes ++ x ∷ [])) (sym lists) (more (keys_of nodes) (values_of nodes) x numbers graph are))
+      (subst (IsGraph c (keys_of nodes ++ x ∷ [])) (sym lists) both)
 
 -- ---- what leads where
 

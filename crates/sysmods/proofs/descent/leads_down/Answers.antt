@@ -1,4 +1,4 @@
-use Rattle.std.proofs.Common.{◌≡◌, ◌<◌, ◌≤◌, ◌+◌, ◌-◌, ◌∙◌, false, sym, ap, subst, length, arith}
+use Rattle.std.proofs.Common.{◌≡◌, ◌<◌, ◌+◌, ◌-◌, ◌∙◌, false, sym, ap, subst, length, arith}
 use Rattle.std.specs.Prelude.{All, replicate}
 use Rattle.std.proofs.lemmas.List.{length-replicate}
 use Rattle.sysmods.specs.Graphs.{IsSearchDown, Marks, list_at}
