@@ -1,10 +1,11 @@
 //! Which ids are over which, with what was found before.
-ghost use Rattle.std.specs.Prelude.{◌≡◌, ◌↔◌, IsTrue, IfOk};
+ghost use Rattle.std.specs.Prelude.{◌≡◌, ◌↔◌, ◌||◌, IsTrue, IfOk};
 ghost use Rattle.indexmap.specs.IndexMap.{keys, values};
+ghost use Rattle.terms.specs.Choice.{pre_of, sup_of};
 ghost use Rattle.terms.specs.Over.{IsOver};
 ghost use Rattle.sysmods.specs.Choices.{choice};
 ghost use Rattle.sysmods.specs.Graphs.{IsGraph};
-ghost use Rattle.sysmods.specs.Overs.{AreOver, is_known};
+ghost use Rattle.sysmods.specs.Overs.{AreOver, is_known, is_one_known};
 
 use crate::over_graph::OverGraph;
 use crate::ver_choice::VerChoice;
@@ -98,7 +99,7 @@ impl<'a, 'b> Overs<'a, 'b> {
         if is_known(&self.known, x, z) {
             return Ok(true);
         }
-        if !finds(alloc, self.vers, &mut self.graph, x, z)? {
+        if !finds(alloc, self.vers, &self.known, &mut self.graph, x, z)? {
             return Ok(false);
         }
         self.known.insert((x, z))?;
@@ -112,19 +113,43 @@ fn is_known(known: &IndexSet<(Id, Id)>, x: Id, z: Id) -> bool
     known.contains(&(x, z))
 }
 
-// Whether x is over z. The graph takes in what x leads to, unless x names z itself.
+fn is_one_known(known: &IndexSet<(Id, Id)>, ids: &[Id], z: Id) -> bool
+    ensures { result ≡ is_one_known known.now.keys ids.now z }
+{
+    ids.iter().any(|id| is_known(known, *id, z))
+}
+
+// Whether x names in PRE or SUP an id that is known to be over z.
+fn follows_known(vers: &VerChoice<'_>, known: &IndexSet<(Id, Id)>, x: Id, z: Id) -> bool
+    ensures { result ≡ (is_one_known known.now.keys (pre_of (choice vers.now) x) z
+        || is_one_known known.now.keys (sup_of (choice vers.now) x) z) }
+{
+    match vers.ver(x) {
+        Some(ver) => {
+            is_one_known(known, ver.pre.as_slice(), z) || is_one_known(known, ver.sup.as_slice(), z)
+        }
+        None => false,
+    }
+}
+
+// Whether x is over z. The graph takes in what x leads to, unless x names z itself or an id that is known to be over z.
 fn finds(
     alloc: Global,
     vers: &VerChoice<'_>,
+    known: &IndexSet<(Id, Id)>,
     graph: &mut OverGraph,
     x: Id,
     z: Id,
 ) -> Result<bool, AllocError>
-    requires { IsGraph (choice vers.now) (keys graph.old.nodes) (values graph.old.nodes) }
+    requires known { AreOver (choice vers.now) known.now.keys }
+    requires graph { IsGraph (choice vers.now) (keys graph.old.nodes) (values graph.old.nodes) }
     ensures over { IfOk result (λ over. IsTrue over ↔ IsOver (choice vers.now) x z) }
     ensures graph { IsGraph (choice vers.now) (keys graph.new.nodes) (values graph.new.nodes) }
 {
     if vers.names(x, z) {
+        return Ok(true);
+    }
+    if follows_known(vers, known, x, z) {
         return Ok(true);
     }
     graph.add_all(alloc, vers, x)?;
