@@ -22,4 +22,6 @@ pub mod OneVer
 pub mod Receiving
 pub mod Taken
 mod KnownPairs
+mod Descents
+mod OverGraphs
 pub mod NoneMet

@@ -14,3 +14,4 @@ pub mod Edits
 pub mod Faults
 pub mod Parts
 pub mod Overs
+pub mod Graphs

@@ -10,6 +10,7 @@
 #![tactic(auto)]
 
 mod chain;
+mod descent;
 mod edit;
 mod global_zone;
 mod holds;
@@ -18,6 +19,7 @@ mod iter;
 mod key;
 mod loops;
 mod naming;
+mod over_graph;
 mod overs;
 mod parts;
 mod receive;

@@ -1,22 +1,26 @@
-//! Which ids are over which, with what was found before: along a chain of PREs or SUPs each search is short.
+//! Which ids are over which, with what was found before.
 ghost use Rattle.std.specs.Prelude.{◌≡◌, ◌↔◌, ◌||◌, IsTrue, IfOk};
+ghost use Rattle.indexmap.specs.IndexMap.{keys, values};
 ghost use Rattle.terms.specs.Choice.{pre_of, sup_of};
 ghost use Rattle.terms.specs.Over.{IsOver};
 ghost use Rattle.sysmods.specs.Choices.{choice};
+ghost use Rattle.sysmods.specs.Graphs.{IsGraph};
 ghost use Rattle.sysmods.specs.Overs.{AreOver, is_known, is_one_known};
 
+use crate::over_graph::OverGraph;
 use crate::ver_choice::VerChoice;
 use fields::Id;
 use indexmap::IndexSet;
 use std::alloc::{AllocError, Global};
 use std::marker::Model;
 
-/// Which id is over which by the `++VER`s that count. It keeps the pairs that it has found. A contract sees it as the
-/// choice of these `++VER`s.
+/// Which id is over which by the `++VER`s that count. It keeps the pairs that it has found, and a graph of what it has
+/// gone through. A contract sees it as the choice of these `++VER`s.
 #[derive(Drop)]
 pub struct Overs<'a, 'b> {
     vers: &'a VerChoice<'b>,
     known: IndexSet<(Id, Id)>,
+    graph: OverGraph,
 }
 
 /// The pairs of ids that an `Overs` has found, the first over the second, without the choice of `++VER`s by which they
@@ -41,11 +45,11 @@ impl<'a, 'b> Model for Overs<'a, 'b> {
     ghost Value = { choices.VerChoice };
 
     ghost use Rattle.sysmods.specs.Choices.{choice};
-    ghost use Rattle.sysmods.specs.Overs.{AreOver};
+    ghost use Rattle.sysmods.specs.Overs.{IsKept};
 
     ghost view = { λ a. a.vers.now };
 
-    ghost invariant = { λ a. AreOver (choice a.vers.now) a.known.keys };
+    ghost invariant = { λ a. IsKept (choice a.vers.now) a.known.keys a.graph.nodes.entries };
 }
 
 impl<'a, 'b> Overs<'a, 'b> {
@@ -56,6 +60,7 @@ impl<'a, 'b> Overs<'a, 'b> {
         Overs {
             vers,
             known: IndexSet::new(alloc),
+            graph: OverGraph::new(alloc),
         }
     }
 
@@ -64,9 +69,11 @@ impl<'a, 'b> Overs<'a, 'b> {
         requires { AreOver (choice vers.now) known }
         ensures { result ≡ vers.now }
     {
+        let graph = OverGraph::new(*known.pairs.allocator());
         Overs {
             vers,
             known: known.pairs,
+            graph,
         }
     }
 
@@ -92,7 +99,7 @@ impl<'a, 'b> Overs<'a, 'b> {
         if is_known(&self.known, x, z) {
             return Ok(true);
         }
-        if !finds(alloc, self.vers, &self.known, x, z)? {
+        if !finds(alloc, self.vers, &self.known, &mut self.graph, x, z)? {
             return Ok(false);
         }
         self.known.insert((x, z))?;
@@ -125,19 +132,26 @@ fn follows_known(vers: &VerChoice<'_>, known: &IndexSet<(Id, Id)>, x: Id, z: Id)
     }
 }
 
-// Whether x is over z, by a known pair or by a search.
+// Whether x is over z. The graph takes in what x leads to, unless x names z itself or an id that is known to be over z.
 fn finds(
     alloc: Global,
     vers: &VerChoice<'_>,
     known: &IndexSet<(Id, Id)>,
+    graph: &mut OverGraph,
     x: Id,
     z: Id,
 ) -> Result<bool, AllocError>
-    requires { AreOver (choice vers.now) known.now.keys }
-    ensures { IfOk result (λ over. IsTrue over ↔ IsOver (choice vers.now) x z) }
+    requires known { AreOver (choice vers.now) known.now.keys }
+    requires graph { IsGraph (choice vers.now) (keys graph.old.nodes) (values graph.old.nodes) }
+    ensures over { IfOk result (λ over. IsTrue over ↔ IsOver (choice vers.now) x z) }
+    ensures graph { IsGraph (choice vers.now) (keys graph.new.nodes) (values graph.new.nodes) }
 {
+    if vers.names(x, z) {
+        return Ok(true);
+    }
     if follows_known(vers, known, x, z) {
         return Ok(true);
     }
-    vers.over(alloc, x, z)
+    graph.add_all(alloc, vers, x)?;
+    graph.over(alloc, vers, x, z)
 }

@@ -1,9 +1,10 @@
 //! Which `++VER` of a SYSMOD counts.
-ghost use Rattle.std.specs.Prelude.{◌≡◌, ◌↔◌, ◌-◌, List, ℕ, Contains, IsTrue, IfOk, filter, option_copied, slice_get};
+ghost use Rattle.std.specs.Prelude.{◌≡◌, ◌↔◌, ◌-◌, ◌++◌, List, ℕ, Contains, IsTrue, IfOk, OnOk, filter};
+ghost use Rattle.std.specs.Prelude.{option_copied, slice_get};
 ghost use Rattle.std.specs.Str.{bytes_eq};
 ghost use Rattle.terms.specs.Choice.{fmid_of, vers_of};
 ghost use Rattle.terms.specs.Lookups.{is_in, meets};
-ghost use Rattle.terms.specs.Over.{IsOver, Supersedes, chain, owner};
+ghost use Rattle.terms.specs.Over.{IsOver, Supersedes, chain, names, owner};
 ghost use Rattle.sysmods.specs.Choices.{has_ver, picked, number_in, choice};
 
 use crate::chain::Chain;
@@ -86,6 +87,26 @@ impl<'a> VerChoice<'a> {
         ensures { option_copied result ≡ choice self.now id }
     {
         numbered_ver(self.global, self.srel, id, self.number(id))
+    }
+
+    /// Whether the `++VER` that counts names z in PRE, SUP or FMID.
+    pub(crate) fn names(&self, x: Id, z: Id) -> bool
+        ensures { result ≡ is_in (names (choice self.now) x) z }
+    {
+        match self.ver(x) {
+            Some(ver) => ver.names(z),
+            None => false,
+        }
+    }
+
+    /// Appends what it names in PRE, SUP and FMID.
+    pub(crate) fn append_named(&self, id: Id, found: &mut Vec<Id>) -> Result<(), AllocError>
+        ensures { OnOk result (found.new.items ≡ found.old.items ++ names (choice self.now) id) }
+    {
+        match self.ver(id) {
+            Some(ver) => ver.append_named(found),
+            None => Ok(()),
+        }
     }
 
     /// The FMID of the `++VER` that counts.
@@ -186,10 +207,7 @@ impl Names for AllNames<'_, '_> {
     ghost named = { λ n. names (choice n.choice.now) };
 
     fn append_named(&self, id: Id, found: &mut Vec<Id>) -> Result<(), AllocError> {
-        match self.choice.ver(id) {
-            Some(ver) => ver.append_named(found),
-            None => Ok(()),
-        }
+        self.choice.append_named(id, found)
     }
 }
 

@@ -1,0 +1,54 @@
+//! Searches in a graph of numbers that lead to lower ones.
+ghost use Rattle.std.specs.Prelude.{◌≡◌, ◌<◌, ◌+◌, ◌↔◌, ℕ, length, All, IsTrue, IfOk};
+ghost use Rattle.sysmods.specs.Graphs.{IsFalling, IsSearchDown, LeadsDown, Marks, list_at};
+
+use std::alloc::{AllocError, Global};
+
+// Marks these numbers.
+fn mark(numbers: &[usize], marks: &mut Vec<bool>)
+    requires { All (λ n. n < length marks.old.items) numbers.now }
+    ensures { Marks numbers.now marks.old.items marks.new.items }
+{
+    for number in numbers {
+        marks[*number] = true;
+    }
+}
+
+// Marks what a number leads to, if it is marked itself.
+fn go_down(lists: &[Vec<usize>], number: usize, marks: &mut Vec<bool>)
+    requires number { number < length lists.now }
+    requires marks { number < length marks.old.items }
+    requires falling { IsFalling (list_at lists.now) }
+    ensures { (high : ℕ) → IsSearchDown (list_at lists.now) high (number + 1) marks.old.items
+        → IsSearchDown (list_at lists.now) high number marks.new.items }
+{
+    if !marks[number] {
+        return;
+    }
+    mark(lists[number].as_slice(), marks);
+}
+
+/// Whether a number leads to a lower one. It goes through the numbers between them, from the highest on.
+pub(crate) fn leads_down(
+    alloc: Global,
+    lists: &[Vec<usize>],
+    high: usize,
+    low: usize,
+) -> Result<bool, AllocError>
+    requires high { high < length lists.now }
+    requires low { low < high }
+    requires falling { IsFalling (list_at lists.now) }
+    ensures { IfOk result (λ found. IsTrue found ↔ LeadsDown (list_at lists.now) high low) }
+{
+    let mut marks = vec![in alloc; false; high]?;
+    mark(lists[high].as_slice(), &mut marks);
+    let mut next = high;
+    while low + 1 < next {
+        if marks[low] {
+            return Ok(true);
+        }
+        next -= 1;
+        go_down(lists, next, &mut marks);
+    }
+    Ok(marks[low])
+}

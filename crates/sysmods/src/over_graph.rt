@@ -1,0 +1,119 @@
+//! Which ids lead to which by PRE, SUP and FMID, in numbers.
+ghost use Rattle.std.specs.Prelude.{◌≡◌, ◌↔◌, [], IsTrue, IfOk};
+ghost use Rattle.indexmap.specs.IndexMap.{keys, values};
+ghost use Rattle.terms.specs.Over.{IsOver};
+ghost use Rattle.sysmods.specs.Choices.{choice};
+ghost use Rattle.sysmods.specs.Graphs.{AreNumbers, IsGraph};
+
+use crate::descent::leads_down;
+use crate::ver_choice::VerChoice;
+use fields::Id;
+use indexmap::IndexMap;
+use std::alloc::{AllocError, Global};
+
+/// Ids in an order such that each comes after all that it names. An id's number is its place, and its value has the
+/// numbers of what it names. So a search touches no id, and goes from each number to lower ones.
+#[derive(Drop)]
+pub(crate) struct OverGraph {
+    nodes: IndexMap<Id, Vec<usize>>,
+}
+
+/// The numbers of some ids, or one of these that has no number.
+#[derive(Drop)]
+enum Numbers {
+    Known(Vec<usize>),
+    Missing(Id),
+}
+
+fn numbers_of(
+    alloc: Global,
+    nodes: &IndexMap<Id, Vec<usize>>,
+    ids: &[Id],
+) -> Result<Numbers, AllocError>
+    ensures { IfOk result (AreNumbers (keys nodes.now) ids.now) }
+{
+    let mut numbers = Vec::new(alloc);
+    for id in ids {
+        let Some(number) = nodes.get_index_of(id) else {
+            return Ok(Numbers::Missing(*id));
+        };
+        numbers.push(number)?;
+    }
+    Ok(Numbers::Known(numbers))
+}
+
+impl OverGraph {
+    pub(crate) fn new(alloc: Global) -> Self
+        ensures { result.nodes.entries ≡ [] }
+    {
+        OverGraph {
+            nodes: IndexMap::new(alloc),
+        }
+    }
+
+    // Gives the id a number if all that it names have one. Otherwise it returns one that has none.
+    fn add(&mut self, alloc: Global, vers: &VerChoice<'_>, id: Id) -> Result<Option<Id>, AllocError>
+        requires { IsGraph (choice vers.now) (keys self.old.nodes) (values self.old.nodes) }
+        ensures { IsGraph (choice vers.now) (keys self.new.nodes) (values self.new.nodes) }
+    {
+        if self.nodes.contains_key(&id) {
+            return Ok(None);
+        }
+        let mut named = Vec::new(alloc);
+        vers.append_named(id, &mut named)?;
+        match numbers_of(alloc, &self.nodes, named.as_slice())? {
+            Numbers::Known(numbers) => {
+                drop(self.nodes.insert(id, numbers)?);
+                Ok(None)
+            }
+            Numbers::Missing(other) => Ok(Some(other)),
+        }
+    }
+
+    /// Gives the id a number, after all to which it leads. The path from the id to one without a number has no id
+    /// twice, because SYSMODs make no loop.
+    pub(crate) fn add_all(
+        &mut self,
+        alloc: Global,
+        vers: &VerChoice<'_>,
+        id: Id,
+    ) -> Result<(), AllocError>
+        requires { IsGraph (choice vers.now) (keys self.old.nodes) (values self.old.nodes) }
+        ensures { IsGraph (choice vers.now) (keys self.new.nodes) (values self.new.nodes) }
+    {
+        let mut path = vec![in alloc; id]?;
+        'path: for _ in 0..u64::MAX {
+            let Some(last) = path.last() else {
+                break;
+            };
+            match self.add(alloc, vers, *last)? {
+                Some(named) => path.push(named)?,
+                None => drop(path.pop()),
+            }
+        }
+        Ok(())
+    }
+
+    /// Whether x is over z. It searches the numbers if x has one, as it has after `add_all`.
+    pub(crate) fn over(
+        &self,
+        alloc: Global,
+        vers: &VerChoice<'_>,
+        x: Id,
+        z: Id,
+    ) -> Result<bool, AllocError>
+        requires { IsGraph (choice vers.now) (keys self.now.nodes) (values self.now.nodes) }
+        ensures { IfOk result (λ over. IsTrue over ↔ IsOver (choice vers.now) x z) }
+    {
+        let Some(high) = self.nodes.get_index_of(&x) else {
+            return vers.over(alloc, x, z);
+        };
+        let Some(low) = self.nodes.get_index_of(&z) else {
+            return Ok(false);
+        };
+        if high <= low {
+            return Ok(false);
+        }
+        leads_down(alloc, self.nodes.values().as_slice(), high, low)
+    }
+}
