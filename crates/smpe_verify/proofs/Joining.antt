@@ -1,5 +1,6 @@
 -- Words that are put one after the other, with a blank before each but the first.
-use Rattle.std.proofs.Common.{◌≡◌, ◌∙◌, ◌<◌, ◌+◌, ℕ, List, [], ◌∷◌, ◌++◌, length, map, take, get_or, sym, ap, ap₂, append_assoc}
+use Rattle.std.proofs.Common.{◌≡◌, ◌∙◌, ◌<◌, ◌+◌, ℕ, List, [], ◌∷◌, ◌++◌, length, map, take}
+use Rattle.std.proofs.Common.{get_or, sym, ap, ap₂, append_assoc}
 use Rattle.std.specs.List.{flat_map, join_with_byte}
 use Rattle.std.specs.Prelude.{codes, decimal}
 use Rattle.std.proofs.lemmas.List.Folds.{flat_map-map}
@@ -26,8 +27,8 @@ all_joined f first rest old t1 t2 begun more =
 -- the line of the counts, in digits
 abbrev counts_line : (sysmods zones entries elements : List ℕ) → List ℕ
 counts_line sysmods zones entries elements = words_line (
-  codes "VERIFIED" ∷ codes "SYSMODS" ∷ sysmods ∷ codes "ZONES" ∷ zones ∷ codes "ENTRIES" ∷ entries ∷ codes "ELEMENTS"
-  ∷ elements ∷ [])
+    codes "VERIFIED" ∷ codes "SYSMODS" ∷ sysmods ∷ codes "ZONES" ∷ zones ∷ codes "ENTRIES" ∷ entries ∷ codes "ELEMENTS"
+    ∷ elements ∷ [])
 
 pub counts_told : (old : List ℕ) (sysmods zones entries elements : ℕ) {s z e l : List ℕ} → s ≡ decimal sysmods
     → z ≡ decimal zones → e ≡ decimal entries → l ≡ decimal elements

@@ -3,7 +3,7 @@ use Rattle.std.proofs.Common.{◌≡◌, ◌∙◌, Bool, true, false, List, [],
 use Rattle.std.proofs.Common.{subst, IsTrue, ◌⊎◌, inl, inr}
 use Rattle.std.specs.Prelude.{IsFalse, IfSome, Contains, is_some, not, option_map, if◌then◌else◌}
 use Rattle.std.specs.Option.{option_or}
-use Rattle.std.proofs.lemmas.Bool.{not-true, not-false, not_from_true}
+use Rattle.std.proofs.lemmas.Bool.{not-false, not_from_true}
 use Rattle.std.proofs.lemmas.List.Elements.{All-nil, All-cons, All-head, All-tail, All-weaker, recursion_from_All}
 use Rattle.terms.specs.Lookups.{at_most_one}
 use Rattle.terms.proofs.ListMembers.{here, there, here_or, none_in}

@@ -1,10 +1,10 @@
 -- The status is 0 if and only if all zones are closed, and a breach that is told is one.
-use Rattle.std.proofs.Common.{◌≡◌, ◌∙◌, List, [], ◌∷◌, All, Option, Some, None, refl, sym, ap, subst}
-use Rattle.std.specs.Prelude.{◌↔◌, Contains, option_map, unwrap_or}
+use Rattle.std.proofs.Common.{◌≡◌, [], Option, Some, None, refl, ap}
+use Rattle.std.specs.Prelude.{◌↔◌, Contains, unwrap_or}
 use Rattle.std.proofs.lemmas.List.Elements.{All-contains, All-weaker}
 use Rattle.terms.specs.declared.kinds.ElemType.{ElemType}
 use Rattle.terms.specs.declared.kinds.ElemType.TheVariants.{Mac, Src, Clist, Data, Exec, Parm, Proc}
-use Rattle.terms.specs.Types.{Text, Lines, Element, Global, Zone, NamedZone}
+use Rattle.terms.specs.Types.{Text, Lines, NamedZone}
 use Rattle.terms.specs.Choice.{counting}
 use Rattle.terms.specs.Closed.{IsClosedZone, AreClosed}
 use Rattle.terms.specs.Texts.{HasForm}

@@ -1,13 +1,11 @@
 -- The rules of a closed zone, and the search for the first that is broken.
-use Rattle.std.proofs.Common.{◌≡◌, ◌≢◌, ◌∙◌, Bool, true, false, List, [], ◌∷◌, All, Option, Some, None, find, filter, map}
+use Rattle.std.proofs.Common.{◌≡◌, ◌≢◌, ◌∙◌, Bool, true, false, List, [], ◌∷◌, All, Option, Some, None, find, filter}
 use Rattle.std.proofs.Common.{refl, sym, ap, subst, IsTrue}
-use Rattle.std.specs.Prelude.{◌↔◌, IsFalse, IsSome, IsNone, IfSome, Contains, is_some, not, option_map, if◌then◌else◌}
-use Rattle.std.specs.Option.{option_or}
+use Rattle.std.specs.Prelude.{◌↔◌, IsFalse, IfSome, Contains, is_some, not, option_map, if◌then◌else◌}
 use Rattle.std.specs.Str.{bytes_eq}
 use Rattle.std.proofs.lemmas.Bool.{not-true}
 use Rattle.std.proofs.lemmas.List.Elements.{All-nil, All-cons, All-head, All-tail, All-weaker, All-contains}
-use Rattle.terms.specs.declared.kinds.ElemType.{ElemType}
-use Rattle.terms.specs.Types.{Text, Id, Entry, Element, Global, Zone}
+use Rattle.terms.specs.Types.{Id, Entry, Element, Global, Zone}
 use Rattle.terms.specs.Lookups.{applied_ids, at_most_one, delby_of, is_applied, is_function, is_supplied}
 use Rattle.terms.specs.Choice.{Choice, fmid_of, npre_of}
 use Rattle.terms.specs.Closed.{IsSupported, IsAtPeace, IsOwned, IsClosedZone}
@@ -18,13 +16,11 @@ use Rattle.terms.specs.Texts.{HasForm}
 use Rattle.terms.proofs.Each.{All_from_each}
 use Rattle.terms.proofs.ListMembers.{in_map, map_in, in_filter, filter_in}
 use Rattle.terms.proofs.TextOrder.{same_from, same_itself}
-use Rattle.smpe_verify.specs.declared.breach.EntryFault.{EntryFault}
 use Rattle.smpe_verify.specs.declared.breach.EntryFault.TheVariants.{VerNotReceived, FmidNotApplied}
 use Rattle.smpe_verify.specs.declared.breach.EntryFault.TheVariants.{RequisiteNotSupplied, NpreApplied}
 use Rattle.smpe_verify.specs.declared.breach.EntryFault.TheVariants.{DeletedInChain, SupbyNotApplied}
 use Rattle.smpe_verify.specs.declared.breach.Level.{Level}
 use Rattle.smpe_verify.specs.declared.breach.Level.TheVariants.{Fmid, Rmid, Umid}
-use Rattle.smpe_verify.specs.declared.breach.ElementFault.{ElementFault}
 use Rattle.smpe_verify.specs.declared.breach.ElementFault.TheVariants.{LevelNotApplied, NotReplacedBy}
 use Rattle.smpe_verify.specs.declared.breach.ElementFault.TheVariants.{NotUpdatedBy, OtherOwner}
 use Rattle.smpe_verify.specs.declared.breach.Breach.{Breach}
@@ -143,7 +139,8 @@ module _ (g : Global) (c : Choice) (zone : Zone) where
 
     replaced_judged : Judges (none_or (NotReplacedBy e.rmid) (has_replacement g e.rmid e.elem_type e.name))
         (IsTrue (has_replacement g e.rmid e.elem_type e.name)) (ElementBreaks g c zone e)
-    replaced_judged = tested (NotReplacedBy e.rmid) (has_replacement g e.rmid e.elem_type e.name) (λ other. (refl, other))
+    replaced_judged = tested (NotReplacedBy e.rmid) (has_replacement g e.rmid e.elem_type e.name)
+        (λ other. (refl, other))
 
     updated_judged : Judges (option_map NotUpdatedBy (find (λ x. not (has_update g x e.elem_type e.name)) e.umids))
         (All (λ x. IsTrue (has_update g x e.elem_type e.name)) e.umids) (ElementBreaks g c zone e)
@@ -171,12 +168,12 @@ module _ (g : Global) (c : Choice) (zone : Zone) where
         (All (λ x. owner g c x ≡ e.fmid) (ids_at e level)) (ElementBreaks g c zone e)
     owned_at level =
         let found : Judges (other_owner g c e.fmid level (ids_at e level))
-            (All (λ x. IsTrue (is_owned x)) (ids_at e level)) (ElementBreaks g c zone e) =
-            mapped (find (λ x. not (is_owned x)) (ids_at e level)) (λ x. OtherOwner level x (owner g c x))
-            (λ x it. (it.1, refl, other x (not-true (is_owned x) it.0))) (searched_not is_owned (ids_at e level)) in
+        (All (λ x. IsTrue (is_owned x)) (ids_at e level)) (ElementBreaks g c zone e) =
+        mapped (find (λ x. not (is_owned x)) (ids_at e level)) (λ x. OtherOwner level x (owner g c x))
+        (λ x it. (it.1, refl, other x (not-true (is_owned x) it.0))) (searched_not is_owned (ids_at e level)) in
         restated found
         (All-weaker (λ x. IsTrue (is_owned x)) (λ x. owner g c x ≡ e.fmid)
-            (λ x is. same_from (owner g c x) e.fmid is) (ids_at e level))
+        (λ x is. same_from (owner g c x) e.fmid is) (ids_at e level))
         (All-weaker (λ x. owner g c x ≡ e.fmid) (λ x. IsTrue (is_owned x)) same_owner (ids_at e level))
 
     owner_judged : Judges (owner_fault g c e) (All (λ x. owner g c x ≡ e.fmid) ids) (ElementBreaks g c zone e)
@@ -253,7 +250,7 @@ module _ (g : Global) (c : Choice) (zone : Zone) where
       → Judges (first_breach g c zone) (IsClosedZone g c zone) (Breaks g c zone)
   zone_judged forms =
       let all = either (first_of (entry_breach g c zone) zone.entries)
-          (first_of (element_breach g c zone) zone.elements) entries_judged (elements_judged forms) in
+      (first_of (element_breach g c zone) zone.elements) entries_judged (elements_judged forms) in
       restated all (λ have. closed_from have.0 have.1) (λ closed. (rules_of closed, closed.elements))
 
   pub none_if_closed : All (λ e. HasForm e.elem_type e.text) zone.elements → (b : Option Breach)

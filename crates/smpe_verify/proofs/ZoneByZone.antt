@@ -1,14 +1,14 @@
 -- What is found zone by zone, by their names, is what is found of the inventory's zones.
-use Rattle.std.proofs.Common.{◌≡◌, ◌∙◌, ◌+◌, ℕ, Bool, true, false, List, [], ◌∷◌, Option, Some, None, find, map, length}
+use Rattle.std.proofs.Common.{◌≡◌, ◌∙◌, ◌+◌, ℕ, false, List, [], ◌∷◌, Option, Some, None, find, map, length}
 use Rattle.std.proofs.Common.{refl, sym, ap, ap₂, subst, IsTrue, inl, inr, ◌⊎◌, ◌<◌, ◌≤◌, drop, get_or}
 use Rattle.std.specs.Prelude.{AllPairs, Contains, fold, option_map, option_and_then, unwrap_or}
-use Rattle.std.specs.Option.{option_or, option_map_or}
+use Rattle.std.specs.Option.{option_map_or}
 use Rattle.std.specs.Ordering.{nat_cmp}
 use Rattle.std.specs.Cmp.Lexicographic.{slice_cmp}
 use Rattle.std.specs.Str.{bytes_eq}
 use Rattle.std.proofs.lemmas.List.{drop_more, drop_all, length-map}
 use Rattle.std.proofs.lemmas.List.Elements.{All-contains}
-use Rattle.terms.specs.Types.{Text, Global, Zone, NamedZone}
+use Rattle.terms.specs.Types.{Text, Global, NamedZone}
 use Rattle.terms.specs.Lookups.{is_before}
 use Rattle.terms.proofs.ListMembers.{here, there, here_or, none_in}
 use Rattle.terms.proofs.Orderings.{Less_from_is_lt}
@@ -21,7 +21,7 @@ use Rattle.smpe_verify.specs.declared.verification.Counts.{Counts}
 use Rattle.smpe_verify.specs.declared.verification.Verification.{Verification}
 use Rattle.smpe_verify.specs.declared.verification.Verification.TheVariants.{Closed, Broken}
 use Rattle.smpe_verify.specs.FirstBreach.{first_of}
-use Rattle.smpe_verify.specs.Verified.{begun, breach_in, breach_at, broken, counts_of, counted, verification}
+use Rattle.smpe_verify.specs.Verified.{begun, breach_in, breach_at, broken, counted, verification}
 use Rattle.smpe_verify.specs.Verified.{verified_from}
 
 abbrev IsLower : NamedZone → NamedZone → Type 0
@@ -40,12 +40,13 @@ at_name (y ∷ ys) z rising has = by (at_name ys z (AllPairs_rest IsLower y ys r
     by again (inr later) =
         let lower : IsLower y z = All-contains (IsLower y) ys z (AllPairs_first IsLower y ys rising) later in
         let other : bytes_eq y.name z.name ≡ false = other_from_less y.name z.name
-            (Less_from_is_lt (slice_cmp nat_cmp y.name z.name) lower) in
+        (Less_from_is_lt (slice_cmp nat_cmp y.name z.name) lower) in
         rw other (again later)
 
 in_inventory : (i : Inventory) → IsInventory i → (z : NamedZone) → Contains i.zones z → zone_in i z.name ≡ Some z.zone
 in_inventory i inventory z has = ap (option_map (λ (z : NamedZone). z.zone)) (at_name i.zones z
-    (pairs_unmap IsLower (λ x y. IsTrue (is_before x y)) (λ z. z.name) (λ a b lower. lower) i.zones inventory.names) has)
+    (pairs_unmap IsLower (λ x y. IsTrue (is_before x y)) (λ z. z.name) (λ a b lower. lower) i.zones inventory.names)
+    has)
 
 -- the counts after these zones too
 abbrev after_zones : Counts → List NamedZone → Counts
@@ -70,7 +71,8 @@ module _ (i : Inventory) where
       told = ap (λ o. option_map (Broken z.name) (option_and_then (breach_in i.global) o)) at
 
       more : counted i counts z.name ≡ after_zones counts (z ∷ [])
-      more = ap (λ o. option_map_or (λ zone. after_zones counts (record { name = z.name; zone = zone } ∷ [])) o counts) at
+      more =
+          ap (λ o. option_map_or (λ zone. after_zones counts (record { name = z.name; zone = zone } ∷ [])) o counts) at
 
       by : verified_from i (counted i counts z.name) (map (λ z. z.name) zs)
           ≡ unwrap_or (first_of (broken i.global) zs) (Closed (after_zones (counted i counts z.name) zs))
@@ -89,7 +91,7 @@ module _ (i : Inventory) where
       → (counts : Counts) → counts ≡ begun g names → verified_from i counts names ≡ verification i
   whole inventory g global names are counts is =
       let start : counts ≡ with_zones (length i.zones) =
-          is ∙ ap₂ begun global are ∙ ap with_zones (length-map i.zones (λ z. z.name))
+      is ∙ ap₂ begun global are ∙ ap with_zones (length-map i.zones (λ z. z.name))
       in
       ap₂ (verified_from i) start are
       ∙ from_zones i.zones (with_zones (length i.zones)) (in_inventory i inventory)

@@ -1,5 +1,6 @@
--- The first rule of a closed zone that a zone breaks: entries rising by id, then elements by type and name, and for each
--- the rules in the order of `IsClosedZone`. That texts have their types' forms is no rule here: each element has that.
+-- The first rule of a closed zone that a zone breaks: entries rising by id, then elements by type and name, and for
+-- each the rules in the order of `IsClosedZone`. That a text has the form of its type is no rule here: every element
+-- has it.
 use Rattle.std.specs.Prelude.{Bool, not, List, [], ◌∷◌, Option, None, Some, find, is_some, option_map, if◌then◌else◌}
 use Rattle.std.specs.Option.{option_or}
 use Rattle.std.specs.Str.{bytes_eq}
@@ -51,17 +52,17 @@ deleted_in zone ids = find (λ y. is_some (delby_of zone y)) ids
 -- IsSupported
 abbrev pub support_fault : Choice → Zone → Id → Option EntryFault
 support_fault c zone x = first (
-  none_or VerNotReceived (is_some (c x))
-  ∷ option_map FmidNotApplied (not_applied zone (at_most_one (fmid_of c x)))
-  ∷ option_map RequisiteNotSupplied (not_supplied zone (binding_ids c zone (is_applied zone) x))
-  ∷ [])
+    none_or VerNotReceived (is_some (c x))
+    ∷ option_map FmidNotApplied (not_applied zone (at_most_one (fmid_of c x)))
+    ∷ option_map RequisiteNotSupplied (not_supplied zone (binding_ids c zone (is_applied zone) x))
+    ∷ [])
 
 -- IsAtPeace
 abbrev pub peace_fault : Global → Choice → Zone → Id → Option EntryFault
 peace_fault g c zone x = first (
-  option_map NpreApplied (if is_function g x then applied_in zone (npre_of c x) else None)
-  ∷ option_map DeletedInChain (deleted_in zone (chain g c x))
-  ∷ [])
+    option_map NpreApplied (if is_function g x then applied_in zone (npre_of c x) else None)
+    ∷ option_map DeletedInChain (deleted_in zone (chain g c x))
+    ∷ [])
 
 -- the first fault of an applied SYSMOD
 abbrev pub applied_fault : Global → Choice → Zone → Id → Option EntryFault
@@ -81,23 +82,23 @@ other_owner g c fmid level ids =
 -- IsOwned, clause by clause
 abbrev pub level_fault : Zone → Element → Option ElementFault
 level_fault zone e = first (
-  option_map (LevelNotApplied Fmid) (not_applied zone (e.fmid ∷ []))
-  ∷ option_map (LevelNotApplied Rmid) (not_applied zone (e.rmid ∷ []))
-  ∷ option_map (LevelNotApplied Umid) (not_applied zone e.umids)
-  ∷ [])
+    option_map (LevelNotApplied Fmid) (not_applied zone (e.fmid ∷ []))
+    ∷ option_map (LevelNotApplied Rmid) (not_applied zone (e.rmid ∷ []))
+    ∷ option_map (LevelNotApplied Umid) (not_applied zone e.umids)
+    ∷ [])
 
 abbrev pub change_fault : Global → Element → Option ElementFault
 change_fault g e = first (
-  none_or (NotReplacedBy e.rmid) (has_replacement g e.rmid e.elem_type e.name)
-  ∷ option_map NotUpdatedBy (find (λ x. not (has_update g x e.elem_type e.name)) e.umids)
-  ∷ [])
+    none_or (NotReplacedBy e.rmid) (has_replacement g e.rmid e.elem_type e.name)
+    ∷ option_map NotUpdatedBy (find (λ x. not (has_update g x e.elem_type e.name)) e.umids)
+    ∷ [])
 
 abbrev pub owner_fault : Global → Choice → Element → Option ElementFault
 owner_fault g c e = first (
-  other_owner g c e.fmid Fmid (e.fmid ∷ [])
-  ∷ other_owner g c e.fmid Rmid (e.rmid ∷ [])
-  ∷ other_owner g c e.fmid Umid e.umids
-  ∷ [])
+    other_owner g c e.fmid Fmid (e.fmid ∷ [])
+    ∷ other_owner g c e.fmid Rmid (e.rmid ∷ [])
+    ∷ other_owner g c e.fmid Umid e.umids
+    ∷ [])
 
 -- the first fault of an element
 abbrev pub element_fault : Global → Choice → Zone → Element → Option ElementFault

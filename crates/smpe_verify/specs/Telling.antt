@@ -1,5 +1,5 @@
 -- What is told of an inventory's zones, in words.
-use Rattle.std.specs.Prelude.{◌≡◌, ℕ, List, [], ◌∷◌, ◌++◌, codes, decimal}
+use Rattle.std.specs.Prelude.{◌≡◌, ℕ, [], ◌∷◌, ◌++◌, codes, decimal}
 use Rattle.std.specs.List.{join_with_byte}
 use Rattle.terms.specs.Types.{Text}
 use Rattle.terms.specs.Spelling.{type_text}
@@ -22,12 +22,12 @@ use Rattle.smpe_verify.specs.declared.told.Verified.{Verified}
 
 abbrev pub counts_text : Counts → Text
 counts_text counts = words_line (
-  codes "VERIFIED"
-  ∷ codes "SYSMODS" ∷ decimal counts.sysmods
-  ∷ codes "ZONES" ∷ decimal counts.zones
-  ∷ codes "ENTRIES" ∷ decimal counts.entries
-  ∷ codes "ELEMENTS" ∷ decimal counts.elements
-  ∷ [])
+    codes "VERIFIED"
+    ∷ codes "SYSMODS" ∷ decimal counts.sysmods
+    ∷ codes "ZONES" ∷ decimal counts.zones
+    ∷ codes "ENTRIES" ∷ decimal counts.entries
+    ∷ codes "ELEMENTS" ∷ decimal counts.elements
+    ∷ [])
 
 abbrev pub level_text : Level → Text
 level_text Fmid = codes "FMID"

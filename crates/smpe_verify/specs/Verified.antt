@@ -1,5 +1,5 @@
 -- What is found of an inventory's zones.
-use Rattle.std.specs.Prelude.{◌≡◌, ◌+◌, ℕ, List, [], ◌∷◌, length, map, sum_by, Option, None, Some, option_map, unwrap_or}
+use Rattle.std.specs.Prelude.{◌≡◌, ◌+◌, List, [], ◌∷◌, length, sum_by, Option, option_map, unwrap_or}
 use Rattle.std.specs.Prelude.{option_and_then}
 use Rattle.std.specs.Option.{option_map_or}
 use Rattle.terms.specs.Types.{Text, Global, Zone, NamedZone}

@@ -34,11 +34,7 @@ pub fn first_breach(
 }
 
 // By the `++VER`s that count in it.
-fn breach_of(
-    alloc: Global,
-    global: &GlobalZone,
-    zone: &Zone,
-) -> Result<Option<Breach>, AllocError>
+fn breach_of(alloc: Global, global: &GlobalZone, zone: &Zone) -> Result<Option<Breach>, AllocError>
     ensures { IfOk result
         (λ breach. breach ≡ first_breach global.now (counting global.now zone.now []) zone.now) }
 {
@@ -48,11 +44,7 @@ fn breach_of(
 }
 
 // By these `++VER`s.
-fn breach_by(
-    alloc: Global,
-    vers: &VerChoice<'_>,
-    zone: &Zone,
-) -> Result<Option<Breach>, AllocError>
+fn breach_by(alloc: Global, vers: &VerChoice<'_>, zone: &Zone) -> Result<Option<Breach>, AllocError>
     ensures { IfOk result
         (λ breach. breach ≡ first_breach vers.now.global.now (choice vers.now) zone.now) }
 {

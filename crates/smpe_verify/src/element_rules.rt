@@ -43,8 +43,8 @@ fn level_fault(zone: &Zone, element: &Element) -> Option<ElementFault>
     if let Some(id) = first_not_applied(zone, &[element.rmid]) {
         return Some(ElementFault::LevelNotApplied(Level::Rmid, id));
     }
-    first_not_applied(zone, element.umids.as_slice())
-        .map(|id| ElementFault::LevelNotApplied(Level::Umid, id))
+    let id = first_not_applied(zone, element.umids.as_slice())?;
+    Some(ElementFault::LevelNotApplied(Level::Umid, id))
 }
 
 // Its RMID if that does not replace it, or otherwise the first UMID that does not update it.
@@ -54,8 +54,9 @@ fn change_fault(global: &GlobalZone, element: &Element) -> Option<ElementFault>
     if !replaces(global, element.rmid, element.elem_type, element.name) {
         return Some(ElementFault::NotReplacedBy(element.rmid));
     }
-    first_not_updating(global, element.elem_type, element.name, element.umids.as_slice())
-        .map(|id| ElementFault::NotUpdatedBy(id))
+    let umids = element.umids.as_slice();
+    let id = first_not_updating(global, element.elem_type, element.name, umids)?;
+    Some(ElementFault::NotUpdatedBy(id))
 }
 
 // The first of its FMID, RMID and UMIDs whose elements another function owns.
@@ -72,12 +73,7 @@ fn owner_fault(vers: &VerChoice<'_>, element: &Element) -> Option<ElementFault>
 }
 
 // The first of these ids whose elements another function than this one owns.
-fn other_owner(
-    vers: &VerChoice<'_>,
-    fmid: Id,
-    level: Level,
-    ids: &[Id],
-) -> Option<ElementFault>
+fn other_owner(vers: &VerChoice<'_>, fmid: Id, level: Level, ids: &[Id]) -> Option<ElementFault>
     ensures { result ≡ other_owner vers.now.global.now (choice vers.now) fmid level ids.now }
 {
     let id = first_of_other(vers, fmid, ids)?;
@@ -99,7 +95,9 @@ fn first_not_updating(
 ) -> Option<Id>
     ensures { result ≡ find (λ x. not (has_update global.now x elem_type name)) ids.now }
 {
-    ids.iter().copied().find(|id| !updates(global, *id, elem_type, name))
+    ids.iter()
+        .copied()
+        .find(|id| !updates(global, *id, elem_type, name))
 }
 
 // Whether the SYSMOD replaces the element.
@@ -132,12 +130,7 @@ fn is_replacement(change: &ElemChange) -> bool
 }
 
 // What the SYSMOD does to the element.
-fn change_of(
-    global: &GlobalZone,
-    id: Id,
-    elem_type: ElemType,
-    name: Name,
-) -> Option<&ElemChange>
+fn change_of(global: &GlobalZone, id: Id, elem_type: ElemType, name: Name) -> Option<&ElemChange>
     ensures { option_copied result ≡ change_of global.now id elem_type name }
 {
     change_at(global.get(id)?.changes.as_slice(), elem_type, name)

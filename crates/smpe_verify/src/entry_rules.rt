@@ -75,7 +75,8 @@ fn support_fault(
         return Ok(Some(EntryFault::FmidNotApplied(fmid)));
     }
     let requisites = requisites_held(alloc, vers, zone, id)?;
-    Ok(first_not_supplied(zone, requisites.as_slice()).map(|id| EntryFault::RequisiteNotSupplied(id)))
+    let open = first_not_supplied(zone, requisites.as_slice());
+    Ok(open.map(|id| EntryFault::RequisiteNotSupplied(id)))
 }
 
 // The NPRE of a function, and its chain.
@@ -85,7 +86,8 @@ fn peace_fault(vers: &VerChoice<'_>, zone: &Zone, id: Id) -> Option<EntryFault>
     if let Some(npre) = applied_npre(vers, zone, id) {
         return Some(EntryFault::NpreApplied(npre));
     }
-    deleted_in_chain(vers, zone, id).map(|id| EntryFault::DeletedInChain(id))
+    let deleted = deleted_in_chain(vers, zone, id)?;
+    Some(EntryFault::DeletedInChain(deleted))
 }
 
 // The first id in the chain that was deleted.
@@ -119,7 +121,11 @@ fn fmid_not_applied(zone: &Zone, fmid: Option<Id>) -> Option<Id>
     ensures { result ≡ not_applied zone.now (at_most_one fmid) }
 {
     let fmid = fmid?;
-    if zone.is_applied(fmid) { None } else { Some(fmid) }
+    if zone.is_applied(fmid) {
+        None
+    } else {
+        Some(fmid)
+    }
 }
 
 fn first_applied(zone: &Zone, ids: &[Id]) -> Option<Id>

@@ -5,7 +5,7 @@ ghost use Rattle.smpe_verify.specs.Telling.{level_text};
 
 use crate::breach::{Breach, ElementFault, EntryFault, Level};
 use crate::verification::{Counts, Verification};
-use crate::words::{put, put_line, put_joined};
+use crate::words::{put, put_joined, put_line};
 use fields::ZoneName;
 use fields::spelling::type_text;
 use itoa::Buffer;
@@ -87,8 +87,14 @@ fn put_entry_fault(fault: EntryFault, text: &mut Vec<u8>) -> Result<(), AllocErr
     ensures { OnOk result (text.new.items ≡ text.old.items ++ entry_fault_text fault) }
 {
     match fault {
-        EntryFault::VerNotReceived => put_line(&[b"the VER by which it was applied is not received"], text),
-        EntryFault::FmidNotApplied(id) => put_line(&[b"FMID", id.as_bytes(), b"is not applied"], text),
+        EntryFault::VerNotReceived => put_line(
+            &[b"the VER by which it was applied is not received"],
+            text,
+        ),
+        EntryFault::FmidNotApplied(id) => put_line(
+            &[b"FMID", id.as_bytes(), b"is not applied"],
+            text,
+        ),
         EntryFault::RequisiteNotSupplied(id) => put_line(
             &[
                 b"REQUISITE",
@@ -101,7 +107,10 @@ fn put_entry_fault(fault: EntryFault, text: &mut Vec<u8>) -> Result<(), AllocErr
         EntryFault::DeletedInChain(id) => {
             put_line(&[id.as_bytes(), b"in its chain is deleted"], text)
         }
-        EntryFault::SupbyNotApplied(id) => put_line(&[b"SUPBY", id.as_bytes(), b"is not applied"], text),
+        EntryFault::SupbyNotApplied(id) => put_line(
+            &[b"SUPBY", id.as_bytes(), b"is not applied"],
+            text,
+        ),
     }
 }
 

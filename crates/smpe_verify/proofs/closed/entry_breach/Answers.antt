@@ -22,7 +22,8 @@ returns-in-Some c =
     let fault = c.in-Some.fault in
     let some : c.in_ok-found.found ≡ Some fault = search rules in
     ap (λ (e : Entry). Some (OfEntry e.id fault)) c.entry.view_is
-    ∙ stops breach c.entries-entry-items.result.now c.loop-entry.entry-index e (OfEntry e.id fault) (omega arith) c.entry-item.is
+    ∙ stops breach c.entries-entry-items.result.now c.loop-entry.entry-index e (OfEntry e.id fault) (omega arith)
+    c.entry-item.is
     (ap (option_map (OfEntry e.id)) (sym c.in_ok-found.ensures ∙ some)) c.loop-entry.invariant
     ∙ ap (first_of breach) c.entries-entry-items.ensures
 

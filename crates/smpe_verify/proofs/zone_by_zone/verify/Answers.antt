@@ -1,5 +1,4 @@
 use Rattle.std.proofs.Common.{◌≡◌, ◌∙◌, sym, ap, arith, rules, None, Some}
-use Rattle.smpe_verify.specs.declared.verification.Verification.TheVariants.{Closed, Broken}
 use Rattle.smpe_verify.specs.Verified.{begun}
 use Rattle.smpe_verify.proofs.Loading.{handed_on, answered, loads_both}
 use Rattle.smpe_verify.proofs.ZoneByZone.{whole, goes_on, stops, ends}
@@ -40,7 +39,8 @@ loop-name-preserved g c =
     (λ i inventory so. (
       so.0.0,
       goes_on i c.as_slice-name-items.result.now c.loop-name.name-index c.loop-name.counts so.0.1
-          c.name-item.result (omega arith) c.name-item.is c.in_ok-global.global (sym c.global.view_is ∙ so.0.0) c.verify_zone.new.counts
+          c.name-item.result (omega arith) c.name-item.is c.in_ok-global.global (sym c.global.view_is ∙ so.0.0)
+          c.verify_zone.new.counts
           so.1.1 (none ∙ so.1.0),
     ))
     (loads_both g.S.Store _ _ c.args.store.now c.loop-name.store c.verify_zone.new.store tt _ c.loop-name.invariant
