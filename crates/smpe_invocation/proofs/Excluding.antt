@@ -36,6 +36,7 @@ module _ (rows : List Row) where
   zone_in (asked.Why db zone ids, h) = two_words (codes "zone") (codes "why") refl h.0
   zone_in (asked.Check srel ptfin hold commands, h) = two_words (codes "zone") (codes "check") refl h.0
   zone_in (asked.Migrate db, h) = two_words (codes "zone") (codes "migrate") refl h.0
+  zone_in (asked.Verify db, h) = two_words (codes "zone") (codes "verify") refl h.0
 
   pub run_in : (i : Invocation) × HasValues (codes "run", rows) i
       → (db : _) × (date : _) × (cntl : _) × (ptfin : _) × (hold : _) × (careful : _)
@@ -46,6 +47,7 @@ module _ (rows : List Row) where
   run_in (asked.Why db zone ids, h) = two_words (codes "run") (codes "why") refl h.0
   run_in (asked.Check srel ptfin hold commands, h) = two_words (codes "run") (codes "check") refl h.0
   run_in (asked.Migrate db, h) = two_words (codes "run") (codes "migrate") refl h.0
+  run_in (asked.Verify db, h) = two_words (codes "run") (codes "verify") refl h.0
 
   pub list_in : (i : Invocation) × HasValues (codes "list", rows) i
       → (db : _) × (zone : _) × HasOptions rows (asked.List db zone)
@@ -55,6 +57,7 @@ module _ (rows : List Row) where
   list_in (asked.Why db zone ids, h) = two_words (codes "list") (codes "why") refl h.0
   list_in (asked.Check srel ptfin hold commands, h) = two_words (codes "list") (codes "check") refl h.0
   list_in (asked.Migrate db, h) = two_words (codes "list") (codes "migrate") refl h.0
+  list_in (asked.Verify db, h) = two_words (codes "list") (codes "verify") refl h.0
 
   pub why_in : (i : Invocation) × HasValues (codes "why", rows) i
       → (db : _) × (zone : _) × (ids : _) × HasOptions rows (asked.Why db zone ids)
@@ -64,6 +67,7 @@ module _ (rows : List Row) where
   why_in (asked.Why db zone ids, h) = (db, zone, ids, h.1)
   why_in (asked.Check srel ptfin hold commands, h) = two_words (codes "why") (codes "check") refl h.0
   why_in (asked.Migrate db, h) = two_words (codes "why") (codes "migrate") refl h.0
+  why_in (asked.Verify db, h) = two_words (codes "why") (codes "verify") refl h.0
 
   pub check_in : (i : Invocation) × HasValues (codes "check", rows) i
       → (srel : _) × (ptfin : _) × (hold : _) × (commands : _) × HasOptions rows (asked.Check srel ptfin hold commands)
@@ -73,6 +77,7 @@ module _ (rows : List Row) where
   check_in (asked.Why db zone ids, h) = two_words (codes "check") (codes "why") refl h.0
   check_in (asked.Check srel ptfin hold commands, h) = (srel, ptfin, hold, commands, h.1)
   check_in (asked.Migrate db, h) = two_words (codes "check") (codes "migrate") refl h.0
+  check_in (asked.Verify db, h) = two_words (codes "check") (codes "verify") refl h.0
 
   pub migrate_in : (i : Invocation) × HasValues (codes "migrate", rows) i
       → (db : _) × HasOptions rows (asked.Migrate db)
@@ -82,6 +87,17 @@ module _ (rows : List Row) where
   migrate_in (asked.Why db zone ids, h) = two_words (codes "migrate") (codes "why") refl h.0
   migrate_in (asked.Check srel ptfin hold commands, h) = two_words (codes "migrate") (codes "check") refl h.0
   migrate_in (asked.Migrate db, h) = (db, h.1)
+  migrate_in (asked.Verify db, h) = two_words (codes "migrate") (codes "verify") refl h.0
+
+  pub verify_in : (i : Invocation) × HasValues (codes "verify", rows) i
+      → (db : _) × HasOptions rows (asked.Verify db)
+  verify_in (asked.Zone db name kind srel related, h) = two_words (codes "verify") (codes "zone") refl h.0
+  verify_in (asked.Run db date cntl ptfin hold careful, h) = two_words (codes "verify") (codes "run") refl h.0
+  verify_in (asked.List db zone, h) = two_words (codes "verify") (codes "list") refl h.0
+  verify_in (asked.Why db zone ids, h) = two_words (codes "verify") (codes "why") refl h.0
+  verify_in (asked.Check srel ptfin hold commands, h) = two_words (codes "verify") (codes "check") refl h.0
+  verify_in (asked.Migrate db, h) = two_words (codes "verify") (codes "migrate") refl h.0
+  verify_in (asked.Verify db, h) = (db, h.1)
 
   -- where there is a file of commands, it has a name, and they have a date
   pub named_in : ¬ Lacks (codes "cntl") rows → (commands : Option CommandJob) × HasCommands rows commands

@@ -72,7 +72,11 @@ check_shape = with_options (codes "check")
 abbrev pub migrate_shape : Shape
 migrate_shape = with_options (codes "migrate") (database_options [])
 
--- `smpe` with one of the six, and `--version`
+-- `verify --db F [--wait SECONDS]`
+abbrev pub verify_shape : Shape
+verify_shape = with_options (codes "verify") (database_options [])
+
+-- `smpe` with one of the seven, and `--version`
 abbrev pub smpe : ValueParser → App
 smpe kinds = record {
   top = record (new_app (codes "smpe")).top {
@@ -81,7 +85,7 @@ smpe kinds = record {
     subcommand_required = true;
     disable_help_subcommand = true;
   };
-  subs = zone_shape kinds ∷ run_shape ∷ list_shape ∷ why_shape ∷ check_shape ∷ migrate_shape ∷ [];
+  subs = zone_shape kinds ∷ run_shape ∷ list_shape ∷ why_shape ∷ check_shape ∷ migrate_shape ∷ verify_shape ∷ [];
 }
 
 abbrev pub IsCommandLine : App → Type 0

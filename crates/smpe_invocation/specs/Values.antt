@@ -78,6 +78,7 @@ subcommand (asked.List db zone) = codes "list"
 subcommand (asked.Why db zone ids) = codes "why"
 subcommand (asked.Check srel ptfin hold commands) = codes "check"
 subcommand (asked.Migrate db) = codes "migrate"
+subcommand (asked.Verify db) = codes "verify"
 
 -- the options have its values
 abbrev pub HasOptions : List Row → Invocation → Type 0
@@ -94,6 +95,7 @@ HasOptions rows (asked.Check srel ptfin hold commands) = HasSrel rows srel
     × HasText (codes "ptfin") rows (string_bytes ptfin)
     × HasOptional (codes "hold") rows (option_map string_bytes hold) × HasCommands rows commands
 HasOptions rows (asked.Migrate db) = HasDatabase rows db
+HasOptions rows (asked.Verify db) = HasDatabase rows db
 
 -- the subcommand that is called, with its values
 abbrev pub HasValues : Text × List Row → Invocation → Type 0

@@ -58,4 +58,8 @@ pub enum Invocation {
     Migrate {
         db: DatabaseFile,
     },
+    /// Tell whether the tables of a database stand for a state, and whether its zones are closed.
+    Verify {
+        db: DatabaseFile,
+    },
 }

@@ -4,7 +4,7 @@ ghost use Rattle.clap.specs.Words.{app_of, rule_of};
 ghost use Rattle.clap.specs.declared.builder.value_parser.ValueParser.{ValueParser};
 ghost use Rattle.smpe_invocation.specs.CommandLine.{IsCommandLine, IsKindParser, IsSubcommand, check_shape};
 ghost use Rattle.smpe_invocation.specs.CommandLine.{database_options, flag, kind_option, list_shape, migrate_shape};
-ghost use Rattle.smpe_invocation.specs.CommandLine.{needed, option, repeated, run_shape};
+ghost use Rattle.smpe_invocation.specs.CommandLine.{needed, option, repeated, run_shape, verify_shape};
 ghost use Rattle.smpe_invocation.specs.CommandLine.{why_shape, with_options, zone_shape};
 
 use clap::{Arg, ArgAction, Command};
@@ -33,7 +33,8 @@ pub(crate) fn command_line<'a>(alloc: Global) -> Result<Command<'a>, AllocError>
     .subcommand(list_command(alloc)?)?
     .subcommand(why_command(alloc)?)?
     .subcommand(check_command(alloc)?)?
-    .subcommand(migrate_command(alloc)?)
+    .subcommand(migrate_command(alloc)?)?
+    .subcommand(verify_command(alloc)?)
 }
 
 // A command without options, with a line about what it does and an example.
@@ -149,6 +150,17 @@ fn migrate_command<'a>(alloc: Global) -> Result<Command<'a>, AllocError>
         "migrate",
         "Takes a database of an earlier release over to this one; copy it before",
         "Example: smpe migrate --db smpe.db",
+    )
+}
+
+fn verify_command<'a>(alloc: Global) -> Result<Command<'a>, AllocError>
+    ensures { IfOk result (IsSubcommand verify_shape) }
+{
+    database_command(
+        alloc,
+        "verify",
+        "Tells whether a database is whole, and changes nothing",
+        "Example: smpe verify --db smpe.db",
     )
 }
 

@@ -46,6 +46,8 @@ fn met(alloc: Global, met: Option<(&str, &ArgMatches<'_>)>) -> Result<Invocation
         check(alloc, found)
     } else if name == "migrate" {
         migrate(alloc, found)
+    } else if name == "verify" {
+        verify(alloc, found)
     } else {
         Err(ArgFault::BadOperand)
     }
@@ -135,4 +137,13 @@ fn migrate(alloc: Global, found: &ArgMatches<'_>) -> Result<Invocation, ArgFault
 {
     let db = database(alloc, found)?;
     Ok(Invocation::Migrate { db })
+}
+
+fn verify(alloc: Global, found: &ArgMatches<'_>) -> Result<Invocation, ArgFault>
+    ensures ok { IfOk result (HasValues (codes "verify", rows_of (found_of found.now))) }
+    ensures err { IfErr result (λ e. Excludes e ((invocation : Invocation)
+        × HasValues (codes "verify", rows_of (found_of found.now)) invocation)) }
+{
+    let db = database(alloc, found)?;
+    Ok(Invocation::Verify { db })
 }

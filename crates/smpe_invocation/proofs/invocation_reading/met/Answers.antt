@@ -62,3 +62,13 @@ pub returns-then-eq-6-clause-err : goal.returns-then-eq-6-clause-err
 returns-then-eq-6-clause-err c =
     rw c.in-Some.is (unmet_by _ _ (rows_of (found_of c.in-Some.found.now)) (search rules)
     c.migrate.result c.migrate.ensures.err)
+
+pub returns-then-eq-7-clause-ok : goal.returns-then-eq-7-clause-ok
+returns-then-eq-7-clause-ok c =
+    rw c.in-Some.is (met_by _ _ (rows_of (found_of c.in-Some.found.now)) (search rules)
+    c.verify.result c.verify.ensures.ok)
+
+pub returns-then-eq-7-clause-err : goal.returns-then-eq-7-clause-err
+returns-then-eq-7-clause-err c =
+    rw c.in-Some.is (unmet_by _ _ (rows_of (found_of c.in-Some.found.now)) (search rules)
+    c.verify.result c.verify.ensures.err)
