@@ -1,5 +1,5 @@
 -- What is done for a request: the status, or the fault, and what was printed.
-use Rattle.std.specs.Prelude.{◌≡◌, ◌⊎◌, ◌<◌, ℕ, length, List, [], ◌∷◌, max, Option, Some, None, option_map}
+use Rattle.std.specs.Prelude.{◌≡◌, ◌⊎◌, ◌<◌, ℕ, Bool, length, List, [], ◌∷◌, max, Option, Some, None, option_map}
 use Rattle.std.specs.Prelude.{Result, Ok, Err, is_err, MatchResult}
 use Rattle.std.specs.String.{string_bytes}
 use Rattle.sqlite.specs.Store.{Ghosts}
@@ -23,6 +23,7 @@ use Rattle.smpe.specs.ListJob.{list_records}
 use Rattle.smpe.specs.Commands.{job_error}
 use Rattle.smpe.specs.Messages.{answer_status, migrated_text, zone_text}
 use Rattle.smpe_command.specs.declared.host.Host.{Ghosts as HostGhosts}
+use Rattle.smpe_command.specs.Careful.{LooksIf}
 use Rattle.smpe_command.specs.Reading.{ReadsAll}
 use Rattle.smpe_command.specs.ServiceSet.{JobsInMemory, apply_records, set_jobs}
 use Rattle.store_schema.specs.declared.error.StoreError.{StoreError}
@@ -90,14 +91,12 @@ module _ {H D O : Type 0} (host : HostGhosts H D) (g : Ghosts D) (sink : SinkGho
     ServesZone d r after out' = (answer : Result Answer JobError) × (m : O)
         × JobOver host g sink h db (NewZone d) out answer after m × TellsZone sink m out' d.name answer r
 
-    -- The files are read in this order, or the first that cannot be read is reported, and nothing else is done.
-    abbrev pub ServesRun : Text → List (Option Text) → Result ℕ Fault → H → O → Type 0
-    ServesRun date names r after out' =
-        ((fault : Fault) × ReadsAll host h names (Err fault) after × (r ≡ Err fault) × (out' ≡ out))
-        ⊎ ((m : H) × (cntl ptfin hold : List ℕ) × ReadsAll host h names (Ok (cntl ∷ ptfin ∷ hold ∷ [])) m
-        × (answer : Result Answer JobError)
-        × JobOver host g sink m db (RunFiles date cntl (record { ptfin = ptfin; holds = hold })) out answer after out'
-        × (r ≡ status_told answer))
+    -- A careful job runs, or is refused and nothing runs. Another one runs.
+    abbrev pub RunsIf : Bool → Text → List ℕ → Files → Result ℕ Fault → H → O → Type 0
+    RunsIf careful date cntl files r after out' =
+        ((fault : Fault) × LooksIf host g h db cntl careful (Err fault) after × (r ≡ Err fault) × (out' ≡ out))
+        ⊎ ((m : H) × LooksIf host g h db cntl careful (Ok tt) m × (answer : Result Answer JobError)
+        × JobOver host g sink m db (RunFiles date cntl files) out answer after out' × (r ≡ status_told answer))
 
     -- A listing is the job of its two commands, on any date, or memory ran out for these.
     abbrev pub ServesList : Text → Result ℕ Fault → H → O → Type 0
@@ -114,6 +113,14 @@ module _ {H D O : Type 0} (host : HostGhosts H D) (g : Ghosts D) (sink : SinkGho
     abbrev pub ServesMigrate : Result ℕ JobError → H → O → Type 0
     ServesMigrate r after out' = (done : Result (Unit {0}) StoreError) × MigratesOver host g h db done after
         × TellsMigrated sink out out' done r
+
+-- The files of a job are read in this order, or the first that cannot be read is reported, and nothing else is done.
+abbrev pub ServesRun : {H D O : Type 0} → HostGhosts H D → Ghosts D → SinkGhosts O → H → Text → O → Bool → Text
+    → List (Option Text) → Result ℕ Fault → H → O → Type 0
+ServesRun host g sink h db out careful date names r after out' =
+    ((fault : Fault) × ReadsAll host h names (Err fault) after × (r ≡ Err fault) × (out' ≡ out))
+    ⊎ ((m : _) × (cntl ptfin hold : List ℕ) × ReadsAll host h names (Ok (cntl ∷ ptfin ∷ hold ∷ [])) m
+    × RunsIf host g sink m db out careful date cntl (record { ptfin = ptfin; holds = hold }) r after out')
 
 module _ {O : Type 0} (sink : SinkGhosts O) (out : O) (srel : Text) where
   -- The jobs of a service set with these commands ran over an empty system in memory, or memory ran out for the command
@@ -148,15 +155,15 @@ ServesCheck host sink h out srel ptfin hold commands r after out' =
 module _ {H D O : Type 0} (host : HostGhosts H D) (g : Ghosts D) (sink : SinkGhosts O) where
   abbrev pub Serves : H → Invocation → O → Result ℕ Fault → H → O → Type 0
   Serves h (Zone db name kind srel related) out r after out' = (told : Result ℕ JobError)
-      × ServesZone host g sink h (string_bytes db) out (definition name kind srel related) told after out'
+      × ServesZone host g sink h (string_bytes db.name) out (definition name kind srel related) told after out'
       × (r ≡ job_told told)
-  Serves h (Run db date cntl ptfin hold) out r after out' =
-      ServesRun host g sink h (string_bytes db) out date
+  Serves h (Run db date cntl ptfin hold careful) out r after out' =
+      ServesRun host g sink h (string_bytes db.name) out careful date
       (Some (string_bytes cntl) ∷ option_map string_bytes ptfin ∷ option_map string_bytes hold ∷ []) r after out'
-  Serves h (ListOf db zone) out r after out' = ServesList host g sink h (string_bytes db) out zone r after out'
+  Serves h (ListOf db zone) out r after out' = ServesList host g sink h (string_bytes db.name) out zone r after out'
   Serves h (Why db zone ids) out r after out' = (told : Result ℕ JobError)
-      × ServesWhy host g sink h (string_bytes db) out zone ids.items told after out' × (r ≡ job_told told)
+      × ServesWhy host g sink h (string_bytes db.name) out zone ids.items told after out' × (r ≡ job_told told)
   Serves h (Check srel ptfin hold commands) out r after out' =
       ServesCheck host sink h out srel (Some (string_bytes ptfin)) (option_map string_bytes hold) commands r after out'
   Serves h (Migrate db) out r after out' = (told : Result ℕ JobError)
-      × ServesMigrate host g sink h (string_bytes db) out told after out' × (r ≡ job_told told)
+      × ServesMigrate host g sink h (string_bytes db.name) out told after out' × (r ≡ job_told told)
