@@ -23,6 +23,8 @@ use Rattle.smpe_zones.specs.Ends.{HasLoaded}
 use Rattle.smpe_zones.specs.Kept.{kept}
 use Rattle.store_migration.specs.Migrated.{Migrated, Unmigrated}
 use Rattle.store.specs.View.{Tables, Leaves, LeavesFound, IsFound}
+use Rattle.smpe_verify.specs.Verified.{verification}
+use Rattle.smpe_verify.specs.declared.verification.Verification.{Verification}
 use Rattle.smpe_why.specs.Telling.{IsFoundIn}
 use Rattle.smpe_why.specs.declared.found.LoadedZones.{LoadedZones}
 use Rattle.smpe.specs.declared.error.JobError.{JobError}
@@ -109,6 +111,10 @@ module _ {H D : Type 0} (host : HostGhosts H D) (g : Ghosts D) where
   -- the names of all zones
   abbrev pub NamesOver : H → Text → Result (Vec Text AnyGlobal) StoreError → H → Type 0
   NamesOver h db r after = LoadsOver (λ i names. names.items ≡ map (λ z. z.name) i.zones) h db r after
+
+  -- whether all zones are closed, or which is the first that is not
+  abbrev pub VerifiedOver : H → Text → Result Verification StoreError → H → Type 0
+  VerifiedOver h db r after = LoadsOver (λ i found. found ≡ verification i) h db r after
 
   -- The database of this name was opened, migrated to the store's schema or left as it was, and closed; or it was not
   -- opened.

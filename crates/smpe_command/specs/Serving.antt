@@ -12,7 +12,8 @@ use Rattle.report.specs.Sent.{Sent}
 use Rattle.smpe_zones.specs.Definitions.{definition}
 use Rattle.smpe_invocation.specs.declared.asked.CommandJob.{CommandJob}
 use Rattle.smpe_invocation.specs.declared.asked.Invocation.{Invocation}
-use Rattle.smpe_invocation.specs.declared.asked.Invocation.TheVariants.{Zone, Run, List as ListOf, Why, Check, Migrate}
+use Rattle.smpe_invocation.specs.declared.asked.Invocation.TheVariants.{Zone, Run, List as ListOf, Why, Check}
+use Rattle.smpe_invocation.specs.declared.asked.Invocation.TheVariants.{Migrate, Verify}
 use Rattle.smpe.specs.declared.error.JobError.{JobError}
 use Rattle.smpe.specs.declared.error.JobError.TheVariants.{Memory, Write}
 use Rattle.smpe.specs.declared.jobs.Answer.{Answer}
@@ -30,7 +31,10 @@ use Rattle.store_schema.specs.declared.error.StoreError.{StoreError}
 use Rattle.smpe_why.specs.Telling.{IsTold}
 use Rattle.smpe_why.specs.declared.found.LoadedZones.{LoadedZones}
 use Rattle.smpe_why.specs.declared.told.Told.{Told}
-use Rattle.smpe_command.specs.Database.{FoundOver, JobOver, MigratesOver}
+use Rattle.smpe_verify.specs.Telling.{IsTold as IsToldOf}
+use Rattle.smpe_verify.specs.declared.verification.Verification.{Verification}
+use Rattle.smpe_verify.specs.declared.told.Verified.{Verified}
+use Rattle.smpe_command.specs.Database.{FoundOver, JobOver, MigratesOver, VerifiedOver}
 
 -- the status of a job's answer is the program's, and its error the program's fault
 abbrev pub status_told : Result Answer JobError → Result ℕ Fault
@@ -84,6 +88,14 @@ module _ {O : Type 0} (sink : SinkGhosts O) (out out' : O) where
       × MatchResult r (λ status. status ≡ told.status) (λ error. error ≡ Write))
   TellsFound ids (Err why) r = (r ≡ Err (job_error why)) × (out' ≡ out)
 
+  -- so what is told of the zones, given whether they are closed
+  abbrev pub TellsVerified : Result Verification StoreError → Result ℕ JobError → Type 0
+  TellsVerified (Ok found) r = ((r ≡ Err Memory) × (out' ≡ out))
+      ⊎ ((told : Verified) × IsToldOf found told × Sent sink out out' told.text.items
+      × (0 < length told.text.items → sink.has_failed out' ≡ is_err r)
+      × MatchResult r (λ status. status ≡ told.status) (λ error. error ≡ Write))
+  TellsVerified (Err why) r = (r ≡ Err (job_error why)) × (out' ≡ out)
+
 module _ {H D O : Type 0} (host : HostGhosts H D) (g : Ghosts D) (sink : SinkGhosts O) (h : H) (db : Text) (out : O)
   where
     -- A zone is defined by a job of its own, which prints nothing, and its line is printed.
@@ -109,6 +121,11 @@ module _ {H D O : Type 0} (host : HostGhosts H D) (g : Ghosts D) (sink : SinkGho
     abbrev pub ServesWhy : Text → List Text → Result ℕ JobError → H → O → Type 0
     ServesWhy zone ids r after out' = (found : Result LoadedZones StoreError) × FoundOver host g h db zone found after
         × TellsFound sink out out' ids found r
+
+    -- All zones are looked at, and it is told whether they are closed.
+    abbrev pub ServesVerify : Result ℕ JobError → H → O → Type 0
+    ServesVerify r after out' = (found : Result Verification StoreError) × VerifiedOver host g h db found after
+        × TellsVerified sink out out' found r
 
     abbrev pub ServesMigrate : Result ℕ JobError → H → O → Type 0
     ServesMigrate r after out' = (done : Result (Unit {0}) StoreError) × MigratesOver host g h db done after
@@ -167,3 +184,5 @@ module _ {H D O : Type 0} (host : HostGhosts H D) (g : Ghosts D) (sink : SinkGho
       ServesCheck host sink h out srel (Some (string_bytes ptfin)) (option_map string_bytes hold) commands r after out'
   Serves h (Migrate db) out r after out' = (told : Result ℕ JobError)
       × ServesMigrate host g sink h (string_bytes db.name) out told after out' × (r ≡ job_told told)
+  Serves h (Verify db) out r after out' = (told : Result ℕ JobError)
+      × ServesVerify host g sink h (string_bytes db.name) out told after out' × (r ≡ job_told told)

@@ -4,12 +4,13 @@ ghost use Rattle.std.specs.Prelude.{IfOk, IfErr};
 ghost use Rattle.std.specs.String.{string_bytes};
 ghost use Rattle.smpe.specs.Ending.{job_of};
 ghost use Rattle.smpe_command.specs.Database.{FailsToOpen, FoundOver, JobOver, MigratesOver, NamesOver};
-ghost use Rattle.smpe_command.specs.Database.{Opens};
+ghost use Rattle.smpe_command.specs.Database.{Opens, VerifiedOver};
 
 use crate::host::Host;
 use fields::ZoneName;
 use report::Sink;
 use smpe::{Answer, DatabaseFile, Job, JobError, run_jobs};
+use smpe_verify::{Verification, verify};
 use smpe_why::{LoadedZones, find};
 use std::alloc::Global;
 use std::slice;
@@ -60,6 +61,20 @@ pub(crate) fn names_over<H: Host>(
     let names = store.zone_names();
     host.close(&mut Some(store.close()));
     names
+}
+
+/// Loads every zone, and finds out whether all of them are closed. Nothing changes.
+pub(crate) fn verified_over<H: Host>(
+    alloc: Global,
+    host: &mut H,
+    db: &DatabaseFile,
+) -> Result<Verification, StoreError>
+    ensures { VerifiedOver H.Host H.Disk.Store host.old (string_bytes db.now.name) result host.new }
+{
+    let mut store = opened(alloc, host, db)?;
+    let found = verify(alloc, &mut store);
+    host.close(&mut Some(store.close()));
+    found
 }
 
 /// Migrates the tables of a database to the store's schema.

@@ -7,10 +7,10 @@ ghost use Rattle.smpe.specs.declared.jobs.Answer.{Answer};
 ghost use Rattle.smpe_zones.specs.Definitions.{definition};
 ghost use Rattle.smpe_command.specs.Database.{JobOver};
 ghost use Rattle.smpe_command.specs.Serving.{Serves, ServesCheck, ServesList, ServesMigrate, ServesRun, ServesWhy};
-ghost use Rattle.smpe_command.specs.Serving.{ServesZone, job_told, status_told};
+ghost use Rattle.smpe_command.specs.Serving.{ServesVerify, ServesZone, job_told, status_told};
 
 use crate::careful::looked;
-use crate::database::{found_over, job_over, migrate_over};
+use crate::database::{found_over, job_over, migrate_over, verified_over};
 use crate::host::Host;
 use crate::job_files::{JobFiles, read_files};
 use crate::service_set::{greatest_status, tried};
@@ -70,6 +70,7 @@ pub(crate) fn served<'a, H: Host, O: Sink>(
             commands,
         } => check(alloc, host, *srel, ptfin.as_str(), hold, commands, out),
         Invocation::Migrate { db } => job_told(migrate(alloc, host, db, out)),
+        Invocation::Verify { db } => job_told(verify(alloc, host, db, out)),
     }
 }
 
@@ -215,4 +216,20 @@ fn migrate<H: Host, O: Sink>(
 {
     migrate_over(alloc, host, db)?;
     Ok(migrated_line(out)?)
+}
+
+// All of it is made before any of it is written.
+fn verify<H: Host, O: Sink>(
+    alloc: Global,
+    host: &mut H,
+    db: &DatabaseFile,
+    out: &mut O,
+) -> Result<u8, JobError>
+    ensures { ServesVerify H.Host H.Disk.Store O.Sink host.old (string_bytes db.now.name) out.old result host.new
+        out.new }
+{
+    let found = verified_over(alloc, host, db)?;
+    let told = smpe_verify::tell(alloc, found)?;
+    write_all(told.text.as_slice(), out)?;
+    Ok(told.status)
 }

@@ -50,3 +50,9 @@ returns-in-Migrate g c =
     subst (λ asked. Serves g.H.Host g.H.Disk.Store g.O.Sink c.args.host.now asked c.args.out.now
     c.job_told-in-Migrate.result c.migrate.new.host c.migrate.new.out) (sym c.in-Migrate.is)
     (c.migrate.result, c.migrate.ensures, c.job_told-in-Migrate.ensures)
+
+pub returns-in-Verify : goal.returns-in-Verify
+returns-in-Verify g c =
+    subst (λ asked. Serves g.H.Host g.H.Disk.Store g.O.Sink c.args.host.now asked c.args.out.now
+    c.job_told-in-Verify.result c.verify.new.host c.verify.new.out) (sym c.in-Verify.is)
+    (c.verify.result, c.verify.ensures, c.job_told-in-Verify.ensures)
