@@ -15,17 +15,17 @@ pub returns : goal.returns
 returns g c =
     let it = c.in_ok-store.ensures.ok in
     let begun = c.in_ok-store.store in
-    let at = c.verify-found-names.new.self in
-    let loads = c.verify-found-names.ensures in
-    let alone = loads_alone g.H.Disk.Store begun at c.verify-found-names.result loads.reads in
+    let at = c.verify-found.new.store in
+    let loads = c.verify-found.ensures in
+    let alone = loads_alone g.H.Disk.Store begun at c.verify-found.result loads.reads in
     inr (record {
       begun = begun;
       opened = c.opened.new.host;
       opens = it;
       store = at;
       ends = λ clean s is. looked g.H.Disk.Store begun at s (λ i found. found ≡ verification i) (it.stands (kept s) is) it.conn
-          (it.crash.counts, it.crash.limit) clean c.verify-found-names.result loads;
-      closed = λ clean s is closed. looked_closed g.H.Disk.Store begun at c.verify-found-names.result alone (loads.clean clean)
+          (it.crash.counts, it.crash.limit) clean c.verify-found.result loads;
+      closed = λ clean s is closed. looked_closed g.H.Disk.Store begun at c.verify-found.result alone (loads.clean clean)
           clean s (it.stands (kept s) is) closed;
       goes = (alone, loads.none);
       closes = subst (λ conn. g.H.Host.closes c.opened.new.host conn c.close-2.new.self) c.close.ensures.same
