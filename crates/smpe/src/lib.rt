@@ -25,6 +25,6 @@ pub use jobs::{Answer, Job, run_jobs};
 pub use law::{ends_closed, next_open_finds};
 pub use list_job::{list_commands, two_commands};
 pub use messages::{FAULT_STATUS, Fault, fault_line, migrated_line, status_of, zone_line};
-pub use smpe_invocation::{ArgFault, CommandJob, Invocation, invocation};
+pub use smpe_invocation::{ArgFault, CommandJob, DatabaseFile, Invocation, invocation};
 pub use smpe_zones::{ZoneError, ZoneFault};
 pub use zone_definition::define_zone;

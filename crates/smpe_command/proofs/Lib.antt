@@ -2,3 +2,4 @@ mod Greatest
 mod Looked
 mod OneJob
 mod Texts
+pub mod SetZones

@@ -1,5 +1,6 @@
 -- A job over the database of a name, and what is asked about it.
-use Rattle.std.specs.Prelude.{◌≡◌, ◌⊎◌, List, [], ◌∷◌, false, IsTrue, Result, Ok, Err}
+use Rattle.std.specs.declared.alloc.Global.{Global as AnyGlobal}
+use Rattle.std.specs.Prelude.{◌≡◌, ◌⊎◌, List, [], ◌∷◌, false, map, IsTrue, Result, Ok, Err, Vec}
 use Rattle.sqlite.specs.declared.error.Error.{Error}
 use Rattle.sqlite.specs.Store.{Ghosts}
 use Rattle.sqlite.specs.Held.{Held, state}
@@ -22,6 +23,8 @@ use Rattle.smpe_zones.specs.Ends.{HasLoaded}
 use Rattle.smpe_zones.specs.Kept.{kept}
 use Rattle.store_migration.specs.Migrated.{Migrated, Unmigrated}
 use Rattle.store.specs.View.{Tables, Leaves, LeavesFound, IsFound}
+use Rattle.smpe_verify.specs.Verified.{verification}
+use Rattle.smpe_verify.specs.declared.verification.Verification.{Verification}
 use Rattle.smpe_why.specs.Telling.{IsFoundIn}
 use Rattle.smpe_why.specs.declared.found.LoadedZones.{LoadedZones}
 use Rattle.smpe.specs.declared.error.JobError.{JobError}
@@ -93,13 +96,25 @@ module _ {H D : Type 0} (host : HostGhosts H D) (g : Ghosts D) where
   JobOver sink h db job out r after out' =
       JobsOver sink h db (job ∷ []) out (λ answer. answer_of answer ∷ []) r after out'
 
-  -- The database of this name was opened, and the global zone and the zone of that name were found over each state for
-  -- which it was found to stand. Whatever the tables hold, the call has only loaded; and if it reports no state, there
-  -- is none. Or the database was not opened.
-  abbrev pub FoundOver : H → Text → Text → Result LoadedZones StoreError → H → Type 0
-  FoundOver h db name r after = ((why : StoreError) × FailsToOpen h db why after × (r ≡ Err why))
-      ⊎ Works h db (λ conn store s. HasLoaded g conn store s (IsFoundIn name (kept s)) r)
+  -- The database of this name was opened, and this was found over each state for which it was found to stand. Whatever
+  -- the tables hold, the call has only loaded; and if it reports no state, there is none. Or the database was not
+  -- opened.
+  abbrev pub LoadsOver : {X : Type 0} → (Inventory → X → Type 0) → H → Text → Result X StoreError → H → Type 0
+  LoadsOver Found h db r after = ((why : StoreError) × FailsToOpen h db why after × (r ≡ Err why))
+      ⊎ Works h db (λ conn store s. HasLoaded g conn store s (Found (kept s)) r)
       (λ begun store. LoadsAlone g begun store r × TellsNoState g begun store r) after
+
+  -- the global zone and the zone of a name
+  abbrev pub FoundOver : H → Text → Text → Result LoadedZones StoreError → H → Type 0
+  FoundOver h db name r after = LoadsOver (IsFoundIn name) h db r after
+
+  -- the names of all zones
+  abbrev pub NamesOver : H → Text → Result (Vec Text AnyGlobal) StoreError → H → Type 0
+  NamesOver h db r after = LoadsOver (λ i names. names.items ≡ map (λ z. z.name) i.zones) h db r after
+
+  -- whether all zones are closed, or which is the first that is not
+  abbrev pub VerifiedOver : H → Text → Result Verification StoreError → H → Type 0
+  VerifiedOver h db r after = LoadsOver (λ i found. found ≡ verification i) h db r after
 
   -- The database of this name was opened, migrated to the store's schema or left as it was, and closed; or it was not
   -- opened.

@@ -4,3 +4,4 @@ pub mod Database
 pub mod ServiceSet
 pub mod Serving
 pub mod Answering
+pub mod Careful

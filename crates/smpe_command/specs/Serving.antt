@@ -1,5 +1,5 @@
 -- What is done for a request: the status, or the fault, and what was printed.
-use Rattle.std.specs.Prelude.{◌≡◌, ◌⊎◌, ◌<◌, ℕ, length, List, [], ◌∷◌, max, Option, Some, None, option_map}
+use Rattle.std.specs.Prelude.{◌≡◌, ◌⊎◌, ◌<◌, ℕ, Bool, length, List, [], ◌∷◌, max, Option, Some, None, option_map}
 use Rattle.std.specs.Prelude.{Result, Ok, Err, is_err, MatchResult}
 use Rattle.std.specs.String.{string_bytes}
 use Rattle.sqlite.specs.Store.{Ghosts}
@@ -12,7 +12,8 @@ use Rattle.report.specs.Sent.{Sent}
 use Rattle.smpe_zones.specs.Definitions.{definition}
 use Rattle.smpe_invocation.specs.declared.asked.CommandJob.{CommandJob}
 use Rattle.smpe_invocation.specs.declared.asked.Invocation.{Invocation}
-use Rattle.smpe_invocation.specs.declared.asked.Invocation.TheVariants.{Zone, Run, List as ListOf, Why, Check, Migrate}
+use Rattle.smpe_invocation.specs.declared.asked.Invocation.TheVariants.{Zone, Run, List as ListOf, Why, Check}
+use Rattle.smpe_invocation.specs.declared.asked.Invocation.TheVariants.{Migrate, Verify}
 use Rattle.smpe.specs.declared.error.JobError.{JobError}
 use Rattle.smpe.specs.declared.error.JobError.TheVariants.{Memory, Write}
 use Rattle.smpe.specs.declared.jobs.Answer.{Answer}
@@ -23,13 +24,17 @@ use Rattle.smpe.specs.ListJob.{list_records}
 use Rattle.smpe.specs.Commands.{job_error}
 use Rattle.smpe.specs.Messages.{answer_status, migrated_text, zone_text}
 use Rattle.smpe_command.specs.declared.host.Host.{Ghosts as HostGhosts}
+use Rattle.smpe_command.specs.Careful.{LooksIf}
 use Rattle.smpe_command.specs.Reading.{ReadsAll}
 use Rattle.smpe_command.specs.ServiceSet.{JobsInMemory, apply_records, set_jobs}
 use Rattle.store_schema.specs.declared.error.StoreError.{StoreError}
 use Rattle.smpe_why.specs.Telling.{IsTold}
 use Rattle.smpe_why.specs.declared.found.LoadedZones.{LoadedZones}
 use Rattle.smpe_why.specs.declared.told.Told.{Told}
-use Rattle.smpe_command.specs.Database.{FoundOver, JobOver, MigratesOver}
+use Rattle.smpe_verify.specs.Telling.{IsTold as IsToldOf}
+use Rattle.smpe_verify.specs.declared.verification.Verification.{Verification}
+use Rattle.smpe_verify.specs.declared.told.Verified.{Verified}
+use Rattle.smpe_command.specs.Database.{FoundOver, JobOver, MigratesOver, VerifiedOver}
 
 -- the status of a job's answer is the program's, and its error the program's fault
 abbrev pub status_told : Result Answer JobError → Result ℕ Fault
@@ -83,6 +88,14 @@ module _ {O : Type 0} (sink : SinkGhosts O) (out out' : O) where
       × MatchResult r (λ status. status ≡ told.status) (λ error. error ≡ Write))
   TellsFound ids (Err why) r = (r ≡ Err (job_error why)) × (out' ≡ out)
 
+  -- so what is told of the zones, given whether they are closed
+  abbrev pub TellsVerified : Result Verification StoreError → Result ℕ JobError → Type 0
+  TellsVerified (Ok found) r = ((r ≡ Err Memory) × (out' ≡ out))
+      ⊎ ((told : Verified) × IsToldOf found told × Sent sink out out' told.text.items
+      × (0 < length told.text.items → sink.has_failed out' ≡ is_err r)
+      × MatchResult r (λ status. status ≡ told.status) (λ error. error ≡ Write))
+  TellsVerified (Err why) r = (r ≡ Err (job_error why)) × (out' ≡ out)
+
 module _ {H D O : Type 0} (host : HostGhosts H D) (g : Ghosts D) (sink : SinkGhosts O) (h : H) (db : Text) (out : O)
   where
     -- A zone is defined by a job of its own, which prints nothing, and its line is printed.
@@ -90,14 +103,12 @@ module _ {H D O : Type 0} (host : HostGhosts H D) (g : Ghosts D) (sink : SinkGho
     ServesZone d r after out' = (answer : Result Answer JobError) × (m : O)
         × JobOver host g sink h db (NewZone d) out answer after m × TellsZone sink m out' d.name answer r
 
-    -- The files are read in this order, or the first that cannot be read is reported, and nothing else is done.
-    abbrev pub ServesRun : Text → List (Option Text) → Result ℕ Fault → H → O → Type 0
-    ServesRun date names r after out' =
-        ((fault : Fault) × ReadsAll host h names (Err fault) after × (r ≡ Err fault) × (out' ≡ out))
-        ⊎ ((m : H) × (cntl ptfin hold : List ℕ) × ReadsAll host h names (Ok (cntl ∷ ptfin ∷ hold ∷ [])) m
-        × (answer : Result Answer JobError)
-        × JobOver host g sink m db (RunFiles date cntl (record { ptfin = ptfin; holds = hold })) out answer after out'
-        × (r ≡ status_told answer))
+    -- A careful job runs, or is refused and nothing runs. Another one runs.
+    abbrev pub RunsIf : Bool → Text → List ℕ → Files → Result ℕ Fault → H → O → Type 0
+    RunsIf careful date cntl files r after out' =
+        ((fault : Fault) × LooksIf host g h db cntl careful (Err fault) after × (r ≡ Err fault) × (out' ≡ out))
+        ⊎ ((m : H) × LooksIf host g h db cntl careful (Ok tt) m × (answer : Result Answer JobError)
+        × JobOver host g sink m db (RunFiles date cntl files) out answer after out' × (r ≡ status_told answer))
 
     -- A listing is the job of its two commands, on any date, or memory ran out for these.
     abbrev pub ServesList : Text → Result ℕ Fault → H → O → Type 0
@@ -111,9 +122,22 @@ module _ {H D O : Type 0} (host : HostGhosts H D) (g : Ghosts D) (sink : SinkGho
     ServesWhy zone ids r after out' = (found : Result LoadedZones StoreError) × FoundOver host g h db zone found after
         × TellsFound sink out out' ids found r
 
+    -- All zones are looked at, and it is told whether they are closed.
+    abbrev pub ServesVerify : Result ℕ JobError → H → O → Type 0
+    ServesVerify r after out' = (found : Result Verification StoreError) × VerifiedOver host g h db found after
+        × TellsVerified sink out out' found r
+
     abbrev pub ServesMigrate : Result ℕ JobError → H → O → Type 0
     ServesMigrate r after out' = (done : Result (Unit {0}) StoreError) × MigratesOver host g h db done after
         × TellsMigrated sink out out' done r
+
+-- The files of a job are read in this order, or the first that cannot be read is reported, and nothing else is done.
+abbrev pub ServesRun : {H D O : Type 0} → HostGhosts H D → Ghosts D → SinkGhosts O → H → Text → O → Bool → Text
+    → List (Option Text) → Result ℕ Fault → H → O → Type 0
+ServesRun host g sink h db out careful date names r after out' =
+    ((fault : Fault) × ReadsAll host h names (Err fault) after × (r ≡ Err fault) × (out' ≡ out))
+    ⊎ ((m : _) × (cntl ptfin hold : List ℕ) × ReadsAll host h names (Ok (cntl ∷ ptfin ∷ hold ∷ [])) m
+    × RunsIf host g sink m db out careful date cntl (record { ptfin = ptfin; holds = hold }) r after out')
 
 module _ {O : Type 0} (sink : SinkGhosts O) (out : O) (srel : Text) where
   -- The jobs of a service set with these commands ran over an empty system in memory, or memory ran out for the command
@@ -148,15 +172,17 @@ ServesCheck host sink h out srel ptfin hold commands r after out' =
 module _ {H D O : Type 0} (host : HostGhosts H D) (g : Ghosts D) (sink : SinkGhosts O) where
   abbrev pub Serves : H → Invocation → O → Result ℕ Fault → H → O → Type 0
   Serves h (Zone db name kind srel related) out r after out' = (told : Result ℕ JobError)
-      × ServesZone host g sink h (string_bytes db) out (definition name kind srel related) told after out'
+      × ServesZone host g sink h (string_bytes db.name) out (definition name kind srel related) told after out'
       × (r ≡ job_told told)
-  Serves h (Run db date cntl ptfin hold) out r after out' =
-      ServesRun host g sink h (string_bytes db) out date
+  Serves h (Run db date cntl ptfin hold careful) out r after out' =
+      ServesRun host g sink h (string_bytes db.name) out careful date
       (Some (string_bytes cntl) ∷ option_map string_bytes ptfin ∷ option_map string_bytes hold ∷ []) r after out'
-  Serves h (ListOf db zone) out r after out' = ServesList host g sink h (string_bytes db) out zone r after out'
+  Serves h (ListOf db zone) out r after out' = ServesList host g sink h (string_bytes db.name) out zone r after out'
   Serves h (Why db zone ids) out r after out' = (told : Result ℕ JobError)
-      × ServesWhy host g sink h (string_bytes db) out zone ids.items told after out' × (r ≡ job_told told)
+      × ServesWhy host g sink h (string_bytes db.name) out zone ids.items told after out' × (r ≡ job_told told)
   Serves h (Check srel ptfin hold commands) out r after out' =
       ServesCheck host sink h out srel (Some (string_bytes ptfin)) (option_map string_bytes hold) commands r after out'
   Serves h (Migrate db) out r after out' = (told : Result ℕ JobError)
-      × ServesMigrate host g sink h (string_bytes db) out told after out' × (r ≡ job_told told)
+      × ServesMigrate host g sink h (string_bytes db.name) out told after out' × (r ≡ job_told told)
+  Serves h (Verify db) out r after out' = (told : Result ℕ JobError)
+      × ServesVerify host g sink h (string_bytes db.name) out told after out' × (r ≡ job_told told)

@@ -1,10 +1,12 @@
 //! What the program asks of its surroundings.
 ghost use Rattle.std.specs.Prelude.{◌≡◌, ℕ, List, None, false, IfSome, IfOk, IfErr};
+ghost use Rattle.std.specs.String.{string_bytes};
 ghost use Rattle.std.specs.declared.io.Error.{Error as ReadError};
 ghost use Rattle.sqlite.specs.declared.error.Error.{Error};
 ghost use Rattle.sqlite.specs.Held.{Held};
 ghost use Rattle.clap.specs.declared.error.Error.{Error as WordsError};
 
+use smpe::DatabaseFile;
 use sqlite::{Alter, Connection};
 use std::io;
 
@@ -40,10 +42,11 @@ pub trait Host {
         ensures ok { IfOk result (λ bytes. gives self.old name.now bytes.items self.new) }
         ensures err { IfErr result (λ error. withholds self.old name.now error self.new) };
 
-    /// Opens the database of this name, or creates it. The error says why it cannot be used.
-    fn open(&mut self, name: &str) -> Result<Connection<Self::Disk>, sqlite::Error>
-        ensures ok { IfOk result (λ conn. opens self.old name.now conn self.new) }
-        ensures err { IfErr result (λ error. refuses self.old name.now error self.new) }
+    /// Opens the database, or creates it. If another program has it, it may wait for it, as long as the words say. The
+    /// error says why it cannot be used.
+    fn open(&mut self, db: &DatabaseFile) -> Result<Connection<Self::Disk>, sqlite::Error>
+        ensures ok { IfOk result (λ conn. opens self.old (string_bytes db.now.name) conn self.new) }
+        ensures err { IfErr result (λ error. refuses self.old (string_bytes db.now.name) error self.new) }
         ensures mode { IfOk result (λ conn. conn.in_transaction ≡ false) };
 
     /// Closes the connection and takes it out of the option.

@@ -7,17 +7,18 @@ ghost use Rattle.smpe.specs.declared.jobs.Answer.{Answer};
 ghost use Rattle.smpe_zones.specs.Definitions.{definition};
 ghost use Rattle.smpe_command.specs.Database.{JobOver};
 ghost use Rattle.smpe_command.specs.Serving.{Serves, ServesCheck, ServesList, ServesMigrate, ServesRun, ServesWhy};
-ghost use Rattle.smpe_command.specs.Serving.{ServesZone, job_told, status_told};
+ghost use Rattle.smpe_command.specs.Serving.{ServesVerify, ServesZone, job_told, status_told};
 
-use crate::database::{found_over, job_over, migrate_over};
+use crate::careful::looked;
+use crate::database::{found_over, job_over, migrate_over, verified_over};
 use crate::host::Host;
 use crate::job_files::{JobFiles, read_files};
 use crate::service_set::{greatest_status, tried};
 use fields::{Id, Srel, YyDdd, ZoneName};
 use report::{Sink, write_all};
 use smpe::{
-    CommandJob, Fault, Invocation, Job, JobError, list_commands, migrated_line, status_of,
-    zone_line,
+    CommandJob, DatabaseFile, Fault, Invocation, Job, JobError, list_commands, migrated_line,
+    status_of, zone_line,
 };
 use smpe_why::tell;
 use std::alloc::Global;
@@ -39,26 +40,28 @@ pub(crate) fn served<'a, H: Host, O: Sink>(
             kind,
             srel,
             related,
-        } => job_told(zone(alloc, host, db.as_str(), *name, *kind, *srel, *related, out)),
+        } => job_told(zone(alloc, host, db, *name, *kind, *srel, *related, out)),
         Invocation::Run {
             db,
             date,
             cntl,
             ptfin,
             hold,
+            careful,
         } => run(
             alloc,
             host,
-            db.as_str(),
+            db,
+            *careful,
             *date,
             cntl.as_str(),
             ptfin,
             hold,
             out,
         ),
-        Invocation::List { db, zone } => job_told(list(alloc, host, db.as_str(), *zone, out)),
+        Invocation::List { db, zone } => job_told(list(alloc, host, db, *zone, out)),
         Invocation::Why { db, zone, ids } => {
-            job_told(why(alloc, host, db.as_str(), *zone, ids.as_slice(), out))
+            job_told(why(alloc, host, db, *zone, ids.as_slice(), out))
         }
         Invocation::Check {
             srel,
@@ -66,7 +69,8 @@ pub(crate) fn served<'a, H: Host, O: Sink>(
             hold,
             commands,
         } => check(alloc, host, *srel, ptfin.as_str(), hold, commands, out),
-        Invocation::Migrate { db } => job_told(migrate(alloc, host, db.as_str(), out)),
+        Invocation::Migrate { db } => job_told(migrate(alloc, host, db, out)),
+        Invocation::Verify { db } => job_told(verify(alloc, host, db, out)),
     }
 }
 
@@ -79,14 +83,15 @@ fn job_told<'a>(code: Result<u8, JobError>) -> Result<u8, Fault<'a>>
 fn zone<H: Host, O: Sink>(
     alloc: Global,
     host: &mut H,
-    db: &str,
+    db: &DatabaseFile,
     name: ZoneName,
     kind: ZoneKind,
     srel: Srel,
     related: Option<ZoneName>,
     out: &mut O,
 ) -> Result<u8, JobError>
-    ensures { ServesZone H.Host H.Disk.Store O.Sink host.old db.now out.old (definition name kind srel related) result
+    ensures { ServesZone H.Host H.Disk.Store O.Sink host.old (string_bytes db.now.name)
+        out.old (definition name kind srel related) result
         host.new out.new }
 {
     let job = Job::Zone {
@@ -99,33 +104,37 @@ fn zone<H: Host, O: Sink>(
     Ok(zone_line(name, &answer, out)?)
 }
 
-// The files are read before the database is opened.
+// The files are read before the database is opened, also if the job is careful.
 fn run<'a, H: Host, O: Sink>(
     alloc: Global,
     host: &mut H,
-    db: &str,
+    db: &DatabaseFile,
+    is_careful: bool,
     date: YyDdd,
     cntl: &'a str,
     ptfin: &'a Option<String>,
     hold: &'a Option<String>,
     out: &mut O,
 ) -> Result<u8, Fault<'a>>
-    ensures { ServesRun H.Host H.Disk.Store O.Sink host.old db.now out.old date (Some cntl.entry.now
+    ensures { ServesRun H.Host H.Disk.Store O.Sink host.old (string_bytes db.now.name)
+        out.old is_careful date (Some cntl.entry.now
         ∷ option_map string_bytes ptfin.entry.now ∷ option_map string_bytes hold.entry.now ∷ []) result host.new
         out.new }
 {
     let files = read_files(alloc, host, Some(cntl), ptfin.as_deref(), hold.as_deref())?;
+    looked(alloc, host, is_careful, db, files.cntl.as_slice())?;
     job_told(run_files(alloc, host, db, date, &files, out))
 }
 
 fn list<H: Host, O: Sink>(
     alloc: Global,
     host: &mut H,
-    db: &str,
+    db: &DatabaseFile,
     zone: ZoneName,
     out: &mut O,
 ) -> Result<u8, JobError>
-    ensures { ServesList H.Host H.Disk.Store O.Sink host.old db.now out.old zone (job_told result) host.new out.new }
+    ensures { ServesList H.Host H.Disk.Store O.Sink host.old (string_bytes db.now.name)
+        out.old zone (job_told result) host.new out.new }
 {
     let files = JobFiles {
         cntl: list_commands(alloc, zone)?,
@@ -139,12 +148,13 @@ fn list<H: Host, O: Sink>(
 fn run_files<H: Host, O: Sink>(
     alloc: Global,
     host: &mut H,
-    db: &str,
+    db: &DatabaseFile,
     date: YyDdd,
     files: &JobFiles,
     out: &mut O,
 ) -> Result<u8, JobError>
-    ensures { (answer : Result Answer JobError) × JobOver H.Host H.Disk.Store O.Sink host.old db.now (RunFiles date
+    ensures { (answer : Result Answer JobError) × JobOver H.Host H.Disk.Store O.Sink host.old (string_bytes db.now.name)
+        (RunFiles date
         files.now.cntl.items (record { ptfin = files.now.ptfin.items; holds = files.now.hold.items })) out.old answer
         host.new out.new × (job_told result ≡ status_told answer) }
 {
@@ -162,12 +172,13 @@ fn run_files<H: Host, O: Sink>(
 fn why<H: Host, O: Sink>(
     alloc: Global,
     host: &mut H,
-    db: &str,
+    db: &DatabaseFile,
     zone: ZoneName,
     ids: &[Id],
     out: &mut O,
 ) -> Result<u8, JobError>
-    ensures { ServesWhy H.Host H.Disk.Store O.Sink host.old db.now out.old zone ids.now result host.new out.new }
+    ensures { ServesWhy H.Host H.Disk.Store O.Sink host.old (string_bytes db.now.name)
+        out.old zone ids.now result host.new out.new }
 {
     let found = found_over(alloc, host, db, zone)?;
     let told = tell(alloc, &found, ids)?;
@@ -197,11 +208,28 @@ fn check<'a, H: Host, O: Sink>(
 fn migrate<H: Host, O: Sink>(
     alloc: Global,
     host: &mut H,
-    db: &str,
+    db: &DatabaseFile,
     out: &mut O,
 ) -> Result<u8, JobError>
-    ensures { ServesMigrate H.Host H.Disk.Store O.Sink host.old db.now out.old result host.new out.new }
+    ensures { ServesMigrate H.Host H.Disk.Store O.Sink host.old (string_bytes db.now.name)
+        out.old result host.new out.new }
 {
     migrate_over(alloc, host, db)?;
     Ok(migrated_line(out)?)
+}
+
+// All of it is made before any of it is written.
+fn verify<H: Host, O: Sink>(
+    alloc: Global,
+    host: &mut H,
+    db: &DatabaseFile,
+    out: &mut O,
+) -> Result<u8, JobError>
+    ensures { ServesVerify H.Host H.Disk.Store O.Sink host.old (string_bytes db.now.name) out.old result host.new
+        out.new }
+{
+    let found = verified_over(alloc, host, db)?;
+    let told = smpe_verify::tell(alloc, found)?;
+    write_all(told.text.as_slice(), out)?;
+    Ok(told.status)
 }

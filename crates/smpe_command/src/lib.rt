@@ -7,6 +7,7 @@
 #![tactic(auto)]
 
 mod asked_words;
+mod careful;
 mod database;
 mod host;
 mod job_files;
@@ -16,3 +17,4 @@ mod service_set;
 
 pub use host::Host;
 pub use program::command;
+pub use smpe::DatabaseFile;

@@ -65,6 +65,8 @@ fn told<H: Host, E: Sink>(host: &mut H, fault: &Fault<'_>, err: &mut E) -> u8
         Fault::Arg(ArgFault::BadOperand) => {}
         Fault::Job(_) => {}
         Fault::CannotRead(_) => {}
+        Fault::NoCommand => {}
+        Fault::NoZone(_) => {}
     }
     fault_line(fault, err).unwrap_or(FAULT_STATUS)
 }

@@ -148,6 +148,33 @@ pub(crate) fn card_text(alloc: Global, file: &[u8], record: usize) -> Result<Str
     String::from_str(alloc, text.as_str().trim_end())
 }
 
+/// The record, counted from 1, of the first SET that names the zone.
+pub(crate) fn set_of(alloc: Global, file: &[u8], zone: &str) -> Result<Option<usize>, AllocError> {
+    for record in 1..=file.len() / RECORD {
+        if sets(CardWords::read(alloc, file, record)?.words.as_slice(), zone) {
+            return Ok(Some(record));
+        }
+    }
+    Ok(None)
+}
+
+fn sets(words: &[CardWord], zone: &str) -> bool {
+    let Some(first) = words.first() else {
+        return false;
+    };
+    if first.operand.as_str() != "SET" {
+        return false;
+    }
+    for word in words {
+        if let Some(value) = &word.value {
+            if word.operand.as_str() == "BDY" && value.as_str() == zone {
+                return true;
+            }
+        }
+    }
+    false
+}
+
 /// What is wrong with the command or statement that begins in the record.
 pub(crate) fn card_fault(
     alloc: Global,

@@ -8,4 +8,4 @@ mod operand;
 mod report;
 
 pub use operand::{empty_hint, operand_hint};
-pub use report::{ReadFile, ReportWatch};
+pub use report::{ReadFile, ReportWatch, zone_hint};

@@ -1,6 +1,6 @@
 //! Which option has a value of a bad form.
 use fields::{Id, Srel, ZoneName};
-use smpe_invocation::read_date;
+use smpe_invocation::{read_date, read_seconds};
 use std::alloc::{AllocError, Global};
 
 /// What the value of an option looks like.
@@ -10,6 +10,7 @@ enum Form {
     Srel,
     Id,
     Date,
+    Seconds,
 }
 
 impl Form {
@@ -20,6 +21,7 @@ impl Form {
             "--srel" => Some(Form::Srel),
             "--id" => Some(Form::Id),
             "--date" => Some(Form::Date),
+            "--wait" => Some(Form::Seconds),
             _ => None,
         }
     }
@@ -30,6 +32,7 @@ impl Form {
             Form::Srel => Srel::read(value.as_bytes()).is_some(),
             Form::Id => Id::read(value.as_bytes()).is_some(),
             Form::Date => read_date(value).is_some(),
+            Form::Seconds => read_seconds(value).is_some(),
         }
     }
 
@@ -40,6 +43,7 @@ impl Form {
             }
             Form::Srel => "an SREL is a capital letter and three digits, as Z038",
             Form::Id => "the id of a SYSMOD has seven of A to Z, 0 to 9, $, # and @, as UA00001",
+            Form::Seconds => "a number of seconds is a whole one, at most 9999, as 30",
             Form::Date => "a date is YYYY-MM-DD and a day of the calendar, as 2024-05-17",
         }
     }

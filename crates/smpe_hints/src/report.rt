@@ -1,5 +1,5 @@
 //! What in a report needs more words.
-use crate::card::{card_fault, card_text, is_foreign};
+use crate::card::{card_fault, card_text, is_foreign, set_of};
 use crate::operand::value_of;
 use std::alloc::{AllocError, Global};
 
@@ -253,6 +253,30 @@ fn card_told(
             let card = card_text(alloc, file.bytes.as_slice(), record)?;
             let fault = card_fault(alloc, file.bytes.as_slice(), record, code)?;
             return Ok(Some(format!(in alloc; "{name} record {record} is \"{card}\": {fault}")?));
+        }
+    }
+    Ok(None)
+}
+
+/// What to say about a zone that a SET names and that is not defined, after `smpe: no zone`.
+pub fn zone_hint(
+    alloc: Global,
+    words: &[Vec<u8>],
+    files: &[ReadFile],
+    zone: &str,
+) -> Result<Option<String>, AllocError> {
+    let Some(name) = value_of(words, "--cntl") else {
+        return Ok(None);
+    };
+    for file in files {
+        if file.name.as_str() == name {
+            let Some(record) = set_of(alloc, file.bytes.as_slice(), zone)? else {
+                return Ok(None);
+            };
+            let card = card_text(alloc, file.bytes.as_slice(), record)?;
+            return Ok(Some(format!(in alloc;
+                "{name} record {record} is \"{card}\": no such zone in this database; smpe zone defines one"
+            )?));
         }
     }
     Ok(None)

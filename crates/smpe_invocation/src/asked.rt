@@ -2,6 +2,13 @@
 use fields::{Id, Srel, YyDdd, ZoneName};
 use terms::ZoneKind;
 
+/// The file of a database, by its name, and for how many seconds to wait if another program has it.
+#[derive(Drop)]
+pub struct DatabaseFile {
+    pub name: String,
+    pub wait: u32,
+}
+
 /// A file of commands, by its name, and the date of the job that they make.
 #[derive(Drop)]
 pub struct CommandJob {
@@ -14,28 +21,29 @@ pub struct CommandJob {
 pub enum Invocation {
     /// Define a zone.
     Zone {
-        db: String,
+        db: DatabaseFile,
         name: ZoneName,
         kind: ZoneKind,
         srel: Srel,
         related: Option<ZoneName>,
     },
-    /// Run a job.
+    /// Run a job; with `careful` only if it has a command and each zone that its SETs name is defined.
     Run {
-        db: String,
+        db: DatabaseFile,
         date: YyDdd,
         cntl: String,
         ptfin: Option<String>,
         hold: Option<String>,
+        careful: bool,
     },
     /// List a zone.
     List {
-        db: String,
+        db: DatabaseFile,
         zone: ZoneName,
     },
     /// Tell the facts about ids in a zone.
     Why {
-        db: String,
+        db: DatabaseFile,
         zone: ZoneName,
         ids: Vec<Id>,
     },
@@ -48,6 +56,10 @@ pub enum Invocation {
     },
     /// Migrate a database of an earlier schema to the program's own.
     Migrate {
-        db: String,
+        db: DatabaseFile,
+    },
+    /// Tell whether the tables of a database stand for a state, and whether its zones are closed.
+    Verify {
+        db: DatabaseFile,
     },
 }

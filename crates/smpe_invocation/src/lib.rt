@@ -11,7 +11,8 @@ mod fault;
 mod invocation_reading;
 mod option_values;
 
-pub use asked::{CommandJob, Invocation};
+pub use asked::{CommandJob, DatabaseFile, Invocation};
 pub use date::read_date;
 pub use fault::ArgFault;
 pub use invocation_reading::invocation;
+pub use option_values::read_seconds;

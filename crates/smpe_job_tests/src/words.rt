@@ -1,7 +1,7 @@
 //! Command lines, and what they ask for.
 
 use fields::Id;
-use smpe::{ArgFault, Invocation, invocation};
+use smpe::{ArgFault, DatabaseFile, Invocation, invocation};
 use smpe_play::compare;
 use std::alloc::Global;
 use std::test::Fail;
@@ -10,38 +10,45 @@ use std::test::Fail;
 const ASKED: &[(&str, &str)] = &[
     (
         "zone --db F --name DLB1 --kind distribution --srel Z038",
-        "F DLB1 Distribution Z038 -",
+        "F:0 DLB1 Distribution Z038 -",
     ),
     (
         "zone --srel=Z038 --related DLB1 --kind=target --name TGT1 --db F",
-        "F TGT1 Target Z038 DLB1",
+        "F:0 TGT1 Target Z038 DLB1",
     ),
     (
         "run --db F --date 2024-05-17 --cntl C --ptfin P --hold H",
-        "F 24.138 C P H",
+        "F:0 24.138 C P H -",
     ),
     (
         "run --db F --date 2024-12-31 --cntl C --hold H",
-        "F 24.366 C - H",
+        "F:0 24.366 C - H -",
     ),
     (
         "run --db F --date 2000-02-29 --cntl C --ptfin P",
-        "F 00.060 C P -",
+        "F:0 00.060 C P - -",
     ),
-    ("run --db F --date 1999-01-01 --cntl C", "F 99.001 C - -"),
-    ("list --db F --zone TGT1", "F TGT1"),
-    ("list --zone=GLOBAL --db F", "F GLOBAL"),
-    ("why --db F --zone TGT1 --id UA00001", "F TGT1 UA00001"),
+    (
+        "run --db F --date 1999-01-01 --cntl C",
+        "F:0 99.001 C - - -",
+    ),
+    (
+        "run --db F --wait 30 --date 2024-05-17 --cntl C --careful",
+        "F:30 24.138 C - - careful",
+    ),
+    ("list --db F --zone TGT1", "F:0 TGT1"),
+    ("list --zone=GLOBAL --wait=9999 --db F", "F:9999 GLOBAL"),
+    ("why --db F --zone TGT1 --id UA00001", "F:0 TGT1 UA00001"),
     (
         "why --id UA00002 --zone TGT1 --id=UA00001 --db F",
-        "F TGT1 UA00002,UA00001",
+        "F:0 TGT1 UA00002,UA00001",
     ),
     ("check --srel Z038 --ptfin P", "Z038 P - - -"),
     (
         "check --ptfin P --hold H --srel Z038 --cntl C --date 2024-05-17",
         "Z038 P H C 24.138",
     ),
-    ("migrate --db F", "F"),
+    ("migrate --db F --wait 0", "F:0"),
 ];
 
 /// Words that `clap` refuses, or to which it responds itself.
@@ -67,6 +74,10 @@ const CLAP: &[&str] = &[
     "zone --db F --name DLB1 --name DLB2 --kind target --srel Z038",
     "zone --db F --name DLB1 --kind target --srel Z038 more",
     "run --db F --date 2024-02-30 --hold H",
+    "run --db F --date 2024-05-17 --cntl C --careful yes",
+    "check --srel Z038 --ptfin P --careful",
+    "migrate --db F --wait",
+    "migrate --db F --wait -1",
 ];
 
 /// Words with a bad operand.
@@ -85,6 +96,9 @@ const BAD: &[&str] = &[
     "run --db F --date 2024-05-00 --cntl C",
     "run --db F --date 2024-5-17 --cntl C",
     "run --db F --date 2024/05/17 --cntl C",
+    "run --db F --date 2024-05-17 --cntl C --wait 10000",
+    "list --db F --zone TGT1 --wait 1.5",
+    "migrate --db F --wait s",
 ];
 
 fn words<'a>(alloc: Global, line: &'a str) -> Result<Vec<&'a str>, Fail> {
@@ -113,6 +127,7 @@ fn shown(alloc: Global, invocation: &Invocation) -> Result<String, Fail> {
                 Some(related) => std::str::from_utf8(related.as_bytes())?,
                 None => "-",
             };
+            let db = place(alloc, db)?;
             Ok(format!(in alloc; "{db} {name} {kind:?} {srel} {related}")?)
         }
         Invocation::Run {
@@ -121,19 +136,24 @@ fn shown(alloc: Global, invocation: &Invocation) -> Result<String, Fail> {
             cntl,
             ptfin,
             hold,
+            careful,
         } => {
+            let db = place(alloc, db)?;
+            let how = if *careful { "careful" } else { "-" };
             let date = std::str::from_utf8(date.as_bytes())?;
             let ptfin = ptfin.as_ref().map_or("-", |text| text.as_str());
             let hold = hold.as_ref().map_or("-", |text| text.as_str());
-            Ok(format!(in alloc; "{db} {date} {cntl} {ptfin} {hold}")?)
+            Ok(format!(in alloc; "{db} {date} {cntl} {ptfin} {hold} {how}")?)
         }
         Invocation::List { db, zone } => {
             let zone = std::str::from_utf8(zone.as_bytes())?;
+            let db = place(alloc, db)?;
             Ok(format!(in alloc; "{db} {zone}")?)
         }
         Invocation::Why { db, zone, ids } => {
             let zone = std::str::from_utf8(zone.as_bytes())?;
             let ids = listed(alloc, ids.as_slice())?;
+            let db = place(alloc, db)?;
             Ok(format!(in alloc; "{db} {zone} {ids}")?)
         }
         Invocation::Check {
@@ -153,8 +173,14 @@ fn shown(alloc: Global, invocation: &Invocation) -> Result<String, Fail> {
             };
             Ok(format!(in alloc; "{srel} {ptfin} {hold} {cntl} {date}")?)
         }
-        Invocation::Migrate { db } => Ok(format!(in alloc; "{db}")?),
+        Invocation::Migrate { db } => place(alloc, db),
     }
+}
+
+fn place(alloc: Global, db: &DatabaseFile) -> Result<String, Fail> {
+    let name = db.name.as_str();
+    let wait = db.wait;
+    Ok(format!(in alloc; "{name}:{wait}")?)
 }
 
 fn listed(alloc: Global, ids: &[Id]) -> Result<String, Fail> {

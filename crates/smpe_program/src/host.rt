@@ -8,10 +8,12 @@ ghost use Rattle.smpe_program.specs.Wary.{IsWary};
 
 use crate::place::{has_other_form, is_missing};
 use clap::Error as WordsError;
-use smpe_command::Host;
+use smpe_command::{DatabaseFile, Host};
 use smpe_hints::ReadFile;
 use sqlite::{Connection, Error, ErrorCode, FileFrom, FileStore, Wary};
-use std::{fs, io};
+use std::io::IsTerminal;
+use std::time::Duration;
+use std::{fs, io, thread};
 
 /// The bytes of a record.
 const RECORD: usize = 80;
@@ -32,6 +34,16 @@ pub(crate) enum Database {
         meta: Option<Error>,
         closing: Option<Error>,
     },
+}
+
+impl Database {
+    // Whether the program made it.
+    fn is_new(&self) -> bool {
+        match self {
+            Database::Opened { is_new, .. } => *is_new,
+            _ => false,
+        }
+    }
 }
 
 /// The system, as seen from how the program was started.
@@ -71,6 +83,32 @@ impl ProgramHost<'_> {
 
     fn name(&self, name: &str) -> String {
         String::from_str(self.rt.alloc(), name).unwrap_or(String::new(self.rt.alloc()))
+    }
+
+    // As long as another program has the database, it is tried again.
+    fn open_within(
+        &self,
+        name: &str,
+        wait: u32,
+    ) -> Result<Connection<FileStore<FileFrom<Wary>>>, Error>
+        ensures ok { IfOk result (λ conn. IsNew conn × IsWary conn × (HasCleanDisk (file_state conn) → IsOpened conn)) }
+        ensures err { IfErr result (λ why. IsTrue (is_open_error why)) }
+    {
+        for second in 0..wait {
+            match self.open_at(name) {
+                Err(Error::SqliteFailure(ErrorCode::DatabaseBusy)) => self.pause(name, second == 0),
+                opened => return opened,
+            }
+        }
+        self.open_at(name)
+    }
+
+    // A terminal is told once.
+    fn pause(&self, name: &str, is_first: bool) {
+        if is_first && self.rt.stderr().is_terminal() {
+            let _ = eprintln!(self.rt; "smpe: another program has {name}; waiting for it");
+        }
+        thread::sleep(self.rt, Duration::from_secs(1));
     }
 
     // A file that is not a database is refused before the library creates its log next to it.
@@ -127,13 +165,16 @@ impl Host for ProgramHost<'_> {
         }
     }
 
-    fn open(&mut self, name: &str) -> Result<Connection<Self::Disk>, sqlite::Error> {
-        let is_new = is_missing(self.rt, name);
-        if is_new && !self.makes {
+    // A careful job opens its database twice.
+    fn open(&mut self, db: &DatabaseFile) -> Result<Connection<Self::Disk>, sqlite::Error> {
+        let name = db.name.as_str();
+        let is_missing = is_missing(self.rt, name);
+        if is_missing && !self.makes {
             self.database = Database::Missing(self.name(name));
             return Err(Error::SqliteFailure(ErrorCode::CannotOpen));
         }
-        match self.open_at(name) {
+        let is_new = is_missing || self.database.is_new();
+        match self.open_within(name, db.wait) {
             Ok(conn) => {
                 self.database = Database::Opened {
                     name: self.name(name),

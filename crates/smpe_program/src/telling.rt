@@ -1,7 +1,7 @@
 //! What is said on standard error when the program ends, besides the line of its fault.
 use crate::host::{Database, ProgramHost};
 use crate::place::{has_other_form, place_told};
-use smpe_hints::{ReportWatch, empty_hint, operand_hint};
+use smpe_hints::{ReportWatch, empty_hint, operand_hint, zone_hint};
 use sqlite::{Error, ErrorCode};
 use std::alloc::AllocError;
 
@@ -31,11 +31,18 @@ fn hints(
     match faults.first_line() {
         "smpe: bad operand" => push(operand_hint(rt.alloc(), words)?, &mut lines)?,
         "smpe: store Sf1" => push(database_hint(rt, &host.database)?, &mut lines)?,
+        "smpe: no command" => push(empty_hint(rt.alloc(), words)?, &mut lines)?,
         "" if report.first_line().is_empty() && !host.files.is_empty() => push(
             empty_hint(rt.alloc(), words)?,
             &mut lines,
         )?,
         _ => {}
+    }
+    if let Some(zone) = faults.first_line().strip_prefix("smpe: no zone ") {
+        push(
+            zone_hint(rt.alloc(), words, host.files.as_slice(), zone)?,
+            &mut lines,
+        )?;
     }
     if let Some(unread) = &host.unread {
         lines.push(String::from_str(rt.alloc(), unread.as_str())?)?;

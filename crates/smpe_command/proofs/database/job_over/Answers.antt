@@ -1,4 +1,5 @@
 use Rattle.std.proofs.Common.{◌∷◌, [], ◌∙◌, List, map, Ok, ap, inr, sym, subst, refl}
+use Rattle.std.specs.String.{string_bytes}
 use Rattle.std.proofs.lemmas.Result.{err_from_is_err_and}
 use Rattle.smpe_zones.specs.Kept.{kept}
 use Rattle.smpe.specs.Ending.{answer_of, job_of}
@@ -11,14 +12,14 @@ use Rattle.smpe_command.proofs.database.job_over.Goals.{After-close-2}
 use Rattle.smpe_command.proofs.database.job_over.Goals as goal
 
 -- how the list of the one job went
-ran : (g : Over) (c : After-close-2 g) → JobsOver g.H.Host g.H.Disk.Store g.O.Sink c.args.host.now c.args.db.now
+ran : (g : Over) (c : After-close-2 g) → JobsOver g.H.Host g.H.Disk.Store g.O.Sink c.args.host.now (string_bytes c.args.db.now.name)
     (job_of c.args.job.now ∷ []) c.args.out.now (λ v. map answer_of v.items) c.run_jobs-answers.result
     c.close-2.new.self c.run_jobs-answers.new.w
 ran g c =
     let it = c.in_ok-store.ensures.ok in
     let went = c.run_jobs-answers.ensures in
     let jobs = map job_of c.from_ref.result.now in
-    subst (λ (jobs : List Job). JobsOver g.H.Host g.H.Disk.Store g.O.Sink c.args.host.now c.args.db.now
+    subst (λ (jobs : List Job). JobsOver g.H.Host g.H.Disk.Store g.O.Sink c.args.host.now (string_bytes c.args.db.now.name)
     (map job_of jobs) c.args.out.now (λ v. map answer_of v.items) c.run_jobs-answers.result c.close-2.new.self
     c.run_jobs-answers.new.w) c.from_ref.ensures.value (inr (
       record {
@@ -45,7 +46,7 @@ returns-in_err-answers g c =
     let p = err_from_is_err_and r.result r.ensures.1 in
     over_as (λ v. map answer_of v.items) (λ answer. answer_of answer ∷ []) g.H.Disk.Store g.O.Sink
     (job_of c.args.job.now ∷ []) c.args.out.now c.run_jobs-answers.new.w g.H.Host c.args.host.now c.close-2.new.self
-    c.args.db.now c.run_jobs-answers.result r.result
+    (string_bytes c.args.db.now.name) c.run_jobs-answers.result r.result
     (alike_err (λ v. map answer_of v.items) (λ answer. answer_of answer ∷ []) c.run_jobs-answers.result r.result
     c.in_err-answers.field-0.0 p.0 c.in_err-answers.was p.1 (sym p.2))
     (ran g (goal.at.returns-in_err-answers g c).After-close-2)
@@ -55,7 +56,7 @@ returns g c =
     let answers = c.in_ok-answers.field-0 in
     over_as (λ v. map answer_of v.items) (λ answer. answer_of answer ∷ []) g.H.Disk.Store g.O.Sink
     (job_of c.args.job.now ∷ []) c.args.out.now c.run_jobs-answers.new.w g.H.Host c.args.host.now c.close-2.new.self
-    c.args.db.now c.run_jobs-answers.result (Ok c.index.result.now)
+    (string_bytes c.args.db.now.name) c.run_jobs-answers.result (Ok c.index.result.now)
     (alike_ok (λ v. map answer_of v.items) (λ answer. answer_of answer ∷ []) c.run_jobs-answers.result
     (Ok c.index.result.now) answers c.index.result.now c.in_ok-answers.was refl
     (ap (map answer_of) (only_one answers.items c.index.result.now

@@ -1,4 +1,5 @@
 use Rattle.std.proofs.Common.{◌≡◌, [], inr, refl, subst}
+use Rattle.std.specs.String.{string_bytes}
 use Rattle.smpe.specs.ListJob.{list_records}
 use Rattle.machine.specs.Machine as machine
 use Rattle.machine.specs.Machine.{RunFiles}
@@ -16,7 +17,7 @@ returns g c =
     inr (
       c.new-3.result,
       ran.0,
-      subst (λ (job : machine.Job). JobOver g.H.Host g.H.Disk.Store g.O.Sink c.args.host.now c.args.db.now job
+      subst (λ (job : machine.Job). JobOver g.H.Host g.H.Disk.Store g.O.Sink c.args.host.now (string_bytes c.args.db.now.name) job
           c.args.out.now ran.0 c.run_files.new.host c.run_files.new.out) job ran.1,
       ran.2,
     )

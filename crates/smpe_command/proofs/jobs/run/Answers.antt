@@ -1,6 +1,12 @@
-use Rattle.std.proofs.Common.{[], ◌∷◌, ◌∙◌, Some, Err, ap, ap₂, inl, refl, subst}
+use Rattle.std.proofs.Common.{[], ◌∷◌, ◌∙◌, List, Ok, Some, Err, ap, ap₂, inl, inr, refl, subst}
+use Rattle.std.specs.Prelude.{Result, option_map}
+use Rattle.std.specs.String.{string_bytes}
 use Rattle.std.proofs.lemmas.Result.{err_from_is_err_and}
+use Rattle.smpe.specs.declared.messages.Fault.{Fault}
+use Rattle.smpe_command.specs.Careful.{LooksIf}
 use Rattle.smpe_command.specs.Reading.{ReadsAll}
+use Rattle.smpe_command.proofs.jobs.run.Given.{Over}
+use Rattle.smpe_command.proofs.jobs.run.Goals.{After-looked}
 use Rattle.smpe_command.proofs.jobs.run.Goals as goal
 
 pub returns-in_err-files : goal.returns-in_err-files
@@ -15,4 +21,66 @@ returns-in_err-files g c =
           c.in_err-files.ensures.err,
       p.1 ∙ ap Err p.2,
       refl,
+    )
+
+-- the files that were read, and how the job was looked at
+reads : (g : Over) (c : After-looked g) → ReadsAll g.H.Host c.args.host.now
+    (Some c.args.cntl.now ∷ option_map string_bytes c.args.ptfin.now ∷ option_map string_bytes c.args.hold.now ∷ [])
+    (Ok (c.in_ok-files.files.cntl.items ∷ c.in_ok-files.files.ptfin.items ∷ c.in_ok-files.files.hold.items ∷ []))
+    c.read_files.new.host
+reads g c =
+    let files = c.in_ok-files.files in
+    subst (λ names. ReadsAll g.H.Host c.args.host.now (Some c.args.cntl.now ∷ names)
+    (Ok (files.cntl.items ∷ files.ptfin.items ∷ files.hold.items ∷ [])) c.read_files.new.host)
+    (ap₂ (λ ptfin hold. ptfin ∷ hold ∷ []) c.as_deref.ensures.value c.as_deref-2.ensures.value)
+    c.in_ok-files.ensures.ok
+
+looks : (g : Over) (c : After-looked g) → LooksIf g.H.Host g.H.Disk.Store c.read_files.new.host
+    (string_bytes c.args.db.now.name) c.in_ok-files.files.cntl.items c.args.is_careful c.looked.result c.looked.new.host
+looks g c = subst (λ (cntl : List _). LooksIf g.H.Host g.H.Disk.Store c.read_files.new.host
+    (string_bytes c.args.db.now.name) cntl c.args.is_careful c.looked.result c.looked.new.host) c.as_slice.ensures.value
+    c.looked.ensures
+
+pub returns-in_err-looked : goal.returns-in_err-looked
+returns-in_err-looked g c =
+    let at = (goal.at.returns-in_err-looked g c).After-looked in
+    let files = c.in_ok-files.files in
+    let fault = c.in_err-looked.field-0.0 in
+    let p = err_from_is_err_and c.from_residual-in_err-looked.result c.from_residual-in_err-looked.ensures.1 in
+    inr (
+      c.read_files.new.host,
+      files.cntl.items,
+      files.ptfin.items,
+      files.hold.items,
+      reads g at,
+      inl (
+        fault,
+        subst (λ (r : Result _ Fault). LooksIf g.H.Host g.H.Disk.Store c.read_files.new.host
+            (string_bytes c.args.db.now.name) files.cntl.items c.args.is_careful r c.looked.new.host)
+            c.in_err-looked.was (looks g at),
+        p.1 ∙ ap Err p.2,
+        refl,
+      ),
+    )
+
+pub returns : goal.returns
+returns g c =
+    let at = (goal.at.returns g c).After-looked in
+    let files = c.in_ok-files.files in
+    let ran = c.run_files.ensures in
+    inr (
+      c.read_files.new.host,
+      files.cntl.items,
+      files.ptfin.items,
+      files.hold.items,
+      reads g at,
+      inr (
+        c.looked.new.host,
+        subst (λ (r : Result _ Fault). LooksIf g.H.Host g.H.Disk.Store c.read_files.new.host
+            (string_bytes c.args.db.now.name) files.cntl.items c.args.is_careful r c.looked.new.host)
+            c.in_ok-looked.was (looks g at),
+        ran.0,
+        ran.1,
+        c.job_told.ensures ∙ ran.2,
+      ),
     )

@@ -1,4 +1,5 @@
 use Rattle.std.proofs.Common.{◌≡◌, Ok, ap, refl, subst}
+use Rattle.std.specs.String.{string_bytes}
 use Rattle.std.proofs.lemmas.Result.{err_from_is_err_and}
 use Rattle.machine.specs.Machine as machine
 use Rattle.machine.specs.Machine.{RunFiles}
@@ -7,7 +8,7 @@ use Rattle.smpe_command.proofs.jobs.run_files.Given.{Over}
 use Rattle.smpe_command.proofs.jobs.run_files.Goals.{After-job_over}
 use Rattle.smpe_command.proofs.jobs.run_files.Goals as goal
 
-ran : (g : Over) (c : After-job_over g) → JobOver g.H.Host g.H.Disk.Store g.O.Sink c.args.host.now c.args.db.now
+ran : (g : Over) (c : After-job_over g) → JobOver g.H.Host g.H.Disk.Store g.O.Sink c.args.host.now (string_bytes c.args.db.now.name)
     (RunFiles c.args.date c.args.files.now.cntl.items (record {
       ptfin = c.args.files.now.ptfin.items;
       holds = c.args.files.now.hold.items;
@@ -20,7 +21,7 @@ ran g c =
       ptfin = c.args.files.now.ptfin.items;
       holds = c.args.files.now.hold.items;
     }) = rw (c.as_slice.ensures.value, c.as_slice-2.ensures.value, c.as_slice-3.ensures.value) refl in
-    subst (λ (job : machine.Job). JobOver g.H.Host g.H.Disk.Store g.O.Sink c.args.host.now c.args.db.now job
+    subst (λ (job : machine.Job). JobOver g.H.Host g.H.Disk.Store g.O.Sink c.args.host.now (string_bytes c.args.db.now.name) job
     c.args.out.now c.job_over.result c.job_over.new.host c.job_over.new.out) job c.job_over.ensures
 
 pub returns-in_err-answer : goal.returns-in_err-answer

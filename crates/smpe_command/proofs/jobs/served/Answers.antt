@@ -1,22 +1,12 @@
 use Rattle.std.proofs.Common.{[], ◌∷◌, Some, option_map, sym, subst}
 use Rattle.std.specs.String.{string_bytes}
-use Rattle.smpe_zones.specs.Definitions.{definition}
-use Rattle.smpe_command.specs.Serving.{Serves, ServesCheck, ServesList, ServesMigrate, ServesRun, ServesWhy}
-use Rattle.smpe_command.specs.Serving.{ServesZone, job_told}
+use Rattle.smpe_command.specs.Serving.{Serves, ServesCheck, ServesList, ServesRun, ServesWhy}
 use Rattle.smpe_command.proofs.jobs.served.Goals as goal
 
 pub returns-in-Zone : goal.returns-in-Zone
 returns-in-Zone g c =
-    let w = c.in-Zone in
     subst (λ asked. Serves g.H.Host g.H.Disk.Store g.O.Sink c.args.host.now asked c.args.out.now c.job_told.result
-    c.zone.new.host c.zone.new.out) (sym w.is) (
-      c.zone.result,
-      subst (λ db. ServesZone g.H.Host g.H.Disk.Store g.O.Sink c.args.host.now db c.args.out.now
-          (definition w.name w.kind w.srel w.related) c.zone.result c.zone.new.host c.zone.new.out)
-          c.as_str.ensures.value
-          c.zone.ensures,
-      c.job_told.ensures,
-    )
+    c.zone.new.host c.zone.new.out) (sym c.in-Zone.is) (c.zone.result, c.zone.ensures, c.job_told.ensures)
 
 pub returns-in-Run : goal.returns-in-Run
 returns-in-Run g c =
@@ -24,21 +14,16 @@ returns-in-Run g c =
     let rest = option_map string_bytes w.ptfin ∷ option_map string_bytes w.hold ∷ [] in
     subst (λ asked. Serves g.H.Host g.H.Disk.Store g.O.Sink c.args.host.now asked c.args.out.now c.run.result
     c.run.new.host c.run.new.out) (sym w.is)
-    (subst (λ db. ServesRun g.H.Host g.H.Disk.Store g.O.Sink c.args.host.now db c.args.out.now w.date
-    (Some (string_bytes w.cntl) ∷ rest) c.run.result c.run.new.host c.run.new.out) c.as_str-in-Run.ensures.value
-    (subst (λ cntl. ServesRun g.H.Host g.H.Disk.Store g.O.Sink c.args.host.now c.as_str-in-Run.result.now
-    c.args.out.now w.date (Some cntl ∷ rest) c.run.result c.run.new.host c.run.new.out)
-    c.as_str-in-Run-2.ensures.value c.run.ensures))
+    (subst (λ cntl. ServesRun g.H.Host g.H.Disk.Store g.O.Sink c.args.host.now (string_bytes w.db.name) c.args.out.now
+    w.careful w.date (Some cntl ∷ rest) c.run.result c.run.new.host c.run.new.out) c.as_str.ensures.value c.run.ensures)
 
 pub returns-in-List : goal.returns-in-List
 returns-in-List g c =
     let w = c.in-List in
     subst (λ asked. Serves g.H.Host g.H.Disk.Store g.O.Sink c.args.host.now asked c.args.out.now
     c.job_told-in-List.result c.list.new.host c.list.new.out) (sym w.is)
-    (subst (λ r. ServesList g.H.Host g.H.Disk.Store g.O.Sink c.args.host.now (string_bytes w.db) c.args.out.now w.zone r
-    c.list.new.host c.list.new.out) (sym c.job_told-in-List.ensures)
-    (subst (λ db. ServesList g.H.Host g.H.Disk.Store g.O.Sink c.args.host.now db c.args.out.now w.zone
-    (job_told c.list.result) c.list.new.host c.list.new.out) c.as_str-in-List.ensures.value c.list.ensures))
+    (subst (λ r. ServesList g.H.Host g.H.Disk.Store g.O.Sink c.args.host.now (string_bytes w.db.name) c.args.out.now
+    w.zone r c.list.new.host c.list.new.out) (sym c.job_told-in-List.ensures) c.list.ensures)
 
 pub returns-in-Why : goal.returns-in-Why
 returns-in-Why g c =
@@ -46,10 +31,8 @@ returns-in-Why g c =
     subst (λ asked. Serves g.H.Host g.H.Disk.Store g.O.Sink c.args.host.now asked c.args.out.now
     c.job_told-in-Why.result c.why.new.host c.why.new.out) (sym w.is) (
       c.why.result,
-      subst (λ db. ServesWhy g.H.Host g.H.Disk.Store g.O.Sink c.args.host.now db c.args.out.now w.zone w.ids.items
-          c.why.result c.why.new.host c.why.new.out) c.as_str-in-Why.ensures.value
-          (subst (λ ids. ServesWhy g.H.Host g.H.Disk.Store g.O.Sink c.args.host.now c.as_str-in-Why.result.now
-          c.args.out.now w.zone ids c.why.result c.why.new.host c.why.new.out) c.as_slice.ensures.value c.why.ensures),
+      subst (λ ids. ServesWhy g.H.Host g.H.Disk.Store g.O.Sink c.args.host.now (string_bytes w.db.name) c.args.out.now
+          w.zone ids c.why.result c.why.new.host c.why.new.out) c.as_slice.ensures.value c.why.ensures,
       c.job_told-in-Why.ensures,
     )
 
@@ -64,11 +47,12 @@ returns-in-Check g c =
 
 pub returns-in-Migrate : goal.returns-in-Migrate
 returns-in-Migrate g c =
-    let w = c.in-Migrate in
     subst (λ asked. Serves g.H.Host g.H.Disk.Store g.O.Sink c.args.host.now asked c.args.out.now
-    c.job_told-in-Migrate.result c.migrate.new.host c.migrate.new.out) (sym w.is) (
-      c.migrate.result,
-      subst (λ db. ServesMigrate g.H.Host g.H.Disk.Store g.O.Sink c.args.host.now db c.args.out.now c.migrate.result
-          c.migrate.new.host c.migrate.new.out) c.as_str-in-Migrate.ensures.value c.migrate.ensures,
-      c.job_told-in-Migrate.ensures,
-    )
+    c.job_told-in-Migrate.result c.migrate.new.host c.migrate.new.out) (sym c.in-Migrate.is)
+    (c.migrate.result, c.migrate.ensures, c.job_told-in-Migrate.ensures)
+
+pub returns-in-Verify : goal.returns-in-Verify
+returns-in-Verify g c =
+    subst (λ asked. Serves g.H.Host g.H.Disk.Store g.O.Sink c.args.host.now asked c.args.out.now
+    c.job_told-in-Verify.result c.verify.new.host c.verify.new.out) (sym c.in-Verify.is)
+    (c.verify.result, c.verify.ensures, c.job_told-in-Verify.ensures)

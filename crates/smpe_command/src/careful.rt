@@ -1,0 +1,103 @@
+//! What is looked at before a careful job runs.
+ghost use Rattle.std.specs.Prelude.{◌≡◌, ◌↔◌, ◌∷◌, [], None, IsTrue, All, map, IfSome};
+ghost use Rattle.std.specs.String.{string_bytes};
+ghost use Rattle.cntl.specs.Views.{command_of};
+ghost use Rattle.smpe_command.specs.Careful.{IsDefined, IsFirstUndefined, LooksAhead, LooksIf, zone_set, zones_set};
+
+use crate::database::names_over;
+use crate::host::Host;
+use cntl::{CntlError, Command, read_cntl};
+use fields::ZoneName;
+use smpe::{DatabaseFile, Fault, JobError};
+use std::alloc::Global;
+
+/// Looks ahead if the job is to be careful. The error says why nothing runs.
+pub(crate) fn looked<'a, H: Host>(
+    alloc: Global,
+    host: &mut H,
+    is_careful: bool,
+    db: &DatabaseFile,
+    cntl: &[u8],
+) -> Result<(), Fault<'a>>
+    ensures { LooksIf H.Host H.Disk.Store host.old (string_bytes db.now.name) cntl.now is_careful result host.new }
+{
+    if is_careful {
+        looked_ahead(alloc, host, db, cntl)
+    } else {
+        Ok(())
+    }
+}
+
+// Reads the commands, and finds out whether each zone that they name is defined.
+fn looked_ahead<'a, H: Host>(
+    alloc: Global,
+    host: &mut H,
+    db: &DatabaseFile,
+    cntl: &[u8],
+) -> Result<(), Fault<'a>>
+    ensures { LooksAhead H.Host H.Disk.Store host.old (string_bytes db.now.name) cntl.now result host.new }
+{
+    let commands = match read_cntl(alloc, cntl) {
+        Ok(commands) => commands,
+        Err(CntlError::Memory) => return Err(Fault::Job(JobError::Memory)),
+        Err(CntlError::Fault { .. }) => return Ok(()),
+    };
+    if commands.is_empty() {
+        return Err(Fault::NoCommand);
+    }
+    let names = match names_over(alloc, host, db) {
+        Ok(names) => names,
+        Err(error) => return Err(Fault::Job(JobError::from(error))),
+    };
+    match undefined(commands.as_slice(), names.as_slice()) {
+        Some(zone) => Err(Fault::NoZone(zone)),
+        None => Ok(()),
+    }
+}
+
+// The first zone that a SET names and that is not defined.
+fn undefined(commands: &[Command], names: &[ZoneName]) -> Option<ZoneName>
+    ensures some { IfSome result (IsFirstUndefined names.now (zones_set (map command_of commands.now))) }
+    ensures none { result ≡ None → All (IsDefined names.now) (zones_set (map command_of commands.now)) }
+{
+    for command in commands {
+        if let Some(zone) = undefined_by(command, names) {
+            return Some(zone);
+        }
+    }
+    None
+}
+
+// The zone that the command names, if it is a SET and the zone is not defined.
+fn undefined_by(command: &Command, names: &[ZoneName]) -> Option<ZoneName>
+    ensures some { IfSome result (IsFirstUndefined names.now (zone_set (command_of command.now))) }
+    ensures none { result ≡ None → All (IsDefined names.now) (zone_set (command_of command.now)) }
+{
+    match command {
+        Command::Set(zone) => undefined_zone(*zone, names),
+        Command::Receive(_) => None,
+        Command::Reject(_) => None,
+        Command::Apply(_) => None,
+        Command::Accept(_) => None,
+        Command::Restore { .. } => None,
+        Command::List { .. } => None,
+        Command::Report => None,
+    }
+}
+
+fn undefined_zone(zone: ZoneName, names: &[ZoneName]) -> Option<ZoneName>
+    ensures some { IfSome result (IsFirstUndefined names.now (zone ∷ [])) }
+    ensures none { result ≡ None → All (IsDefined names.now) (zone ∷ []) }
+{
+    if is_defined(zone, names) {
+        None
+    } else {
+        Some(zone)
+    }
+}
+
+fn is_defined(zone: ZoneName, names: &[ZoneName]) -> bool
+    ensures { IsTrue result ↔ IsDefined names.now zone }
+{
+    zone.is_global() || names.contains(&zone)
+}

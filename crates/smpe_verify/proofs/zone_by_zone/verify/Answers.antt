@@ -1,0 +1,63 @@
+use Rattle.std.proofs.Common.{◌≡◌, ◌∙◌, sym, ap, arith, rules, None, Some}
+use Rattle.smpe_verify.specs.Verified.{begun}
+use Rattle.smpe_verify.proofs.Loading.{handed_on, answered, loads_both}
+use Rattle.smpe_verify.proofs.ZoneByZone.{whole, goes_on, stops, ends}
+use Rattle.smpe_verify.proofs.zone_by_zone.verify.Goals as goal
+
+pub returns-in_err-global : goal.returns-in_err-global
+returns-in_err-global g c = handed_on g.S.Store _ _ c.args.store.now c.load_global.new.self c.in_err-global.field-0.0
+    c.from_residual.result c.from_residual.ensures.1 c.in_err-global.ensures.loads
+
+pub returns-in_err-names : goal.returns-in_err-names
+returns-in_err-names g c = handed_on g.S.Store _ _ c.args.store.now c.zone_names.new.self c.in_err-names.field-0.0
+    c.from_residual-in_err-names.result c.from_residual-in_err-names.ensures.1
+    (loads_both g.S.Store _ _ c.args.store.now c.load_global.new.self c.zone_names.new.self c.in_ok-global.global _
+    c.in_ok-global.ensures.loads c.in_err-names.ensures)
+
+pub loop-name-init : goal.loop-name-init
+loop-name-init g c = answered g.S.Store _ _ c.args.store.now c.zone_names.new.self c.in_ok-names.names tt
+    (λ i inventory so. (
+      c.global.view_is ∙ so.0,
+      whole i inventory c.in_ok-global.global so.0 c.as_slice-name-items.result.now
+          (c.as_slice-name-items.ensures.value ∙ so.1) c.begun-counts.result
+          (c.begun-counts.ensures ∙ ap (begun c.in_ok-global.global)
+          (c.as_slice.ensures.value ∙ sym c.as_slice-name-items.ensures.value)),
+    ))
+    (loads_both g.S.Store _ _ c.args.store.now c.load_global.new.self c.zone_names.new.self c.in_ok-global.global _
+    c.in_ok-global.ensures.loads c.in_ok-names.ensures)
+
+pub returns-in_err-found : goal.returns-in_err-found
+returns-in_err-found g c = handed_on g.S.Store _ _ c.args.store.now c.verify_zone.new.store c.in_err-found.field-0.0
+    c.from_residual-in_err-found.result c.from_residual-in_err-found.ensures.1
+    (loads_both g.S.Store _ _ c.args.store.now c.loop-name.store c.verify_zone.new.store tt _ c.loop-name.invariant
+    c.in_err-found.ensures)
+
+pub loop-name-preserved : goal.loop-name-preserved
+loop-name-preserved g c =
+    let none : None ≡ c.in_ok-found.found = search rules in
+    answered g.S.Store _ _ c.args.store.now c.verify_zone.new.store c.in_ok-found.found tt
+    (λ i inventory so. (
+      so.0.0,
+      goes_on i c.as_slice-name-items.result.now c.loop-name.name-index c.loop-name.counts so.0.1
+          c.name-item.result (omega arith) c.name-item.is c.in_ok-global.global (sym c.global.view_is ∙ so.0.0)
+          c.verify_zone.new.counts
+          so.1.1 (none ∙ so.1.0),
+    ))
+    (loads_both g.S.Store _ _ c.args.store.now c.loop-name.store c.verify_zone.new.store tt _ c.loop-name.invariant
+    c.in_ok-found.ensures)
+
+pub returns-in-Some : goal.returns-in-Some
+returns-in-Some g c =
+    let some : Some c.in-Some.breach ≡ c.in_ok-found.found = search rules in
+    answered g.S.Store _ _ c.args.store.now c.verify_zone.new.store c.in_ok-found.found _
+    (λ i inventory so.
+    stops i c.as_slice-name-items.result.now c.loop-name.name-index c.loop-name.counts so.0.1 c.name-item.result
+    (omega arith) c.name-item.is c.in_ok-global.global (sym c.global.view_is ∙ so.0.0) c.in-Some.breach (some ∙ so.1.0))
+    (loads_both g.S.Store _ _ c.args.store.now c.loop-name.store c.verify_zone.new.store tt _ c.loop-name.invariant
+    c.in_ok-found.ensures)
+
+pub returns : goal.returns
+returns g c = answered g.S.Store _ _ c.args.store.now c.loop-name.store tt _
+    (λ i inventory so. ends i c.as_slice-name-items.result.now c.loop-name.name-index c.loop-name.counts so.1
+    (omega arith))
+    c.loop-name.invariant

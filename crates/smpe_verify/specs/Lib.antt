@@ -1,0 +1,5 @@
+pub mod Breaks
+pub mod FirstBreach
+pub mod Laws
+pub mod Telling
+pub mod Verified

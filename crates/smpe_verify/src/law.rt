@@ -1,0 +1,12 @@
+//! What the answer promises.
+ghost use Rattle.smpe_verify.specs.Laws.{VerifiedIsClosed, ToldIsBroken};
+
+/// The status is 0 if and only if all zones are closed, as every job that begins so leaves them.
+pub fn verified_is_closed()
+    ensures { VerifiedIsClosed }
+{}
+
+/// A breach that is told is one: the clause of a closed zone fails there.
+pub fn told_is_broken()
+    ensures { ToldIsBroken }
+{}

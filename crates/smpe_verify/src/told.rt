@@ -1,0 +1,150 @@
+//! What is told about a store.
+ghost use Rattle.std.specs.Prelude.{◌≡◌, ◌++◌, IfOk, OnOk};
+ghost use Rattle.smpe_verify.specs.Telling.{IsTold, counts_text, breach_text, entry_fault_text, element_fault_text};
+ghost use Rattle.smpe_verify.specs.Telling.{level_text};
+
+use crate::breach::{Breach, ElementFault, EntryFault, Level};
+use crate::verification::{Counts, Verification};
+use crate::words::{put, put_joined, put_line};
+use fields::ZoneName;
+use fields::spelling::type_text;
+use itoa::Buffer;
+use std::alloc::{AllocError, Global};
+
+/// The line that is told, and the program's status.
+#[derive(Drop)]
+pub struct Verified {
+    pub text: Vec<u8>,
+    pub status: u8,
+}
+
+/// Tells what a store turned out to be: the counts, or the first breach by zone, by SYSMOD or element, and by rule.
+pub fn tell(alloc: Global, found: Verification) -> Result<Verified, AllocError>
+    ensures { IfOk result (IsTold found) }
+{
+    let mut text = Vec::new(alloc);
+    match found {
+        Verification::Closed(counts) => {
+            put_counts(counts, &mut text)?;
+            Ok(Verified { text, status: 0 })
+        }
+        Verification::Broken(zone, breach) => {
+            put_breach(zone, breach, &mut text)?;
+            Ok(Verified { text, status: 12 })
+        }
+    }
+}
+
+fn put_counts(counts: Counts, text: &mut Vec<u8>) -> Result<(), AllocError>
+    ensures { OnOk result (text.new.items ≡ text.old.items ++ counts_text counts) }
+{
+    let mut sysmods = Buffer::new();
+    let mut zones = Buffer::new();
+    let mut entries = Buffer::new();
+    let mut elements = Buffer::new();
+    put_line(
+        &[
+            b"VERIFIED",
+            b"SYSMODS",
+            sysmods.format(counts.sysmods).as_bytes(),
+            b"ZONES",
+            zones.format(counts.zones).as_bytes(),
+            b"ENTRIES",
+            entries.format(counts.entries).as_bytes(),
+            b"ELEMENTS",
+            elements.format(counts.elements).as_bytes(),
+        ],
+        text,
+    )
+}
+
+fn put_breach(zone: ZoneName, breach: Breach, text: &mut Vec<u8>) -> Result<(), AllocError>
+    ensures { OnOk result (text.new.items ≡ text.old.items ++ breach_text zone breach) }
+{
+    match breach {
+        Breach::OfEntry(id, fault) => {
+            put_joined(&[b"ZONE", zone.as_bytes(), id.as_bytes()], text)?;
+            put(b": ", text)?;
+            put_entry_fault(fault, text)
+        }
+        Breach::OfElement(elem_type, name, fault) => {
+            put_joined(
+                &[
+                    b"ZONE",
+                    zone.as_bytes(),
+                    type_text(elem_type),
+                    name.as_bytes(),
+                ],
+                text,
+            )?;
+            put(b": ", text)?;
+            put_element_fault(fault, text)
+        }
+    }
+}
+
+fn put_entry_fault(fault: EntryFault, text: &mut Vec<u8>) -> Result<(), AllocError>
+    ensures { OnOk result (text.new.items ≡ text.old.items ++ entry_fault_text fault) }
+{
+    match fault {
+        EntryFault::VerNotReceived => put_line(
+            &[b"the VER by which it was applied is not received"],
+            text,
+        ),
+        EntryFault::FmidNotApplied(id) => put_line(
+            &[b"FMID", id.as_bytes(), b"is not applied"],
+            text,
+        ),
+        EntryFault::RequisiteNotSupplied(id) => put_line(
+            &[
+                b"REQUISITE",
+                id.as_bytes(),
+                b"is neither applied nor superseded nor waived",
+            ],
+            text,
+        ),
+        EntryFault::NpreApplied(id) => put_line(&[b"NPRE", id.as_bytes(), b"is applied"], text),
+        EntryFault::DeletedInChain(id) => {
+            put_line(&[id.as_bytes(), b"in its chain is deleted"], text)
+        }
+        EntryFault::SupbyNotApplied(id) => put_line(
+            &[b"SUPBY", id.as_bytes(), b"is not applied"],
+            text,
+        ),
+    }
+}
+
+fn put_element_fault(fault: ElementFault, text: &mut Vec<u8>) -> Result<(), AllocError>
+    ensures { OnOk result (text.new.items ≡ text.old.items ++ element_fault_text fault) }
+{
+    match fault {
+        ElementFault::LevelNotApplied(level, id) => {
+            put_line(&[level_text(level), id.as_bytes(), b"is not applied"], text)
+        }
+        ElementFault::NotReplacedBy(id) => {
+            put_line(&[b"RMID", id.as_bytes(), b"does not replace it"], text)
+        }
+        ElementFault::NotUpdatedBy(id) => {
+            put_line(&[b"UMID", id.as_bytes(), b"does not update it"], text)
+        }
+        ElementFault::OtherOwner(level, id, owner) => put_line(
+            &[
+                level_text(level),
+                id.as_bytes(),
+                b"belongs to",
+                owner.as_bytes(),
+            ],
+            text,
+        ),
+    }
+}
+
+fn level_text(level: Level) -> &'static [u8]
+    ensures { result.now ≡ level_text level }
+{
+    match level {
+        Level::Fmid => b"FMID",
+        Level::Rmid => b"RMID",
+        Level::Umid => b"UMID",
+    }
+}
