@@ -8,8 +8,8 @@ use Rattle.terms.specs.Types.{Id}
 use Rattle.terms.specs.Choice.{Choice}
 use Rattle.terms.specs.Over.{names}
 use Rattle.terms.specs.Beside.{Beside}
-use Rattle.sysmods.specs.declared.over_graph.Numbers.{Numbers}
-use Rattle.sysmods.specs.declared.over_graph.Numbers.TheVariants.{Known, Missing}
+use Rattle.sysmods.specs.declared.over_graph.NumbersFound.{NumbersFound}
+use Rattle.sysmods.specs.declared.over_graph.NumbersFound.TheVariants.{Known, Missing}
 
 -- The numbers of what x names. An id's number is its place in the list of ids, and those that x names are before x.
 pub record IsNode (c : Choice) (ids : List Id) (n : ℕ) (x : Id) (numbers : List ℕ) : Type 0 where
@@ -21,7 +21,7 @@ abbrev pub IsGraph : Choice → List Id → List (Vec ℕ AnyGlobal) → Type 0
 IsGraph c ids lists = Beside (λ n x numbers. IsNode c ids n x numbers.items) ids lists
 
 -- the numbers of these ids, or one of them that has none
-abbrev pub AreNumbers : List Id → List Id → Numbers → Type 0
+abbrev pub AreNumbers : List Id → List Id → NumbersFound → Type 0
 AreNumbers ids named (Known numbers) = map (slice_get ids) numbers.items ≡ map (λ z. Some z) named
 AreNumbers ids named (Missing x) = Contains named x
 

@@ -20,7 +20,7 @@ pub(crate) struct OverGraph {
 
 /// The numbers of some ids, or one of these that has no number.
 #[derive(Drop)]
-enum Numbers {
+enum NumbersFound {
     Known(Vec<usize>),
     Missing(Id),
 }
@@ -29,17 +29,17 @@ fn numbers_of(
     alloc: Global,
     nodes: &IndexMap<Id, Vec<usize>>,
     ids: &[Id],
-) -> Result<Numbers, AllocError>
+) -> Result<NumbersFound, AllocError>
     ensures { IfOk result (AreNumbers (keys nodes.now) ids.now) }
 {
     let mut numbers = Vec::new(alloc);
     for id in ids {
         let Some(number) = nodes.get_index_of(id) else {
-            return Ok(Numbers::Missing(*id));
+            return Ok(NumbersFound::Missing(*id));
         };
         numbers.push(number)?;
     }
-    Ok(Numbers::Known(numbers))
+    Ok(NumbersFound::Known(numbers))
 }
 
 impl OverGraph {
@@ -62,11 +62,11 @@ impl OverGraph {
         let mut named = Vec::new(alloc);
         vers.append_named(id, &mut named)?;
         match numbers_of(alloc, &self.nodes, named.as_slice())? {
-            Numbers::Known(numbers) => {
+            NumbersFound::Known(numbers) => {
                 drop(self.nodes.insert(id, numbers)?);
                 Ok(None)
             }
-            Numbers::Missing(other) => Ok(Some(other)),
+            NumbersFound::Missing(other) => Ok(Some(other)),
         }
     }
 
