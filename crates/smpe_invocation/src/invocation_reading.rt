@@ -15,8 +15,8 @@ use clap::ArgMatches;
 use std::alloc::Global;
 
 /// Reads the words, the first of which is the program's name. Returns `Memory` if memory runs out, `Clap` if `clap`
-/// refuses the words or has a text to show instead of them, as for `--help`, and `BadOperand` if a name, an id, an SREL,
-/// a date or a number of seconds has a bad form.
+/// refuses the words or has a text to show instead of them, as for `--help`, and `BadOperand` if a name, an id, an
+/// SREL, a date or a number of seconds has a bad form.
 pub fn invocation<'a>(alloc: Global, words: &'a [&'a str]) -> Result<Invocation, ArgFault>
     ensures ok { IfOk result (IsRead (map (λ word. word.now) words.entry.now)) }
     ensures err { IfErr result (IsRefused (map (λ word. word.now) words.entry.now)) }
