@@ -49,6 +49,7 @@ const ASKED: &[(&str, &str)] = &[
         "Z038 P H C 24.138",
     ),
     ("migrate --db F --wait 0", "F:0"),
+    ("verify --wait 5 --db F", "F:5"),
 ];
 
 /// Words that `clap` refuses, or to which it responds itself.
@@ -63,6 +64,7 @@ const CLAP: &[&str] = &[
     "list --db F",
     "migrate",
     "migrate --db F --zone TGT1",
+    "verify",
     "list --db F --zone TGT1 --date 2024-05-17",
     "why --db F --zone TGT1",
     "why --db F --id UA00001",
@@ -174,6 +176,7 @@ fn shown(alloc: Global, invocation: &Invocation) -> Result<String, Fail> {
             Ok(format!(in alloc; "{srel} {ptfin} {hold} {cntl} {date}")?)
         }
         Invocation::Migrate { db } => place(alloc, db),
+        Invocation::Verify { db } => place(alloc, db),
     }
 }
 
