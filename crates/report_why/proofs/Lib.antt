@@ -1,6 +1,5 @@
 pub mod Besides
 pub mod Dependents
-pub mod Firsts
 pub mod Growing
 pub mod Made
 pub mod Numbering

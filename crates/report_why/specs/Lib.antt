@@ -1,6 +1,5 @@
 pub mod Facts
 pub mod FactText
-pub mod Verdict
 pub mod Views
 pub mod Asking
 pub mod Numbered

@@ -1,5 +1,5 @@
 //! Which applied SYSMODs need what an id supplies.
-ghost use Rattle.std.specs.Prelude.{◌≡◌, ◌++◌, [], ◌∷◌, map, IfOk, OnOk};
+ghost use Rattle.std.specs.Prelude.{◌≡◌, ◌++◌, [], map, IfOk, OnOk};
 ghost use Rattle.terms.specs.Lookups.{applied_ids};
 ghost use Rattle.terms.specs.Choice.{counting};
 ghost use Rattle.sysmods.specs.Choices.{choice};
@@ -32,10 +32,8 @@ pub(crate) fn needed_facts(
     vers: &VerChoice<'_>,
     zone: &Zone,
     applied: &[Id],
-    ids: &IdList,
     id: Id,
 ) -> Result<Vec<Fact<'static>>, AllocError>
-    requires list { ids.now ≡ id ∷ [] }
     requires applied { applied.now ≡ applied_ids zone.now }
     requires counting { choice vers.now ≡ counting vers.now.global.now zone.now [] }
     ensures { IfOk result (λ facts. AreNeeded vers.now.global.now zone.now id (map fact_view facts.items)) }
@@ -49,7 +47,9 @@ pub(crate) fn needed_facts(
         accepted: zone,
         applied,
     };
-    let needs = needs_in_restore(alloc, &scope, ids)?;
+    let mut ids = IdList::new(alloc);
+    ids.insert(id)?;
+    let needs = needs_in_restore(alloc, &scope, &ids)?;
     let mut found = Vec::new(alloc);
     for need in needs.as_slice() {
         push_dep(*need, &mut found)?;
