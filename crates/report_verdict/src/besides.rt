@@ -57,7 +57,8 @@ fn put_supply_by(
             let word = FactWord::Of(verdict_word(status));
             put_words(b"   ", &[supply, kind, id, by, word], text)
         }
-        _ => Ok(()),
+        ReportLine::Nothing => Ok(()),
+        ReportLine::Errsysmod { .. } => Ok(()),
     }
 }
 

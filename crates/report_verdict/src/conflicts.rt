@@ -131,7 +131,8 @@ fn are_ordered(alloc: Global, vers: &VerChoice<'_>, x: Id, y: Id) -> Result<bool
     if vers.over(alloc, x, y)? {
         return Ok(true);
     }
-    vers.over(alloc, y, x)
+    let back = vers.over(alloc, y, x)?;
+    Ok(back)
 }
 
 // Why the two may not change one element, if they may not.

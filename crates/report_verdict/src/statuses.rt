@@ -74,7 +74,8 @@ fn push_chain_deleted(line: &ReportLine, found: &mut Vec<Id>) -> Result<(), Allo
 {
     match line {
         ReportLine::Status { id, status, .. } => push_where(is_chain_deleted(status), *id, found),
-        _ => Ok(()),
+        ReportLine::Nothing => Ok(()),
+        ReportLine::Errsysmod { .. } => Ok(()),
     }
 }
 
@@ -83,7 +84,8 @@ fn push_in_clash(line: &ReportLine, found: &mut Vec<Id>) -> Result<(), AllocErro
 {
     match line {
         ReportLine::Status { id, status, .. } => push_where(is_in_clash(status), *id, found),
-        _ => Ok(()),
+        ReportLine::Nothing => Ok(()),
+        ReportLine::Errsysmod { .. } => Ok(()),
     }
 }
 
@@ -92,7 +94,8 @@ fn push_passing(line: &ReportLine, found: &mut Vec<Id>) -> Result<(), AllocError
 {
     match line {
         ReportLine::Status { id, status, .. } => push_where(passes_alone(status), *id, found),
-        _ => Ok(()),
+        ReportLine::Nothing => Ok(()),
+        ReportLine::Errsysmod { .. } => Ok(()),
     }
 }
 

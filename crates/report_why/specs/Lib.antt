@@ -5,4 +5,5 @@ pub mod Asking
 pub mod Numbered
 pub mod Makers
 pub mod Needed
+pub mod Superseders
 pub mod LineWords

@@ -1,11 +1,12 @@
 //! All facts of an id in a zone.
-ghost use Rattle.std.specs.Prelude.{◌≡◌, ◌+◌, [], map, IfOk};
-ghost use Rattle.terms.specs.Types.{Sysmod as ASysmod};
-ghost use Rattle.terms.specs.Lookups.{applied_ids};
-ghost use Rattle.terms.specs.Choice.{place, counting};
-ghost use Rattle.sysmods.specs.Choices.{number_in, choice};
+ghost use Rattle.std.specs.Prelude.{◌≡◌, ◌+◌, filter, IfOk};
+ghost use Rattle.terms.specs.Lookups.{is_function, applied_ids};
+ghost use Rattle.terms.specs.Choice.{place};
+ghost use Rattle.sysmods.specs.Choices.{number_in};
+ghost use Rattle.undo.specs.Scopes.{restoring_from};
 ghost use Rattle.zones.specs.Scopes.{setting_of};
 ghost use Rattle.report_why.specs.Facts.{AreFacts};
+ghost use Rattle.report_why.specs.Needed.{needed_pairs};
 ghost use Rattle.report_why.specs.Views.{facts_view};
 
 use crate::asking::Asking;
@@ -14,29 +15,28 @@ use crate::element_facts::element_facts;
 use crate::fact::Fact;
 use crate::forbids::npre_facts;
 use crate::hold_facts::hold_facts;
-use crate::needed::needed_facts;
+use crate::needed::{needed_facts, needed_pairs};
 use crate::requisites::requisite_facts;
 use crate::standing::standing_facts;
 use crate::vers::ver_facts;
-use fields::{Id, IdList};
+use fields::{Attest, Id, IdList};
 use std::alloc::{AllocError, Global};
-use sysmods::{GlobalZone, VerChoice};
+use sysmods::GlobalZone;
 use undo::applied_ids;
 use zones::{Scope, Zone, choose, deletions, view_deletions};
 
-/// The global zone and a zone, and what is found once for all ids: the ids that are applied and received, and the
-/// `++VER`s that count without candidates.
+/// The global zone and a zone, and what is found once for all ids: those that are applied, the functions among them, and
+/// who needs what an applied one alone supplies.
 #[derive(Drop)]
 pub struct Lookups<'a> {
     pub global: &'a GlobalZone,
     pub zone: &'a Zone,
-    bare: VerChoice<'a>,
     applied: Vec<Id>,
-    received: Vec<Id>,
-    ghost bare_global: { bare.global.now ≡ global.now },
-    ghost bare_is: { choice bare ≡ counting global.now zone.now [] },
+    functions: Vec<Id>,
+    needed: Vec<(Id, Id)>,
     ghost applied_is: { applied.items ≡ applied_ids zone.now },
-    ghost received_is: { received.items ≡ map (λ (s : ASysmod). s.id) global.now.sysmods },
+    ghost functions_is: { functions.items ≡ filter (is_function global.now) applied.items },
+    ghost needed_is: { needed.items ≡ needed_pairs (restoring_from global.now zone.now zone.now) },
 }
 
 impl<'a> Lookups<'a> {
@@ -47,25 +47,29 @@ impl<'a> Lookups<'a> {
     {
         let bare = choose(alloc, global, zone, &IdList::new(alloc))?;
         let applied = applied_ids(alloc, zone)?;
-        let received = received_ids(alloc, global)?;
+        let functions = functions_among(alloc, global, applied.as_slice())?;
+        let needed = needed_pairs(alloc, &bare, zone, applied.as_slice())?;
         Ok(Lookups {
             global,
             zone,
-            bare,
             applied,
-            received,
+            functions,
+            needed,
         })
     }
 }
 
-fn received_ids(alloc: Global, global: &GlobalZone) -> Result<Vec<Id>, AllocError>
-    ensures { IfOk result (λ ids. ids.items ≡ map (λ (s : ASysmod). s.id) global.now.sysmods) }
+fn functions_among(
+    alloc: Global,
+    global: &GlobalZone,
+    ids: &[Id],
+) -> Result<Vec<Id>, AllocError>
+    ensures { IfOk result (λ found. found.items ≡ filter (is_function global.now) ids.now) }
 {
-    let mut ids = Vec::new(alloc);
-    for sysmod in global.sysmods() {
-        ids.push(sysmod.id)?;
-    }
-    Ok(ids)
+    ids.iter()
+        .filter(|id| global.is_function(**id))
+        .copied()
+        .collect(alloc)
 }
 
 /// The facts of the id, for an install with the candidates of this scope.
@@ -82,6 +86,7 @@ pub fn facts_of<'a>(
         ≡ place scope.now.vers.now.global.now scope.now.zone.now scope.now.ids.now id + 1 }
     ensures { IfOk result (λ facts. AreFacts (setting_of scope.now) id (facts_view facts.items)) }
 {
+    lookups.zone.attest();
     let all = deletions(alloc, scope.vers, scope.ids.as_slice())?;
     let seen = view_deletions(alloc, scope.vers, scope.ids, all.as_slice(), id)?;
     let dropped = deletions(alloc, scope.vers, &[id])?;
@@ -91,7 +96,7 @@ pub fn facts_of<'a>(
         seen: seen.as_slice(),
         dropped: dropped.as_slice(),
         applied: lookups.applied.as_slice(),
-        received: lookups.received.as_slice(),
+        functions: lookups.functions.as_slice(),
     };
     let mut facts = standing_facts(alloc, lookups.global, lookups.zone, id)?;
     let mut vers = ver_facts(alloc, scope, id)?;
@@ -100,8 +105,7 @@ pub fn facts_of<'a>(
     let mut elements = element_facts(alloc, &asking)?;
     let mut deletes = delete_facts(alloc, &asking)?;
     let mut forbids = npre_facts(alloc, &asking)?;
-    let bare = &lookups.bare;
-    let mut needed = needed_facts(alloc, bare, lookups.zone, lookups.applied.as_slice(), id)?;
+    let mut needed = needed_facts(alloc, lookups.needed.as_slice(), id)?;
     facts.append(&mut vers)?;
     facts.append(&mut requisites)?;
     facts.append(&mut holds)?;

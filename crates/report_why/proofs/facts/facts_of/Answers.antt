@@ -1,11 +1,11 @@
-use Rattle.std.proofs.Common.{◌∙◌, ◌+◌, ◌++◌, ap, map, sym, subst₂}
-use Rattle.std.proofs.Common.{List, []}
-use Rattle.terms.specs.Types.{Global, Zone}
-use Rattle.terms.specs.Lookups.{is_in, applied_ids}
+use Rattle.std.proofs.Common.{◌∙◌, ◌++◌, [], ap, filter, map, refl, sym, subst₂}
+use Rattle.terms.specs.Types.{Zone}
+use Rattle.terms.specs.Lookups.{is_function, is_in, applied_ids}
 use Rattle.terms.specs.Choice.{vers_of, fits, counting}
 use Rattle.report_why.specs.Facts.{numbered_facts, standing_facts}
-use Rattle.zones.specs.Scopes.{setting_of}
+use Rattle.zones.specs.Scopes.{global_of, setting_of}
 use Rattle.report_why.specs.Needed.{AreNeeded}
+use Rattle.report_why.proofs.NeededPairs.{all_needed}
 use Rattle.report_why.specs.Views.{fact_view}
 use Rattle.report_why.proofs.Together.{are_facts}
 use Rattle.report_why.proofs.facts.facts_of.Goals as goal
@@ -14,15 +14,12 @@ pub invariant_of-asking-clause-applied_is : goal.invariant_of-asking-clause-appl
 invariant_of-asking-clause-applied_is c =
     c.as_slice-3.ensures.value ∙ c.args.lookups.now.applied_is ∙ ap applied_ids (sym c.requires.zone)
 
-pub invariant_of-asking-clause-received_is : goal.invariant_of-asking-clause-received_is
-invariant_of-asking-clause-received_is c =
-    c.as_slice-4.ensures.value ∙ c.args.lookups.now.received_is
-    ∙ ap (λ (g : Global). map (λ y. y.id) g.sysmods) (sym c.requires.global)
-
-pub needed_facts-requires-clause-counting : goal.needed_facts-requires-clause-counting
-needed_facts-requires-clause-counting c =
-    let lookups = c.args.lookups.now in
-    lookups.bare_is ∙ ap (λ g. counting g lookups.zone.now []) (sym lookups.bare_global)
+pub invariant_of-asking-clause-functions_is : goal.invariant_of-asking-clause-functions_is
+invariant_of-asking-clause-functions_is c =
+    let applied = c.args.lookups.now.applied.items in
+    c.as_slice-4.ensures.value ∙ c.args.lookups.now.functions_is
+    ∙ ap (λ g. filter (is_function g) applied) (sym c.requires.global)
+    ∙ ap (filter (is_function (global_of c.args.scope.now))) (sym c.as_slice-3.ensures.value)
 
 pub returns : goal.returns
 returns c =
@@ -58,5 +55,7 @@ returns c =
       deletes_are = c.in_ok-deletes.ensures;
       forbids_are = c.in_ok-forbids.ensures;
     })
-    (subst₂ (λ g zone. AreNeeded g zone x (map fact_view needed)) (lookups.bare_global ∙ sym c.requires.global)
-    (sym c.requires.zone) c.in_ok-needed.ensures)
+    (subst₂ (λ g zone. AreNeeded g zone x (map fact_view needed)) (sym c.requires.global) (sym c.requires.zone)
+    (c.in_ok-needed.ensures lookups.global.now lookups.zone.now
+    (all_needed lookups.global.now (counting lookups.global.now lookups.zone.now []) lookups.zone.now
+    c.as_slice-5.result.now c.attest.ensures refl (c.as_slice-5.ensures.value ∙ lookups.needed_is))))
