@@ -59,11 +59,7 @@ impl<'a> Lookups<'a> {
     }
 }
 
-fn functions_among(
-    alloc: Global,
-    global: &GlobalZone,
-    ids: &[Id],
-) -> Result<Vec<Id>, AllocError>
+fn functions_among(alloc: Global, global: &GlobalZone, ids: &[Id]) -> Result<Vec<Id>, AllocError>
     ensures { IfOk result (λ found. found.items ≡ filter (is_function global.now) ids.now) }
 {
     ids.iter()

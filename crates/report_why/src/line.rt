@@ -82,11 +82,7 @@ fn put_word(word: FactWord<'_>, text: &mut Vec<u8>) -> Result<(), AllocError>
 }
 
 /// Appends a line that begins with these bytes. A line that begins with blanks and then a word has one blank less here.
-pub fn put_words(
-    start: &[u8],
-    words: &[FactWord<'_>],
-    text: &mut Vec<u8>,
-) -> Result<(), AllocError>
+pub fn put_words(start: &[u8], words: &[FactWord<'_>], text: &mut Vec<u8>) -> Result<(), AllocError>
     ensures { OnOk result (text.new.items
         ≡ text.old.items ++ words_line (start.now ∷ map word_text words.now)) }
 {

@@ -78,7 +78,10 @@ fn told_by(
         question.now ids.now told.text.items told.status) }
 {
     let selection = selection(alloc, ids, question.groupextend)?;
-    let Candidates { ids: candidates, .. } = candidates(alloc, lookups.global, lookups.zone, &selection)?;
+    let Candidates {
+        ids: candidates,
+        ..
+    } = candidates(alloc, lookups.global, lookups.zone, &selection)?;
     let lines = lines_of(alloc, lookups, related, &selection, question.bypass)?;
     let lines = lines.as_slice();
     let mut told = Told {

@@ -29,10 +29,18 @@ returns c =
         code_is = refl;
       },
       put
-          ∙ ap (λ t. t ++ verdict_text x (record { bypass = bypass; facts = map fact_view c.as_slice.result.now;
-            conflicts = c.as_slice-2.result.now; lines = lines })) c.in_ok-put_facts.ensures
+          ∙ ap (λ t. t ++ verdict_text x (record {
+            bypass = bypass;
+            facts = map fact_view c.as_slice.result.now;
+            conflicts = c.as_slice-2.result.now;
+            lines = lines;
+          })) c.in_ok-put_facts.ensures
           ∙ append_assoc old _ _
-          ∙ ap₂ (λ fs cs. old ++ (facts_text fs ++ verdict_text x (record { bypass = bypass; facts = fs; conflicts = cs;
-            lines = lines }))) same c.as_slice-2.ensures.value,
+          ∙ ap₂ (λ fs cs. old ++ (facts_text fs ++ verdict_text x (record {
+            bypass = bypass;
+            facts = fs;
+            conflicts = cs;
+            lines = lines;
+          }))) same c.as_slice-2.ensures.value,
       c.max-told.ensures ∙ ap (max c.args.told.now.status) (c.facts_code.ensures ∙ ap facts_code same),
     )) c.put_verdict.ensures
