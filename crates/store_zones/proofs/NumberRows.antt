@@ -1,5 +1,5 @@
 -- The rows of the numbers of new entries.
-use Rattle.std.proofs.Common.{◌≡◌, ◌≢◌, ◌==◌, ℕ, Bool, true, false, if◌then◌else◌, List, [], ◌∷◌, ◌++◌, map, Option}
+use Rattle.std.proofs.Common.{◌≡◌, ◌≢◌, ◌==◌, ℕ, suc, Bool, true, false, if◌then◌else◌, List, [], ◌∷◌, ◌++◌, map, Option}
 use Rattle.std.proofs.Common.{None, Some, take, get_or, ◌<◌, ◌+◌, length, arith, refl, sym, ap, ap₂, ◌∙◌, append-nil}
 use Rattle.std.specs.List.{AllByRecursion, flat_map}
 use Rattle.std.specs.Option.{option_map_or}
@@ -62,16 +62,19 @@ other_row zone e n is other =
 
 -- ---- an entry more
 
-module _ {Y : Type 0} (zone : Text) (now : Y → Entry) (entries : List Y) (i : ℕ) (entry : Y) (within : i < length entries)
-    (at : entry ≡ get_or entries i entry) (n : ℕ) (is : n ≡ number_of (now entry)) where
+module _ {Y : Type 0} (zone : Text) (now : Y → Entry) (entries : List Y) (i : ℕ) (d : Y) (within : i < length entries)
+    (n : ℕ) (is : n ≡ number_of (now (get_or entries i d))) where
+  abbrev entry : Y
+  entry = get_or entries i d
+
   abbrev rows_to : ℕ → List Row
   rows_to k = flat_map (chosen_in zone) (map now (take k entries))
 
   one_more : rows_to (i + 1) ≡ rows_to i ++ chosen_in zone (now entry)
   one_more =
+      let more : i + 1 ≡ suc i = omega arith in
       let next : take (i + 1) entries ≡ take i entries ++ entry ∷ [] =
-      ap (λ k. take k entries) (omega arith) ∙ take-suc entries i entry within
-      ∙ ap (λ x. take i entries ++ x ∷ []) (sym at) in
+      ap (λ k. take k entries) more ∙ take-suc entries i d within in
       ap (λ es. flat_map (chosen_in zone) (map now es)) next
       ∙ ap (flat_map (chosen_in zone)) (map-append now (take i entries) (entry ∷ []))
       ∙ flat_map-append (chosen_in zone) (map now (take i entries)) (now entry ∷ [])
