@@ -9,7 +9,7 @@ use Rattle.store_zones.proofs.items.insert_items.Goals.{After-insert_rows}
 use Rattle.store_zones.proofs.items.insert_items.Goals as goal
 
 goes : (g : Over) (c : After-insert_rows g)
-    → let row = in_zone g.T.ZoneItem.Rows.FromRow.row_of c.args.zone.now in
+    → let row = in_zone g.T.Rows.FromRow.row_of c.args.zone.now in
     let all = map row (map (λ x. x.now) c.args.items.now) in
     let more = map row (map (λ x. x.now) (drop (c.loop-done.done + c.min.result) c.args.items.now)) in
     GoesOn g.S.Store c.args.some.now c.args.one.now (puts c.args.some.now c.args.one.now all) all c.args.tx.now
@@ -21,7 +21,7 @@ goes g c =
     let items = c.args.items.now in
     let done = c.loop-done.done in
     let n = c.min.result in
-    let row = in_zone g.T.ZoneItem.Rows.FromRow.row_of c.args.zone.now in
+    let row = in_zone g.T.Rows.FromRow.row_of c.args.zone.now in
     let bound = ap (map as_bound) c.as_slice.ensures.value ∙ c.in_ok-rows.ensures in
     run_goes s some one (map row (map (λ x. x.now) (drop done items)))
     (map row (map (λ x. x.now) (take (done + n - done) (drop done items))))
@@ -46,7 +46,7 @@ loop-done-preserved g c = record {
 
 pub returns-in_err-rows : goal.returns-in_err-rows
 returns-in_err-rows g c =
-    let row = in_zone g.T.ZoneItem.Rows.FromRow.row_of c.args.zone.now in
+    let row = in_zone g.T.Rows.FromRow.row_of c.args.zone.now in
     let left = map row (map (λ x. x.now) (drop c.loop-done.done c.args.items.now)) in
     let it = none_goes g.S.Store c.args.some.now c.args.one.now left c.from_residual.result c.from_residual.ensures.1
     c.loop-done.invariant.leaves in
@@ -60,7 +60,7 @@ returns-in_err-insert_rows g c =
 
 pub returns : goal.returns
 returns g c =
-    let row = in_zone g.T.ZoneItem.Rows.FromRow.row_of c.args.zone.now in
+    let row = in_zone g.T.Rows.FromRow.row_of c.args.zone.now in
     let left = map row (map (λ x. x.now) (drop c.loop-done.done c.args.items.now)) in
     let it = all_go g.S.Store c.args.some.now c.args.one.now left
     (none_behind (λ x. x.now) row c.args.items.now c.loop-done.done c.loop-done-test.false)

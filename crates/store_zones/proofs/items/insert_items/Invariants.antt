@@ -7,7 +7,7 @@ use Rattle.store_zones.proofs.items.insert_items.Given as goal
 -- what becomes of the rows that are left becomes of all
 abbrev pub invariant-loop-done : goal.invariant-loop-done
 invariant-loop-done g l =
-    let row = in_zone g.T.ZoneItem.Rows.FromRow.row_of l.zone in
+    let row = in_zone g.T.Rows.FromRow.row_of l.zone in
     let all = map row (map (λ x. x.now) l.items) in
     let rest = map row (map (λ x. x.now) (drop l.done l.items)) in
     record {

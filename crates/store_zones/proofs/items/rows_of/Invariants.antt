@@ -7,4 +7,4 @@ use Rattle.store_zones.proofs.items.rows_of.Given as goal
 abbrev pub invariant-loop-item : goal.invariant-loop-item
 invariant-loop-item g l =
     map as_bound l.rows.items
-    ≡ map (in_zone g.T.ZoneItem.Rows.FromRow.row_of l.zone) (map (λ x. x.now) (take l.item-index l.items))
+    ≡ map (in_zone g.T.Rows.FromRow.row_of l.zone) (map (λ x. x.now) (take l.item-index l.items))
