@@ -40,7 +40,7 @@ use Rattle.store_zones.specs.Chosen.{number_before, number_row}
 use Rattle.store_zones.specs.Numbered.{numbers_of}
 use Rattle.store_zones.specs.Zones.{IsZoneChange, HasEntry, is_element, entries_but, elements_but, HasPutEntry}
 use Rattle.store_zones.specs.Zones.{HasRemovedEntry, HasPutElement, HasRemovedElement, numbered, rows_with}
-use Rattle.store_zones.specs.Zones.{HasMoreEntries, HasMoreElements, with_entries, with_elements}
+use Rattle.store_zones.specs.Zones.{HasMoreEntries, HasMoreElements, with_more_entries, with_more_elements}
 use Rattle.store_zones.specs.Zones.{with_entry, without_entry, with_element}
 use Rattle.store_zones.proofs.ByNumber.{renumbered}
 use Rattle.store_zones.proofs.Numbers.{row_of, number_at, chosen_are, rows_by_number, numbers_with}
@@ -285,7 +285,7 @@ module _ (i j : Inventory) (name : terms.Text) (was is : Zone) (c : IsZoneChange
 
   -- the zone has more entries
   pub entries_more : (news : List Entry) (db : Database) → HasMoreEntries news was is
-      → HasContents store_schema (with_entries name news (rows_of i)) db → HasContents store_schema (rows_of j) db
+      → HasContents store_schema (with_more_entries name news (rows_of i)) db → HasContents store_schema (rows_of j) db
   entries_more news db p =
       let rows : IsPermutation (map (entry_row name) is.entries) (map (entry_row name) news
       ++ map (entry_row name) was.entries) =
@@ -295,20 +295,20 @@ module _ (i j : Inventory) (name : terms.Text) (was is : Zone) (c : IsZoneChange
       ++ flat_map (chosen_in name) was.entries) =
       subst (IsPermutation (flat_map (chosen_in name) is.entries)) (flat_map-append (chosen_in name) news was.entries)
       (IsPermutation-flat_map (chosen_in name) is.entries (news ++ was.entries) p.entries) in
-      permuted store_schema (with_entries name news (rows_of i)) (rows_of j) db
+      permuted store_schema (with_more_entries name news (rows_of i)) (rows_of j) db
       (by_entries (with_rows (map (entry_row name) news)) (with_rows (flat_map (chosen_in name) news)) p.rest
       (flat_more entries_of c.before old_zone new_zone c.after (map (entry_row name) news) rows)
       (flat_more chosen_of c.before old_zone new_zone c.after (flat_map (chosen_in name) news) numbers))
 
   -- or elements
   pub elements_more : (news : List Element) (db : Database) → HasMoreElements news was is
-      → HasContents store_schema (with_elements name news (rows_of i)) db → HasContents store_schema (rows_of j) db
+      → HasContents store_schema (with_more_elements name news (rows_of i)) db → HasContents store_schema (rows_of j) db
   elements_more news db p =
       let rows : IsPermutation (map (zelem_row name) is.elements) (map (zelem_row name) news
       ++ map (zelem_row name) was.elements) =
       subst (IsPermutation (map (zelem_row name) is.elements)) (map-append (zelem_row name) news was.elements)
       (IsPermutation-map (zelem_row name) is.elements (news ++ was.elements) p.elements) in
-      permuted store_schema (with_elements name news (rows_of i)) (rows_of j) db
+      permuted store_schema (with_more_elements name news (rows_of i)) (rows_of j) db
       (by_elements (with_rows (map (zelem_row name) news)) p.rest
       (flat_more zelems_of c.before old_zone new_zone c.after (map (zelem_row name) news) rows))
 

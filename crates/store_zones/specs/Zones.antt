@@ -38,8 +38,8 @@ with_entry zone stood e contents =
     (in_table entry (rows_with (is_some stood) (entry_key zone e.id) (entry_row zone e)) contents)
 
 -- `entry` has the rows of these entries too, and `chosen` their numbers
-abbrev pub with_entries : Text → List Entry → Contents → Contents
-with_entries zone es contents =
+abbrev pub with_more_entries : Text → List Entry → Contents → Contents
+with_more_entries zone es contents =
     in_table chosen (with_rows (flat_map (chosen_in zone) es))
     (in_table entry (with_rows (map (entry_row zone) es)) contents)
 
@@ -54,8 +54,8 @@ with_element zone stood e =
     in_table zelem (rows_with stood (element_key zone e.elem_type e.name) (zelem_row zone e))
 
 -- `zelem` has the rows of these elements too
-abbrev pub with_elements : Text → List Element → Contents → Contents
-with_elements zone es = in_table zelem (with_rows (map (zelem_row zone) es))
+abbrev pub with_more_elements : Text → List Element → Contents → Contents
+with_more_elements zone es = in_table zelem (with_rows (map (zelem_row zone) es))
 
 -- The zone of this name becomes another. No other zone has the name, and nothing else changes.
 pub record IsZoneChange (name : Text) (old new : Zone) (i j : Inventory) : Type 0 where

@@ -12,7 +12,7 @@ ghost use Rattle.store_schema.specs.Tables.{zelem, store_schema};
 ghost use Rattle.store_zones.specs.Calls.{insert_elements_calls, put_element_calls, remove_element_calls};
 ghost use Rattle.store_zones.specs.Elements.{element_key};
 ghost use Rattle.store_zones.specs.Zones.{ChangesZone, HasMoreElements, HasPutElement, HasRemovedElement};
-ghost use Rattle.store_zones.specs.Zones.{with_element, with_elements};
+ghost use Rattle.store_zones.specs.Zones.{with_element, with_more_elements};
 ghost use Rattle.terms.specs.Types.{Element as ElementTerm};
 ghost use Rattle.store_zones.specs.declared.zone_rows.ZoneRow.{ZoneRow as AZoneRow};
 
@@ -69,7 +69,7 @@ pub fn insert_elements<S: Alter>(
     ensures calls { RunsInside S.Store (insert_elements_calls zone (map (λ e. e.now) elements.now))
         tx.old.conn.now tx.new.conn.now result }
     ensures ok { OnOk result (Turns S.Store tx.old.conn.now tx.new.conn.now (HasContents store_schema)
-        (with_elements zone (map (λ e. e.now) elements.now))) }
+        (with_more_elements zone (map (λ e. e.now) elements.now))) }
     ensures stands { OnOk result (ChangesZone S.Store tx.old.conn.now tx.new.conn.now zone
         (HasMoreElements (map (λ e. e.now) elements.now))) }
 {

@@ -11,7 +11,7 @@ ghost use Rattle.store_schema.specs.Tables.{entry as entry_table, store_schema};
 ghost use Rattle.store_zones.specs.Calls.{insert_entries_calls, put_entry_calls, remove_entry_calls};
 ghost use Rattle.store_zones.specs.Entries.{insert_entry, put_entry as into_entry, delete_entry, entry_key};
 ghost use Rattle.store_zones.specs.Zones.{ChangesZone, HasMoreEntries, HasPutEntry, HasRemovedEntry, rows_with};
-ghost use Rattle.store_zones.specs.Zones.{with_entries, with_entry, without_entry};
+ghost use Rattle.store_zones.specs.Zones.{with_more_entries, with_entry, without_entry};
 ghost use Rattle.sqlite.specs.declared.types.Value.TheVariants.{Text};
 ghost use Rattle.sqlite.specs.Order.{column};
 ghost use Rattle.sqlite.specs.Values.{bound, or_null};
@@ -65,7 +65,7 @@ pub fn insert_entries<S: Alter>(
     ensures calls { RunsInside S.Store (insert_entries_calls zone (map (λ e. e.now) entries.now))
         tx.old.conn.now tx.new.conn.now result }
     ensures ok { OnOk result (Turns S.Store tx.old.conn.now tx.new.conn.now (HasContents store_schema)
-        (with_entries zone (map (λ e. e.now) entries.now))) }
+        (with_more_entries zone (map (λ e. e.now) entries.now))) }
     ensures stands { OnOk result (ChangesZone S.Store tx.old.conn.now tx.new.conn.now zone
         (HasMoreEntries (map (λ e. e.now) entries.now))) }
 {
