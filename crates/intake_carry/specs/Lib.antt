@@ -1,3 +1,4 @@
-pub mod Carried
+pub mod Become
 pub mod Holds
+pub mod Carried
 pub mod Gathered

@@ -1,10 +1,10 @@
 //! `++HOLD` and `++RELEASE`.
-ghost use Rattle.std.specs.Prelude.{◌≡◌, Some, IfOk, IfSome, IfNone, IsTrue};
+ghost use Rattle.std.specs.Prelude.{◌≡◌, ◌↔◌, Some, IfOk, IfSome, IfNone, IsTrue};
 ghost use Rattle.terms.specs.declared.kinds.HoldKind.TheVariants.{System};
 ghost use Rattle.terms.specs.Forms.{IsClass, IsDate, IsReason};
 ghost use Rattle.intake_read.specs.declared.items.WideHoldKind.TheVariants.{Fixcat};
 ghost use Rattle.intake_read.specs.Stated.{text_in};
-ghost use Rattle.intake_carry.specs.Holds.{wide_kind, IsFormed, IsKey, IsHoldKey, IsHold, IsRelease};
+ghost use Rattle.intake_carry.specs.Holds.{wide_kind, IsFormed, IsKey, IsHoldKey, IsHold, IsInternal, IsRelease};
 
 use crate::comment::comment_of;
 use crate::errors::HoldError;
@@ -271,7 +271,7 @@ pub(crate) fn carried_hold(
 ) -> Result<Option<Hold>, HoldError>
     ensures some { IfOk result (λ found. IfSome found (IsHold stated.now)) }
     ensures internal { IfOk result (λ found. IfSome found (λ hold. IsTrue hold.internal
-        → (hold.kind ≡ System) × (own ≡ Some hold.id))) }
+        ↔ IsInternal own stated.now)) }
     ensures none { IfOk result (λ found. IfNone found (stated.now.kind ≡ Some Fixcat)) }
 {
     let subject = Subject {
