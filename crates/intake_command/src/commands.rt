@@ -10,7 +10,8 @@ use crate::remarks::tell;
 use crate::sources::{InputFiles, cards_of, read};
 use crate::summary::{by_reason, print};
 use crate::surroundings::IntakeHost;
-use intake_cntl::{KnownList, KnownSysmod, command_file, read_known};
+use intake_asked::{KnownList, KnownSysmod, read_known, wide_commands};
+use intake_cntl::command_file;
 use std::alloc::Global;
 
 /// The status where a command file has words that are not carried.
@@ -39,10 +40,8 @@ pub(crate) fn serve_commands<H: IntakeHost>(
         Some(name) => Some(known_sysmods(alloc, host, name.as_str())?),
         None => None,
     };
-    let file = match &known {
-        Some(known) => command_file(alloc, &cards, Some(known.as_slice()))?,
-        None => command_file(alloc, &cards, None)?,
-    };
+    let commands = wide_commands(alloc, &cards)?;
+    let file = command_file(alloc, &cards, &commands, &known)?;
     if file.carried == 0 && file.others == 0 {
         return Err(IntakeFault::NoStatement);
     }
