@@ -156,7 +156,7 @@ fn check(alloc: Global, known: &Option<Vec<KnownSysmod>>, cases: &str) -> Result
 
 #[test]
 fn carries_drops_or_names(rt: HostRuntime) -> Result<(), Fail> {
-    check_case(rt.alloc(), None, "/* nothing */", "")?;
+    check_case(rt.alloc(), &None, "/* nothing */", "")?;
     for cases in [AS_THEY_STAND, COMMENTED, SPELLED_OUT, DROPPED, NAMED] {
         check(rt.alloc(), &None, cases)?;
     }
@@ -197,7 +197,7 @@ fn a_long_line_is_refused_unless_it_is_a_comment(rt: HostRuntime) -> Result<(), 
     ] {
         let alloc = rt.alloc();
         let text = format!(in alloc; "{before}{long}{behind}\nLIST.\n")?;
-        let got = outcome(alloc, text.as_bytes(), None)?;
+        let got = outcome(alloc, text.as_bytes(), &None)?;
         let lines = file_of(alloc, wanted)?;
         compare(
             before,
