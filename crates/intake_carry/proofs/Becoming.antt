@@ -11,8 +11,10 @@ use Rattle.intake_read.specs.declared.items.WideHold.{WideHold}
 use Rattle.intake_read.specs.declared.items.WideHoldKind.{WideHoldKind}
 use Rattle.intake_read.specs.declared.items.WideHoldKind.TheVariants.{Error, System, User, Fixcat}
 use Rattle.intake_carry.specs.Become.{Become}
-use Rattle.intake_carry.specs.Holds.{wide_kind, IsHold, IsInternal, HoldBecomes, IsInside, IsOutside}
-use Rattle.intake_carry.specs.Gathered as gathered
+use Rattle.intake_carry.specs.Holds.{placed_at, wide_kind, IsHold, IsHoldKey, IsInternal, HoldBecomes}
+use Rattle.intake_carry.specs.Holds.{IsInside, IsOutside}
+use Rattle.intake_carry.specs.declared.placed.PlacedItem.{PlacedItem}
+use Rattle.mcs.specs.declared.hold_item.HoldItem.TheVariants.{Hold}
 
 pub become_more : {X A B : Type 0} (R : X → List A → List B → Type 0) (xs : List X) (ones : List A) (others : List B)
     (x : X) (one : List A) (other : List B) → Become R xs ones others → R x one other
@@ -20,9 +22,9 @@ pub become_more : {X A B : Type 0} (R : X → List A → List B → Type 0) (xs 
 become_more R [] ones others x one other b r =
     (one, [], other, [], ap (λ l. l ++ one) b.0 ∙ sym (append-nil one), ap (λ l. l ++ other) b.1
     ∙ sym (append-nil other), r, refl, refl)
-become_more R (y ∷ ys) ones others x one other (a, as, c, cs, e, f, s, b) r =
-    (a, as ++ one, c, cs ++ other, ap (λ l. l ++ one) e ∙ append_assoc a as one, ap (λ l. l ++ other) f
-    ∙ append_assoc c cs other, s, become_more R ys as cs x one other b r)
+become_more R (y ∷ ys) ones others x one other b r =
+    (b.0, b.1 ++ one, b.2, b.3 ++ other, ap (λ l. l ++ one) b.4 ∙ append_assoc b.0 b.1 one,
+    ap (λ l. l ++ other) b.5 ∙ append_assoc b.2 b.3 other, b.6, become_more R ys b.1 b.3 x one other b.7 r)
 
 pub become_next : {X A B : Type 0} (R : X → List A → List B → Type 0) (xs : List X) (ones new_ones : List A)
     (others new_others : List B) (i : ℕ) (x : X) (one : List A) (other : List B) → i < length xs → x ≡ get_or xs i x
@@ -38,12 +40,38 @@ pub become_whole : {X A B : Type 0} (R : X → List A → List B → Type 0) (xs
     (i : ℕ) → length xs ≤ i → Become R (take i xs) ones others → Become R xs ones others
 become_whole R xs ones others i whole b = subst (λ l. Become R l ones others) (take_all i xs whole) b
 
-pub becomes_hold : (own : Option terms.Id) (stated : WideHold) (hold : terms.Hold) (b : Bool) → hold.internal ≡ b
-    → IsHold stated hold → (IsTrue hold.internal ↔ IsInternal own stated)
-    → HoldBecomes own stated (gathered.inside b hold) (gathered.outside b stated.place hold)
-becomes_hold own stated hold true e is internal = IsInside hold is e (internal.0 e)
-becomes_hold own stated hold false e is internal =
-    IsOutside hold is e (λ i. true≢false (sym (internal.1 i) ∙ e))
+-- what is put inside or outside is what the hold becomes
+pub hold_put : (own : Option terms.Id) (stated : WideHold) (hold : terms.Hold) (old new : terms.Sysmod)
+    (placed after : List PlacedItem) → IsHold stated hold → (IsTrue hold.internal ↔ IsInternal own stated)
+    → (IsTrue hold.internal → (new ≡ record old { holds = old.holds ++ hold ∷ [] }) × (after ≡ placed))
+    → (IsFalse hold.internal → (new ≡ old) × (after ≡ placed ++ placed_at stated.place (Hold hold) ∷ []))
+    → (one : List terms.Hold) × (other : List PlacedItem) × (new.holds ≡ old.holds ++ one)
+    × (after ≡ placed ++ other) × HoldBecomes own stated one other × (new ≡ record old { holds = new.holds })
+hold_put own stated hold old new placed after is internal inside outside = by hold.internal refl
+  where
+    by : (b : Bool) → hold.internal ≡ b
+        → (one : List terms.Hold) × (other : List PlacedItem) × (new.holds ≡ old.holds ++ one)
+        × (after ≡ placed ++ other) × HoldBecomes own stated one other × (new ≡ record old { holds = new.holds })
+    by true e =
+        let i = inside e in
+        let holds = ap (λ (s : terms.Sysmod). s.holds) i.0 in (
+          hold ∷ [],
+          [],
+          holds,
+          i.1 ∙ sym (append-nil placed),
+          IsInside hold is e (internal.0 e),
+          i.0 ∙ ap (λ hs. record old { holds = hs }) (sym holds),
+        )
+    by false e =
+        let o = outside e in
+        let holds = ap (λ (s : terms.Sysmod). s.holds) o.0 in (
+          [],
+          placed_at stated.place (Hold hold) ∷ [],
+          holds ∙ sym (append-nil old.holds),
+          o.1,
+          IsOutside hold is e (λ i. true≢false (sym (internal.1 i) ∙ e)),
+          o.0 ∙ ap (λ hs. record old { holds = hs }) (sym holds),
+        )
 
 -- a hold is of the kind SYSTEM just if it is stated so
 pub system_stated : (k : HoldKind) (stated : Option WideHoldKind) → stated ≡ Some (wide_kind k) → k ≡ kind.System
@@ -53,14 +81,22 @@ system_stated k stated e s = rw s at e
 pub system_carried : (k : HoldKind) (stated : Option WideHoldKind) → stated ≡ Some (wide_kind k)
     → stated ≡ Some System → k ≡ kind.System
 system_carried kind.System stated e s = refl
-system_carried kind.Error stated e s = by (sym e ∙ s)
+system_carried kind.Error stated e s = absurd (by (sym e ∙ s))
   where
-    by : Some Error ≡ Some System → kind.Error ≡ kind.System
-    by ()
-system_carried kind.User stated e s = by (sym e ∙ s)
+    by : Some Error ≡ Some System → ⊥
+    by f = cc
+system_carried kind.User stated e s = absurd (by (sym e ∙ s))
   where
-    by : Some User ≡ Some System → kind.User ≡ kind.System
-    by ()
+    by : Some User ≡ Some System → ⊥
+    by f = cc
+
+-- a hold is internal just if it is stated so
+pub internal_stated : (stated : WideHold) (key : terms.Release) (own : Option terms.Id) (b : Bool) → IsHoldKey stated key
+    → (IsTrue b → (key.kind ≡ kind.System) × (own ≡ Some key.id))
+    → ((key.kind ≡ kind.System) × (own ≡ Some key.id) → IsTrue b) → IsTrue b ↔ IsInternal own stated
+internal_stated stated key own b is only always =
+    (λ t. (system_stated key.kind stated.kind is.kind_is (only t).0, (only t).1 ∙ ap Some is.id_is),
+    λ i. always (system_carried key.kind stated.kind is.kind_is i.0, i.1 ∙ ap Some (sym is.id_is)))
 
 -- without a SYSMOD around it, a hold is external
 pub not_inside : (hold : terms.Hold) (stated : WideHold) → (IsTrue hold.internal ↔ IsInternal None stated)
@@ -68,7 +104,7 @@ pub not_inside : (hold : terms.Hold) (stated : WideHold) → (IsTrue hold.intern
 not_inside hold stated internal = by hold.internal refl
   where
     none : {x : terms.Id} → None ≡ Some x → ⊥
-    none ()
+    none f = cc
     by : (b : Bool) → hold.internal ≡ b → IsFalse hold.internal
     by true e = absurd (none (internal.0 e).1)
     by false e = e

@@ -59,8 +59,8 @@ abbrev pub place_cmp : CardPlace → CardPlace → Ordering
 place_cmp a b = ordering_then (nat_cmp a.file b.file) (nat_cmp a.card b.card)
 
 -- an item of the hold file, whose statement begins there
-abbrev pub at : CardPlace → HoldItem → PlacedItem
-at place item = record { place = place; item = item }
+abbrev pub placed_at : CardPlace → HoldItem → PlacedItem
+placed_at place item = record { place = place; item = item }
 
 -- The hold is internal: a SYSTEM hold on the SYSMOD that it is in. A SYSMOD that is left out has no id.
 abbrev pub IsInternal : Option Id → WideHold → Type 0
@@ -72,10 +72,10 @@ pub data HoldBecomes (own : Option Id) (stated : WideHold) : List terms.Hold →
   IsInside : (hold : terms.Hold) → IsHold stated hold → IsTrue hold.internal → IsInternal own stated
       → HoldBecomes own stated (hold ∷ []) []
   IsOutside : (hold : terms.Hold) → IsHold stated hold → IsFalse hold.internal → (¬ IsInternal own stated)
-      → HoldBecomes own stated [] (at stated.place (Hold hold) ∷ [])
+      → HoldBecomes own stated [] (placed_at stated.place (Hold hold) ∷ [])
 
 -- A FIXCAT release becomes nothing, and any other one an item of the hold file.
 pub data ReleaseBecomes (stated : WideRelease) : List terms.Hold → List PlacedItem → Type 0 where
   IsNoRelease : stated.kind ≡ Some Fixcat → ReleaseBecomes stated [] []
   IsReleased : (release : terms.Release) → IsRelease stated release
-      → ReleaseBecomes stated [] (at stated.place (Release release) ∷ [])
+      → ReleaseBecomes stated [] (placed_at stated.place (Release release) ∷ [])

@@ -1,4 +1,3 @@
 pub mod Become
-pub mod Holds
 pub mod Carried
-pub mod Gathered
+pub mod Holds

@@ -233,6 +233,14 @@ fn is_internal(key: &Release, own: Option<Id>) -> bool
     key.kind == HoldKind::System && own == Some(key.id)
 }
 
+// The same of the hold of the file.
+fn stays_inside(stated: &WideHold, key: &Release, own: Option<Id>) -> bool
+    requires { IsHoldKey stated.now key.now }
+    ensures { IsTrue result ↔ IsInternal own stated.now }
+{
+    is_internal(key, own)
+}
+
 // Tells that it is left out, since it is of FIXCAT.
 fn tell_fixcat(
     alloc: Global,
@@ -293,7 +301,7 @@ pub(crate) fn carried_hold(
         stated.dropped.as_slice(),
         stated.odd.as_slice(),
     )?;
-    let internal = is_internal(&key, own);
+    let internal = stays_inside(stated, &key, own);
     Ok(Some(hold_of(alloc, remarks, &subject, stated, key, internal)?))
 }
 

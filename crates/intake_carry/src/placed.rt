@@ -3,7 +3,7 @@ ghost use Rattle.std.specs.Prelude.{◌≡◌, ◌∷◌, ◌++◌, [], IfOk, On
 ghost use Rattle.std.specs.List.Sorted.{IsSortedByKey};
 ghost use Rattle.mcs.specs.declared.hold_item.HoldItem.TheVariants.{Hold as AHold, Release as ARelease};
 ghost use Rattle.intake_carry.specs.Become.{Become};
-ghost use Rattle.intake_carry.specs.Holds.{at, place_cmp, HoldBecomes, ReleaseBecomes};
+ghost use Rattle.intake_carry.specs.Holds.{placed_at, place_cmp, HoldBecomes, ReleaseBecomes};
 ghost use Rattle.intake_carry.specs.Carried.{AreInOrder};
 
 use crate::errors::HoldError;
@@ -27,7 +27,7 @@ pub(crate) fn put_outside(
     place: CardPlace,
     hold: Hold,
 ) -> Result<(), AllocError>
-    ensures { OnOk result (placed.new.items ≡ placed.old.items ++ at place (AHold hold) ∷ []) }
+    ensures { OnOk result (placed.new.items ≡ placed.old.items ++ placed_at place (AHold hold) ∷ []) }
 {
     placed.push(PlacedItem {
         place,
@@ -42,7 +42,7 @@ fn put_release(
     place: CardPlace,
     release: Release,
 ) -> Result<(), AllocError>
-    ensures { OnOk result (placed.new.items ≡ placed.old.items ++ at place (ARelease release) ∷ []) }
+    ensures { OnOk result (placed.new.items ≡ placed.old.items ++ placed_at place (ARelease release) ∷ []) }
 {
     placed.push(PlacedItem {
         place,

@@ -1,11 +1,11 @@
 //! SYSMODs with their holds.
-ghost use Rattle.std.specs.Prelude.{◌≡◌, ◌++◌, [], IfOk, IfSome, OnOk, IsTrue, Some, option_map};
+ghost use Rattle.std.specs.Prelude.{◌≡◌, ◌++◌, ◌∷◌, [], IfOk, IfSome, OnOk, IsTrue, IsFalse, Some, option_map};
 ghost use Rattle.terms.specs.declared.kinds.HoldKind.TheVariants.{System};
 ghost use Rattle.intake_sysmod.specs.NoLooser.{IsNoLooser};
 ghost use Rattle.intake_carry.specs.Become.{Become};
-ghost use Rattle.intake_carry.specs.Holds.{HoldBecomes};
+ghost use Rattle.mcs.specs.declared.hold_item.HoldItem.TheVariants.{Hold as AHold};
+ghost use Rattle.intake_carry.specs.Holds.{placed_at, HoldBecomes};
 ghost use Rattle.intake_carry.specs.Carried.{item_in, holds_in, SysmodBecomes};
-ghost use Rattle.intake_carry.specs.Gathered as gathered;
 
 use crate::copies::OtherCopies;
 use crate::errors::HoldError;
@@ -41,10 +41,11 @@ fn put_hold(
     hold: Hold,
 ) -> Result<(), AllocError>
     requires { IsTrue hold.internal → (hold.kind ≡ System) × (hold.id ≡ sysmod.old.id) }
-    ensures sysmod { OnOk result (sysmod.new
-        ≡ record sysmod.old { holds = sysmod.old.holds ++ gathered.inside hold.internal hold }) }
-    ensures outside { OnOk result (outside.new.items
-        ≡ outside.old.items ++ gathered.outside hold.internal place hold) }
+    ensures inside { OnOk result (IsTrue hold.internal
+        → (sysmod.new ≡ record sysmod.old { holds = sysmod.old.holds ++ hold ∷ [] })
+        × (outside.new.items ≡ outside.old.items)) }
+    ensures outside { OnOk result (IsFalse hold.internal → (sysmod.new ≡ sysmod.old)
+        × (outside.new.items ≡ outside.old.items ++ placed_at place (AHold hold) ∷ [])) }
 {
     if hold.internal {
         sysmod.push_hold(hold)?;

@@ -2,7 +2,7 @@ use Rattle.std.proofs.Common.{◌≡◌, [], ◌++◌, ◌∷◌, None, Some, sy
 use Rattle.std.specs.Prelude.{IsFalse, IsTrue}
 use Rattle.mcs.specs.declared.hold_item.HoldItem.TheVariants.{Hold}
 use Rattle.terms.specs.Types.{Id}
-use Rattle.intake_carry.specs.Holds.{HoldBecomes, IsLeftOut, IsOutside, IsInternal, at}
+use Rattle.intake_carry.specs.Holds.{HoldBecomes, IsLeftOut, IsOutside, IsInternal, placed_at}
 use Rattle.intake_carry.proofs.Becoming.{become_next, become_whole, not_inside}
 use Rattle.intake_carry.proofs.placed.placed_holds.Goals as goal
 
@@ -20,12 +20,12 @@ loop-hold-preserved c =
     let hold = c.in-Some.carried in
     let internal = rw c.in-Some.is at c.in_ok-carried.ensures.internal in
     become_next (HoldBecomes None) c.args.stated.now [] [] l.placed.items c.put_outside.new.placed.items l.hold-index
-    stated [] (at stated.place (Hold hold) ∷ []) (omega arith) c.hold-item.is refl c.in_ok-put_outside.ensures
+    stated [] (placed_at stated.place (Hold hold) ∷ []) (omega arith) c.hold-item.is refl c.in_ok-put_outside.ensures
     (IsOutside hold (rw c.in-Some.is at c.in_ok-carried.ensures.some) (not_inside hold stated internal)
     (λ i. by i.1)) l.invariant
   where
     by : {x : Id} → None ≡ Some x → ⊥
-    by ()
+    by f = cc
 
 pub returns : goal.returns
 returns c =

@@ -1,6 +1,6 @@
 use Rattle.std.proofs.Common.{[], ◌∷◌, sym, refl, arith, append-nil}
 use Rattle.mcs.specs.declared.hold_item.HoldItem.TheVariants.{Release}
-use Rattle.intake_carry.specs.Holds.{ReleaseBecomes, IsNoRelease, IsReleased, at}
+use Rattle.intake_carry.specs.Holds.{ReleaseBecomes, IsNoRelease, IsReleased, placed_at}
 use Rattle.intake_carry.proofs.Becoming.{become_next, become_whole}
 use Rattle.intake_carry.proofs.placed.placed_releases.Goals as goal
 
@@ -17,7 +17,7 @@ loop-release-preserved c =
     let stated = c.release-item.result in
     let release = c.in-Some.carried in
     become_next ReleaseBecomes c.args.stated.now [] [] l.placed.items c.put_release.new.placed.items l.release-index
-    stated [] (at stated.place (Release release) ∷ []) (omega arith) c.release-item.is refl
+    stated [] (placed_at stated.place (Release release) ∷ []) (omega arith) c.release-item.is refl
     c.in_ok-put_release.ensures (IsReleased release (rw c.in-Some.is at c.in_ok-carried.ensures.some)) l.invariant
 
 pub returns : goal.returns

@@ -3,8 +3,7 @@ use Rattle.std.specs.Prelude.{◌↔◌, IsTrue}
 use Rattle.std.proofs.lemmas.Option.{same_Some}
 use Rattle.terms.specs.Types.{Sysmod, Id}
 use Rattle.intake_carry.specs.Holds.{HoldBecomes, IsLeftOut, IsInternal}
-use Rattle.intake_carry.specs.Gathered as gathered
-use Rattle.intake_carry.proofs.Becoming.{become_next, become_whole, becomes_hold, system_carried}
+use Rattle.intake_carry.proofs.Becoming.{become_next, become_whole, hold_put, system_carried}
 use Rattle.intake_carry.proofs.sysmods.put_holds.Goals as goal
 
 pub put_hold-requires : goal.put_hold-requires
@@ -30,23 +29,20 @@ loop-hold-preserved-in_default c =
 
 pub loop-hold-preserved : goal.loop-hold-preserved
 loop-hold-preserved c =
-    let at = c.loop-hold in
-    let put = c.in_ok-put_hold.ensures in
-    let hold = c.in-Some.carried in
+    let l = c.loop-hold in
     let stated = c.hold-item.result in
     let id = c.args.sysmod.now.id in
     let internal = rw c.in-Some.is at c.in_ok-carried.ensures.internal in
+    let put = hold_put (Some id) stated c.in-Some.carried l.sysmod c.put_hold.new.sysmod l.outside.items
+    c.put_hold.new.outside.items (rw c.in-Some.is at c.in_ok-carried.ensures.some)
+    (subst (λ (x : Id). IsTrue c.in-Some.carried.internal ↔ IsInternal (Some x) stated) c.id_in-own.ensures internal)
+    c.in_ok-put_hold.ensures.inside c.in_ok-put_hold.ensures.outside in
     record {
-      same = put.sysmod ∙ ap (λ (s : Sysmod). record s { holds = c.put_hold.new.sysmod.holds }) at.invariant.same;
-      held = become_next (HoldBecomes (Some id)) c.args.stated.now.holds.items at.sysmod.holds
-          c.put_hold.new.sysmod.holds at.outside.items c.put_hold.new.outside.items at.hold-index stated
-          (gathered.inside hold.internal hold) (gathered.outside hold.internal stated.place hold)
+      same = put.5 ∙ ap (λ (s : Sysmod). record s { holds = c.put_hold.new.sysmod.holds }) l.invariant.same;
+      held = become_next (HoldBecomes (Some id)) c.args.stated.now.holds.items l.sysmod.holds
+          c.put_hold.new.sysmod.holds l.outside.items c.put_hold.new.outside.items l.hold-index stated put.0 put.1
           (omega (arith, ap length c.deref-hold-items.ensures.value))
-          (rw c.deref-hold-items.ensures.value at c.hold-item.is) (ap (λ (s : Sysmod). s.holds) put.sysmod)
-          put.outside (becomes_hold (Some id) stated hold hold.internal refl
-          (rw c.in-Some.is at c.in_ok-carried.ensures.some)
-          (subst (λ (x : Id). IsTrue hold.internal ↔ IsInternal (Some x) stated) c.id_in-own.ensures internal))
-          at.invariant.held;
+          (rw c.deref-hold-items.ensures.value at c.hold-item.is) put.2 put.3 put.4 l.invariant.held;
     }
 
 pub returns-clause-held : goal.returns-clause-held
