@@ -11,7 +11,7 @@ use crate::bypasses::says_bypass;
 use crate::known::KnownSysmod;
 use crate::lists::{grouped, select_names, selected};
 use crate::names::{known_members, known_operands};
-use crate::operands::{are_called, has, is_among, listed, stands_alone};
+use crate::operands::{are_called, has, listed, stands_alone};
 use crate::same::are_these;
 use crate::scan::WideCommand;
 use crate::selections::says_selection;
@@ -19,6 +19,7 @@ use cntl::{Command, Install};
 use fields::spelling::word_text;
 use fields::{Id, ReceiveWhat, RestoreList, Source, ZoneName};
 use intake_read::WideOperand;
+use rec80::is_among;
 use std::alloc::{AllocError, Global};
 use terms::CommandWord;
 

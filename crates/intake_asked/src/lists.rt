@@ -5,8 +5,9 @@ ghost use Rattle.intake_asked.specs.Words.{selected, grouped, excluded, kept_out
 ghost use Rattle.intake_asked.specs.Words.{select_names, group_names, groupextend_names};
 
 use crate::known::KnownSysmod;
-use crate::operands::{is_among, listed, stands_alone};
+use crate::operands::{listed, stands_alone};
 use intake_read::WideOperand;
+use rec80::is_among;
 use std::alloc::{AllocError, Global};
 use terms::Kind;
 

@@ -1,18 +1,11 @@
 //! Operands that have one of some names, and the members of their lists.
-ghost use Rattle.std.specs.Prelude.{◌≡◌, ◌↔◌, ◌==◌, ◌||◌, IsTrue, IfOk, All, map, filter, if◌then◌else◌, [], nat_lt, length};
+ghost use Rattle.std.specs.Prelude.{◌≡◌, ◌↔◌, ◌==◌, ◌||◌, ◌&&◌, is_none, IsTrue, IfOk, All, map, filter, if◌then◌else◌, [], nat_lt, length};
 ghost use Rattle.std.specs.List.{slice_split};
-ghost use Rattle.terms.specs.Lookups.{is_in};
 ghost use Rattle.intake_asked.specs.Words.{is_called, has, stands_alone, list_in, members, listed};
 
 use intake_read::WideOperand;
+use rec80::is_among;
 use std::alloc::{AllocError, Global};
-
-/// Whether the text is one of these.
-pub(crate) fn is_among(texts: &[&[u8]], text: &[u8]) -> bool
-    ensures { result ≡ is_in (map (λ one. one.now) texts.now) text.now }
-{
-    texts.iter().any(|one| text == *one)
-}
 
 fn is_called(names: &[&[u8]], operand: &WideOperand) -> bool
     ensures { result ≡ is_called (map (λ name. name.now) names.now) operand.now }
@@ -27,11 +20,17 @@ pub(crate) fn has(names: &[&[u8]], operands: &[WideOperand]) -> bool
     operands.iter().any(|operand| is_called(names, operand))
 }
 
+fn is_alone(names: &[&[u8]], operand: &WideOperand) -> bool
+    ensures { result ≡ (is_called (map (λ name. name.now) names.now) operand.now && is_none operand.now.value) }
+{
+    is_called(names, operand) && operand.value.is_none()
+}
+
 /// Whether such an operand has no list.
 pub(crate) fn stands_alone(names: &[&[u8]], operands: &[WideOperand]) -> bool
     ensures { result ≡ stands_alone (map (λ name. name.now) names.now) operands.now }
 {
-    operands.iter().any(|operand| is_called(names, operand) && operand.value.is_none())
+    operands.iter().any(|operand| is_alone(names, operand))
 }
 
 /// Whether each operand has one of the names.

@@ -3,8 +3,8 @@ ghost use Rattle.std.specs.Prelude.{◌≡◌, ◌↔◌, IsTrue, IfOk, All, map
 ghost use Rattle.terms.specs.Lookups.{is_in};
 ghost use Rattle.intake_asked.specs.Said.{AreThese};
 
-use crate::operands::is_among;
 use fields::{Class, Id, Reason, Source, ZoneName};
+use rec80::is_among;
 use std::alloc::{AllocError, Global};
 
 /// A value that is a text.
