@@ -19,12 +19,27 @@ use Rattle.mcs.specs.declared.hold_item.HoldItem.TheVariants.{Hold}
 pub become_more : {X A B : Type 0} (R : X → List A → List B → Type 0) (xs : List X) (ones : List A) (others : List B)
     (x : X) (one : List A) (other : List B) → Become R xs ones others → R x one other
     → Become R (xs ++ x ∷ []) (ones ++ one) (others ++ other)
-become_more R [] ones others x one other b r =
-    (one, [], other, [], ap (λ l. l ++ one) b.0 ∙ sym (append-nil one), ap (λ l. l ++ other) b.1
-    ∙ sym (append-nil other), r, refl, refl)
-become_more R (y ∷ ys) ones others x one other b r =
-    (b.0, b.1 ++ one, b.2, b.3 ++ other, ap (λ l. l ++ one) b.4 ∙ append_assoc b.0 b.1 one,
-    ap (λ l. l ++ other) b.5 ∙ append_assoc b.2 b.3 other, b.6, become_more R ys b.1 b.3 x one other b.7 r)
+become_more R [] ones others x one other b r = (
+  one,
+  [],
+  other,
+  [],
+  ap (λ l. l ++ one) b.0 ∙ sym (append-nil one),
+  ap (λ l. l ++ other) b.1
+      ∙ sym (append-nil other),
+  r,
+  (refl, refl),
+)
+become_more R (y ∷ ys) ones others x one other b r = (
+  b.0,
+  b.1 ++ one,
+  b.2,
+  b.3 ++ other,
+  ap (λ l. l ++ one) b.4 ∙ append_assoc b.0 b.1 one,
+  ap (λ l. l ++ other) b.5 ∙ append_assoc b.2 b.3 other,
+  b.6,
+  become_more R ys b.1 b.3 x one other b.7 r,
+)
 
 pub become_next : {X A B : Type 0} (R : X → List A → List B → Type 0) (xs : List X) (ones new_ones : List A)
     (others new_others : List B) (i : ℕ) (x : X) (one : List A) (other : List B) → i < length xs → x ≡ get_or xs i x
@@ -94,9 +109,10 @@ system_carried kind.User stated e s = absurd (by (sym e ∙ s))
 pub internal_stated : (stated : WideHold) (key : terms.Release) (own : Option terms.Id) (b : Bool) → IsHoldKey stated key
     → (IsTrue b → (key.kind ≡ kind.System) × (own ≡ Some key.id))
     → ((key.kind ≡ kind.System) × (own ≡ Some key.id) → IsTrue b) → IsTrue b ↔ IsInternal own stated
-internal_stated stated key own b is only always =
-    (λ t. (system_stated key.kind stated.kind is.kind_is (only t).0, (only t).1 ∙ ap Some is.id_is),
-    λ i. always (system_carried key.kind stated.kind is.kind_is i.0, i.1 ∙ ap Some (sym is.id_is)))
+internal_stated stated key own b is only always = (
+  λ t. (system_stated key.kind stated.kind is.kind_is (only t).0, (only t).1 ∙ ap Some is.id_is),
+  λ i. always (system_carried key.kind stated.kind is.kind_is i.0, i.1 ∙ ap Some (sym is.id_is)),
+)
 
 -- without a SYSMOD around it, a hold is external
 pub not_inside : (hold : terms.Hold) (stated : WideHold) → (IsTrue hold.internal ↔ IsInternal None stated)
@@ -105,6 +121,7 @@ not_inside hold stated internal = by hold.internal refl
   where
     none : {x : terms.Id} → None ≡ Some x → ⊥
     none f = cc
+
     by : (b : Bool) → hold.internal ≡ b → IsFalse hold.internal
     by true e = absurd (none (internal.0 e).1)
     by false e = e
