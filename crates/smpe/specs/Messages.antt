@@ -11,7 +11,7 @@ use Rattle.smpe.specs.declared.error.JobError.{JobError}
 use Rattle.smpe.specs.declared.error.JobError.TheVariants as job
 use Rattle.smpe_invocation.specs.declared.fault.ArgFault.TheVariants as arg
 use Rattle.smpe.specs.declared.messages.Fault.{Fault}
-use Rattle.smpe.specs.declared.messages.Fault.TheVariants.{Job, Arg, CannotRead}
+use Rattle.smpe.specs.declared.messages.Fault.TheVariants.{Job, Arg, CannotRead, NoCommand, NoZone}
 
 abbrev pub zone_fault_text : ZoneFault → Text
 zone_fault_text NameTaken = codes "Zn1"
@@ -60,6 +60,8 @@ fault_text (Arg arg.Memory) = program_line (codes "out of memory")
 fault_text (Arg (arg.Clap own)) = []
 fault_text (Arg arg.BadOperand) = program_line (codes "bad operand")
 fault_text (CannotRead name) = program_line (codes "cannot read " ++ name.now)
+fault_text NoCommand = program_line (codes "no command")
+fault_text (NoZone zone) = program_line (codes "no zone " ++ zone)
 
 -- the status of a program that has none
 abbrev pub fault_status : ℕ

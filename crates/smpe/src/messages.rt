@@ -100,6 +100,12 @@ pub enum Fault<'a> {
     /// The name of a file that cannot be read.
     #[error("cannot read {0}")]
     CannotRead(&'a str),
+    /// A careful job has no command.
+    #[error("no command")]
+    NoCommand,
+    /// A SET of a careful job names this zone.
+    #[error("a zone is not defined")]
+    NoZone(ZoneName),
 }
 
 impl From<JobError> for Fault<'_> {
@@ -152,6 +158,15 @@ fn write_unread<W: Sink>(name: &str, w: &mut W) -> Result<(), WriteFault>
     write_all(b"\n", w)
 }
 
+fn write_undefined<W: Sink>(name: &ZoneName, w: &mut W) -> Result<(), WriteFault>
+    ensures sends { Sent W.Sink w.old w.new (program_line (codes "no zone " ++ name.now)) }
+    ensures fault { W.has_failed w.new ≡ is_err result }
+{
+    put(b"smpe: no zone ", w);
+    put(name.as_bytes(), w);
+    write_all(b"\n", w)
+}
+
 fn write_fault<W: Sink>(fault: &Fault<'_>, w: &mut W) -> Result<(), WriteFault>
     ensures sends { Sent W.Sink w.old w.new (fault_text fault.now) }
     ensures fault { W.has_failed w.old ≡ false → W.has_failed w.new ≡ is_err result }
@@ -163,6 +178,8 @@ fn write_fault<W: Sink>(fault: &Fault<'_>, w: &mut W) -> Result<(), WriteFault>
         Fault::Arg(ArgFault::BadOperand) => write_line(b"bad operand", w),
         Fault::Arg(ArgFault::Clap(_)) => Ok(()),
         Fault::CannotRead(name) => write_unread(name, w),
+        Fault::NoCommand => write_line(b"no command", w),
+        Fault::NoZone(name) => write_undefined(name, w),
     }
 }
 

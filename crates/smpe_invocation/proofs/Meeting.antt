@@ -1,5 +1,6 @@
 -- The subcommand that a parse met, and what is made of a refusal.
-use Rattle.std.proofs.Common.{◌≡◌, List, [], ap, ap₂, refl, inl, inr, option_map, Option, Some, None, unwrap_or}
+use Rattle.std.proofs.Common.{◌≡◌, List, [], ap, ap₂, refl, inl, inr, sym, subst, option_map, Option, Some, None, unwrap_or}
+use Rattle.std.specs.Prelude.{Result, IfOk, IfErr}
 use Rattle.terms.specs.Types.{Text}
 use Rattle.std.specs.Borrow.{Bor}
 use Rattle.std.specs.Box.{box_value}
@@ -10,6 +11,7 @@ use Rattle.clap.specs.declared.parser.matches.ArgMatches.TheViews.{out-ArgMatche
 use Rattle.clap.specs.declared.error.Error.{Error}
 use Rattle.smpe_invocation.specs.Answers.{Excludes, IsMet, IsOfClap, IsRefused}
 use Rattle.smpe_invocation.specs.CommandLine.{IsCommandLine}
+use Rattle.smpe_invocation.specs.Values.{HasValues}
 use Rattle.smpe_invocation.specs.declared.fault.ArgFault.{ArgFault}
 use Rattle.smpe_invocation.specs.declared.fault.ArgFault.TheVariants.{Memory, Clap, BadOperand}
 use Rattle.smpe_invocation.specs.declared.asked.Invocation.{Invocation}
@@ -46,3 +48,12 @@ pub refused_by_value : (words : List Text) (app : App) → IsCommandLine app →
 refused_by_value words app line none Memory h = tt
 refused_by_value words app line none (Clap error) h = absurd h
 refused_by_value words app line none BadOperand h = (app, line, none, λ i met. h (i, met))
+
+-- what holds of a word holds of a name that is this word
+module _ (name word : Text) (rows : List Row) (is : name ≡ word) (r : Result Invocation ArgFault) where
+  pub met_by : IfOk r (HasValues (word, rows)) → IfOk r (HasValues (name, rows))
+  met_by = subst (λ w. IfOk r (HasValues (w, rows))) (sym is)
+
+  pub unmet_by : IfErr r (λ e. Excludes e ((i : Invocation) × HasValues (word, rows) i))
+      → IfErr r (λ e. Excludes e ((i : Invocation) × HasValues (name, rows) i))
+  unmet_by = subst (λ w. IfErr r (λ e. Excludes e ((i : Invocation) × HasValues (w, rows) i))) (sym is)

@@ -1,7 +1,9 @@
 -- The command line, in the words of `clap`'s contracts.
 use Rattle.std.specs.Prelude.{◌≡◌, true, false, List, [], ◌∷◌, map, Some, codes}
-use Rattle.clap.specs.Words.{App, Rule, Shape, Text, new_app, new_rule}
-use Rattle.clap.specs.declared.builder.action.ArgAction.TheVariants.{Append}
+use Rattle.clap.specs.Words.{App, Rule, Shape, Text, app_of, new_app, new_rule}
+use Rattle.clap.specs.declared.builder.action.ArgAction.TheVariants.{Append, SetTrue}
+use Rattle.clap.specs.declared.builder.command.Command.{Command}
+use Rattle.clap.specs.declared.builder.command.Command.TheViews.{out-Command as fields_of}
 use Rattle.clap.specs.declared.builder.value_parser.ValueParser.{ValueParser}
 use Rattle.clap.specs.declared.builder.value_parser.ValueParser.TheVariants.{Names}
 
@@ -9,11 +11,19 @@ use Rattle.clap.specs.declared.builder.value_parser.ValueParser.TheVariants.{Nam
 abbrev pub option : Text → Rule
 option id = record (new_rule id) { long = Some id }
 
--- the same, but required
+-- `--id`, which takes no value
+abbrev pub flag : Text → Rule
+flag id = record (option id) { action = Some SetTrue }
+
+-- one that is optional and may be repeated
+abbrev pub several : Text → Rule
+several id = record (option id) { action = Some Append }
+
+-- `--id TEXT`, which is required
 abbrev pub needed : Text → Rule
 needed id = record (option id) { required = true }
 
--- one that may be repeated
+-- the same, which may be repeated
 abbrev pub repeated : Text → Rule
 repeated id = record (needed id) { action = Some Append }
 
@@ -29,37 +39,49 @@ kind_option kinds = record (needed (codes "kind")) { parser = Some kinds }
 abbrev pub with_options : Text → List Rule → Shape
 with_options name rules = record (new_app name).top { rules = rules }
 
--- `zone --db F --name Z --kind target|distribution --srel S [--related Z]`
+-- the command is such a subcommand, without subcommands and global arguments of its own
+abbrev pub IsSubcommand : Shape → Command → Type 0
+IsSubcommand shape c = (app_of c ≡ record { top = shape; subs = [] }) × ((fields_of c).has_globals ≡ false)
+
+-- `--db F [--wait SECONDS]`, and these after them
+abbrev pub database_options : List Rule → List Rule
+database_options more = needed (codes "db") ∷ option (codes "wait") ∷ more
+
+-- `zone --db F [--wait SECONDS] --name Z --kind target|distribution --srel S [--related Z]`
 abbrev pub zone_shape : ValueParser → Shape
-zone_shape kinds = with_options (codes "zone")
-    (needed (codes "db") ∷ needed (codes "name") ∷ kind_option kinds ∷ needed (codes "srel") ∷ option (codes "related")
-    ∷ [])
+zone_shape kinds = with_options (codes "zone") (database_options (needed (codes "name") ∷ kind_option kinds
+    ∷ needed (codes "srel") ∷ option (codes "related") ∷ []))
 
--- `run --db F --date YYYY-MM-DD --cntl F [--ptfin F] [--hold F]`
+-- `run --db F [--wait SECONDS] --date YYYY-MM-DD --cntl F [--ptfin F] [--hold F] [--careful]`
 abbrev pub run_shape : Shape
-run_shape = with_options (codes "run")
-    (needed (codes "db") ∷ needed (codes "date") ∷ needed (codes "cntl") ∷ option (codes "ptfin")
-    ∷ option (codes "hold") ∷ [])
+run_shape = with_options (codes "run") (database_options (needed (codes "date") ∷ needed (codes "cntl")
+    ∷ option (codes "ptfin") ∷ option (codes "hold") ∷ flag (codes "careful") ∷ []))
 
--- `list --db F --zone Z`
+-- `list --db F [--wait SECONDS] --zone Z`
 abbrev pub list_shape : Shape
-list_shape = with_options (codes "list") (needed (codes "db") ∷ needed (codes "zone") ∷ [])
+list_shape = with_options (codes "list") (database_options (needed (codes "zone") ∷ []))
 
--- `why --db F --zone Z --id ID [--id ID]..`
+-- `why --db F [--wait SECONDS] --zone Z --id ID [--id ID]..`
 abbrev pub why_shape : Shape
-why_shape = with_options (codes "why") (needed (codes "db") ∷ needed (codes "zone") ∷ repeated (codes "id") ∷ [])
+why_shape = with_options (codes "why")
+    (database_options (needed (codes "zone") ∷ repeated (codes "id") ∷ []))
 
--- `check --srel S --ptfin F [--hold F] [--cntl F --date YYYY-MM-DD]`
+-- `check --ptfin F [--hold F] [--cntl F --date YYYY-MM-DD]` with `--srel S`, or with `--db F [--wait SECONDS] --zone Z
+-- [--why ID]..`
 abbrev pub check_shape : Shape
 check_shape = with_options (codes "check")
-    (needed (codes "srel") ∷ needed (codes "ptfin") ∷ option (codes "hold") ∷ option (codes "cntl")
-    ∷ option (codes "date") ∷ [])
+    (option (codes "srel") ∷ option (codes "db") ∷ option (codes "wait") ∷ option (codes "zone") ∷ several (codes "why")
+    ∷ needed (codes "ptfin") ∷ option (codes "hold") ∷ option (codes "cntl") ∷ option (codes "date") ∷ [])
 
--- `migrate --db F`
+-- `migrate --db F [--wait SECONDS]`
 abbrev pub migrate_shape : Shape
-migrate_shape = with_options (codes "migrate") (needed (codes "db") ∷ [])
+migrate_shape = with_options (codes "migrate") (database_options [])
 
--- `smpe` with one of the six, and `--version`
+-- `verify --db F [--wait SECONDS]`
+abbrev pub verify_shape : Shape
+verify_shape = with_options (codes "verify") (database_options [])
+
+-- `smpe` with one of the seven, and `--version`
 abbrev pub smpe : ValueParser → App
 smpe kinds = record {
   top = record (new_app (codes "smpe")).top {
@@ -68,7 +90,7 @@ smpe kinds = record {
     subcommand_required = true;
     disable_help_subcommand = true;
   };
-  subs = zone_shape kinds ∷ run_shape ∷ list_shape ∷ why_shape ∷ check_shape ∷ migrate_shape ∷ [];
+  subs = zone_shape kinds ∷ run_shape ∷ list_shape ∷ why_shape ∷ check_shape ∷ migrate_shape ∷ verify_shape ∷ [];
 }
 
 abbrev pub IsCommandLine : App → Type 0

@@ -1,5 +1,7 @@
 -- The values of the options, as clap's matches have them.
-use Rattle.std.specs.Prelude.{◌≡◌, ◌⊎◌, All, List, Option, Some, None, codes, option_map, IfSome}
+use Rattle.std.specs.Prelude.{◌≡◌, ◌↔◌, ◌≤◌, ℕ, All, IsTrue, Bool, List, [], ◌∷◌, Option, Some, None, codes, option_map}
+use Rattle.std.specs.Prelude.{IfSome}
+use Rattle.std.specs.Str.Parse.{IsNumeral, digits_value, without_leading_plus}
 use Rattle.std.specs.String.{string_bytes}
 use Rattle.terms.specs.Types.{Text}
 use Rattle.terms.specs.Forms.{IsId, IsZoneName, IsSrel}
@@ -7,9 +9,13 @@ use Rattle.terms.specs.Spelling.{zone_kind_text}
 use Rattle.terms.specs.declared.kinds.ZoneKind.{ZoneKind}
 use Rattle.clap.specs.Words.{Row, all_of, first_of}
 use Rattle.smpe_invocation.specs.Dates.{HasDateForm, IsCalendarDay, dotted}
+use Rattle.smpe_invocation.specs.declared.asked.CheckedSystem.{CheckedSystem}
+use Rattle.smpe_invocation.specs.declared.asked.CheckedSystem.TheVariants.{Empty, Copied}
 use Rattle.smpe_invocation.specs.declared.asked.CommandJob.{CommandJob}
+use Rattle.smpe_invocation.specs.declared.asked.DatabaseFile.{DatabaseFile}
 use Rattle.smpe_invocation.specs.declared.asked.Invocation.{Invocation}
 use Rattle.smpe_invocation.specs.declared.asked.Invocation.TheVariants as asked
+use Rattle.smpe_invocation.specs.declared.asked.ServiceSet.{ServiceSet}
 
 abbrev pub HasText : Text → List Row → Text → Type 0
 HasText id rows text = first_of id rows ≡ Some text
@@ -32,51 +38,82 @@ abbrev pub HasDate : List Row → Text → Type 0
 HasDate rows date = (text : Text) × HasText (codes "date") rows text × HasDateForm text × IsCalendarDay text
     × (date ≡ dotted text)
 
-abbrev pub HasZone : List Row → Invocation → Type 0
-HasZone rows (asked.Zone db name kind srel related) = HasText (codes "db") rows (string_bytes db)
-    × HasZoneName (codes "name") rows name × HasKind rows kind × HasSrel rows srel × HasRelated rows related
-HasZone rows _ = ⊥
+-- the words do not have the option
+abbrev pub Lacks : Text → List Row → Type 0
+Lacks id rows = first_of id rows ≡ None
 
-abbrev pub HasRun : List Row → Invocation → Type 0
-HasRun rows (asked.Run db date cntl ptfin hold) = HasText (codes "db") rows (string_bytes db)
-    × HasDate rows date × HasText (codes "cntl") rows (string_bytes cntl)
-    × (first_of (codes "ptfin") rows ≡ option_map string_bytes ptfin)
-    × (first_of (codes "hold") rows ≡ option_map string_bytes hold)
-HasRun rows _ = ⊥
+-- the text of an option that may be left out
+abbrev pub HasOptional : Text → List Row → Option Text → Type 0
+HasOptional id rows text = first_of id rows ≡ text
 
-abbrev pub HasList : List Row → Invocation → Type 0
-HasList rows (asked.List db zone) = HasText (codes "db") rows (string_bytes db) × HasZoneName (codes "zone") rows zone
-HasList rows _ = ⊥
+-- the words have a flag or not
+abbrev pub HasFlag : Text → List Row → Bool → Type 0
+HasFlag id rows given = IsTrue given ↔ HasText id rows (codes "true")
+
+-- a whole number of seconds, at most 9,999
+abbrev pub AreSeconds : Text → ℕ → Type 0
+AreSeconds text seconds = IsNumeral 10 (without_leading_plus text)
+    × (seconds ≡ digits_value 10 (without_leading_plus text)) × (seconds ≤ 9_999)
+
+-- the seconds to wait; none, if the words do not say how many
+abbrev pub IsWait : Option Text → ℕ → Type 0
+IsWait None seconds = seconds ≡ 0
+IsWait (Some text) seconds = AreSeconds text seconds
+
+abbrev pub HasDatabase : List Row → DatabaseFile → Type 0
+HasDatabase rows db = HasText (codes "db") rows (string_bytes db.name) × IsWait (first_of (codes "wait") rows) db.wait
 
 -- the values of `--id`, in their order
 abbrev pub HasIds : List Row → List Text → Type 0
 HasIds rows ids = (all_of (codes "id") rows ≡ Some ids) × All IsId ids
 
-abbrev pub HasWhy : List Row → Invocation → Type 0
-HasWhy rows (asked.Why db zone ids) = HasText (codes "db") rows (string_bytes db)
-    × HasZoneName (codes "zone") rows zone × HasIds rows ids.items
-HasWhy rows _ = ⊥
+-- the values of an option that may be repeated or left out, in their order
+abbrev pub AreIds : Option (List Text) → List Text → Type 0
+AreIds None ids = ids ≡ []
+AreIds (Some texts) ids = (ids ≡ texts) × All IsId ids
 
 -- The commands, if the words have a file of them; then they have a date.
 abbrev pub HasCommands : List Row → Option CommandJob → Type 0
-HasCommands rows None = first_of (codes "cntl") rows ≡ None
+HasCommands rows None = Lacks (codes "cntl") rows
 HasCommands rows (Some commands) =
     HasText (codes "cntl") rows (string_bytes commands.cntl) × HasDate rows commands.date
 
-abbrev pub HasCheck : List Row → Invocation → Type 0
-HasCheck rows (asked.Check srel ptfin hold commands) = HasSrel rows srel
-    × HasText (codes "ptfin") rows (string_bytes ptfin)
-    × (first_of (codes "hold") rows ≡ option_map string_bytes hold) × HasCommands rows commands
-HasCheck rows _ = ⊥
+abbrev pub HasServiceSet : List Row → ServiceSet → Type 0
+HasServiceSet rows set = HasText (codes "ptfin") rows (string_bytes set.ptfin)
+    × HasOptional (codes "hold") rows (option_map string_bytes set.hold) × HasCommands rows set.commands
 
-abbrev pub HasMigrate : List Row → Invocation → Type 0
-HasMigrate rows (asked.Migrate db) = HasText (codes "db") rows (string_bytes db)
-HasMigrate rows _ = ⊥
+-- an empty system with an SREL, or a copy of a database at a zone, and not both
+abbrev pub HasSystem : List Row → CheckedSystem → Type 0
+HasSystem rows (Empty srel) = HasSrel rows srel × Lacks (codes "db") rows × Lacks (codes "wait") rows
+    × Lacks (codes "zone") rows × Lacks (codes "why") rows
+HasSystem rows (Copied db zone ids) = HasDatabase rows db × HasZoneName (codes "zone") rows zone
+    × AreIds (all_of (codes "why") rows) ids.items × Lacks (codes "srel") rows
+
+-- the subcommand that asks for it
+abbrev pub subcommand : Invocation → Text
+subcommand (asked.Zone db name kind srel related) = codes "zone"
+subcommand (asked.Run db date cntl ptfin hold careful) = codes "run"
+subcommand (asked.List db zone) = codes "list"
+subcommand (asked.Why db zone ids) = codes "why"
+subcommand (asked.Check system set) = codes "check"
+subcommand (asked.Migrate db) = codes "migrate"
+subcommand (asked.Verify db) = codes "verify"
+
+-- the options have its values
+abbrev pub HasOptions : List Row → Invocation → Type 0
+HasOptions rows (asked.Zone db name kind srel related) = HasDatabase rows db
+    × HasZoneName (codes "name") rows name × HasKind rows kind × HasSrel rows srel × HasRelated rows related
+HasOptions rows (asked.Run db date cntl ptfin hold careful) = HasDatabase rows db × HasDate rows date
+    × HasText (codes "cntl") rows (string_bytes cntl)
+    × HasOptional (codes "ptfin") rows (option_map string_bytes ptfin)
+    × HasOptional (codes "hold") rows (option_map string_bytes hold) × HasFlag (codes "careful") rows careful
+HasOptions rows (asked.List db zone) = HasDatabase rows db × HasZoneName (codes "zone") rows zone
+HasOptions rows (asked.Why db zone ids) =
+    HasDatabase rows db × HasZoneName (codes "zone") rows zone × HasIds rows ids.items
+HasOptions rows (asked.Check system set) = HasSystem rows system × HasServiceSet rows set
+HasOptions rows (asked.Migrate db) = HasDatabase rows db
+HasOptions rows (asked.Verify db) = HasDatabase rows db
 
 -- the subcommand that is called, with its values
 abbrev pub HasValues : Text × List Row → Invocation → Type 0
-HasValues met invocation = ((met.0 ≡ codes "zone") × HasZone met.1 invocation)
-    ⊎ ((met.0 ≡ codes "run") × HasRun met.1 invocation) ⊎ ((met.0 ≡ codes "list") × HasList met.1 invocation)
-    ⊎ ((met.0 ≡ codes "why") × HasWhy met.1 invocation)
-    ⊎ ((met.0 ≡ codes "check") × HasCheck met.1 invocation)
-    ⊎ ((met.0 ≡ codes "migrate") × HasMigrate met.1 invocation)
+HasValues met invocation = (met.0 ≡ subcommand invocation) × HasOptions met.1 invocation

@@ -2,6 +2,13 @@
 use fields::{Id, Srel, YyDdd, ZoneName};
 use terms::ZoneKind;
 
+/// The file of a database, by its name, and for how many seconds to wait if another program has it.
+#[derive(Drop)]
+pub struct DatabaseFile {
+    pub name: String,
+    pub wait: u32,
+}
+
 /// A file of commands, by its name, and the date of the job that they make.
 #[derive(Drop)]
 pub struct CommandJob {
@@ -9,45 +16,71 @@ pub struct CommandJob {
     pub date: YyDdd,
 }
 
+/// A service set, by the names of its files, and the commands to check it with, unless all of it is installed.
+#[derive(Drop)]
+pub struct ServiceSet {
+    pub ptfin: String,
+    pub hold: Option<String>,
+    pub commands: Option<CommandJob>,
+}
+
+/// The system in which a service set is checked.
+#[derive(Drop)]
+pub enum CheckedSystem {
+    /// An empty one, with zones of this SREL.
+    Empty {
+        srel: Srel,
+    },
+    /// A copy of a database, at one of its zones. Afterwards `why` is asked about these ids.
+    Copied {
+        db: DatabaseFile,
+        zone: ZoneName,
+        ids: Vec<Id>,
+    },
+}
+
 /// What `smpe` is asked to do. The texts are the names of files.
 #[derive(Drop)]
 pub enum Invocation {
     /// Define a zone.
     Zone {
-        db: String,
+        db: DatabaseFile,
         name: ZoneName,
         kind: ZoneKind,
         srel: Srel,
         related: Option<ZoneName>,
     },
-    /// Run a job.
+    /// Run a job; with `careful` only if it has a command and each zone that its SETs name is defined.
     Run {
-        db: String,
+        db: DatabaseFile,
         date: YyDdd,
         cntl: String,
         ptfin: Option<String>,
         hold: Option<String>,
+        careful: bool,
     },
     /// List a zone.
     List {
-        db: String,
+        db: DatabaseFile,
         zone: ZoneName,
     },
     /// Tell the facts about ids in a zone.
     Why {
-        db: String,
+        db: DatabaseFile,
         zone: ZoneName,
         ids: Vec<Id>,
     },
-    /// Tell what a service set would do in an empty system, without a database.
+    /// Tell what a service set would do in a system, and change no database.
     Check {
-        srel: Srel,
-        ptfin: String,
-        hold: Option<String>,
-        commands: Option<CommandJob>,
+        system: CheckedSystem,
+        set: ServiceSet,
     },
     /// Migrate a database of an earlier schema to the program's own.
     Migrate {
-        db: String,
+        db: DatabaseFile,
+    },
+    /// Tell whether the tables of a database stand for a state, and whether its zones are closed.
+    Verify {
+        db: DatabaseFile,
     },
 }

@@ -1,12 +1,11 @@
 //! The command line of `smpe`, as it is described to `clap`.
-ghost use Rattle.std.specs.Prelude.{◌≡◌, false, true, IfOk};
-ghost use Rattle.clap.specs.Words.{app_of, new_app, rule_of, shape_of};
-ghost use Rattle.clap.specs.declared.builder.command.Command.TheViews.{out-Command as fields_of};
+ghost use Rattle.std.specs.Prelude.{◌≡◌, [], false, codes, IfOk};
+ghost use Rattle.clap.specs.Words.{app_of, rule_of};
 ghost use Rattle.clap.specs.declared.builder.value_parser.ValueParser.{ValueParser};
-ghost use Rattle.smpe_invocation.specs.CommandLine.{IsCommandLine, IsKindParser, kind_option, needed, option};
-ghost use Rattle.smpe_invocation.specs.CommandLine.{check_shape, list_shape, migrate_shape};
-ghost use Rattle.smpe_invocation.specs.CommandLine.{repeated, run_shape, why_shape};
-ghost use Rattle.smpe_invocation.specs.CommandLine.{zone_shape};
+ghost use Rattle.smpe_invocation.specs.CommandLine.{IsCommandLine, IsKindParser, IsSubcommand, check_shape};
+ghost use Rattle.smpe_invocation.specs.CommandLine.{database_options, flag, kind_option, list_shape, migrate_shape};
+ghost use Rattle.smpe_invocation.specs.CommandLine.{needed, option, repeated, run_shape, several, verify_shape};
+ghost use Rattle.smpe_invocation.specs.CommandLine.{why_shape, with_options, zone_shape};
 
 use clap::{Arg, ArgAction, Command};
 use std::alloc::{AllocError, Global};
@@ -34,28 +33,40 @@ pub(crate) fn command_line<'a>(alloc: Global) -> Result<Command<'a>, AllocError>
     .subcommand(list_command(alloc)?)?
     .subcommand(why_command(alloc)?)?
     .subcommand(check_command(alloc)?)?
-    .subcommand(migrate_command(alloc)?)
+    .subcommand(migrate_command(alloc)?)?
+    .subcommand(verify_command(alloc)?)
 }
 
 // A command without options, with a line about what it does and an example.
 fn command<'a>(alloc: Global, name: &'a str, about: &'a str, example: &'a str) -> Command<'a>
-    ensures app { app_of result ≡ new_app name.entry.now }
-    ensures globals { (fields_of result).has_globals ≡ false }
+    ensures { IsSubcommand (with_options name.entry.now []) result }
 {
     Command::new(alloc, name).about(about).after_help(example)
 }
 
-fn zone_command<'a>(alloc: Global) -> Result<Command<'a>, AllocError>
-    ensures shape { IfOk result (λ c. (kinds : ValueParser) × IsKindParser kinds × (shape_of c ≡ zone_shape kinds)) }
-    ensures globals { IfOk result (λ c. (fields_of c).has_globals ≡ false) }
+// A command over a database, with the options for that.
+fn database_command<'a>(
+    alloc: Global,
+    name: &'a str,
+    about: &'a str,
+    example: &'a str,
+) -> Result<Command<'a>, AllocError>
+    ensures { IfOk result (IsSubcommand (with_options name.entry.now (database_options []))) }
 {
-    command(
+    command(alloc, name, about, example)
+        .arg(required(alloc, "db", "The database"))?
+        .arg(wait(alloc))
+}
+
+fn zone_command<'a>(alloc: Global) -> Result<Command<'a>, AllocError>
+    ensures { IfOk result (λ c. (kinds : ValueParser) × IsKindParser kinds × IsSubcommand (zone_shape kinds) c) }
+{
+    database_command(
         alloc,
         "zone",
-        "Defines a target or distribution zone",
+        "Defines a target or distribution zone, in a new database if there is none",
         "Example: smpe zone --db smpe.db --name DLB1 --kind distribution --srel Z038",
-    )
-    .arg(required(alloc, "db", "The database, which is made if there is none"))?
+    )?
     .arg(required(alloc, "name", "The zone's name"))?
     .arg(kind(alloc))?
     .arg(required(alloc, "srel", "The zone's SREL"))?
@@ -63,87 +74,107 @@ fn zone_command<'a>(alloc: Global) -> Result<Command<'a>, AllocError>
 }
 
 fn run_command<'a>(alloc: Global) -> Result<Command<'a>, AllocError>
-    ensures shape { IfOk result (λ c. shape_of c ≡ run_shape) }
-    ensures globals { IfOk result (λ c. (fields_of c).has_globals ≡ false) }
+    ensures { IfOk result (IsSubcommand run_shape) }
 {
-    command(
+    database_command(
         alloc,
         "run",
         "Performs the commands of a file, and prints their report",
         "Example: smpe run --db smpe.db --date 2024-05-17 --cntl receive.rec --ptfin ptf.rec",
-    )
-    .arg(required(alloc, "db", "The database"))?
+    )?
     .arg(required(alloc, "date", "The job's date, as YYYY-MM-DD"))?
     .arg(required(alloc, "cntl", "The file of commands"))?
     .arg(optional(alloc, "ptfin", "The file of SYSMODs that RECEIVE takes in"))?
-    .arg(optional(alloc, "hold", "The file of holds that RECEIVE takes in"))
+    .arg(optional(alloc, "hold", "The file of holds that RECEIVE takes in"))?
+    .arg(flag(
+        alloc,
+        "careful",
+        "Runs nothing if a SET names a zone that is not defined, or there is no command",
+    ))
 }
 
 fn list_command<'a>(alloc: Global) -> Result<Command<'a>, AllocError>
-    ensures shape { IfOk result (λ c. shape_of c ≡ list_shape) }
-    ensures globals { IfOk result (λ c. (fields_of c).has_globals ≡ false) }
+    ensures { IfOk result (IsSubcommand list_shape) }
 {
-    command(
+    database_command(
         alloc,
         "list",
         "Lists what a zone holds",
         "Example: smpe list --db smpe.db --zone TGT1",
-    )
-    .arg(required(alloc, "db", "The database"))?
+    )?
     .arg(required(alloc, "zone", "The zone, or GLOBAL"))
 }
 
 fn why_command<'a>(alloc: Global) -> Result<Command<'a>, AllocError>
-    ensures shape { IfOk result (λ c. shape_of c ≡ why_shape) }
-    ensures globals { IfOk result (λ c. (fields_of c).has_globals ≡ false) }
+    ensures { IfOk result (IsSubcommand why_shape) }
 {
-    command(
+    database_command(
         alloc,
         "why",
         "Tells what is so of ids in a zone, and changes nothing",
         "Example: smpe why --db smpe.db --zone TGT1 --id UA00001 --id UA00002",
-    )
-    .arg(required(alloc, "db", "The database"))?
+    )?
     .arg(required(alloc, "zone", "The target or distribution zone"))?
     .arg(repeated(alloc, "id", "The id of a SYSMOD, once or more often"))
 }
 
+// An empty system has an SREL, and a database a zone; `checked` finds out which of them the words mean.
 fn check_command<'a>(alloc: Global) -> Result<Command<'a>, AllocError>
-    ensures shape { IfOk result (λ c. shape_of c ≡ check_shape) }
-    ensures globals { IfOk result (λ c. (fields_of c).has_globals ≡ false) }
+    ensures { IfOk result (IsSubcommand check_shape) }
 {
     command(
         alloc,
         "check",
-        "Tells what a service set would do in an empty system, without a database",
-        "Example: smpe check --srel Z038 --ptfin ptf.rec --hold hold.rec",
+        "Tells what a service set would do in an empty system, or in a copy of a database",
+        "Example: smpe check --db smpe.db --zone TGT1 --ptfin ptf.rec --hold hold.rec --why UA00001",
     )
-    .arg(required(
+    .arg(optional(
         alloc,
         "srel",
-        "The SREL of the zones DLIB and TGT, in memory",
+        "The SREL of the zones DLIB and TGT of an empty system",
+    ))?
+    .arg(optional(alloc, "db", "The database, which is only read"))?
+    .arg(wait(alloc))?
+    .arg(optional(
+        alloc,
+        "zone",
+        "The target or distribution zone of the database",
+    ))?
+    .arg(several(
+        alloc,
+        "why",
+        "An id to ask about after RECEIVE, as why does, once or more often",
     ))?
     .arg(required(alloc, "ptfin", "The file of SYSMODs that are received"))?
     .arg(optional(alloc, "hold", "The file of holds that are received"))?
     .arg(optional(
         alloc,
         "cntl",
-        "The file of commands, in place of an APPLY CHECK of all",
+        "The file of commands, in place of an APPLY or ACCEPT CHECK of all",
     ))?
     .arg(optional(alloc, "date", "The job's date, as YYYY-MM-DD, for --cntl"))
 }
 
 fn migrate_command<'a>(alloc: Global) -> Result<Command<'a>, AllocError>
-    ensures shape { IfOk result (λ c. shape_of c ≡ migrate_shape) }
-    ensures globals { IfOk result (λ c. (fields_of c).has_globals ≡ false) }
+    ensures { IfOk result (IsSubcommand migrate_shape) }
 {
-    command(
+    database_command(
         alloc,
         "migrate",
-        "Takes a database of an earlier release over to this one",
+        "Takes a database of an earlier release over to this one; copy it before",
         "Example: smpe migrate --db smpe.db",
     )
-    .arg(required(alloc, "db", "The database, which is best copied before"))
+}
+
+fn verify_command<'a>(alloc: Global) -> Result<Command<'a>, AllocError>
+    ensures { IfOk result (IsSubcommand verify_shape) }
+{
+    database_command(
+        alloc,
+        "verify",
+        "Tells whether a database is whole, and changes nothing",
+        "Example: smpe verify --db smpe.db",
+    )
 }
 
 fn kind<'a>(alloc: Global) -> Arg<'a>
@@ -151,6 +182,17 @@ fn kind<'a>(alloc: Global) -> Arg<'a>
     ensures global { result.global ≡ false }
 {
     required(alloc, "kind", "The zone's kind").value_parser(KINDS.as_slice())
+}
+
+fn wait<'a>(alloc: Global) -> Arg<'a>
+    ensures rule { rule_of result ≡ option (codes "wait") }
+    ensures global { result.global ≡ false }
+{
+    optional(
+        alloc,
+        "wait",
+        "How many seconds to wait if another program has the database",
+    )
 }
 
 fn required<'a>(alloc: Global, id: &'a str, help: &'a str) -> Arg<'a>
@@ -165,6 +207,20 @@ fn repeated<'a>(alloc: Global, id: &'a str, help: &'a str) -> Arg<'a>
     ensures global { result.global ≡ false }
 {
     required(alloc, id, help).action(ArgAction::Append)
+}
+
+fn several<'a>(alloc: Global, id: &'a str, help: &'a str) -> Arg<'a>
+    ensures rule { rule_of result ≡ several id.entry.now }
+    ensures global { result.global ≡ false }
+{
+    optional(alloc, id, help).action(ArgAction::Append)
+}
+
+fn flag<'a>(alloc: Global, id: &'a str, help: &'a str) -> Arg<'a>
+    ensures rule { rule_of result ≡ flag id.entry.now }
+    ensures global { result.global ≡ false }
+{
+    optional(alloc, id, help).action(ArgAction::SetTrue)
 }
 
 fn optional<'a>(alloc: Global, id: &'a str, help: &'a str) -> Arg<'a>

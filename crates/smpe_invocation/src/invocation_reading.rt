@@ -1,22 +1,23 @@
 //! What the words of the command line ask for.
-ghost use Rattle.std.specs.Prelude.{map, option_map, IfOk, IfErr};
+ghost use Rattle.std.specs.Prelude.{map, option_map, codes, IfOk, IfErr};
 ghost use Rattle.clap.specs.Words.{found_of, rows_of};
 ghost use Rattle.smpe_invocation.specs.Answers.{Excludes, IsMet, IsRead, IsRefused};
-ghost use Rattle.smpe_invocation.specs.Values.{HasCheck, HasList, HasMigrate, HasRun, HasWhy, HasZone};
+ghost use Rattle.smpe_invocation.specs.Values.{HasValues};
 ghost use Rattle.smpe_invocation.specs.declared.asked.Invocation.{Invocation};
 
 use crate::asked::Invocation;
+use crate::checked::{set, system};
 use crate::command::command_line;
 use crate::fault::ArgFault;
 use crate::option_values::{
-    commands, date, ids, kind, optional_text, related, srel, text, zone_name,
+    database, date, flag, ids, kind, optional_text, related, srel, text, zone_name,
 };
 use clap::ArgMatches;
 use std::alloc::Global;
 
 /// Reads the words, the first of which is the program's name. Returns `Memory` if memory runs out, `Clap` if `clap`
-/// refuses the words or has a text to show instead of them, as for `--help`, and `BadOperand` if a name, an id, an SREL
-/// or a date has a bad form.
+/// refuses the words or has a text to show instead of them, as for `--help`, and `BadOperand` if a name, an id, an SREL,
+/// a date or a number of seconds has a bad form, or if `check` is asked about no system or about two.
 pub fn invocation<'a>(alloc: Global, words: &'a [&'a str]) -> Result<Invocation, ArgFault>
     ensures ok { IfOk result (IsRead (map (λ word. word.now) words.entry.now)) }
     ensures err { IfErr result (IsRefused (map (λ word. word.now) words.entry.now)) }
@@ -46,21 +47,23 @@ fn met(alloc: Global, met: Option<(&str, &ArgMatches<'_>)>) -> Result<Invocation
         check(alloc, found)
     } else if name == "migrate" {
         migrate(alloc, found)
+    } else if name == "verify" {
+        verify(alloc, found)
     } else {
         Err(ArgFault::BadOperand)
     }
 }
 
 fn zone(alloc: Global, found: &ArgMatches<'_>) -> Result<Invocation, ArgFault>
-    ensures ok { IfOk result (HasZone (rows_of (found_of found.now))) }
+    ensures ok { IfOk result (HasValues (codes "zone", rows_of (found_of found.now))) }
     ensures err { IfErr result (λ e. Excludes e ((invocation : Invocation)
-        × HasZone (rows_of (found_of found.now)) invocation)) }
+        × HasValues (codes "zone", rows_of (found_of found.now)) invocation)) }
 {
     let name = zone_name(found, "name")?;
     let kind = kind(found)?;
     let srel = srel(found)?;
     let related = related(found)?;
-    let db = text(alloc, found, "db")?;
+    let db = database(alloc, found)?;
     Ok(Invocation::Zone {
         db,
         name,
@@ -71,12 +74,12 @@ fn zone(alloc: Global, found: &ArgMatches<'_>) -> Result<Invocation, ArgFault>
 }
 
 fn run(alloc: Global, found: &ArgMatches<'_>) -> Result<Invocation, ArgFault>
-    ensures ok { IfOk result (HasRun (rows_of (found_of found.now))) }
+    ensures ok { IfOk result (HasValues (codes "run", rows_of (found_of found.now))) }
     ensures err { IfErr result (λ e. Excludes e ((invocation : Invocation)
-        × HasRun (rows_of (found_of found.now)) invocation)) }
+        × HasValues (codes "run", rows_of (found_of found.now)) invocation)) }
 {
     let date = date(found)?;
-    let db = text(alloc, found, "db")?;
+    let db = database(alloc, found)?;
     let cntl = text(alloc, found, "cntl")?;
     let ptfin = optional_text(alloc, found, "ptfin")?;
     let hold = optional_text(alloc, found, "hold")?;
@@ -86,52 +89,55 @@ fn run(alloc: Global, found: &ArgMatches<'_>) -> Result<Invocation, ArgFault>
         cntl,
         ptfin,
         hold,
+        careful: flag(found, "careful"),
     })
 }
 
 fn list(alloc: Global, found: &ArgMatches<'_>) -> Result<Invocation, ArgFault>
-    ensures ok { IfOk result (HasList (rows_of (found_of found.now))) }
+    ensures ok { IfOk result (HasValues (codes "list", rows_of (found_of found.now))) }
     ensures err { IfErr result (λ e. Excludes e ((invocation : Invocation)
-        × HasList (rows_of (found_of found.now)) invocation)) }
+        × HasValues (codes "list", rows_of (found_of found.now)) invocation)) }
 {
     let zone = zone_name(found, "zone")?;
-    let db = text(alloc, found, "db")?;
+    let db = database(alloc, found)?;
     Ok(Invocation::List { db, zone })
 }
 
 fn why(alloc: Global, found: &ArgMatches<'_>) -> Result<Invocation, ArgFault>
-    ensures ok { IfOk result (HasWhy (rows_of (found_of found.now))) }
+    ensures ok { IfOk result (HasValues (codes "why", rows_of (found_of found.now))) }
     ensures err { IfErr result (λ e. Excludes e ((invocation : Invocation)
-        × HasWhy (rows_of (found_of found.now)) invocation)) }
+        × HasValues (codes "why", rows_of (found_of found.now)) invocation)) }
 {
     let zone = zone_name(found, "zone")?;
     let ids = ids(alloc, found)?;
-    let db = text(alloc, found, "db")?;
+    let db = database(alloc, found)?;
     Ok(Invocation::Why { db, zone, ids })
 }
 
 fn check(alloc: Global, found: &ArgMatches<'_>) -> Result<Invocation, ArgFault>
-    ensures ok { IfOk result (HasCheck (rows_of (found_of found.now))) }
+    ensures ok { IfOk result (HasValues (codes "check", rows_of (found_of found.now))) }
     ensures err { IfErr result (λ e. Excludes e ((invocation : Invocation)
-        × HasCheck (rows_of (found_of found.now)) invocation)) }
+        × HasValues (codes "check", rows_of (found_of found.now)) invocation)) }
 {
-    let srel = srel(found)?;
-    let commands = commands(alloc, found)?;
-    let ptfin = text(alloc, found, "ptfin")?;
-    let hold = optional_text(alloc, found, "hold")?;
-    Ok(Invocation::Check {
-        srel,
-        ptfin,
-        hold,
-        commands,
-    })
+    let system = system(alloc, found)?;
+    let set = set(alloc, found)?;
+    Ok(Invocation::Check { system, set })
 }
 
 fn migrate(alloc: Global, found: &ArgMatches<'_>) -> Result<Invocation, ArgFault>
-    ensures ok { IfOk result (HasMigrate (rows_of (found_of found.now))) }
+    ensures ok { IfOk result (HasValues (codes "migrate", rows_of (found_of found.now))) }
     ensures err { IfErr result (λ e. Excludes e ((invocation : Invocation)
-        × HasMigrate (rows_of (found_of found.now)) invocation)) }
+        × HasValues (codes "migrate", rows_of (found_of found.now)) invocation)) }
 {
-    let db = text(alloc, found, "db")?;
+    let db = database(alloc, found)?;
     Ok(Invocation::Migrate { db })
+}
+
+fn verify(alloc: Global, found: &ArgMatches<'_>) -> Result<Invocation, ArgFault>
+    ensures ok { IfOk result (HasValues (codes "verify", rows_of (found_of found.now))) }
+    ensures err { IfErr result (λ e. Excludes e ((invocation : Invocation)
+        × HasValues (codes "verify", rows_of (found_of found.now)) invocation)) }
+{
+    let db = database(alloc, found)?;
+    Ok(Invocation::Verify { db })
 }

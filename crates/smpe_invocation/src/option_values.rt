@@ -1,16 +1,17 @@
 //! The values of the options.
-ghost use Rattle.std.specs.Prelude.{◌≡◌, ◌++◌, ◌∷◌, [], All, List, Option, Some, map, option_map, IfOk, IfErr, OnOk};
+ghost use Rattle.std.specs.Prelude.{◌≡◌, ◌↔◌, ◌++◌, ◌∷◌, ℕ, [], All, List, Option, Some, map, option_map, codes};
+ghost use Rattle.std.specs.Prelude.{IsTrue, IsSome, IfOk, IfErr, IfSome, OnOk};
 ghost use Rattle.std.specs.String.{string_bytes};
 ghost use Rattle.terms.specs.Forms.{IsId};
 ghost use Rattle.terms.specs.Types.{Text};
 ghost use Rattle.terms.specs.declared.kinds.ZoneKind.{ZoneKind};
 ghost use Rattle.clap.specs.Words.{all_of, first_of, found_of, rows_of};
 ghost use Rattle.smpe_invocation.specs.Answers.{Excludes};
-ghost use Rattle.smpe_invocation.specs.Values.{HasCommands, HasDate, HasIds, HasKind, HasRelated, HasSrel, HasText};
-ghost use Rattle.smpe_invocation.specs.Values.{HasZoneName};
-ghost use Rattle.smpe_invocation.specs.declared.asked.CommandJob.{CommandJob};
+ghost use Rattle.smpe_invocation.specs.Values.{AreIds, AreSeconds, HasDatabase, HasDate, HasFlag, HasIds, HasKind};
+ghost use Rattle.smpe_invocation.specs.Values.{HasOptional, HasRelated, HasSrel, HasText, HasZoneName, IsWait, Lacks};
+ghost use Rattle.smpe_invocation.specs.declared.asked.DatabaseFile.{DatabaseFile};
 
-use crate::asked::CommandJob;
+use crate::asked::DatabaseFile;
 use crate::date::read_date;
 use crate::fault::ArgFault;
 use clap::ArgMatches;
@@ -18,6 +19,9 @@ use fields::spelling::read_zone_kind;
 use fields::{Id, Srel, YyDdd, ZoneName};
 use std::alloc::{AllocError, Global};
 use terms::ZoneKind;
+
+/// Nobody waits longer, in seconds.
+const LONGEST_WAIT: u32 = 9_999;
 
 // The text of the option, if the words have it.
 fn value<'a>(found: &ArgMatches<'a>, id: &str) -> Option<&'a str>
@@ -33,6 +37,21 @@ fn needed<'a>(found: &ArgMatches<'a>, id: &str) -> Result<&'a str, ArgFault>
     value(found, id).ok_or(ArgFault::BadOperand)
 }
 
+pub(crate) fn lacks(found: &ArgMatches<'_>, id: &str) -> bool
+    ensures { IsTrue result ↔ Lacks id.now (rows_of (found_of found.now)) }
+{
+    value(found, id).is_none()
+}
+
+pub(crate) fn flag(found: &ArgMatches<'_>, id: &str) -> bool
+    ensures { HasFlag id.now (rows_of (found_of found.now)) result }
+{
+    match value(found, id) {
+        Some(text) => text == "true",
+        None => false,
+    }
+}
+
 pub(crate) fn text(alloc: Global, found: &ArgMatches<'_>, id: &str) -> Result<String, ArgFault>
     ensures ok { IfOk result (λ text. HasText id.now (rows_of (found_of found.now)) (string_bytes text)) }
     ensures err { IfErr result (λ e. Excludes e ((text : Text) × HasText id.now (rows_of (found_of found.now)) text)) }
@@ -45,12 +64,44 @@ pub(crate) fn optional_text(
     found: &ArgMatches<'_>,
     id: &str,
 ) -> Result<Option<String>, AllocError>
-    ensures { IfOk result (λ text. first_of id.now (rows_of (found_of found.now)) ≡ option_map string_bytes text) }
+    ensures { IfOk result (λ text. HasOptional id.now (rows_of (found_of found.now)) (option_map string_bytes text)) }
 {
     match value(found, id) {
         Some(text) => Ok(Some(String::from_str(alloc, text)?)),
         None => Ok(None),
     }
+}
+
+fn seconds(text: &str) -> Option<u32>
+    ensures some { IfSome result (AreSeconds text.now) }
+    ensures none { IsSome result ↔ ((seconds : ℕ) × AreSeconds text.now seconds) }
+{
+    let seconds: u32 = text.parse().ok()?;
+    if seconds <= LONGEST_WAIT {
+        Some(seconds)
+    } else {
+        None
+    }
+}
+
+fn wait(found: &ArgMatches<'_>) -> Result<u32, ArgFault>
+    ensures ok { IfOk result (IsWait (first_of (codes "wait") (rows_of (found_of found.now)))) }
+    ensures err { IfErr result (λ e. Excludes e ((seconds : ℕ)
+        × IsWait (first_of (codes "wait") (rows_of (found_of found.now))) seconds)) }
+{
+    match value(found, "wait") {
+        Some(text) => seconds(text).ok_or(ArgFault::BadOperand),
+        None => Ok(0),
+    }
+}
+
+pub(crate) fn database(alloc: Global, found: &ArgMatches<'_>) -> Result<DatabaseFile, ArgFault>
+    ensures ok { IfOk result (HasDatabase (rows_of (found_of found.now))) }
+    ensures err { IfErr result (λ e. Excludes e ((db : DatabaseFile) × HasDatabase (rows_of (found_of found.now)) db)) }
+{
+    let wait = wait(found)?;
+    let name = text(alloc, found, "db")?;
+    Ok(DatabaseFile { name, wait })
 }
 
 pub(crate) fn zone_name(found: &ArgMatches<'_>, id: &str) -> Result<ZoneName, ArgFault>
@@ -132,28 +183,25 @@ pub(crate) fn ids(alloc: Global, found: &ArgMatches<'_>) -> Result<Vec<Id>, ArgF
     }
 }
 
+/// The ids of an option that may be left out.
+pub(crate) fn optional_ids(
+    alloc: Global,
+    found: &ArgMatches<'_>,
+    id: &str,
+) -> Result<Vec<Id>, ArgFault>
+    ensures ok { IfOk result (λ ids. AreIds (all_of id.now (rows_of (found_of found.now))) ids.items) }
+    ensures err { IfErr result (λ e. Excludes e ((ids : List Text)
+        × AreIds (all_of id.now (rows_of (found_of found.now))) ids)) }
+{
+    match values(found, id) {
+        Some(texts) => read_ids(alloc, texts),
+        None => Ok(Vec::new(alloc)),
+    }
+}
+
 pub(crate) fn date(found: &ArgMatches<'_>) -> Result<YyDdd, ArgFault>
     ensures ok { IfOk result (λ date. HasDate (rows_of (found_of found.now)) date) }
     ensures err { IfErr result (λ e. Excludes e ((date : Text) × HasDate (rows_of (found_of found.now)) date)) }
 {
     read_date(needed(found, "date")?).ok_or(ArgFault::BadOperand)
-}
-
-// The commands, if the words have a file of them; only these need a date.
-pub(crate) fn commands(
-    alloc: Global,
-    found: &ArgMatches<'_>,
-) -> Result<Option<CommandJob>, ArgFault>
-    ensures ok { IfOk result (λ commands. HasCommands (rows_of (found_of found.now)) commands) }
-    ensures err { IfErr result (λ e. Excludes e ((commands : Option CommandJob)
-        × HasCommands (rows_of (found_of found.now)) commands)) }
-{
-    match value(found, "cntl") {
-        Some(name) => {
-            let date = date(found)?;
-            let cntl = String::from_str(alloc, name)?;
-            Ok(Some(CommandJob { cntl, date }))
-        }
-        None => Ok(None),
-    }
 }

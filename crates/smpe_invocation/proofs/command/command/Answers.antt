@@ -4,9 +4,9 @@ use Rattle.clap.specs.declared.builder.command.Command.{Command}
 use Rattle.clap.specs.declared.builder.command.Command.TheOpen.{Command-F}
 use Rattle.smpe_invocation.proofs.command.command.Goals as goal
 
-pub returns-clause-app : goal.returns-clause-app
-returns-clause-app c = ap app_of_fields c.after_help.ensures ∙ ap app_of_fields c.about.ensures ∙ c.new.ensures.app
-
-pub returns-clause-globals : goal.returns-clause-globals
-returns-clause-globals c = ap (λ (f : Command-F Command). f.has_globals) c.after_help.ensures
-    ∙ ap (λ (f : Command-F Command). f.has_globals) c.about.ensures ∙ c.new.ensures.local
+pub returns : goal.returns
+returns c = (
+  ap app_of_fields c.after_help.ensures ∙ ap app_of_fields c.about.ensures ∙ c.new.ensures.app,
+  ap (λ (f : Command-F Command). f.has_globals) c.after_help.ensures
+      ∙ ap (λ (f : Command-F Command). f.has_globals) c.about.ensures ∙ c.new.ensures.local,
+)

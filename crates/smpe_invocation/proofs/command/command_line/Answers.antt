@@ -4,6 +4,7 @@ use Rattle.clap.specs.Words.{App, app_of, new_app, with_subcommand}
 use Rattle.clap.specs.Simple.{app_of_fields}
 use Rattle.clap.specs.declared.builder.command.Command.{Command}
 use Rattle.clap.specs.declared.builder.command.Command.TheOpen.{Command-F}
+use Rattle.smpe_invocation.proofs.Shapes.{shape_is}
 use Rattle.smpe_invocation.proofs.command.command_line.Goals as goal
 
 pub returns : goal.returns
@@ -30,22 +31,20 @@ returns c =
         subcommand_required = true;
         disable_help_subcommand = true;
       };
-    }) c.command.ensures.app in
-    let zone = c.in_ok-zone_command.ensures.shape in
-    let first = c.in_ok-subcommand.ensures.shape c.in_ok-zone_command.ensures.globals ∙ ap₂ with_subcommand start zone.2
-    in
-    let second = c.in_ok-subcommand-2.ensures.shape c.in_ok-run_command.ensures.globals
-    ∙ ap₂ with_subcommand first c.in_ok-run_command.ensures.shape in
-    let third = c.in_ok-subcommand-3.ensures.shape c.in_ok-list_command.ensures.globals
-    ∙ ap₂ with_subcommand second c.in_ok-list_command.ensures.shape in
-    let fourth = c.in_ok-subcommand-4.ensures.shape c.in_ok-why_command.ensures.globals
-    ∙ ap₂ with_subcommand third c.in_ok-why_command.ensures.shape in
-    let fifth = c.in_ok-subcommand-5.ensures.shape c.in_ok-check_command.ensures.globals
-    ∙ ap₂ with_subcommand fourth c.in_ok-check_command.ensures.shape in
-    IfOk-weaker c.subcommand-6.result _ _
-    (λ new added. (
-      zone.0,
-      zone.1,
-      added.shape c.in_ok-migrate_command.ensures.globals
-          ∙ ap₂ with_subcommand fifth c.in_ok-migrate_command.ensures.shape,
-    )) c.subcommand-6.ensures
+    }) c.command.ensures.0 in
+    let zone = c.in_ok-zone_command.ensures in
+    let first = c.in_ok-subcommand.ensures.shape zone.2.1 ∙ ap₂ with_subcommand start (shape_is _ _ zone.2) in
+    let run = c.in_ok-run_command.ensures in
+    let with_run = c.in_ok-subcommand-2.ensures.shape run.1 ∙ ap₂ with_subcommand first (shape_is _ _ run) in
+    let list = c.in_ok-list_command.ensures in
+    let with_list = c.in_ok-subcommand-3.ensures.shape list.1 ∙ ap₂ with_subcommand with_run (shape_is _ _ list) in
+    let why = c.in_ok-why_command.ensures in
+    let with_why = c.in_ok-subcommand-4.ensures.shape why.1 ∙ ap₂ with_subcommand with_list (shape_is _ _ why) in
+    let check = c.in_ok-check_command.ensures in
+    let with_check = c.in_ok-subcommand-5.ensures.shape check.1 ∙ ap₂ with_subcommand with_why (shape_is _ _ check) in
+    let migrate = c.in_ok-migrate_command.ensures in
+    let with_migrate = c.in_ok-subcommand-6.ensures.shape migrate.1 ∙ ap₂ with_subcommand with_check (shape_is _ _ migrate) in
+    let verify = c.in_ok-verify_command.ensures in
+    IfOk-weaker c.subcommand-7.result _ _
+    (λ new added. (zone.0, zone.1, added.shape verify.1 ∙ ap₂ with_subcommand with_migrate (shape_is _ _ verify)))
+    c.subcommand-7.ensures

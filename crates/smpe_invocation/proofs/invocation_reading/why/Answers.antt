@@ -1,22 +1,19 @@
 use Rattle.std.proofs.lemmas.Result.{err_from_is_err_and}
 use Rattle.clap.specs.Words.{found_of, rows_of}
-use Rattle.smpe_invocation.proofs.Excluding.{excludes_more, why_zone_in, ids_in, why_db_in}
+use Rattle.smpe_invocation.proofs.Excluding.{excludes_more, why_in}
 use Rattle.smpe_invocation.proofs.invocation_reading.why.Goals as goal
 
 pub returns-in_err-zone-clause-err : goal.returns-in_err-zone-clause-err
 returns-in_err-zone-clause-err c =
     let p = err_from_is_err_and c.from_residual.result c.from_residual.ensures.1 in
-    rw (p.1, p.2) (excludes_more c.in_err-zone.field-0.0 _ _ (why_zone_in (rows_of (found_of c.args.found.now)))
-    c.in_err-zone.ensures.err)
+    rw (p.1, p.2) (excludes_more c.in_err-zone.field-0.0 _ _ (λ has. let h = why_in (rows_of (found_of c.args.found.now)) has in (h.1, h.4)) c.in_err-zone.ensures.err)
 
 pub returns-in_err-ids-clause-err : goal.returns-in_err-ids-clause-err
 returns-in_err-ids-clause-err c =
     let p = err_from_is_err_and c.from_residual-in_err-ids.result c.from_residual-in_err-ids.ensures.1 in
-    rw (p.1, p.2) (excludes_more c.in_err-ids.field-0.0 _ _ (ids_in (rows_of (found_of c.args.found.now)))
-    c.in_err-ids.ensures.err)
+    rw (p.1, p.2) (excludes_more c.in_err-ids.field-0.0 _ _ (λ has. let h = why_in (rows_of (found_of c.args.found.now)) has in (h.2.items, h.5)) c.in_err-ids.ensures.err)
 
 pub returns-in_err-db-clause-err : goal.returns-in_err-db-clause-err
 returns-in_err-db-clause-err c =
     let p = err_from_is_err_and c.from_residual-in_err-db.result c.from_residual-in_err-db.ensures.1 in
-    rw (p.1, p.2) (excludes_more c.in_err-db.field-0.0 _ _ (why_db_in (rows_of (found_of c.args.found.now)))
-    c.in_err-db.ensures.err)
+    rw (p.1, p.2) (excludes_more c.in_err-db.field-0.0 _ _ (λ has. let h = why_in (rows_of (found_of c.args.found.now)) has in (h.0, h.3)) c.in_err-db.ensures.err)
