@@ -16,3 +16,4 @@ pub use asked::{CheckedSystem, CommandJob, DatabaseFile, Invocation, ServiceSet}
 pub use date::read_date;
 pub use fault::ArgFault;
 pub use invocation_reading::invocation;
+pub use option_values::read_seconds;

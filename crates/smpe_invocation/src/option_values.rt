@@ -7,8 +7,9 @@ ghost use Rattle.terms.specs.Types.{Text};
 ghost use Rattle.terms.specs.declared.kinds.ZoneKind.{ZoneKind};
 ghost use Rattle.clap.specs.Words.{all_of, first_of, found_of, rows_of};
 ghost use Rattle.smpe_invocation.specs.Answers.{Excludes};
-ghost use Rattle.smpe_invocation.specs.Values.{AreIds, AreSeconds, HasDatabase, HasDate, HasFlag, HasIds, HasKind};
-ghost use Rattle.smpe_invocation.specs.Values.{HasOptional, HasRelated, HasSrel, HasText, HasZoneName, IsWait, Lacks};
+ghost use Rattle.smpe_invocation.specs.Values.{AreIds, AreSeconds, HasDatabase, HasDate, HasFlag, HasIds};
+ghost use Rattle.smpe_invocation.specs.Values.{HasKind, HasOptional, HasRelated, HasSrel, HasText, HasZoneName};
+ghost use Rattle.smpe_invocation.specs.Values.{IsWait, Lacks};
 ghost use Rattle.smpe_invocation.specs.declared.asked.DatabaseFile.{DatabaseFile};
 
 use crate::asked::DatabaseFile;
@@ -72,7 +73,8 @@ pub(crate) fn optional_text(
     }
 }
 
-fn seconds(text: &str) -> Option<u32>
+/// A whole number of seconds, at most 9,999.
+pub fn read_seconds(text: &str) -> Option<u32>
     ensures some { IfSome result (AreSeconds text.now) }
     ensures none { IsSome result ↔ ((seconds : ℕ) × AreSeconds text.now seconds) }
 {
@@ -90,7 +92,7 @@ fn wait(found: &ArgMatches<'_>) -> Result<u32, ArgFault>
         × IsWait (first_of (codes "wait") (rows_of (found_of found.now))) seconds)) }
 {
     match value(found, "wait") {
-        Some(text) => seconds(text).ok_or(ArgFault::BadOperand),
+        Some(text) => read_seconds(text).ok_or(ArgFault::BadOperand),
         None => Ok(0),
     }
 }

@@ -12,4 +12,5 @@ returns c =
     let at6 = one_more _ _ _ _ _ _ at5 c.in_ok-arg-6.ensures c.required.ensures.rule c.required.ensures.global in
     let at7 = one_more _ _ _ _ _ _ at6 c.in_ok-arg-7.ensures c.optional-4.ensures.rule c.optional-4.ensures.global in
     let at8 = one_more _ _ _ _ _ _ at7 c.in_ok-arg-8.ensures c.optional-5.ensures.rule c.optional-5.ensures.global in
-    IfOk-weaker c.arg-9.result _ _ (λ new added. one_more _ _ _ _ _ _ at8 added c.optional-6.ensures.rule c.optional-6.ensures.global) c.arg-9.ensures
+    IfOk-weaker c.arg-9.result _ _
+    (λ new added. one_more _ _ _ _ _ _ at8 added c.optional-6.ensures.rule c.optional-6.ensures.global) c.arg-9.ensures

@@ -43,7 +43,8 @@ returns c =
     let check = c.in_ok-check_command.ensures in
     let with_check = c.in_ok-subcommand-5.ensures.shape check.1 ∙ ap₂ with_subcommand with_why (shape_is _ _ check) in
     let migrate = c.in_ok-migrate_command.ensures in
-    let with_migrate = c.in_ok-subcommand-6.ensures.shape migrate.1 ∙ ap₂ with_subcommand with_check (shape_is _ _ migrate) in
+    let with_migrate = c.in_ok-subcommand-6.ensures.shape migrate.1
+    ∙ ap₂ with_subcommand with_check (shape_is _ _ migrate) in
     let verify = c.in_ok-verify_command.ensures in
     IfOk-weaker c.subcommand-7.result _ _
     (λ new added. (zone.0, zone.1, added.shape verify.1 ∙ ap₂ with_subcommand with_migrate (shape_is _ _ verify)))

@@ -6,9 +6,11 @@ use Rattle.smpe_invocation.proofs.invocation_reading.list.Goals as goal
 pub returns-in_err-zone-clause-err : goal.returns-in_err-zone-clause-err
 returns-in_err-zone-clause-err c =
     let p = err_from_is_err_and c.from_residual.result c.from_residual.ensures.1 in
-    rw (p.1, p.2) (excludes_more c.in_err-zone.field-0.0 _ _ (λ has. let h = list_in (rows_of (found_of c.args.found.now)) has in (h.1, h.3)) c.in_err-zone.ensures.err)
+    rw (p.1, p.2) (excludes_more c.in_err-zone.field-0.0 _ _
+    (λ has. let h = list_in (rows_of (found_of c.args.found.now)) has in (h.1, h.2.1)) c.in_err-zone.ensures.err)
 
 pub returns-in_err-db-clause-err : goal.returns-in_err-db-clause-err
 returns-in_err-db-clause-err c =
     let p = err_from_is_err_and c.from_residual-in_err-db.result c.from_residual-in_err-db.ensures.1 in
-    rw (p.1, p.2) (excludes_more c.in_err-db.field-0.0 _ _ (λ has. let h = list_in (rows_of (found_of c.args.found.now)) has in (h.0, h.2)) c.in_err-db.ensures.err)
+    rw (p.1, p.2) (excludes_more c.in_err-db.field-0.0 _ _
+    (λ has. let h = list_in (rows_of (found_of c.args.found.now)) has in (h.0, h.2.0)) c.in_err-db.ensures.err)

@@ -1,62 +1,74 @@
-use Rattle.std.proofs.Common.{◌≡◌, rules, subst, sym}
-use Rattle.std.proofs.lemmas.Result.{IfErr-weaker, IfOk-weaker}
+use Rattle.std.proofs.Common.{rules}
 use Rattle.clap.specs.Words.{found_of, rows_of}
-use Rattle.smpe_invocation.proofs.Excluding.{nothing_in}
 use Rattle.smpe_invocation.proofs.Meeting.{met_by, unmet_by}
 use Rattle.smpe_invocation.proofs.invocation_reading.met.Goals as goal
 
 pub returns-then-eq-clause-ok : goal.returns-then-eq-clause-ok
 returns-then-eq-clause-ok c =
-    rw c.in-Some.is (met_by _ _ (rows_of (found_of c.in-Some.found.now)) (search rules) c.zone.result c.zone.ensures.ok)
+    rw c.in-Some.is (met_by _ _ (rows_of (found_of c.in-Some.found.now)) (search rules)
+    c.zone.result c.zone.ensures.ok)
 
 pub returns-then-eq-clause-err : goal.returns-then-eq-clause-err
 returns-then-eq-clause-err c =
-    rw c.in-Some.is (unmet_by _ _ (rows_of (found_of c.in-Some.found.now)) (search rules) c.zone.result c.zone.ensures.err)
+    rw c.in-Some.is (unmet_by _ _ (rows_of (found_of c.in-Some.found.now)) (search rules)
+    c.zone.result c.zone.ensures.err)
 
 pub returns-then-eq-2-clause-ok : goal.returns-then-eq-2-clause-ok
 returns-then-eq-2-clause-ok c =
-    rw c.in-Some.is (met_by _ _ (rows_of (found_of c.in-Some.found.now)) (search rules) c.run.result c.run.ensures.ok)
+    rw c.in-Some.is (met_by _ _ (rows_of (found_of c.in-Some.found.now)) (search rules)
+    c.run.result c.run.ensures.ok)
 
 pub returns-then-eq-2-clause-err : goal.returns-then-eq-2-clause-err
 returns-then-eq-2-clause-err c =
-    rw c.in-Some.is (unmet_by _ _ (rows_of (found_of c.in-Some.found.now)) (search rules) c.run.result c.run.ensures.err)
+    rw c.in-Some.is (unmet_by _ _ (rows_of (found_of c.in-Some.found.now)) (search rules)
+    c.run.result c.run.ensures.err)
 
 pub returns-then-eq-3-clause-ok : goal.returns-then-eq-3-clause-ok
 returns-then-eq-3-clause-ok c =
-    rw c.in-Some.is (met_by _ _ (rows_of (found_of c.in-Some.found.now)) (search rules) c.list.result c.list.ensures.ok)
+    rw c.in-Some.is (met_by _ _ (rows_of (found_of c.in-Some.found.now)) (search rules)
+    c.list.result c.list.ensures.ok)
 
 pub returns-then-eq-3-clause-err : goal.returns-then-eq-3-clause-err
 returns-then-eq-3-clause-err c =
-    rw c.in-Some.is (unmet_by _ _ (rows_of (found_of c.in-Some.found.now)) (search rules) c.list.result c.list.ensures.err)
+    rw c.in-Some.is (unmet_by _ _ (rows_of (found_of c.in-Some.found.now)) (search rules)
+    c.list.result c.list.ensures.err)
 
 pub returns-then-eq-4-clause-ok : goal.returns-then-eq-4-clause-ok
 returns-then-eq-4-clause-ok c =
-    rw c.in-Some.is (met_by _ _ (rows_of (found_of c.in-Some.found.now)) (search rules) c.why.result c.why.ensures.ok)
+    rw c.in-Some.is (met_by _ _ (rows_of (found_of c.in-Some.found.now)) (search rules)
+    c.why.result c.why.ensures.ok)
 
 pub returns-then-eq-4-clause-err : goal.returns-then-eq-4-clause-err
 returns-then-eq-4-clause-err c =
-    rw c.in-Some.is (unmet_by _ _ (rows_of (found_of c.in-Some.found.now)) (search rules) c.why.result c.why.ensures.err)
+    rw c.in-Some.is (unmet_by _ _ (rows_of (found_of c.in-Some.found.now)) (search rules)
+    c.why.result c.why.ensures.err)
 
 pub returns-then-eq-5-clause-ok : goal.returns-then-eq-5-clause-ok
 returns-then-eq-5-clause-ok c =
-    rw c.in-Some.is (met_by _ _ (rows_of (found_of c.in-Some.found.now)) (search rules) c.check.result c.check.ensures.ok)
+    rw c.in-Some.is (met_by _ _ (rows_of (found_of c.in-Some.found.now)) (search rules)
+    c.check.result c.check.ensures.ok)
 
 pub returns-then-eq-5-clause-err : goal.returns-then-eq-5-clause-err
 returns-then-eq-5-clause-err c =
-    rw c.in-Some.is (unmet_by _ _ (rows_of (found_of c.in-Some.found.now)) (search rules) c.check.result c.check.ensures.err)
+    rw c.in-Some.is (unmet_by _ _ (rows_of (found_of c.in-Some.found.now)) (search rules)
+    c.check.result c.check.ensures.err)
 
 pub returns-then-eq-6-clause-ok : goal.returns-then-eq-6-clause-ok
 returns-then-eq-6-clause-ok c =
-    rw c.in-Some.is (met_by _ _ (rows_of (found_of c.in-Some.found.now)) (search rules) c.migrate.result c.migrate.ensures.ok)
+    rw c.in-Some.is (met_by _ _ (rows_of (found_of c.in-Some.found.now)) (search rules)
+    c.migrate.result c.migrate.ensures.ok)
 
 pub returns-then-eq-6-clause-err : goal.returns-then-eq-6-clause-err
 returns-then-eq-6-clause-err c =
-    rw c.in-Some.is (unmet_by _ _ (rows_of (found_of c.in-Some.found.now)) (search rules) c.migrate.result c.migrate.ensures.err)
+    rw c.in-Some.is (unmet_by _ _ (rows_of (found_of c.in-Some.found.now)) (search rules)
+    c.migrate.result c.migrate.ensures.err)
 
 pub returns-then-eq-7-clause-ok : goal.returns-then-eq-7-clause-ok
 returns-then-eq-7-clause-ok c =
-    rw c.in-Some.is (met_by _ _ (rows_of (found_of c.in-Some.found.now)) (search rules) c.verify.result c.verify.ensures.ok)
+    rw c.in-Some.is (met_by _ _ (rows_of (found_of c.in-Some.found.now)) (search rules)
+    c.verify.result c.verify.ensures.ok)
 
 pub returns-then-eq-7-clause-err : goal.returns-then-eq-7-clause-err
 returns-then-eq-7-clause-err c =
-    rw c.in-Some.is (unmet_by _ _ (rows_of (found_of c.in-Some.found.now)) (search rules) c.verify.result c.verify.ensures.err)
+    rw c.in-Some.is (unmet_by _ _ (rows_of (found_of c.in-Some.found.now)) (search rules)
+    c.verify.result c.verify.ensures.err)
