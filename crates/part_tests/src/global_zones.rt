@@ -11,7 +11,8 @@ use sysmods_values::Hold;
 use terms::HoldKind;
 
 /// A function, a PTF, one that follows it and supersedes an APAR, and one that supersedes that.
-const CARDS: &str = "++FUNCTION(HAA1100).|++VER(Z038).|++PTF(UA00001).|++VER(Z038) FMID(HAA1100).|++PTF(UA00002).|\
+const CARDS: &str =
+    "++FUNCTION(HAA1100).|++VER(Z038).|++PTF(UA00001).|++VER(Z038) FMID(HAA1100).|++PTF(UA00002).|\
     ++VER(Z038) FMID(HAA1100) PRE(UA00001)| SUP(AA00001).|++PTF(UA00003).|++VER(Z038) FMID(HAA1100) SUP(UA00002).";
 
 // The global zone that has received them.
@@ -31,7 +32,12 @@ fn reason() -> Result<Reason, &'static str> {
 }
 
 // Puts an external hold.
-fn put_hold(global: &mut GlobalZone, id: Id, fmid: Id, reason: Reason) -> Result<Placed, AllocError> {
+fn put_hold(
+    global: &mut GlobalZone,
+    id: Id,
+    fmid: Id,
+    reason: Reason,
+) -> Result<Placed, AllocError> {
     global.hold(Hold {
         id,
         kind: HoldKind::User,
@@ -49,7 +55,12 @@ fn holds_are_put_and_released(rt: HostRuntime) -> Result<(), Fail> {
     let mut global = received(rt.alloc())?;
     let (fix, function, reason) = (id(b"UA00001")?, id(b"HAA1100")?, reason()?);
     assert!(rt; matches!(put_hold(&mut global, fix, function, reason)?, Placed::New));
-    assert!(rt; matches!(put_hold(&mut global, fix, function, reason)?, Placed::Replaced));
+    assert!(rt;
+        matches!(
+            put_hold(&mut global, fix, function, reason)?,
+            Placed::Replaced
+        )
+    );
     assert_eq!(rt; global.release(fix, HoldKind::User, reason), Ok(()));
     let again = global.release(fix, HoldKind::User, reason);
     assert_eq!(rt; again, Err(ReleaseError::NoHold));

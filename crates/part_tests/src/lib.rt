@@ -22,6 +22,8 @@ mod records_read;
 #[cfg(test)]
 mod solving;
 #[cfg(test)]
+mod sorted_lists;
+#[cfg(test)]
 mod sysmod_values;
 #[cfg(test)]
 mod texts;

@@ -9,10 +9,9 @@ use fields::spelling::test_text;
 use judge::install_system;
 use judge_faults::{Tested, test_all};
 use judge_needs::{bypassed_pairs, needs_of, superseded_pairs};
-use judge_system::Decided;
 use report::errsysmods;
 use select::candidates;
-use solve::{Solver, Worklist, causers};
+use solve::{Solver, Worklist};
 use std::alloc::{AllocError, Global};
 use std::test::Fail;
 use sysmods::GlobalZone;
@@ -20,7 +19,8 @@ use terms::Test;
 use zones::{Scope, Zone, choose};
 
 /// A function and its service: it replaces an element, supersedes others, needs others, comes with a hold.
-pub(crate) const CARDS: &str = "++FUNCTION(HAA1100).|++VER(Z038).|++DATA(X1) DISTLIB(A) SYSLIB(B).|FIRST|\
+pub(crate) const CARDS: &str =
+    "++FUNCTION(HAA1100).|++VER(Z038).|++DATA(X1) DISTLIB(A) SYSLIB(B).|FIRST|\
     ++PTF(UA00001).|++VER(Z038) FMID(HAA1100).|++DATA(X1) DISTLIB(A) SYSLIB(B).|SECOND|\
     ++PTF(UA00002).|++VER(Z038) FMID(HAA1100) PRE(UA00001).|++DATA(X1) DISTLIB(A) SYSLIB(B).|THIRD|\
     ++PTF(UA00003).|++VER(Z038) FMID(HAA1100) REQ(UA00009).|\
@@ -68,20 +68,14 @@ SUPERSEDES UA00005 UA00001
 BYPASSED UA00006 UA00002
 ";
 
-const SYSTEM: &str = "NUMBER HAA1100
-NUMBER UA00001
-NUMBER UA00002
-NUMBER UA00003
-NUMBER UA00004
-NUMBER UA00005
-NUMBER UA00006
-KEPT HAA1100
+const SYSTEM: &str = "KEPT HAA1100
 KEPT UA00001
 KEPT UA00002
+FAILED UA00003
+FAILED UA00004
 KEPT UA00005
-UA00003 UA00003
-UA00004 UA00003
-UA00006 UA00006
+FAILED UA00006
+BYPASSED UA00006 UA00002
 ";
 
 // A line of the tests that a candidate fails.
@@ -138,20 +132,17 @@ fn the_parts_of_an_install_are_told(rt: HostRuntime) -> Result<(), Fail> {
     let alloc = rt.alloc();
     let global = global(alloc, CARDS, HOLDS)?;
     let mut text = Vec::new(alloc);
-    put_parts(alloc, &global, &target(alloc)?, &install(alloc, APPLIES)?, &mut text)?;
+    put_parts(
+        alloc,
+        &global,
+        &target(alloc)?,
+        &install(alloc, APPLIES)?,
+        &mut text,
+    )?;
     compare(text.as_slice(), PARTS)
 }
 
-// The id of each number, and who is kept.
-fn put_decided(decided: &Decided, text: &mut Vec<u8>) -> Result<(), AllocError> {
-    put_ids(b"KEPT", decided.kept.as_slice(), text)?;
-    for (id, failure) in decided.failed.as_slice() {
-        put_ids(id.as_bytes(), failure.causers.as_slice(), text)?;
-    }
-    Ok(())
-}
-
-// The numbered system of an install, by ids, and who is kept.
+// The numbered system of an install, and who is kept, by ids.
 fn put_system(
     alloc: Global,
     global: &GlobalZone,
@@ -161,12 +152,12 @@ fn put_system(
 ) -> Result<(), AllocError> {
     let candidates = candidates(alloc, global, zone, &install.selection)?;
     let judged = install_system(alloc, global, zone, None, &candidates, &install.bypass)?;
-    for id in judged.ids.iter() {
-        put_line(b"NUMBER", &[id.as_bytes()], text)?;
-    }
     let kept = Worklist.greatest(alloc, &judged.system)?;
-    let causers = causers(alloc, &judged.system, &kept)?;
-    put_decided(&judged.decided(alloc, &kept, causers.as_slice())?, text)
+    for (id, flag) in judged.ids.iter().zip(kept.flags().iter()) {
+        let word: &[u8] = if *flag { b"KEPT" } else { b"FAILED" };
+        put_line(word, &[id.as_bytes()], text)?;
+    }
+    put_pairs(b"BYPASSED", judged.bypassed.as_slice(), text)
 }
 
 #[test]
@@ -174,7 +165,13 @@ fn an_install_is_judged(rt: HostRuntime) -> Result<(), Fail> {
     let alloc = rt.alloc();
     let global = global(alloc, CARDS, HOLDS)?;
     let mut text = Vec::new(alloc);
-    put_system(alloc, &global, &target(alloc)?, &install(alloc, APPLIES)?, &mut text)?;
+    put_system(
+        alloc,
+        &global,
+        &target(alloc)?,
+        &install(alloc, APPLIES)?,
+        &mut text,
+    )?;
     compare(text.as_slice(), SYSTEM)
 }
 

@@ -9,7 +9,7 @@ use std::test::Fail;
 use terms::{CommandWord, NotChosen};
 use zones::{Candidates, Zone};
 
-/// The first line in which two texts differ, of each text. After the end of one there is no line.
+// The first line in which two texts differ, of each text. After the end of one there is no line.
 fn first_difference<'a>(got: &'a str, wanted: &'a str) -> (Option<&'a str>, Option<&'a str>) {
     let mut wanted_lines = wanted.split('\n');
     for line in got.split('\n') {
@@ -31,11 +31,7 @@ pub(crate) fn compare(got: &[u8], wanted: &str) -> Result<(), Fail> {
 }
 
 /// A line of this word and these words after it.
-pub(crate) fn put_line(
-    word: &[u8],
-    words: &[&[u8]],
-    text: &mut Vec<u8>,
-) -> Result<(), AllocError> {
+pub(crate) fn put_line(word: &[u8], words: &[&[u8]], text: &mut Vec<u8>) -> Result<(), AllocError> {
     text.extend_from_slice(word)?;
     for word in words {
         text.push(b' ')?;

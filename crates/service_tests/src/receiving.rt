@@ -1,10 +1,9 @@
 //! RECEIVE and REJECT over a global zone.
 
-use crate::installing;
-use crate::made::{command, file_of, global, installed, install, target, zone_name};
+use crate::made::{command, file_of, install, installed, target, zone_name};
 use crate::printed::{compare, put_report};
 use cntl::Command;
-use fields::{IdList, Source};
+use fields::Source;
 use indexmap::IndexMap;
 use mcs::{read_hold, read_ptfin};
 use smpe_global::{Rejected, Taken, receive, receive_holds, reject};
@@ -14,11 +13,13 @@ use sysmods::GlobalZone;
 use terms::CommandWord;
 
 /// A function and a PTF, the PTF again, one that takes a PTF for a function, and sources.
-const PTFIN: &str = "++FUNCTION(HAA1100).|++VER(Z038).|++PTF(UA00001).|++VER(Z038) FMID(HAA1100).|++PTF(UA00001).|\
+const PTFIN: &str =
+    "++FUNCTION(HAA1100).|++VER(Z038).|++PTF(UA00001).|++VER(Z038) FMID(HAA1100).|++PTF(UA00001).|\
     ++VER(Z038) FMID(HAA1100).|++PTF(UA00002).|++VER(Z038) FMID(UA00001).|++ASSIGN SOURCEID(SRC1) TO(UA00001,UA00009).";
 
 /// A hold that is put, replaced and released, and one that does not exist.
-const HOLDS: &str = "++HOLD(UA00001) USER FMID(HAA1100) REASON(WAIT).|++HOLD(UA00001) USER FMID(HAA1100) REASON(WAIT).|\
+const HOLDS: &str =
+    "++HOLD(UA00001) USER FMID(HAA1100) REASON(WAIT).|++HOLD(UA00001) USER FMID(HAA1100) REASON(WAIT).|\
     ++RELEASE(UA00001) USER FMID(HAA1100) REASON(WAIT).|++RELEASE(UA00001) USER FMID(HAA1100) REASON(GONE).";
 
 const RECEIVED: &str = "RECEIVE -
@@ -60,11 +61,7 @@ fn put_received(
 }
 
 // REJECT beside a zone in which the function is applied, with so many edits.
-fn put_rejected(
-    alloc: Global,
-    global: &mut GlobalZone,
-    text: &mut Vec<u8>,
-) -> Result<usize, Fail> {
+fn put_rejected(alloc: Global, global: &mut GlobalZone, text: &mut Vec<u8>) -> Result<usize, Fail> {
     let Command::Reject(ids) = command(alloc, "REJECT SELECT(HAA1100,UA00001,UA00009).")? else {
         return Err(Fail::from("no REJECT"));
     };

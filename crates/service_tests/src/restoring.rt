@@ -4,7 +4,6 @@ use crate::installing::{APPLIES, CARDS, HOLDS};
 use crate::made::{command, distribution, global, install, installed, target, zone_name};
 use crate::printed::{compare, put_candidates, put_line, put_needs, put_report, put_zone};
 use cntl::{Command, RestoreList};
-use fields::IdList;
 use smpe_service::{Restored, restore};
 use std::alloc::{AllocError, Global};
 use std::test::Fail;
@@ -46,11 +45,11 @@ NEED UA00002 DEP UA00005
 fn put_parts(
     alloc: Global,
     global: &GlobalZone,
-    zones: &Zones,
+    zone: &Zone,
+    accepted: &Zone,
     list: &RestoreList,
     text: &mut Vec<u8>,
 ) -> Result<(), AllocError> {
-    let (zone, accepted) = (&zones.zone, &zones.accepted);
     let candidates = restore_candidates(alloc, global, zone, accepted, list)?;
     put_candidates(&candidates, text)?;
     let judged = restore_system(alloc, global, zone, accepted, &candidates)?;
@@ -67,7 +66,14 @@ fn the_parts_of_a_restore_are_told(rt: HostRuntime) -> Result<(), Fail> {
     let zones = zones(alloc, &global)?;
     let list = list(alloc, "RESTORE SELECT(UA00002,UA00008).")?;
     let mut text = Vec::new(alloc);
-    put_parts(alloc, &global, &zones, &list, &mut text)?;
+    put_parts(
+        alloc,
+        &global,
+        &zones.zone,
+        &zones.accepted,
+        &list,
+        &mut text,
+    )?;
     compare(text.as_slice(), PARTS)
 }
 

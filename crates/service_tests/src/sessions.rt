@@ -13,7 +13,8 @@ use std::test::Fail;
 use store::Store;
 use terms::ZoneKind;
 
-const PTFIN: &str = "++FUNCTION(HAA1100).|++VER(Z038).|++PTF(UA00001).|++VER(Z038) FMID(HAA1100) REQ(UA00009).";
+const PTFIN: &str =
+    "++FUNCTION(HAA1100).|++VER(Z038).|++PTF(UA00001).|++VER(Z038) FMID(HAA1100) REQ(UA00009).";
 
 const COMMANDS: &str = "SET BDY(GLOBAL).|RECEIVE.|SET BDY(TGT1).|APPLY FUNCTIONS PTFS.|LIST.";
 

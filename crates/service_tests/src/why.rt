@@ -2,11 +2,11 @@
 
 use crate::made::{global, id, install, installed, target};
 use crate::printed::compare;
+use fields::Id;
 use report_why::{facts_code, facts_of, put_facts};
 use std::alloc::{AllocError, Global};
 use std::test::Fail;
 use sysmods::GlobalZone;
-use fields::Id;
 use zones::Zone;
 
 /// A global zone by its cards, with a bar between two, what is applied in a zone, and what must be told about ids there.

@@ -1,7 +1,7 @@
 //! Lists of jobs, in one call and each in a call of its own, and how definitions of zones end.
 
 use fields::{Srel, ZoneName};
-use smpe::{Answer, Job, ZoneFault};
+use smpe::{Answer, Job, ZoneFault, list_commands, two_commands};
 use smpe_play::{
     FIX, FUNCTION, ListWanted, RECEIVE, card_file, job_over, play_jobs, put_cards, zone_name,
 };
@@ -143,4 +143,15 @@ fn the_sixty_fifth_zone_is_refused(rt: HostRuntime) -> Result<(), Fail> {
     let mut answers = [Answer::Defined; 65];
     answers[64] = Answer::Refused(ZoneFault::TooMany);
     run(alloc, jobs.as_slice(), "", &answers)
+}
+
+#[test]
+fn a_listing_is_a_job_of_two_commands(rt: HostRuntime) -> Result<(), Fail> {
+    let alloc = rt.alloc();
+    let listing = list_commands(alloc, zone_name(b"TGT1")?)?;
+    let wanted = card_file(alloc, "SET BDY(TGT1).\nLIST.")?;
+    assert_eq!(rt; listing.as_slice(), wanted.as_slice());
+    let receive = two_commands(alloc, b"SET BDY(GLOBAL).", b"RECEIVE.")?;
+    assert_eq!(rt; receive.as_slice(), card_file(alloc, RECEIVE)?.as_slice());
+    Ok(())
 }

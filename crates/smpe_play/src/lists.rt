@@ -72,7 +72,13 @@ fn run_closed(alloc: Global, jobs: &[Job<'_>], wanted: ListWanted<'_>) -> Result
     let (mut report, mut answers) = (Vec::new(alloc), Vec::new(alloc));
     let mut conn = new_files(alloc)?;
     for job in jobs {
-        conn = run_over(alloc, reopened(alloc, conn)?, &[*job], &mut report, &mut answers)?;
+        conn = run_over(
+            alloc,
+            reopened(alloc, conn)?,
+            &[*job],
+            &mut report,
+            &mut answers,
+        )?;
     }
     let disk = "on disks that are closed and opened before each";
     check(alloc, disk, report.as_slice(), answers.as_slice(), wanted)
