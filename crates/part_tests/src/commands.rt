@@ -61,7 +61,7 @@ SELECT => list ids(UA00001 UA00002 ) listed 2 UA00001 UA00002
 SOURCEID => list  A B
 CHECK => there
 TEXT => none
-GROUP => list  listed 3
+GROUP => list
 BDY => list  T zone T
 ";
 

@@ -26,7 +26,7 @@ fn ver(alloc: Global, srel: Srel, fmid: Id) -> Ver {
 }
 
 // An `++IF` of this function.
-fn requires(alloc: Global, function: Id, other: Id) -> Result<IfReq, AllocError> {
+fn condition(alloc: Global, function: Id, other: Id) -> Result<IfReq, AllocError> {
     let mut req = IdList::new(alloc);
     req.insert(other)?;
     Ok(IfReq { function, req })
@@ -85,7 +85,7 @@ fn a_sysmod_names_ids_by_its_vers(rt: HostRuntime) -> Result<(), Fail> {
     assert_eq!(rt; named_for(rt.alloc(), &fix, none)?.len(), 0);
     let named = named_for(rt.alloc(), &fix, high)?;
     assert_eq!(rt; named.as_slice(), [other, function].as_slice());
-    fix.push_if(0, requires(rt.alloc(), function, id(b"UA00009")?)?)?;
+    fix.push_if(0, condition(rt.alloc(), function, id(b"UA00009")?)?)?;
     assert_eq!(rt; fix.vers.first().map(|ver| ver.ifs.len()), Some(1));
     Ok(())
 }

@@ -44,7 +44,7 @@ const TOLD: &str = "UA00001 PTF      RECEIVED
   REQ UA00009 OPEN
     CANDIDATE -
   WOULD FAIL
-    REQ UA00009 OPEN
+    NEED REQ UA00009: no SYSMOD that supplies it is received
 ";
 
 // A store over a new database.

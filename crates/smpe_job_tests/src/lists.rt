@@ -151,7 +151,7 @@ fn a_listing_is_a_job_of_two_commands(rt: HostRuntime) -> Result<(), Fail> {
     let listing = list_commands(alloc, zone_name(b"TGT1")?)?;
     let wanted = card_file(alloc, "SET BDY(TGT1).\nLIST.")?;
     assert_eq!(rt; listing.as_slice(), wanted.as_slice());
-    let receive = two_commands(alloc, b"SET BDY(GLOBAL).", b"RECEIVE.")?;
+    let receive = two_commands(alloc, b"SET BDY(GLOBAL).", b"RECEIVE SYSMODS.")?;
     assert_eq!(rt; receive.as_slice(), card_file(alloc, RECEIVE)?.as_slice());
     Ok(())
 }
