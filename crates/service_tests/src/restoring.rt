@@ -14,18 +14,18 @@ use zones::Zone;
 
 /// A target zone with its distribution zone, in which the function is accepted.
 #[derive(Drop)]
-struct Zones {
+struct ZonePair {
     zone: Zone,
     accepted: Zone,
 }
 
-fn zones(alloc: Global, global: &GlobalZone) -> Result<Zones, Fail> {
+fn zones(alloc: Global, global: &GlobalZone) -> Result<ZonePair, Fail> {
     let mut report = Vec::new(alloc);
     let install_all = install(alloc, APPLIES)?;
     let zone = installed(alloc, global, &target(alloc)?, &install_all, &mut report)?;
     let accept = install(alloc, "ACCEPT SELECT(HAA1100) BYPASS(APPLYCHECK).")?;
     let accepted = installed(alloc, global, &distribution(alloc)?, &accept, &mut report)?;
-    Ok(Zones { zone, accepted })
+    Ok(ZonePair { zone, accepted })
 }
 
 fn list(alloc: Global, cards: &str) -> Result<RestoreList, Fail> {
@@ -97,7 +97,7 @@ RC 00
 fn restored(
     alloc: Global,
     global: &GlobalZone,
-    zones: &Zones,
+    zones: &ZonePair,
     list: &RestoreList,
     text: &mut Vec<u8>,
 ) -> Result<Zone, Fail> {
@@ -110,7 +110,7 @@ fn restored(
 fn put_restored(
     alloc: Global,
     global: &GlobalZone,
-    zones: &Zones,
+    zones: &ZonePair,
     text: &mut Vec<u8>,
 ) -> Result<(), Fail> {
     let one = list(alloc, "RESTORE SELECT(UA00002,UA00008).")?;
