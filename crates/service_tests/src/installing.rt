@@ -155,7 +155,7 @@ fn put_system(
     let kept = Worklist.greatest(alloc, &judged.system)?;
     for (id, flag) in judged.ids.iter().zip(kept.flags().iter()) {
         let word: &[u8] = if *flag { b"KEPT" } else { b"FAILED" };
-        put_line(word, &[id.as_bytes()], text)?;
+        put_line(word, id.as_bytes(), text)?;
     }
     put_pairs(b"BYPASSED", judged.bypassed.as_slice(), text)
 }

@@ -30,21 +30,41 @@ pub(crate) fn compare(got: &[u8], wanted: &str) -> Result<(), Fail> {
     Err(Fail::new(format_args!("got {got:?}, wanted {wanted:?}")))
 }
 
-/// A line of this word and these words after it.
-pub(crate) fn put_line(word: &[u8], words: &[&[u8]], text: &mut Vec<u8>) -> Result<(), AllocError> {
-    text.extend_from_slice(word)?;
-    for word in words {
-        text.push(b' ')?;
-        text.extend_from_slice(word)?;
-    }
+// A word after a blank.
+fn put_word(word: &[u8], text: &mut Vec<u8>) -> Result<(), AllocError> {
+    text.push(b' ')?;
+    text.extend_from_slice(word)
+}
+
+fn end_line(text: &mut Vec<u8>) -> Result<(), AllocError> {
     text.push(b'\n')?;
     Ok(())
+}
+
+/// A line of these two words.
+pub(crate) fn put_line(word: &[u8], other: &[u8], text: &mut Vec<u8>) -> Result<(), AllocError> {
+    text.extend_from_slice(word)?;
+    put_word(other, text)?;
+    end_line(text)
+}
+
+// A line of these three words.
+fn put_three(
+    word: &[u8],
+    second: &[u8],
+    third: &[u8],
+    text: &mut Vec<u8>,
+) -> Result<(), AllocError> {
+    text.extend_from_slice(word)?;
+    put_word(second, text)?;
+    put_word(third, text)?;
+    end_line(text)
 }
 
 /// A line for each of these ids.
 pub(crate) fn put_ids(word: &[u8], ids: &[Id], text: &mut Vec<u8>) -> Result<(), AllocError> {
     for id in ids {
-        put_line(word, &[id.as_bytes()], text)?;
+        put_line(word, id.as_bytes(), text)?;
     }
     Ok(())
 }
@@ -56,7 +76,7 @@ pub(crate) fn put_pairs(
     text: &mut Vec<u8>,
 ) -> Result<(), AllocError> {
     for pair in pairs {
-        put_line(word, &[pair.0.as_bytes(), pair.1.as_bytes()], text)?;
+        put_three(word, pair.0.as_bytes(), pair.1.as_bytes(), text)?;
     }
     Ok(())
 }
@@ -64,8 +84,11 @@ pub(crate) fn put_pairs(
 /// A line for each of these needs.
 pub(crate) fn put_needs(needs: &[RequisiteOf], text: &mut Vec<u8>) -> Result<(), AllocError> {
     for need in needs {
-        let words = [need.of.as_bytes(), need_text(need.kind), need.id.as_bytes()];
-        put_line(b"NEED", &words, text)?;
+        text.extend_from_slice(b"NEED")?;
+        put_word(need.of.as_bytes(), text)?;
+        put_word(need_text(need.kind), text)?;
+        put_word(need.id.as_bytes(), text)?;
+        end_line(text)?;
     }
     Ok(())
 }
@@ -85,7 +108,7 @@ pub(crate) fn put_candidates(
 ) -> Result<(), AllocError> {
     put_ids(b"CANDIDATE", candidates.ids.as_slice(), text)?;
     for left in candidates.left_out.as_slice() {
-        put_line(b"LEFT", &[left.0.as_bytes(), why_text(left.1)], text)?;
+        put_three(b"LEFT", left.0.as_bytes(), why_text(left.1), text)?;
     }
     Ok(())
 }

@@ -54,7 +54,7 @@ fn put_parts(
     put_candidates(&candidates, text)?;
     let judged = restore_system(alloc, global, zone, accepted, &candidates)?;
     for id in judged.ids.iter() {
-        put_line(b"NUMBER", &[id.as_bytes()], text)?;
+        put_line(b"NUMBER", id.as_bytes(), text)?;
     }
     put_needs(judged.needs.as_slice(), text)
 }
