@@ -5,6 +5,7 @@ mod EditLoop
 mod GlobalLemmas
 pub mod Going
 mod Loading
+mod NewLast
 pub mod NoState
 mod Parts
 pub mod Reopening
