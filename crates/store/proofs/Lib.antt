@@ -6,6 +6,7 @@ mod GlobalLemmas
 pub mod Going
 mod Loading
 mod NewLast
+mod News
 pub mod NoState
 mod Parts
 pub mod Reopening

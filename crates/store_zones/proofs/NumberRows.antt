@@ -5,9 +5,9 @@ use Rattle.std.specs.List.{AllByRecursion, flat_map}
 use Rattle.std.specs.Option.{option_map_or}
 use Rattle.std.proofs.lemmas.Grind.{flat_map-append}
 use Rattle.std.proofs.lemmas.List.{map-append}
-use Rattle.std.proofs.Math.Seq.{take-suc}
 use Rattle.sqlite.specs.Order.{Row}
 use Rattle.terms.proofs.Each.{recursion_append}
+use Rattle.terms.proofs.Lists.{front_more}
 use Rattle.terms.specs.Types.{Text, Applied, Entry}
 use Rattle.zones_maps.specs.Delta.{number_of}
 use Rattle.store_rows.specs.Rows.{as_bound}
@@ -62,20 +62,14 @@ other_row zone e n is other =
 
 -- ---- an entry more
 
-module _ {Y : Type 0} (zone : Text) (now : Y → Entry) (entries : List Y) (i : ℕ) (d : Y) (within : i < length entries)
-    (n : ℕ) (is : n ≡ number_of (now (get_or entries i d))) where
-  abbrev entry : Y
-  entry = get_or entries i d
-
+module _ {Y : Type 0} (zone : Text) (now : Y → Entry) (entries : List Y) (i : ℕ) (entry : Y) (within : i < length entries)
+    (at : entry ≡ get_or entries i entry) (n : ℕ) (is : n ≡ number_of (now entry)) where
   abbrev rows_to : ℕ → List Row
   rows_to k = flat_map (chosen_in zone) (map now (take k entries))
 
   one_more : rows_to (i + 1) ≡ rows_to i ++ chosen_in zone (now entry)
   one_more =
-      let more : i + 1 ≡ suc i = omega arith in
-      let next : take (i + 1) entries ≡ take i entries ++ entry ∷ [] =
-      ap (λ k. take k entries) more ∙ take-suc entries i d within in
-      ap (λ es. flat_map (chosen_in zone) (map now es)) next
+      ap (λ es. flat_map (chosen_in zone) (map now es)) (front_more entries i entry within at)
       ∙ ap (flat_map (chosen_in zone)) (map-append now (take i entries) (entry ∷ []))
       ∙ flat_map-append (chosen_in zone) (map now (take i entries)) (now entry ∷ [])
       ∙ ap (λ rows. rows_to i ++ rows) (append-nil (chosen_in zone (now entry)))

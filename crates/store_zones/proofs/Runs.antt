@@ -5,7 +5,7 @@ use Rattle.std.proofs.Common.{append-nil}
 use Rattle.std.specs.List.{AllByRecursion}
 use Rattle.std.proofs.lemmas.List.{drop-drop, length-append, length-drop, length-map, length-take, map-append}
 use Rattle.std.proofs.lemmas.List.{take-append-drop}
-use Rattle.std.proofs.Math.Seq.{take-suc}
+use Rattle.terms.proofs.Lists.{front_more}
 use Rattle.sqlite.specs.Store.{Ghosts}
 use Rattle.sqlite.specs.Order.{Row}
 use Rattle.sqlite.specs.declared.error.Error.{Error}
@@ -20,17 +20,13 @@ use Rattle.store_rows.proofs.Putting.{Added, Leaves, GoesOn, added_none, added_t
 -- ---- the rows of items
 
 -- the rows of one item more
-pub one_more : {X Y : Type 0} (now : Y → X) (f : X → Row) (items : List Y) (i : ℕ) (d : Y) → i < length items
-    → (olds : List Row) (cells : Row) → map as_bound olds ≡ map f (map now (take i items))
-    → as_bound cells ≡ f (now (get_or items i d))
-    → map as_bound (olds ++ cells ∷ []) ≡ map f (map now (take (i + 1) items))
-one_more now f items i d within olds cells before bound =
-    let item = get_or items i d in
-    let more : i + 1 ≡ suc i = omega arith in
-    let next : take (i + 1) items ≡ take i items ++ item ∷ [] = ap (λ n. take n items) more
-    ∙ take-suc items i d within in
+pub one_more : {X Y : Type 0} (now : Y → X) (f : X → Row) (items : List Y) (i : ℕ) (item : Y) → i < length items
+    → item ≡ get_or items i item → (olds : List Row) (cells : Row) → map as_bound olds ≡ map f (map now (take i items))
+    → as_bound cells ≡ f (now item) → map as_bound (olds ++ cells ∷ []) ≡ map f (map now (take (i + 1) items))
+one_more now f items i item within at olds cells before bound =
     map-append as_bound olds (cells ∷ []) ∙ ap₂ (λ xs y. xs ++ y ∷ []) before bound
-    ∙ sym (ap (λ ys. map f (map now ys)) next ∙ ap (map f) (map-append now (take i items) (item ∷ []))
+    ∙ sym (ap (λ ys. map f (map now ys)) (front_more items i item within at)
+    ∙ ap (map f) (map-append now (take i items) (item ∷ []))
     ∙ map-append f (map now (take i items)) (now item ∷ []))
 
 -- the rows of the items from one place to another, and of those behind them
