@@ -65,11 +65,7 @@ fn row_of<'a>(zone: &'a ZoneName, id: &'a Id, number: usize) -> [ValueRef<'a>; 3
 }
 
 // The rows of these entries, except those that were installed by the first `++VER`.
-fn rows_of(
-    alloc: Global,
-    zone: &ZoneName,
-    entries: &[&Entry],
-) -> Result<Vec<Cells>, AllocError>
+fn rows_of(alloc: Global, zone: &ZoneName, entries: &[&Entry]) -> Result<Vec<Cells>, AllocError>
     ensures { IfOk result (λ rows. map as_bound rows.items
         ≡ flat_map (chosen_in zone.now) (map (λ e. e.now) entries.now)) }
 {

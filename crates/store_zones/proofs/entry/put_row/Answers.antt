@@ -1,4 +1,4 @@
-use Rattle.std.proofs.Common.{Bool, true, false, sym, subst}
+use Rattle.std.proofs.Common.{Bool, sym, subst}
 use Rattle.store_rows.proofs.InsideLemmas.{on_ok}
 use Rattle.store_schema.specs.Rows.{entry_row}
 use Rattle.store_schema.specs.Tables.{store_schema, entry}

@@ -1,5 +1,5 @@
 use Rattle.std.proofs.Common.{map, sym, ap, ◌∙◌, subst}
-use Rattle.std.specs.List.{AllByRecursion, flat_map}
+use Rattle.std.specs.List.{AllByRecursion}
 use Rattle.store_rows.specs.Calls.{RunsInside, puts}
 use Rattle.store_rows.specs.Inside.{Turns}
 use Rattle.store_rows.specs.Rows.{as_bound, HasContents, in_table, with_rows}

@@ -1,5 +1,6 @@
-use Rattle.std.proofs.Common.{ap, map, ◌∙◌}
+use Rattle.std.proofs.Common.{ap, ap₂, map, sym, ◌∙◌}
 use Rattle.store_rows.specs.Rows.{as_bound}
+use Rattle.store_schema.specs.Rows.{chosen_row}
 use Rattle.store_zones.proofs.NumberRows.{number_pushed, number_skipped}
 use Rattle.store_zones.proofs.installed_vers.rows_of.Goals as goal
 
@@ -16,4 +17,5 @@ loop-entry-preserved c =
     ∙ number_pushed c.args.zone.now (λ e. e.now) c.args.entries.now c.loop-entry.entry-index c.entry-item.result c.loop-entry-test.true
     c.entry-item.is
     c.get.result (c.get.ensures.value ∙ c.number-number.ensures) c.loop-entry.rows.items c.in_ok-cells.field-0
-    c.if-get-eq1.false c.loop-entry.invariant c.in_ok-cells.ensures
+    c.if-get-eq1.false c.loop-entry.invariant (c.in_ok-cells.ensures
+    ∙ ap₂ (chosen_row c.args.zone.now) (ap (λ e. e.now.id) c.entry.view_is) (sym c.get.ensures.value))
