@@ -327,8 +327,8 @@ module _ {S : Type 0} (g : Ghosts S) (name : Text) where
               ++ entries_after was.entries (others new_entry ds))) (sym entries)
               (new_last nat_list_cmp_total key bytes_eq texts_ties new_entry ds rises was.entries was.entries
               (IsPermutation-refl was.entries)
-              (rw h.was (subst (λ all_stood. AllByRecursion (IsNewIn nat_list_cmp_total key bytes_eq texts_ties new_entry
-              zone.entries) (zip edits all_stood)) (sym known) (entries_new zone edits))));
+              (rw h.was (subst (λ all_stood. AllByRecursion (IsNewIn nat_list_cmp_total key bytes_eq texts_ties
+              new_entry zone.entries) (zip edits all_stood)) (sym known) (entries_new zone edits))));
         },
       )) inside one two
 

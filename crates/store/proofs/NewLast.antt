@@ -62,8 +62,8 @@ module _ {X K : Type 0} {R : K → K → Ordering} (o : IsTotalOrder R) (key : X
       (IsPermutation-trans _ _ _ (IsPermutation-middle put x kept)
       (IsPermutation-cons x _ _ (IsPermutation-sym _ _ (after_parts e ys))))
 
-  passes_all : (x : X) (es : List (Edit X K)) (ys : List X) → AllByRecursion (λ e. E (key x) (edit_key key e) ≡ false) es
-      → IsPermutation (all (x ∷ ys) es) (x ∷ all ys es)
+  passes_all : (x : X) (es : List (Edit X K)) (ys : List X)
+      → AllByRecursion (λ e. E (key x) (edit_key key e) ≡ false) es → IsPermutation (all (x ∷ ys) es) (x ∷ all ys es)
   passes_all x [] ys apart = IsPermutation-refl (x ∷ ys)
   passes_all x (e ∷ es) ys apart =
       IsPermutation-trans _ _ _ (all_alike es (after (x ∷ ys) e) (x ∷ after ys e) (passes_by x e ys apart.0))
@@ -140,7 +140,8 @@ module _ {X K : Type 0} {R : K → K → Ordering} (o : IsTotalOrder R) (key : X
         (λ c low. ties k (edit_key key (edit c)) ∙ ap is_eq (Less_from_is_lt (R k (edit_key key (edit c))) low)) ds
         (all_by (Below d) ds (AllPairs_first Below d ds own))
 
-    rest_rises : (d : D) (ds : List D) → Rises R (edit_key key) (map edit (d ∷ ds)) → Rises R (edit_key key) (map edit ds)
+    rest_rises : (d : D) (ds : List D) → Rises R (edit_key key) (map edit (d ∷ ds))
+        → Rises R (edit_key key) (map edit ds)
     rest_rises d ds rises =
         AllPairs_rest (λ a b. is_lt (R (edit_key key a) (edit_key key b)) ≡ true) (edit d) (map edit ds) rises
 
@@ -167,7 +168,8 @@ module _ {X K : Type 0} {R : K → K → Ordering} (o : IsTotalOrder R) (key : X
         by apart later (Some x) is given =
             let aside : AllByRecursion (λ f. E (key x) (edit_key key f) ≡ false) rest =
             others_apart (key x) ds
-            (subst (λ k. AllByRecursion (λ c. E k (edit_key key (edit c)) ≡ false) ds) (ap (edit_key key) given.0) apart) in
+            (subst (λ k. AllByRecursion (λ c. E k (edit_key key (edit c)) ≡ false) ds) (ap (edit_key key) given.0)
+            apart) in
             let come : IsPermutation (after ys (edit d)) (x ∷ ys) =
             subst (λ f. IsPermutation (after ys f) (x ∷ ys)) (sym given.0) (comes_in x ys given.1) in
             let moved : IsPermutation (all (after ys (edit d)) rest) (x ∷ all ys rest) =

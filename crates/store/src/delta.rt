@@ -1,5 +1,5 @@
-//! What a delta puts and removes, written in an open transaction. What is put instead of something else, or removed, has
-//! a statement of its own. What is new comes in at the end, many rows by one statement.
+//! What a delta puts and removes, written in an open transaction. What is put instead of something else, or removed,
+//! has a statement of its own. What is new comes in at the end, many rows by one statement.
 
 ghost use Rattle.std.specs.Prelude.{◌≡◌, OnOk, IfOk, map};
 ghost use Rattle.std.specs.List.{filter_map, flat_map, zip};
@@ -59,7 +59,8 @@ fn change_entries<S: Alter>(
     ensures calls { RunsInside S.Store (flat_map (entry_calls name) (zip edits.now stood.now))
         tx.old.conn.now tx.new.conn.now result }
     ensures ok { OnOk result ((zone : Zone) → stood.now ≡ map (entry_stood zone) edits.now
-        → ChangesZone S.Store tx.old.conn.now tx.new.conn.now name (EditsEntries zone (others new_entry_of (zip edits.now stood.now)))) }
+        → ChangesZone S.Store tx.old.conn.now tx.new.conn.now name
+        (EditsEntries zone (others new_entry_of (zip edits.now stood.now)))) }
 {
     for (edit, before) in edits.iter().zip(stood) {
         change_entry(alloc, tx, name, edit, *before)?;
@@ -155,7 +156,8 @@ fn change_elements<S: Alter>(
     ensures calls { RunsInside S.Store (flat_map (element_calls name) (zip edits.now stood.now))
         tx.old.conn.now tx.new.conn.now result }
     ensures ok { OnOk result ((zone : Zone) → stood.now ≡ map (element_stood zone) edits.now
-        → ChangesZone S.Store tx.old.conn.now tx.new.conn.now name (EditsElements zone (others new_element_of (zip edits.now stood.now)))) }
+        → ChangesZone S.Store tx.old.conn.now tx.new.conn.now name
+        (EditsElements zone (others new_element_of (zip edits.now stood.now)))) }
 {
     for (edit, before) in edits.iter().zip(stood) {
         change_element(alloc, tx, name, edit, *before)?;

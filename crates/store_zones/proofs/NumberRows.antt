@@ -62,8 +62,8 @@ other_row zone e n is other =
 
 -- ---- an entry more
 
-module _ {Y : Type 0} (zone : Text) (now : Y → Entry) (entries : List Y) (i : ℕ) (entry : Y) (within : i < length entries)
-    (at : entry ≡ get_or entries i entry) (n : ℕ) (is : n ≡ number_of (now entry)) where
+module _ {Y : Type 0} (zone : Text) (now : Y → Entry) (entries : List Y) (i : ℕ) (entry : Y)
+    (within : i < length entries) (at : entry ≡ get_or entries i entry) (n : ℕ) (is : n ≡ number_of (now entry)) where
   abbrev rows_to : ℕ → List Row
   rows_to k = flat_map (chosen_in zone) (map now (take k entries))
 

@@ -104,7 +104,8 @@ module _ (some one : List ℕ) where
   whole_or_last left run (row ∷ more) parts long =
       inl (omega (arith, long, ap length parts, length-append run (row ∷ more)))
 
-module _ {S : Type 0} (g : Ghosts S) (some one : List ℕ) {calls : List Call} {rows : List Row} {old : Transaction S} where
+module _ {S : Type 0} (g : Ghosts S) (some one : List ℕ) {calls : List Call} {rows : List Row}
+    {old : Transaction S} where
   -- the next of the rows that are left were put
   pub run_goes : {X : Type 0} {mid new : Transaction S} {q : Result X Error} (left run more : List Row)
       → left ≡ run ++ more → length run ≡ min many (length left)
@@ -134,7 +135,8 @@ module _ {S : Type 0} (g : Ghosts S) (some one : List ℕ) {calls : List Call} {
 
   -- none is left
   pub all_go : {now : Transaction S} (left : List Row) → length left ≡ 0
-      → Leaves g some one calls rows old (puts some one left) left now → Added g some one calls rows old now (Ok (tt {0}))
+      → Leaves g some one calls rows old (puts some one left) left now
+      → Added g some one calls rows old now (Ok (tt {0}))
   all_go {now = now} [] none before =
       before now (Ok (tt {0})) (subst (λ calls. Added g some one calls [] now now (Ok (tt {0})))
       (sym (puts_none some one)) (added_none g some one now))

@@ -53,8 +53,8 @@ const PUT: &str = "INSERT INTO entry (zone, id, date, supby, delby, waived) \
 
 const DELETE: &str = "DELETE FROM entry WHERE zone = ?1 AND id = ?2";
 
-/// Adds the entries to the zone, sixteen rows by one statement and the remaining ones one at a time. Returns an error if
-/// the zone has one of the same id after all, if there is no such zone, if the disk fails or if memory runs out.
+/// Adds the entries to the zone, sixteen rows by one statement and the remaining ones one at a time. Returns an error
+/// if the zone has one of the same id after all, if there is no such zone, if the disk fails or if memory runs out.
 pub fn insert_entries<S: Alter>(
     alloc: Global,
     tx: &mut Transaction<'_, S>,

@@ -76,8 +76,8 @@ returns-in_err-change_element-clause-calls g c =
     (c.in-Some.edit, c.in-Some.before) c.in-Some.is c.next.ensures.steps in
     let pair = one_pair edits stood done edit before turn.0 turn.2 turn.1 turn.3 in
     one_failed g.S.Store (element_calls c.args.name) (zip edits stood) done c.args.tx.now.conn.now
-    c.loop-edit.tx.conn.now c.change_element.new.tx.conn.now c.change_element.result c.from_residual.result (edit, before)
-    pair.0 pair.1 c.loop-edit.invariant.continues.inside c.change_element.ensures.continues.inside
+    c.loop-edit.tx.conn.now c.change_element.new.tx.conn.now c.change_element.result c.from_residual.result
+    (edit, before) pair.0 pair.1 c.loop-edit.invariant.continues.inside c.change_element.ensures.continues.inside
     c.loop-edit.invariant.calls (search rules)
     (follows_err c.change_element.result _ _ c.in_err-change_element.was c.from_residual.ensures.1)
     c.change_element.ensures.calls

@@ -41,8 +41,9 @@ insert g c =
     let q = c.insert.result in
     subst (λ (b : Bool). WritesRow g.S.Store put_element insert_element zelem 3 old new q (zelem_row zone e) b)
     (sym c.if-stood.false)
-    (inserts_row g.S.Store insert_element zelem old new q (zelem_row zone e) _ c.row_of-row.ensures (kept_element zone e)
-    c.insert.ensures.calls (on_ok q _ _ (λ ran. ran store_schema 8 zelem adds_element) c.insert.ensures.ok))
+    (inserts_row g.S.Store insert_element zelem old new q (zelem_row zone e) _ c.row_of-row.ensures
+    (kept_element zone e) c.insert.ensures.calls (on_ok q _ _ (λ ran. ran store_schema 8 zelem adds_element)
+    c.insert.ensures.ok))
 
 pub returns-then-stood-clause-ok : goal.returns-then-stood-clause-ok
 returns-then-stood-clause-ok g c = (put g (goal.at.returns-then-stood-clause-ok g c).After-put).1

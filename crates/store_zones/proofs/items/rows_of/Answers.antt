@@ -8,5 +8,5 @@ pub loop-item-preserved : goal.loop-item-preserved
 loop-item-preserved g c =
     ap (map as_bound) c.in_ok-push.ensures.items
     ∙ one_more (λ x. x.now) (in_zone g.T.Rows.FromRow.row_of c.args.zone.now) c.args.items.now
-    c.loop-item.item-index c.item-item.result c.loop-item-test.true c.item-item.is c.loop-item.rows.items c.in_ok-cells.field-0 c.loop-item.invariant
-    c.in_ok-cells.ensures
+    c.loop-item.item-index c.item-item.result c.loop-item-test.true c.item-item.is c.loop-item.rows.items
+    c.in_ok-cells.field-0 c.loop-item.invariant c.in_ok-cells.ensures
