@@ -57,7 +57,7 @@ elements_are : (edits : List (Edit Element (ElemType × Text))) (was is : Zone) 
     → is.elements ≡ elements_after was.elements edits
 elements_are edits was is h = ap (λ (z : Zone). z.elements) h
 
-pub entry_put : (zone : Zone) (e : Entry) (was is : Zone) → EditsEntry zone (Put e) was is
+entry_put : (zone : Zone) (e : Entry) (was is : Zone) → EditsEntry zone (Put e) was is
     → HasPutEntry (entry_of zone e.id) e was is
 entry_put zone e was is h =
     let entries = entries_are (Put e ∷ []) was is h.is in
@@ -67,6 +67,12 @@ entry_put zone e was is h =
       entries = subst (λ es. IsPermutation es (e ∷ entries_but e.id was.entries)) (sym entries)
           (put_parts nat_list_cmp_total (λ (x : Entry). x.id) bytes_eq texts_ties e was.entries);
     }
+
+-- the same, if the old one was installed by some number
+pub old_entry_put : (zone : Zone) (e : Entry) (stood : Option ℕ) {number : ℕ} → stood ≡ Some number
+    → (was is : Zone) → EditsOldEntry zone (Put e, stood) was is → HasPutEntry (entry_of zone e.id) e was is
+old_entry_put zone e (Some number) there was is h = entry_put zone e was is h
+old_entry_put zone e None there was is h = absurd cc
 
 pub entry_removed : (zone : Zone) (id : Id) (was is : Zone) → EditsEntry zone (Remove id) was is
     → HasRemovedEntry (entry_of zone id) id was is
@@ -79,7 +85,7 @@ entry_removed zone id was is h =
           (left_parts nat_list_cmp_total (λ (x : Entry). x.id) bytes_eq texts_ties id was.entries);
     }
 
-pub element_put : (zone : Zone) (e : Element) (was is : Zone) → EditsElement zone (Put e) was is
+element_put : (zone : Zone) (e : Element) (was is : Zone) → EditsElement zone (Put e) was is
     → HasPutElement (element_of zone e.elem_type e.name) e was is
 element_put zone e was is h =
     let elements = elements_are (Put e ∷ []) was is h.is in
@@ -89,6 +95,13 @@ element_put zone e was is h =
       elements = subst (λ es. IsPermutation es (e ∷ elements_but e.elem_type e.name was.elements)) (sym elements)
           (put_parts element_cmp_total element_key element_eq element_ties e was.elements);
     }
+
+-- the same, if there was an old one
+pub old_element_put : (zone : Zone) (e : Element) (stood : Bool) → stood ≡ true
+    → (was is : Zone) → EditsOldElement zone (Put e, stood) was is
+    → HasPutElement (element_of zone e.elem_type e.name) e was is
+old_element_put zone e true there was is h = element_put zone e was is h
+old_element_put zone e false there was is h = absurd cc
 
 pub element_removed : (zone : Zone) (type : ElemType) (name : Text) (was is : Zone)
     → EditsElement zone (Remove (type, name)) was is → HasRemovedElement type name was is

@@ -1,4 +1,4 @@
-use Rattle.std.proofs.Common.{true, false, refl, sym, subst}
+use Rattle.std.proofs.Common.{false, refl, sym, subst}
 use Rattle.sorted.specs.declared.edits.Edit.TheVariants.{Put, Remove}
 use Rattle.terms.specs.Lookups.{element_of}
 use Rattle.store_rows.specs.Calls.{RunsInside}
@@ -6,7 +6,7 @@ use Rattle.store_rows.proofs.InsideLemmas.{on_ok}
 use Rattle.store_zones.specs.Zones.{HasPutElement, HasRemovedElement}
 use Rattle.store.specs.Calls.{element_calls}
 use Rattle.store.specs.Writes.{EditsOldElement}
-use Rattle.store.proofs.DeltaLemmas.{changes_as, element_put, element_removed, unchanged}
+use Rattle.store.proofs.DeltaLemmas.{changes_as, element_removed, old_element_put, unchanged}
 use Rattle.store.proofs.delta.change_element.Goals as goal
 
 pub returns-then-not-stood-clause-ok : goal.returns-then-not-stood-clause-ok
@@ -17,16 +17,17 @@ returns-then-not-stood-clause-ok g c zone same =
 pub returns-then-not-stood-clause-calls : goal.returns-then-not-stood-clause-calls
 returns-then-not-stood-clause-calls g c = rw (c.in-Put.is, c.if-not-stood.true) (λ clean inside. (refl, inside))
 
-pub returns-in-Put-clause-ok : goal.returns-in-Put-clause-ok
-returns-in-Put-clause-ok g c =
+pub returns-else-not-stood-clause-ok : goal.returns-else-not-stood-clause-ok
+returns-else-not-stood-clause-ok g c =
     let e = c.in-Put.element in
-    rw (c.in-Put.is, c.if-not-stood.false) (on_ok c.put_element.result _ _ (λ stands zone same.
+    rw c.in-Put.is (on_ok c.put_element.result _ _ (λ stands zone same.
     changes_as g.S.Store c.args.name c.args.tx.now.conn.now c.put_element.new.tx.conn.now
-    (HasPutElement (element_of zone e.elem_type e.name) e) (EditsOldElement zone (Put e, true)) (element_put zone e)
-    (stands (element_of zone e.elem_type e.name) same)) c.put_element.ensures.stands)
+    (HasPutElement (element_of zone e.elem_type e.name) e) (EditsOldElement zone (Put e, c.args.stood))
+    (old_element_put zone e c.args.stood c.if-not-stood.false) (stands (element_of zone e.elem_type e.name) same))
+    c.put_element.ensures.stands)
 
-pub returns-in-Put-clause-calls : goal.returns-in-Put-clause-calls
-returns-in-Put-clause-calls g c =
+pub returns-else-not-stood-clause-calls : goal.returns-else-not-stood-clause-calls
+returns-else-not-stood-clause-calls g c =
     rw (c.in-Put.is, c.if-not-stood.false) (rw c.if-not-stood.false at c.put_element.ensures.calls)
 
 pub returns-in-Remove-clause-ok : goal.returns-in-Remove-clause-ok

@@ -1,4 +1,4 @@
-use Rattle.std.proofs.Common.{None, Some, refl, sym, subst, subst₂, arith}
+use Rattle.std.proofs.Common.{sym, subst}
 use Rattle.sorted.specs.declared.edits.Edit.TheVariants.{Put, Remove}
 use Rattle.terms.specs.Lookups.{entry_of}
 use Rattle.store_rows.specs.Calls.{RunsInside}
@@ -6,28 +6,16 @@ use Rattle.store_rows.proofs.InsideLemmas.{on_ok}
 use Rattle.store_zones.specs.Zones.{HasPutEntry, HasRemovedEntry}
 use Rattle.store.specs.Calls.{entry_calls}
 use Rattle.store.specs.Writes.{EditsOldEntry}
-use Rattle.store.proofs.DeltaLemmas.{changes_as, entry_put, entry_removed, unchanged}
+use Rattle.store.proofs.DeltaLemmas.{changes_as, entry_removed, old_entry_put}
 use Rattle.store.proofs.delta.change_entry.Goals as goal
 
-pub returns-in-Put-in-Some-clause-ok : goal.returns-in-Put-in-Some-clause-ok
-returns-in-Put-in-Some-clause-ok g c =
+pub returns-in-Some-clause-ok : goal.returns-in-Some-clause-ok
+returns-in-Some-clause-ok g c =
     let e = c.in-Put.entry in
-    rw (c.in-Put.is, c.in-Some.is) (on_ok c.put_entry.result _ _ (λ stands zone same.
+    rw c.in-Put.is (on_ok c.put_entry.result _ _ (λ stands zone same.
     changes_as g.S.Store c.args.name c.args.tx.now.conn.now c.put_entry.new.tx.conn.now
-    (HasPutEntry (entry_of zone e.id) e) (EditsOldEntry zone (Put e, c.args.stood)) (entry_put zone e)
-    (stands (entry_of zone e.id) same)) c.put_entry.ensures.stands)
-
-pub returns-in-Put-in-Some-clause-calls : goal.returns-in-Put-in-Some-clause-calls
-returns-in-Put-in-Some-clause-calls g c =
-    rw (c.in-Put.is, c.in-Some.is) (rw c.in-Some.is at c.put_entry.ensures.calls)
-
-pub returns-in-Put-in-None-clause-ok : goal.returns-in-Put-in-None-clause-ok
-returns-in-Put-in-None-clause-ok g c zone same =
-    rw (c.in-Put.is, c.in-None.is) (unchanged g.S.Store c.args.name c.args.tx.now.conn.now
-    (EditsOldEntry zone (Put c.in-Put.entry, None)) (λ was is h. h))
-
-pub returns-in-Put-in-None-clause-calls : goal.returns-in-Put-in-None-clause-calls
-returns-in-Put-in-None-clause-calls g c = rw (c.in-Put.is, c.in-None.is) (λ clean inside. (refl, inside))
+    (HasPutEntry (entry_of zone e.id) e) (EditsOldEntry zone (Put e, c.args.stood))
+    (old_entry_put zone e c.args.stood c.in-Some.is) (stands (entry_of zone e.id) same)) c.put_entry.ensures.stands)
 
 pub returns-in-Remove-clause-ok : goal.returns-in-Remove-clause-ok
 returns-in-Remove-clause-ok g c =

@@ -1,4 +1,4 @@
-use Rattle.std.proofs.Common.{◌∙◌, ap, rules, subst}
+use Rattle.std.proofs.Common.{◌∙◌, ap, map, rules, subst}
 use Rattle.std.specs.List.{filter_map, flat_map, zip}
 use Rattle.store_rows.specs.Calls.{RunsInside}
 use Rattle.store_rows.proofs.CallLemmas.{follows_err, runs_err, runs_then}
@@ -19,7 +19,7 @@ returns-clause-ok g c =
     entries_end s c.args.name zone old mid new c.args.edits.now c.args.stood.now known
     c.insert_entries.ensures.continues.inside (c.in_ok-change_entries.ensures.ok zone known)
     (subst (λ es. ChangesZone s mid new c.args.name (HasMoreEntries es))
-    (ap (map (λ e. e.now)) c.as_slice.ensures.items ∙ c.in_ok-news.ensures) later)) c.insert_entries.ensures.stands
+    (ap (map (λ e. e.now)) c.as_slice.ensures.value ∙ c.in_ok-news.ensures) later)) c.insert_entries.ensures.stands
 
 pub returns-clause-calls : goal.returns-clause-calls
 returns-clause-calls g c =
@@ -32,7 +32,7 @@ returns-clause-calls g c =
     c.change_entries.result (tt {0}) c.insert_entries.result c.change_entries.ensures.continues.inside
     c.insert_entries.ensures.continues.inside c.in_ok-change_entries.was c.change_entries.ensures.calls
     (subst (λ es. RunsInside s (insert_entries_calls c.args.name es) mid new c.insert_entries.result)
-    (ap (map (λ e. e.now)) c.as_slice.ensures.items ∙ c.in_ok-news.ensures) c.insert_entries.ensures.calls)
+    (ap (map (λ e. e.now)) c.as_slice.ensures.value ∙ c.in_ok-news.ensures) c.insert_entries.ensures.calls)
 
 pub returns-in_err-change_entries-clause-calls : goal.returns-in_err-change_entries-clause-calls
 returns-in_err-change_entries-clause-calls g c =

@@ -37,8 +37,8 @@ loop-edit-preserved c =
     rw (length_push c.loop-edit.yielded (c.in-Some.edit, c.in-Some.before))
     (ap (map (λ e. e.now)) c.in_ok-push.ensures.items
     ∙ one_more new_element (λ e. e.now) (zip edits stood) done c.loop-edit.news.items c.loop-edit.invariant
-    (edit, before) pair.0 pair.1 c.in-Some-element.element
-    (sym c.new_element.ensures ∙ ap option_copied c.in-Some-element.is))
+    (edit, before) pair.0 pair.1 c.in-Some-new_element.element
+    (sym c.new_element.ensures ∙ ap option_copied c.in-Some-new_element.is))
 
 pub returns : goal.returns
 returns c =

@@ -37,7 +37,8 @@ loop-edit-preserved c =
     rw (length_push c.loop-edit.yielded (c.in-Some.edit, c.in-Some.before))
     (ap (map (λ e. e.now)) c.in_ok-push.ensures.items
     ∙ one_more new_entry (λ e. e.now) (zip edits stood) done c.loop-edit.news.items c.loop-edit.invariant
-    (edit, before) pair.0 pair.1 c.in-Some-entry.entry (sym c.new_entry.ensures ∙ ap option_copied c.in-Some-entry.is))
+    (edit, before) pair.0 pair.1 c.in-Some-new_entry.entry
+    (sym c.new_entry.ensures ∙ ap option_copied c.in-Some-new_entry.is))
 
 pub returns : goal.returns
 returns c =
