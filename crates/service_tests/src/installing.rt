@@ -2,16 +2,17 @@
 
 use crate::made::{global, install, installed, target, zone_name};
 use crate::printed::{
-    compare, put_candidates, put_ids, put_line, put_needs, put_outcome, put_pairs, put_zone,
+    compare, put_candidates, put_failures, put_ids, put_needs, put_outcome, put_pairs, put_zone,
 };
 use cntl::Install;
 use fields::spelling::test_text;
 use judge::install_system;
 use judge_faults::{Tested, test_all};
 use judge_needs::{bypassed_pairs, needs_of, superseded_pairs};
+use judge_system::Decided;
 use report::errsysmods;
 use select::candidates;
-use solve::{Solver, Worklist};
+use solve::{Solver, Worklist, causers};
 use std::alloc::{AllocError, Global};
 use std::test::Fail;
 use sysmods::GlobalZone;
@@ -68,13 +69,19 @@ SUPERSEDES UA00005 UA00001
 BYPASSED UA00006 UA00002
 ";
 
-const SYSTEM: &str = "KEPT HAA1100
+const DECIDED: &str = "KEPT HAA1100
 KEPT UA00001
 KEPT UA00002
-FAILED UA00003
-FAILED UA00004
 KEPT UA00005
+FAILED UA00003
+OPEN REQ UA00009
+CAUSER UA00003
+FAILED UA00004
+OPEN PRE UA00003
+CAUSER UA00003
 FAILED UA00006
+TEST J1
+CAUSER UA00006
 BYPASSED UA00006 UA00002
 ";
 
@@ -142,8 +149,8 @@ fn the_parts_of_an_install_are_told(rt: HostRuntime) -> Result<(), Fail> {
     compare(text.as_slice(), PARTS)
 }
 
-// The numbered system of an install, and who is kept, by ids.
-fn put_system(
+// Which candidates of an install are kept, and why the others fail.
+fn put_decided(
     alloc: Global,
     global: &GlobalZone,
     zone: &Zone,
@@ -153,26 +160,26 @@ fn put_system(
     let candidates = candidates(alloc, global, zone, &install.selection)?;
     let judged = install_system(alloc, global, zone, None, &candidates, &install.bypass)?;
     let kept = Worklist.greatest(alloc, &judged.system)?;
-    for (id, flag) in judged.ids.iter().zip(kept.flags().iter()) {
-        let word: &[u8] = if *flag { b"KEPT" } else { b"FAILED" };
-        put_line(word, id.as_bytes(), text)?;
-    }
+    let causers = causers(alloc, &judged.system, &kept)?;
+    let Decided { kept, failed } = judged.decided(alloc, &kept, causers.as_slice())?;
+    put_ids(b"KEPT", kept.as_slice(), text)?;
+    put_failures(failed.as_slice(), text)?;
     put_pairs(b"BYPASSED", judged.bypassed.as_slice(), text)
 }
 
 #[test]
-fn an_install_is_judged(rt: HostRuntime) -> Result<(), Fail> {
+fn an_install_is_decided(rt: HostRuntime) -> Result<(), Fail> {
     let alloc = rt.alloc();
     let global = global(alloc, CARDS, HOLDS)?;
     let mut text = Vec::new(alloc);
-    put_system(
+    put_decided(
         alloc,
         &global,
         &target(alloc)?,
         &install(alloc, APPLIES)?,
         &mut text,
     )?;
-    compare(text.as_slice(), SYSTEM)
+    compare(text.as_slice(), DECIDED)
 }
 
 const INSTALLED: &str = "APPLY -

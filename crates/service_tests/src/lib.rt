@@ -1,6 +1,6 @@
 //! Direct tests of the calls that decide about service and change zones: their parts, the commands that are made of
-//! them, what `smpe why` tells about ids in a zone, and sessions over a store. Each compares what a call returns, as
-//! text. The crate contains only tests.
+//! them, sessions over a store, and what `smpe verify` tells of it. Each compares what a call returns, as text. The
+//! crate contains only tests.
 #![tactic(auto)]
 
 #[cfg(test)]
@@ -18,4 +18,4 @@ mod restoring;
 #[cfg(test)]
 mod sessions;
 #[cfg(test)]
-mod why;
+mod verified;

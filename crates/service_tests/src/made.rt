@@ -12,12 +12,14 @@ use sysmods_values::Hold;
 use terms::{CommandWord, ZoneKind};
 use zones::Zone;
 
-// A record with this text.
+// A record with this text, in which a tab leads to column 73.
 fn record(text: &str) -> [u8; 80] {
     let mut record = [b' '; 80];
     let mut column: usize = 0;
     for letter in text.as_bytes() {
-        if let Some(place) = record.get_mut(column) {
+        if *letter == b'\t' {
+            column = 72;
+        } else if let Some(place) = record.get_mut(column) {
             *place = *letter;
             column = column.saturating_add(1);
         }

@@ -1,8 +1,8 @@
 //! What calls return, as text.
 
-use fields::spelling::need_text;
+use fields::spelling::{need_text, test_text};
 use fields::{Id, ZoneName};
-use judge_system::RequisiteOf;
+use judge_system::{Failure, RequisiteOf};
 use report::{Header, Out, Outcome, ReportLine, write_report};
 use std::alloc::AllocError;
 use std::test::Fail;
@@ -89,6 +89,26 @@ pub(crate) fn put_needs(needs: &[RequisiteOf], text: &mut Vec<u8>) -> Result<(),
         put_word(need_text(need.kind), text)?;
         put_word(need.id.as_bytes(), text)?;
         end_line(text)?;
+    }
+    Ok(())
+}
+
+// The tests that a candidate fails, what it needs in vain, and who causes it.
+fn put_failure(failure: &Failure, text: &mut Vec<u8>) -> Result<(), AllocError> {
+    for test in failure.tests.as_slice() {
+        put_line(b"TEST", test_text(*test), text)?;
+    }
+    for need in failure.needs.as_slice() {
+        put_three(b"OPEN", need_text(need.kind), need.id.as_bytes(), text)?;
+    }
+    put_ids(b"CAUSER", failure.causers.as_slice(), text)
+}
+
+/// A line for each of these candidates, followed by its failure.
+pub(crate) fn put_failures(failed: &[(Id, Failure)], text: &mut Vec<u8>) -> Result<(), AllocError> {
+    for (id, failure) in failed {
+        put_line(b"FAILED", id.as_bytes(), text)?;
+        put_failure(failure, text)?;
     }
     Ok(())
 }

@@ -43,6 +43,19 @@ UA00009 -        REFUSED Rj2
 RC 08
 ";
 
+// RECEIVE of a hold file, with so many edits.
+fn put_held(
+    alloc: Global,
+    global: &mut GlobalZone,
+    file: &[u8],
+    text: &mut Vec<u8>,
+) -> Result<usize, Fail> {
+    let found = read_hold(alloc, file)?;
+    let Taken { edits, lines } = receive_holds(alloc, global, found)?;
+    put_report(CommandWord::Receive, lines, text)?;
+    Ok(edits.len())
+}
+
 // RECEIVE of both files, with so many edits.
 fn put_received(
     alloc: Global,
@@ -55,9 +68,7 @@ fn put_received(
     let of_sysmods = edits.len();
     put_report(CommandWord::Receive, lines, text)?;
     let file = file_of(alloc, HOLDS)?;
-    let Taken { edits, lines } = receive_holds(alloc, global, read_hold(alloc, &file)?)?;
-    put_report(CommandWord::Receive, lines, text)?;
-    Ok((of_sysmods, edits.len()))
+    Ok((of_sysmods, put_held(alloc, global, &file, text)?))
 }
 
 // REJECT beside a zone in which the function is applied, with so many edits.

@@ -1,16 +1,20 @@
 //! RESTORE: its candidates, the numbered system, and the whole.
 
+ghost use Rattle.std.specs.Prelude.{All, IsTrue};
+ghost use Rattle.terms.specs.Lookups.{is_applied};
+
 use crate::installing::{APPLIES, CARDS, HOLDS};
 use crate::made::{command, distribution, global, install, installed, target, zone_name};
 use crate::printed::{compare, put_candidates, put_line, put_needs, put_report, put_zone};
 use cntl::{Command, RestoreList};
+use fields::IdList;
 use smpe_service::{Restored, restore};
 use std::alloc::{AllocError, Global};
 use std::test::Fail;
 use sysmods::GlobalZone;
 use terms::CommandWord;
-use undo::{restore_candidates, restore_system};
-use zones::Zone;
+use undo::{RestoreScope, applied_ids, needs_in_restore, restore_candidates, restore_system};
+use zones::{Zone, choose};
 
 /// A target zone with its distribution zone, in which the function is accepted.
 #[derive(Drop)]
@@ -37,11 +41,35 @@ fn list(alloc: Global, cards: &str) -> Result<RestoreList, Fail> {
 
 const PARTS: &str = "CANDIDATE UA00002
 LEFT UA00008 NOTAPPLIED
+NEED UA00002 DEP UA00005
 NUMBER UA00002
 NEED UA00002 DEP UA00005
 ";
 
-// The candidates of a RESTORE, and the numbered system, by ids.
+// What these candidates, which are applied, need.
+fn put_needed(
+    alloc: Global,
+    global: &GlobalZone,
+    zone: &Zone,
+    accepted: &Zone,
+    ids: &IdList,
+    text: &mut Vec<u8>,
+) -> Result<(), AllocError>
+    requires { All (λ x. IsTrue (is_applied zone.now x)) ids.now }
+{
+    let none = IdList::new(alloc);
+    let vers = choose(alloc, global, zone, &none)?;
+    let applied = applied_ids(alloc, zone)?;
+    let scope = RestoreScope {
+        vers: &vers,
+        zone,
+        accepted,
+        applied: applied.as_slice(),
+    };
+    put_needs(needs_in_restore(alloc, &scope, ids)?.as_slice(), text)
+}
+
+// The candidates of a RESTORE, what they need, and the numbered system, by ids.
 fn put_parts(
     alloc: Global,
     global: &GlobalZone,
@@ -52,6 +80,7 @@ fn put_parts(
 ) -> Result<(), AllocError> {
     let candidates = restore_candidates(alloc, global, zone, accepted, list)?;
     put_candidates(&candidates, text)?;
+    put_needed(alloc, global, zone, accepted, &candidates.ids, text)?;
     let judged = restore_system(alloc, global, zone, accepted, &candidates)?;
     for id in judged.ids.iter() {
         put_line(b"NUMBER", id.as_bytes(), text)?;

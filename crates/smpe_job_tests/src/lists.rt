@@ -1,12 +1,16 @@
 //! Lists of jobs, in one call and each in a call of its own, and how definitions of zones end.
 
-use fields::{Srel, ZoneName};
-use smpe::{Answer, Job, ZoneFault, list_commands, two_commands};
+use fields::{Srel, YyDdd, ZoneName};
+use report::Out;
+use smpe::{Answer, Job, ZoneFault, list_commands, run_job, two_commands};
 use smpe_play::{
-    FIX, FUNCTION, ListWanted, RECEIVE, card_file, job_over, play_jobs, put_cards, zone_name,
+    FIX, FUNCTION, FUNCTION_RECEIVED, ListWanted, RECEIVE, card_file, compare, in_memory, job_over,
+    opened, play_jobs, put_cards, zone_name,
 };
+use sqlite::Alter;
 use std::alloc::Global;
 use std::test::Fail;
+use store::Store;
 use terms::ZoneKind;
 
 fn zone<'a>(name: ZoneName, kind: ZoneKind, srel: Srel, related: Option<ZoneName>) -> Job<'a> {
@@ -143,6 +147,26 @@ fn the_sixty_fifth_zone_is_refused(rt: HostRuntime) -> Result<(), Fail> {
     let mut answers = [Answer::Defined; 65];
     answers[64] = Answer::Refused(ZoneFault::TooMany);
     run(alloc, jobs.as_slice(), "", &answers)
+}
+
+// The return code of a job over the store, which must print this.
+fn run_alone<S: Alter>(alloc: Global, store: &mut Store<S>, wanted: &str) -> Result<u8, Fail> {
+    let cntl = card_file(alloc, RECEIVE)?;
+    let ptfin = card_file(alloc, FUNCTION)?;
+    let mut report = Vec::new(alloc);
+    let date = YyDdd::new(2024, 138);
+    let mut out = Out::new(&mut report);
+    let code = run_job(alloc, store, date, &cntl, &ptfin, b"", &mut out)?;
+    compare("a job alone", report.as_slice(), wanted)?;
+    Ok(code)
+}
+
+#[test]
+fn a_job_goes_alone(rt: HostRuntime) -> Result<(), Fail> {
+    let alloc = rt.alloc();
+    let mut store = opened(alloc, in_memory(alloc)?, "a job alone")?;
+    assert_eq!(rt; run_alone(alloc, &mut store, FUNCTION_RECEIVED.report)?, 0);
+    Ok(())
 }
 
 #[test]
