@@ -1,9 +1,11 @@
-//! What is left of a zone by a DELETE, what becomes of entries and elements, and a zone that is changed in place.
+//! What is left of a zone by a DELETE, what becomes of entries and elements, a zone that is changed in place, and
+//! whether a zone is closed.
 
 use crate::made::{global, id, install, installed, target, zone_name};
 use crate::printed::{compare, put_ids, put_pairs, put_zone};
 use change::{Installed, Installing, install as put_in, pairs_of, restore};
 use fields::{Id, IdList, YyDdd};
+use smpe_verify::first_breach;
 use std::alloc::{AllocError, Global};
 use std::test::Fail;
 use sysmods::{GlobalZone, Overs, VerChoice};
@@ -116,6 +118,17 @@ fn a_zone_is_changed_in_place(rt: HostRuntime) -> Result<(), Fail> {
         &mut text,
     )?;
     compare(text.as_slice(), CHANGED)
+}
+
+#[test]
+fn zones_are_closed_or_have_a_breach(rt: HostRuntime) -> Result<(), Fail> {
+    let alloc = rt.alloc();
+    let global = global(alloc, CARDS, "")?;
+    let zone = applied(alloc, &global)?;
+    assert!(rt; first_breach(alloc, &global, &zone)?.is_none());
+    let none_received = GlobalZone::new(alloc);
+    assert!(rt; first_breach(alloc, &none_received, &zone)?.is_some());
+    Ok(())
 }
 
 // An install of nothing.
