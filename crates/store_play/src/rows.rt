@@ -1,29 +1,19 @@
-//! A state that uses every column, written row by row, and stores over it in memory and over files.
+//! A state that uses every column, written row by row, and rows as lines.
 
-ghost use Rattle.std.specs.Prelude.{IsTrue, IfOk};
-ghost use Rattle.sqlite_disk.specs.Memory.{memory_is_usable};
-
-use fields::ZoneName;
-use sqlite::{Alter, Connection, Error, FileStore, Files, MemStore, Options};
-use sqlite_disk::Memory;
+use sqlite::{Alter, Connection};
 use sqlite_value::value::ValueRef;
 use std::alloc::Global;
 use std::test::Fail;
-use store::{Change, GlobalEdit, Store};
-use sysmods::GlobalZone;
 use text80::RECORD;
-use zones_maps::{Zone, ZoneDelta, ZoneEdits};
 
 /// The sources of the SYSMODs; each has a row.
-pub(crate) const SOURCES: &[&str] = &[
+pub const SOURCES: &[&str] = &[
     "INSERT INTO source (id, name) VALUES \
         ('HAA1200', 'PUT2401'), ('HAA1200', 'SMCREC01'), ('UAA0001', 'PUT2401')",
 ];
 
 /// The `++VER` by which an entry was installed, which no earlier schema records.
-pub(crate) const CHOSEN: &[&str] = &[
-    "INSERT INTO chosen (zone, id, n) VALUES ('TGT1', 'UAA0001', 2)",
-];
+pub const CHOSEN: &[&str] = &["INSERT INTO chosen (zone, id, n) VALUES ('TGT1', 'UAA0001', 2)"];
 
 /// All other rows, table by table.
 const ROWS: &[&str] = &[
@@ -73,7 +63,7 @@ const ELEMENTS: &str =
     "INSERT INTO zelem SELECT 'TGT1', type, name, id, id, '', distlib, syslib, text FROM elem WHERE id = 'HAA1100'";
 
 /// Two further `++VER`s of LLL0001 for the SREL of its first one, with their `++IF`s.
-pub(crate) const FURTHER: &[&str] = &[
+pub const FURTHER: &[&str] = &[
     "INSERT INTO morever (id, srel, n, fmid, pre, req, sup) VALUES \
         ('LLL0001', 'Z038', 2, 'HAA1200', 'AAA0003', 'UAA0002,UAA0003', 'LLL0002'), \
         ('LLL0001', 'Z038', 3, 'HCC1100', '', '', '')",
@@ -111,7 +101,7 @@ fn record(text: &str) -> [u8; RECORD] {
 }
 
 /// A record for each line of the text, or none for an empty text. A tab leads to column 73.
-pub(crate) fn records(alloc: Global, text: &str) -> Result<Vec<u8>, Fail> {
+pub fn records(alloc: Global, text: &str) -> Result<Vec<u8>, Fail> {
     let mut bytes = Vec::new(alloc);
     if text.is_empty() {
         return Ok(bytes);
@@ -122,32 +112,8 @@ pub(crate) fn records(alloc: Global, text: &str) -> Result<Vec<u8>, Fail> {
     Ok(bytes)
 }
 
-/// The first line in which two texts differ, of each text. After the end of one there is no line.
-pub(crate) fn first_difference<'a>(
-    got: &'a str,
-    wanted: &'a str,
-) -> (Option<&'a str>, Option<&'a str>) {
-    let mut wanted_lines = wanted.split('\n');
-    for line in got.split('\n') {
-        let other = wanted_lines.next();
-        if other != Some(line) {
-            return (Some(line), other);
-        }
-    }
-    (None, wanted_lines.next())
-}
-
-/// A failure with this name and the first lines that differ, if the two texts differ.
-pub(crate) fn compare(name: &str, got: &str, wanted: &str) -> Result<(), Fail> {
-    if got == wanted {
-        return Ok(());
-    }
-    let (got, wanted) = first_difference(got, wanted);
-    Err(Fail::new(format_args!("{name}: got {got:?}, wanted {wanted:?}")))
-}
-
 /// Runs a statement that must change some row.
-pub(crate) fn run<S: Alter>(
+pub fn run<S: Alter>(
     conn: &mut Connection<S>,
     sql: &str,
     values: &[ValueRef<'_>],
@@ -159,11 +125,7 @@ pub(crate) fn run<S: Alter>(
 }
 
 /// Runs the statement so many times: with 1, and each time with twice the number.
-pub(crate) fn doubled<S: Alter>(
-    conn: &mut Connection<S>,
-    sql: &str,
-    times: u32,
-) -> Result<(), Fail> {
+pub fn doubled<S: Alter>(conn: &mut Connection<S>, sql: &str, times: u32) -> Result<(), Fail> {
     let mut number = 1_i64;
     for _ in 0..times {
         run(conn, sql, &[ValueRef::Int(number)])?;
@@ -173,7 +135,7 @@ pub(crate) fn doubled<S: Alter>(
 }
 
 /// Runs the statements, each of which must change some row.
-pub(crate) fn run_all<S: Alter>(conn: &mut Connection<S>, all: &[&str]) -> Result<(), Fail> {
+pub fn run_all<S: Alter>(conn: &mut Connection<S>, all: &[&str]) -> Result<(), Fail> {
     for sql in all {
         run(conn, sql, &[])?;
     }
@@ -181,7 +143,7 @@ pub(crate) fn run_all<S: Alter>(conn: &mut Connection<S>, all: &[&str]) -> Resul
 }
 
 /// Writes all rows except those of sources into empty tables.
-pub(crate) fn fill_first<S: Alter>(alloc: Global, conn: &mut Connection<S>) -> Result<(), Fail> {
+pub fn fill_first<S: Alter>(alloc: Global, conn: &mut Connection<S>) -> Result<(), Fail> {
     run_all(conn, ROWS)?;
     fill_texts(alloc, conn)?;
     run(conn, ELEMENTS, &[])
@@ -196,40 +158,8 @@ fn fill_texts<S: Alter>(alloc: Global, conn: &mut Connection<S>) -> Result<(), F
     Ok(())
 }
 
-/// Commits a change, which must succeed.
-pub(crate) fn commit<S: Alter>(store: &mut Store<S>, change: &Change<'_>) -> Result<(), Fail> {
-    Ok(store.commit(change)?)
-}
-
-/// The zone of this name, as it is loaded.
-pub(crate) fn loaded<S: Alter>(store: &mut Store<S>, name: ZoneName) -> Result<Zone, Fail> {
-    Ok(store.load_zone(name)?.ok_or("no such zone")?)
-}
-
-/// Commits these edits of the zone of this name, which is loaded first.
-pub(crate) fn commit_zone<S: Alter>(
-    alloc: Global,
-    store: &mut Store<S>,
-    name: ZoneName,
-    edits: ZoneEdits,
-) -> Result<(), Fail> {
-    let zone = loaded(store, name)?;
-    let delta = ZoneDelta::of(alloc, edits, &zone)?;
-    commit(store, &Change::Zone(name, delta))
-}
-
-/// Commits edits of the global zone that insert no SYSMOD, so that no statements are needed.
-pub(crate) fn commit_edits<S: Alter>(
-    alloc: Global,
-    store: &mut Store<S>,
-    edits: Vec<GlobalEdit>,
-) -> Result<(), Fail> {
-    let stated = GlobalZone::new(alloc);
-    commit(store, &Change::Global(&stated, edits))
-}
-
-/// Appends the texts that the query finds, each as a line.
-pub(crate) fn put_lines<S: Alter>(
+// Appends the texts that the query finds, each as a line.
+fn put_lines<S: Alter>(
     conn: &mut Connection<S>,
     sql: &str,
     lines: &mut String,
@@ -244,86 +174,40 @@ pub(crate) fn put_lines<S: Alter>(
 }
 
 /// The texts that the query finds, each as a line.
-pub(crate) fn lines<S: Alter>(
-    alloc: Global,
-    conn: &mut Connection<S>,
-    sql: &str,
-) -> Result<String, Fail> {
+pub fn lines<S: Alter>(alloc: Global, conn: &mut Connection<S>, sql: &str) -> Result<String, Fail> {
     let mut lines = String::new(alloc);
     put_lines(conn, sql, &mut lines)?;
     Ok(lines)
 }
 
-/// The store over the connection.
-pub(crate) fn opened<S: Alter + Drop>(
-    alloc: Global,
-    conn: Connection<S>,
-) -> Result<Store<S>, Fail> {
-    if !conn.is_autocommit() {
-        return Err(Fail::from("a transaction is under way"));
+/// A query of all rows of each table.
+const TABLES: &[&str] = &[
+    "SELECT k||'/'||v FROM meta ORDER BY k",
+    "SELECT id||'/'||kind||'/'||sources FROM sysmod ORDER BY id",
+    "SELECT id||'/'||name FROM source ORDER BY id, name",
+    "SELECT id||'/'||srel||'/'||ifnull(fmid, '-')||'/'||pre||'/'||req||'/'||sup||'/'||npre||'/'||del FROM ver \
+        ORDER BY id, srel",
+    "SELECT id||'/'||srel||'/'||n||'/'||fmid||'/'||req FROM ifreq ORDER BY id, srel, n",
+    "SELECT id||'/'||srel||'/'||n||'/'||ifnull(fmid, '-')||'/'||pre||'/'||req||'/'||sup FROM morever ORDER BY id, \
+        srel, n",
+    "SELECT id||'/'||srel||'/'||v||'/'||n||'/'||fmid||'/'||req FROM moreif ORDER BY id, srel, v, n",
+    "SELECT id||'/'||type||'/'||name||'/'||upd||'/'||ifnull(distlib, '-')||'/'||ifnull(syslib, \
+        '-')||'/'||hex(text) FROM elem ORDER BY id, type, name",
+    "SELECT id||'/'||kind||'/'||reason||'/'||fmid||'/'||ifnull(class, '-')||'/'||ifnull(date, \
+        '-')||'/'||ifnull(comment, '-')||'/'||internal FROM hold ORDER BY id, kind, reason",
+    "SELECT name||'/'||kind||'/'||srel||'/'||ifnull(related, '-') FROM zone ORDER BY name",
+    "SELECT zone||'/'||id||'/'||ifnull(date, '-')||'/'||supby||'/'||ifnull(delby, '-')||'/'||waived FROM entry \
+        ORDER BY zone, id",
+    "SELECT zone||'/'||type||'/'||name||'/'||fmid||'/'||rmid||'/'||umid||'/'||distlib||'/'||syslib||'/'||hex(text) \
+        FROM zelem ORDER BY zone, type, name",
+    "SELECT zone||'/'||id||'/'||n FROM chosen ORDER BY zone, id",
+];
+
+/// All rows of all tables.
+pub fn all_lines<S: Alter>(alloc: Global, conn: &mut Connection<S>) -> Result<String, Fail> {
+    let mut all = String::new(alloc);
+    for sql in TABLES {
+        put_lines(conn, sql, &mut all)?;
     }
-    match Store::open(alloc, conn) {
-        Ok(store) => Ok(store),
-        Err((_conn, error)) => Err(Fail::from(error)),
-    }
-}
-
-/// The store over a database without tables, whose tables get these rows.
-pub(crate) fn filled<S: Alter + Drop>(
-    alloc: Global,
-    conn: Connection<S>,
-) -> Result<Connection<S>, Fail> {
-    let mut conn = opened(alloc, conn)?.close();
-    fill_first(alloc, &mut conn)?;
-    run_all(&mut conn, SOURCES)?;
-    Ok(conn)
-}
-
-/// A connection to a new database in memory.
-pub(crate) fn in_memory(alloc: Global) -> Result<Connection<MemStore>, Fail> {
-    Ok(Connection::open_in_memory(alloc)?)
-}
-
-/// The known rows in memory, and these as well.
-pub(crate) fn known_with(alloc: Global, more: &[&str]) -> Result<Connection<MemStore>, Fail> {
-    let mut conn = filled(alloc, in_memory(alloc)?)?;
-    run_all(&mut conn, more)?;
-    Ok(conn)
-}
-
-pub(crate) fn zone_name(text: &[u8]) -> Result<ZoneName, Fail> {
-    Ok(ZoneName::read(text).ok_or("no name of a zone")?)
-}
-
-// A connection to a database in these files.
-fn files(alloc: Global, log: Memory, db: Memory) -> Result<Connection<FileStore<Memory>>, Error>
-    requires { IsTrue (memory_is_usable log) × IsTrue (memory_is_usable db) }
-{
-    match Connection::open_files(alloc, Files { log, db }, Options::new(1)) {
-        Ok(conn) => Ok(conn),
-        Err((error, _)) => Err(error),
-    }
-}
-
-/// A connection to a new database in files.
-pub(crate) fn new_files(alloc: Global) -> Result<Connection<FileStore<Memory>>, Error> {
-    files(alloc, Memory::new(alloc), Memory::new(alloc))
-}
-
-pub(crate) fn close(conn: Connection<FileStore<Memory>>) -> Result<Files<Memory>, Error>
-    ensures { IfOk result (λ files. IsTrue (memory_is_usable files.log) × IsTrue (memory_is_usable files.db)) }
-{
-    match conn.close_files() {
-        Ok(files) => Ok(files),
-        Err(failed) => Err(failed.0),
-    }
-}
-
-/// A connection to the files that this one has written.
-pub(crate) fn again(
-    alloc: Global,
-    conn: Connection<FileStore<Memory>>,
-) -> Result<Connection<FileStore<Memory>>, Error> {
-    let closed = close(conn)?;
-    files(alloc, closed.log, closed.db)
+    Ok(all)
 }

@@ -1,21 +1,20 @@
-//! What `smpe verify` tells: of databases after jobs, and of databases in which a row was changed since.
+//! What `smpe verify` tells: of stores after commands, and of stores in which a row was changed since.
 
-use smpe_play::{JobStep, RECEIVING, compare, in_memory, installed, opened, play};
+use crate::printed::compare;
+use crate::sessions::{define, in_memory, opened, performed};
 use smpe_verify::{Verified, tell, verify};
 use sqlite::{Alter, Connection};
 use std::alloc::Global;
 use std::test::Fail;
 use store::Store;
 
-/// A fix comes in and is applied without its requisite, which it waives.
-const FIXED: JobStep = JobStep {
-    name: "a fix comes in and is applied",
-    cntl: "SET BDY(GLOBAL).\nRECEIVE SYSMODS.\nSET BDY(TGT1).\nAPPLY SELECT(UA00024) BYPASS(REQ).",
-    ptfin: &["++PTF(UA00024).\n++VER(Z038) FMID(HAA1100) REQ(UA00023)."],
-    report: "SET GLOBAL\nRC 00\nRECEIVE GLOBAL\nUA00024 PTF      RECEIVED\nRC 00\nSET TGT1\nRC 00\nAPPLY TGT1\n\
-        UA00024 PTF      APPLIED\nRC 00\n",
-    ..RECEIVING
-};
+/// A function with a macro, and a fix.
+const PTFIN: &str = "++FUNCTION(HAA1100).|++VER(Z038).|++MAC(M1) DISTLIB(AMACLIB) SYSLIB(MACLIB).|\
+    \x20        MACRO\t00000010|         MEND\t00000020|++PTF(UA00024).|++VER(Z038) FMID(HAA1100) REQ(UA00023).";
+
+/// The fix is applied without its requisite, which it waives.
+const COMMANDS: &str = "SET BDY(GLOBAL).|RECEIVE SYSMODS.|SET BDY(TGT1).|APPLY SELECT(HAA1100).|\
+    APPLY SELECT(UA00024) BYPASS(REQ).";
 
 /// Statements, and what is told after each: the rules in the order of the definition.
 const ENTRIES: &[(&str, &str)] = &[
@@ -92,23 +91,29 @@ fn told<S: Alter>(alloc: Global, store: &mut Store<S>) -> Result<Verified, Fail>
 fn check<S: Alter>(
     alloc: Global,
     store: &mut Store<S>,
-    name: &str,
     wanted: &str,
     status: u8,
 ) -> Result<(), Fail> {
     let told = told(alloc, store)?;
-    compare(name, told.text.as_slice(), wanted)?;
+    compare(told.text.as_slice(), wanted)?;
     if told.status == status {
         return Ok(());
     }
-    Err(Fail::new(format_args!("{name}: the status is not {status}")))
+    Err(Fail::new(format_args!("got status {}, wanted {status}", told.status)))
 }
 
-// A database in which the function and the fix are applied.
+// A store over a new database in which the function and the fix are applied.
 fn fixed<S: Alter + Drop>(alloc: Global, conn: Connection<S>) -> Result<Store<S>, Fail> {
-    let mut store = installed(alloc, conn)?;
-    play(alloc, &mut store, &FIXED)?;
+    let mut store = opened(alloc, conn)?;
+    define(&mut store)?;
+    performed(alloc, &mut store, PTFIN, COMMANDS)?;
     Ok(store)
+}
+
+// All zones of it are closed.
+fn check_fixed<S: Alter + Drop>(alloc: Global, conn: Connection<S>) -> Result<(), Fail> {
+    let wanted = "VERIFIED SYSMODS 2 ZONES 2 ENTRIES 2 ELEMENTS 1\n";
+    check(alloc, &mut fixed(alloc, conn)?, wanted, 0)
 }
 
 // After the statement, which must change some row, this is told of it.
@@ -123,7 +128,7 @@ fn check_after<S: Alter + Drop>(
     if conn.execute(sql, &[])? == 0 {
         return Err(Fail::from(sql));
     }
-    check(alloc, &mut opened(alloc, conn, sql)?, sql, wanted, status)
+    check(alloc, &mut opened(alloc, conn)?, wanted, status)
 }
 
 fn check_each(alloc: Global, cases: &[(&str, &str)], status: u8) -> Result<(), Fail> {
@@ -134,10 +139,8 @@ fn check_each(alloc: Global, cases: &[(&str, &str)], status: u8) -> Result<(), F
 }
 
 #[test]
-fn zones_are_closed_after_jobs(rt: HostRuntime) -> Result<(), Fail> {
-    let mut store = fixed(rt.alloc(), in_memory(rt.alloc())?)?;
-    let wanted = "VERIFIED SYSMODS 2 ZONES 2 ENTRIES 2 ELEMENTS 1\n";
-    check(rt.alloc(), &mut store, "after jobs", wanted, 0)
+fn zones_are_closed_after_commands(rt: HostRuntime) -> Result<(), Fail> {
+    check_fixed(rt.alloc(), in_memory(rt.alloc())?)
 }
 
 #[test]
