@@ -16,6 +16,29 @@ pub struct CommandJob {
     pub date: YyDdd,
 }
 
+/// A service set, by the names of its files, and the commands to check it with, unless all of it is installed.
+#[derive(Drop)]
+pub struct ServiceSet {
+    pub ptfin: String,
+    pub hold: Option<String>,
+    pub commands: Option<CommandJob>,
+}
+
+/// The system in which a service set is checked.
+#[derive(Drop)]
+pub enum CheckedSystem {
+    /// An empty one, with zones of this SREL.
+    Empty {
+        srel: Srel,
+    },
+    /// A copy of a database, at one of its zones. Afterwards `why` is asked about these ids.
+    Copied {
+        db: DatabaseFile,
+        zone: ZoneName,
+        ids: Vec<Id>,
+    },
+}
+
 /// What `smpe` is asked to do. The texts are the names of files.
 #[derive(Drop)]
 pub enum Invocation {
@@ -47,12 +70,10 @@ pub enum Invocation {
         zone: ZoneName,
         ids: Vec<Id>,
     },
-    /// Tell what a service set would do in an empty system, without a database.
+    /// Tell what a service set would do in a system, and change no database.
     Check {
-        srel: Srel,
-        ptfin: String,
-        hold: Option<String>,
-        commands: Option<CommandJob>,
+        system: CheckedSystem,
+        set: ServiceSet,
     },
     /// Migrate a database of an earlier schema to the program's own.
     Migrate {
