@@ -61,10 +61,10 @@ run_shape = with_options (codes "run") (database_options (needed (codes "date") 
 abbrev pub list_shape : Shape
 list_shape = with_options (codes "list") (database_options (needed (codes "zone") ∷ []))
 
--- `why --db F [--wait SECONDS] --zone Z --id ID [--id ID]..`
+-- `why --db F [--wait SECONDS] --zone Z --id ID [--id ID].. [--together] [--group] [--bypass LIST]`
 abbrev pub why_shape : Shape
-why_shape = with_options (codes "why")
-    (database_options (needed (codes "zone") ∷ repeated (codes "id") ∷ []))
+why_shape = with_options (codes "why") (database_options (needed (codes "zone") ∷ repeated (codes "id")
+    ∷ flag (codes "together") ∷ flag (codes "group") ∷ option (codes "bypass") ∷ []))
 
 -- `check --ptfin F [--hold F] [--cntl F --date YYYY-MM-DD]` with `--srel S`, or with `--db F [--wait SECONDS] --zone Z
 -- [--why ID]..`

@@ -16,6 +16,7 @@ use Rattle.smpe_invocation.specs.declared.asked.DatabaseFile.{DatabaseFile}
 use Rattle.smpe_invocation.specs.declared.asked.Invocation.{Invocation}
 use Rattle.smpe_invocation.specs.declared.asked.Invocation.TheVariants as asked
 use Rattle.smpe_invocation.specs.declared.asked.ServiceSet.{ServiceSet}
+use Rattle.smpe_invocation.specs.declared.asked.WhyOptions.{WhyOptions}
 
 abbrev pub HasText : Text → List Row → Text → Type 0
 HasText id rows text = first_of id rows ≡ Some text
@@ -72,6 +73,11 @@ abbrev pub AreIds : Option (List Text) → List Text → Type 0
 AreIds None ids = ids ≡ []
 AreIds (Some texts) ids = (ids ≡ texts) × All IsId ids
 
+abbrev pub HasWhyOptions : List Row → WhyOptions → Type 0
+HasWhyOptions rows options = HasFlag (codes "together") rows options.together
+    × HasFlag (codes "group") rows options.group
+    × HasOptional (codes "bypass") rows (option_map string_bytes options.bypass)
+
 -- The commands, if the words have a file of them; then they have a date.
 abbrev pub HasCommands : List Row → Option CommandJob → Type 0
 HasCommands rows None = Lacks (codes "cntl") rows
@@ -86,15 +92,15 @@ HasServiceSet rows set = HasText (codes "ptfin") rows (string_bytes set.ptfin)
 abbrev pub HasSystem : List Row → CheckedSystem → Type 0
 HasSystem rows (Empty srel) = HasSrel rows srel × Lacks (codes "db") rows × Lacks (codes "wait") rows
     × Lacks (codes "zone") rows × Lacks (codes "why") rows
-HasSystem rows (Copied db zone ids) = HasDatabase rows db × HasZoneName (codes "zone") rows zone
-    × AreIds (all_of (codes "why") rows) ids.items × Lacks (codes "srel") rows
+HasSystem rows (Copied copy) = HasDatabase rows copy.db × HasZoneName (codes "zone") rows copy.zone
+    × AreIds (all_of (codes "why") rows) copy.ids.items × Lacks (codes "srel") rows
 
 -- the subcommand that asks for it
 abbrev pub subcommand : Invocation → Text
 subcommand (asked.Zone db name kind srel related) = codes "zone"
 subcommand (asked.Run db date cntl ptfin hold careful) = codes "run"
 subcommand (asked.List db zone) = codes "list"
-subcommand (asked.Why db zone ids) = codes "why"
+subcommand (asked.Why db zone ids options) = codes "why"
 subcommand (asked.Check system set) = codes "check"
 subcommand (asked.Migrate db) = codes "migrate"
 subcommand (asked.Verify db) = codes "verify"
@@ -108,8 +114,8 @@ HasOptions rows (asked.Run db date cntl ptfin hold careful) = HasDatabase rows d
     × HasOptional (codes "ptfin") rows (option_map string_bytes ptfin)
     × HasOptional (codes "hold") rows (option_map string_bytes hold) × HasFlag (codes "careful") rows careful
 HasOptions rows (asked.List db zone) = HasDatabase rows db × HasZoneName (codes "zone") rows zone
-HasOptions rows (asked.Why db zone ids) =
-    HasDatabase rows db × HasZoneName (codes "zone") rows zone × HasIds rows ids.items
+HasOptions rows (asked.Why db zone ids options) = HasDatabase rows db × HasZoneName (codes "zone") rows zone
+    × HasIds rows ids.items × HasWhyOptions rows options
 HasOptions rows (asked.Check system set) = HasSystem rows system × HasServiceSet rows set
 HasOptions rows (asked.Migrate db) = HasDatabase rows db
 HasOptions rows (asked.Verify db) = HasDatabase rows db

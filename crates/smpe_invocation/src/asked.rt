@@ -24,19 +24,29 @@ pub struct ServiceSet {
     pub commands: Option<CommandJob>,
 }
 
+/// A copy of a database, the zone into which a service set is tried, and the ids about which `why` is asked afterwards.
+#[derive(Drop)]
+pub struct SystemCopy {
+    pub db: DatabaseFile,
+    pub zone: ZoneName,
+    pub ids: Vec<Id>,
+}
+
 /// The system in which a service set is checked.
 #[derive(Drop)]
 pub enum CheckedSystem {
     /// An empty one, with zones of this SREL.
-    Empty {
-        srel: Srel,
-    },
-    /// A copy of a database, at one of its zones. Afterwards `why` is asked about these ids.
-    Copied {
-        db: DatabaseFile,
-        zone: ZoneName,
-        ids: Vec<Id>,
-    },
+    Empty(Srel),
+    Copied(SystemCopy),
+}
+
+/// How `why` judges the ids: all as the candidates of one command, with those that GROUPEXTEND brings in, and with the
+/// members of this list of BYPASS.
+#[derive(Drop)]
+pub struct WhyOptions {
+    pub together: bool,
+    pub group: bool,
+    pub bypass: Option<String>,
 }
 
 /// What `smpe` is asked to do. The texts are the names of files.
@@ -64,11 +74,12 @@ pub enum Invocation {
         db: DatabaseFile,
         zone: ZoneName,
     },
-    /// Tell the facts about ids in a zone.
+    /// Tell the facts about ids in a zone, and what an install would make of them.
     Why {
         db: DatabaseFile,
         zone: ZoneName,
         ids: Vec<Id>,
+        options: WhyOptions,
     },
     /// Tell what a service set would do in a system, and change no database.
     Check {

@@ -7,7 +7,7 @@ ghost use Rattle.smpe_invocation.specs.declared.asked.CheckedSystem.{CheckedSyst
 ghost use Rattle.smpe_invocation.specs.declared.asked.CommandJob.{CommandJob};
 ghost use Rattle.smpe_invocation.specs.declared.asked.ServiceSet.{ServiceSet};
 
-use crate::asked::{CheckedSystem, CommandJob, ServiceSet};
+use crate::asked::{CheckedSystem, CommandJob, ServiceSet, SystemCopy};
 use crate::fault::ArgFault;
 use crate::option_values::{
     database, date, lacks, optional_ids, optional_text, srel, text, zone_name,
@@ -35,7 +35,7 @@ fn empty_system(found: &ArgMatches<'_>) -> Result<CheckedSystem, ArgFault>
 {
     if lacks(found, "wait") && lacks(found, "zone") && lacks(found, "why") {
         let srel = srel(found)?;
-        Ok(CheckedSystem::Empty { srel })
+        Ok(CheckedSystem::Empty(srel))
     } else {
         Err(ArgFault::BadOperand)
     }
@@ -53,7 +53,7 @@ fn copied_system(alloc: Global, found: &ArgMatches<'_>) -> Result<CheckedSystem,
     let zone = zone_name(found, "zone")?;
     let ids = optional_ids(alloc, found, "why")?;
     let db = database(alloc, found)?;
-    Ok(CheckedSystem::Copied { db, zone, ids })
+    Ok(CheckedSystem::Copied(SystemCopy { db, zone, ids }))
 }
 
 // The commands, if the words have a file of them; only these need a date.

@@ -112,10 +112,25 @@ fn why_command<'a>(alloc: Global) -> Result<Command<'a>, AllocError>
         alloc,
         "why",
         "Tells what is so of ids in a zone, and changes nothing",
-        "Example: smpe why --db smpe.db --zone TGT1 --id UA00001 --id UA00002",
+        "Example: smpe why --db smpe.db --zone TGT1 --id UA00001 --id UA00002 --together",
     )?
     .arg(required(alloc, "zone", "The target or distribution zone"))?
-    .arg(repeated(alloc, "id", "The id of a SYSMOD, once or more often"))
+    .arg(repeated(alloc, "id", "The id of a SYSMOD, once or more often"))?
+    .arg(flag(
+        alloc,
+        "together",
+        "Judges the ids as the candidates of one command, and not each by itself",
+    ))?
+    .arg(flag(
+        alloc,
+        "group",
+        "Judges them with the requisites that GROUPEXTEND brings in",
+    ))?
+    .arg(optional(
+        alloc,
+        "bypass",
+        "The members of BYPASS, as HOLDSYSTEM(ACTION),PRE",
+    ))
 }
 
 // An empty system has an SREL, and a database a zone; `checked` finds out which of them the words mean.
@@ -143,14 +158,14 @@ fn check_command<'a>(alloc: Global) -> Result<Command<'a>, AllocError>
     .arg(several(
         alloc,
         "why",
-        "An id to ask about after RECEIVE, as why does, once or more often",
+        "An id to ask about afterwards, as why does, once or more often",
     ))?
     .arg(required(alloc, "ptfin", "The file of SYSMODs that are received"))?
     .arg(optional(alloc, "hold", "The file of holds that are received"))?
     .arg(optional(
         alloc,
         "cntl",
-        "The file of commands, in place of an APPLY or ACCEPT CHECK of all",
+        "The file of commands, in place of an APPLY CHECK of all",
     ))?
     .arg(optional(alloc, "date", "The job's date, as YYYY-MM-DD, for --cntl"))
 }

@@ -12,7 +12,9 @@ mod fault;
 mod invocation_reading;
 mod option_values;
 
-pub use asked::{CheckedSystem, CommandJob, DatabaseFile, Invocation, ServiceSet};
+pub use asked::{
+    CheckedSystem, CommandJob, DatabaseFile, Invocation, ServiceSet, SystemCopy, WhyOptions,
+};
 pub use date::read_date;
 pub use fault::ArgFault;
 pub use invocation_reading::invocation;
