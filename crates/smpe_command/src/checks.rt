@@ -7,7 +7,8 @@ use crate::job_files::{JobFiles, read_files};
 use crate::jobs::job_told;
 use crate::service_set::{greatest_status, tried};
 use report::Sink;
-use smpe::{CheckedSystem, CommandJob, Fault, JobError, ServiceSet};
+use smpe::{CommandJob, Fault, JobError};
+use smpe_invocation::{CheckedSystem, ServiceSet};
 use std::alloc::Global;
 
 /// Checks the set. Its files are read before anything is made or copied.
@@ -18,7 +19,7 @@ pub(crate) fn check<'a, H: Host, O: Sink>(
     set: &'a ServiceSet,
     out: &mut O,
 ) -> Result<u8, Fault<'a>>
-    ensures { ServesCheck H.Host H.Memory.Store O.Sink host.old out.old system.now set.entry.now result host.new
+    ensures { ServesCheck H.Host H.Copied.Store O.Sink host.old out.old system.now set.entry.now result host.new
         out.new }
 {
     let cntl = set.commands.as_ref().map(|commands| commands.cntl.as_str());
@@ -35,7 +36,7 @@ fn checked<H: Host, O: Sink>(
     files: &JobFiles,
     out: &mut O,
 ) -> Result<u8, JobError>
-    ensures { ChecksIn H.Host H.Memory.Store O.Sink system.now host.old out.old commands.now files.now.cntl.items
+    ensures { ChecksIn H.Host H.Copied.Store O.Sink system.now host.old out.old commands.now files.now.cntl.items
         (record { ptfin = files.now.ptfin.items; holds = files.now.hold.items }) result host.new out.new }
 {
     match system {

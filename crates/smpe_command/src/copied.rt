@@ -16,7 +16,8 @@ use crate::questions::told;
 use crate::service_set::greatest_status;
 use fields::{Bypass, Id, YyDdd, ZoneName};
 use report::Sink;
-use smpe::{CommandJob, DatabaseFile, Job, JobError, SystemCopy, run_jobs, two_commands};
+use smpe::{CommandJob, DatabaseFile, Job, JobError, run_jobs, two_commands};
+use smpe_invocation::SystemCopy;
 use smpe_why::{Question, find};
 use sqlite::{Alter, Connection};
 use std::alloc::{AllocError, Global};
@@ -32,7 +33,7 @@ pub(crate) fn tried_in_copy<H: Host, O: Sink>(
     files: &JobFiles,
     out: &mut O,
 ) -> Result<u8, JobError>
-    ensures { TriesCopy H.Host H.Memory.Store O.Sink host.old copy.now out.old commands.now files.now.cntl.items (record {
+    ensures { TriesCopy H.Host H.Copied.Store O.Sink host.old copy.now out.old commands.now files.now.cntl.items (record {
       ptfin = files.now.ptfin.items;
       holds = files.now.hold.items;
     }) result host.new out.new }
@@ -89,7 +90,7 @@ fn tried_with<'a, H: Host, O: Sink>(
     out: &mut O,
 ) -> Result<u8, JobError>
     requires { receive.now ≡ receive_records }
-    ensures { TriesCopied H.Host H.Memory.Store O.Sink host.old copy.now out.old (copy_jobs date cntl.now
+    ensures { TriesCopied H.Host H.Copied.Store O.Sink host.old copy.now out.old (copy_jobs date cntl.now
         (record { ptfin = files.now.ptfin.items; holds = files.now.hold.items })) result host.new out.new }
 {
     let ptfin = files.ptfin.as_slice();
@@ -112,7 +113,7 @@ fn tried_with<'a, H: Host, O: Sink>(
     tried_over(alloc, conn, &jobs, copy.zone, copy.ids.as_slice(), out)
 }
 
-fn copied<H: Host>(host: &mut H, db: &DatabaseFile) -> Result<Connection<H::Memory>, StoreError>
+fn copied<H: Host>(host: &mut H, db: &DatabaseFile) -> Result<Connection<H::Copied>, StoreError>
     ensures ok { IfOk result (λ conn. H.copies host.old (string_bytes db.now.name) conn host.new) }
     ensures err { IfErr result (λ why. (error : Error) × H.refuses host.old (string_bytes db.now.name) error host.new
         × (why ≡ told error)) }

@@ -31,7 +31,7 @@ pub(crate) fn served<'a, H: Host, O: Sink>(
     asked: &'a Invocation,
     out: &mut O,
 ) -> Result<u8, Fault<'a>>
-    ensures { Serves H.Host H.Disk.Store H.Memory.Store O.Sink host.old asked.entry.now out.old result host.new
+    ensures { Serves H.Host H.Disk.Store H.Copied.Store O.Sink host.old asked.entry.now out.old result host.new
         out.new }
 {
     match asked {

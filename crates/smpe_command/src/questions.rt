@@ -9,7 +9,8 @@ use crate::host::Host;
 use crate::jobs::job_told;
 use fields::{Bypass, Id, ZoneName};
 use report::{Sink, write_all};
-use smpe::{ArgFault, DatabaseFile, Fault, JobError, WhyOptions};
+use smpe::{ArgFault, DatabaseFile, Fault, JobError};
+use smpe_invocation::WhyOptions;
 use smpe_why::{LoadedZones, Question, bypass_of, tell};
 use std::alloc::Global;
 
@@ -40,7 +41,7 @@ pub(crate) fn why<'a, H: Host, O: Sink>(
 
 // The BYPASS of the words, or `None` if ACCEPT does not take its list.
 fn given(alloc: Global, options: &WhyOptions) -> Result<Option<Bypass>, JobError>
-    ensures { IfOk result (λ bypass. IsGiven options.now bypass.now) }
+    ensures { IfOk result (IsGiven options.now) }
 {
     match &options.bypass {
         Some(list) => Ok(bypass_of(alloc, list.as_bytes())?),
