@@ -1,36 +1,21 @@
 -- All facts of an id, and of ids one after the other.
-use Rattle.std.proofs.Common.{◌≡◌, ◌∙◌, List, [], ◌∷◌, ◌++◌, None, map, refl, sym, ap}
+use Rattle.std.proofs.Common.{◌≡◌, ◌∙◌, List, [], ◌∷◌, ◌++◌, map, refl, sym, ap}
 use Rattle.std.proofs.Common.{append_assoc, append-nil}
 use Rattle.std.specs.List.{flat_map}
 use Rattle.std.proofs.lemmas.List.{map-append}
 use Rattle.std.proofs.lemmas.List.Concat.{flat_map-append}
 use Rattle.terms.proofs.BesideLists.{beside_more}
 use Rattle.terms.specs.Beside.{Beside}
-use Rattle.terms.specs.Types.{Id, Global, Zone, Bypass}
-use Rattle.terms.specs.Choice.{Choice, counting}
+use Rattle.terms.specs.Types.{Id}
 use Rattle.terms.specs.Lookups.{changes_of}
-use Rattle.terms.specs.CommandForms.{no_bypass}
 use Rattle.terms.specs.Tests.{Setting}
-use Rattle.report_why.specs.Facts.{Fact, alone, requisites as requisites_in, holds_on, standing_facts, ver_facts}
+use Rattle.report_why.specs.Facts.{Fact, requisites as requisites_in, holds_on, standing_facts, ver_facts}
 use Rattle.report_why.specs.Facts.{delete_facts, npre_facts}
 use Rattle.report_why.specs.Facts.{IsRequisiteFact, IsHoldFact, IsElementFact, AreFacts, AreOrphans, NeededFact}
 use Rattle.report_why.specs.declared.fact as code
 use Rattle.report_why.specs.Views.{fact_view}
 use Rattle.report_why.specs.Needed.{AreNeeded}
 use Rattle.report_why.proofs.Besides.{beside_nil, beside_map}
-
--- the setting of these values
-abbrev pub a_setting : Global → Choice → Zone → List Id → Bypass → Setting
-a_setting g c zone ids bypass =
-    record { global = g; choice = c; zone = zone; related = None; cands = ids; bypass = bypass }
-
-pub alone_is : (g h : Global) (c : Choice) (zone : Zone) (x : Id) (ids : List Id) (b : Bypass) → h ≡ g
-    → c ≡ counting g zone (x ∷ []) → ids ≡ x ∷ [] → b ≡ no_bypass → a_setting h c zone ids b ≡ alone g zone x
-alone_is g h c zone x ids b eg ec ei eb =
-    ap (λ v. a_setting v c zone ids b) eg
-    ∙ ap (λ v. a_setting g v zone ids b) ec
-    ∙ ap (λ v. a_setting g (counting g zone (x ∷ [])) zone v b) ei
-    ∙ ap (λ v. a_setting g (counting g zone (x ∷ [])) zone (x ∷ []) v) eb
 
 -- lists one behind the other, seen through a function
 module _ {X Y : Type 0} (f : X → Y) where
@@ -63,25 +48,25 @@ pub record AreAsked (s : Setting) (x : Id) (requisites holds elements deletes fo
   pub forbids_are : map fact_view forbids ≡ npre_facts s x
 
 -- the facts of an id, one part behind the other
-pub are_facts : (g : Global) (zone : Zone) (x : Id) (all s v r h e d p n : List code.Fact.Fact)
+pub are_facts : (t : Setting) (x : Id) (all s v r h e d p n : List code.Fact.Fact)
     → all ≡ ((((((s ++ v) ++ r) ++ h) ++ e) ++ d) ++ p) ++ n
-    → map fact_view s ≡ standing_facts g zone x → map fact_view v ≡ ver_facts g zone x
-    → AreAsked (alone g zone x) x r h e d p → AreNeeded g zone x (map fact_view n)
-    → AreFacts g zone x (map fact_view all)
-are_facts g zone x all s v r h e d p n is es ev asked needed = record {
+    → map fact_view s ≡ standing_facts t.global t.zone x → map fact_view v ≡ ver_facts t x
+    → AreAsked t x r h e d p → AreNeeded t.global t.zone x (map fact_view n)
+    → AreFacts t x (map fact_view all)
+are_facts t x all s v r h e d p n is es ev asked needed = record {
   of_requisites = map fact_view r;
   orphans = asked.of_requisites.0;
   orphans_are = asked.of_requisites.1;
-  requisites_are = beside_map (IsRequisiteFact (alone g zone x) x) fact_view
-      (requisites_in (alone g zone x) x asked.of_requisites.0) r asked.of_requisites.2;
+  requisites_are = beside_map (IsRequisiteFact t x) fact_view
+      (requisites_in t x asked.of_requisites.0) r asked.of_requisites.2;
   of_holds = map fact_view h;
-  holds_are = beside_map (IsHoldFact (alone g zone x) x) fact_view (holds_on g x) h asked.of_holds;
+  holds_are = beside_map (IsHoldFact t x) fact_view (holds_on t.global x) h asked.of_holds;
   of_elements = map fact_view e;
-  elements_are = beside_map (IsElementFact (alone g zone x) x) fact_view (changes_of g x) e asked.of_elements;
+  elements_are = beside_map (IsElementFact t x) fact_view (changes_of t.global x) e asked.of_elements;
   needed_by = needed.ids;
   needed_rising = needed.rising;
   needed = needed.needed;
-  facts_are = seen_parts fact_view all s v r h e d p n (standing_facts g zone x) (ver_facts g zone x)
-      (delete_facts (alone g zone x) x) (npre_facts (alone g zone x) x) (map NeededFact needed.ids) is es ev
+  facts_are = seen_parts fact_view all s v r h e d p n (standing_facts t.global t.zone x) (ver_facts t x)
+      (delete_facts t x) (npre_facts t x) (map NeededFact needed.ids) is es ev
       asked.deletes_are asked.forbids_are needed.facts_are;
 }

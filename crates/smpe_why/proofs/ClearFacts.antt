@@ -44,7 +44,7 @@ use Rattle.report_why.specs.Facts.{delete_facts, npre_facts, forbids}
 use Rattle.terms.proofs.Applied.{in_applied_ids}
 use Rattle.terms.proofs.ChangedElements.{change_there, change_found}
 use Rattle.terms.proofs.Ids.{is_in_from_Contains, Contains_from_is_in}
-use Rattle.report_why.specs.Verdict.{is_over}
+use Rattle.report_verdict.specs.Verdict.{is_over}
 use Rattle.smpe_why.specs.Clear.{AreClear, is_clear, is_fitting, is_free, is_received_alone, is_resolved}
 use Rattle.smpe_why.specs.Clear.{is_supplied}
 
@@ -103,7 +103,7 @@ fitting_vers fit c n (v ∷ vs) = by (fit v) (fitting_vers fit c (n + 1) vs)
     by true e = ap suc e
     by false e = e
 
-module _ (g : Global) (zone : Zone) (x : Id) (facts : List Fact) (are : AreFacts g zone x facts)
+module _ (g : Global) (zone : Zone) (x : Id) (facts : List Fact) (are : AreFacts (alone g zone x) x facts)
     (clear : AreClear facts) where
   abbrev s : Setting
   s = alone g zone x
@@ -114,7 +114,7 @@ module _ (g : Global) (zone : Zone) (x : Id) (facts : List Fact) (are : AreFacts
   -- ---- the parts, each with those before it
 
   abbrev to_vers : List Fact
-  to_vers = standing_facts g zone x ++ ver_facts g zone x
+  to_vers = standing_facts g zone x ++ ver_facts s x
 
   abbrev to_requisites : List Fact
   to_requisites = to_vers ++ are.of_requisites
@@ -162,7 +162,7 @@ module _ (g : Global) (zone : Zone) (x : Id) (facts : List Fact) (are : AreFacts
   requisites_clear = All_back Clear to_vers are.of_requisites requisites_within
 
   standing_clear : All Clear (standing_facts g zone x)
-  standing_clear = All_front Clear (standing_facts g zone x) (ver_facts g zone x)
+  standing_clear = All_front Clear (standing_facts g zone x) (ver_facts s x)
       (All_front Clear to_vers are.of_requisites requisites_within)
 
   -- ---- where it stands
@@ -199,7 +199,7 @@ module _ (g : Global) (zone : Zone) (x : Id) (facts : List Fact) (are : AreFacts
       (all_mapped Other (λ y. NpreFact y (is_applied (view_of s x) y)) (λ z. refl) (npre_of s.choice x))
       (all_mapped Other ForbiddenFact (λ z. refl) _)
 
-  all_fitting : filter is_fitting facts ≡ filter is_fitting (ver_facts g zone x)
+  all_fitting : filter is_fitting facts ≡ filter is_fitting (ver_facts s x)
   all_fitting = ap (filter is_fitting) are.facts_are
       ∙ none_fits to_npre (map NeededFact are.needed_by) (all_mapped Other NeededFact (λ z. refl) are.needed_by)
       ∙ none_fits to_deletes (npre_facts s x) npre_other
@@ -208,8 +208,8 @@ module _ (g : Global) (zone : Zone) (x : Id) (facts : List Fact) (are : AreFacts
       ∙ none_fits to_requisites are.of_holds (beside_all _ Other _ _ are.holds_are (λ n h f is. ap is_fitting is.1))
       ∙ none_fits to_vers are.of_requisites (beside_all _ Other _ _ are.requisites_are
       (λ n r f is. ap is_fitting is.1))
-      ∙ filter-append is_fitting (standing_facts g zone x) (ver_facts g zone x)
-      ∙ ap (λ l. l ++ filter is_fitting (ver_facts g zone x))
+      ∙ filter-append is_fitting (standing_facts g zone x) (ver_facts s x)
+      ∙ ap (λ l. l ++ filter is_fitting (ver_facts s x))
       (filter_none is_fitting (standing_facts g zone x) standing_other)
 
   pub one_fits : length (filter (fits zone (is_in (x ∷ []))) (vers_of g zone.srel x)) ≡ 1

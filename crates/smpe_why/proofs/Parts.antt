@@ -1,14 +1,19 @@
 -- What is told of ids, part by part.
 use Rattle.std.proofs.Common.{◌≡◌, ◌∙◌, ◌+◌, ℕ, zero, suc, List, [], ◌∷◌, ◌++◌, Some, map, refl, sym, ap, arith}
-use Rattle.std.proofs.Common.{◌<◌, slice_get, get_or, take, length, append-nil, subst}
-use Rattle.std.specs.Prelude.{max}
+use Rattle.std.proofs.Common.{◌<◌, slice_get, get_or, take, length, append-nil, subst, subst₂, Option, None}
+use Rattle.std.proofs.Common.{Bool, true, false}
+use Rattle.std.specs.Prelude.{max, if◌then◌else◌}
 use Rattle.std.specs.List.{flat_map}
 use Rattle.std.proofs.lemmas.List.{length-map}
 use Rattle.std.proofs.lemmas.List.Concat.{flat_map-append}
 use Rattle.terms.specs.Beside.{Beside}
 use Rattle.terms.proofs.BesideLists.{beside_next}
-use Rattle.terms.specs.Types.{Text}
-use Rattle.smpe_why.specs.Telling.{greatest}
+use Rattle.terms.specs.Types.{Text, Id, Global, Zone, Bypass}
+use Rattle.terms.specs.Choice.{Choice, counting}
+use Rattle.terms.specs.Tests.{Setting}
+use Rattle.report_why.specs.Facts.{among, with_id}
+use Rattle.smpe_why.specs.declared.told.Told.{Told}
+use Rattle.smpe_why.specs.Telling.{greatest, Asked, AreToldBy, IsTold}
 
 -- one part more
 pub greatest_more : (parts : List (Text × ℕ)) (p : Text × ℕ) → greatest (parts ++ p ∷ []) ≡ max (greatest parts) p.1
@@ -60,3 +65,53 @@ told_more Told xs i x old new text was is code below at so one made greater = re
       ∙ sym (flat_map-append (λ p. p.0) so.parts ((text, code) ∷ []));
   code_is = greater ∙ ap (λ n. max n code) so.code_is ∙ sym (greatest_more so.parts (text, code));
 }
+
+-- the setting of these values
+abbrev a_setting : Global → Choice → Zone → List Id → Bypass → Setting
+a_setting g c zone ids bypass =
+    record { global = g; choice = c; zone = zone; related = None; cands = ids; bypass = bypass }
+
+pub setting_is : (g : Global) (zone : Zone) (cands : List Id) (bypass : Bypass) (x : Id) (h : Global) (c : Choice)
+    (ids : List Id) → h ≡ g → c ≡ counting g zone ids → ids ≡ with_id cands x
+    → a_setting h c zone ids bypass ≡ among g zone cands bypass x
+setting_is g zone cands bypass x h c ids eg ec ei =
+    ap (λ v. a_setting v c zone ids bypass) eg
+    ∙ ap (λ v. a_setting g v zone ids bypass) ec
+    ∙ ap (λ v. a_setting g (counting g zone v) zone v bypass) ei
+
+-- ---- what is told as a whole
+
+module _ (g : Global) (zone : Zone) (related : Option Zone) (a : Asked) where
+  abbrev By : List Id → Text → ℕ → Type 0
+  By ids text code = AreToldBy g zone related a ids text code
+
+  -- all by one command
+  pub told_once : (told : Told) → a.together ≡ true → By a.ids told.text.items told.status
+      → IsTold g (Some zone) related a told
+  told_once told together is = (
+    (told.text.items, told.status) ∷ [],
+    subst (λ b. Beside (λ n ids p. By ids p.0 p.1) (if b then a.ids ∷ [] else map (λ x. x ∷ []) a.ids)
+        ((told.text.items, told.status) ∷ [])) (sym together) (record { lengths = refl; each = one }),
+    sym (append-nil told.text.items),
+    omega arith,
+  )
+    where
+      one : (n : ℕ) (ids : List Id) (p : Text × ℕ) → slice_get (a.ids ∷ []) n ≡ Some ids
+          → slice_get ((told.text.items, told.status) ∷ []) n ≡ Some p → By ids p.0 p.1
+      one zero ids p e f =
+          let same : a.ids ≡ ids = cc e in
+          let part : (told.text.items, told.status) ≡ p = cc f in
+          subst₂ (λ i q. By i q.0 q.1) same part is
+      one (suc n) ids p e f = absurd (cc e)
+
+  -- each by its own
+  pub told_each : (told : Told) → a.together ≡ false → (parts : List (Text × ℕ))
+      → Beside (λ n x p. By (x ∷ []) p.0 p.1) a.ids parts → told.text.items ≡ flat_map (λ p. p.0) parts
+      → told.status ≡ greatest parts → IsTold g (Some zone) related a told
+  told_each told apart parts each text status = (
+    parts,
+    subst (λ b. Beside (λ n ids p. By ids p.0 p.1) (if b then a.ids ∷ [] else map (λ x. x ∷ []) a.ids) parts) (sym apart)
+        (beside_seen (λ ids p. By ids p.0 p.1) (λ x. x ∷ []) a.ids parts each),
+    text,
+    status,
+  )

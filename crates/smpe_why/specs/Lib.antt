@@ -1,3 +1,4 @@
 pub mod Clear
+pub mod BypassText
 pub mod Telling
 pub mod Verdicts

@@ -1,35 +1,41 @@
-use Rattle.std.proofs.Common.{◌≡◌, ◌∙◌, ◌++◌, ap, ap₂, map, refl, append_assoc}
-use Rattle.std.specs.Prelude.{max}
+use Rattle.std.proofs.Common.{◌≡◌, ◌∙◌, ◌+◌, ◌++◌, ap, map, subst, sym}
+use Rattle.std.specs.Prelude.{ℕ, max}
 use Rattle.std.proofs.lemmas.Result.{IfOk-weaker}
+use Rattle.terms.specs.Types.{Text}
+use Rattle.terms.specs.Choice.{place, counting}
+use Rattle.terms.specs.Tests.{Setting}
+use Rattle.sysmods.specs.Choices.{choice}
 use Rattle.report.specs.Views.{line_view}
-use Rattle.report_why.specs.Views.{fact_view, facts_view}
-use Rattle.report_why.specs.FactText.{facts_text, facts_code}
-use Rattle.report_why.specs.Verdict.{verdict_text}
+use Rattle.report_why.specs.Facts.{among, with_id}
+use Rattle.smpe_why.specs.Telling.{IsToldOf}
+use Rattle.smpe_why.proofs.Parts.{setting_is}
 use Rattle.smpe_why.proofs.told.tell_of.Goals as goal
+
+pub tell_in-requires-clause-global : goal.tell_in-requires-clause-global
+tell_in-requires-clause-global c = c.in_ok-vers.ensures.global
+
+pub tell_in-requires-clause-srel : goal.tell_in-requires-clause-srel
+tell_in-requires-clause-srel c = c.in_ok-vers.ensures.srel
+
+pub tell_in-requires-clause-number : goal.tell_in-requires-clause-number
+tell_in-requires-clause-number c =
+    ap (λ number. number c.args.id) c.in_ok-vers.ensures.numbers
+    ∙ ap (λ g. place g c.args.lookups.now.zone.now c.insert.new.self c.args.id + 1) (sym c.in_ok-vers.ensures.global)
 
 pub returns : goal.returns
 returns c =
-    let of = c.args.of.now in
-    let old = c.args.told.now.text.items in
-    let facts = facts_view of.facts.items in
-    let lines = map line_view c.in_ok-lines.lines.items in
-    let same : map fact_view c.as_slice-facts.result.now ≡ facts = ap (map fact_view) c.as_slice-facts.ensures.value in
-    let same_lines : map line_view c.as_slice.result.now ≡ lines = ap (map line_view) c.as_slice.ensures.value in
-    IfOk-weaker c.put_verdict.result _ _ (λ done put. (
-      facts_text facts ++ verdict_text of.id facts lines,
-      facts_code facts,
-      record {
-        facts = facts;
-        are = c.requires;
-        lines = lines;
-        prints = c.in_ok-lines.ensures;
-        text_is = refl;
-        code_is = refl;
-      },
-      put
-          ∙ ap (λ t. t ++ verdict_text of.id (map fact_view c.as_slice-facts.result.now)
-          (map line_view c.as_slice.result.now)) c.in_ok-put_facts.ensures
-          ∙ append_assoc old _ _
-          ∙ ap₂ (λ fs ls. old ++ (facts_text fs ++ verdict_text of.id fs ls)) same same_lines,
-      c.max-told.ensures ∙ ap (max c.args.told.now.status) (c.facts_code.ensures ∙ ap facts_code same),
-    )) c.put_verdict.ensures
+    let g = c.args.lookups.now.global.now in
+    let zone = c.args.lookups.now.zone.now in
+    let bypass = c.args.bypass.now in
+    let x = c.args.id in
+    let list : c.insert.new.self ≡ with_id c.args.candidates.now x =
+    c.in_ok-insert.ensures.ok ∙ ap (λ l. with_id l x) c.in_ok-ids.ensures in
+    let same = setting_is g zone c.args.candidates.now bypass x c.in_ok-vers.vers.global.now (choice c.in_ok-vers.vers)
+    c.insert.new.self c.in_ok-vers.ensures.global c.in_ok-vers.ensures.counting list in
+    IfOk-weaker c.tell_in.result _ _ (λ done is. (
+      is.0,
+      is.1,
+      subst (λ (s : Setting). IsToldOf s (map line_view c.args.lines.now) x is.0 is.1) same is.2,
+      is.3,
+      is.4,
+    )) c.tell_in.ensures
