@@ -13,7 +13,7 @@ use Rattle.terms.specs.Choice.{Choice, counting}
 use Rattle.terms.specs.Tests.{Setting}
 use Rattle.report_why.specs.Facts.{among, with_id}
 use Rattle.smpe_why.specs.declared.told.Told.{Told}
-use Rattle.smpe_why.specs.Telling.{greatest, Asked, AreToldBy, IsTold}
+use Rattle.smpe_why.specs.Telling.{greatest, Inquiry, AreToldBy, IsTold}
 
 -- one part more
 pub greatest_more : (parts : List (Text × ℕ)) (p : Text × ℕ) → greatest (parts ++ p ∷ []) ≡ max (greatest parts) p.1
@@ -81,7 +81,7 @@ setting_is g zone cands bypass x h c ids eg ec ei =
 
 -- ---- what is told as a whole
 
-module _ (g : Global) (zone : Zone) (related : Option Zone) (a : Asked) where
+module _ (g : Global) (zone : Zone) (related : Option Zone) (a : Inquiry) where
   abbrev By : List Id → Text → ℕ → Type 0
   By ids text code = AreToldBy g zone related a ids text code
 

@@ -47,14 +47,14 @@ pub record IsFoundIn (name : Text) (i : Inventory) (found : LoadedZones) : Type 
   pub related : found.related ≡ related_in i name
 
 -- what is asked: ids, whether one command selects them all, whether GROUPEXTEND is given, and BYPASS
-pub record Asked : Type 0 where
+pub record Inquiry : Type 0 where
   pub ids : List Id
   pub together : Bool
   pub groupextend : Bool
   pub bypass : Bypass
 
 -- the ids of each command in turn
-abbrev pub commands_of : Asked → List (List Id)
+abbrev pub commands_of : Inquiry → List (List Id)
 commands_of a = if a.together then a.ids ∷ [] else map (λ x. x ∷ []) a.ids
 
 -- SELECT names exactly these ids.
@@ -64,7 +64,7 @@ pub record Selects (ids : List Id) (groupextend : Bool) (sel : Selection) : Type
   pub selection : sel ≡ selecting sel.select groupextend
 
 -- These are the candidates and the lines of an APPLY, in a distribution zone of an ACCEPT, that selects these ids.
-pub record Prints (g : Global) (zone : Zone) (related : Option Zone) (a : Asked) (ids cands : List Id) (lines : List Line)
+pub record Prints (g : Global) (zone : Zone) (related : Option Zone) (a : Inquiry) (ids cands : List Id) (lines : List Line)
     : Type 0 where
   pub selection : Selection
   pub selects : Selects ids a.groupextend selection
@@ -89,7 +89,7 @@ greatest [] = 0
 greatest (p ∷ ps) = max p.1 (greatest ps)
 
 -- Each of these ids is told by the lines of one command that selects them all.
-pub record AreToldBy (g : Global) (zone : Zone) (related : Option Zone) (a : Asked) (ids : List Id) (text : Text)
+pub record AreToldBy (g : Global) (zone : Zone) (related : Option Zone) (a : Inquiry) (ids : List Id) (text : Text)
     (code : ℕ) : Type 0 where
   pub cands : List Id
   pub lines : List Line
@@ -101,7 +101,7 @@ pub record AreToldBy (g : Global) (zone : Zone) (related : Option Zone) (a : Ask
 
 -- All ids are told, and the status is the greatest of theirs. If there is no such zone, a refusal is told as SET tells
 -- it, and the status is 12.
-abbrev pub IsTold : Global → Option Zone → Option Zone → Asked → Told → Type 0
+abbrev pub IsTold : Global → Option Zone → Option Zone → Inquiry → Told → Type 0
 IsTold g None related a told = (told.text.items ≡ refused_text NoZone) × (told.status ≡ 12)
 IsTold g (Some zone) related a told = (parts : List (Text × ℕ))
     × Beside (λ n ids p. AreToldBy g zone related a ids p.0 p.1) (commands_of a) parts

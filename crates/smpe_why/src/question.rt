@@ -14,7 +14,7 @@ pub struct Question<'a> {
 impl<'a> Model for Question<'a> {
     ghost use Rattle.smpe_why.specs.Telling as telling;
 
-    ghost Value = { telling.Asked };
+    ghost Value = { telling.Inquiry };
 
     ghost view = { λ q. record {
       ids = q.ids.now;
