@@ -263,19 +263,30 @@ NeedsIt g zone x y =
     → NeedsInRestore (record { global = g; choice = counting g zone []; zone = zone; accepted = accepted })
     (is_in (x ∷ [])) x Dep y
 
--- All facts of an id, in their order.
-pub record AreFacts (s : Setting) (x : Id) (facts : List Fact) : Type 0 where
+-- the facts of what it asks for, and of its holds
+pub record AreAsked (s : Setting) (x : Id) (facts : List Fact) : Type 0 where
   pub orphans : List Id
   pub orphans_are : AreOrphans s x orphans
   pub of_requisites : List Fact
   pub requisites_are : Beside (λ n r fact. IsRequisiteFact s x r fact) (requisites s x orphans) of_requisites
   pub of_holds : List Fact
   pub holds_are : Beside (λ n h fact. IsHoldFact s x h fact) (holds_on s.global x) of_holds
+  pub facts_are : facts ≡ of_requisites ++ of_holds
+
+-- the facts of its elements, and of what it deletes and forbids
+pub record AreOfChanges (s : Setting) (x : Id) (facts : List Fact) : Type 0 where
   pub of_elements : List Fact
   pub elements_are : Beside (λ n h fact. IsElementFact s x h fact) (changes_of s.global x) of_elements
+  pub facts_are : facts ≡ of_elements ++ delete_facts s x ++ npre_facts s x
+
+-- All facts of an id, in their order.
+pub record AreFacts (s : Setting) (x : Id) (facts : List Fact) : Type 0 where
+  pub asked : List Fact
+  pub asked_are : AreAsked s x asked
+  pub changes : List Fact
+  pub changes_are : AreOfChanges s x changes
   pub needed_by : List Id
   pub needed_rising : IsRising needed_by
   pub needed : (y : Id) → Contains needed_by y ↔ NeedsIt s.global s.zone x y
   pub facts_are : facts
-      ≡ standing_facts s.global s.zone x ++ ver_facts s x ++ of_requisites ++ of_holds ++ of_elements
-      ++ delete_facts s x ++ npre_facts s x ++ map NeededFact needed_by
+      ≡ standing_facts s.global s.zone x ++ ver_facts s x ++ asked ++ changes ++ map NeededFact needed_by

@@ -1,11 +1,12 @@
 //! All facts of an id in a zone.
-ghost use Rattle.std.specs.Prelude.{◌≡◌, ◌+◌, filter, IfOk};
+ghost use Rattle.std.specs.Prelude.{◌≡◌, ◌+◌, ◌++◌, filter, IfOk};
 ghost use Rattle.terms.specs.Lookups.{is_function, applied_ids};
 ghost use Rattle.terms.specs.Choice.{place};
 ghost use Rattle.sysmods.specs.Choices.{number_in};
 ghost use Rattle.undo.specs.Scopes.{restoring_from};
-ghost use Rattle.zones.specs.Scopes.{setting_of};
-ghost use Rattle.report_why.specs.Facts.{AreFacts};
+ghost use Rattle.zones.specs.Scopes.{global_of, setting_of};
+ghost use Rattle.report_why.specs.Asking.{setting_in};
+ghost use Rattle.report_why.specs.Facts.{standing_facts, ver_facts, AreAsked, AreOfChanges, AreFacts};
 ghost use Rattle.report_why.specs.Needed.{needed_pairs};
 ghost use Rattle.report_why.specs.Views.{facts_view};
 
@@ -68,6 +69,75 @@ fn functions_among(alloc: Global, global: &GlobalZone, ids: &[Id]) -> Result<Vec
         .collect(alloc)
 }
 
+// Its state, its entry and its `++VER`s.
+fn own_facts<'a>(
+    alloc: Global,
+    lookups: &Lookups<'a>,
+    scope: &Scope<'_, 'a>,
+    id: Id,
+) -> Result<Vec<Fact<'a>>, AllocError>
+    requires { number_in scope.now.vers.now id
+        ≡ place scope.now.vers.now.global.now scope.now.zone.now scope.now.ids.now id + 1 }
+    ensures { IfOk result (λ facts. facts_view facts.items
+        ≡ standing_facts lookups.now.global.now lookups.now.zone.now id ++ ver_facts (setting_of scope.now) id) }
+{
+    let mut facts = standing_facts(alloc, lookups.global, lookups.zone, id)?;
+    let mut vers = ver_facts(alloc, scope, id)?;
+    facts.append(&mut vers)?;
+    Ok(facts)
+}
+
+// What it asks for, and its holds.
+fn asked_facts<'a>(
+    alloc: Global,
+    asking: &Asking<'_, 'a>,
+) -> Result<Vec<Fact<'a>>, AllocError>
+    ensures { IfOk result (λ facts. AreAsked (setting_in asking.now) asking.now.id (facts_view facts.items)) }
+{
+    let mut facts = requisite_facts(alloc, asking)?;
+    let mut holds = hold_facts(alloc, asking)?;
+    facts.append(&mut holds)?;
+    Ok(facts)
+}
+
+// Its elements, and what it deletes and forbids.
+fn change_facts(
+    alloc: Global,
+    asking: &Asking<'_, '_>,
+) -> Result<Vec<Fact<'static>>, AllocError>
+    ensures { IfOk result (λ facts. AreOfChanges (setting_in asking.now) asking.now.id (facts_view facts.items)) }
+{
+    let mut facts = element_facts(alloc, asking)?;
+    let mut deletes = delete_facts(alloc, asking)?;
+    let mut forbids = npre_facts(alloc, asking)?;
+    facts.append(&mut deletes)?;
+    facts.append(&mut forbids)?;
+    Ok(facts)
+}
+
+// All of them, by what an install with these candidates looks at.
+fn facts_by<'a>(
+    alloc: Global,
+    lookups: &Lookups<'a>,
+    asking: &Asking<'_, 'a>,
+) -> Result<Vec<Fact<'a>>, AllocError>
+    requires global { global_of asking.now.scope ≡ lookups.now.global.now }
+    requires zone { asking.now.scope.zone.now ≡ lookups.now.zone.now }
+    requires number { number_in asking.now.scope.vers.now asking.now.id
+        ≡ place (global_of asking.now.scope) asking.now.scope.zone.now asking.now.scope.ids.now asking.now.id + 1 }
+    ensures { IfOk result (λ facts. AreFacts (setting_in asking.now) asking.now.id (facts_view facts.items)) }
+{
+    lookups.zone.attest();
+    let mut facts = own_facts(alloc, lookups, &asking.scope, asking.id)?;
+    let mut asked = asked_facts(alloc, asking)?;
+    let mut changes = change_facts(alloc, asking)?;
+    let mut needed = needed_facts(alloc, lookups.needed.as_slice(), asking.id)?;
+    facts.append(&mut asked)?;
+    facts.append(&mut changes)?;
+    facts.append(&mut needed)?;
+    Ok(facts)
+}
+
 /// The facts of the id, for an install with the candidates of this scope.
 pub fn facts_of<'a>(
     alloc: Global,
@@ -82,7 +152,6 @@ pub fn facts_of<'a>(
         ≡ place scope.now.vers.now.global.now scope.now.zone.now scope.now.ids.now id + 1 }
     ensures { IfOk result (λ facts. AreFacts (setting_of scope.now) id (facts_view facts.items)) }
 {
-    lookups.zone.attest();
     let all = deletions(alloc, scope.vers, scope.ids.as_slice())?;
     let seen = view_deletions(alloc, scope.vers, scope.ids, all.as_slice(), id)?;
     let dropped = deletions(alloc, scope.vers, &[id])?;
@@ -94,20 +163,5 @@ pub fn facts_of<'a>(
         applied: lookups.applied.as_slice(),
         functions: lookups.functions.as_slice(),
     };
-    let mut facts = standing_facts(alloc, lookups.global, lookups.zone, id)?;
-    let mut vers = ver_facts(alloc, scope, id)?;
-    let mut requisites = requisite_facts(alloc, &asking)?;
-    let mut holds = hold_facts(alloc, &asking)?;
-    let mut elements = element_facts(alloc, &asking)?;
-    let mut deletes = delete_facts(alloc, &asking)?;
-    let mut forbids = npre_facts(alloc, &asking)?;
-    let mut needed = needed_facts(alloc, lookups.needed.as_slice(), id)?;
-    facts.append(&mut vers)?;
-    facts.append(&mut requisites)?;
-    facts.append(&mut holds)?;
-    facts.append(&mut elements)?;
-    facts.append(&mut deletes)?;
-    facts.append(&mut forbids)?;
-    facts.append(&mut needed)?;
-    Ok(facts)
+    facts_by(alloc, lookups, &asking)
 }
