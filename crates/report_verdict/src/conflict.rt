@@ -22,7 +22,10 @@ pub struct Partner {
 #[derive(Clone, Copy)]
 pub enum Conflict {
     /// A candidate has an id of the chain in DELETE.
-    Deletes { by: Id, id: Id },
+    Deletes {
+        by: Id,
+        id: Id,
+    },
     /// A candidate that NPRE names.
     Forbids(Id),
     /// A candidate whose NPRE names the id.

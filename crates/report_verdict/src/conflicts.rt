@@ -97,7 +97,11 @@ fn push_deletion(
 ) -> Result<(), AllocError>
     ensures { OnOk result (found.new.items ≡ found.old.items ++ deletion_of (setting_of scope.now) id by del) }
 {
-    push_where(is_in_chain(scope.vers, id, del), Conflict::Deletes { by, id: del }, found)
+    push_where(
+        is_in_chain(scope.vers, id, del),
+        Conflict::Deletes { by, id: del },
+        found,
+    )
 }
 
 // Adds what another candidate deletes of the chain.
@@ -233,8 +237,16 @@ fn push_clashes(
     ensures { OnOk result (found.new.items ≡ found.old.items ++ clashes_with (setting_of scope.now) id partner.now) }
 {
     let with = partner.id;
-    push_where(forbids(scope.vers, id, with), Conflict::Forbids(with), found)?;
-    push_where(forbids(scope.vers, with, id), Conflict::ForbiddenBy(with), found)?;
+    push_where(
+        forbids(scope.vers, id, with),
+        Conflict::Forbids(with),
+        found,
+    )?;
+    push_where(
+        forbids(scope.vers, with, id),
+        Conflict::ForbiddenBy(with),
+        found,
+    )?;
     push_apart(scope, id, partner, found)
 }
 

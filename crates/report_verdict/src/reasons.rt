@@ -73,12 +73,7 @@ fn is_over(rank: Rank) -> bool
 }
 
 // The line of a hold that BYPASS does not cover.
-fn put_hold(
-    bypass: &Bypass,
-    test: Test,
-    hold: &Hold,
-    text: &mut Vec<u8>,
-) -> Result<(), AllocError>
+fn put_hold(bypass: &Bypass, test: Test, hold: &Hold, text: &mut Vec<u8>) -> Result<(), AllocError>
     ensures { OnOk result (text.new.items ≡ text.old.items ++ hold_reason bypass.now test hold.now) }
 {
     let stands = by_hold(test, hold.kind) && !is_bypassed_hold(bypass, hold);

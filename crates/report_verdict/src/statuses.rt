@@ -133,7 +133,10 @@ fn all_passing(alloc: Global, lines: &[ReportLine]) -> Result<Vec<Id>, AllocErro
 fn others(alloc: Global, id: Id, ids: &[Id]) -> Result<Vec<Id>, AllocError>
     ensures { IfOk result (λ found. found.items ≡ others id ids.now) }
 {
-    ids.iter().filter(|other| id != **other).copied().collect(alloc)
+    ids.iter()
+        .filter(|other| id != **other)
+        .copied()
+        .collect(alloc)
 }
 
 /// If the id fails J8, the other candidates whose DELETEs decide that.

@@ -286,11 +286,7 @@ fn put_lines(
 
 /// Appends what the lines of an APPLY or ACCEPT say about the id, in words that name its facts, the other candidates
 /// and what BYPASS covers.
-pub fn put_verdict(
-    id: Id,
-    grounds: &Grounds<'_, '_>,
-    text: &mut Vec<u8>,
-) -> Result<(), AllocError>
+pub fn put_verdict(id: Id, grounds: &Grounds<'_, '_>, text: &mut Vec<u8>) -> Result<(), AllocError>
     ensures { OnOk result (text.new.items ≡ text.old.items ++ verdict_text id (basis_of grounds.now)) }
 {
     put_lines(id, grounds, grounds.lines, text)

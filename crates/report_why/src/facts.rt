@@ -88,10 +88,7 @@ fn own_facts<'a>(
 }
 
 // What it asks for, and its holds.
-fn asked_facts<'a>(
-    alloc: Global,
-    asking: &Asking<'_, 'a>,
-) -> Result<Vec<Fact<'a>>, AllocError>
+fn asked_facts<'a>(alloc: Global, asking: &Asking<'_, 'a>) -> Result<Vec<Fact<'a>>, AllocError>
     ensures { IfOk result (λ facts. AreAsked (setting_in asking.now) asking.now.id (facts_view facts.items)) }
 {
     let mut facts = requisite_facts(alloc, asking)?;
@@ -101,10 +98,7 @@ fn asked_facts<'a>(
 }
 
 // Its elements, and what it deletes and forbids.
-fn change_facts(
-    alloc: Global,
-    asking: &Asking<'_, '_>,
-) -> Result<Vec<Fact<'static>>, AllocError>
+fn change_facts(alloc: Global, asking: &Asking<'_, '_>) -> Result<Vec<Fact<'static>>, AllocError>
     ensures { IfOk result (λ facts. AreOfChanges (setting_in asking.now) asking.now.id (facts_view facts.items)) }
 {
     let mut facts = element_facts(alloc, asking)?;

@@ -1,14 +1,22 @@
 -- What is told of ids, part by part.
 use Rattle.std.proofs.Common.{◌≡◌, ◌∙◌, ◌+◌, ℕ, zero, suc, List, [], ◌∷◌, ◌++◌, Some, map, refl, sym, ap, arith}
 use Rattle.std.proofs.Common.{◌<◌, slice_get, get_or, take, length, append-nil, subst, subst₂, Option, None}
-use Rattle.std.proofs.Common.{Bool, true, false}
+use Rattle.std.proofs.Common.{Bool, true, false, Contains, get_or_default}
 use Rattle.std.specs.Prelude.{max, if◌then◌else◌}
 use Rattle.std.specs.List.{flat_map}
+use Rattle.std.specs.Ordering.{nat_cmp}
+use Rattle.std.specs.Cmp.Lexicographic.{slice_cmp}
+use Rattle.std.specs.declared.cmp.Ordering.TheVariants.{Equal}
+use Rattle.std.proofs.lemmas.Cmp.{nat_list_cmp_total, tied_itself}
 use Rattle.std.proofs.lemmas.List.{length-map}
 use Rattle.std.proofs.lemmas.List.Concat.{flat_map-append}
 use Rattle.terms.specs.Beside.{Beside}
 use Rattle.terms.proofs.BesideLists.{beside_next}
 use Rattle.terms.specs.Types.{Text, Id, Global, Zone, Bypass}
+use Rattle.terms.specs.Lookups.{IsRising}
+use Rattle.terms.specs.Rising.{StandsAt}
+use Rattle.terms.proofs.IdPlaces.{stands_at}
+use Rattle.terms.proofs.RisingLists.{Stands_at, with_item_same}
 use Rattle.terms.specs.Choice.{Choice, counting}
 use Rattle.terms.specs.Tests.{Setting}
 use Rattle.report_why.specs.Facts.{among, with_id}
@@ -72,12 +80,23 @@ a_setting g c zone ids bypass =
     record { global = g; choice = c; zone = zone; related = None; cands = ids; bypass = bypass }
 
 pub setting_is : (g : Global) (zone : Zone) (cands : List Id) (bypass : Bypass) (x : Id) (h : Global) (c : Choice)
-    (ids : List Id) → h ≡ g → c ≡ counting g zone ids → ids ≡ with_id cands x
-    → a_setting h c zone ids bypass ≡ among g zone cands bypass x
-setting_is g zone cands bypass x h c ids eg ec ei =
-    ap (λ v. a_setting v c zone ids bypass) eg
+    (z : Zone) (ids : List Id) → h ≡ g → z ≡ zone → c ≡ counting g zone ids → ids ≡ with_id cands x
+    → a_setting h c z ids bypass ≡ among g zone cands bypass x
+setting_is g zone cands bypass x h c z ids eg ez ec ei =
+    ap (λ v. a_setting v c z ids bypass) eg
+    ∙ ap (λ (v : Zone). a_setting g c v ids bypass) ez
     ∙ ap (λ v. a_setting g v zone ids bypass) ec
     ∙ ap (λ v. a_setting g (counting g zone v) zone v bypass) ei
+
+-- a candidate is among the candidates
+pub with_candidate : (ids : List Id) (x : Id) → IsRising ids → Contains ids x → with_id ids x ≡ ids
+with_candidate ids x rising is =
+    let tie : (d : Id) → slice_cmp nat_cmp (get_or ids is.0 d) x ≡ Equal =
+    λ d. subst (λ y. slice_cmp nat_cmp y x ≡ Equal) (sym (get_or_default ids is.0 d x is.1 ∙ is.2))
+    (tied_itself nat_list_cmp_total x) in
+    let at = Stands_at nat_list_cmp_total (λ y. y) x ids is.0 is.1 tie in
+    with_item_same nat_list_cmp_total (λ y. y) ids is.0 x rising
+    (subst (λ v. StandsAt (slice_cmp nat_cmp) (λ y. y) x ids is.0 v) (stands_at ids x is.0 is.1 at.0 at.1).1 at.1)
 
 -- ---- what is told as a whole
 

@@ -88,16 +88,21 @@ abbrev pub greatest : List (Text × ℕ) → ℕ
 greatest [] = 0
 greatest (p ∷ ps) = max p.1 (greatest ps)
 
--- Each of these ids is told by the lines of one command that selects them all.
+-- Each of these ids is told, one after the other, for an install of these candidates with these lines.
+pub record AreToldInTurn (g : Global) (zone : Zone) (cands : List Id) (bypass : Bypass) (lines : List Line)
+    (ids : List Id) (text : Text) (code : ℕ) : Type 0 where
+  pub parts : List (Text × ℕ)
+  pub each : Beside (λ n x p. IsToldOf (among g zone cands bypass x) lines x p.0 p.1) ids parts
+  pub text_is : text ≡ flat_map (λ p. p.0) parts
+  pub code_is : code ≡ greatest parts
+
+-- They are told by the lines of one command that selects them all.
 pub record AreToldBy (g : Global) (zone : Zone) (related : Option Zone) (a : Inquiry) (ids : List Id) (text : Text)
     (code : ℕ) : Type 0 where
   pub cands : List Id
   pub lines : List Line
   pub prints : Prints g zone related a ids cands lines
-  pub parts : List (Text × ℕ)
-  pub each : Beside (λ n x p. IsToldOf (among g zone cands a.bypass x) lines x p.0 p.1) ids parts
-  pub text_is : text ≡ flat_map (λ p. p.0) parts
-  pub code_is : code ≡ greatest parts
+  pub told : AreToldInTurn g zone cands a.bypass lines ids text code
 
 -- All ids are told, and the status is the greatest of theirs. If there is no such zone, a refusal is told as SET tells
 -- it, and the status is 12.

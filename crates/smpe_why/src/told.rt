@@ -9,7 +9,8 @@ ghost use Rattle.machine.specs.Outcome.{NoZone};
 ghost use Rattle.machine.specs.Report.{refused_text};
 ghost use Rattle.report.specs.Views.{line_view};
 ghost use Rattle.report_why.specs.Facts.{among};
-ghost use Rattle.smpe_why.specs.Telling.{IsTold, AreToldBy, IsToldOf, Selects};
+ghost use Rattle.smpe_why.specs.Scopes.{IsScopeOf};
+ghost use Rattle.smpe_why.specs.Telling.{IsTold, AreToldBy, AreToldInTurn, IsToldOf, Selects};
 
 use crate::found::LoadedZones;
 use crate::question::Question;
@@ -83,53 +84,87 @@ fn told_by(
         ..
     } = candidates(alloc, lookups.global, lookups.zone, &selection)?;
     let lines = lines_of(alloc, lookups, related, &selection, question.bypass)?;
-    let lines = lines.as_slice();
+    let vers = choose(alloc, lookups.global, lookups.zone, &candidates)?;
+    let scope = Scope {
+        vers: &vers,
+        zone: lookups.zone,
+        ids: &candidates,
+        bypass: question.bypass,
+    };
+    told_in_turn(alloc, lookups, &scope, lines.as_slice(), ids)
+}
+
+// What these lines of an install with the candidates of this scope say about the ids, one after the other.
+fn told_in_turn<'a>(
+    alloc: Global,
+    lookups: &Lookups<'a>,
+    scope: &Scope<'_, 'a>,
+    lines: &[ReportLine],
+    ids: &[Id],
+) -> Result<Told, AllocError>
+    requires { IsScopeOf lookups.now.global.now lookups.now.zone.now scope.now }
+    ensures { IfOk result (λ told. AreToldInTurn lookups.now.global.now lookups.now.zone.now scope.now.ids.now
+        scope.now.bypass.now (map line_view lines.now) ids.now told.text.items told.status) }
+{
     let mut told = Told {
         text: Vec::new(alloc),
         status: 0,
     };
     for id in ids {
-        tell_of(
-            alloc,
-            lookups,
-            question.bypass,
-            &candidates,
-            lines,
-            *id,
-            &mut told,
-        )?;
+        tell_of(alloc, lookups, scope, lines, *id, &mut told)?;
     }
     Ok(told)
 }
 
-// Tells the facts of an id, for an install with these candidates, and what the lines say about it.
-fn tell_of(
+// Tells the facts of an id, for an install with the candidates of this scope, and what the lines say about it.
+fn tell_of<'a>(
     alloc: Global,
-    lookups: &Lookups<'_>,
-    bypass: &Bypass,
-    candidates: &IdList,
+    lookups: &Lookups<'a>,
+    scope: &Scope<'_, 'a>,
+    lines: &[ReportLine],
+    id: Id,
+    told: &mut Told,
+) -> Result<(), AllocError>
+    requires { IsScopeOf lookups.now.global.now lookups.now.zone.now scope.now }
+    ensures { OnOk result ((text : AText) × (code : ℕ)
+        × IsToldOf (among lookups.now.global.now lookups.now.zone.now scope.now.ids.now scope.now.bypass.now id)
+        (map line_view lines.now) id text code
+        × (told.new.text.items ≡ told.old.text.items ++ text) × (told.new.status ≡ max told.old.status code)) }
+{
+    scope.ids.attest();
+    if scope.ids.contains(id) {
+        return tell_in(alloc, lookups, scope, lines, id, told);
+    }
+    tell_other(alloc, lookups, scope, lines, id, told)
+}
+
+// The same for an id that is no candidate, as if it were one too.
+fn tell_other<'a>(
+    alloc: Global,
+    lookups: &Lookups<'a>,
+    scope: &Scope<'_, 'a>,
     lines: &[ReportLine],
     id: Id,
     told: &mut Told,
 ) -> Result<(), AllocError>
     ensures { OnOk result ((text : AText) × (code : ℕ)
-        × IsToldOf (among lookups.now.global.now lookups.now.zone.now candidates.now bypass.now id)
+        × IsToldOf (among lookups.now.global.now lookups.now.zone.now scope.now.ids.now scope.now.bypass.now id)
         (map line_view lines.now) id text code
         × (told.new.text.items ≡ told.old.text.items ++ text) × (told.new.status ≡ max told.old.status code)) }
 {
-    let mut ids = candidates.try_clone(alloc)?;
+    let mut ids = scope.ids.try_clone(alloc)?;
     ids.insert(id)?;
     let vers = choose(alloc, lookups.global, lookups.zone, &ids)?;
-    let scope = Scope {
+    let with_id = Scope {
         vers: &vers,
         zone: lookups.zone,
         ids: &ids,
-        bypass,
+        bypass: scope.bypass,
     };
-    tell_in(alloc, lookups, &scope, lines, id, told)
+    tell_in(alloc, lookups, &with_id, lines, id, told)
 }
 
-// The same, by the scope of the install.
+// The same for a candidate.
 fn tell_in<'a>(
     alloc: Global,
     lookups: &Lookups<'a>,

@@ -1,37 +1,39 @@
-use Rattle.std.proofs.Common.{◌≡◌, ◌∙◌, ◌+◌, ◌++◌, ap, map, subst, sym}
-use Rattle.std.specs.Prelude.{ℕ, max}
+use Rattle.std.proofs.Common.{◌∙◌, ◌+◌, ap, map, subst, sym}
 use Rattle.std.proofs.lemmas.Result.{IfOk-weaker}
-use Rattle.terms.specs.Types.{Text}
-use Rattle.terms.specs.Choice.{place, counting}
+use Rattle.terms.specs.Choice.{place}
 use Rattle.terms.specs.Tests.{Setting}
+use Rattle.terms.specs.Types.{Zone}
+use Rattle.terms.proofs.Ids.{Contains_from_is_in}
 use Rattle.sysmods.specs.Choices.{choice}
 use Rattle.report.specs.Views.{line_view}
-use Rattle.report_why.specs.Facts.{among, with_id}
 use Rattle.smpe_why.specs.Telling.{IsToldOf}
-use Rattle.smpe_why.proofs.Parts.{setting_is}
+use Rattle.smpe_why.proofs.Parts.{setting_is, with_candidate}
 use Rattle.smpe_why.proofs.told.tell_of.Goals as goal
 
 pub tell_in-requires-clause-global : goal.tell_in-requires-clause-global
-tell_in-requires-clause-global c = c.in_ok-vers.ensures.global
+tell_in-requires-clause-global c = c.requires.global_is
+
+pub tell_in-requires-clause-zone : goal.tell_in-requires-clause-zone
+tell_in-requires-clause-zone c = c.requires.zone_is
 
 pub tell_in-requires-clause-srel : goal.tell_in-requires-clause-srel
-tell_in-requires-clause-srel c = c.in_ok-vers.ensures.srel
+tell_in-requires-clause-srel c = c.requires.srel_is ∙ ap (λ (z : Zone). z.srel) (sym c.requires.zone_is)
 
 pub tell_in-requires-clause-number : goal.tell_in-requires-clause-number
 tell_in-requires-clause-number c =
-    ap (λ number. number c.args.id) c.in_ok-vers.ensures.numbers
-    ∙ ap (λ g. place g c.args.lookups.now.zone.now c.insert.new.self c.args.id + 1) (sym c.in_ok-vers.ensures.global)
+    let ids = c.args.scope.now.ids.now in
+    ap (λ number. number c.args.id) c.requires.numbers_are
+    ∙ ap (λ g. place g c.args.lookups.now.zone.now ids c.args.id + 1) (sym c.requires.global_is)
+    ∙ ap (λ (z : Zone). place c.args.scope.now.vers.now.global.now z ids c.args.id + 1) (sym c.requires.zone_is)
 
-pub returns : goal.returns
-returns c =
-    let g = c.args.lookups.now.global.now in
-    let zone = c.args.lookups.now.zone.now in
-    let bypass = c.args.bypass.now in
+pub returns-then-contains : goal.returns-then-contains
+returns-then-contains c =
+    let scope = c.args.scope.now in
     let x = c.args.id in
-    let list : c.insert.new.self ≡ with_id c.args.candidates.now x =
-    c.in_ok-insert.ensures.ok ∙ ap (λ l. with_id l x) c.in_ok-ids.ensures in
-    let same = setting_is g zone c.args.candidates.now bypass x c.in_ok-vers.vers.global.now (choice c.in_ok-vers.vers)
-    c.insert.new.self c.in_ok-vers.ensures.global c.in_ok-vers.ensures.counting list in
+    let is = Contains_from_is_in scope.ids.now x (sym c.contains.ensures ∙ c.if-contains.true) in
+    let same = setting_is c.args.lookups.now.global.now c.args.lookups.now.zone.now scope.ids.now scope.bypass.now x
+    scope.vers.now.global.now (choice scope.vers.now) scope.zone.now scope.ids.now c.requires.global_is
+    c.requires.zone_is c.requires.choice_is (sym (with_candidate scope.ids.now x c.attest.ensures is)) in
     IfOk-weaker c.tell_in.result _ _ (λ done is. (
       is.0,
       is.1,
