@@ -1,14 +1,14 @@
 -- What is told of ids, part by part.
 use Rattle.std.proofs.Common.{◌≡◌, ◌∙◌, ◌+◌, ℕ, zero, suc, List, [], ◌∷◌, ◌++◌, Some, map, refl, sym, ap, arith}
 use Rattle.std.proofs.Common.{◌<◌, slice_get, get_or, take, length, append-nil, subst, subst₂, Option, None}
-use Rattle.std.proofs.Common.{Bool, true, false, Contains, get_or_default}
+use Rattle.std.proofs.Common.{Bool, true, false, Contains}
 use Rattle.std.specs.Prelude.{max, if◌then◌else◌}
 use Rattle.std.specs.List.{flat_map}
 use Rattle.std.specs.Ordering.{nat_cmp}
 use Rattle.std.specs.Cmp.Lexicographic.{slice_cmp}
 use Rattle.std.specs.declared.cmp.Ordering.TheVariants.{Equal}
 use Rattle.std.proofs.lemmas.Cmp.{nat_list_cmp_total, tied_itself}
-use Rattle.std.proofs.lemmas.List.{length-map}
+use Rattle.std.proofs.lemmas.List.{get_or_default, length-map}
 use Rattle.std.proofs.lemmas.List.Concat.{flat_map-append}
 use Rattle.terms.specs.Beside.{Beside}
 use Rattle.terms.proofs.BesideLists.{beside_next}
