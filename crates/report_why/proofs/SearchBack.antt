@@ -1,6 +1,6 @@
 -- The search back from an id over those that name it in SUP.
 use Rattle.std.proofs.Common.{◌≡◌, ◌⊎◌, inl, inr, ℕ, ◌+◌, ◌-◌, ◌<◌, ◌≤◌, List, [], ◌∷◌, length, refl, sym, subst, get_or}
-use Rattle.std.proofs.Common.{Contains, IsTrue, map, true}
+use Rattle.std.proofs.Common.{Bool, Contains, IsTrue, map, true}
 use Rattle.std.specs.Prelude.{◌↔◌}
 use Rattle.std.specs.Str.{bytes_eq}
 use Rattle.terms.proofs.Leads.{reaches_named, reaches_first, reaches_back, all_reached}

@@ -1,5 +1,5 @@
 -- Without deletions nothing is taken out.
-use Rattle.std.proofs.Common.{◌≡◌, Bool, true, false, List, [], ◌∷◌, filter, length, refl, arith}
+use Rattle.std.proofs.Common.{◌≡◌, Bool, true, false, List, [], ◌∷◌, filter, length, refl, arith, subst, sym}
 use Rattle.std.specs.Prelude.{◌&&◌}
 use Rattle.terms.specs.Types.{Id, Global, Zone}
 use Rattle.terms.specs.Lookups.{is_applied, meets}
@@ -12,15 +12,18 @@ meets_none [] = refl
 meets_none (x ∷ xs) = meets_none xs
 
 and_false : (a b : Bool) → b ≡ false → (a && b) ≡ false
-and_false true b no = no
-and_false false b no = refl
+and_false true b fails = fails
+and_false false b fails = refl
+
+none_at_all : (g : Global) (c : Choice) (zone : Zone) (ids : List Id) → [] ≡ filter (is_taken_out g c [] zone) ids
+none_at_all g c zone [] = refl
+none_at_all g c zone (y ∷ ys) =
+    rw (and_false (is_applied zone y) (meets (chain g c y) []) (meets_none (chain g c y))) (none_at_all g c zone ys)
 
 pub none_taken : (g : Global) (c : Choice) (zone : Zone) (dels ids : List Id) → dels ≡ []
     → [] ≡ filter (is_taken_out g c dels zone) ids
-none_taken g c zone dels [] none = refl
-none_taken g c zone dels (y ∷ ys) none =
-    rw (none, and_false (is_applied zone y) (meets (chain g c y) []) (meets_none (chain g c y)))
-    (rw none at (none_taken g c zone dels ys none))
+none_taken g c zone dels ids none =
+    subst (λ d. [] ≡ filter (is_taken_out g c d zone) ids) (sym none) (none_at_all g c zone ids)
 
 pub nil_of : {X : Type 0} (xs : List X) → length xs ≡ 0 → xs ≡ []
 nil_of [] none = refl

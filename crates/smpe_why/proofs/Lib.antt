@@ -1,3 +1,4 @@
+mod Alone
 mod Behind
 mod ClearFacts
 mod ClearInstall

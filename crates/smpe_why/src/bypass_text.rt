@@ -2,6 +2,7 @@
 ghost use Rattle.std.specs.Prelude.{◌≡◌, ◌≤◌, ◌+◌, ◌-◌, ◌++◌, [], ◌∷◌, None, Some, map, replicate, IfOk, IfSome, IfNone, IsTrue};
 ghost use Rattle.std.specs.Prelude.{IsFalse, OnOk, if◌then◌else◌};
 ghost use Rattle.terms.specs.Types.{Install as AnInstall, Accept};
+ghost use Rattle.terms.specs.Commands.{IsCommandFile};
 ghost use Rattle.terms.specs.Statement.{is_blank};
 ghost use Rattle.cntl.specs.Views.{command_of};
 ghost use Rattle.smpe_why.specs.BypassText.{accept_text, carded, is_carded, chooses_nothing, only_bypasses, IsBypassOf};
@@ -91,8 +92,8 @@ fn only_bypasses(install: &Install) -> bool
 
 // The BYPASS of an ACCEPT, if that is its only operand.
 fn bypass_alone(install: Install) -> Option<Bypass>
-    ensures some { IfSome result (λ b. IsTrue (only_bypasses install.entry) × (install.entry.bypass ≡ b)) }
-    ensures none { IfNone result (IsFalse (only_bypasses install.entry)) }
+    ensures some { IfSome result (λ b. IsTrue (only_bypasses install) × (install.bypass ≡ b)) }
+    ensures none { IfNone result (IsFalse (only_bypasses install)) }
 {
     if !only_bypasses(&install) {
         return None;
@@ -114,9 +115,9 @@ fn bypass_in(command: Command) -> Option<Bypass>
 
 // The BYPASS of these commands, if they are one ACCEPT that has no other operand.
 fn bypass_of_all(mut commands: Vec<Command>) -> Option<Bypass>
-    ensures some { IfSome result (λ b. (i : AnInstall) × (map command_of commands.entry.items ≡ Accept i ∷ [])
+    ensures some { IfSome result (λ b. (i : AnInstall) × (map command_of commands.items ≡ Accept i ∷ [])
         × IsTrue (only_bypasses i) × (i.bypass ≡ b)) }
-    ensures none { IfNone result ((i : AnInstall) → map command_of commands.entry.items ≡ Accept i ∷ []
+    ensures none { IfNone result ((i : AnInstall) → map command_of commands.items ≡ Accept i ∷ []
         → IsFalse (only_bypasses i)) }
 {
     if commands.len() != 1 {
