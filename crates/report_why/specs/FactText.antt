@@ -15,6 +15,10 @@ use Rattle.machine.specs.Report.{words_line, detail_line, left_in, optional_text
 abbrev pub inner_line : List Text → Text
 inner_line words = 32 ∷ 32 ∷ detail_line words
 
+-- the word, followed by a colon
+abbrev pub named : Text → Text
+named text = text ++ codes ":"
+
 -- the word if it is so, otherwise -
 abbrev pub word_if : Bool → Text → Text
 word_if true word = word
