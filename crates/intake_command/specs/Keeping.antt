@@ -17,10 +17,9 @@ module _ {H : Type 0} (host : Ghosts H) where
       × host.keeps h folder ((codes "ptfin", Some ptfin) ∷ (codes "hold", Some hold)
       ∷ (codes "stand-ins", stand_ins) ∷ (codes "remarks", Some remarks) ∷ []) after
 
-  -- The folder has a command file and its remarks.
-  abbrev pub KeepsCommands : H → Text → H → Type 0
-  KeepsCommands h folder after = (cntl remarks : List ℕ) × (commands : List terms.Command)
-      × IsCommandFile cntl commands
+  -- The folder has a command file of these commands, and its remarks.
+  abbrev pub KeepsCommands : H → Text → List terms.Command → H → Type 0
+  KeepsCommands h folder commands after = (cntl remarks : List ℕ) × IsCommandFile cntl commands
       × host.keeps h folder ((codes "cntl", Some cntl) ∷ (codes "cntl.remarks", Some remarks) ∷ []) after
 
   -- The folder has the remarks on a command file, and no file of an earlier run.

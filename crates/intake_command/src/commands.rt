@@ -1,7 +1,10 @@
 //! A command file.
-ghost use Rattle.std.specs.Prelude.{List, IfSome};
+ghost use Rattle.std.specs.Prelude.{◌≡◌, List, IfOk, OnOk};
+ghost use Rattle.std.specs.String.{string_bytes};
 ghost use Rattle.terms.specs.Types as terms;
 ghost use Rattle.terms.specs.Commands.{IsCommandFile};
+ghost use Rattle.intake_command.specs.Keeping.{KeepsCommands, KeepsRemarks};
+ghost use Rattle.intake_command.specs.Serving.{ServesCommandFile};
 
 use crate::fault::IntakeFault;
 use crate::keep::{keep_commands, keep_remarks};
@@ -10,8 +13,10 @@ use crate::remarks::tell;
 use crate::sources::{InputFiles, cards_of, read};
 use crate::summary::{by_reason, print};
 use crate::surroundings::IntakeHost;
-use intake_cntl::{KnownList, KnownSysmod, command_file, read_known};
-use std::alloc::Global;
+use intake_asked::{KnownList, KnownSysmod, read_known, wide_commands};
+use intake_cards::Card;
+use intake_cntl::{CommandFile, command_file};
+use std::alloc::{AllocError, Global};
 
 /// The status where a command file has words that are not carried.
 const REFUSED_STATUS: u8 = 12;
@@ -22,31 +27,45 @@ pub(crate) fn serve_commands<H: IntakeHost>(
     host: &mut H,
     asked: &IntakeOptions,
     name: &str,
-) -> Result<u8, IntakeFault> {
+) -> Result<u8, IntakeFault>
+    ensures { IfOk result (λ status. ServesCommandFile H.IntakeHost (string_bytes asked.now.out) status) }
+{
     let mut sources = InputFiles::new(alloc);
     let mut remarks = Vec::new(alloc);
-    let bytes = read(alloc, host, name)?;
-    let cards = cards_of(
-        alloc,
-        &mut sources,
-        name,
-        &bytes,
-        asked.form,
-        asked.code,
-        &mut remarks,
-    )?;
+    let cards = command_cards(alloc, host, &mut sources, asked, name, &mut remarks)?;
     let known = match &asked.known {
         Some(name) => Some(known_sysmods(alloc, host, name.as_str())?),
         None => None,
     };
-    let file = match &known {
-        Some(known) => command_file(alloc, &cards, Some(known.as_slice()))?,
-        None => command_file(alloc, &cards, None)?,
-    };
+    let commands = wide_commands(alloc, &cards)?;
+    let file = command_file(alloc, &cards, &commands, &known)?;
     if file.carried == 0 && file.others == 0 {
         return Err(IntakeFault::NoStatement);
     }
     tell(alloc, &sources, &file.remarks, &mut remarks)?;
+    let summary = summary_of(alloc, &file)?;
+    let folder = asked.out.as_str();
+    match file.bytes {
+        Some(bytes) => written(alloc, host, folder, bytes, remarks, &summary),
+        None => refused(alloc, host, folder, remarks, &summary),
+    }
+}
+
+fn command_cards<H: IntakeHost>(
+    alloc: Global,
+    host: &mut H,
+    sources: &mut InputFiles,
+    asked: &IntakeOptions,
+    name: &str,
+    remarks: &mut Vec<u8>,
+) -> Result<Vec<Card>, IntakeFault> {
+    let bytes = read(alloc, host, name)?;
+    cards_of(
+        alloc, sources, name, &bytes, asked.form, asked.code, remarks,
+    )
+}
+
+fn summary_of(alloc: Global, file: &CommandFile) -> Result<Vec<u8>, AllocError> {
     let mut summary = Vec::new(alloc);
     let carried = file.carried;
     let others = file.others;
@@ -60,10 +79,7 @@ pub(crate) fn serve_commands<H: IntakeHost>(
     };
     summary.extend_from_slice(line.as_bytes())?;
     by_reason(alloc, &file.remarks, &mut summary)?;
-    let folder = asked.out.as_str();
-    let status = keep(alloc, host, folder, file.bytes, remarks)?;
-    print(alloc, host, folder, &summary, &["cntl", "cntl.remarks"])?;
-    Ok(status)
+    Ok(summary)
 }
 
 // The SYSMODs of the list of this name.
@@ -82,24 +98,37 @@ fn known_sysmods<H: IntakeHost>(
     }
 }
 
-// Puts the files into the folder, and answers the status.
-fn keep<H: IntakeHost>(
+// Puts the command file and its remarks into the folder.
+fn written<H: IntakeHost>(
     alloc: Global,
     host: &mut H,
     folder: &str,
-    bytes: Option<Vec<u8>>,
+    cntl: Vec<u8>,
     remarks: Vec<u8>,
+    summary: &[u8],
 ) -> Result<u8, IntakeFault>
-    requires { IfSome bytes (λ bytes. (cs : List terms.Command) × IsCommandFile bytes.items cs) }
+    requires { (commands : List terms.Command) × IsCommandFile cntl.items commands }
+    ensures status { IfOk result (λ status. status ≡ 0) }
+    ensures kept { (commands : List terms.Command) → IsCommandFile cntl.items commands
+        → OnOk result ((before after : H) × KeepsCommands H.IntakeHost before folder.now commands after) }
 {
-    match bytes {
-        Some(bytes) => {
-            keep_commands(alloc, host, folder, bytes, remarks)?;
-            Ok(0)
-        }
-        None => {
-            keep_remarks(alloc, host, folder, remarks)?;
-            Ok(REFUSED_STATUS)
-        }
-    }
+    keep_commands(alloc, host, folder, cntl, remarks)?;
+    print(alloc, host, folder, summary, &["cntl", "cntl.remarks"])?;
+    Ok(0)
+}
+
+// Puts the remarks alone into the folder.
+fn refused<H: IntakeHost>(
+    alloc: Global,
+    host: &mut H,
+    folder: &str,
+    remarks: Vec<u8>,
+    summary: &[u8],
+) -> Result<u8, IntakeFault>
+    ensures status { IfOk result (λ status. status ≡ 12) }
+    ensures kept { OnOk result ((before after : H) × KeepsRemarks H.IntakeHost before folder.now after) }
+{
+    keep_remarks(alloc, host, folder, remarks)?;
+    print(alloc, host, folder, summary, &["cntl", "cntl.remarks"])?;
+    Ok(REFUSED_STATUS)
 }

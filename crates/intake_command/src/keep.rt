@@ -147,7 +147,8 @@ pub fn keep_commands<H: IntakeHost>(
     remarks: Vec<u8>,
 ) -> Result<(), IntakeFault>
     requires { (cs : List terms.Command) × IsCommandFile cntl.items cs }
-    ensures ok { OnOk result (KeepsCommands H.IntakeHost host.old folder.now host.new) }
+    ensures ok { (commands : List terms.Command) → IsCommandFile cntl.items commands
+        → OnOk result (KeepsCommands H.IntakeHost host.old folder.now commands host.new) }
     ensures err { OnErr result (KeepsNothing H.IntakeHost host.old folder.now host.new) }
 {
     let files = command_files(alloc, cntl, remarks)?;

@@ -3,7 +3,8 @@
 use crate::narrow_lines::compare;
 use crate::wide::file_of;
 use intake_cards::{Layout, read_cards};
-use intake_cntl::{KnownList, KnownSysmod, command_file, read_known};
+use intake_asked::{KnownList, KnownSysmod, read_known, wide_commands};
+use intake_cntl::command_file;
 use std::alloc::Global;
 use std::test::Fail;
 
@@ -111,9 +112,10 @@ const LIST: &[u8] =
 
 // What comes of a command file: the records without the blanks at their ends, and none where there is no file; then
 // the remarks.
-fn outcome(alloc: Global, text: &[u8], known: Option<&[KnownSysmod]>) -> Result<String, Fail> {
+fn outcome(alloc: Global, text: &[u8], known: &Option<Vec<KnownSysmod>>) -> Result<String, Fail> {
     let found = read_cards(alloc, 0, text, Some(Layout::Text), None)?;
-    let file = command_file(alloc, &found.cards, known)?;
+    let commands = wide_commands(alloc, &found.cards)?;
+    let file = command_file(alloc, &found.cards, &commands, known)?;
     let mut lines = Vec::new(alloc);
     if let Some(bytes) = &file.bytes {
         for record in bytes.chunks(80) {
@@ -132,7 +134,7 @@ fn outcome(alloc: Global, text: &[u8], known: Option<&[KnownSysmod]>) -> Result<
 // A failure, unless these lines come of these cards. There is a bar between two lines, and between two cards.
 fn check_case(
     alloc: Global,
-    known: Option<&[KnownSysmod]>,
+    known: &Option<Vec<KnownSysmod>>,
     cards: &str,
     lines: &str,
 ) -> Result<(), Fail> {
@@ -144,7 +146,7 @@ fn check_case(
 }
 
 // Each case is a command file, by its cards, and behind an arrow the lines that come of it.
-fn check(alloc: Global, known: Option<&[KnownSysmod]>, cases: &str) -> Result<(), Fail> {
+fn check(alloc: Global, known: &Option<Vec<KnownSysmod>>, cases: &str) -> Result<(), Fail> {
     for line in cases.lines() {
         let (cards, lines) = line.split_once(" => ").ok_or("no arrow in a case")?;
         check_case(alloc, known, cards, lines)?;
@@ -154,9 +156,9 @@ fn check(alloc: Global, known: Option<&[KnownSysmod]>, cases: &str) -> Result<()
 
 #[test]
 fn carries_drops_or_names(rt: HostRuntime) -> Result<(), Fail> {
-    check_case(rt.alloc(), None, "/* nothing */", "")?;
+    check_case(rt.alloc(), &None, "/* nothing */", "")?;
     for cases in [AS_THEY_STAND, COMMENTED, SPELLED_OUT, DROPPED, NAMED] {
-        check(rt.alloc(), None, cases)?;
+        check(rt.alloc(), &None, cases)?;
     }
     Ok(())
 }
@@ -166,7 +168,7 @@ fn known_sysmods_tell_what_is_meant(rt: HostRuntime) -> Result<(), Fail> {
     let KnownList::Sysmods(known) = read_known(rt.alloc(), LIST)? else {
         return Err("the list is in form".into());
     };
-    check(rt.alloc(), Some(known.as_slice()), KNOWN_ONES)
+    check(rt.alloc(), &Some(known), KNOWN_ONES)
 }
 
 #[test]
@@ -195,7 +197,7 @@ fn a_long_line_is_refused_unless_it_is_a_comment(rt: HostRuntime) -> Result<(), 
     ] {
         let alloc = rt.alloc();
         let text = format!(in alloc; "{before}{long}{behind}\nLIST.\n")?;
-        let got = outcome(alloc, text.as_bytes(), None)?;
+        let got = outcome(alloc, text.as_bytes(), &None)?;
         let lines = file_of(alloc, wanted)?;
         compare(
             before,

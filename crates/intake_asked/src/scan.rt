@@ -28,6 +28,8 @@ pub struct WideCommand {
     /// Its word, where it has one, and what stands in parentheses directly behind it.
     pub head: WideOperand,
     pub operands: Vec<WideOperand>,
+    /// The words of BYPASS's list, each with the list behind it, all at the place of BYPASS.
+    pub bypassed: Vec<WideOperand>,
     pub end: CommandEnd,
     /// It has words in lower case.
     pub has_lower_case: bool,
@@ -84,20 +86,29 @@ pub fn wide_commands(alloc: Global, cards: &[Card]) -> Result<WideCommands, Allo
             cut.push(card.place)?;
         }
     }
-    Ok(WideCommands {
-        commands: scanner.end_of_file()?,
-        cut,
-    })
+    let mut commands = scanner.end_of_file()?;
+    for command in commands.iter_mut() {
+        command.bypassed = bypassed(alloc, &command.operands)?;
+    }
+    Ok(WideCommands { commands, cut })
 }
 
-/// The words of a list, each with the list behind it, all at the place of the operand that has the list.
-pub(crate) fn words_in(
-    alloc: Global,
-    list: &[u8],
-    place: CardPlace,
-) -> Result<Vec<WideOperand>, AllocError> {
+fn bypassed(alloc: Global, operands: &[WideOperand]) -> Result<Vec<WideOperand>, AllocError> {
+    let mut bypassed = Vec::new(alloc);
+    for operand in operands {
+        if operand.name.as_slice() == b"BYPASS".as_slice() {
+            let mut words = words_in(alloc, operand)?;
+            bypassed.append(&mut words)?;
+        }
+    }
+    Ok(bypassed)
+}
+
+// The words of BYPASS's list, each with the list behind it, all at the place of BYPASS.
+fn words_in(alloc: Global, bypass: &WideOperand) -> Result<Vec<WideOperand>, AllocError> {
+    let place = bypass.place;
     let mut scanner = CommandScanner::new(alloc);
-    for byte in list {
+    for byte in bypass.text() {
         if *byte == b'.' && scanner.depth == 0 {
             scanner.put_in_word(*byte, place)?;
         } else {
@@ -272,6 +283,7 @@ impl CommandScanner {
             place: begins,
             head,
             operands,
+            bypassed: Vec::new(self.alloc),
             end,
             has_lower_case,
             is_behind,
