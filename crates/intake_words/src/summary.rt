@@ -1,8 +1,6 @@
 //! What is printed of a run.
 
-use crate::fault::IntakeFault;
-use crate::files::Named;
-use crate::surroundings::IntakeHost;
+use crate::summary_json::json_summary;
 use intake_cards::{Deed, Remark, RemarkReason};
 use intake_carry::{Narrowed, Tally};
 use std::alloc::{AllocError, Global};
@@ -18,7 +16,7 @@ pub(crate) struct ToldCount {
     pub(crate) count: usize,
 }
 
-/// How many remarks have each deed and reason, in the order in which they first occur.
+// How many remarks have each deed and reason, in the order in which they first occur.
 pub(crate) fn counts_of(alloc: Global, remarks: &[Remark]) -> Result<Vec<ToldCount>, AllocError> {
     let mut all: Vec<ToldCount> = Vec::new(alloc);
     for remark in remarks {
@@ -27,8 +25,8 @@ pub(crate) fn counts_of(alloc: Global, remarks: &[Remark]) -> Result<Vec<ToldCou
     Ok(all)
 }
 
-/// A line for each deed and reason, with how many remarks tell them.
-pub(crate) fn by_reason(
+// A line for each deed and reason, with how many remarks tell them.
+fn by_reason(
     alloc: Global,
     remarks: &[Remark],
     lines: &mut Vec<u8>,
@@ -172,8 +170,41 @@ fn warning(
     Ok(())
 }
 
-/// The summary of a run over files: what is left out and why, what else matters, and then how much there is of each.
-pub(crate) fn service_summary(
+/// The summary of a run over files, in lines or, for programs, in JSON.
+pub fn summary_of(
+    alloc: Global,
+    decide: bool,
+    json: bool,
+    narrowed: &Narrowed,
+) -> Result<Vec<u8>, AllocError> {
+    if json {
+        json_summary(alloc, narrowed)
+    } else {
+        service_summary(alloc, decide, narrowed)
+    }
+}
+
+/// The summary of a run over a command file: how many commands are carried, where it is written.
+pub fn command_summary(
+    alloc: Global,
+    carried: usize,
+    others: usize,
+    is_written: bool,
+    remarks: &[Remark],
+) -> Result<Vec<u8>, AllocError> {
+    let mut lines = Vec::new(alloc);
+    if is_written {
+        let line = format!(in alloc; "COMMAND {carried:>7} carried {others:>7} not\n")?;
+        lines.extend_from_slice(line.as_bytes())?;
+    } else {
+        lines.extend_from_slice(b"COMMAND none is written: see what is refused in cntl.remarks\n")?;
+    }
+    by_reason(alloc, remarks, &mut lines)?;
+    Ok(lines)
+}
+
+// What is left out and why, what else matters, and then how much there is of each.
+fn service_summary(
     alloc: Global,
     decide: bool,
     narrowed: &Narrowed,
@@ -181,15 +212,7 @@ pub(crate) fn service_summary(
     let remarks = narrowed.remarks.as_slice();
     let mut lines = Vec::new(alloc);
     left_out(alloc, remarks, &mut lines)?;
-    let outside = number_of(remarks, RemarkReason::HeldOutside);
-    let words =
-        "of SYSMODs stand in the hold file: they are on others, or the SYSMOD is not carried";
-    warning(alloc, "HELD", outside, words, &mut lines)?;
-    let swallowed = number_of(remarks, RemarkReason::StatementInComment);
-    let words = "statements stand in a comment: is it closed where it should be?";
-    warning(alloc, "COMMENT", swallowed, words, &mut lines)?;
-    let words = "left out have elements, NPRE or DELETE, which nothing asks for now";
-    warning(alloc, "FORBIDS", narrowed.forbidding, words, &mut lines)?;
+    warnings(alloc, narrowed, &mut lines)?;
     if decide {
         check_line(alloc, narrowed, &mut lines)?;
     }
@@ -199,6 +222,20 @@ pub(crate) fn service_summary(
     tally(alloc, "ASSIGN", narrowed.assigns, &mut lines)?;
     by_reason(alloc, remarks, &mut lines)?;
     Ok(lines)
+}
+
+// What else matters.
+fn warnings(alloc: Global, narrowed: &Narrowed, lines: &mut Vec<u8>) -> Result<(), AllocError> {
+    let remarks = narrowed.remarks.as_slice();
+    let outside = number_of(remarks, RemarkReason::HeldOutside);
+    let words =
+        "of SYSMODs stand in the hold file: they are on others, or the SYSMOD is not carried";
+    warning(alloc, "HELD", outside, words, lines)?;
+    let swallowed = number_of(remarks, RemarkReason::StatementInComment);
+    let words = "statements stand in a comment: is it closed where it should be?";
+    warning(alloc, "COMMENT", swallowed, words, lines)?;
+    let words = "left out have elements, NPRE or DELETE, which nothing asks for now";
+    warning(alloc, "FORBIDS", narrowed.forbidding, words, lines)
 }
 
 fn check_line(alloc: Global, narrowed: &Narrowed, lines: &mut Vec<u8>) -> Result<(), AllocError> {
@@ -215,23 +252,4 @@ fn tally(alloc: Global, word: &str, tally: Tally, lines: &mut Vec<u8>) -> Result
     let line = format!(in alloc; "{word:<7} {carried:>7} carried {left_out:>7} left out\n")?;
     lines.extend_from_slice(line.as_bytes())?;
     Ok(())
-}
-
-/// Prints the summary. Where that can't be done, the files of these names are taken out of the folder again.
-pub(crate) fn print<H: IntakeHost>(
-    alloc: Global,
-    host: &mut H,
-    folder: &str,
-    text: &[u8],
-    names: &[&'static str],
-) -> Result<(), IntakeFault> {
-    if host.print(text).is_ok() {
-        return Ok(());
-    }
-    let mut files = Vec::new(alloc);
-    for name in names {
-        files.push(Named { name, bytes: None })?;
-    }
-    let _ = host.keep(folder, &files);
-    Err(IntakeFault::CannotPrint)
 }

@@ -70,7 +70,7 @@ impl From<clap::Error> for WordsFault {
 }
 
 /// Reads the words, of which the first is the program's name.
-pub(crate) fn read_words(alloc: Global, words: &[Vec<u8>]) -> Result<IntakeOptions, WordsFault> {
+pub fn read_words(alloc: Global, words: &[Vec<u8>]) -> Result<IntakeOptions, WordsFault> {
     let mut texts: Vec<String> = Vec::new(alloc);
     for word in words {
         match str::from_utf8(word.as_slice()) {
@@ -92,54 +92,71 @@ fn views<'a>(alloc: Global, texts: &'a [String]) -> Result<Vec<&'a str>, AllocEr
 }
 
 fn command_line<'a>(alloc: Global) -> Result<Command<'a>, AllocError> {
-    Command::new(alloc, "smpe-intake")
+    let command = Command::new(alloc, "smpe-intake")
         .version(VERSION)
         .about("Makes a shop's SMP/E files into files that smpe takes")
-        .after_help("Example: smpe-intake --out taken ptfs.txt holddata.txt")
-        .arg(named(
-            alloc,
-            "out",
-            "DIR",
-            "The folder for ptfin, hold or cntl, and remarks",
-        )
-        .required(true))?
-        .arg(named(
-            alloc,
-            "cntl",
-            "FILE",
-            "A command file, in place of the others",
-        ))?
-        .arg(named(
-            alloc,
-            "known",
-            "FILE",
-            "With --cntl: the SYSMODs that GROUPEXTEND(NOAPARS) and SOURCEID(RSU*) are about",
-        ))?
-        .arg(flag(alloc, "text", "The files have lines").conflicts_with("records")?)?
-        .arg(flag(alloc, "records", "The files have records of 80 bytes"))?
-        .arg(named(alloc, "code", "CODE", "The code of the files").value_parser(CODES.as_slice()))?
-        .arg(named(
-            alloc,
-            "syslib",
-            "DISTLIB=SYSLIB",
-            "The SYSLIB of elements that state none",
-        )
-        .action(ArgAction::Append))?
-        .arg(named(
-            alloc,
-            "relfile",
-            "DIR",
-            "The folder with F1, F2 .. for RELFILE",
-        ))?
-        .arg(flag(
-            alloc,
-            "decide",
-            "Carries stand-ins for elements that smpe lacks",
-        ))?
+        .after_help("Example: smpe-intake --out taken ptfs.txt holddata.txt");
+    let command = with_names(alloc, command)?;
+    let command = with_layout(alloc, command)?;
+    let command = with_elements(alloc, command)?;
+    command
         .arg(named(alloc, "summary", "FORM", "The form of the summary").value_parser(
             SUMMARIES.as_slice(),
         ))?
         .arg(files(alloc)?)
+}
+
+// The options that name the folder and files.
+fn with_names<'a>(alloc: Global, command: Command<'a>) -> Result<Command<'a>, AllocError> {
+    let out = named(
+        alloc,
+        "out",
+        "DIR",
+        "The folder for ptfin, hold or cntl, and remarks",
+    );
+    let cntl = named(
+        alloc,
+        "cntl",
+        "FILE",
+        "A command file, in place of the others",
+    );
+    let known = named(
+        alloc,
+        "known",
+        "FILE",
+        "With --cntl: the SYSMODs that GROUPEXTEND(NOAPARS) and SOURCEID(RSU*) are about",
+    );
+    command.arg(out.required(true))?.arg(cntl)?.arg(known)
+}
+
+// The options that say how files are laid out.
+fn with_layout<'a>(alloc: Global, command: Command<'a>) -> Result<Command<'a>, AllocError> {
+    let text = flag(alloc, "text", "The files have lines").conflicts_with("records")?;
+    let records = flag(alloc, "records", "The files have records of 80 bytes");
+    let code = named(alloc, "code", "CODE", "The code of the files").value_parser(CODES.as_slice());
+    command.arg(text)?.arg(records)?.arg(code)
+}
+
+// The options that say what becomes of elements.
+fn with_elements<'a>(alloc: Global, command: Command<'a>) -> Result<Command<'a>, AllocError> {
+    let syslib = named(
+        alloc,
+        "syslib",
+        "DISTLIB=SYSLIB",
+        "The SYSLIB of elements that state none",
+    );
+    let relfile = named(
+        alloc,
+        "relfile",
+        "DIR",
+        "The folder with F1, F2 .. for RELFILE",
+    );
+    let decide = flag(
+        alloc,
+        "decide",
+        "Carries stand-ins for elements that smpe lacks",
+    );
+    command.arg(syslib.action(ArgAction::Append))?.arg(relfile)?.arg(decide)
 }
 
 fn named<'a>(alloc: Global, id: &'a str, value: &'a str, help: &'a str) -> Arg<'a> {

@@ -1,42 +1,31 @@
 //! The files that are read, by their numbers.
 
 use crate::fault::IntakeFault;
-use crate::surroundings::IntakeHost;
-use intake_cards::{Card, CardOddity, Cards, Code, Layout, read_cards};
+use intake_cards::{Card, CardOddity, CardPlace, Cards, Code, Layout, read_cards};
 use std::alloc::{AllocError, Global};
-use std::io::ErrorKind;
 
 /// A file that was read: its name, and how it is laid out.
 #[derive(Debug, Drop)]
-pub(crate) struct InputFile {
-    pub(crate) name: String,
-    pub(crate) form: Layout,
+struct InputFile {
+    name: String,
+    form: Layout,
 }
 
 /// The files so far. A place names its file by the number that it has here.
 #[derive(Debug, Drop)]
-pub(crate) struct InputFiles {
+pub struct InputFiles {
     all: Vec<InputFile>,
 }
 
 impl InputFiles {
-    pub(crate) fn new(alloc: Global) -> InputFiles {
+    /// No files yet.
+    pub fn new(alloc: Global) -> InputFiles {
         InputFiles {
             all: Vec::new(alloc),
         }
     }
 
-    /// How many files there are, and the number of the next one.
-    pub(crate) fn count(&self) -> usize {
-        self.all.len()
-    }
-
-    pub(crate) fn add(
-        &mut self,
-        alloc: Global,
-        name: &str,
-        form: Layout,
-    ) -> Result<(), AllocError> {
+    fn add(&mut self, alloc: Global, name: &str, form: Layout) -> Result<(), AllocError> {
         self.all.push(InputFile {
             name: String::from_str(alloc, name)?,
             form,
@@ -44,7 +33,7 @@ impl InputFiles {
         Ok(())
     }
 
-    /// The name of the file of this number.
+    // The name of the file of this number.
     pub(crate) fn name(&self, file: usize) -> &str {
         match self.all.get(file) {
             Some(source) => source.name.as_str(),
@@ -52,12 +41,24 @@ impl InputFiles {
         }
     }
 
-    /// What a card of the file of this number is called.
+    // What a card of the file of this number is called.
     pub(crate) fn unit(&self, file: usize) -> &'static str {
         match self.all.get(file) {
             Some(source) => unit(source.form),
             None => unit(Layout::Records),
         }
+    }
+
+    // The place in words, before what is told of it.
+    pub(crate) fn place_text(
+        &self,
+        alloc: Global,
+        place: CardPlace,
+    ) -> Result<Vec<u8>, AllocError> {
+        let name = self.name(place.file);
+        let unit = self.unit(place.file);
+        let card = place.card;
+        Ok(format!(in alloc; "{name} {unit} {card}: ")?.into_bytes())
     }
 }
 
@@ -68,42 +69,8 @@ fn unit(form: Layout) -> &'static str {
     }
 }
 
-/// The bytes of a file.
-pub(crate) fn read<H: IntakeHost>(
-    alloc: Global,
-    host: &mut H,
-    name: &str,
-) -> Result<Vec<u8>, IntakeFault> {
-    match host.read(name) {
-        Ok(bytes) => Ok(bytes),
-        Err(error) => Err(unread(alloc, name, error.kind())?),
-    }
-}
-
-/// The bytes of a file, if there is one of this name.
-pub(crate) fn read_if_there<H: IntakeHost>(
-    alloc: Global,
-    host: &mut H,
-    name: &str,
-) -> Result<Option<Vec<u8>>, IntakeFault> {
-    match host.read(name) {
-        Ok(bytes) => Ok(Some(bytes)),
-        Err(error) => match error.kind() {
-            ErrorKind::NotFound => Ok(None),
-            kind => Err(unread(alloc, name, kind)?),
-        },
-    }
-}
-
-fn unread(alloc: Global, name: &str, kind: ErrorKind) -> Result<IntakeFault, AllocError> {
-    match kind {
-        ErrorKind::OutOfMemory => Ok(IntakeFault::Memory),
-        _ => Ok(IntakeFault::CannotRead(Vec::from_slice(alloc, name.as_bytes())?)),
-    }
-}
-
 /// The cards of the file of this name, which is the next one, and what was assumed of it in the remarks.
-pub(crate) fn cards_of(
+pub fn cards_of(
     alloc: Global,
     sources: &mut InputFiles,
     name: &str,
@@ -112,10 +79,10 @@ pub(crate) fn cards_of(
     code: Option<Code>,
     remarks: &mut Vec<u8>,
 ) -> Result<Vec<Card>, IntakeFault> {
-    let file = sources.count();
+    let file = sources.all.len();
     let found = match read_cards(alloc, file, bytes, form, code) {
         Ok(found) => found,
-        Err(error) => return Err(IntakeFault::of_cards(alloc, name, error)?),
+        Err(error) => return Err(IntakeFault::of_cards(alloc, name, error)),
     };
     sources.add(alloc, name, found.form)?;
     tell_assumed(alloc, name, &found, remarks)?;
