@@ -47,11 +47,7 @@ fn are_reasons(
 }
 
 // Whether the classes are those of HOLDCLASS.
-fn are_classes(
-    alloc: Global,
-    bypassed: &[WideOperand],
-    said: &[Class],
-) -> Result<bool, AllocError>
+fn are_classes(alloc: Global, bypassed: &[WideOperand], said: &[Class]) -> Result<bool, AllocError>
     ensures { IfOk result (λ are. IsTrue are
         → AreThese said.now (listed (codes "HOLDCLASS" ∷ []) bypassed.now)) }
 {
@@ -67,8 +63,18 @@ pub(crate) fn says_bypass(
 ) -> Result<bool, AllocError>
     ensures { IfOk result (λ says. IsTrue says → SaysBypass bypassed.now said.now) }
 {
-    let errors = are_reasons(alloc, &[b"HOLDERROR", b"HOLDERR"], bypassed, &said.holderror)?;
-    let systems = are_reasons(alloc, &[b"HOLDSYSTEM", b"HOLDSYS"], bypassed, &said.holdsystem)?;
+    let errors = are_reasons(
+        alloc,
+        &[b"HOLDERROR", b"HOLDERR"],
+        bypassed,
+        &said.holderror,
+    )?;
+    let systems = are_reasons(
+        alloc,
+        &[b"HOLDSYSTEM", b"HOLDSYS"],
+        bypassed,
+        &said.holdsystem,
+    )?;
     let users = are_reasons(alloc, &[b"HOLDUSER"], bypassed, &said.holduser)?;
     let classes = are_classes(alloc, bypassed, said.holdclass.as_slice())?;
     Ok(are_flags(bypassed, said) && errors && systems && users && classes)

@@ -16,4 +16,4 @@ mod sources;
 
 pub use commands::{are_said, is_no_decision, says};
 pub use known::{KnownList, KnownSysmod, read_known};
-pub use scan::{CommandEnd, WideCommand, WideCommands, wide_commands};
+pub use scan::{CommandComment, CommandEnd, WideCommand, WideCommands, wide_commands};

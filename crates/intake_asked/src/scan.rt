@@ -37,11 +37,23 @@ pub struct WideCommand {
     pub is_behind: bool,
 }
 
-/// The commands of a file, and the cards that are cut at column 80 outside comments.
+/// What stands in a comment that opens inside a command and goes on after its card.
+#[derive(Drop)]
+pub struct CommandComment {
+    /// Where it opens.
+    pub place: CardPlace,
+    /// The word of the command.
+    pub command: Vec<u8>,
+    /// The first text of a later card.
+    pub text: Vec<u8>,
+}
+
+/// The commands of a file, the cards that are cut at column 80 outside comments, and comments that may hide operands.
 #[derive(Drop)]
 pub struct WideCommands {
     pub commands: Vec<WideCommand>,
     pub cut: Vec<CardPlace>,
+    pub comments: Vec<CommandComment>,
 }
 
 // Whether the scanner is in a comment.
@@ -60,8 +72,10 @@ struct CommandScanner {
     commands: Vec<WideCommand>,
     words: Vec<WideOperand>,
     within: Within,
-    // Where the last comment opens.
+    // Where the last comment opens, and the first text that it has on a later card, if it is inside a command.
     comment: CardPlace,
+    swallowed: Vec<u8>,
+    comments: Vec<CommandComment>,
     // Parentheses that are open.
     depth: usize,
     // The last word goes on with the next character.
@@ -76,21 +90,27 @@ pub fn wide_commands(alloc: Global, cards: &[Card]) -> Result<WideCommands, Allo
     let mut scanner = CommandScanner::new(alloc);
     let mut cut = Vec::new(alloc);
     for card in cards {
+        scanner.begin_card(&card.text[..COLUMNS])?;
         for byte in &card.text[..COLUMNS] {
             scanner.take(*byte, card.place)?;
         }
         scanner.take(b' ', card.place)?;
         if card.ends_comment && scanner.is_in_comment() {
-            scanner.within = Within::Words;
+            scanner.close_comment()?;
         } else if card.is_cut && !scanner.is_in_comment() {
             cut.push(card.place)?;
         }
     }
+    let comments = std::mem::replace(&mut scanner.comments, Vec::new(alloc));
     let mut commands = scanner.end_of_file()?;
     for command in commands.iter_mut() {
         command.bypassed = bypassed(alloc, &command.operands)?;
     }
-    Ok(WideCommands { commands, cut })
+    Ok(WideCommands {
+        commands,
+        cut,
+        comments,
+    })
 }
 
 fn bypassed(alloc: Global, operands: &[WideOperand]) -> Result<Vec<WideOperand>, AllocError> {
@@ -126,6 +146,8 @@ impl CommandScanner {
             words: Vec::new(alloc),
             within: Within::Words,
             comment: CardPlace { file: 0, card: 1 },
+            swallowed: Vec::new(alloc),
+            comments: Vec::new(alloc),
             depth: 0,
             in_word: false,
             has_lower_case: false,
@@ -137,10 +159,37 @@ impl CommandScanner {
         matches!(self.within, Within::Comment | Within::Star)
     }
 
+    // The next card. What it has of a comment that opens inside a command on an earlier one is kept, if it is the first.
+    fn begin_card(&mut self, text: &[u8]) -> Result<(), AllocError> {
+        if self.is_in_comment() && !self.words.is_empty() && self.swallowed.is_empty() {
+            self.swallowed.extend_from_slice(before_end(text))?;
+        }
+        Ok(())
+    }
+
+    fn close_comment(&mut self) -> Result<(), AllocError> {
+        self.within = Within::Words;
+        if self.swallowed.is_empty() {
+            return Ok(());
+        }
+        let command = match self.words.first() {
+            Some(word) => word.name.clone()?,
+            None => Vec::new(self.alloc),
+        };
+        let text = std::mem::replace(&mut self.swallowed, Vec::new(self.alloc));
+        self.comments.push(CommandComment {
+            place: self.comment,
+            command,
+            text,
+        })?;
+        Ok(())
+    }
+
     // The next character of a card.
     fn take(&mut self, byte: u8, place: CardPlace) -> Result<(), AllocError> {
         match self.within {
             Within::Comment => self.within = in_comment(byte),
+            Within::Star if byte == b'/' => self.close_comment()?,
             Within::Star => self.within = behind_star(byte),
             Within::Slash if byte == b'*' => {
                 self.within = Within::Comment;
@@ -315,9 +364,21 @@ fn in_comment(byte: u8) -> Within {
 }
 
 fn behind_star(byte: u8) -> Within {
-    match byte {
-        b'/' => Within::Words,
-        b'*' => Within::Star,
-        _ => Within::Comment,
+    if byte == b'*' {
+        Within::Star
+    } else {
+        Within::Comment
     }
+}
+
+// What stands before the end of a comment.
+fn before_end(text: &[u8]) -> &[u8] {
+    for place in 0..text.len() {
+        if let Some((front, rest)) = text.split_at_checked(place) {
+            if rest.starts_with(b"*/") {
+                return front.trim_ascii();
+            }
+        }
+    }
+    text.trim_ascii()
 }

@@ -5,7 +5,7 @@ ghost use Rattle.intake_asked.specs.Words.{groupextend_names};
 ghost use Rattle.intake_asked.specs.Said.{known_in, AreThese, SaysSelection};
 
 use crate::known::KnownSysmod;
-use crate::lists::{excluded, groupextend_names, grouped, selected};
+use crate::lists::{excluded, grouped, groupextend_names, selected};
 use crate::operands::{has, listed};
 use crate::same::are_these;
 use crate::sources::sources;
@@ -62,8 +62,16 @@ fn are_named(
 {
     let select = are_ids(alloc, said.select.as_slice(), &selected(alloc, operands)?)?;
     let group = are_ids(alloc, said.group.as_slice(), &grouped(alloc, operands)?)?;
-    let exclude = are_ids(alloc, said.exclude.as_slice(), &excluded(alloc, known, operands)?)?;
-    let forfmid = are_ids(alloc, said.forfmid.as_slice(), &listed(alloc, &[b"FORFMID"], operands)?)?;
+    let exclude = are_ids(
+        alloc,
+        said.exclude.as_slice(),
+        &excluded(alloc, known, operands)?,
+    )?;
+    let forfmid = are_ids(
+        alloc,
+        said.forfmid.as_slice(),
+        &listed(alloc, &[b"FORFMID"], operands)?,
+    )?;
     Ok(select && group && exclude && forfmid)
 }
 

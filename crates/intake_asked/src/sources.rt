@@ -30,11 +30,7 @@ fn known_sources(alloc: Global, known: &[KnownSysmod]) -> Result<Vec<&[u8]>, All
 }
 
 // Those that begin so.
-fn beginning<'a>(
-    alloc: Global,
-    all: &[&'a [u8]],
-    front: &[u8],
-) -> Result<Vec<&'a [u8]>, AllocError>
+fn beginning<'a>(alloc: Global, all: &[&'a [u8]], front: &[u8]) -> Result<Vec<&'a [u8]>, AllocError>
     ensures { IfOk result (λ found. map (λ one. one.now) found.items
         ≡ filter (λ s. starts_with nat_eq s front.now) (map (λ one. one.now) all.now)) }
 {

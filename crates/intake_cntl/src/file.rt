@@ -8,7 +8,7 @@ use crate::carry::{Carried, carry_command};
 use crate::command_remarks::{CommandRemarks, RemarkWords};
 use crate::print::put_command;
 use cntl::{CntlError, Command, read_cntl};
-use intake_asked::{KnownSysmod, WideCommand, WideCommands, are_said, says};
+use intake_asked::{CommandComment, KnownSysmod, WideCommand, WideCommands, are_said, says};
 use intake_cards::{Deed, PrintedCards, Remark, RemarkReason, Tail};
 use intake_read::{Card, CardPlace};
 use std::alloc::{AllocError, Global};
@@ -40,6 +40,7 @@ pub fn command_file(
 {
     let mut told = CommandRemarks::new(alloc);
     tell_cards(alloc, &mut told, cards, &wide.cut)?;
+    tell_comments(alloc, &mut told, &wide.comments)?;
     let made = records_of(alloc, &mut told, wide.commands.as_slice(), known)?;
     let bytes = if told.refusals > 0 {
         None
@@ -116,6 +117,29 @@ fn tell_cards(
     Ok(())
 }
 
+// Tells what stands in comments inside commands, from the second card on, where each comment opens.
+fn tell_comments(
+    alloc: Global,
+    told: &mut CommandRemarks,
+    comments: &[CommandComment],
+) -> Result<(), AllocError> {
+    for comment in comments {
+        let words = RemarkWords {
+            command: comment.command.as_slice(),
+            operand: b"",
+            text: comment.text.as_slice(),
+        };
+        told.tell(
+            alloc,
+            comment.place,
+            words,
+            Deed::Dropped,
+            RemarkReason::StatementInComment,
+        )?;
+    }
+    Ok(())
+}
+
 fn tell_card(
     alloc: Global,
     told: &mut CommandRemarks,
@@ -166,13 +190,37 @@ fn append(
         Err(CntlError::Memory) => return Err(AllocError),
         Err(CntlError::Fault { code, .. }) => reason_of(&command, code),
     };
+    tell_unread(alloc, told, &command, reason)?;
+    Ok(false)
+}
+
+// Names a command whose records are not read as it is, with the operand that it must have and has not.
+fn tell_unread(
+    alloc: Global,
+    told: &mut CommandRemarks,
+    command: &Carried,
+    reason: RemarkReason,
+) -> Result<(), AllocError> {
+    let operand = match reason {
+        RemarkReason::Missing => needed_by(command.word),
+        _ => b"",
+    };
     let words = RemarkWords {
         command: command.word,
-        operand: b"",
+        operand,
         text: b"",
     };
-    told.tell(alloc, command.place, words, Deed::Refused, reason)?;
-    Ok(false)
+    told.tell(alloc, command.place, words, Deed::Refused, reason)
+}
+
+// The operand that the command can't be without.
+fn needed_by(command: &[u8]) -> &'static [u8] {
+    match command {
+        b"SET" => b"BOUNDARY",
+        b"REJECT" => b"SELECT",
+        b"REPORT" => b"ERRSYSMODS",
+        _ => b"",
+    }
 }
 
 // Whether what was read is one command, which says just what this one asks for.

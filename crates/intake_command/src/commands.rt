@@ -106,13 +106,7 @@ fn made_of(
     }
     tell(alloc, &sources, &file.remarks, &mut remarks)?;
     let is_written = file.bytes.is_some();
-    let summary = command_summary(
-        alloc,
-        file.carried,
-        file.others,
-        is_written,
-        &file.remarks,
-    )?;
+    let summary = command_summary(alloc, file.carried, file.others, is_written, &file.remarks)?;
     Ok(MadeCommands {
         wide: wide.commands,
         bytes: file.bytes,

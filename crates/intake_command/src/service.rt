@@ -123,13 +123,11 @@ fn statements_of(
 }
 
 fn has_statement(files: &[WideFile]) -> bool {
-    files
-        .iter()
-        .any(|file| !file.sysmods.is_empty()
-            || !file.holds.is_empty()
-            || !file.releases.is_empty()
-            || !file.assigns.is_empty()
-            || !file.others.is_empty())
+    files.iter().any(|file| !file.sysmods.is_empty()
+        || !file.holds.is_empty()
+        || !file.releases.is_empty()
+        || !file.assigns.is_empty()
+        || !file.others.is_empty())
 }
 
 // What becomes of the files.

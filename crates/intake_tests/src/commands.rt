@@ -2,8 +2,8 @@
 
 use crate::narrow_lines::compare;
 use crate::wide::file_of;
-use intake_cards::{Layout, read_cards};
 use intake_asked::{KnownList, KnownSysmod, read_known, wide_commands};
+use intake_cards::{Layout, read_cards};
 use intake_cntl::command_file;
 use std::alloc::Global;
 use std::test::Fail;
@@ -21,7 +21,11 @@ ACCEPT SELECT(UA00001,UA00002) BYPASS(PRE,REQ,IFREQ,ID,APPLYCHECK).
 /// Comments, anywhere.
 const COMMENTED: &str = "\
 /* A */ LIST /* B. */ /* ) */ . /* C */ => LIST.
-REJECT SELECT(UA00001 /* A| B */ ,UA00002). => REJECT SELECT(UA00001,UA00002).
+REJECT SELECT(UA00001 /* A| B */ ,UA00002). => REJECT SELECT(UA00001,UA00002).|\
+line 1: REJECT: dropped: it stands in a comment: B
+/* ALL| OF IT */ LIST. => LIST.
+APPLY PTFS /* A| CHECK.| LIST. */ . => APPLY PTFS.|line 1: APPLY: dropped: it stands in a comment: CHECK.
+APPLY PTFS /* A| */ CHECK. => APPLY PTFS CHECK.
 ";
 
 /// What is spelled out.
@@ -82,7 +86,9 @@ APPLY SELECT(UA1). => line 1: APPLY SELECT: refused: a bad value: UA1
 APPLY SELECT. => line 1: APPLY SELECT: refused: it is missing
 APPLY BYPASS(X.PRE). => line 1: APPLY X.PRE: refused: the profile has no such operand
 SET BDY(A,B). => line 1: SET BDY: refused: a bad value: A,B
-SET. => line 1: SET: refused: it is missing
+SET. => line 1: SET BOUNDARY: refused: it is missing
+REJECT. => line 1: REJECT SELECT: refused: it is missing
+REPORT. => line 1: REPORT ERRSYSMODS: refused: it is missing
 RESTORE CHECK. => line 1: RESTORE: refused: SELECT or GROUP is missing
 RECEIVE S(UA00001). => line 1: RECEIVE S: refused: the profile has no such operand: UA00001
 LOG('A. B').|LIST SYSMODS. => line 1: LOG: dropped: it changes no decision: 'A. B'|\
@@ -99,6 +105,9 @@ APPLY SELECT(AA00001) GROUPEXTEND EXCLUDE(UA00009,AA00002,UM00001).|\
 line 1: APPLY S: carried otherwise: spelled out: SELECT|line 1: APPLY E: carried otherwise: spelled out: EXCLUDE|\
 line 1: APPLY GROUPEXTEND: carried otherwise: EXCLUDE names the APARs or USERMODs of --known: NOAPARS|\
 line 1: APPLY GROUPEXTEND: carried otherwise: EXCLUDE names the APARs or USERMODs of --known: NOUSERMODS
+APPLY SELECT(AA00001) GROUP GROUPEXTEND(NOAPARS). => APPLY GROUP(AA00001) GROUPEXTEND EXCLUDE(AA00002).|\
+line 1: APPLY GROUP: carried otherwise: GROUP has the ids of SELECT|\
+line 1: APPLY GROUPEXTEND: carried otherwise: EXCLUDE names the APARs or USERMODs of --known: NOAPARS
 APPLY PTFS SOURCEID(HIPER,RSU*). => APPLY PTFS SOURCEID(HIPER,RSU2401,RSU2402).|\
 line 1: APPLY SOURCEID: carried otherwise: the list names the source ids of --known that begin so: RSU*
 APPLY PTFS SOURCEID(PUT*). => line 1: APPLY SOURCEID: refused: no source id of --known begins so: PUT*

@@ -156,7 +156,10 @@ fn with_elements<'a>(alloc: Global, command: Command<'a>) -> Result<Command<'a>,
         "decide",
         "Carries stand-ins for elements that smpe lacks",
     );
-    command.arg(syslib.action(ArgAction::Append))?.arg(relfile)?.arg(decide)
+    command
+        .arg(syslib.action(ArgAction::Append))?
+        .arg(relfile)?
+        .arg(decide)
 }
 
 fn named<'a>(alloc: Global, id: &'a str, value: &'a str, help: &'a str) -> Arg<'a> {

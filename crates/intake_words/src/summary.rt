@@ -26,11 +26,7 @@ pub(crate) fn counts_of(alloc: Global, remarks: &[Remark]) -> Result<Vec<ToldCou
 }
 
 // A line for each deed and reason, with how many remarks tell them.
-fn by_reason(
-    alloc: Global,
-    remarks: &[Remark],
-    lines: &mut Vec<u8>,
-) -> Result<(), AllocError> {
+fn by_reason(alloc: Global, remarks: &[Remark], lines: &mut Vec<u8>) -> Result<(), AllocError> {
     for told in &counts_of(alloc, remarks)? {
         let count = told.count;
         let deed = told.deed.words();
@@ -108,7 +104,9 @@ pub(crate) fn subject_text(remark: &Remark) -> Result<Vec<u8>, AllocError> {
 /// What the cause says, in words.
 pub(crate) fn cause_text(cause: &Remark) -> Result<Vec<u8>, AllocError> {
     let mut text = subject_text(cause)?;
-    text.extend_from_slice(b": ")?;
+    if !text.is_empty() {
+        text.extend_from_slice(b": ")?;
+    }
     text.extend_from_slice(cause.reason.words().as_bytes())?;
     if !cause.text.is_empty() {
         text.extend_from_slice(b": ")?;
