@@ -1,2 +1,2 @@
-pub mod Lists
-pub mod Same
+pub mod Alike
+pub mod Passing

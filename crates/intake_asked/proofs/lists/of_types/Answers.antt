@@ -3,7 +3,7 @@ use Rattle.std.proofs.lemmas.List.{take_all, map-append}
 use Rattle.terms.specs.declared.kinds.Kind.{Kind}
 use Rattle.intake_asked.specs.declared.known.KnownSysmod.{KnownSysmod}
 use Rattle.intake_asked.specs.Words.{is_kept_out}
-use Rattle.intake_asked.proofs.Lists.{keeps_next, skips_next, more_found}
+use Rattle.intake_asked.proofs.Passing.{keeps_next, skips_next, more_found}
 use Rattle.intake_asked.proofs.lists.of_types.Goals as goal
 
 pub loop-sysmod-preserved-then-not-is_kept_out : goal.loop-sysmod-preserved-then-not-is_kept_out

@@ -1,7 +1,7 @@
 use Rattle.std.proofs.Common.{◌∙◌, ◌∷◌, [], ℕ, List, Bool, sym, ap, refl, map, filter, not, arith}
 use Rattle.std.proofs.lemmas.List.{take_all}
 use Rattle.terms.specs.Lookups.{is_in}
-use Rattle.intake_asked.proofs.Lists.{passes_next, fails_next, more_found}
+use Rattle.intake_asked.proofs.Passing.{passes_next, fails_next, more_found}
 use Rattle.intake_asked.proofs.lists.unnamed.Goals as goal
 
 pub loop-id-preserved-then-is_among : goal.loop-id-preserved-then-is_among

@@ -1,7 +1,7 @@
 use Rattle.std.proofs.Common.{◌∙◌, ◌∷◌, [], sym, ap, refl, map, filter, length, arith}
 use Rattle.std.specs.Prelude.{nat_lt}
 use Rattle.std.proofs.lemmas.List.{take_all}
-use Rattle.intake_asked.proofs.Lists.{passes_next, fails_next, more_found}
+use Rattle.intake_asked.proofs.Passing.{passes_next, fails_next, more_found}
 use Rattle.intake_asked.proofs.operands.filled.Goals as goal
 
 pub loop-part-preserved-then-not-is_filled : goal.loop-part-preserved-then-not-is_filled

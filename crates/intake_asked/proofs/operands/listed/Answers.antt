@@ -3,7 +3,7 @@ use Rattle.std.specs.Prelude.{if◌then◌else◌}
 use Rattle.std.proofs.lemmas.List.{take_all}
 use Rattle.intake_read.specs.declared.items.WideOperand.{WideOperand}
 use Rattle.intake_asked.specs.Words.{is_called, members, list_in, listed}
-use Rattle.intake_asked.proofs.Lists.{flat_map_next, more_found}
+use Rattle.intake_asked.proofs.Passing.{flat_map_next, more_found}
 use Rattle.intake_asked.proofs.operands.listed.Goals as goal
 
 pub loop-operand-preserved : goal.loop-operand-preserved

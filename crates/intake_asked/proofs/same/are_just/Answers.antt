@@ -1,5 +1,5 @@
 use Rattle.std.proofs.Common.{map}
-use Rattle.intake_asked.proofs.Same.{among}
+use Rattle.intake_asked.proofs.Alike.{among}
 use Rattle.intake_asked.proofs.same.are_just.Goals as goal
 
 pub returns : goal.returns

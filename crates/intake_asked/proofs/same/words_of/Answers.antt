@@ -1,6 +1,6 @@
 use Rattle.std.proofs.Common.{◌∙◌, ◌∷◌, [], ap, map, arith}
 use Rattle.std.proofs.lemmas.List.{take_all}
-use Rattle.intake_asked.proofs.Lists.{map_next, more_found}
+use Rattle.intake_asked.proofs.Passing.{map_next, more_found}
 use Rattle.intake_asked.proofs.same.words_of.Goals as goal
 
 pub loop-value-preserved : goal.loop-value-preserved

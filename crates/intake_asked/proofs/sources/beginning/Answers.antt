@@ -2,7 +2,7 @@ use Rattle.std.proofs.Common.{◌∙◌, ◌∷◌, [], ℕ, List, Bool, sym, ap
 use Rattle.std.specs.Prelude.{nat_eq}
 use Rattle.std.specs.List.{starts_with}
 use Rattle.std.proofs.lemmas.List.{take_all}
-use Rattle.intake_asked.proofs.Lists.{passes_next, fails_next, more_found}
+use Rattle.intake_asked.proofs.Passing.{passes_next, fails_next, more_found}
 use Rattle.intake_asked.proofs.sources.beginning.Goals as goal
 
 pub loop-one-preserved-then-not-starts_with : goal.loop-one-preserved-then-not-starts_with

@@ -2,7 +2,7 @@ use Rattle.std.proofs.Common.{◌∙◌, ap, map, arith}
 use Rattle.std.specs.List.{flat_map}
 use Rattle.std.proofs.lemmas.List.{take_all, map-id}
 use Rattle.intake_asked.specs.declared.known.KnownSysmod.{KnownSysmod}
-use Rattle.intake_asked.proofs.Lists.{flat_map_next, more_found}
+use Rattle.intake_asked.proofs.Passing.{flat_map_next, more_found}
 use Rattle.intake_asked.proofs.sources.known_sources.Goals as goal
 
 pub loop-sysmod-preserved : goal.loop-sysmod-preserved

@@ -4,7 +4,7 @@ use Rattle.std.proofs.lemmas.List.{take_all, map-append}
 use Rattle.std.proofs.lemmas.List.Elements.{All-push}
 use Rattle.std.proofs.lemmas.List.Concat.{flat_map-append}
 use Rattle.intake_asked.specs.Words.{sources_of}
-use Rattle.intake_asked.proofs.Lists.{map_next, more_found}
+use Rattle.intake_asked.proofs.Passing.{map_next, more_found}
 use Rattle.intake_asked.proofs.sources.sources.Goals as goal
 
 pub loop-member-preserved : goal.loop-member-preserved
