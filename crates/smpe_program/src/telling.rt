@@ -5,10 +5,9 @@ use smpe_hints::{ReportWatch, empty_hint, operand_hint, zone_hint};
 use sqlite::{Error, ErrorCode};
 use std::alloc::AllocError;
 
-const FULL: &str = "the disk is full, or your share of it is";
+const FULL: &str = "the disk is full";
 
-const FAILED: &str =
-    "a read or write of the database failed; the system's log may say why";
+const FAILED: &str = "a read or write of the database failed";
 
 /// Says what a report and a fault leave unsaid. It says nothing if memory runs out or nothing can be written.
 pub(crate) fn tell(
