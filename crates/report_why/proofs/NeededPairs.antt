@@ -1,5 +1,5 @@
 -- Which applied SYSMODs alone supply what another one needs.
-use Rattle.std.proofs.Common.{◌≡◌, ◌≢◌, ◌∙◌, ◌⊎◌, inl, inr, Bool, true, false, List, [], ◌∷◌, ◌++◌, refl, sym, ap, subst, Contains}
+use Rattle.std.proofs.Common.{◌≡◌, ◌≢◌, ◌∙◌, inl, inr, Bool, true, false, List, [], ◌∷◌, refl, sym, ap, subst, Contains}
 use Rattle.std.proofs.Common.{IsTrue, map, filter, not, true≢false}
 use Rattle.std.specs.Prelude.{◌↔◌, ◌&&◌, if◌then◌else◌}
 use Rattle.std.specs.List.{flat_map, list_all}
@@ -10,7 +10,7 @@ use Rattle.terms.proofs.Searches.{all_pass, passes_all}
 use Rattle.terms.proofs.TextOrder.{same_from, same_itself}
 use Rattle.terms.specs.Types.{Id}
 use Rattle.terms.specs.Lookups.{IsZone, is_in, is_applied, applied_ids}
-use Rattle.terms.specs.Restore.{Restoring, NeedsDep}
+use Rattle.terms.specs.Restore.{Restoring}
 use Rattle.undo.specs.Dependences.{dependences_of, all_within}
 use Rattle.undo.proofs.Needing.{depends_from, depends_to, member_applied}
 use Rattle.report_why.specs.Needed.{sole, soles, needing}
@@ -20,7 +20,6 @@ use Rattle.terms.specs.Choice.{Choice, counting}
 use Rattle.terms.specs.Restore.{NeedsInRestore}
 use Rattle.terms.proofs.Ids.{is_in_from_Contains, Contains_from_is_in}
 use Rattle.std.proofs.lemmas.Bool.{and_parts, not-true}
-use Rattle.report_why.specs.Facts.{NeedsIt}
 use Rattle.report_why.specs.Needed.{needed_pairs, AllNeeded}
 use Rattle.report_why.proofs.Dependents.{needs_it}
 

@@ -1,13 +1,13 @@
 -- The search back from an id over those that name it in SUP.
 use Rattle.std.proofs.Common.{◌≡◌, ◌⊎◌, inl, inr, ℕ, ◌+◌, ◌-◌, ◌<◌, ◌≤◌, List, [], ◌∷◌, length, refl, sym, subst, get_or}
-use Rattle.std.proofs.Common.{Bool, Contains, IsTrue, map, true}
+use Rattle.std.proofs.Common.{Bool, Contains, map, true, ◌++◌}
 use Rattle.std.specs.Prelude.{◌↔◌}
 use Rattle.std.specs.Str.{bytes_eq}
 use Rattle.terms.proofs.Leads.{reaches_named, reaches_first, reaches_back, all_reached}
 use Rattle.terms.proofs.Ids.{is_in_from_Contains, Contains_from_is_in}
 use Rattle.terms.proofs.ListMembers.{here, here_or, none_in, in_filter, filter_in, in_flat}
 use Rattle.std.proofs.lemmas.List.Elements.{Contains-append_left, Contains-append_right}
-use Rattle.terms.specs.Types.{Text, Id, Global}
+use Rattle.terms.specs.Types.{Text, Id, Ver, Global}
 use Rattle.terms.specs.Global.{named, names_for}
 use Rattle.terms.specs.Lookups.{is_in, at_most_one}
 use Rattle.terms.specs.Choice.{Choice, vers_of, sup_of}
@@ -25,6 +25,11 @@ use Rattle.indexmap.specs.IndexSet.{insert_key}
 use Rattle.report.proofs.Superseding.{received, sup_by}
 use Rattle.report_why.specs.Superseders.{direct_superseders}
 
+-- SUP is among what a ++VER names
+sup_named : (v : Ver) (z : Id) → Contains v.sup z → Contains (named v) z
+sup_named v z is =
+    Contains-append_left (v.pre ++ v.sup) (at_most_one v.fmid) z (Contains-append_right v.pre v.sup z is)
+
 -- they are those that name it
 pub direct_are : (vers : VerChoice) (z y : Id)
     → Contains (direct_superseders vers z) y ↔ Contains (sup_of (choice vers) y) z
@@ -32,10 +37,8 @@ direct_are vers z y = (
   λ h. Contains_from_is_in (sup_of (choice vers) y) z (filter_in names namers y h).1,
   λ h.
       let by = sup_by g srel (λ x. number_in vers x - 1) y z h in
-      let name = Contains-append_right by.0.pre (by.0.sup ++ at_most_one by.0.fmid) z
-      (Contains-append_left by.0.sup (at_most_one by.0.fmid) z by.2) in
       let own = is_in_from_Contains (names_for (zone_of g.sysmods) srel y) z
-      (in_flat named (vers_of g srel y) by.0 z by.1 name) in
+      (in_flat named (vers_of g srel y) by.0 z by.1 (sup_named by.0 z by.2)) in
       in_filter names namers y
       (in_filter (λ x. is_in (names_for (zone_of g.sysmods) srel x) z) (map (λ s. s.id) g.sysmods) y
       (received g srel y by.0 by.1) own)

@@ -1,4 +1,4 @@
-use Rattle.std.proofs.Common.{◌≡◌, ◌∙◌, [], length, rules}
+use Rattle.std.proofs.Common.{◌≡◌, ◌∙◌, length, rules}
 use Rattle.zones.specs.Scopes.{global_of, choice_of}
 use Rattle.report_why.proofs.Untouched.{none_taken, nil_of}
 use Rattle.report_why.proofs.deletes.taken_out.Goals as goal

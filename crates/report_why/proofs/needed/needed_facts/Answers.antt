@@ -1,7 +1,6 @@
 use Rattle.std.proofs.Common.{◌∙◌, [], ap, arith, map, subst, sym, take_all, Contains}
-use Rattle.std.specs.Prelude.{◌↔◌}
 use Rattle.std.specs.List.{flat_map}
-use Rattle.report_why.specs.Facts.{NeededFact, NeedsIt}
+use Rattle.report_why.specs.Facts.{NeededFact}
 use Rattle.report_why.specs.Needed.{needing}
 use Rattle.report_why.proofs.TextParts.{grown_more}
 use Rattle.report_why.proofs.needed.needed_facts.Goals as goal
