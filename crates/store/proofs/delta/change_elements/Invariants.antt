@@ -4,10 +4,10 @@ use Rattle.terms.specs.Types.{Zone}
 use Rattle.zones_maps.specs.Delta.{element_stood}
 use Rattle.store_rows.specs.Calls.{RunsInside}
 use Rattle.store_rows.specs.Inside.{Continues}
-use Rattle.store.specs.Calls.{element_calls}
+use Rattle.store.specs.Calls.{element_calls, new_element}
 use Rattle.store_zones.specs.Zones.{ChangesZone}
-use Rattle.store.specs.Writes.{EditsElements}
-use Rattle.store.proofs.delta.edit_elements.Given as goal
+use Rattle.store.specs.Writes.{EditsElements, others}
+use Rattle.store.proofs.delta.change_elements.Given as goal
 
 abbrev pub invariant-loop-edit : goal.invariant-loop-edit
 invariant-loop-edit g l = record {
@@ -15,5 +15,5 @@ invariant-loop-edit g l = record {
   calls : RunsInside g.S.Store (flat_map (element_calls l.name) (take (length l.yielded) (zip l.edits l.stood)))
       l.fn.tx.conn.now l.tx.conn.now {X = Unit {0}} (Ok tt);
   changes : (zone : Zone) → l.stood ≡ map (element_stood zone) l.edits → ChangesZone g.S.Store l.fn.tx.conn.now
-      l.tx.conn.now l.name (EditsElements zone (take (length l.yielded) l.edits));
+      l.tx.conn.now l.name (EditsElements zone (others new_element (take (length l.yielded) (zip l.edits l.stood))));
 }
