@@ -1,7 +1,7 @@
 -- What is told of ids, part by part.
 use Rattle.std.proofs.Common.{◌≡◌, ◌∙◌, ◌+◌, ℕ, zero, suc, List, [], ◌∷◌, ◌++◌, Some, map, refl, sym, ap, arith}
 use Rattle.std.proofs.Common.{◌<◌, slice_get, get_or, take, length, append-nil, subst, subst₂, Option, None}
-use Rattle.std.proofs.Common.{Bool, true, false, Contains}
+use Rattle.std.proofs.Common.{true, false, Contains}
 use Rattle.std.specs.Prelude.{max, if◌then◌else◌}
 use Rattle.std.specs.List.{flat_map}
 use Rattle.std.specs.Ordering.{nat_cmp}

@@ -27,7 +27,7 @@ loop-id-preserved c =
     told_more _ c.question.inside.ids.now c.loop-id.id-index c.id-item.result _ _ _ _ _ _ (omega arith) c.id-item.is
     c.loop-id.invariant c.in_ok-one.ensures
     (c.in_ok-extend_from_slice.ensures.items ∙ ap (λ l. c.loop-id.told.text.items ++ l) c.as_slice.ensures.value)
-    c.max-told.ensures
+    c.max.ensures
 
 pub returns : goal.returns
 returns c =
@@ -37,7 +37,7 @@ returns c =
     let question = c.args.question.now in
     let all = c.loop-id.invariant in
     let ids : c.question.inside.ids.now ≡ question.ids = ap (λ (a : Inquiry). a.ids) c.question.view_is in
-    told_each g zone related question _
+    told_each g zone related question c.loop-id.told
     (sym (ap (λ (a : Inquiry). a.together) c.question.view_is) ∙ c.if-question.false) all.parts
     (subst (λ (l : List Id). Beside (λ n x (p : Text × ℕ). AreToldBy g zone related question (x ∷ []) p.0 p.1) l
     all.parts) ids
