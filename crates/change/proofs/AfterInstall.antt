@@ -1,5 +1,5 @@
 -- Whatever zone the edits make of the old one is the one that the install asks for.
-use Rattle.std.proofs.Common.{◌≡◌, ◌∙◌, List, [], sym, ap, All}
+use Rattle.std.proofs.Common.{◌≡◌, ◌∙◌, List, [], refl, sym, ap, All}
 use Rattle.std.specs.Prelude.{find}
 use Rattle.std.specs.Option.{option_map_or}
 use Rattle.std.specs.Str.{bytes_eq}
@@ -29,21 +29,21 @@ module _ (d : Deleting) (bypassed : List (Id × Id)) (date : Text) (is_global : 
   abbrev i : Installation
   i = installation d.vers.now.global.now (choice_of d) (number_in d.vers.now) d.zone.now d.kept.now bypassed date
 
-  pub installs : (p : Plan) (start between zone_edits : ZoneEdits) (none less edits : List ElementEdit) (es : List Element)
-      → IsPlan i d.dels.now p → none ≡ [] → HasPutEntries d p p.touched start between
-      → less ≡ less_elements d none d.zone.now.elements → AreElementsAfter i es → edits ≡ with_elements less es
+  pub installs : (p : Plan) (start between zone_edits : ZoneEdits) (edits : List ElementEdit) (es : List Element)
+      → IsPlan i d.dels.now p → HasPutEntries d p p.touched start between → AreElementsAfter i es
+      → edits ≡ with_elements (less_elements d [] d.zone.now.elements) es
       → HasEditedElements d.zone.now edits between zone_edits
       → (new : Zone) → IsEdited zone_edits d.zone.now new → HasInstalled i new
-  installs p start between zone_edits none less edits es plan empty put cut after is done new changed =
+  installs p start between zone_edits edits es plan put after is done new changed =
       let zone : Zone = d.zone.now in
+      let less : List ElementEdit = less_elements d [] zone.elements in
       let at_entry : (x : Id) → entry_of new x ≡ entry_after between zone x =
       λ x. changed.entries x
       ∙ ap (λ es. option_map_or edit_put (find (λ e. bytes_eq (edit_key (λ e. e.id) e) x) es) (entry_of zone x))
       done.entries in
       let at_element : (type : ElemType) (name : Text)
       → element_after less zone (type, name) ≡ element_of (cleared i) type name =
-      λ type name. ap (λ v. element_after v zone (type, name)) cut
-      ∙ removed_at d is_zone type name none empty
+      λ type name. removed_at d is_zone type name [] refl
       ∙ ap (λ z. element_of z type name)
       (sym (entries.cleared_is d bypassed date is_global is_zone lists dels)) in
       let at_key : (type : ElemType) (name : Text)

@@ -1,12 +1,16 @@
 -- Edits of elements: some are removed, and some are put.
-use Rattle.std.specs.Prelude.{List, fold, if◌then◌else◌}
+use Rattle.std.specs.Prelude.{◌≡◌, List, [], fold, if◌then◌else◌}
 use Rattle.sorted.specs.declared.edits.Edit.TheVariants.{Put, Remove}
-use Rattle.terms.specs.Types.{Element}
+use Rattle.terms.specs.Types.{Id, Element}
 use Rattle.terms.specs.Lookups.{element_cmp, element_key}
 use Rattle.terms.specs.Rising.{with_item}
 use Rattle.sorted.specs.Edits.{edit_key}
+use Rattle.terms.specs.Install.{Installation}
+use Rattle.sysmods.specs.declared.ver_choice.VerChoice.{VerChoice}
+use Rattle.sysmods.specs.Choices.{choice}
 use Rattle.change.specs.declared.deleting.Deleting.{Deleting}
 use Rattle.change.specs.Deleting.{is_cut}
+use Rattle.change.specs.Elements.{IsInstallOf, AreElementsAfter}
 use Rattle.zones_maps.specs.Differing.{ElementEdit}
 
 -- the edits with an element put
@@ -24,3 +28,12 @@ less_element d edits e =
 
 abbrev pub less_elements : Deleting → List ElementEdit → List Element → List ElementEdit
 less_elements d edits es = fold (less_element d) edits es
+
+-- Elements are removed whose owner is deleted, and then those are put that these SYSMODs change, by these ++VERs, as
+-- they are once all of them have taken effect.
+pub record AreElementEdits (d : Deleting) (vers : VerChoice) (effective : List Id) (edits : List ElementEdit) : Type 0
+  where
+    pub elements : List Element
+    pub after : (i : Installation)
+        → IsInstallOf i vers.global.now (choice vers) d.zone.now d.dels.now effective → AreElementsAfter i elements
+    pub edits_are : edits ≡ with_elements (less_elements d [] d.zone.now.elements) elements

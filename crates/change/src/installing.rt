@@ -1,21 +1,25 @@
 //! What kept SYSMODs put into a zone.
-ghost use Rattle.std.specs.Prelude.{◌≡◌, ◌≢◌, ◌↔◌, ◌⊎◌, Contains, IfOk, OnOk};
-ghost use Rattle.terms.specs.Types.{Id as AnId, Zone as AZone};
+ghost use Rattle.std.specs.Prelude.{◌≡◌, ◌≢◌, ◌↔◌, ◌⊎◌, AllPairs, Any, Contains, IsSome, IsTrue, IfOk, OnOk};
+ghost use Rattle.terms.specs.declared.kinds.ElemType.{ElemType as AType};
+ghost use Rattle.terms.specs.Changes.{has_replacement};
+ghost use Rattle.terms.specs.Deleted.{deletions, zone_less};
+ghost use Rattle.terms.specs.Lookups.{element_of, has_change};
+ghost use Rattle.terms.specs.Types.{Text, Id as AnId, Zone as AZone};
 ghost use Rattle.sysmods.specs.Choices.{choice};
 ghost use Rattle.terms.specs.Over.{IsOver};
 ghost use Rattle.terms.specs.Tests.{ShareElement};
-ghost use Rattle.zones_maps.specs.Delta.{IsChanged, KnowsStood};
+ghost use Rattle.zones_maps.specs.Delta.{IsChanged, IsEdited, KnowsStood};
 ghost use Rattle.terms.specs.Install.{HasInstalled, TakesEffect};
 ghost use Rattle.change.specs.Elements.{HasBases};
 ghost use Rattle.zones_maps.specs.Differing.{EachChanges};
-ghost use Rattle.change.specs.Plans.{installation_of};
-ghost use Rattle.change.specs.Puts.{with_elements, less_elements};
+ghost use Rattle.change.specs.Plans.{IsPlan, installation_of};
+ghost use Rattle.change.specs.Puts.{AreElementEdits, with_elements, less_elements};
 
 use crate::changed_elements::elements_after;
 use crate::deleting::Deleting;
 use crate::differing::{ElementEdit, edit_elements};
 use crate::entries::put_entries;
-use crate::plan::planned;
+use crate::plan::{Plan, planned};
 use fields::{Attest, Id, IdList, YyDdd};
 use sorted::{Edit, Table};
 use std::alloc::{AllocError, Global};
@@ -56,36 +60,73 @@ pub fn install(alloc: Global, installing: Installing<'_, '_>) -> Result<Installe
         ↔ TakesEffect (installation_of installing.entry) x) }
 {
     let zone = installing.zone;
-    zone.attest();
-    zone.known_lists();
-    let vers = installing.overs.vers();
-    vers.global().attest();
-    let dels = deletions(alloc, vers, installing.kept.as_slice())?;
+    let dels = deletions(alloc, installing.overs.vers(), installing.kept.as_slice())?;
     let plan = planned(alloc, &installing, dels.as_slice())?;
-    let deleting = Deleting {
-        vers,
-        zone,
-        kept: installing.kept.as_slice(),
-        dels: dels.as_slice(),
-    };
-    let mut zone_edits = ZoneEdits::new(alloc);
-    put_entries(alloc, &deleting, &plan, &mut zone_edits)?;
-    let mut edits = Table::new(alloc);
-    remove_elements(&deleting, &mut edits)?;
-    let mut overs = installing.overs;
-    let elements = elements_after(
-        alloc,
-        &mut overs,
-        zone,
-        dels.as_slice(),
-        plan.effective.as_slice(),
-    )?;
-    put_elements(elements, &mut edits)?;
-    edit_elements(zone, edits.into_vec(), &mut zone_edits)?;
+    let zone_edits = edits_of(alloc, installing, dels.as_slice(), &plan)?;
     Ok(Installed {
         delta: ZoneDelta::of(alloc, zone_edits, zone)?,
         effective: plan.effective,
     })
+}
+
+// What an install puts into the zone and takes out of it, with its deletions and by its plan.
+fn edits_of(
+    alloc: Global,
+    installing: Installing<'_, '_>,
+    dels: &[Id],
+    plan: &Plan,
+) -> Result<ZoneEdits, AllocError>
+    requires dels { dels.now ≡ deletions (choice installing.overs) installing.kept.now }
+    requires plan { IsPlan (installation_of installing) dels.now plan.now }
+    requires order { (x y : AnId) → Contains installing.kept.now x → Contains installing.kept.now y → x ≢ y
+        → ShareElement installing.overs.global.now x y
+        → IsOver (choice installing.overs) x y ⊎ IsOver (choice installing.overs) y x }
+    requires base { HasBases (installation_of installing) }
+    ensures installs { IfOk result (λ edits. (new : AZone) → IsEdited edits installing.entry.zone.now new →
+        HasInstalled (installation_of installing.entry) new) }
+    ensures differs { IfOk result (EachChanges installing.entry.zone.now) }
+{
+    let zone = installing.zone;
+    zone.attest();
+    zone.known_lists();
+    let vers = installing.overs.vers();
+    vers.global().attest();
+    let deleting = Deleting {
+        vers,
+        zone,
+        kept: installing.kept.as_slice(),
+        dels,
+    };
+    let mut zone_edits = ZoneEdits::new(alloc);
+    put_entries(alloc, &deleting, plan, &mut zone_edits)?;
+    let mut overs = installing.overs;
+    let edits = element_edits(alloc, &deleting, &mut overs, plan.effective.as_slice())?;
+    edit_elements(zone, edits.into_vec(), &mut zone_edits)?;
+    Ok(zone_edits)
+}
+
+// The edits of elements, whether or not they change something: what is deleted goes, and what these SYSMODs change is
+// put as it is once all of them have taken effect.
+fn element_edits(
+    alloc: Global,
+    deleting: &Deleting,
+    overs: &mut Overs<'_, '_>,
+    effective: &[Id],
+) -> Result<Table<ElementEdit>, AllocError>
+    requires order { AllPairs (λ x y. ShareElement overs.old.global.now x y
+        → IsOver (choice overs.old) x y ⊎ IsOver (choice overs.old) y x) effective.now }
+    requires some { (type : AType) (name : Text)
+        → Any (λ x. IsTrue (has_change overs.old.global.now x type name)) effective.now
+        → IsSome (element_of
+        (zone_less overs.old.global.now (choice overs.old) deleting.now.dels.now deleting.now.zone.now) type name)
+        ⊎ Any (λ x. IsTrue (has_replacement overs.old.global.now x type name)) effective.now }
+    ensures { IfOk result (AreElementEdits deleting.now overs.old effective.now) }
+{
+    let mut edits = Table::new(alloc);
+    remove_elements(deleting, &mut edits)?;
+    let elements = elements_after(alloc, overs, deleting.zone, deleting.dels, effective)?;
+    put_elements(elements, &mut edits)?;
+    Ok(edits)
 }
 
 // Removes the elements whose owner's chain contains one of the deletions. Usually nothing is deleted.

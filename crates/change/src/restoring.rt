@@ -1,12 +1,13 @@
 //! What RESTORE makes of a target zone.
-ghost use Rattle.std.specs.Prelude.{◌≡◌, ◌++◌, IsTrue, IfOk, OnOk};
+ghost use Rattle.std.specs.Prelude.{◌≡◌, ◌++◌, [], All, IsPermutation, IsTrue, IfOk, OnOk, fold};
 ghost use Rattle.std.specs.List.{list_any};
 ghost use Rattle.terms.specs.Types.{Zone as AZone};
 ghost use Rattle.terms.specs.Lookups.{is_in, waives_applied};
 ghost use Rattle.terms.specs.Restore.{Restoring, Restores};
 ghost use Rattle.zones_maps.specs.Delta.{IsChanged, KnowsStood};
 ghost use Rattle.zones_maps.specs.Differing.{EachChanges};
-ghost use Rattle.change.specs.Restoring.{IsRestoringOf, PutsBack, changed_keys, loses, take_off};
+ghost use Rattle.change.specs.Restoring.{IsRestoringOf, ArePutBack, PutsBack, all_changed, changed_keys, loses};
+ghost use Rattle.change.specs.Restoring.{take_off};
 
 use fields::{Attest, Id, IdList, Name};
 use sorted::TryClone;
@@ -31,18 +32,26 @@ pub fn restore(
 {
     zone.attest();
     let mut zone_edits = ZoneEdits::new(alloc);
-    for entry in zone.entries() {
-        take_off(alloc, kept, entry, &mut zone_edits)?;
-    }
+    take_all_off(alloc, kept, zone.entries(), &mut zone_edits)?;
+    let changed = changed_in_order(alloc, global, kept)?;
+    put_all_back(alloc, zone, accepted, changed.as_slice(), &mut zone_edits)?;
+    ZoneDelta::of(alloc, zone_edits, zone)
+}
+
+// The types and names of the elements that the SYSMODs change, in order, as often as one changes them.
+fn changed_in_order(
+    alloc: Global,
+    global: &GlobalZone,
+    ids: &IdList,
+) -> Result<Vec<(ElemType, Name)>, AllocError>
+    ensures { IfOk result (λ keys. IsPermutation (all_changed global.now ids.now) keys.items) }
+{
     let mut changed = Vec::new(alloc);
-    for id in kept.as_slice() {
+    for id in ids.as_slice() {
         push_keys(global, *id, &mut changed)?;
     }
     changed.sort_unstable();
-    for key in changed.as_slice() {
-        put_back(alloc, zone, accepted, *key, &mut zone_edits)?;
-    }
-    ZoneDelta::of(alloc, zone_edits, zone)
+    Ok(changed)
 }
 
 // Adds the types and names of the elements that the SYSMOD changes.
@@ -75,6 +84,22 @@ fn has_any(kept: &IdList, ids: &[Id]) -> bool
     ids.iter().any(|id| kept.contains(*id))
 }
 
+// Takes the kept SYSMODs out of these entries.
+fn take_all_off(
+    alloc: Global,
+    kept: &IdList,
+    entries: &[Entry],
+    zone_edits: &mut ZoneEdits,
+) -> Result<(), AllocError>
+    requires { All (λ e. IsTrue (waives_applied e)) entries.now }
+    ensures { OnOk result (zone_edits.new ≡ fold (take_off (is_in kept.now)) zone_edits.old entries.now) }
+{
+    for entry in entries {
+        take_off(alloc, kept, entry, zone_edits)?;
+    }
+    Ok(())
+}
+
 // Takes the kept SYSMODs out of the entry.
 fn take_off(
     alloc: Global,
@@ -93,6 +118,23 @@ fn take_off(
         return zone_edits.remove_entry(entry.id);
     }
     zone_edits.put_entry(less)
+}
+
+// The elements of these types and names become those of the other zone.
+fn put_all_back(
+    alloc: Global,
+    zone: &Zone,
+    accepted: &Zone,
+    keys: &[(ElemType, Name)],
+    zone_edits: &mut ZoneEdits,
+) -> Result<(), AllocError>
+    requires { zone_edits.old.elements ≡ [] }
+    ensures { OnOk result (ArePutBack zone.now accepted.now keys.now zone_edits.old zone_edits.new) }
+{
+    for key in keys {
+        put_back(alloc, zone, accepted, *key, zone_edits)?;
+    }
+    Ok(())
 }
 
 // The element becomes the one of the other zone, or goes if that has none. One that is the same in both stays.

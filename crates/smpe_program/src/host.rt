@@ -6,13 +6,14 @@ ghost use Rattle.sqlite.specs.Opening.{is_open_error};
 ghost use Rattle.sqlite.specs.State.{HasCleanDisk};
 ghost use Rattle.smpe_program.specs.Wary.{IsWary};
 
+use crate::copy::{CopyFault, copied};
 use crate::place::{has_other_form, is_missing};
 use crate::related::related_zone;
 use clap::Error as WordsError;
 use smpe_command::{DatabaseFile, Host};
 use smpe_hints::{ReadFile, RelatedZone};
 use sqlite::{Connection, Error, ErrorCode, FileFrom, FileStore, Wary};
-use sqlite_disk::Tally;
+use sqlite_disk::{Memory, Tally};
 use std::io::IsTerminal;
 use std::time::Duration;
 use std::{fs, io, thread};
@@ -125,6 +126,25 @@ impl ProgramHost<'_> {
         String::from_str(self.rt.alloc(), name).unwrap_or(String::new(self.rt.alloc()))
     }
 
+    // What is said of a database that was not copied.
+    fn uncopied(&mut self, name: &str, fault: CopyFault) -> Error
+        ensures { IsTrue (is_open_error result) }
+    {
+        match fault {
+            CopyFault::Unread(error) => {
+                self.unread = format!(in self.rt.alloc(); "{name}: {error}").ok();
+            }
+            CopyFault::Unfit(why) => {
+                self.unread = format!(in self.rt.alloc(); "{name}: {why}").ok();
+            }
+            CopyFault::Refused(error) => {
+                self.database = Database::Refused(self.name(name), error);
+            }
+            CopyFault::Memory => return Error::SqliteFailure(ErrorCode::OutOfMemory),
+        }
+        Error::SqliteFailure(ErrorCode::CannotOpen)
+    }
+
     // As long as another program has the database, it is tried again.
     fn open_within(
         &self,
@@ -171,11 +191,15 @@ impl ProgramHost<'_> {
 impl Host for ProgramHost<'_> {
     type Disk = FileStore<FileFrom<Wary>>;
 
+    type Copied = FileStore<Memory>;
+
     ghost gives = { λ _ _ _ _. Unit {0} };
 
     ghost withholds = { λ _ _ _ _. Unit {0} };
 
     ghost opens = { λ _ _ conn _. IsNew conn × IsWary conn × (HasCleanDisk (file_state conn) → IsOpened conn) };
+
+    ghost copies = { λ _ _ conn _. IsNew conn × (HasCleanDisk (file_state conn) → IsOpened conn) };
 
     ghost refuses = { λ _ _ why _. IsTrue (is_open_error why) };
 
@@ -227,6 +251,26 @@ impl Host for ProgramHost<'_> {
                 self.database = Database::Refused(self.name(name), error);
                 Err(error)
             }
+        }
+    }
+
+    // Nobody is kept from the database meanwhile, and a job that has it open is no hindrance.
+    fn copy(&mut self, db: &DatabaseFile) -> Result<Connection<Self::Copied>, sqlite::Error> {
+        let name = db.name.as_str();
+        if is_missing(self.rt, name) {
+            self.database = Database::Missing(self.name(name));
+            return Err(Error::SqliteFailure(ErrorCode::CannotOpen));
+        }
+        match copied(self.rt, name, db.wait) {
+            Ok(conn) => {
+                self.database = Database::Opened {
+                    name: self.name(name),
+                    is_new: false,
+                    closing: None,
+                };
+                Ok(conn)
+            }
+            Err(fault) => Err(self.uncopied(name, fault)),
         }
     }
 

@@ -4,6 +4,7 @@
 #![tactic(auto)]
 
 mod command_line;
+mod copy;
 mod host;
 mod place;
 mod related;

@@ -25,9 +25,9 @@ use Rattle.machine.specs.Outcome as machine
 use Rattle.machine.specs.Installing.{IsFailure}
 use Rattle.machine.specs.Restoring.{HasRestoreStatus, IsBack, StaysOn, WasNotOn}
 use Rattle.judge_system.specs.declared.failure.Failure.{Failure}
-use Rattle.judge_system.specs.Views.{failure_view, why_failed}
-use Rattle.judge_system.specs.Decided.{AreDecided}
+use Rattle.judge_system.specs.Views.{failure_view}
 use Rattle.smpe_service.specs.Lines.{AreRestoreLines, status_in, line_in}
+use Rattle.smpe_service.specs.RestoreDecided.{IsRestoreDecided}
 
 -- what is not found by its id does not stand there
 missing : {V : Type 0} (xs : List (Id × V)) (x : Id) → find (λ f. bytes_eq f.0 x) xs ≡ None
@@ -48,20 +48,17 @@ ids_of : (fs : List (Id × Failure)) → map (λ (q : Id × machine.Failure). q.
 ids_of [] = refl
 ids_of (f ∷ fs) = ap (λ l. f.0 ∷ l) (ids_of fs)
 
-abbrev pub IsDecided : Restoring → List Id → List Id → List Id → List (Id × Failure) → Type 0
-IsDecided r ids cands kept failed = AreDecided (FailsRestore r) (MayBeRestored r ids) (NeedsInRestore r (is_in ids))
-    (Serves r.choice) cands kept (map why_failed failed)
-
 -- those that failed rise by their ids
 pub failed_rises : (r : Restoring) (ids cands : List Id) → IsRising cands → (kept : List Id)
-    (failed : List (Id × Failure)) → IsDecided r ids cands kept failed → Rises (slice_cmp nat_cmp) (λ f. f.0) failed
+    (failed : List (Id × Failure)) → IsRestoreDecided r ids cands kept failed
+    → Rises (slice_cmp nat_cmp) (λ f. f.0) failed
 failed_rises r ids cands rising kept failed d =
     pairs_unmap (λ f h. IsTrue (is_before f.0 h.0)) (λ x y. IsTrue (is_before x y)) (λ f. f.0) (λ f h low. low) failed
     (subst IsRising (sym (sym (ids_of failed) ∙ d.ids))
     (AllPairs-filter (λ x y. IsTrue (is_before x y)) (λ x. not (is_in kept x)) cands rising))
 
 module _ (r : Restoring) (ids cands : List Id) (cands_are : cands ≡ restore_candidates r ids) (kept : List Id)
-    (failed : List (Id × Failure)) (d : IsDecided r ids cands kept failed) where
+    (failed : List (Id × Failure)) (d : IsRestoreDecided r ids cands kept failed) where
   not_kept : (x : Id) → is_in kept x ≡ false → ¬ Contains kept x
   not_kept x off there = true≢false (sym (is_in_from_Contains kept x there) ∙ off)
 

@@ -1,15 +1,16 @@
 -- The lines of a RESTORE.
-use Rattle.std.specs.Prelude.{◌≡◌, List, Contains, find, map, if◌then◌else◌}
+use Rattle.std.specs.Prelude.{◌≡◌, ◌↔◌, ◌++◌, List, Contains, find, map, if◌then◌else◌}
 use Rattle.std.specs.Option.{option_map_or}
 use Rattle.std.specs.Str.{bytes_eq}
 use Rattle.terms.specs.Types.{Id, Global}
-use Rattle.terms.specs.Lookups.{is_in}
+use Rattle.terms.specs.Lookups.{IsRising, is_in}
 use Rattle.terms.specs.Restore.{Restoring}
 use Rattle.machine.specs.Outcome.{Status, Restored, NotApplied, Failed, Line, StatusLine}
 use Rattle.machine.specs.Receiving.{place_of}
 use Rattle.machine.specs.Restoring.{HasRestoreStatus}
 use Rattle.judge_system.specs.declared.failure.Failure.{Failure}
 use Rattle.judge_system.specs.Views.{failure_view}
+use Rattle.zones.specs.declared.candidates.Candidates.{Candidates}
 
 -- the status of an id of the list
 abbrev pub status_in : List Id → List (Id × Failure) → Id → Status
@@ -24,3 +25,12 @@ pub record AreRestoreLines (r : Restoring) (ids kept : List Id) (lines : List Li
   pub status : Id → Status
   pub lines_are : lines ≡ map (λ x. StatusLine x (place_of r.global x) (status x)) ids
   pub each : (x : Id) → Contains ids x → HasRestoreStatus r ids kept x (status x)
+
+-- a line for each candidate and each id that is left out, by id
+pub record AreListedLines (g : Global) (c : Candidates) (kept : List Id) (failed : List (Id × Failure))
+    (lines : List Line) : Type 0
+  where
+    pub ids : List Id
+    pub rising : IsRising ids
+    pub members : (x : Id) → Contains ids x ↔ Contains (c.ids ++ map (λ p. p.0) c.left_out.items) x
+    pub lines_are : lines ≡ map (line_in g kept failed) ids

@@ -8,20 +8,18 @@ ghost use Rattle.terms.specs.Tests.{ShareElement};
 ghost use Rattle.sysmods.specs.Choices.{choice};
 ghost use Rattle.sysmods.specs.Overs.{AreOver};
 ghost use Rattle.change.specs.Elements.{HasBases};
-ghost use Rattle.smpe_service.specs.Installs.{install_by};
+ghost use Rattle.smpe_service.specs.Installs.{install_by, install_of};
 ghost use Rattle.zones_maps.specs.Delta.{IsChanged, KnowsStood};
 ghost use Rattle.machine.specs.Installing.{InstallsSelected};
 ghost use Rattle.report.specs.Views.{line_view};
 
-use crate::lines::lines;
-use crate::statuses::statuses;
+use crate::lines::install_lines;
+use crate::solving::decide;
 use change::{Installed, Installing, install, pairs_of};
 use fields::{Attest, Bypass, Id, IdList, Selection, YyDdd};
 use judge::{Judged, install_system};
-use judge_system::Decided;
 use report::ReportLine;
 use select::candidates;
-use solve::{Solver, Worklist, causers};
 use std::alloc::{AllocError, Global};
 use sysmods::{GlobalZone, KnownOvers, Overs, VerChoice};
 use zones::{Zone, ZoneDelta};
@@ -55,37 +53,39 @@ pub fn apply(
     zone.attest();
     let candidates = candidates(alloc, global, zone, selection)?;
     let judged = install_system(alloc, global, zone, related, &candidates, bypass)?;
-    let set = Worklist.greatest(alloc, &judged.system)?;
-    let causers = causers(alloc, &judged.system, &set)?;
-    let Decided { kept, failed } = judged.decided(alloc, &set, causers.as_slice())?;
+    let decided = decide(alloc, &judged)?;
+    let Installed { delta, effective } = install_judged(alloc, judged, zone, &decided.kept, date)?;
+    let left_out = candidates.left_out.as_slice();
+    let lines = install_lines(alloc, global, zone.kind(), &effective, decided, left_out)?;
+    Ok(InstallChange { delta, lines })
+}
+
+// Installs the kept SYSMODs of those that were judged, with those of their requisites that BYPASS covers.
+fn install_judged(
+    alloc: Global,
+    judged: Judged<'_>,
+    zone: &Zone,
+    kept: &IdList,
+    date: YyDdd,
+) -> Result<Installed, AllocError>
+    requires known { AreOver (choice judged.vers) judged.overs }
+    requires order { (x y : AnId) → Contains kept.now x → Contains kept.now y → x ≢ y
+        → ShareElement judged.vers.global.now x y → IsOver (choice judged.vers) x y ⊎ IsOver (choice judged.vers) y x }
+    requires base { HasBases (install_of judged zone.now kept.now date) }
+    ensures installs { IfOk result (λ i. (new : AZone) → IsChanged i.delta zone.now new
+        → HasInstalled (install_of judged.entry zone.now kept.now date) new) }
+    ensures knows { IfOk result (λ i. KnowsStood zone.now i.delta) }
+    ensures effective { IfOk result (λ i. (x : AnId) → Contains i.effective x
+        ↔ TakesEffect (install_of judged.entry zone.now kept.now date) x) }
+{
     let Judged {
         bypassed,
         vers,
         overs,
         ..
     } = judged;
-    let bypassed = pairs_of(alloc, &kept, bypassed.as_slice())?;
-    let Installed { delta, effective } = install_kept(
-        alloc,
-        &vers,
-        overs,
-        zone,
-        &kept,
-        bypassed.as_slice(),
-        date,
-    )?;
-    let found = statuses(
-        alloc,
-        zone.kind(),
-        &effective,
-        kept.as_slice(),
-        failed,
-        candidates.left_out.as_slice(),
-    )?;
-    Ok(InstallChange {
-        delta,
-        lines: lines(alloc, global, found)?,
-    })
+    let bypassed = pairs_of(alloc, kept, bypassed.as_slice())?;
+    install_kept(alloc, &vers, overs, zone, kept, bypassed.as_slice(), date)
 }
 
 // Installs the kept SYSMODs by these `++VER`s, with the pairs of ids that are known to be over each other.

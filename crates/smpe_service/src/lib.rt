@@ -10,6 +10,7 @@ mod applied;
 mod lines;
 mod restored;
 mod restored_lines;
+mod solving;
 mod statuses;
 
 pub use applied::{InstallChange, apply};

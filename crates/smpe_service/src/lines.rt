@@ -3,12 +3,16 @@ ghost use Rattle.std.specs.Prelude.{◌≡◌, map, IfOk};
 ghost use Rattle.machine.specs.Outcome.{StatusLine};
 ghost use Rattle.machine.specs.Receiving.{place_of};
 ghost use Rattle.report.specs.Views.{line_view, status_view};
-ghost use Rattle.smpe_service.specs.Statuses.{said, status_line, IsById, AreById};
+ghost use Rattle.judge_system.specs.Views.{why_failed};
+ghost use Rattle.smpe_service.specs.Statuses.{all_statuses, said, status_line, IsById, AreById};
 
-use fields::Id;
+use crate::statuses::statuses;
+use fields::{Id, IdList};
+use judge_system::Decided;
 use report::{ReportLine, Status, place_of};
 use std::alloc::{AllocError, Global};
 use sysmods::GlobalZone;
+use terms::{NotChosen, ZoneKind};
 
 fn sorted(mut statuses: Vec<(Id, Status)>) -> Vec<(Id, Status)>
     ensures { IsById (map said statuses.items) (map said result.items) }
@@ -42,8 +46,8 @@ fn lines_of(
     Ok(lines)
 }
 
-/// The lines of these ids, by id.
-pub(crate) fn lines(
+// The lines of these ids, by id.
+fn lines(
     alloc: Global,
     global: &GlobalZone,
     statuses: Vec<(Id, Status)>,
@@ -51,4 +55,23 @@ pub(crate) fn lines(
     ensures { IfOk result (λ lines. AreById global.now (map said statuses.items) (map line_view lines.items)) }
 {
     lines_of(alloc, global, sorted(statuses))
+}
+
+/// The lines of all ids that have a status, by id: for this kind of zone those that are kept, some of which take
+/// effect, those that failed, and those that were left out.
+pub(crate) fn install_lines(
+    alloc: Global,
+    global: &GlobalZone,
+    kind: ZoneKind,
+    effective: &IdList,
+    decided: Decided,
+    left_out: &[(Id, NotChosen)],
+) -> Result<Vec<ReportLine>, AllocError>
+    ensures { IfOk result (λ lines. AreById global.now
+        (all_statuses kind effective.now decided.kept (map why_failed decided.failed.items) left_out.now)
+        (map line_view lines.items)) }
+{
+    let Decided { kept, failed } = decided;
+    let found = statuses(alloc, kind, effective, kept.as_slice(), failed, left_out)?;
+    lines(alloc, global, found)
 }

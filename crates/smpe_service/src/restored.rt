@@ -1,16 +1,23 @@
 //! The zone's change and the lines of a RESTORE.
-ghost use Rattle.std.specs.Prelude.{◌↔◌, ◌++◌, Contains, IfOk, map};
+ghost use Rattle.std.specs.Prelude.{◌≡◌, ◌↔◌, ◌++◌, List, Contains, IfOk, map};
+ghost use Rattle.std.specs.Ordering.{nat_cmp};
+ghost use Rattle.std.specs.Cmp.Lexicographic.{slice_cmp};
+ghost use Rattle.terms.specs.Rising.{Rises};
 ghost use Rattle.terms.specs.Types.{Id as AnId, Zone as AZone};
+ghost use Rattle.terms.specs.Restore.{restore_candidates};
 ghost use Rattle.zones_maps.specs.Delta.{IsChanged, KnowsStood};
 ghost use Rattle.machine.specs.Restoring.{RestoresListed};
 ghost use Rattle.fields.specs.Choices.{restore_list_of};
 ghost use Rattle.report.specs.Views.{line_view};
+ghost use Rattle.undo.specs.Scopes.{restoring_from};
+ghost use Rattle.smpe_service.specs.Lines.{AreListedLines};
+ghost use Rattle.smpe_service.specs.RestoreDecided.{IsRestoreDecided};
 
 use crate::restored_lines::lines_of;
-use fields::{IdList, RestoreList};
+use crate::solving::decide;
+use fields::{Attest, IdList, RestoreList};
 use judge_system::Decided;
 use report::ReportLine;
-use solve::{Solver, Worklist, causers};
 use std::alloc::{AllocError, Global};
 use sysmods::GlobalZone;
 use undo::{restore_candidates, restore_system};
@@ -38,14 +45,51 @@ pub fn restore(
     ensures knows { IfOk result (λ r. KnowsStood zone.now r.delta) }
 {
     let candidates = restore_candidates(alloc, global, zone, accepted, list)?;
-    let judged = restore_system(alloc, global, zone, accepted, &candidates)?;
-    let set = Worklist.greatest(alloc, &judged.system)?;
-    let causers = causers(alloc, &judged.system, &set)?;
-    let Decided { kept, failed } = judged.decided(alloc, &set, causers.as_slice())?;
-    let delta = change::restore(alloc, global, zone, accepted, &kept)?;
-    let ids = listed_ids(alloc, &candidates)?;
-    let lines = lines_of(alloc, global, ids.as_slice(), &kept, failed.as_slice())?;
+    candidates.ids.attest();
+    let decided = decide_candidates(alloc, global, zone, accepted, &candidates)?;
+    let delta = change::restore(alloc, global, zone, accepted, &decided.kept)?;
+    let lines = listed_lines(alloc, global, &candidates, &decided)?;
     Ok(Restored { delta, lines })
+}
+
+// Which candidates of a list are kept, and why each other one is not.
+fn decide_candidates(
+    alloc: Global,
+    global: &GlobalZone,
+    zone: &Zone,
+    accepted: &Zone,
+    candidates: &Candidates,
+) -> Result<Decided, AllocError>
+    requires { (list : List AnId)
+        × (candidates.now.ids ≡ restore_candidates (restoring_from global.now zone.now accepted.now) list) }
+    ensures { IfOk result (λ d. (list : List AnId)
+        → candidates.now.ids ≡ restore_candidates (restoring_from global.now zone.now accepted.now) list
+        → IsRestoreDecided (restoring_from global.now zone.now accepted.now) list candidates.now.ids d.kept
+        d.failed.items) }
+{
+    let judged = restore_system(alloc, global, zone, accepted, candidates)?;
+    decide(alloc, &judged)
+}
+
+// The lines of the ids of the list, by id.
+fn listed_lines(
+    alloc: Global,
+    global: &GlobalZone,
+    candidates: &Candidates,
+    decided: &Decided,
+) -> Result<Vec<ReportLine>, AllocError>
+    requires { Rises (slice_cmp nat_cmp) (λ f. f.0) decided.now.failed.items }
+    ensures { IfOk result (λ lines. AreListedLines global.now candidates.now decided.now.kept decided.now.failed.items
+        (map line_view lines.items)) }
+{
+    let ids = listed_ids(alloc, candidates)?;
+    lines_of(
+        alloc,
+        global,
+        ids.as_slice(),
+        &decided.kept,
+        decided.failed.as_slice(),
+    )
 }
 
 // The ids of the list: the candidates and those that are left out.

@@ -5,6 +5,8 @@ mod EditLoop
 mod GlobalLemmas
 pub mod Going
 mod Loading
+mod NewLast
+mod News
 pub mod NoState
 mod Parts
 pub mod Reopening

@@ -1,6 +1,7 @@
 -- The statements that write a change, and why its commit fails.
-use Rattle.std.specs.Prelude.{◌⊎◌, ◌==◌, ℕ, Bool, true, if◌then◌else◌, List, [], ◌∷◌, ◌++◌, fold, length, Option}
-use Rattle.std.specs.List.{flat_map, zip}
+use Rattle.std.specs.Prelude.{◌⊎◌, ◌==◌, ℕ, Bool, true, false, if◌then◌else◌, List, [], ◌∷◌, ◌++◌, fold, length}
+use Rattle.std.specs.Prelude.{Option, None, Some}
+use Rattle.std.specs.List.{filter_map, flat_map, zip}
 use Rattle.std.specs.Option.{option_map_or}
 use Rattle.sqlite.specs.Store.{Ghosts}
 use Rattle.sqlite.specs.declared.error.Error.{Error}
@@ -19,22 +20,46 @@ use Rattle.store_rows.specs.Reads.{HasFailed}
 use Rattle.store_sysmods.specs.Holds.{put_hold_calls, remove_hold_calls}
 use Rattle.store_sysmods.specs.Calls.{insert_sysmods_calls, replace_sources_calls, remove_sysmod_calls}
 use Rattle.store_sysmods.specs.Sysmods.{sourced}
-use Rattle.store_zones.specs.Calls.{zone_calls, put_entry_calls, remove_entry_calls}
-use Rattle.store_zones.specs.Calls.{put_element_calls, remove_element_calls}
+use Rattle.store_zones.specs.Calls.{zone_calls, insert_entries_calls, put_entry_calls, remove_entry_calls}
+use Rattle.store_zones.specs.Calls.{insert_elements_calls, put_element_calls, remove_element_calls}
 use Rattle.store_zones.specs.Zones.{empty_zone}
 use Rattle.store.specs.declared.change.Change.{Change}
 use Rattle.store.specs.declared.change.Change.TheVariants.{NewZone, Zone, Global}
 
+-- the entry that an edit puts, if the zone had none of its id
+abbrev pub new_entry : Edit Entry Id × Option ℕ → Option Entry
+new_entry (Put entry, None) = Some entry
+new_entry (Put entry, Some number) = None
+new_entry (Remove id, stood) = None
+
 -- An edit of an entry of the zone of this name. The old entry of its id, if there was one, was installed by this
--- number.
+-- number. A new entry has no statement of its own: it comes in with the others.
 abbrev pub entry_calls : Text → Edit Entry Id × Option ℕ → List Call
-entry_calls name (Put entry, stood) = put_entry_calls name stood entry
+entry_calls name (Put entry, None) = []
+entry_calls name (Put entry, Some number) = put_entry_calls name (Some number) entry
 entry_calls name (Remove id, stood) = remove_entry_calls name stood id
 
--- an edit of an element, and whether there was an old one
+-- Entries that are put instead of others or removed, one after the other, and then all that are new.
+abbrev pub entries_calls : Text → List (Edit Entry Id × Option ℕ) → List Call
+entries_calls name edits =
+    flat_map (entry_calls name) edits ++ insert_entries_calls name (filter_map new_entry edits)
+
+-- the element that an edit puts, if there was none of its type and name
+abbrev pub new_element : Edit Element (ElemType × Text) × Bool → Option Element
+new_element (Put element, false) = Some element
+new_element (Put element, true) = None
+new_element (Remove key, stood) = None
+
+-- the same for an edit of an element
 abbrev pub element_calls : Text → Edit Element (ElemType × Text) × Bool → List Call
-element_calls name (Put element, stood) = put_element_calls name stood element
+element_calls name (Put element, false) = []
+element_calls name (Put element, true) = put_element_calls name true element
 element_calls name (Remove key, stood) = remove_element_calls name key.0 key.1
+
+-- and for all of them
+abbrev pub elements_calls : Text → List (Edit Element (ElemType × Text) × Bool) → List Call
+elements_calls name edits =
+    flat_map (element_calls name) edits ++ insert_elements_calls name (filter_map new_element edits)
 
 -- The statements that ran, and the SYSMODs that came after them and are not written yet. They wait for others, because
 -- one statement puts rows of several SYSMODs.
@@ -82,8 +107,8 @@ edits_calls stated edits = let course = course_of stated edits in course.0 ++ in
 -- the entries first, and then the elements
 abbrev pub delta_calls : Text → ZoneDelta → List Call
 delta_calls name delta =
-    flat_map (entry_calls name) (zip delta.edits.entries delta.entries_stood)
-    ++ flat_map (element_calls name) (zip delta.edits.elements delta.elements_stood)
+    entries_calls name (zip delta.edits.entries delta.entries_stood)
+    ++ elements_calls name (zip delta.edits.elements delta.elements_stood)
 
 -- one after the other, as they run
 abbrev pub calls_of : Change → List Call

@@ -1,5 +1,6 @@
 -- What is written in the transaction of a commit, and how the commit changes the database.
-use Rattle.std.specs.Prelude.{◌≡◌, List, [], ◌∷◌, IsTrue}
+use Rattle.std.specs.Prelude.{◌≡◌, ℕ, Bool, true, false, not, List, [], ◌∷◌, map, filter, Option, None, Some, is_some}
+use Rattle.std.specs.Prelude.{IsTrue}
 use Rattle.std.specs.Ordering.{nat_cmp}
 use Rattle.std.specs.Cmp.Lexicographic.{slice_cmp}
 use Rattle.sqlite.specs.Store.{Ghosts}
@@ -8,6 +9,7 @@ use Rattle.sqlite.specs.Schema.{Schema}
 use Rattle.sqlite.specs.Held.{Held, state}
 use Rattle.terms.specs.declared.kinds.ElemType.{ElemType}
 use Rattle.sorted.specs.declared.edits.Edit.{Edit}
+use Rattle.sorted.specs.declared.edits.Edit.TheVariants.{Put, Remove}
 use Rattle.terms.specs.Types.{Text, Id, Entry, Element, Zone}
 use Rattle.terms.specs.Lookups.{IsZone, entry_of, element_of, element_cmp, element_key}
 use Rattle.terms.specs.Rising.{Rises}
@@ -47,6 +49,22 @@ pub record EditsElement (zone : Zone) (edit : Edit Element (ElemType × Text)) (
   pub was : HasElement (edit_key element_key edit).0 (edit_key element_key edit).1
       (element_of zone (edit_key element_key edit).0 (edit_key element_key edit).1) old
   pub is : HasEditedElements (edit ∷ []) old new
+
+-- An edit is made, unless it puts a new entry.
+abbrev pub EditsOldEntry : Zone → Edit Entry Id × Option ℕ → Zone → Zone → Type 0
+EditsOldEntry zone (Put entry, None) old new = new ≡ old
+EditsOldEntry zone (Put entry, Some number) old new = EditsEntry zone (Put entry) old new
+EditsOldEntry zone (Remove id, stood) old new = EditsEntry zone (Remove id) old new
+
+-- or a new element
+abbrev pub EditsOldElement : Zone → Edit Element (ElemType × Text) × Bool → Zone → Zone → Type 0
+EditsOldElement zone (Put element, false) old new = new ≡ old
+EditsOldElement zone (Put element, true) old new = EditsElement zone (Put element) old new
+EditsOldElement zone (Remove key, stood) old new = EditsElement zone (Remove key) old new
+
+-- the edits that put nothing new, of some with what stood at their keys
+abbrev pub others : {X K B : Type 0} → (Edit X K × B → Option X) → List (Edit X K × B) → List (Edit X K)
+others new edits = map (λ d. d.0) (filter (λ d. not (is_some (new d))) edits)
 
 -- The edits, which rise, are made to the entries of a zone that has those of this one.
 pub record EditsEntries (zone : Zone) (edits : List (Edit Entry Id)) (old new : Zone) : Type 0 where

@@ -1,24 +1,32 @@
-//! What a delta puts and removes, written in an open transaction.
+//! What a delta puts and removes, written in an open transaction. What is put instead of something else, or removed,
+//! has a statement of its own. What is new comes in at the end, many rows by one statement.
 
-ghost use Rattle.std.specs.Prelude.{◌≡◌, OnOk, map};
-ghost use Rattle.std.specs.List.{flat_map, zip};
+ghost use Rattle.std.specs.Prelude.{◌≡◌, OnOk, IfOk, map};
+ghost use Rattle.std.specs.List.{filter_map, flat_map, zip};
+ghost use Rattle.std.specs.Option.{option_copied};
 ghost use Rattle.store_rows.specs.Calls.{RunsInside};
 ghost use Rattle.store_rows.specs.Inside.{Continues};
-ghost use Rattle.store.specs.Calls.{entry_calls, element_calls, delta_calls};
+ghost use Rattle.store.specs.Calls.{entry_calls, entries_calls, new_entry as new_entry_of};
+ghost use Rattle.store.specs.Calls.{element_calls, elements_calls, new_element as new_element_of, delta_calls};
 ghost use Rattle.store_zones.specs.Zones.{ChangesZone};
-ghost use Rattle.store.specs.Writes.{EditsEntry, EditsEntries, EditsElement, EditsElements, HasEdited};
+ghost use Rattle.store.specs.Writes.{EditsOldEntry, EditsEntries, EditsOldElement, EditsElements, HasEdited, others};
 ghost use Rattle.terms.specs.Types.{Zone};
 ghost use Rattle.zones_maps.specs.Delta.{KnowsStood, entry_stood, element_stood};
 
 use fields::{Id, Name, VerNumber, ZoneName};
 use sorted::Edit;
 use sqlite::{Alter, Error, Transaction};
-use std::alloc::Global;
-use store_zones::{put_element, put_entry, remove_element, remove_entry};
+use std::alloc::{AllocError, Global};
+use store_zones::{
+    insert_elements, insert_entries, put_element, put_entry, remove_element, remove_entry,
+};
 use terms::ElemType;
 use zones_maps::{Element, Entry, ZoneDelta};
 
-fn edit_entry<S: Alter>(
+// ---- entries
+
+// Makes the edit, unless the entry that it puts is new.
+fn change_entry<S: Alter>(
     alloc: Global,
     tx: &mut Transaction<'_, S>,
     name: ZoneName,
@@ -28,30 +36,67 @@ fn edit_entry<S: Alter>(
     ensures continues { Continues S.Store tx.old tx.new }
     ensures calls { RunsInside S.Store (entry_calls name (edit.now, stood)) tx.old.conn.now tx.new.conn.now result }
     ensures ok { OnOk result ((zone : Zone) → entry_stood zone edit.now ≡ stood
-        → ChangesZone S.Store tx.old.conn.now tx.new.conn.now name (EditsEntry zone edit.now)) }
+        → ChangesZone S.Store tx.old.conn.now tx.new.conn.now name (EditsOldEntry zone (edit.now, stood))) }
 {
     match edit {
-        Edit::Put(entry) => put_entry(alloc, tx, name, stood, entry),
+        Edit::Put(entry) => match stood {
+            Some(_) => put_entry(alloc, tx, name, stood, entry),
+            None => Ok(()),
+        },
         Edit::Remove(id) => remove_entry(tx, name, stood, *id),
     }
 }
 
-fn edit_element<S: Alter>(
+// Makes each edit, given what the zone had at its key, except those that put a new entry.
+fn change_entries<S: Alter>(
     alloc: Global,
     tx: &mut Transaction<'_, S>,
     name: ZoneName,
-    edit: &Edit<Element, (ElemType, Name)>,
-    stood: bool,
+    edits: &[Edit<Entry, Id>],
+    stood: &[Option<VerNumber>],
 ) -> Result<(), Error>
     ensures continues { Continues S.Store tx.old tx.new }
-    ensures calls { RunsInside S.Store (element_calls name (edit.now, stood)) tx.old.conn.now tx.new.conn.now result }
-    ensures ok { OnOk result ((zone : Zone) → element_stood zone edit.now ≡ stood
-        → ChangesZone S.Store tx.old.conn.now tx.new.conn.now name (EditsElement zone edit.now)) }
+    ensures calls { RunsInside S.Store (flat_map (entry_calls name) (zip edits.now stood.now))
+        tx.old.conn.now tx.new.conn.now result }
+    ensures ok { OnOk result ((zone : Zone) → stood.now ≡ map (entry_stood zone) edits.now
+        → ChangesZone S.Store tx.old.conn.now tx.new.conn.now name
+        (EditsEntries zone (others new_entry_of (zip edits.now stood.now)))) }
+{
+    for (edit, before) in edits.iter().zip(stood) {
+        change_entry(alloc, tx, name, edit, *before)?;
+    }
+    Ok(())
+}
+
+// The entry that the edit puts, if it is new.
+fn new_entry(edit: &Edit<Entry, Id>, stood: Option<VerNumber>) -> Option<&Entry>
+    ensures { option_copied result ≡ new_entry_of (edit.now, stood) }
 {
     match edit {
-        Edit::Put(element) => put_element(alloc, tx, name, stood, element),
-        Edit::Remove((elem_type, element)) => remove_element(tx, name, *elem_type, *element),
+        Edit::Put(entry) => match stood {
+            Some(_) => None,
+            None => Some(entry),
+        },
+        Edit::Remove(_) => None,
     }
+}
+
+fn new_entries<'a>(
+    alloc: Global,
+    edits: &'a [Edit<Entry, Id>],
+    stood: &[Option<VerNumber>],
+) -> Result<Vec<&'a Entry>, AllocError>
+    ensures { IfOk result (λ news. map (λ e. e.now) news.items
+        ≡ filter_map new_entry_of (zip edits.entry.now stood.now)) }
+{
+    let mut news: Vec<&'a Entry> = Vec::new(alloc);
+    for (edit, before) in edits.iter().zip(stood) {
+        let Some(entry) = new_entry(edit, *before) else {
+            continue;
+        };
+        news.push(entry)?;
+    }
+    Ok(news)
 }
 
 // Makes each edit of an entry, given what the zone had at its key.
@@ -63,15 +108,94 @@ fn edit_entries<S: Alter>(
     stood: &[Option<VerNumber>],
 ) -> Result<(), Error>
     ensures continues { Continues S.Store tx.old tx.new }
-    ensures calls { RunsInside S.Store (flat_map (entry_calls name) (zip edits.now stood.now))
+    ensures calls { RunsInside S.Store (entries_calls name (zip edits.now stood.now))
         tx.old.conn.now tx.new.conn.now result }
     ensures ok { OnOk result ((zone : Zone) → stood.now ≡ map (entry_stood zone) edits.now
         → ChangesZone S.Store tx.old.conn.now tx.new.conn.now name (EditsEntries zone edits.now)) }
 {
+    change_entries(alloc, tx, name, edits, stood)?;
+    let news = new_entries(alloc, edits, stood)?;
+    insert_entries(alloc, tx, name, news.as_slice())
+}
+
+// ---- elements
+
+// Makes the edit, unless the element that it puts is new.
+fn change_element<S: Alter>(
+    alloc: Global,
+    tx: &mut Transaction<'_, S>,
+    name: ZoneName,
+    edit: &Edit<Element, (ElemType, Name)>,
+    stood: bool,
+) -> Result<(), Error>
+    ensures continues { Continues S.Store tx.old tx.new }
+    ensures calls { RunsInside S.Store (element_calls name (edit.now, stood)) tx.old.conn.now tx.new.conn.now result }
+    ensures ok { OnOk result ((zone : Zone) → element_stood zone edit.now ≡ stood
+        → ChangesZone S.Store tx.old.conn.now tx.new.conn.now name (EditsOldElement zone (edit.now, stood))) }
+{
+    match edit {
+        Edit::Put(element) => {
+            if !stood {
+                return Ok(());
+            }
+            put_element(alloc, tx, name, stood, element)
+        }
+        Edit::Remove((elem_type, element)) => remove_element(tx, name, *elem_type, *element),
+    }
+}
+
+// Makes each edit, given whether the zone had an element at its key, except those that put a new element.
+fn change_elements<S: Alter>(
+    alloc: Global,
+    tx: &mut Transaction<'_, S>,
+    name: ZoneName,
+    edits: &[Edit<Element, (ElemType, Name)>],
+    stood: &[bool],
+) -> Result<(), Error>
+    ensures continues { Continues S.Store tx.old tx.new }
+    ensures calls { RunsInside S.Store (flat_map (element_calls name) (zip edits.now stood.now))
+        tx.old.conn.now tx.new.conn.now result }
+    ensures ok { OnOk result ((zone : Zone) → stood.now ≡ map (element_stood zone) edits.now
+        → ChangesZone S.Store tx.old.conn.now tx.new.conn.now name
+        (EditsElements zone (others new_element_of (zip edits.now stood.now)))) }
+{
     for (edit, before) in edits.iter().zip(stood) {
-        edit_entry(alloc, tx, name, edit, *before)?;
+        change_element(alloc, tx, name, edit, *before)?;
     }
     Ok(())
+}
+
+// The element that the edit puts, if it is new.
+fn new_element(edit: &Edit<Element, (ElemType, Name)>, stood: bool) -> Option<&Element>
+    ensures { option_copied result ≡ new_element_of (edit.now, stood) }
+{
+    match edit {
+        Edit::Put(element) => {
+            if stood {
+                return None;
+            }
+            Some(element)
+        }
+        Edit::Remove(_) => None,
+    }
+}
+
+fn new_elements<'a>(
+    alloc: Global,
+    edits: &'a [Edit<Element, (ElemType, Name)>],
+    stood: &[bool],
+) -> Result<Vec<&'a Element>, AllocError>
+    ensures { IfOk result (λ news. map (λ e. e.now) news.items
+        ≡ filter_map new_element_of (zip edits.entry.now stood.now)) }
+{
+    let mut news: Vec<&'a Element> = Vec::new(alloc);
+    for (edit, before) in edits.iter().zip(stood) {
+        let Some(element) = new_element(edit, *before) else {
+            continue;
+        };
+        news.push(element)?;
+    }
+    Ok(news)
 }
 
 // Makes each edit of an element, given whether the zone had one at its key.
@@ -83,15 +207,14 @@ fn edit_elements<S: Alter>(
     stood: &[bool],
 ) -> Result<(), Error>
     ensures continues { Continues S.Store tx.old tx.new }
-    ensures calls { RunsInside S.Store (flat_map (element_calls name) (zip edits.now stood.now))
+    ensures calls { RunsInside S.Store (elements_calls name (zip edits.now stood.now))
         tx.old.conn.now tx.new.conn.now result }
     ensures ok { OnOk result ((zone : Zone) → stood.now ≡ map (element_stood zone) edits.now
         → ChangesZone S.Store tx.old.conn.now tx.new.conn.now name (EditsElements zone edits.now)) }
 {
-    for (edit, before) in edits.iter().zip(stood) {
-        edit_element(alloc, tx, name, edit, *before)?;
-    }
-    Ok(())
+    change_elements(alloc, tx, name, edits, stood)?;
+    let news = new_elements(alloc, edits, stood)?;
+    insert_elements(alloc, tx, name, news.as_slice())
 }
 
 /// Writes only the rows of the edits, in the zone of this name, if the delta knows what that has at their keys.

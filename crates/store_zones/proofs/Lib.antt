@@ -1,6 +1,8 @@
 pub mod Texts
 pub mod Selects
 pub mod Putting
+pub mod Runs
+pub mod NumberRows
 pub mod RowForms
 pub mod EntryNumbers
 pub mod Numbers

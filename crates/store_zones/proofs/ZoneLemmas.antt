@@ -5,28 +5,30 @@ use Rattle.std.specs.Prelude.{ℕ, option_map}
 use Rattle.std.specs.List.{AllByRecursion, flat_map}
 use Rattle.std.specs.Option.{option_to_list}
 use Rattle.std.specs.Str.{bytes_eq}
-use Rattle.std.proofs.lemmas.List.{map-append}
+use Rattle.std.proofs.lemmas.Grind.{flat_map-append}
+use Rattle.std.proofs.lemmas.List.{append_assoc, map-append}
 use Rattle.std.proofs.lemmas.List.Sorted.{IsPermutation-refl, IsPermutation-map, IsPermutation-middle}
 use Rattle.std.proofs.lemmas.List.Sorted.{IsPermutation-sym, IsPermutation-trans, IsPermutation-cons}
 use Rattle.std.proofs.lemmas.List.Sorted.{IsPermutation-filter_both}
+use Rattle.std.proofs.lemmas.List.Sorted.{IsPermutation-append_left, IsPermutation-append_right}
 use Rattle.sqlite.specs.Order.{Row}
 use Rattle.sqlite.specs.Table.{Table}
 use Rattle.sqlite.specs.Effect.{Database}
-use Rattle.sqlite_trees.proofs.ListLemmas.{filter-map}
+use Rattle.sqlite_trees.proofs.ListLemmas.{filter-map, IsPermutation-flat_map}
 use Rattle.terms.specs.declared.kinds.ElemType.{ElemType}
 use Rattle.terms.specs.Types as terms
 use Rattle.terms.specs.Types.{Entry, Element, Zone, NamedZone}
 use Rattle.terms.specs.Spelling.{type_text}
 use Rattle.zones_maps.specs.Delta.{number_of}
-use Rattle.store_rows.specs.Rows.{Contents, has_key, without, with_row, in_table, HasContents}
+use Rattle.store_rows.specs.Rows.{Contents, has_key, without, with_row, with_rows, in_table, HasContents}
 use Rattle.store_rows.proofs.RowLemmas.{filter_same, filter_all, same_rows}
 use Rattle.store_rows.proofs.ContentsLemmas.{permuted}
 use Rattle.store_rows.proofs.Keys.{equals, and_true}
 use Rattle.terms.proofs.Searches.{find_passes, first_kept}
 use Rattle.terms.proofs.TextOrder.{same_from, same_itself, other_text}
-use Rattle.store_rows.proofs.Parts.{map_same, flat_same, changed}
+use Rattle.store_rows.proofs.Parts.{map_same, flat_same, changed, moved_front}
 use Rattle.store_schema.specs.Inventory.{Inventory}
-use Rattle.store_schema.specs.Rows.{zone_row, entry_row, zelem_row, entries_of, zelems_of, chosen_of}
+use Rattle.store_schema.specs.Rows.{zone_row, entry_row, zelem_row, entries_of, zelems_of, chosen_in, chosen_of}
 use Rattle.store_schema.specs.Stands.{rows_of}
 use Rattle.store_schema.specs.Tables.{store_schema, meta, sysmod, ver, ifreq, hold, elem, source, morever, moreif}
 use Rattle.store_schema.specs.Tables.{entry, chosen, zelem, zone as zone_table}
@@ -38,6 +40,7 @@ use Rattle.store_zones.specs.Chosen.{number_before, number_row}
 use Rattle.store_zones.specs.Numbered.{numbers_of}
 use Rattle.store_zones.specs.Zones.{IsZoneChange, HasEntry, is_element, entries_but, elements_but, HasPutEntry}
 use Rattle.store_zones.specs.Zones.{HasRemovedEntry, HasPutElement, HasRemovedElement, numbered, rows_with}
+use Rattle.store_zones.specs.Zones.{HasMoreEntries, HasMoreElements, with_more_entries, with_more_elements}
 use Rattle.store_zones.specs.Zones.{with_entry, without_entry, with_element}
 use Rattle.store_zones.proofs.ByNumber.{renumbered}
 use Rattle.store_zones.proofs.Numbers.{row_of, number_at, chosen_are, rows_by_number, numbers_with}
@@ -97,6 +100,19 @@ module _ {X : Type 0} (row : terms.Text → X → Row) (name : terms.Text) (key 
       changed (λ (z : NamedZone). map (row z.name) (items z.zone)) (λ r. not (has_key key r)) before
       (record { name = name; zone = old }) (record { name = name; zone = new }) after (map (row name) news)
       (all_left items (before ++ after) others) (subst (IsPermutation (map (row name) (items new))) left mapped)
+
+-- ---- more of them
+
+-- an element has more rows, and the others have theirs
+flat_more : {A B : Type 0} (f : A → List B) (before : List A) (a b : A) (after : List A) (news : List B)
+    → IsPermutation (f b) (news ++ f a)
+    → IsPermutation (flat_map f (before ++ b ∷ after)) (news ++ flat_map f (before ++ a ∷ after))
+flat_more f [] a b after news same =
+    subst (IsPermutation (f b ++ flat_map f after)) (append_assoc news (f a) (flat_map f after))
+    (IsPermutation-append_left (flat_map f after) (f b) (news ++ f a) same)
+flat_more f (z ∷ before) a b after news same =
+    IsPermutation-trans _ _ _ (IsPermutation-append_right (f z) _ _ (flat_more f before a b after news same))
+    (moved_front (f z) news (flat_map f (before ++ a ∷ after)))
 
 -- ---- what stood under a key
 
@@ -266,6 +282,35 @@ module _ (i j : Inventory) (name : terms.Text) (was is : Zone) (c : IsZoneChange
       with_elements i j globals (same_zones (ap (λ z. zone_row (record { name = name; zone = z })) rest)) make
       (same_in entries_of (ap (λ z. entries_of (record { name = name; zone = z })) rest))
       (same_in chosen_of (ap (λ z. chosen_of (record { name = name; zone = z })) rest)) (changed_in zelems_of make h)
+
+  -- the zone has more entries
+  pub entries_more : (news : List Entry) (db : Database) → HasMoreEntries news was is
+      → HasContents store_schema (with_more_entries name news (rows_of i)) db → HasContents store_schema (rows_of j) db
+  entries_more news db p =
+      let rows : IsPermutation (map (entry_row name) is.entries) (map (entry_row name) news
+      ++ map (entry_row name) was.entries) =
+      subst (IsPermutation (map (entry_row name) is.entries)) (map-append (entry_row name) news was.entries)
+      (IsPermutation-map (entry_row name) is.entries (news ++ was.entries) p.entries) in
+      let numbers : IsPermutation (flat_map (chosen_in name) is.entries) (flat_map (chosen_in name) news
+      ++ flat_map (chosen_in name) was.entries) =
+      subst (IsPermutation (flat_map (chosen_in name) is.entries)) (flat_map-append (chosen_in name) news was.entries)
+      (IsPermutation-flat_map (chosen_in name) is.entries (news ++ was.entries) p.entries) in
+      permuted store_schema (with_more_entries name news (rows_of i)) (rows_of j) db
+      (by_entries (with_rows (map (entry_row name) news)) (with_rows (flat_map (chosen_in name) news)) p.rest
+      (flat_more entries_of c.before old_zone new_zone c.after (map (entry_row name) news) rows)
+      (flat_more chosen_of c.before old_zone new_zone c.after (flat_map (chosen_in name) news) numbers))
+
+  -- or elements
+  pub elements_more : (news : List Element) (db : Database) → HasMoreElements news was is
+      → HasContents store_schema (with_more_elements name news (rows_of i)) db → HasContents store_schema (rows_of j) db
+  elements_more news db p =
+      let rows : IsPermutation (map (zelem_row name) is.elements) (map (zelem_row name) news
+      ++ map (zelem_row name) was.elements) =
+      subst (IsPermutation (map (zelem_row name) is.elements)) (map-append (zelem_row name) news was.elements)
+      (IsPermutation-map (zelem_row name) is.elements (news ++ was.elements) p.elements) in
+      permuted store_schema (with_more_elements name news (rows_of i)) (rows_of j) db
+      (by_elements (with_rows (map (zelem_row name) news)) p.rest
+      (flat_more zelems_of c.before old_zone new_zone c.after (map (zelem_row name) news) rows))
 
   -- what `entry` and `chosen` hold of a zone that has these entries of the id and its others
   entry_rows : (id : terms.Id) (front : List Entry) (zone : Zone)

@@ -4,7 +4,7 @@ use Rattle.sqlite.specs.Order.{Row}
 use Rattle.terms.specs.Forms.{IsId, IsZoneName}
 use Rattle.terms.specs.Types.{Text}
 use Rattle.store_schema.specs.Rows.{chosen_row}
-use Rattle.store_zones.specs.declared.installed_vers.TheConstants.{SELECT, INSERT, PUT, DELETE}
+use Rattle.store_zones.specs.declared.installed_vers.TheConstants.{SELECT, INSERT, INSERT_MANY, PUT, DELETE}
 use Rattle.store_zones.specs.declared.installed_vers.EntryNumber.{EntryNumber}
 use Rattle.store_zones.specs.declared.zone_rows.ZoneRow.{ZoneRow}
 
@@ -13,6 +13,9 @@ select_chosen = SELECT.now
 
 abbrev pub insert_chosen : List ℕ
 insert_chosen = INSERT.now
+
+abbrev pub insert_numbers : List ℕ
+insert_numbers = INSERT_MANY.now
 
 abbrev pub put_chosen : List ℕ
 put_chosen = PUT.now

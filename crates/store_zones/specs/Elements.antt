@@ -8,7 +8,7 @@ use Rattle.terms.specs.Spelling.{type_text}
 use Rattle.terms.specs.Types.{Text, Element}
 use Rattle.store_schema.specs.Forms.{HasElementForms}
 use Rattle.store_schema.specs.Rows.{zelem_row}
-use Rattle.store_zones.specs.declared.element.TheConstants.{SELECT, INSERT, PUT, DELETE}
+use Rattle.store_zones.specs.declared.element.TheConstants.{SELECT, INSERT, INSERT_MANY, PUT, DELETE}
 use Rattle.store_zones.specs.declared.zone_rows.ZoneRow.{ZoneRow}
 
 abbrev pub select_elements : List ℕ
@@ -16,6 +16,9 @@ select_elements = SELECT.now
 
 abbrev pub insert_element : List ℕ
 insert_element = INSERT.now
+
+abbrev pub insert_elements : List ℕ
+insert_elements = INSERT_MANY.now
 
 abbrev pub put_element : List ℕ
 put_element = PUT.now

@@ -1,7 +1,7 @@
 -- How a change of one zone's entries or elements changes the inventory.
-use Rattle.std.specs.Prelude.{◌≡◌, ◌≢◌, ◌&&◌, ◌==◌, not, ℕ, Bool, List, ◌∷◌, ◌++◌, filter, Option, [], is_some}
+use Rattle.std.specs.Prelude.{◌≡◌, ◌≢◌, ◌&&◌, ◌==◌, not, ℕ, Bool, List, ◌∷◌, ◌++◌, map, filter, Option, [], is_some}
 use Rattle.std.specs.Prelude.{IsPermutation, if◌then◌else◌}
-use Rattle.std.specs.List.{AllByRecursion}
+use Rattle.std.specs.List.{AllByRecursion, flat_map}
 use Rattle.std.specs.Option.{option_to_list}
 use Rattle.std.specs.Str.{bytes_eq}
 use Rattle.sqlite.specs.Store.{Ghosts}
@@ -12,9 +12,9 @@ use Rattle.terms.specs.declared.kinds.ZoneKind.{ZoneKind}
 use Rattle.terms.specs.Types.{Text, Id, type_number, Entry, Element, Global, Zone, NamedZone}
 use Rattle.zones_maps.specs.Delta.{number_of}
 use Rattle.store_rows.specs.Inside.{Leads}
-use Rattle.store_rows.specs.Rows.{Contents, HasContents, in_table, without}
+use Rattle.store_rows.specs.Rows.{Contents, HasContents, in_table, with_rows, without}
 use Rattle.store_schema.specs.Inventory.{Inventory}
-use Rattle.store_schema.specs.Rows.{entry_row, chosen_row, zelem_row}
+use Rattle.store_schema.specs.Rows.{entry_row, chosen_row, chosen_in, zelem_row}
 use Rattle.store_schema.specs.Stands.{rows_of}
 use Rattle.store_schema.specs.Tables.{entry, chosen, zelem, store_schema}
 use Rattle.store_zones.specs.Chosen.{number_before}
@@ -37,6 +37,12 @@ with_entry zone stood e contents =
     in_table chosen (numbered zone e.id (number_before stood) (number_of e))
     (in_table entry (rows_with (is_some stood) (entry_key zone e.id) (entry_row zone e)) contents)
 
+-- `entry` has the rows of these entries too, and `chosen` their numbers
+abbrev pub with_more_entries : Text → List Entry → Contents → Contents
+with_more_entries zone es contents =
+    in_table chosen (with_rows (flat_map (chosen_in zone) es))
+    (in_table entry (with_rows (map (entry_row zone) es)) contents)
+
 -- neither has a row of the id
 abbrev pub without_entry : Text → Option ℕ → Id → Contents → Contents
 without_entry zone stood id contents =
@@ -46,6 +52,10 @@ without_entry zone stood id contents =
 abbrev pub with_element : Text → Bool → Element → Contents → Contents
 with_element zone stood e =
     in_table zelem (rows_with stood (element_key zone e.elem_type e.name) (zelem_row zone e))
+
+-- `zelem` has the rows of these elements too
+abbrev pub with_more_elements : Text → List Element → Contents → Contents
+with_more_elements zone es = in_table zelem (with_rows (map (zelem_row zone) es))
 
 -- The zone of this name becomes another. No other zone has the name, and nothing else changes.
 pub record IsZoneChange (name : Text) (old new : Zone) (i j : Inventory) : Type 0 where
@@ -74,6 +84,16 @@ HasElement type name stood zone = filter (is_element type name) zone.elements �
 -- the elements of other types and names
 abbrev pub elements_but : ElemType → Text → List Element → List Element
 elements_but type name elements = filter (λ e. not (is_element type name e)) elements
+
+-- these entries, and those that it had; their order is open
+pub record HasMoreEntries (news : List Entry) (old new : Zone) : Type 0 where
+  pub rest : new ≡ record old { entries = new.entries }
+  pub entries : IsPermutation new.entries (news ++ old.entries)
+
+-- the same for elements
+pub record HasMoreElements (news : List Element) (old new : Zone) : Type 0 where
+  pub rest : new ≡ record old { elements = new.elements }
+  pub elements : IsPermutation new.elements (news ++ old.elements)
 
 -- the entry instead of the one of its id, which is this; their order is open
 pub record HasPutEntry (stood : Option Entry) (put : Entry) (old new : Zone) : Type 0 where

@@ -1,26 +1,30 @@
 //! The table of element entries.
 
-ghost use Rattle.std.specs.Prelude.{◌≡◌, OnOk, ◌≢◌, Option, is_some, IfOk, IsErrOf};
+ghost use Rattle.std.specs.Prelude.{◌≡◌, OnOk, ◌≢◌, Option, is_some, IfOk, IsErrOf, map};
 ghost use Rattle.std.specs.List.{join_with_byte};
 ghost use Rattle.terms.specs.Texts.{HasLines};
 ghost use Rattle.store_rows.specs.Calls.{RunsInside};
 ghost use Rattle.store_rows.specs.Inside.{Continues, Turns};
 ghost use Rattle.store_rows.specs.Rows.{HasContents, in_table, without};
+ghost use Rattle.sqlite.specs.Values.{bound};
+ghost use Rattle.store_schema.specs.Rows.{zelem_row};
 ghost use Rattle.store_schema.specs.Tables.{zelem, store_schema};
-ghost use Rattle.store_zones.specs.Calls.{put_element_calls, remove_element_calls};
+ghost use Rattle.store_zones.specs.Calls.{insert_elements_calls, put_element_calls, remove_element_calls};
 ghost use Rattle.store_zones.specs.Elements.{element_key};
-ghost use Rattle.store_zones.specs.Zones.{ChangesZone, HasPutElement, HasRemovedElement, with_element};
+ghost use Rattle.store_zones.specs.Zones.{ChangesZone, HasMoreElements, HasPutElement, HasRemovedElement};
+ghost use Rattle.store_zones.specs.Zones.{with_element, with_more_elements};
 ghost use Rattle.terms.specs.Types.{Element as ElementTerm};
 ghost use Rattle.store_zones.specs.declared.zone_rows.ZoneRow.{ZoneRow as AZoneRow};
 
-use crate::items::ZoneItem;
+use crate::items::{ZoneItem, insert_items};
 use crate::zone_rows::ZoneRow;
 use fields::spelling::type_text;
 use fields::{Name, ZoneName};
 use sqlite::{Alter, Error, Row, Transaction};
+use sqlite_value::row::Row as Cells;
 use sqlite_value::value::ValueRef;
-use std::alloc::Global;
-use store_rows::{FromRow, ReadError, insert, put, remove};
+use std::alloc::{AllocError, Global};
+use store_rows::{FromRow, ReadError, cells_of, insert, put, remove};
 use store_schema::{
     Query, elem_type_in, element_text_in, id_in, ids_in, joined_ids, name_in, zone_name_in,
 };
@@ -35,12 +39,42 @@ const INSERT: &str =
     "INSERT INTO zelem (zone, type, name, fmid, rmid, umid, distlib, syslib, text) \
     VALUES (?1, ?2, ?3, ?4, ?5, ?6, ?7, ?8, ?9)";
 
+// Sixteen rows, as many as one statement puts.
+const INSERT_MANY: &str =
+    "INSERT INTO zelem (zone, type, name, fmid, rmid, umid, distlib, syslib, text) VALUES \
+    (?, ?, ?, ?, ?, ?, ?, ?, ?), (?, ?, ?, ?, ?, ?, ?, ?, ?), (?, ?, ?, ?, ?, ?, ?, ?, ?), \
+    (?, ?, ?, ?, ?, ?, ?, ?, ?), (?, ?, ?, ?, ?, ?, ?, ?, ?), (?, ?, ?, ?, ?, ?, ?, ?, ?), \
+    (?, ?, ?, ?, ?, ?, ?, ?, ?), (?, ?, ?, ?, ?, ?, ?, ?, ?), (?, ?, ?, ?, ?, ?, ?, ?, ?), \
+    (?, ?, ?, ?, ?, ?, ?, ?, ?), (?, ?, ?, ?, ?, ?, ?, ?, ?), (?, ?, ?, ?, ?, ?, ?, ?, ?), \
+    (?, ?, ?, ?, ?, ?, ?, ?, ?), (?, ?, ?, ?, ?, ?, ?, ?, ?), (?, ?, ?, ?, ?, ?, ?, ?, ?), \
+    (?, ?, ?, ?, ?, ?, ?, ?, ?)";
+
 const PUT: &str = "INSERT INTO zelem (zone, type, name, fmid, rmid, umid, distlib, syslib, text) \
     VALUES (?1, ?2, ?3, ?4, ?5, ?6, ?7, ?8, ?9) \
     ON CONFLICT (zone, type, name) DO UPDATE SET fmid = excluded.fmid, rmid = excluded.rmid, \
     umid = excluded.umid, distlib = excluded.distlib, syslib = excluded.syslib, text = excluded.text";
 
 const DELETE: &str = "DELETE FROM zelem WHERE zone = ?1 AND type = ?2 AND name = ?3";
+
+/// Adds the elements to the zone, sixteen rows by one statement and the remaining ones one at a time. Returns an error
+/// if the zone has one of the same type and name after all, if there is no such zone, if the disk fails or if memory
+/// runs out.
+pub fn insert_elements<S: Alter>(
+    alloc: Global,
+    tx: &mut Transaction<'_, S>,
+    zone: ZoneName,
+    elements: &[&Element],
+) -> Result<(), Error>
+    ensures continues { Continues S.Store tx.old tx.new }
+    ensures calls { RunsInside S.Store (insert_elements_calls zone (map (λ e. e.now) elements.now))
+        tx.old.conn.now tx.new.conn.now result }
+    ensures ok { OnOk result (Turns S.Store tx.old.conn.now tx.new.conn.now (HasContents store_schema)
+        (with_more_elements zone (map (λ e. e.now) elements.now))) }
+    ensures stands { OnOk result (ChangesZone S.Store tx.old.conn.now tx.new.conn.now zone
+        (HasMoreElements (map (λ e. e.now) elements.now))) }
+{
+    insert_items(alloc, tx, &zone, INSERT_MANY, INSERT, elements)
+}
 
 /// Puts the element into the zone, instead of the one of its type and name, if there is one. Returns an error if the
 /// zone has one after all, if there is no such zone, if the disk fails or if memory runs out.
@@ -64,6 +98,30 @@ pub fn put_element<S: Alter>(
     put_row(tx, &zone, stood, element, umids.as_slice(), text.as_slice())
 }
 
+// The element's row, with these bytes of its UMIDs and records.
+fn row_of<'a>(
+    zone: &'a ZoneName,
+    element: &'a Element,
+    umids: &'a [u8],
+    text: &'a [u8],
+) -> [ValueRef<'a>; 9]
+    requires umids { umids.now ≡ join_with_byte 44 element.now.umids }
+    requires text { HasLines text.now element.now.text }
+    ensures { bound result ≡ zelem_row zone.now element.now }
+{
+    [
+        ValueRef::Text(zone.as_bytes()),
+        ValueRef::Text(type_text(element.elem_type)),
+        ValueRef::Text(element.name.as_bytes()),
+        ValueRef::Text(element.fmid.as_bytes()),
+        ValueRef::Text(element.rmid.as_bytes()),
+        ValueRef::Text(umids),
+        ValueRef::Text(element.distlib.as_bytes()),
+        ValueRef::Text(element.syslib.as_bytes()),
+        ValueRef::Blob(text),
+    ]
+}
+
 // Puts the element's row, with these bytes of its UMIDs and records, instead of that of the old element, if there was
 // one.
 fn put_row<S: Alter>(
@@ -82,17 +140,7 @@ fn put_row<S: Alter>(
     ensures ok { OnOk result (Turns S.Store tx.old.conn.now tx.new.conn.now (HasContents store_schema)
         (with_element zone.now stood element.now)) }
 {
-    let row = [
-        ValueRef::Text(zone.as_bytes()),
-        ValueRef::Text(type_text(element.elem_type)),
-        ValueRef::Text(element.name.as_bytes()),
-        ValueRef::Text(element.fmid.as_bytes()),
-        ValueRef::Text(element.rmid.as_bytes()),
-        ValueRef::Text(umids),
-        ValueRef::Text(element.distlib.as_bytes()),
-        ValueRef::Text(element.syslib.as_bytes()),
-        ValueRef::Blob(text),
-    ];
+    let row = row_of(zone, element, umids, text);
     if stood {
         return put(tx, PUT, &row);
     }
@@ -206,6 +254,13 @@ impl ZoneItem for Element {
     ghost use Rattle.std.specs.Prelude.{refl};
 
     type Rows = Elements;
+
+    fn cells(&self, alloc: Global, zone: &ZoneName) -> Result<Cells, AllocError> {
+        let umids = joined_ids(alloc, self.umids.as_slice())?;
+        let text = bytes_of(alloc, self.text.as_slice())?;
+        let row = row_of(zone, self, umids.as_slice(), text.as_slice());
+        cells_of(alloc, &row)
+    }
 
     ghost by_zone = { refl };
 

@@ -1,6 +1,6 @@
 //! The table of SYSMOD entries.
 
-ghost use Rattle.std.specs.Prelude.{◌≡◌, [], ◌∷◌, OnOk, if◌then◌else◌, ◌≢◌, Option, IfSome};
+ghost use Rattle.std.specs.Prelude.{◌≡◌, [], ◌∷◌, OnOk, if◌then◌else◌, ◌≢◌, Option, IfSome, map};
 ghost use Rattle.std.specs.Prelude.{IfNone, IfOk, IsErrOf, option_map};
 ghost use Rattle.std.specs.List.{join_with_byte};
 ghost use Rattle.store_rows.specs.Calls.{RunsInside};
@@ -8,27 +8,28 @@ ghost use Rattle.store_rows.specs.Inside.{Continues, Turns};
 ghost use Rattle.store_rows.specs.Rows.{HasContents, in_table, without};
 ghost use Rattle.store_schema.specs.Rows.{entry_row};
 ghost use Rattle.store_schema.specs.Tables.{entry as entry_table, store_schema};
-ghost use Rattle.store_zones.specs.Calls.{put_entry_calls, remove_entry_calls};
+ghost use Rattle.store_zones.specs.Calls.{insert_entries_calls, put_entry_calls, remove_entry_calls};
 ghost use Rattle.store_zones.specs.Entries.{insert_entry, put_entry as into_entry, delete_entry, entry_key};
-ghost use Rattle.store_zones.specs.Zones.{ChangesZone, HasPutEntry, HasRemovedEntry, rows_with, with_entry};
-ghost use Rattle.store_zones.specs.Zones.{without_entry};
+ghost use Rattle.store_zones.specs.Zones.{ChangesZone, HasMoreEntries, HasPutEntry, HasRemovedEntry, rows_with};
+ghost use Rattle.store_zones.specs.Zones.{with_more_entries, with_entry, without_entry};
 ghost use Rattle.sqlite.specs.declared.types.Value.TheVariants.{Text};
 ghost use Rattle.sqlite.specs.Order.{column};
-ghost use Rattle.sqlite.specs.Values.{or_null};
+ghost use Rattle.sqlite.specs.Values.{bound, or_null};
 ghost use Rattle.sqlite_value.specs.Value.{owned};
 ghost use Rattle.terms.specs.Types.{Applied as AppliedTerm, Entry as EntryTerm};
 ghost use Rattle.store_schema.specs.Forms.{HasAppliedForms};
 ghost use Rattle.store_zones.specs.declared.zone_rows.ZoneRow.{ZoneRow as AZoneRow};
 ghost use Rattle.zones_maps.specs.Delta.{number_of};
 
-use crate::installed_vers::{change_number, number_before};
-use crate::items::ZoneItem;
+use crate::installed_vers::{change_number, insert_numbers, number_before};
+use crate::items::{ZoneItem, insert_items};
 use crate::zone_rows::ZoneRow;
 use fields::{Id, VerNumber, ZoneName};
 use sqlite::{Alter, Error, Row, Transaction};
+use sqlite_value::row::Row as Cells;
 use sqlite_value::value::ValueRef;
-use std::alloc::Global;
-use store_rows::{FromRow, ReadError, insert, put, remove};
+use std::alloc::{AllocError, Global};
+use store_rows::{FromRow, ReadError, cells_of, insert, put, remove};
 use store_schema::{Query, id_in, ids_in, joined_ids, optional_in, text_or_null, zone_name_in};
 use zones_maps::{Applied, Entry};
 
@@ -38,12 +39,39 @@ const SELECT: &str =
 const INSERT: &str =
     "INSERT INTO entry (zone, id, date, supby, delby, waived) VALUES (?1, ?2, ?3, ?4, ?5, ?6)";
 
+// Sixteen rows, as many as one statement puts.
+const INSERT_MANY: &str = "INSERT INTO entry (zone, id, date, supby, delby, waived) VALUES \
+    (?, ?, ?, ?, ?, ?), (?, ?, ?, ?, ?, ?), (?, ?, ?, ?, ?, ?), (?, ?, ?, ?, ?, ?), \
+    (?, ?, ?, ?, ?, ?), (?, ?, ?, ?, ?, ?), (?, ?, ?, ?, ?, ?), (?, ?, ?, ?, ?, ?), \
+    (?, ?, ?, ?, ?, ?), (?, ?, ?, ?, ?, ?), (?, ?, ?, ?, ?, ?), (?, ?, ?, ?, ?, ?), \
+    (?, ?, ?, ?, ?, ?), (?, ?, ?, ?, ?, ?), (?, ?, ?, ?, ?, ?), (?, ?, ?, ?, ?, ?)";
+
 const PUT: &str = "INSERT INTO entry (zone, id, date, supby, delby, waived) \
     VALUES (?1, ?2, ?3, ?4, ?5, ?6) \
     ON CONFLICT (zone, id) DO UPDATE SET date = excluded.date, supby = excluded.supby, \
     delby = excluded.delby, waived = excluded.waived";
 
 const DELETE: &str = "DELETE FROM entry WHERE zone = ?1 AND id = ?2";
+
+/// Adds the entries to the zone, sixteen rows by one statement and the remaining ones one at a time. Returns an error
+/// if the zone has one of the same id after all, if there is no such zone, if the disk fails or if memory runs out.
+pub fn insert_entries<S: Alter>(
+    alloc: Global,
+    tx: &mut Transaction<'_, S>,
+    zone: ZoneName,
+    entries: &[&Entry],
+) -> Result<(), Error>
+    ensures continues { Continues S.Store tx.old tx.new }
+    ensures calls { RunsInside S.Store (insert_entries_calls zone (map (λ e. e.now) entries.now))
+        tx.old.conn.now tx.new.conn.now result }
+    ensures ok { OnOk result (Turns S.Store tx.old.conn.now tx.new.conn.now (HasContents store_schema)
+        (with_more_entries zone (map (λ e. e.now) entries.now))) }
+    ensures stands { OnOk result (ChangesZone S.Store tx.old.conn.now tx.new.conn.now zone
+        (HasMoreEntries (map (λ e. e.now) entries.now))) }
+{
+    insert_items(alloc, tx, &zone, INSERT_MANY, INSERT, entries)?;
+    insert_numbers(alloc, tx, &zone, entries)
+}
 
 /// Puts the entry into the zone. The old one of its id, if there is one, was installed by this `++VER`. Returns an
 /// error if the zone has one after all, if there is no such zone, if the disk fails or if memory runs out.
@@ -91,6 +119,27 @@ fn date_value(applied: &Option<Applied>) -> ValueRef<'_>
     }
 }
 
+// The entry's row, with these texts of its lists.
+fn row_of<'a>(
+    zone: &'a ZoneName,
+    entry: &'a Entry,
+    supby: &'a [u8],
+    waived: &'a [u8],
+) -> [ValueRef<'a>; 6]
+    requires supby { supby.now ≡ join_with_byte 44 entry.now.supby }
+    requires waived { waived.now ≡ join_with_byte 44 entry.now.waived }
+    ensures { bound result ≡ entry_row zone.now entry.now }
+{
+    [
+        ValueRef::Text(zone.as_bytes()),
+        ValueRef::Text(entry.id.as_bytes()),
+        date_value(&entry.applied),
+        ValueRef::Text(supby),
+        text_or_null(&entry.delby),
+        ValueRef::Text(waived),
+    ]
+}
+
 // Puts the entry's row, with these texts of its lists, instead of that of the old entry, if there was one.
 fn put_row<S: Alter>(
     tx: &mut Transaction<'_, S>,
@@ -110,14 +159,7 @@ fn put_row<S: Alter>(
     ensures ok { OnOk result (Turns S.Store tx.old.conn.now tx.new.conn.now (HasContents store_schema)
         (in_table entry_table (rows_with stood (entry_key zone.now entry.now.id) (entry_row zone.now entry.now)))) }
 {
-    let row = [
-        ValueRef::Text(zone.as_bytes()),
-        ValueRef::Text(entry.id.as_bytes()),
-        date_value(&entry.applied),
-        ValueRef::Text(supby),
-        text_or_null(&entry.delby),
-        ValueRef::Text(waived),
-    ];
+    let row = row_of(zone, entry, supby, waived);
     if stood {
         return put(tx, PUT, &row);
     }
@@ -243,6 +285,13 @@ impl ZoneItem for Entry {
     ghost use Rattle.std.specs.Prelude.{refl};
 
     type Rows = Entries;
+
+    fn cells(&self, alloc: Global, zone: &ZoneName) -> Result<Cells, AllocError> {
+        let supby = joined_ids(alloc, self.supby.as_slice())?;
+        let waived = joined_ids(alloc, self.waived.as_slice())?;
+        let row = row_of(zone, self, supby.as_slice(), waived.as_slice());
+        cells_of(alloc, &row)
+    }
 
     ghost by_zone = { refl };
 

@@ -1,18 +1,21 @@
 //! The table of `++VER`s by which entries were installed, if that was not the first of its SREL.
 
 ghost use Rattle.std.specs.Prelude.{◌≡◌, ◌<◌, ◌^◌, [], ◌∷◌, OnOk, ◌≢◌, ◌≤◌, ℕ, pos, IfOk, IfSome};
-ghost use Rattle.std.specs.Prelude.{IfNone, IsErrOf};
-ghost use Rattle.store_rows.specs.Calls.{RunsInside};
+ghost use Rattle.std.specs.Prelude.{IfNone, IsErrOf, map};
+ghost use Rattle.std.specs.List.{flat_map};
+ghost use Rattle.store_rows.specs.Calls.{RunsInside, puts};
 ghost use Rattle.store_rows.specs.Inside.{Continues, Turns};
-ghost use Rattle.store_rows.specs.Rows.{HasContents, in_table, with_row, with_put, without};
-ghost use Rattle.store_schema.specs.Rows.{chosen_row};
+ghost use Rattle.store_rows.specs.Rows.{HasContents, as_bound, in_table, with_row, with_rows, with_put, without};
+ghost use Rattle.store_schema.specs.Rows.{chosen_in, chosen_row};
 ghost use Rattle.store_schema.specs.Tables.{chosen, store_schema};
 ghost use Rattle.store_zones.specs.Calls.{number_calls};
-ghost use Rattle.store_zones.specs.Chosen.{insert_chosen, put_chosen, delete_chosen, number_before};
+ghost use Rattle.store_zones.specs.Chosen.{insert_chosen, insert_numbers as insert_many, put_chosen, delete_chosen};
+ghost use Rattle.store_zones.specs.Chosen.{number_before};
 ghost use Rattle.store_zones.specs.Entries.{entry_key};
 ghost use Rattle.store_zones.specs.Zones.{numbered};
 ghost use Rattle.sqlite.specs.declared.types.Value.TheVariants.{Int};
 ghost use Rattle.sqlite.specs.Order.{column};
+ghost use Rattle.sqlite.specs.Values.{bound};
 ghost use Rattle.store_zones.specs.declared.installed_vers.EntryNumber.{EntryNumber as ANumber};
 ghost use Rattle.store_zones.specs.declared.zone_rows.ZoneRow.{ZoneRow as AZoneRow};
 
@@ -21,14 +24,21 @@ use crate::zone_rows::ZoneRow;
 use fields::{Id, VerNumber, ZoneName};
 use sorted::Keyed;
 use sqlite::{Alter, Error, Row, Transaction};
+use sqlite_value::row::Row as Cells;
 use sqlite_value::value::ValueRef;
-use std::alloc::Global;
-use store_rows::{FromRow, ReadError, insert, put, remove, whole};
+use std::alloc::{AllocError, Global};
+use store_rows::{FromRow, ReadError, cells_of, insert, insert_rows, put, remove, whole};
 use store_schema::{Query, id_in, zone_name_in};
+use zones_maps::Entry;
 
 const SELECT: &str = "SELECT zone, id, n FROM chosen WHERE zone = ?1 ORDER BY id";
 
 const INSERT: &str = "INSERT INTO chosen (zone, id, n) VALUES (?1, ?2, ?3)";
+
+// Sixteen rows, as many as one statement puts.
+const INSERT_MANY: &str = "INSERT INTO chosen (zone, id, n) VALUES \
+    (?, ?, ?), (?, ?, ?), (?, ?, ?), (?, ?, ?), (?, ?, ?), (?, ?, ?), (?, ?, ?), (?, ?, ?), \
+    (?, ?, ?), (?, ?, ?), (?, ?, ?), (?, ?, ?), (?, ?, ?), (?, ?, ?), (?, ?, ?), (?, ?, ?)";
 
 const PUT: &str = "INSERT INTO chosen (zone, id, n) VALUES (?1, ?2, ?3) \
     ON CONFLICT (zone, id) DO UPDATE SET n = excluded.n";
@@ -40,6 +50,54 @@ pub(crate) fn number_before(stood: Option<VerNumber>) -> usize
     ensures { result ≡ number_before stood }
 {
     stood.unwrap_or(VerNumber::FIRST).get()
+}
+
+// The row of the entry of this id.
+fn row_of<'a>(zone: &'a ZoneName, id: &'a Id, number: usize) -> [ValueRef<'a>; 3]
+    requires { number < 2 ^ 63 }
+    ensures { bound result ≡ chosen_row zone.now id.now number }
+{
+    [
+        ValueRef::Text(zone.as_bytes()),
+        ValueRef::Text(id.as_bytes()),
+        ValueRef::Int(number as i64),
+    ]
+}
+
+// The rows of these entries, except those that were installed by the first `++VER`.
+fn rows_of(alloc: Global, zone: &ZoneName, entries: &[&Entry]) -> Result<Vec<Cells>, AllocError>
+    ensures { IfOk result (λ rows. map as_bound rows.items
+        ≡ flat_map (chosen_in zone.now) (map (λ e. e.now) entries.now)) }
+{
+    let mut rows = Vec::new(alloc);
+    for entry in entries {
+        let number = entry.number();
+        if number.get() == 1 {
+            continue;
+        }
+        let id = entry.id;
+        rows.push(EntryNumber { id, number }.cells(alloc, zone)?)?;
+    }
+    Ok(rows)
+}
+
+/// Adds the numbers of these entries, of whose ids the zone has none.
+pub(crate) fn insert_numbers<S: Alter>(
+    alloc: Global,
+    tx: &mut Transaction<'_, S>,
+    zone: &ZoneName,
+    entries: &[&Entry],
+) -> Result<(), Error>
+    ensures continues { Continues S.Store tx.old tx.new }
+    ensures calls { RunsInside S.Store
+        (puts insert_many insert_chosen (flat_map (chosen_in zone.now) (map (λ e. e.now) entries.now)))
+        tx.old.conn.now tx.new.conn.now result }
+    ensures ok { OnOk result (Turns S.Store tx.old.conn.now tx.new.conn.now (HasContents store_schema)
+        (in_table chosen
+        (with_rows (flat_map (chosen_in zone.now) (map (λ e. e.now) entries.now))))) }
+{
+    let rows = rows_of(alloc, zone, entries)?;
+    insert_rows(alloc, tx, INSERT_MANY, INSERT, rows.as_slice())
 }
 
 // Adds the row of the entry of this id, which has none.
@@ -56,11 +114,7 @@ fn insert_row<'a, S: Alter>(
     ensures ok { OnOk result (Turns S.Store tx.old.conn.now tx.new.conn.now (HasContents store_schema)
         (in_table chosen (with_row (chosen_row zone.now id.now number)))) }
 {
-    let row = [
-        ValueRef::Text(zone.as_bytes()),
-        ValueRef::Text(id.as_bytes()),
-        ValueRef::Int(number as i64),
-    ];
+    let row = row_of(zone, id, number);
     insert(tx, INSERT, &row)
 }
 
@@ -78,11 +132,7 @@ fn put_row<'a, S: Alter>(
     ensures ok { OnOk result (Turns S.Store tx.old.conn.now tx.new.conn.now (HasContents store_schema)
         (with_put chosen (entry_key zone.now id.now) (chosen_row zone.now id.now number))) }
 {
-    let row = [
-        ValueRef::Text(zone.as_bytes()),
-        ValueRef::Text(id.as_bytes()),
-        ValueRef::Int(number as i64),
-    ];
+    let row = row_of(zone, id, number);
     put(tx, PUT, &row)
 }
 
@@ -217,6 +267,10 @@ impl ZoneItem for EntryNumber {
     ghost use Rattle.std.specs.Prelude.{refl};
 
     type Rows = Numbers;
+
+    fn cells(&self, alloc: Global, zone: &ZoneName) -> Result<Cells, AllocError> {
+        cells_of(alloc, &row_of(zone, &self.id, self.number.get()))
+    }
 
     ghost by_zone = { refl };
 

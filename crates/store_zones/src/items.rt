@@ -1,10 +1,16 @@
-//! The contents of a zone, from the rows of a table that name the zone.
+//! The contents of a zone, and the rows of a table that name the zone.
 
-ghost use Rattle.std.specs.Prelude.{List, IfOk, IsErrOf};
+ghost use Rattle.std.specs.Prelude.{◌≡◌, ℕ, List, map, IfOk, IsErrOf, OnOk};
+ghost use Rattle.std.specs.List.{AllByRecursion};
 ghost use Rattle.sqlite.specs.Held.{state};
+ghost use Rattle.sqlite.specs.Schema.{Schema as ASchema};
 ghost use Rattle.sqlite.specs.State.{HasCleanDisk};
+ghost use Rattle.sqlite.specs.Table.{Table as ATable};
+ghost use Rattle.store_rows.specs.Calls.{RunsInside, many, puts};
+ghost use Rattle.store_rows.specs.Inside.{Continues, Turns};
 ghost use Rattle.store_rows.specs.Reads.{OnlyReads};
-ghost use Rattle.store_rows.specs.Rows.{Contents, HasContents};
+ghost use Rattle.store_rows.specs.Rows.{Contents, HasContents, as_bound, in_table, with_rows};
+ghost use Rattle.store_rows.specs.Texts.{PutsIn, SuitColumns};
 ghost use Rattle.store_schema.specs.declared.schema.Schema.{Schema};
 ghost use Rattle.store_schema.specs.Earlier.{schema_under};
 ghost use Rattle.store_zones.specs.Held.{HoldsItems, in_zone};
@@ -12,19 +18,30 @@ ghost use Rattle.store_zones.specs.Held.{HoldsItems, in_zone};
 use crate::zone_rows::{ZoneRow, zone_table};
 use fields::ZoneName;
 use sorted::{Keyed, Table};
-use sqlite::{Alter, Connection};
+use sqlite::{Alter, Connection, Error, Transaction};
+use sqlite_value::row::Row as Cells;
 use sqlite_value::value::ValueRef;
-use std::alloc::Global;
-use store_rows::{FromRow, ReadError};
+use std::alloc::{AllocError, Global};
+use store_rows::{FromRow, ReadError, insert_rows};
 use store_schema::{Query, load_listed};
 
-/// What a zone contains, by its keys, and the query for its rows, whose first column is the name of the zone.
+/// As many rows as one statement puts.
+const RUN: usize = 16;
+
+/// What a zone contains, by its keys, the query for its rows, whose first column is the name of the zone, and the row
+/// of an item.
 pub(crate) trait ZoneItem: Keyed + Drop {
-    ghost use Rattle.std.specs.Prelude.{◌≡◌, ◌∷◌, drop};
+    ghost use Rattle.std.specs.Prelude.{◌≡◌, ◌∷◌, drop, IfOk};
     ghost use Rattle.sqlite.specs.declared.types.Value.TheVariants.{Text};
+    ghost use Rattle.store_rows.specs.Rows.{as_bound};
     ghost use Rattle.store_zones.specs.declared.zone_rows.ZoneRow.{ZoneRow as AZoneRow};
+    ghost use Rattle.store_zones.specs.Held.{in_zone};
 
     type Rows: FromRow<Item = ZoneRow<Self>> + Query<Rows = Self::Rows>;
+
+    /// The item's row in the zone of this name.
+    fn cells(&self, alloc: Global, zone: &ZoneName) -> Result<Cells, AllocError>
+        ensures { IfOk result (λ cells. as_bound cells ≡ in_zone Self.Rows.row_of zone.now self.now) };
 
     ghost by_zone: { Self.Rows.width ≡ 1 };
 
@@ -50,4 +67,51 @@ pub(crate) fn load_items<S: Alter, T: ZoneItem>(
 {
     let rows = load_listed::<S, T::Rows>(alloc, conn, &[ValueRef::Text(name.as_bytes())])?;
     zone_table(alloc, rows)
+}
+
+// The rows of the items in the zone of this name.
+fn rows_of<T: ZoneItem>(
+    alloc: Global,
+    zone: &ZoneName,
+    items: &[&T],
+) -> Result<Vec<Cells>, AllocError>
+    ensures { IfOk result (λ rows. map as_bound rows.items
+        ≡ map (in_zone T.Rows.row_of zone.now) (map (λ x. x.now) items.now)) }
+{
+    let mut rows = Vec::with_capacity(alloc, items.len())?;
+    for item in items {
+        rows.push(item.cells(alloc, zone)?)?;
+    }
+    Ok(rows)
+}
+
+/// Adds the rows of the items to the table that the texts name. The first text puts as many rows as go into one
+/// statement, and the second puts the remaining ones, one at a time. So it holds a copy of no more items than one
+/// statement puts.
+pub(crate) fn insert_items<S: Alter, T: ZoneItem>(
+    alloc: Global,
+    tx: &mut Transaction<'_, S>,
+    zone: &ZoneName,
+    some: &str,
+    one: &str,
+    items: &[&T],
+) -> Result<(), Error>
+    ensures continues { Continues S.Store tx.old tx.new }
+    ensures calls { RunsInside S.Store
+        (puts some.now one.now (map (in_zone T.Rows.row_of zone.now) (map (λ x. x.now) items.now)))
+        tx.old.conn.now tx.new.conn.now result }
+    ensures ok { OnOk result ((schema : ASchema) (at : ℕ) (table : ATable)
+        → PutsIn schema at table many some.now → PutsIn schema at table 1 one.now
+        → AllByRecursion (SuitColumns table.columns) (map (in_zone T.Rows.row_of zone.now) (map (λ x. x.now) items.now))
+        → Turns S.Store tx.old.conn.now tx.new.conn.now (HasContents schema)
+        (in_table table (with_rows (map (in_zone T.Rows.row_of zone.now) (map (λ x. x.now) items.now))))) }
+{
+    let mut done = 0;
+    while done < items.len() {
+        let end = done + (items.len() - done).min(RUN);
+        let rows = rows_of(alloc, zone, &items[done..end])?;
+        insert_rows(alloc, tx, some, one, rows.as_slice())?;
+        done = end;
+    }
+    Ok(())
 }

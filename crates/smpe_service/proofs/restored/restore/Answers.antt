@@ -1,64 +1,20 @@
-use Rattle.std.proofs.Common.{◌≡◌, ◌∙◌, All, IsTrue, ap, map, refl, sym, subst}
-use Rattle.std.specs.Ordering.{nat_cmp}
-use Rattle.std.specs.Cmp.Lexicographic.{slice_cmp}
-use Rattle.std.proofs.lemmas.List.Elements.{filter_passes}
-use Rattle.terms.specs.Types.{Id}
-use Rattle.terms.specs.Lookups.{is_applied}
-use Rattle.terms.specs.Rising.{Rises}
-use Rattle.judge_system.specs.ByNumber.{AreCausers}
-use Rattle.judge_system.specs.declared.failure.Failure.{Failure}
-use Rattle.judge_system.proofs.Judging.{has_parts, decided_of}
+use Rattle.std.proofs.Common.{◌≡◌, ◌∙◌, ap, map, refl}
 use Rattle.report.specs.Views.{line_view}
-use Rattle.undo.specs.Judged.{IsRestoreJudged}
 use Rattle.undo.specs.Scopes.{restoring_from}
 use Rattle.smpe_service.specs.Lines.{line_in}
 use Rattle.smpe_service.proofs.Listed.{listed_are}
-use Rattle.smpe_service.proofs.RestoredStatuses.{IsDecided, failed_rises, restore_lines}
+use Rattle.smpe_service.proofs.RestoredStatuses.{failed_rises, restore_lines}
 use Rattle.smpe_service.proofs.restored.restore.Goals as goal
-use Rattle.smpe_service.proofs.restored.restore.Goals.{In_ok-judged, In_ok-kept}
 
-pub restore_system-requires : goal.restore_system-requires
-restore_system-requires c =
-    let zone = c.args.zone.now in
+pub decide_candidates-requires : goal.decide_candidates-requires
+decide_candidates-requires c = (c.in_ok-candidates.ensures.listed, c.in_ok-candidates.ensures.ids)
+
+pub listed_lines-requires : goal.listed_lines-requires
+listed_lines-requires c =
     let has = c.in_ok-candidates.ensures in
-    subst (All (λ x. IsTrue (is_applied zone x))) (sym has.ids) (filter_passes (is_applied zone) has.listed)
-
--- the numbered system is that of the list
-judged : (c : In_ok-judged) → IsRestoreJudged
-    (restoring_from c.args.global.now c.args.zone.now c.args.accepted.now) c.in_ok-candidates.ensures.listed
-    c.in_ok-candidates.candidates.ids c.in_ok-judged.judged
-judged c = c.in_ok-judged.ensures c.in_ok-candidates.ensures.listed c.in_ok-candidates.ensures.ids
-
-pub decided-requires-clause-parts : goal.decided-requires-clause-parts
-decided-requires-clause-parts c =
-    has_parts _ _ _ _ c.in_ok-candidates.candidates.ids c.in_ok-judged.judged
-    (judged (goal.at.decided-requires-clause-parts c).In_ok-judged)
-
-pub decided-requires-clause-causers : goal.decided-requires-clause-causers
-decided-requires-clause-causers c =
-    let p = c.in_ok-judged.judged.system in
-    subst (AreCausers p c.in_ok-set.set) (sym c.as_slice.ensures.value) (record {
-      size = c.in_ok-causers.ensures.size;
-      exact = c.in_ok-causers.ensures.exact c.in_ok-set.ensures.size;
-      rising = c.in_ok-causers.ensures.rising;
-    })
-
--- so is what is decided
-decided_are : (c : In_ok-kept) → IsDecided (restoring_from c.args.global.now c.args.zone.now c.args.accepted.now)
-    c.in_ok-candidates.ensures.listed c.in_ok-candidates.candidates.ids c.in_ok-kept.field-0.kept
-    c.in_ok-kept.field-0.failed.items
-decided_are c =
-    decided_of _ _ _ _ c.in_ok-candidates.candidates.ids c.in_ok-judged.judged
-    (c.in_ok-judged.ensures c.in_ok-candidates.ensures.listed c.in_ok-candidates.ensures.ids) c.in_ok-set.set
-    c.in_ok-set.ensures c.in_ok-kept.field-0.kept c.in_ok-kept.field-0.failed.items c.in_ok-kept.ensures
-
-pub lines_of-requires : goal.lines_of-requires
-lines_of-requires c =
-    let at = goal.at.lines_of-requires c in
-    subst (Rises (slice_cmp nat_cmp) (λ (f : Id × Failure). f.0)) (sym c.as_slice-3.ensures.value)
-    (failed_rises _ c.in_ok-candidates.ensures.listed c.in_ok-candidates.candidates.ids
-    (judged at.In_ok-judged).rising c.in_ok-kept.field-0.kept c.in_ok-kept.field-0.failed.items
-    (decided_are at.In_ok-kept))
+    let decided = c.in_ok-decided.decided in
+    failed_rises _ has.listed c.in_ok-candidates.candidates.ids c.attest.ensures decided.kept decided.failed.items
+    (c.in_ok-decided.ensures has.listed has.ids)
 
 pub returns-clause-restores : goal.returns-clause-restores
 returns-clause-restores c = λ new changed.
@@ -66,16 +22,14 @@ returns-clause-restores c = λ new changed.
     let r = restoring_from g c.args.zone.now c.args.accepted.now in
     let has = c.in_ok-candidates.ensures in
     let cands = c.in_ok-candidates.candidates.ids in
-    let kept = c.in_ok-kept.field-0.kept in
-    let failed = c.in_ok-kept.field-0.failed.items in
-    let decided = decided_are (goal.at.returns-clause-restores c).In_ok-kept in
-    let ids : c.as_slice-2.result.now ≡ has.listed =
-    listed_are r _ c.in_ok-candidates.candidates has c.as_slice-2.result.now c.as_slice-2.ensures.rising
-    (λ x. rw c.as_slice-2.ensures.items (c.in_ok-ids.ensures x)) in
+    let kept = c.in_ok-decided.decided.kept in
+    let failed = c.in_ok-decided.decided.failed.items in
+    let decided = c.in_ok-decided.ensures has.listed has.ids in
+    let listed = c.in_ok-lines.ensures in
+    let ids : listed.ids ≡ has.listed =
+    listed_are r _ c.in_ok-candidates.candidates has listed.ids listed.rising listed.members in
     let lines = restore_lines r has.listed cands has.ids kept failed decided g refl
-    (map line_view c.in_ok-lines.lines.items)
-    (c.in_ok-lines.ensures ∙ ap (map (line_in g kept c.as_slice-3.result.now)) ids
-    ∙ ap (λ fs. map (line_in g kept fs) has.listed) c.as_slice-3.ensures.value) in
+    (map line_view c.in_ok-lines.lines.items) (listed.lines_are ∙ ap (map (line_in g kept failed)) ids) in
     record {
       setting = r;
       setting_is = refl;

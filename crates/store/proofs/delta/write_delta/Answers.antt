@@ -1,11 +1,11 @@
 use Rattle.std.proofs.Common.{◌≡◌, map, subst₂, rules}
-use Rattle.std.specs.List.{flat_map, zip}
+use Rattle.std.specs.List.{zip}
 use Rattle.zones_maps.specs.Delta.{entry_stood, element_stood}
 use Rattle.store_rows.specs.Calls.{RunsInside}
 use Rattle.store_rows.proofs.CallLemmas.{runs_then, runs_err, follows_err}
 use Rattle.store_rows.proofs.InsideLemmas.{on_ok}
 use Rattle.store_zones.specs.Zones.{ChangesZone}
-use Rattle.store.specs.Calls.{entry_calls, element_calls}
+use Rattle.store.specs.Calls.{entries_calls, elements_calls}
 use Rattle.store.specs.Writes.{EditsEntries, EditsElements}
 use Rattle.store.proofs.DeltaLemmas.{both}
 use Rattle.store.proofs.delta.write_delta.Goals as goal
@@ -32,15 +32,14 @@ returns-clause-calls g c =
     let mid = c.edit_entries.new.tx.conn.now in
     let new = c.edit_elements.new.tx.conn.now in
     let delta = c.args.delta.now in
-    let entries = entry_calls c.args.name in
-    let elements = element_calls c.args.name in
-    runs_then s (flat_map entries (zip delta.edits.entries delta.entries_stood))
-    (flat_map elements (zip delta.edits.elements delta.elements_stood)) old mid new c.edit_entries.result
+    let name = c.args.name in
+    runs_then s (entries_calls name (zip delta.edits.entries delta.entries_stood))
+    (elements_calls name (zip delta.edits.elements delta.elements_stood)) old mid new c.edit_entries.result
     (tt {0}) c.edit_elements.result c.edit_entries.ensures.continues.inside c.edit_elements.ensures.continues.inside
     c.in_ok-edit_entries.was
-    (subst₂ (λ edits stood. RunsInside s (flat_map entries (zip edits stood)) old mid c.edit_entries.result)
+    (subst₂ (λ edits stood. RunsInside s (entries_calls name (zip edits stood)) old mid c.edit_entries.result)
     c.entries.ensures c.entries_stood.ensures c.edit_entries.ensures.calls)
-    (subst₂ (λ edits stood. RunsInside s (flat_map elements (zip edits stood)) mid new c.edit_elements.result)
+    (subst₂ (λ edits stood. RunsInside s (elements_calls name (zip edits stood)) mid new c.edit_elements.result)
     c.elements.ensures c.elements_stood.ensures c.edit_elements.ensures.calls)
 
 pub returns-in_err-edit_entries-clause-calls : goal.returns-in_err-edit_entries-clause-calls
@@ -49,10 +48,10 @@ returns-in_err-edit_entries-clause-calls g c =
     let old = c.args.tx.now.conn.now in
     let mid = c.edit_entries.new.tx.conn.now in
     let delta = c.args.delta.now in
-    let entries = entry_calls c.args.name in
-    runs_err s (flat_map entries (zip delta.edits.entries delta.entries_stood))
-    (flat_map (element_calls c.args.name) (zip delta.edits.elements delta.elements_stood)) old mid
+    let name = c.args.name in
+    runs_err s (entries_calls name (zip delta.edits.entries delta.entries_stood))
+    (elements_calls name (zip delta.edits.elements delta.elements_stood)) old mid
     c.edit_entries.result c.from_residual.result (search rules)
     (follows_err c.edit_entries.result _ _ c.in_err-edit_entries.was c.from_residual.ensures.1)
-    (subst₂ (λ edits stood. RunsInside s (flat_map entries (zip edits stood)) old mid c.edit_entries.result)
+    (subst₂ (λ edits stood. RunsInside s (entries_calls name (zip edits stood)) old mid c.edit_entries.result)
     c.entries.ensures c.entries_stood.ensures c.edit_entries.ensures.calls)

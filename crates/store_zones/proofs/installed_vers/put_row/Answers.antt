@@ -1,10 +1,9 @@
-use Rattle.std.proofs.Common.{rules}
 use Rattle.store_rows.proofs.InsideLemmas.{on_ok}
 use Rattle.store_schema.specs.Rows.{chosen_row}
 use Rattle.store_schema.specs.Tables.{store_schema, chosen}
 use Rattle.store_zones.specs.Chosen.{put_chosen}
 use Rattle.store_zones.proofs.Texts.{puts_chosen}
-use Rattle.store_zones.proofs.RowForms.{kept_chosen, chosen_bound}
+use Rattle.store_zones.proofs.RowForms.{kept_chosen}
 use Rattle.store_zones.proofs.Putting.{PutsRow, puts_row}
 use Rattle.store_zones.proofs.installed_vers.put_row.Given.{Over}
 use Rattle.store_zones.proofs.installed_vers.put_row.Goals.{After-put}
@@ -17,8 +16,7 @@ put g c =
     let id = c.args.id.now in
     let n = c.args.number in
     puts_row g.S.Store put_chosen chosen c.args.tx.now.conn.now c.put.new.tx.conn.now c.put.result 2
-    (chosen_row zone id n) _ (chosen_bound c.as_bytes.result.now c.as_bytes-2.result.now _ zone id n
-    c.as_bytes.ensures.same c.as_bytes-2.ensures.same (search rules)) (kept_chosen zone id n) c.put.ensures.calls
+    (chosen_row zone id n) _ c.row_of-row.ensures (kept_chosen zone id n) c.put.ensures.calls
     (on_ok c.put.result _ _ (λ ran. ran store_schema 12 chosen 2 puts_chosen) c.put.ensures.ok)
 
 pub returns-clause-ok : goal.returns-clause-ok
