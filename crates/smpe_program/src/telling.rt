@@ -9,6 +9,8 @@ const FULL: &str = "the disk is full";
 
 const FAILED: &str = "a read or write of the database failed";
 
+const ODD_ROW: &str = "a row of the database is not as smpe wrote it";
+
 /// Says what a report and a fault leave unsaid. It says nothing if memory runs out or nothing can be written.
 pub(crate) fn tell(
     rt: &HostRuntime,
@@ -98,10 +100,13 @@ fn database_hint(rt: &HostRuntime, database: &Database) -> Result<Option<String>
             Ok(Some(String::from_str(rt.alloc(), "the file is no database")?))
         }
         Database::Refused(_, error) => Ok(Some(String::from_str(rt.alloc(), refusal(*error))?)),
-        Database::Opened { closing, .. } => match closing {
-            Some(closing) => Ok(Some(String::from_str(rt.alloc(), failure(closing))?)),
-            None => Ok(None),
-        },
+        Database::Opened { closing, .. } => {
+            let told = match closing {
+                Some(closing) => failure(closing),
+                None => ODD_ROW,
+            };
+            Ok(Some(String::from_str(rt.alloc(), told)?))
+        }
     }
 }
 
@@ -128,7 +133,7 @@ fn failure(closing: &Closing) -> &'static str {
         (Some(Error::SqlInputError(_)), None) => {
             "the file has no table meta: another program made it, or nothing could be written to it"
         }
-        (None, None) => "a row of the database is not as smpe wrote it",
+        (None, None) => ODD_ROW,
         (_, Some(Error::SqliteFailure(ErrorCode::DiskFull))) => FULL,
         _ => FAILED,
     }
