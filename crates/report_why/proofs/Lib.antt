@@ -1,9 +1,11 @@
 pub mod Besides
 pub mod Dependents
-pub mod Firsts
+pub mod Forbidding
 pub mod Growing
 pub mod Made
 pub mod Numbering
-pub mod Serving
+pub mod NeededPairs
+pub mod SearchBack
 pub mod TextParts
 pub mod Together
+pub mod Untouched

@@ -21,13 +21,18 @@ use Rattle.report_why.specs.declared.fact.Fact.{Fact}
 use Rattle.report_why.specs.LineWords.{word_text}
 use Rattle.report_why.specs.Views.{fact_view}
 
--- the text of one item more
+-- what one item more adds, and its text
+pub grown_more : {X Y : Type 0} (f : X → List Y) (xs : List X) (i : ℕ) (x : X) (old mid new : List Y) → i < length xs
+    → x ≡ get_or xs i x → mid ≡ old ++ flat_map f (take i xs) → new ≡ mid ++ f x
+    → new ≡ old ++ flat_map f (take (i + 1) xs)
+grown_more f xs i x old mid new below at before more =
+    more ∙ ap (λ l. l ++ f x) before ∙ append_assoc old (flat_map f (take i xs)) (f x)
+    ∙ ap (λ l. old ++ l) (sym (flat_next f xs i x below at))
+
 pub flat_more : {X : Type 0} (f : X → List ℕ) (xs : List X) (i : ℕ) (x : X) (old mid new : List ℕ) → i < length xs
     → x ≡ get_or xs i x → mid ≡ old ++ flat_map f (take i xs) → new ≡ mid ++ f x
     → new ≡ old ++ flat_map f (take (i + 1) xs)
-flat_more f xs i x old mid new below at before more =
-    more ∙ ap (λ l. l ++ f x) before ∙ append_assoc old (flat_map f (take i xs)) (f x)
-    ∙ ap (λ l. old ++ l) (sym (flat_next f xs i x below at))
+flat_more f = grown_more f
 
 -- the first word, the others, each behind a blank, and the newline
 pub words_put : (words : List FactWord) (start old : List ℕ) {t1 t2 : List ℕ} → t1 ≡ old ++ start

@@ -1,87 +1,65 @@
--- All facts of an id, and of ids one after the other.
-use Rattle.std.proofs.Common.{◌≡◌, ◌∙◌, List, [], ◌∷◌, ◌++◌, None, map, refl, sym, ap}
-use Rattle.std.proofs.Common.{append_assoc, append-nil}
-use Rattle.std.specs.List.{flat_map}
+-- All facts of an id, part by part.
+use Rattle.std.proofs.Common.{◌≡◌, ◌∙◌, List, ◌++◌, map, ap, ap₂}
 use Rattle.std.proofs.lemmas.List.{map-append}
-use Rattle.std.proofs.lemmas.List.Concat.{flat_map-append}
-use Rattle.terms.proofs.BesideLists.{beside_more}
 use Rattle.terms.specs.Beside.{Beside}
-use Rattle.terms.specs.Types.{Id, Global, Zone, Bypass}
-use Rattle.terms.specs.Choice.{Choice, counting}
+use Rattle.terms.specs.Types.{Id}
 use Rattle.terms.specs.Lookups.{changes_of}
-use Rattle.terms.specs.CommandForms.{no_bypass}
 use Rattle.terms.specs.Tests.{Setting}
-use Rattle.report_why.specs.Facts.{Fact, alone, requisites as requisites_in, holds_on, standing_facts, ver_facts}
-use Rattle.report_why.specs.Facts.{delete_facts, npre_facts}
-use Rattle.report_why.specs.Facts.{IsRequisiteFact, IsHoldFact, IsElementFact, AreFacts, AreOrphans, NeededFact}
+use Rattle.report_why.specs.Facts.{requisites as requisites_in, holds_on, standing_facts, ver_facts, delete_facts}
+use Rattle.report_why.specs.Facts.{npre_facts, IsRequisiteFact, IsHoldFact, IsElementFact, AreOrphans, AreAsked}
+use Rattle.report_why.specs.Facts.{AreOfChanges, AreFacts}
 use Rattle.report_why.specs.declared.fact as code
 use Rattle.report_why.specs.Views.{fact_view}
 use Rattle.report_why.specs.Needed.{AreNeeded}
-use Rattle.report_why.proofs.Besides.{beside_nil, beside_map}
+use Rattle.report_why.proofs.Besides.{beside_map}
 
--- the setting of these values
-abbrev pub a_setting : Global → Choice → Zone → List Id → Bypass → Setting
-a_setting g c zone ids bypass =
-    record { global = g; choice = c; zone = zone; related = None; cands = ids; bypass = bypass }
+-- a list behind another, seen through a function
+pub seen_behind : {X Y : Type 0} (f : X → Y) (all front back : List X) (seen more : List Y) → all ≡ front ++ back
+    → map f front ≡ seen → map f back ≡ more → map f all ≡ seen ++ more
+seen_behind f all front back seen more is first second =
+    ap (map f) is ∙ map-append f front back ∙ ap₂ (λ a b. a ++ b) first second
 
-pub alone_is : (g h : Global) (c : Choice) (zone : Zone) (x : Id) (ids : List Id) (b : Bypass) → h ≡ g
-    → c ≡ counting g zone (x ∷ []) → ids ≡ x ∷ [] → b ≡ no_bypass → a_setting h c zone ids b ≡ alone g zone x
-alone_is g h c zone x ids b eg ec ei eb =
-    ap (λ v. a_setting v c zone ids b) eg
-    ∙ ap (λ v. a_setting g v zone ids b) ec
-    ∙ ap (λ v. a_setting g (counting g zone (x ∷ [])) zone v b) ei
-    ∙ ap (λ v. a_setting g (counting g zone (x ∷ [])) zone (x ∷ []) v) eb
+module _ (s : Setting) (x : Id) where
+  pub are_asked : (all r h : List code.Fact.Fact) → all ≡ r ++ h
+      → ((lost : List Id) × AreOrphans s x lost
+      × Beside (λ n q fact. IsRequisiteFact s x q (fact_view fact)) (requisites_in s x lost) r)
+      → Beside (λ n q fact. IsHoldFact s x q (fact_view fact)) (holds_on s.global x) h
+      → AreAsked s x (map fact_view all)
+  are_asked all r h is requisites holds = record {
+    orphans = requisites.0;
+    orphans_are = requisites.1;
+    of_requisites = map fact_view r;
+    requisites_are = beside_map (IsRequisiteFact s x) fact_view (requisites_in s x requisites.0) r requisites.2;
+    of_holds = map fact_view h;
+    holds_are = beside_map (IsHoldFact s x) fact_view (holds_on s.global x) h holds;
+    facts_are = ap (map fact_view) is ∙ map-append fact_view r h;
+  }
 
--- lists one behind the other, seen through a function
-module _ {X Y : Type 0} (f : X → Y) where
-  eight_parts : (s v r h e d p n : List X)
-      → map f (((((((s ++ v) ++ r) ++ h) ++ e) ++ d) ++ p) ++ n)
-      ≡ map f s ++ map f v ++ map f r ++ map f h ++ map f e ++ map f d ++ map f p ++ map f n
-  eight_parts s v r h e d p n = simp (map-append, append_assoc) refl
+  pub are_of_changes : (all e d p : List code.Fact.Fact) → all ≡ (e ++ d) ++ p
+      → Beside (λ n h fact. IsElementFact s x h (fact_view fact)) (changes_of s.global x) e
+      → map fact_view d ≡ delete_facts s x → map fact_view p ≡ npre_facts s x → AreOfChanges s x (map fact_view all)
+  are_of_changes all e d p is elements deletes forbids = record {
+    of_elements = map fact_view e;
+    elements_are = beside_map (IsElementFact s x) fact_view (changes_of s.global x) e elements;
+    facts_are = ap (map fact_view) is ∙ map-append fact_view (e ++ d) p
+        ∙ ap₂ (λ a b. a ++ b) (map-append fact_view e d ∙ ap (λ l. map fact_view e ++ l) deletes) forbids;
+  }
 
-  pub seen_parts : (all s v r h e d p n : List X) (sees sev sed sep sen : List Y)
-      → all ≡ ((((((s ++ v) ++ r) ++ h) ++ e) ++ d) ++ p) ++ n → map f s ≡ sees → map f v ≡ sev → map f d ≡ sed
-      → map f p ≡ sep → map f n ≡ sen
-      → map f all ≡ sees ++ sev ++ map f r ++ map f h ++ map f e ++ sed ++ sep ++ sen
-  seen_parts all s v r h e d p n sees sev sed sep sen is es ev ed ep en =
-      ap (map f) is
-      ∙ eight_parts s v r h e d p n
-      ∙ ap (λ l. l ++ map f v ++ map f r ++ map f h ++ map f e ++ map f d ++ map f p ++ map f n) es
-      ∙ ap (λ l. sees ++ l ++ map f r ++ map f h ++ map f e ++ map f d ++ map f p ++ map f n) ev
-      ∙ ap (λ l. sees ++ sev ++ map f r ++ map f h ++ map f e ++ l ++ map f p ++ map f n) ed
-      ∙ ap (λ l. sees ++ sev ++ map f r ++ map f h ++ map f e ++ sed ++ l ++ map f n) ep
-      ∙ ap (λ l. sees ++ sev ++ map f r ++ map f h ++ map f e ++ sed ++ sep ++ l) en
-
--- what an install of the id alone looks at
-pub record AreAsked (s : Setting) (x : Id) (requisites holds elements deletes forbids : List code.Fact.Fact)
-    : Type 0 where
-  pub of_requisites : (lost : List Id) × AreOrphans s x lost
-      × Beside (λ n r fact. IsRequisiteFact s x r (fact_view fact)) (requisites_in s x lost) requisites
-  pub of_holds : Beside (λ n h fact. IsHoldFact s x h (fact_view fact)) (holds_on s.global x) holds
-  pub of_elements : Beside (λ n h fact. IsElementFact s x h (fact_view fact)) (changes_of s.global x) elements
-  pub deletes_are : map fact_view deletes ≡ delete_facts s x
-  pub forbids_are : map fact_view forbids ≡ npre_facts s x
-
--- the facts of an id, one part behind the other
-pub are_facts : (g : Global) (zone : Zone) (x : Id) (all s v r h e d p n : List code.Fact.Fact)
-    → all ≡ ((((((s ++ v) ++ r) ++ h) ++ e) ++ d) ++ p) ++ n
-    → map fact_view s ≡ standing_facts g zone x → map fact_view v ≡ ver_facts g zone x
-    → AreAsked (alone g zone x) x r h e d p → AreNeeded g zone x (map fact_view n)
-    → AreFacts g zone x (map fact_view all)
-are_facts g zone x all s v r h e d p n is es ev asked needed = record {
-  of_requisites = map fact_view r;
-  orphans = asked.of_requisites.0;
-  orphans_are = asked.of_requisites.1;
-  requisites_are = beside_map (IsRequisiteFact (alone g zone x) x) fact_view
-      (requisites_in (alone g zone x) x asked.of_requisites.0) r asked.of_requisites.2;
-  of_holds = map fact_view h;
-  holds_are = beside_map (IsHoldFact (alone g zone x) x) fact_view (holds_on g x) h asked.of_holds;
-  of_elements = map fact_view e;
-  elements_are = beside_map (IsElementFact (alone g zone x) x) fact_view (changes_of g x) e asked.of_elements;
-  needed_by = needed.ids;
-  needed_rising = needed.rising;
-  needed = needed.needed;
-  facts_are = seen_parts fact_view all s v r h e d p n (standing_facts g zone x) (ver_facts g zone x)
-      (delete_facts (alone g zone x) x) (npre_facts (alone g zone x) x) (map NeededFact needed.ids) is es ev
-      asked.deletes_are asked.forbids_are needed.facts_are;
-}
+  pub are_facts : (all o a c n : List code.Fact.Fact) → all ≡ ((o ++ a) ++ c) ++ n
+      → map fact_view o ≡ standing_facts s.global s.zone x ++ ver_facts s x → AreAsked s x (map fact_view a)
+      → AreOfChanges s x (map fact_view c) → AreNeeded s.global s.zone x (map fact_view n)
+      → AreFacts s x (map fact_view all)
+  are_facts all o a c n is own asked changes needed = record {
+    asked = map fact_view a;
+    asked_are = asked;
+    changes = map fact_view c;
+    changes_are = changes;
+    needed_by = needed.ids;
+    needed_rising = needed.rising;
+    needed = needed.needed;
+    facts_are = ap (map fact_view) is ∙ map-append fact_view ((o ++ a) ++ c) n
+        ∙ ap₂ (λ l m. l ++ m)
+        (map-append fact_view (o ++ a) c ∙ ap (λ l. l ++ map fact_view c)
+        (map-append fact_view o a ∙ ap (λ l. l ++ map fact_view a) own))
+        needed.facts_are;
+  }

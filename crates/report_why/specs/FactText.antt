@@ -1,5 +1,5 @@
 -- The text of facts, and the status of an answer.
-use Rattle.std.specs.Prelude.{ℕ, Bool, true, false, List, [], ◌∷◌, ◌++◌, Option, None, Some, codes, decimal, map, max}
+use Rattle.std.specs.Prelude.{ℕ, Bool, true, false, List, [], ◌∷◌, ◌++◌, Option, None, Some, codes, decimal, max}
 use Rattle.std.specs.List.{flat_map}
 use Rattle.terms.specs.declared.kinds.Kind.{Kind}
 use Rattle.terms.specs.declared.kinds.ZoneKind.TheVariants.{Target, Distribution}
@@ -14,6 +14,10 @@ use Rattle.machine.specs.Report.{words_line, detail_line, left_in, optional_text
 -- a line after four blanks
 abbrev pub inner_line : List Text → Text
 inner_line words = 32 ∷ 32 ∷ detail_line words
+
+-- the word, followed by a colon
+abbrev pub named : Text → Text
+named text = text ++ codes ":"
 
 -- the word if it is so, otherwise -
 abbrev pub word_if : Bool → Text → Text

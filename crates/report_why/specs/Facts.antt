@@ -1,11 +1,13 @@
 -- The facts about one id in a zone, on which an APPLY, ACCEPT or RESTORE of it would rest. The tests and needs are
--- those of an install whose only candidate is this id, without BYPASS.
+-- those of an install with given candidates, of which this id is one.
 use Rattle.std.specs.Prelude.{◌≡◌, ◌≢◌, ◌↔◌, ◌+◌, ◌&&◌, ◌||◌, ◌==◌, ℕ, Bool, true, false, not, List, [], ◌∷◌, ◌++◌}
 use Rattle.std.specs.Prelude.{Option, None, Some, map, filter, option_map, is_some, Contains, IsTrue, IsFalse}
 use Rattle.std.specs.Prelude.{if◌then◌else◌}
 use Rattle.std.specs.List.{flat_map}
 use Rattle.std.specs.Option.{option_map_or}
 use Rattle.std.specs.Str.{bytes_eq}
+use Rattle.std.specs.Ordering.{nat_cmp}
+use Rattle.std.specs.Cmp.Lexicographic.{slice_cmp}
 use Rattle.terms.specs.Beside.{Beside}
 use Rattle.terms.specs.declared.kinds.Kind.{Kind}
 use Rattle.terms.specs.declared.kinds.HoldKind.{HoldKind}
@@ -14,7 +16,8 @@ use Rattle.terms.specs.declared.kinds.ElemType.{ElemType}
 use Rattle.terms.specs.declared.kinds.ZoneKind.{ZoneKind}
 use Rattle.terms.specs.declared.codes.NeedKind.{NeedKind}
 use Rattle.terms.specs.declared.codes.NeedKind.TheVariants.{Fmid, Pre, Req, Ifreq, HoldError, Orphan, Dep}
-use Rattle.terms.specs.Types.{Text, Id, Ver, IfReq, Hold, Change, Global, Entry, Element, Zone}
+use Rattle.terms.specs.Rising.{with_item}
+use Rattle.terms.specs.Types.{Text, Id, Ver, IfReq, Hold, Change, Global, Entry, Element, Zone, Bypass}
 use Rattle.terms.specs.Lookups.{IsRising, is_nil, at_most_one, is_in, sysmod_of, is_received, is_function, changes_of}
 use Rattle.terms.specs.Lookups.{holds_of, entry_of, element_of, is_applied, supby_of, delby_of, waived_of, applied_ids}
 use Rattle.terms.specs.Choice.{Choice, vers_of, fits, place, counting, npre_of, del_of, ifs_of}
@@ -28,7 +31,15 @@ use Rattle.terms.specs.CommandForms.{no_bypass}
 use Rattle.terms.specs.Judged.{setting}
 use Rattle.terms.specs.Restore.{NeedsInRestore}
 
--- what an install looks at if its only candidate is this id and it has no BYPASS
+-- these ids and x
+abbrev pub with_id : List Id → Id → List Id
+with_id ids x = with_item (slice_cmp nat_cmp) (λ y. y) ids x
+
+-- what an install looks at if its candidates are these and x; no fact depends on a related zone
+abbrev pub among : Global → Zone → List Id → Bypass → Id → Setting
+among g zone cands bypass x = setting g zone None (with_id cands x) bypass
+
+-- what it looks at if x is the only candidate and there is no BYPASS
 abbrev pub alone : Global → Zone → Id → Setting
 alone g zone x = setting g zone None (x ∷ []) no_bypass
 
@@ -207,9 +218,9 @@ numbered_facts fit counts n [] = []
 numbered_facts fit counts n (v ∷ vs) =
     VerFact n v.fmid (fit v) (n == counts) ∷ numbered_facts fit counts (n + 1) vs
 
-abbrev pub ver_facts : Global → Zone → Id → List Fact
-ver_facts g zone x =
-    numbered_facts (fits zone (is_in (x ∷ []))) (place g zone (x ∷ []) x + 1) 1 (vers_of g zone.srel x)
+abbrev pub ver_facts : Setting → Id → List Fact
+ver_facts s x =
+    numbered_facts (fits s.zone (is_in s.cands)) (place s.global s.zone s.cands x + 1) 1 (vers_of s.global s.zone.srel x)
 
 abbrev pub IsRequisiteFact : Setting → Id → Requisite → Fact → Type 0
 IsRequisiteFact s x r fact = (a : Resolution) × (fact ≡ RequisiteFact r a) × IsResolution s x r a
@@ -252,20 +263,30 @@ NeedsIt g zone x y =
     → NeedsInRestore (record { global = g; choice = counting g zone []; zone = zone; accepted = accepted })
     (is_in (x ∷ [])) x Dep y
 
--- All facts of an id, in their order.
-pub record AreFacts (g : Global) (zone : Zone) (x : Id) (facts : List Fact) : Type 0 where
+-- the facts of what it asks for, and of its holds
+pub record AreAsked (s : Setting) (x : Id) (facts : List Fact) : Type 0 where
   pub orphans : List Id
-  pub orphans_are : AreOrphans (alone g zone x) x orphans
+  pub orphans_are : AreOrphans s x orphans
   pub of_requisites : List Fact
-  pub requisites_are : Beside (λ n r fact. IsRequisiteFact (alone g zone x) x r fact)
-      (requisites (alone g zone x) x orphans) of_requisites
+  pub requisites_are : Beside (λ n r fact. IsRequisiteFact s x r fact) (requisites s x orphans) of_requisites
   pub of_holds : List Fact
-  pub holds_are : Beside (λ n h fact. IsHoldFact (alone g zone x) x h fact) (holds_on g x) of_holds
+  pub holds_are : Beside (λ n h fact. IsHoldFact s x h fact) (holds_on s.global x) of_holds
+  pub facts_are : facts ≡ of_requisites ++ of_holds
+
+-- the facts of its elements, and of what it deletes and forbids
+pub record AreOfChanges (s : Setting) (x : Id) (facts : List Fact) : Type 0 where
   pub of_elements : List Fact
-  pub elements_are : Beside (λ n h fact. IsElementFact (alone g zone x) x h fact) (changes_of g x) of_elements
+  pub elements_are : Beside (λ n h fact. IsElementFact s x h fact) (changes_of s.global x) of_elements
+  pub facts_are : facts ≡ of_elements ++ delete_facts s x ++ npre_facts s x
+
+-- All facts of an id, in their order.
+pub record AreFacts (s : Setting) (x : Id) (facts : List Fact) : Type 0 where
+  pub asked : List Fact
+  pub asked_are : AreAsked s x asked
+  pub changes : List Fact
+  pub changes_are : AreOfChanges s x changes
   pub needed_by : List Id
   pub needed_rising : IsRising needed_by
-  pub needed : (y : Id) → Contains needed_by y ↔ NeedsIt g zone x y
+  pub needed : (y : Id) → Contains needed_by y ↔ NeedsIt s.global s.zone x y
   pub facts_are : facts
-      ≡ standing_facts g zone x ++ ver_facts g zone x ++ of_requisites ++ of_holds ++ of_elements
-      ++ delete_facts (alone g zone x) x ++ npre_facts (alone g zone x) x ++ map NeededFact needed_by
+      ≡ standing_facts s.global s.zone x ++ ver_facts s x ++ asked ++ changes ++ map NeededFact needed_by

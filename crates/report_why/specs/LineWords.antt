@@ -2,7 +2,7 @@
 use Rattle.std.specs.Prelude.{decimal, if◌then◌else◌}
 use Rattle.terms.specs.Types.{Text}
 use Rattle.machine.specs.Report.{left_in, list_text}
-use Rattle.report_why.specs.Verdict.{named}
+use Rattle.report_why.specs.FactText.{named}
 use Rattle.report_why.specs.declared.line.FactWord.{FactWord}
 use Rattle.report_why.specs.declared.line.FactWord.TheVariants as word
 

@@ -1,6 +1,5 @@
 -- What the code's facts stand for.
 use Rattle.std.specs.Prelude.{List, map, option_map}
-use Rattle.terms.specs.Types.{Global, Zone}
 use Rattle.report_why.specs.Facts as facts
 use Rattle.report_why.specs.declared.fact.Standing.{Standing}
 use Rattle.report_why.specs.declared.fact.Standing.TheVariants as standing
@@ -11,7 +10,6 @@ use Rattle.report_why.specs.declared.fact.Rank.TheVariants as rank
 use Rattle.report_why.specs.declared.fact.Maker.{Maker}
 use Rattle.report_why.specs.declared.fact.Found.{Found}
 use Rattle.report_why.specs.declared.fact.Fact.{Fact}
-use Rattle.report_why.specs.declared.fact.IdFacts.{IdFacts}
 use Rattle.report_why.specs.declared.fact.Fact.TheVariants as fact
 
 abbrev pub standing_view : Standing → facts.Standing
@@ -59,7 +57,3 @@ fact_view (fact.Needed id) = facts.NeededFact id
 -- the facts of a list of the code
 abbrev pub facts_view : List Fact → List facts.Fact
 facts_view facts = map fact_view facts
-
--- they are all facts of the id in the zone
-abbrev pub HasFacts : Global → Zone → IdFacts → Type 0
-HasFacts g zone of = facts.AreFacts g zone of.id (facts_view of.facts.items)

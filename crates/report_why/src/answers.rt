@@ -1,11 +1,9 @@
 //! The answer to something that an id asks for.
-ghost use Rattle.std.specs.Prelude.{◌≡◌, ◌↔◌, filter, ◌||◌, [], ◌∷◌, false, Contains, IsTrue, IfOk};
+ghost use Rattle.std.specs.Prelude.{◌≡◌, ◌↔◌, ◌||◌, [], ◌∷◌, false, Contains, IfOk};
 ghost use Rattle.std.specs.Prelude.{if◌then◌else◌};
 ghost use Rattle.terms.specs.Types.{Id as AnId};
 ghost use Rattle.terms.specs.Lookups.{IsRising, is_in, is_applied, waived_of};
-ghost use Rattle.terms.specs.Needs.{Serves};
 ghost use Rattle.terms.specs.Candidates.{is_installable};
-ghost use Rattle.sysmods.specs.Choices.{choice};
 ghost use Rattle.zones.specs.Scopes.{global_of};
 ghost use Rattle.report_why.specs.Facts.{suppliers, is_waivable, is_waived, MayServe, IsResolution};
 ghost use Rattle.report_why.specs.Asking.{setting_in, left_in};
@@ -14,10 +12,9 @@ ghost use Rattle.report_why.specs.Views.{answer_view};
 use crate::asking::Asking;
 use crate::fact::{Requisite, Resolution};
 use crate::standing::is_deleted;
+use crate::superseders::serving_ids;
 use fields::{Attest, Id, IdList};
-use judge_system::takes_superseder;
 use std::alloc::{AllocError, Global};
-use sysmods::VerChoice;
 use terms::NeedKind;
 use zones::Zone;
 
@@ -84,44 +81,11 @@ fn is_waived(zone: &Zone, id: Id, requisite: Requisite) -> bool
     }
 }
 
-// Whether the SYSMOD serves a need for the id.
-fn serves(
-    alloc: Global,
-    vers: &VerChoice<'_>,
-    kind: NeedKind,
-    by: Id,
-    id: Id,
-) -> Result<bool, AllocError>
-    ensures { IfOk result (λ serves. IsTrue serves ↔ Serves (choice vers.now) kind by id) }
-{
-    if by == id {
-        return Ok(true);
-    }
-    if !takes_superseder(kind) {
-        return Ok(false);
-    }
-    let superseded = vers.sup_all(alloc, by)?;
-    Ok(superseded.contains(id))
-}
-
 fn is_installable(asking: &Asking<'_, '_>, id: Id) -> bool
     ensures { result ≡ is_installable (global_of asking.now.scope) asking.now.scope.zone.now id }
 {
     let scope = &asking.scope;
     scope.vers.has_ver(id) && !scope.zone.supplies(id) && !is_deleted(scope.zone, id)
-}
-
-// The received SYSMODs that may be installed.
-fn installable(alloc: Global, asking: &Asking<'_, '_>) -> Result<Vec<Id>, AllocError>
-    ensures { IfOk result (λ ids. ids.items
-        ≡ filter (is_installable (global_of asking.now.scope) asking.now.scope.zone.now) asking.now.received.now) }
-{
-    asking
-        .received
-        .iter()
-        .filter(|id| is_installable(asking, **id))
-        .copied()
-        .collect(alloc)
 }
 
 // The received SYSMODs that may be installed and that serve the need.
@@ -134,13 +98,9 @@ fn candidates(
     ensures { IfOk result (λ ids. IsRising ids
         × ((y : AnId) → Contains ids y ↔ MayServe (setting_in asking.now) kind id y)) }
 {
-    let installable = installable(alloc, asking)?;
-    let mut found = Vec::new(alloc);
-    for by in installable.as_slice() {
-        if serves(alloc, asking.scope.vers, kind, *by, id)? {
-            found.push(*by)?;
-        }
-    }
+    let srel = asking.scope.zone.srel();
+    let mut found = serving_ids(alloc, asking.scope.vers, srel, kind, id)?;
+    found.retain(|by| is_installable(asking, *by));
     let ids = IdList::from_vec(found);
     ids.attest();
     Ok(ids)

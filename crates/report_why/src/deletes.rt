@@ -45,6 +45,9 @@ fn taken_out(
     ensures { IfOk result (λ taken. taken.items
         ≡ filter (is_taken_out (global_of scope.now) (choice_of scope.now) dels.now scope.now.zone.now) ids.now) }
 {
+    if dels.is_empty() {
+        return Ok(Vec::new(alloc));
+    }
     ids.iter()
         .filter(|id| takes_out(scope, dels, **id))
         .copied()

@@ -72,13 +72,6 @@ pub struct Found {
     pub umids: Vec<Maker>,
 }
 
-/// An id, and the facts of it.
-#[derive(Drop)]
-pub struct IdFacts<'a> {
-    pub id: Id,
-    pub facts: Vec<Fact<'a>>,
-}
-
 /// A fact of an id.
 #[derive(Drop)]
 pub enum Fact<'a> {

@@ -10,7 +10,8 @@ use fields::spelling::kind_text;
 use fields::{Class, HoldDate, Id};
 use terms::{Kind, ZoneKind};
 
-pub(crate) fn id_text(id: &Option<Id>) -> &[u8]
+/// The id, or `-`.
+pub fn id_text(id: &Option<Id>) -> &[u8]
     ensures { result.now ≡ optional_text id.now }
 {
     match id {
@@ -19,7 +20,8 @@ pub(crate) fn id_text(id: &Option<Id>) -> &[u8]
     }
 }
 
-pub(crate) fn class_text(class: &Option<Class>) -> &[u8]
+/// The class, or `-`.
+pub fn class_text(class: &Option<Class>) -> &[u8]
     ensures { result.now ≡ optional_text class.now }
 {
     match class {
@@ -28,7 +30,8 @@ pub(crate) fn class_text(class: &Option<Class>) -> &[u8]
     }
 }
 
-pub(crate) fn date_text(date: &Option<HoldDate>) -> &[u8]
+/// The date, or `-`.
+pub fn date_text(date: &Option<HoldDate>) -> &[u8]
     ensures { result.now ≡ optional_text date.now }
 {
     match date {

@@ -1,57 +1,150 @@
-//! All facts of ids in a zone.
-ghost use Rattle.std.specs.Prelude.{◌≡◌, ◌+◌, [], ◌∷◌, All, map, IfOk};
-ghost use Rattle.terms.specs.Types.{Sysmod as ASysmod};
-ghost use Rattle.terms.specs.Lookups.{applied_ids};
-ghost use Rattle.terms.specs.Choice.{place, counting};
-ghost use Rattle.sysmods.specs.Choices.{number_in, choice};
-ghost use Rattle.zones.specs.Scopes.{setting_of};
-ghost use Rattle.report_why.specs.Facts.{alone, AreFacts};
-ghost use Rattle.report_why.specs.Views.{fact_view, HasFacts};
+//! All facts of an id in a zone.
+ghost use Rattle.std.specs.Prelude.{◌≡◌, ◌+◌, ◌++◌, filter, IfOk};
+ghost use Rattle.terms.specs.Lookups.{is_function, applied_ids};
+ghost use Rattle.terms.specs.Choice.{place};
+ghost use Rattle.sysmods.specs.Choices.{number_in};
+ghost use Rattle.undo.specs.Scopes.{restoring_from};
+ghost use Rattle.zones.specs.Scopes.{global_of, setting_of};
+ghost use Rattle.report_why.specs.Asking.{setting_in};
+ghost use Rattle.report_why.specs.Facts.{standing_facts, ver_facts, AreAsked, AreOfChanges, AreFacts};
+ghost use Rattle.report_why.specs.Needed.{needed_pairs};
+ghost use Rattle.report_why.specs.Views.{facts_view};
 
 use crate::asking::Asking;
 use crate::deletes::delete_facts;
 use crate::element_facts::element_facts;
-use crate::fact::{Fact, IdFacts};
+use crate::fact::Fact;
 use crate::forbids::npre_facts;
 use crate::hold_facts::hold_facts;
-use crate::needed::needed_facts;
+use crate::needed::{needed_facts, needed_pairs};
 use crate::requisites::requisite_facts;
 use crate::standing::standing_facts;
 use crate::vers::ver_facts;
-use fields::{Bypass, Id, IdList};
+use fields::{Attest, Id, IdList};
 use std::alloc::{AllocError, Global};
-use sysmods::{GlobalZone, VerChoice};
+use sysmods::GlobalZone;
 use undo::applied_ids;
 use zones::{Scope, Zone, choose, deletions, view_deletions};
 
-/// The global zone and a zone, and what is found once for all ids: the ids that are applied and received, and the
-/// `++VER`s that count without candidates.
-#[derive(Clone, Copy)]
-struct Looking<'a, 'b> {
-    global: &'a GlobalZone,
-    zone: &'a Zone,
-    bare: &'b VerChoice<'a>,
-    applied: &'b [Id],
-    received: &'b [Id],
-    ghost bare_global: { bare.now.global.now ≡ global.now },
-    ghost bare_is: { choice bare.now ≡ counting global.now zone.now [] },
-    ghost applied_is: { applied.now ≡ applied_ids zone.now },
-    ghost received_is: { received.now ≡ map (λ (s : ASysmod). s.id) global.now.sysmods },
+/// The global zone and a zone, and what is found once for all ids: those that are applied, the functions among them, and
+/// who needs what an applied one alone supplies.
+#[derive(Drop)]
+pub struct Lookups<'a> {
+    pub global: &'a GlobalZone,
+    pub zone: &'a Zone,
+    applied: Vec<Id>,
+    functions: Vec<Id>,
+    needed: Vec<(Id, Id)>,
+    ghost applied_is: { applied.items ≡ applied_ids zone.now },
+    ghost functions_is: { functions.items ≡ filter (is_function global.now) applied.items },
+    ghost needed_is: { needed.items ≡ needed_pairs (restoring_from global.now zone.now zone.now) },
 }
 
-// The facts of the id, in this scope of an install of it alone.
-fn facts_alone<'a>(
+impl<'a> Lookups<'a> {
+    /// Finds it.
+    pub fn find(alloc: Global, global: &'a GlobalZone, zone: &'a Zone) -> Result<Self, AllocError>
+        ensures global { IfOk result (λ found. found.global.now ≡ global.now) }
+        ensures zone { IfOk result (λ found. found.zone.now ≡ zone.now) }
+    {
+        let bare = choose(alloc, global, zone, &IdList::new(alloc))?;
+        let applied = applied_ids(alloc, zone)?;
+        let functions = functions_among(alloc, global, applied.as_slice())?;
+        let needed = needed_pairs(alloc, &bare, zone, applied.as_slice())?;
+        Ok(Lookups {
+            global,
+            zone,
+            applied,
+            functions,
+            needed,
+        })
+    }
+}
+
+fn functions_among(alloc: Global, global: &GlobalZone, ids: &[Id]) -> Result<Vec<Id>, AllocError>
+    ensures { IfOk result (λ found. found.items ≡ filter (is_function global.now) ids.now) }
+{
+    ids.iter()
+        .filter(|id| global.is_function(**id))
+        .copied()
+        .collect(alloc)
+}
+
+// Its state, its entry and its `++VER`s.
+fn own_facts<'a>(
     alloc: Global,
-    looking: &Looking<'a, '_>,
+    lookups: &Lookups<'a>,
     scope: &Scope<'_, 'a>,
     id: Id,
 ) -> Result<Vec<Fact<'a>>, AllocError>
-    requires setting { setting_of scope.now ≡ alone looking.now.global.now looking.now.zone.now id }
+    requires { number_in scope.now.vers.now id
+        ≡ place scope.now.vers.now.global.now scope.now.zone.now scope.now.ids.now id + 1 }
+    ensures { IfOk result (λ facts. facts_view facts.items
+        ≡ standing_facts lookups.now.global.now lookups.now.zone.now id ++ ver_facts (setting_of scope.now) id) }
+{
+    let mut facts = standing_facts(alloc, lookups.global, lookups.zone, id)?;
+    let mut vers = ver_facts(alloc, scope, id)?;
+    facts.append(&mut vers)?;
+    Ok(facts)
+}
+
+// What it asks for, and its holds.
+fn asked_facts<'a>(alloc: Global, asking: &Asking<'_, 'a>) -> Result<Vec<Fact<'a>>, AllocError>
+    ensures { IfOk result (λ facts. AreAsked (setting_in asking.now) asking.now.id (facts_view facts.items)) }
+{
+    let mut facts = requisite_facts(alloc, asking)?;
+    let mut holds = hold_facts(alloc, asking)?;
+    facts.append(&mut holds)?;
+    Ok(facts)
+}
+
+// Its elements, and what it deletes and forbids.
+fn change_facts(alloc: Global, asking: &Asking<'_, '_>) -> Result<Vec<Fact<'static>>, AllocError>
+    ensures { IfOk result (λ facts. AreOfChanges (setting_in asking.now) asking.now.id (facts_view facts.items)) }
+{
+    let mut facts = element_facts(alloc, asking)?;
+    let mut deletes = delete_facts(alloc, asking)?;
+    let mut forbids = npre_facts(alloc, asking)?;
+    facts.append(&mut deletes)?;
+    facts.append(&mut forbids)?;
+    Ok(facts)
+}
+
+// All of them, by what an install with these candidates looks at.
+fn facts_by<'a>(
+    alloc: Global,
+    lookups: &Lookups<'a>,
+    asking: &Asking<'_, 'a>,
+) -> Result<Vec<Fact<'a>>, AllocError>
+    requires global { global_of asking.now.scope ≡ lookups.now.global.now }
+    requires zone { asking.now.scope.zone.now ≡ lookups.now.zone.now }
+    requires number { number_in asking.now.scope.vers.now asking.now.id
+        ≡ place (global_of asking.now.scope) asking.now.scope.zone.now asking.now.scope.ids.now asking.now.id + 1 }
+    ensures { IfOk result (λ facts. AreFacts (setting_in asking.now) asking.now.id (facts_view facts.items)) }
+{
+    lookups.zone.attest();
+    let mut facts = own_facts(alloc, lookups, &asking.scope, asking.id)?;
+    let mut asked = asked_facts(alloc, asking)?;
+    let mut changes = change_facts(alloc, asking)?;
+    let mut needed = needed_facts(alloc, lookups.needed.as_slice(), asking.id)?;
+    facts.append(&mut asked)?;
+    facts.append(&mut changes)?;
+    facts.append(&mut needed)?;
+    Ok(facts)
+}
+
+/// The facts of the id, for an install with the candidates of this scope.
+pub fn facts_of<'a>(
+    alloc: Global,
+    lookups: &Lookups<'a>,
+    scope: &Scope<'_, 'a>,
+    id: Id,
+) -> Result<Vec<Fact<'a>>, AllocError>
+    requires global { scope.now.vers.now.global.now ≡ lookups.now.global.now }
+    requires zone { scope.now.zone.now ≡ lookups.now.zone.now }
     requires srel { scope.now.vers.now.srel ≡ scope.now.zone.now.srel }
     requires number { number_in scope.now.vers.now id
-        ≡ place looking.now.global.now looking.now.zone.now (id ∷ []) id + 1 }
-    ensures { IfOk result
-        (λ facts. AreFacts looking.now.global.now looking.now.zone.now id (map fact_view facts.items)) }
+        ≡ place scope.now.vers.now.global.now scope.now.zone.now scope.now.ids.now id + 1 }
+    ensures { IfOk result (λ facts. AreFacts (setting_of scope.now) id (facts_view facts.items)) }
 {
     let all = deletions(alloc, scope.vers, scope.ids.as_slice())?;
     let seen = view_deletions(alloc, scope.vers, scope.ids, all.as_slice(), id)?;
@@ -61,72 +154,8 @@ fn facts_alone<'a>(
         id,
         seen: seen.as_slice(),
         dropped: dropped.as_slice(),
-        applied: looking.applied,
-        received: looking.received,
+        applied: lookups.applied.as_slice(),
+        functions: lookups.functions.as_slice(),
     };
-    let mut facts = standing_facts(alloc, looking.global, looking.zone, id)?;
-    let mut vers = ver_facts(alloc, scope, id)?;
-    let mut requisites = requisite_facts(alloc, &asking)?;
-    let mut holds = hold_facts(alloc, &asking)?;
-    let mut elements = element_facts(alloc, &asking)?;
-    let mut deletes = delete_facts(alloc, &asking)?;
-    let mut forbids = npre_facts(alloc, &asking)?;
-    let bare = looking.bare;
-    let mut needed = needed_facts(alloc, bare, looking.zone, looking.applied, scope.ids, id)?;
-    facts.append(&mut vers)?;
-    facts.append(&mut requisites)?;
-    facts.append(&mut holds)?;
-    facts.append(&mut elements)?;
-    facts.append(&mut deletes)?;
-    facts.append(&mut forbids)?;
-    facts.append(&mut needed)?;
-    Ok(facts)
-}
-
-fn facts<'a>(alloc: Global, looking: &Looking<'a, '_>, id: Id) -> Result<Vec<Fact<'a>>, AllocError>
-    ensures { IfOk result
-        (λ facts. AreFacts looking.now.global.now looking.now.zone.now id (map fact_view facts.items)) }
-{
-    let mut ids = IdList::new(alloc);
-    ids.insert(id)?;
-    let vers = choose(alloc, looking.global, looking.zone, &ids)?;
-    let bypass = Bypass::none(alloc);
-    let scope = Scope {
-        vers: &vers,
-        zone: looking.zone,
-        ids: &ids,
-        bypass: &bypass,
-    };
-    facts_alone(alloc, looking, &scope, id)
-}
-
-/// The facts of each of these ids in the zone, in their order.
-pub fn facts_of<'a>(
-    alloc: Global,
-    global: &'a GlobalZone,
-    zone: &'a Zone,
-    ids: &[Id],
-) -> Result<Vec<IdFacts<'a>>, AllocError>
-    ensures ids { IfOk result (λ found. map (λ of. of.id) found.items ≡ ids.now) }
-    ensures facts { IfOk result (λ found. All (HasFacts global.now zone.now) found.items) }
-{
-    let bare = choose(alloc, global, zone, &IdList::new(alloc))?;
-    let applied = applied_ids(alloc, zone)?;
-    let mut received = Vec::new(alloc);
-    for sysmod in global.sysmods() {
-        received.push(sysmod.id)?;
-    }
-    let looking = Looking {
-        global,
-        zone,
-        bare: &bare,
-        applied: applied.as_slice(),
-        received: received.as_slice(),
-    };
-    let mut found = Vec::new(alloc);
-    for id in ids {
-        let facts = facts(alloc, &looking, *id)?;
-        found.push(IdFacts { id: *id, facts })?;
-    }
-    Ok(found)
+    facts_by(alloc, lookups, &asking)
 }

@@ -33,10 +33,10 @@ fn forbids(asking: &Asking<'_, '_>, by: Id) -> bool
 // The SYSMODs that its view has applied and that forbid the id.
 fn forbidding(alloc: Global, asking: &Asking<'_, '_>) -> Result<Vec<Id>, AllocError>
     ensures { IfOk result (λ ids. ids.items ≡ filter (forbids (setting_in asking.now) asking.now.id)
-        (filter (is_applied (view_in asking.now)) asking.now.applied.now)) }
+        (filter (is_applied (view_in asking.now)) asking.now.functions.now)) }
 {
     asking
-        .applied
+        .functions
         .iter()
         .filter(|by| asking.sees(**by))
         .filter(|by| forbids(asking, **by))

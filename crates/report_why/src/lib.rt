@@ -1,9 +1,8 @@
-//! The facts about ids in a zone, and what an APPLY, ACCEPT or RESTORE of them would rest on. `facts_of` returns the
-//! facts of the definition, by the tests and needs of an install of each id alone. `put_facts` spells them, and
-//! `facts_code` is the status of the answer. `put_verdict` puts into words what the lines of an APPLY or ACCEPT say
-//! about an id, with the facts on which each failed test and each open need rests. No contract says how much work that
-//! is: for each id one pass over the entries, and for each open requisite one over the received SYSMODs. Every call
-//! that allocates returns `AllocError` if memory runs out.
+//! The facts about an id in a zone, on which an APPLY, ACCEPT or RESTORE of it would rest. `facts_of` returns the facts
+//! of the definition, by the tests and needs of an install with given candidates. `put_facts` spells them, and
+//! `facts_code` is the status of the answer. No contract says how much work that is: for each id one pass over the
+//! entries, and for each open requisite one over the received SYSMODs. Every call that allocates returns `AllocError` if
+//! memory runs out.
 #![tactic(auto)]
 
 mod answers;
@@ -20,14 +19,14 @@ mod hold_facts;
 mod line;
 mod looks;
 mod needed;
-mod reasons;
 mod requisites;
 mod standing;
+mod superseders;
 mod text;
-mod verdict;
 mod vers;
 
-pub use fact::{Fact, Found, IdFacts, Maker, Rank, Requisite, Resolution, Standing};
-pub use facts::facts_of;
+pub use fact::{Fact, Found, Maker, Rank, Requisite, Resolution, Standing};
+pub use fact_words::{class_text, date_text, id_text};
+pub use facts::{Lookups, facts_of};
+pub use line::{FactWord, put_words};
 pub use text::{facts_code, put_facts};
-pub use verdict::put_verdict;

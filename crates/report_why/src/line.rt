@@ -1,8 +1,8 @@
 //! Lines of facts: words separated by blanks.
 ghost use Rattle.std.specs.Prelude.{◌≡◌, ◌++◌, ◌∷◌, map, OnOk};
 ghost use Rattle.machine.specs.Report.{words_line, left_in, list_text};
+ghost use Rattle.report_why.specs.FactText.{named};
 ghost use Rattle.report_why.specs.LineWords.{word_text};
-ghost use Rattle.report_why.specs.Verdict.{named};
 
 use fields::Id;
 use itoa::Buffer;
@@ -10,7 +10,7 @@ use std::alloc::AllocError;
 
 /// A word of a line.
 #[derive(Clone, Copy)]
-pub(crate) enum FactWord<'a> {
+pub enum FactWord<'a> {
     Of(&'a [u8]),
     /// Followed by a colon.
     Named(&'a [u8]),
@@ -82,11 +82,7 @@ fn put_word(word: FactWord<'_>, text: &mut Vec<u8>) -> Result<(), AllocError>
 }
 
 /// Appends a line that begins with these bytes. A line that begins with blanks and then a word has one blank less here.
-pub(crate) fn put_words(
-    start: &[u8],
-    words: &[FactWord<'_>],
-    text: &mut Vec<u8>,
-) -> Result<(), AllocError>
+pub fn put_words(start: &[u8], words: &[FactWord<'_>], text: &mut Vec<u8>) -> Result<(), AllocError>
     ensures { OnOk result (text.new.items
         ≡ text.old.items ++ words_line (start.now ∷ map word_text words.now)) }
 {

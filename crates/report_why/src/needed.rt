@@ -1,60 +1,184 @@
-//! Which applied SYSMODs need what an id supplies.
-ghost use Rattle.std.specs.Prelude.{◌≡◌, ◌++◌, [], ◌∷◌, map, IfOk, OnOk};
-ghost use Rattle.terms.specs.Lookups.{applied_ids};
-ghost use Rattle.terms.specs.Choice.{counting};
+//! Which applied SYSMODs need what another one supplies.
+ghost use Rattle.std.specs.Prelude.{◌≡◌, ◌++◌, [], ◌∷◌, filter, map, IfOk, OnOk};
+ghost use Rattle.std.specs.Prelude.{if◌then◌else◌};
+ghost use Rattle.std.specs.List.{flat_map, list_all};
+ghost use Rattle.std.specs.Str.{bytes_eq};
+ghost use Rattle.terms.specs.Types.{Global as AGlobal, Zone as AZone};
+ghost use Rattle.terms.specs.Lookups.{at_most_one, is_applied, applied_ids, supby_of};
+ghost use Rattle.terms.specs.Choice.{fmid_of};
 ghost use Rattle.sysmods.specs.Choices.{choice};
+ghost use Rattle.undo.specs.Dependences.{suppliers};
+ghost use Rattle.undo.specs.Scopes.{restoring};
 ghost use Rattle.report_why.specs.Views.{fact_view};
-ghost use Rattle.report_why.specs.Needed.{AreNeeded, dep_of};
+ghost use Rattle.report_why.specs.Needed.{sole, soles, needed_pairs, needing, AllNeeded, AreNeeded};
 
 use crate::fact::Fact;
-use fields::{Id, IdList};
-use judge_system::RequisiteOf;
+use fields::{Attest, Id, IdList};
 use std::alloc::{AllocError, Global};
 use sysmods::VerChoice;
-use terms::NeedKind;
-use undo::{RestoreScope, needs_in_restore};
-use zones::Zone;
+use zones::{Zone, requisites_held};
 
-// Adds the id that is needed as DEP.
-fn push_dep(need: RequisiteOf, found: &mut Vec<Id>) -> Result<(), AllocError>
-    ensures { OnOk result (found.new.items ≡ found.old.items ++ dep_of need) }
+// Those of these ids that are applied.
+fn applied_among(alloc: Global, zone: &Zone, ids: &[Id]) -> Result<Vec<Id>, AllocError>
+    ensures { IfOk result (λ found. found.items ≡ filter (is_applied zone.now) ids.now) }
 {
-    if need.kind == NeedKind::Dep {
-        found.push(need.id)?;
+    ids.iter()
+        .filter(|id| zone.is_applied(**id))
+        .copied()
+        .collect(alloc)
+}
+
+// The SYSMODs that supersede the id in the zone.
+fn superseders(zone: &Zone, id: Id) -> &[Id]
+    ensures { result.now ≡ supby_of zone.now id }
+{
+    match zone.entry(id) {
+        Some(entry) => entry.supby.as_slice(),
+        None => &[],
+    }
+}
+
+// The applied SYSMODs that supply the id.
+fn suppliers(alloc: Global, zone: &Zone, id: Id) -> Result<Vec<Id>, AllocError>
+    ensures { IfOk result (λ found. found.items ≡ suppliers zone.now id) }
+{
+    let mut ids = vec![in alloc; id]?;
+    ids.extend_from_slice(superseders(zone, id))?;
+    applied_among(alloc, zone, ids.as_slice())
+}
+
+// Whether all are this one.
+fn is_sole(first: Id, rest: &[Id]) -> bool
+    ensures { result ≡ list_all (bytes_eq first) rest.now }
+{
+    rest.iter().all(|id| first == *id)
+}
+
+// Adds the id if it is so.
+fn push_where(is_so: bool, id: Id, found: &mut Vec<Id>) -> Result<(), AllocError>
+    ensures { OnOk result (found.new.items ≡ found.old.items ++ (if is_so then id ∷ [] else [])) }
+{
+    if is_so {
+        found.push(id)?;
     }
     Ok(())
 }
 
-/// The applied SYSMODs that need what it supplies, as a RESTORE of it alone finds them. The `++VER`s are those that
+// Adds the one member of the group, if all its members are one.
+fn push_sole(group: &[Id], found: &mut Vec<Id>) -> Result<(), AllocError>
+    ensures { OnOk result (found.new.items ≡ found.old.items ++ sole group.now) }
+{
+    let Some((first, rest)) = group.split_first() else {
+        return Ok(());
+    };
+    push_where(is_sole(*first, rest), *first, found)?;
+    Ok(())
+}
+
+// Adds what alone supplies the requisite.
+fn push_supplier(
+    alloc: Global,
+    zone: &Zone,
+    requisite: Id,
+    found: &mut Vec<Id>,
+) -> Result<(), AllocError>
+    ensures { OnOk result (found.new.items ≡ found.old.items ++ sole (suppliers zone.now requisite)) }
+{
+    let group = suppliers(alloc, zone, requisite)?;
+    push_sole(group.as_slice(), found)
+}
+
+fn push_suppliers(
+    alloc: Global,
+    zone: &Zone,
+    requisites: &[Id],
+    found: &mut Vec<Id>,
+) -> Result<(), AllocError>
+    ensures { OnOk result (found.new.items
+        ≡ found.old.items ++ flat_map (λ z. sole (suppliers zone.now z)) requisites.now) }
+{
+    for requisite in requisites {
+        push_supplier(alloc, zone, *requisite, found)?;
+    }
+    Ok(())
+}
+
+// Adds the function, if it is applied.
+fn push_function(
+    alloc: Global,
+    zone: &Zone,
+    function: Option<Id>,
+    found: &mut Vec<Id>,
+) -> Result<(), AllocError>
+    ensures { OnOk result (found.new.items ≡ found.old.items
+        ++ flat_map (λ f. sole (filter (is_applied zone.now) (f ∷ []))) (at_most_one function)) }
+{
+    match function {
+        Some(function) => {
+            let group = applied_among(alloc, zone, &[function])?;
+            push_sole(group.as_slice(), found)
+        }
+        None => Ok(()),
+    }
+}
+
+// The SYSMODs each of which alone supplies something that an applied one needs.
+fn soles(alloc: Global, vers: &VerChoice<'_>, zone: &Zone, by: Id) -> Result<Vec<Id>, AllocError>
+    ensures { IfOk result (λ found. found.items ≡ soles (restoring vers.now zone.now zone.now) by) }
+{
+    let requisites = requisites_held(alloc, vers, zone, by)?;
+    let mut found = Vec::new(alloc);
+    push_suppliers(alloc, zone, requisites.as_slice(), &mut found)?;
+    push_function(alloc, zone, vers.fmid(by), &mut found)?;
+    Ok(found)
+}
+
+/// Each applied SYSMOD that alone supplies something that another one needs, with that one. The `++VER`s are those that
 /// count without candidates.
-pub(crate) fn needed_facts(
+pub(crate) fn needed_pairs(
     alloc: Global,
     vers: &VerChoice<'_>,
     zone: &Zone,
     applied: &[Id],
-    ids: &IdList,
+) -> Result<Vec<(Id, Id)>, AllocError>
+    requires { applied.now ≡ applied_ids zone.now }
+    ensures { IfOk result (λ pairs. pairs.items ≡ needed_pairs (restoring vers.now zone.now zone.now)) }
+{
+    let mut pairs = Vec::new(alloc);
+    for by in applied {
+        let ids = soles(alloc, vers, zone, *by)?;
+        for id in ids.as_slice() {
+            pairs.push((*id, *by))?;
+        }
+    }
+    Ok(pairs)
+}
+
+// Adds the second of the pair, if the first is the id and the second is another one.
+fn push_needing(pair: &(Id, Id), id: Id, found: &mut Vec<Id>) -> Result<(), AllocError>
+    ensures { OnOk result (found.new.items ≡ found.old.items ++ needing id pair.now) }
+{
+    if pair.0 == id && pair.1 != id {
+        found.push(pair.1)?;
+    }
+    Ok(())
+}
+
+/// The applied SYSMODs that need what it supplies, as a RESTORE of it alone finds them, by these pairs.
+pub(crate) fn needed_facts(
+    alloc: Global,
+    pairs: &[(Id, Id)],
     id: Id,
 ) -> Result<Vec<Fact<'static>>, AllocError>
-    requires list { ids.now ≡ id ∷ [] }
-    requires applied { applied.now ≡ applied_ids zone.now }
-    requires counting { choice vers.now ≡ counting vers.now.global.now zone.now [] }
-    ensures { IfOk result (λ facts. AreNeeded vers.now.global.now zone.now id (map fact_view facts.items)) }
+    ensures { IfOk result (λ facts. (g : AGlobal) (zone : AZone) → AllNeeded g zone pairs.now
+        → AreNeeded g zone id (map fact_view facts.items)) }
 {
-    if !zone.is_applied(id) {
-        return Ok(Vec::new(alloc));
-    }
-    let scope = RestoreScope {
-        vers,
-        zone,
-        accepted: zone,
-        applied,
-    };
-    let needs = needs_in_restore(alloc, &scope, ids)?;
     let mut found = Vec::new(alloc);
-    for need in needs.as_slice() {
-        push_dep(*need, &mut found)?;
+    for pair in pairs {
+        push_needing(pair, id, &mut found)?;
     }
     let needing = IdList::from_vec(found);
+    needing.attest();
     let mut facts = Vec::new(alloc);
     for by in needing.as_slice() {
         facts.push(Fact::Needed(*by))?;

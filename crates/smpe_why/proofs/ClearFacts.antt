@@ -44,7 +44,7 @@ use Rattle.report_why.specs.Facts.{delete_facts, npre_facts, forbids}
 use Rattle.terms.proofs.Applied.{in_applied_ids}
 use Rattle.terms.proofs.ChangedElements.{change_there, change_found}
 use Rattle.terms.proofs.Ids.{is_in_from_Contains, Contains_from_is_in}
-use Rattle.report_why.specs.Verdict.{is_over}
+use Rattle.report_verdict.specs.Verdict.{is_over}
 use Rattle.smpe_why.specs.Clear.{AreClear, is_clear, is_fitting, is_free, is_received_alone, is_resolved}
 use Rattle.smpe_why.specs.Clear.{is_supplied}
 
@@ -103,7 +103,7 @@ fitting_vers fit c n (v ∷ vs) = by (fit v) (fitting_vers fit c (n + 1) vs)
     by true e = ap suc e
     by false e = e
 
-module _ (g : Global) (zone : Zone) (x : Id) (facts : List Fact) (are : AreFacts g zone x facts)
+module _ (g : Global) (zone : Zone) (x : Id) (facts : List Fact) (are : AreFacts (alone g zone x) x facts)
     (clear : AreClear facts) where
   abbrev s : Setting
   s = alone g zone x
@@ -114,25 +114,22 @@ module _ (g : Global) (zone : Zone) (x : Id) (facts : List Fact) (are : AreFacts
   -- ---- the parts, each with those before it
 
   abbrev to_vers : List Fact
-  to_vers = standing_facts g zone x ++ ver_facts g zone x
+  to_vers = standing_facts g zone x ++ ver_facts s x
 
-  abbrev to_requisites : List Fact
-  to_requisites = to_vers ++ are.of_requisites
+  abbrev to_asked : List Fact
+  to_asked = to_vers ++ are.asked
 
-  abbrev to_holds : List Fact
-  to_holds = to_requisites ++ are.of_holds
-
-  abbrev to_elements : List Fact
-  to_elements = to_holds ++ are.of_elements
+  abbrev to_changes : List Fact
+  to_changes = to_asked ++ are.changes
 
   abbrev to_deletes : List Fact
-  to_deletes = to_elements ++ delete_facts s x
+  to_deletes = are.changes_are.of_elements ++ delete_facts s x
 
-  abbrev to_npre : List Fact
-  to_npre = to_deletes ++ npre_facts s x
+  changes_within : All Clear to_changes
+  changes_within = All_front Clear to_changes (map NeededFact are.needed_by) (subst (All Clear) are.facts_are clear.each)
 
-  npre_within : All Clear to_npre
-  npre_within = All_front Clear to_npre (map NeededFact are.needed_by) (subst (All Clear) are.facts_are clear.each)
+  npre_within : All Clear (to_deletes ++ npre_facts s x)
+  npre_within = subst (All Clear) are.changes_are.facts_are (All_back Clear to_asked are.changes changes_within)
 
   npre_clear : All Clear (npre_facts s x)
   npre_clear = All_back Clear to_deletes (npre_facts s x) npre_within
@@ -141,29 +138,26 @@ module _ (g : Global) (zone : Zone) (x : Id) (facts : List Fact) (are : AreFacts
   deletes_within = All_front Clear to_deletes (npre_facts s x) npre_within
 
   deletes_clear : All Clear (delete_facts s x)
-  deletes_clear = All_back Clear to_elements (delete_facts s x) deletes_within
+  deletes_clear = All_back Clear are.changes_are.of_elements (delete_facts s x) deletes_within
 
-  elements_within : All Clear to_elements
-  elements_within = All_front Clear to_elements (delete_facts s x) deletes_within
+  elements_clear : All Clear are.changes_are.of_elements
+  elements_clear = All_front Clear are.changes_are.of_elements (delete_facts s x) deletes_within
 
-  elements_clear : All Clear are.of_elements
-  elements_clear = All_back Clear to_holds are.of_elements elements_within
+  asked_within : All Clear to_asked
+  asked_within = All_front Clear to_asked are.changes changes_within
 
-  holds_within : All Clear to_holds
-  holds_within = All_front Clear to_holds are.of_elements elements_within
+  holds_within : All Clear (are.asked_are.of_requisites ++ are.asked_are.of_holds)
+  holds_within = subst (All Clear) are.asked_are.facts_are (All_back Clear to_vers are.asked asked_within)
 
-  holds_clear : All Clear are.of_holds
-  holds_clear = All_back Clear to_requisites are.of_holds holds_within
+  holds_clear : All Clear are.asked_are.of_holds
+  holds_clear = All_back Clear are.asked_are.of_requisites are.asked_are.of_holds holds_within
 
-  requisites_within : All Clear to_requisites
-  requisites_within = All_front Clear to_requisites are.of_holds holds_within
-
-  requisites_clear : All Clear are.of_requisites
-  requisites_clear = All_back Clear to_vers are.of_requisites requisites_within
+  requisites_clear : All Clear are.asked_are.of_requisites
+  requisites_clear = All_front Clear are.asked_are.of_requisites are.asked_are.of_holds holds_within
 
   standing_clear : All Clear (standing_facts g zone x)
-  standing_clear = All_front Clear (standing_facts g zone x) (ver_facts g zone x)
-      (All_front Clear to_vers are.of_requisites requisites_within)
+  standing_clear = All_front Clear (standing_facts g zone x) (ver_facts s x)
+      (All_front Clear to_vers are.asked asked_within)
 
   -- ---- where it stands
 
@@ -199,17 +193,25 @@ module _ (g : Global) (zone : Zone) (x : Id) (facts : List Fact) (are : AreFacts
       (all_mapped Other (λ y. NpreFact y (is_applied (view_of s x) y)) (λ z. refl) (npre_of s.choice x))
       (all_mapped Other ForbiddenFact (λ z. refl) _)
 
-  all_fitting : filter is_fitting facts ≡ filter is_fitting (ver_facts g zone x)
+  changes_other : All Other are.changes
+  changes_other = subst (All Other) (sym are.changes_are.facts_are)
+      (All-append Other to_deletes (npre_facts s x)
+      (All-append Other are.changes_are.of_elements (delete_facts s x)
+      (beside_all _ Other _ _ are.changes_are.elements_are (λ n h f is. ap is_fitting is.1)) deletes_other) npre_other)
+
+  asked_other : All Other are.asked
+  asked_other = subst (All Other) (sym are.asked_are.facts_are)
+      (All-append Other are.asked_are.of_requisites are.asked_are.of_holds
+      (beside_all _ Other _ _ are.asked_are.requisites_are (λ n r f is. ap is_fitting is.1))
+      (beside_all _ Other _ _ are.asked_are.holds_are (λ n h f is. ap is_fitting is.1)))
+
+  all_fitting : filter is_fitting facts ≡ filter is_fitting (ver_facts s x)
   all_fitting = ap (filter is_fitting) are.facts_are
-      ∙ none_fits to_npre (map NeededFact are.needed_by) (all_mapped Other NeededFact (λ z. refl) are.needed_by)
-      ∙ none_fits to_deletes (npre_facts s x) npre_other
-      ∙ none_fits to_elements (delete_facts s x) deletes_other
-      ∙ none_fits to_holds are.of_elements (beside_all _ Other _ _ are.elements_are (λ n h f is. ap is_fitting is.1))
-      ∙ none_fits to_requisites are.of_holds (beside_all _ Other _ _ are.holds_are (λ n h f is. ap is_fitting is.1))
-      ∙ none_fits to_vers are.of_requisites (beside_all _ Other _ _ are.requisites_are
-      (λ n r f is. ap is_fitting is.1))
-      ∙ filter-append is_fitting (standing_facts g zone x) (ver_facts g zone x)
-      ∙ ap (λ l. l ++ filter is_fitting (ver_facts g zone x))
+      ∙ none_fits to_changes (map NeededFact are.needed_by) (all_mapped Other NeededFact (λ z. refl) are.needed_by)
+      ∙ none_fits to_asked are.changes changes_other
+      ∙ none_fits to_vers are.asked asked_other
+      ∙ filter-append is_fitting (standing_facts g zone x) (ver_facts s x)
+      ∙ ap (λ l. l ++ filter is_fitting (ver_facts s x))
       (filter_none is_fitting (standing_facts g zone x) standing_other)
 
   pub one_fits : length (filter (fits zone (is_in (x ∷ []))) (vers_of g zone.srel x)) ≡ 1
@@ -228,7 +230,7 @@ module _ (g : Global) (zone : Zone) (x : Id) (facts : List Fact) (are : AreFacts
   on_hold : (h : Hold) → Contains (holds_on g x) h → (h.kind ≡ Error)
       × ((a : Resolution) × IsResolution s x (a_requisite HoldError x None h.reason) a × (is_supplied a ≡ true))
   on_hold h is =
-      let it = beside_passes _ Clear (holds_on g x) are.of_holds are.holds_are holds_clear h is in
+      let it = beside_passes _ Clear (holds_on g x) are.asked_are.of_holds are.asked_are.holds_are holds_clear h is in
       resolved h h.kind it.2.0 it.2.2 (sym (ap is_clear it.2.1) ∙ it.3)
 
   of_kind : (kind : HoldKind) (h : Hold) → Contains (holds_of g kind x) h
@@ -255,9 +257,10 @@ module _ (g : Global) (zone : Zone) (x : Id) (facts : List Fact) (are : AreFacts
   answered r ByItself answer ok = never ok
   answered r (Open ids) answer ok = never ok
 
-  supplied : (r : Requisite) → Contains (requisites s x are.orphans) r → IsTrue (is_met (left_by s x) r.kind r.id)
+  supplied : (r : Requisite) → Contains (requisites s x are.asked_are.orphans) r → IsTrue (is_met (left_by s x) r.kind r.id)
   supplied r is =
-      let it = beside_passes _ Clear (requisites s x are.orphans) are.of_requisites are.requisites_are requisites_clear r is in
+      let it = beside_passes _ Clear (requisites s x are.asked_are.orphans) are.asked_are.of_requisites
+      are.asked_are.requisites_are requisites_clear r is in
       answered r it.2.0 it.2.2 (sym (ap is_clear it.2.1) ∙ it.3)
 
   -- a requisite by ++IF for this id
@@ -328,7 +331,7 @@ module _ (g : Global) (zone : Zone) (x : Id) (facts : List Fact) (are : AreFacts
   one_of kind z is = in_map (a_requisite kind x None) (asked s (x ∷ []) x kind) z is
 
   abbrev lost : List Requisite
-  lost = map (a_requisite Orphan x None) are.orphans
+  lost = map (a_requisite Orphan x None) are.asked_are.orphans
 
   abbrev named : List Requisite
   named = requisites_of s x Fmid ++ requisites_of s x Pre ++ requisites_of s x Req
@@ -363,7 +366,7 @@ module _ (g : Global) (zone : Zone) (x : Id) (facts : List Fact) (are : AreFacts
       (answered (a_requisite HoldError x None m.0.reason) on.1.0 on.1.1 on.1.2)
   met Orphan z is = supplied (a_requisite Orphan x None z)
       (Contains-append_right (named ++ conditions s x) lost _
-      (in_map (a_requisite Orphan x None) are.orphans z ((are.orphans_are.members z).1 is)))
+      (in_map (a_requisite Orphan x None) are.asked_are.orphans z ((are.asked_are.orphans_are.members z).1 is)))
   met Elem z is = absurd (none_in z is)
   met Dep z is = absurd (none_in z is)
 
@@ -392,7 +395,8 @@ module _ (g : Global) (zone : Zone) (x : Id) (facts : List Fact) (are : AreFacts
       → (f : Option Found) × HasFound s x (element_of (view_of s x) h.elem_type h.name) f
       × (is_free (is_replacement h.action) f ≡ true)
   element h is =
-      let it = beside_passes _ Clear (changes_of g x) are.of_elements are.elements_are elements_clear h is in
+      let it = beside_passes _ Clear (changes_of g x) are.changes_are.of_elements are.changes_are.elements_are
+      elements_clear h is in
       (it.2.0, it.2.2, sym (ap is_clear it.2.1) ∙ it.3)
 
   -- an element that it changes, as its view has it

@@ -79,7 +79,7 @@ named_alone g zone x y why is = by (is_in (x ∷ []) y) refl
     by false e = absurd (let gone = rw e at is in cc gone)
 
 module _ (g : Global) (zone : Zone) (x : Id) (facts : List Fact) (target : zone.kind ≡ Target)
-    (are : AreFacts g zone x facts) (clear : AreClear facts) where
+    (are : AreFacts (alone g zone x) x facts) (clear : AreClear facts) where
   abbrev s : Setting
   s = alone g zone x
 
@@ -239,7 +239,7 @@ module _ (g : Global) (zone : Zone) (x : Id) (facts : List Fact) (target : zone.
         ∙ ap₂ (λ (it : Setting) t. StatusLine x (place_of it.global x) t ∷ []) setting_is status
 
 pub clear_applied : (g : Global) (zone : Zone) (x : Id) (facts : List Fact) → zone.kind ≡ Target
-    → AreFacts g zone x facts → AreClear facts → (date : Text) (new : Zone) (lines : List Line)
+    → AreFacts (alone g zone x) x facts → AreClear facts → (date : Text) (new : Zone) (lines : List Line)
     → InstallsSelected g zone None (only x) no_bypass date new lines → lines ≡ StatusLine x (place_of g x) Applied ∷ []
 clear_applied g zone x facts target are clear date new lines i =
     clear_line g zone x facts target are clear date new lines i

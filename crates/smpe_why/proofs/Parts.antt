@@ -1,14 +1,27 @@
 -- What is told of ids, part by part.
 use Rattle.std.proofs.Common.{◌≡◌, ◌∙◌, ◌+◌, ℕ, zero, suc, List, [], ◌∷◌, ◌++◌, Some, map, refl, sym, ap, arith}
-use Rattle.std.proofs.Common.{◌<◌, slice_get, get_or, take, length, append-nil, subst}
-use Rattle.std.specs.Prelude.{max}
+use Rattle.std.proofs.Common.{◌<◌, slice_get, get_or, take, length, append-nil, subst, subst₂, Option, None}
+use Rattle.std.proofs.Common.{Bool, true, false, Contains}
+use Rattle.std.specs.Prelude.{max, if◌then◌else◌}
 use Rattle.std.specs.List.{flat_map}
-use Rattle.std.proofs.lemmas.List.{length-map}
+use Rattle.std.specs.Ordering.{nat_cmp}
+use Rattle.std.specs.Cmp.Lexicographic.{slice_cmp}
+use Rattle.std.specs.declared.cmp.Ordering.TheVariants.{Equal}
+use Rattle.std.proofs.lemmas.Cmp.{nat_list_cmp_total, tied_itself}
+use Rattle.std.proofs.lemmas.List.{get_or_default, length-map}
 use Rattle.std.proofs.lemmas.List.Concat.{flat_map-append}
 use Rattle.terms.specs.Beside.{Beside}
 use Rattle.terms.proofs.BesideLists.{beside_next}
-use Rattle.terms.specs.Types.{Text}
-use Rattle.smpe_why.specs.Telling.{greatest}
+use Rattle.terms.specs.Types.{Text, Id, Global, Zone, Bypass}
+use Rattle.terms.specs.Lookups.{IsRising}
+use Rattle.terms.specs.Rising.{StandsAt}
+use Rattle.terms.proofs.IdPlaces.{stands_at}
+use Rattle.terms.proofs.RisingLists.{Stands_at, with_item_same}
+use Rattle.terms.specs.Choice.{Choice, counting}
+use Rattle.terms.specs.Tests.{Setting}
+use Rattle.report_why.specs.Facts.{among, with_id}
+use Rattle.smpe_why.specs.declared.told.Told.{Told}
+use Rattle.smpe_why.specs.Telling.{greatest, Inquiry, AreToldBy, IsTold}
 
 -- one part more
 pub greatest_more : (parts : List (Text × ℕ)) (p : Text × ℕ) → greatest (parts ++ p ∷ []) ≡ max (greatest parts) p.1
@@ -60,3 +73,64 @@ told_more Told xs i x old new text was is code below at so one made greater = re
       ∙ sym (flat_map-append (λ p. p.0) so.parts ((text, code) ∷ []));
   code_is = greater ∙ ap (λ n. max n code) so.code_is ∙ sym (greatest_more so.parts (text, code));
 }
+
+-- the setting of these values
+abbrev a_setting : Global → Choice → Zone → List Id → Bypass → Setting
+a_setting g c zone ids bypass =
+    record { global = g; choice = c; zone = zone; related = None; cands = ids; bypass = bypass }
+
+pub setting_is : (g : Global) (zone : Zone) (cands : List Id) (bypass : Bypass) (x : Id) (h : Global) (c : Choice)
+    (z : Zone) (ids : List Id) → h ≡ g → z ≡ zone → c ≡ counting g zone ids → ids ≡ with_id cands x
+    → a_setting h c z ids bypass ≡ among g zone cands bypass x
+setting_is g zone cands bypass x h c z ids eg ez ec ei =
+    ap (λ v. a_setting v c z ids bypass) eg
+    ∙ ap (λ (v : Zone). a_setting g c v ids bypass) ez
+    ∙ ap (λ v. a_setting g v zone ids bypass) ec
+    ∙ ap (λ v. a_setting g (counting g zone v) zone v bypass) ei
+
+-- a candidate is among the candidates
+pub with_candidate : (ids : List Id) (x : Id) → IsRising ids → Contains ids x → with_id ids x ≡ ids
+with_candidate ids x rising is =
+    let tie : (d : Id) → slice_cmp nat_cmp (get_or ids is.0 d) x ≡ Equal =
+    λ d. subst (λ y. slice_cmp nat_cmp y x ≡ Equal) (sym (get_or_default ids is.0 d x is.1 ∙ is.2))
+    (tied_itself nat_list_cmp_total x) in
+    let at = Stands_at nat_list_cmp_total (λ y. y) x ids is.0 is.1 tie in
+    with_item_same nat_list_cmp_total (λ y. y) ids is.0 x rising
+    (subst (λ v. StandsAt (slice_cmp nat_cmp) (λ y. y) x ids is.0 v) (stands_at ids x is.0 is.1 at.0 at.1).1 at.1)
+
+-- ---- what is told as a whole
+
+module _ (g : Global) (zone : Zone) (related : Option Zone) (a : Inquiry) where
+  abbrev By : List Id → Text → ℕ → Type 0
+  By ids text code = AreToldBy g zone related a ids text code
+
+  -- all by one command
+  pub told_once : (told : Told) → a.together ≡ true → By a.ids told.text.items told.status
+      → IsTold g (Some zone) related a told
+  told_once told together is = (
+    (told.text.items, told.status) ∷ [],
+    subst (λ b. Beside (λ n ids p. By ids p.0 p.1) (if b then a.ids ∷ [] else map (λ x. x ∷ []) a.ids)
+        ((told.text.items, told.status) ∷ [])) (sym together) (record { lengths = refl; each = one }),
+    sym (append-nil told.text.items),
+    omega arith,
+  )
+    where
+      one : (n : ℕ) (ids : List Id) (p : Text × ℕ) → slice_get (a.ids ∷ []) n ≡ Some ids
+          → slice_get ((told.text.items, told.status) ∷ []) n ≡ Some p → By ids p.0 p.1
+      one zero ids p e f =
+          let same : a.ids ≡ ids = cc e in
+          let part : (told.text.items, told.status) ≡ p = cc f in
+          subst₂ (λ i q. By i q.0 q.1) same part is
+      one (suc n) ids p e f = absurd (cc e)
+
+  -- each by its own
+  pub told_each : (told : Told) → a.together ≡ false → (parts : List (Text × ℕ))
+      → Beside (λ n x p. By (x ∷ []) p.0 p.1) a.ids parts → told.text.items ≡ flat_map (λ p. p.0) parts
+      → told.status ≡ greatest parts → IsTold g (Some zone) related a told
+  told_each told apart parts each text status = (
+    parts,
+    subst (λ b. Beside (λ n ids p. By ids p.0 p.1) (if b then a.ids ∷ [] else map (λ x. x ∷ []) a.ids) parts) (sym apart)
+        (beside_seen (λ ids p. By ids p.0 p.1) (λ x. x ∷ []) a.ids parts each),
+    text,
+    status,
+  )

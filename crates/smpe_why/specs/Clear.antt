@@ -7,9 +7,9 @@ use Rattle.terms.specs.Types.{Text, Id, Global, Zone, Selection}
 use Rattle.terms.specs.CommandForms.{no_bypass}
 use Rattle.report_why.specs.Facts.{Standing, StandsReceived}
 use Rattle.report_why.specs.Facts.{Resolution, Supplied, Found, Fact}
-use Rattle.report_why.specs.Verdict.{is_over}
+use Rattle.report_verdict.specs.Verdict.{is_over}
 use Rattle.report_why.specs.Facts.{StandingFact, EntryFact, VerFact, RequisiteFact, HoldFact, ElementFact, DeleteFact}
-use Rattle.report_why.specs.Facts.{TakesFact, NpreFact, ForbiddenFact, NeededFact, AreFacts}
+use Rattle.report_why.specs.Facts.{TakesFact, NpreFact, ForbiddenFact, NeededFact, AreFacts, alone}
 use Rattle.machine.specs.Outcome.{Line, StatusLine, Applied}
 use Rattle.machine.specs.Receiving.{place_of}
 use Rattle.machine.specs.Installing.{InstallsSelected}
@@ -57,25 +57,29 @@ pub record AreClear (facts : List Fact) : Type 0 where
   pub each : All (λ f. IsTrue (is_clear f)) facts
   pub fitting : length (filter is_fitting facts) ≡ 1
 
--- SELECT names this id, and no other operand chooses anything
-abbrev pub only : Id → Selection
-only x = record {
+-- SELECT names these ids, and no other operand chooses anything but, if it is given, GROUPEXTEND
+abbrev pub selecting : List Id → Bool → Selection
+selecting ids groupextend = record {
   functions = false;
   ptfs = false;
   apars = false;
   usermods = false;
-  select = x ∷ [];
+  select = ids;
   exclude = [];
   sourceid = [];
   forfmid = [];
   group = [];
-  groupextend = false;
+  groupextend = groupextend;
 }
+
+-- SELECT names only this id
+abbrev pub only : Id → Selection
+only x = selecting (x ∷ []) false
 
 -- If the facts of an id are clear, an APPLY that selects it alone, without BYPASS, has one line: it is applied.
 abbrev pub ClearIsApplied : Type 0
 ClearIsApplied =
-    (g : Global) (zone : Zone) (x : Id) (facts : List Fact) → zone.kind ≡ Target → AreFacts g zone x facts
+    (g : Global) (zone : Zone) (x : Id) (facts : List Fact) → zone.kind ≡ Target → AreFacts (alone g zone x) x facts
     → AreClear facts → (date : Text) (new : Zone) (lines : List Line)
     → InstallsSelected g zone None (only x) no_bypass date new lines
     → lines ≡ StatusLine x (place_of g x) Applied ∷ []

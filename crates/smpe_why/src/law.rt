@@ -7,8 +7,7 @@ pub fn clear_is_applied()
     ensures { ClearIsApplied }
 {}
 
-/// The lines from which a verdict is made are those of any APPLY or ACCEPT of the id alone, without BYPASS, on any
-/// date.
+/// The lines from which verdicts are made are those of any APPLY or ACCEPT that selects the ids, on any date.
 pub fn prints_the_same()
     ensures { PrintsTheSame }
 {}

@@ -7,6 +7,7 @@ use Rattle.terms.specs.Tests.{view_of}
 use Rattle.report_why.specs.Facts.{NpreFact, ForbiddenFact, forbids}
 use Rattle.judge_needs.proofs.Stating.{applied_left}
 use Rattle.report_why.specs.Asking.{setting_in}
+use Rattle.report_why.proofs.Forbidding.{functions_forbid}
 use Rattle.report_why.proofs.forbids.npre_facts.Goals as goal
 
 pub returns : goal.returns
@@ -20,6 +21,8 @@ returns c =
     ∙ ap (λ l. map (λ y. NpreFact y (is_applied (view_of s x) y)) (npre_of s.choice x) ++ map ForbiddenFact l)
     (take_all c.loop-by.by-index c.as_slice-by-items.result.now (omega arith) ∙ c.as_slice-by-items.ensures.value
     ∙ c.in_ok-forbidding.ensures
+    ∙ ap (λ l. filter (forbids s x) (filter (is_applied (view_of s x)) l)) c.args.asking.now.functions_is
+    ∙ functions_forbid s x (is_applied (view_of s x)) c.args.asking.now.applied.now
     ∙ ap (λ l. filter (forbids s x) (filter (is_applied (view_of s x)) l)) c.args.asking.now.applied_is
     ∙ ap (filter (forbids s x)) (sym (applied_left s.global s.choice
     (deletions s.choice (filter (is_in s.cands) (chain s.global s.choice x))) s.zone c.attest.ensures)))

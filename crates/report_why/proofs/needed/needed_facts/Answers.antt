@@ -1,45 +1,27 @@
-use Rattle.std.proofs.Common.{◌∙◌, [], ap, arith, map, refl, subst, sym, take_all, All, Contains, IsTrue}
-use Rattle.std.specs.Prelude.{◌↔◌}
-use Rattle.std.proofs.lemmas.List.Elements.{All-cons, All-nil}
-use Rattle.sysmods.specs.Choices.{choice}
-use Rattle.terms.proofs.ListMembers.{none_in}
-use Rattle.terms.specs.Lookups.{IsRising, is_applied}
+use Rattle.std.proofs.Common.{◌∙◌, [], ap, arith, map, subst, sym, take_all, Contains}
+use Rattle.std.specs.List.{flat_map}
 use Rattle.report_why.specs.Facts.{NeededFact}
-use Rattle.report_why.specs.Needed.{dep_ids}
-use Rattle.report_why.proofs.Dependents.{dependents, none_need}
+use Rattle.report_why.specs.Needed.{needing}
+use Rattle.report_why.proofs.TextParts.{grown_more}
 use Rattle.report_why.proofs.needed.needed_facts.Goals as goal
 
-pub returns-then-not-is_applied : goal.returns-then-not-is_applied
-returns-then-not-is_applied c =
-    record {
-      ids = [];
-      rising = λ i j d less below. absurd (omega (arith, below));
-      needed = λ y. (
-        λ h. absurd (none_in y h),
-        λ n. absurd (none_need c.args.vers.now.global.now c.args.zone.now c.args.id
-            (sym c.is_applied.ensures ∙ c.if-not-is_applied.true) y n),
-      );
-      facts_are = rw c.new.ensures.items refl;
-    }
-
-pub needs_in_restore-requires : goal.needs_in_restore-requires
-needs_in_restore-requires c =
-    let zone = c.args.zone.now in
-    subst (All (λ x. IsTrue (is_applied zone x))) (sym c.requires.list)
-    (All-cons (λ x. IsTrue (is_applied zone x)) c.args.id [] (sym c.is_applied.ensures ∙ c.if-not-is_applied.false)
-    (All-nil (λ x. IsTrue (is_applied zone x))))
+pub loop-pair-preserved : goal.loop-pair-preserved
+loop-pair-preserved c =
+    grown_more (needing c.args.id) c.args.pairs.now c.loop-pair.pair-index c.pair-item.result [] c.loop-pair.found.items
+    c.push_needing.new.found.items (omega arith) c.pair-item.is c.loop-pair.invariant c.in_ok-push_needing.ensures
 
 pub returns : goal.returns
-returns c =
+returns c = λ g zone all.
     let ids = c.from_vec-needing.result in
+    let found = c.loop-pair.invariant ∙ ap (flat_map (needing c.args.id))
+    (take_all c.loop-pair.pair-index c.args.pairs.now (omega arith)) in
     record {
       ids = ids;
-      rising = subst IsRising c.as_slice-by-items.ensures.items c.as_slice-by-items.ensures.rising;
-      needed = dependents c.args.vers.now.global.now c.args.zone.now (choice c.args.vers.now) c.args.id c.args.ids.now
-          c.in_ok-needs.needs.items ids c.requires.counting c.requires.list c.in_ok-needs.ensures
-          (λ y. subst (λ l. Contains ids y ↔ Contains l y)
-          (c.loop-need.invariant ∙ ap dep_ids (take_all c.loop-need.need-index c.as_slice-need-items.result.now
-          (omega arith) ∙ c.as_slice-need-items.ensures.value)) (c.from_vec-needing.ensures y));
+      rising = c.attest.ensures;
+      needed = λ y. (
+        λ h. (all c.args.id y).0 (subst (λ l. Contains l y) found ((c.from_vec-needing.ensures y).0 h)),
+        λ n. (c.from_vec-needing.ensures y).1 (subst (λ l. Contains l y) (sym found) ((all c.args.id y).1 n)),
+      );
       facts_are = c.loop-by.invariant ∙ ap (map NeededFact)
           (take_all c.loop-by.by-index c.as_slice-by-items.result.now (omega arith)
           ∙ c.as_slice-by-items.ensures.items);

@@ -1,35 +1,43 @@
-use Rattle.std.proofs.Common.{◌≡◌, ◌∙◌, ◌++◌, ap, ap₂, map, refl, append_assoc}
-use Rattle.std.specs.Prelude.{max}
+use Rattle.std.proofs.Common.{◌∙◌, ◌+◌, ap, map, subst, sym}
 use Rattle.std.proofs.lemmas.Result.{IfOk-weaker}
+use Rattle.terms.specs.Choice.{place}
+use Rattle.terms.specs.Tests.{Setting}
+use Rattle.terms.specs.Types.{Zone}
+use Rattle.terms.proofs.Ids.{Contains_from_is_in}
+use Rattle.sysmods.specs.Choices.{choice}
 use Rattle.report.specs.Views.{line_view}
-use Rattle.report_why.specs.Views.{fact_view, facts_view}
-use Rattle.report_why.specs.FactText.{facts_text, facts_code}
-use Rattle.report_why.specs.Verdict.{verdict_text}
+use Rattle.smpe_why.specs.Telling.{IsToldOf}
+use Rattle.smpe_why.proofs.Parts.{setting_is, with_candidate}
 use Rattle.smpe_why.proofs.told.tell_of.Goals as goal
 
-pub returns : goal.returns
-returns c =
-    let of = c.args.of.now in
-    let old = c.args.told.now.text.items in
-    let facts = facts_view of.facts.items in
-    let lines = map line_view c.in_ok-lines.lines.items in
-    let same : map fact_view c.as_slice-facts.result.now ≡ facts = ap (map fact_view) c.as_slice-facts.ensures.value in
-    let same_lines : map line_view c.as_slice.result.now ≡ lines = ap (map line_view) c.as_slice.ensures.value in
-    IfOk-weaker c.put_verdict.result _ _ (λ done put. (
-      facts_text facts ++ verdict_text of.id facts lines,
-      facts_code facts,
-      record {
-        facts = facts;
-        are = c.requires;
-        lines = lines;
-        prints = c.in_ok-lines.ensures;
-        text_is = refl;
-        code_is = refl;
-      },
-      put
-          ∙ ap (λ t. t ++ verdict_text of.id (map fact_view c.as_slice-facts.result.now)
-          (map line_view c.as_slice.result.now)) c.in_ok-put_facts.ensures
-          ∙ append_assoc old _ _
-          ∙ ap₂ (λ fs ls. old ++ (facts_text fs ++ verdict_text of.id fs ls)) same same_lines,
-      c.max-told.ensures ∙ ap (max c.args.told.now.status) (c.facts_code.ensures ∙ ap facts_code same),
-    )) c.put_verdict.ensures
+pub tell_in-requires-clause-global : goal.tell_in-requires-clause-global
+tell_in-requires-clause-global c = c.requires.global_is
+
+pub tell_in-requires-clause-zone : goal.tell_in-requires-clause-zone
+tell_in-requires-clause-zone c = c.requires.zone_is
+
+pub tell_in-requires-clause-srel : goal.tell_in-requires-clause-srel
+tell_in-requires-clause-srel c = c.requires.srel_is ∙ ap (λ (z : Zone). z.srel) (sym c.requires.zone_is)
+
+pub tell_in-requires-clause-number : goal.tell_in-requires-clause-number
+tell_in-requires-clause-number c =
+    let ids = c.args.scope.now.ids.now in
+    ap (λ number. number c.args.id) c.requires.numbers_are
+    ∙ ap (λ g. place g c.args.lookups.now.zone.now ids c.args.id + 1) (sym c.requires.global_is)
+    ∙ ap (λ (z : Zone). place c.args.scope.now.vers.now.global.now z ids c.args.id + 1) (sym c.requires.zone_is)
+
+pub returns-then-contains : goal.returns-then-contains
+returns-then-contains c =
+    let scope = c.args.scope.now in
+    let x = c.args.id in
+    let is = Contains_from_is_in scope.ids.now x (sym c.contains.ensures ∙ c.if-contains.true) in
+    let same = setting_is c.args.lookups.now.global.now c.args.lookups.now.zone.now scope.ids.now scope.bypass.now x
+    scope.vers.now.global.now (choice scope.vers.now) scope.zone.now scope.ids.now c.requires.global_is
+    c.requires.zone_is c.requires.choice_is (sym (with_candidate scope.ids.now x c.attest.ensures is)) in
+    IfOk-weaker c.tell_in.result _ _ (λ done is. (
+      is.0,
+      is.1,
+      subst (λ (s : Setting). IsToldOf s (map line_view c.args.lines.now) x is.0 is.1) same is.2,
+      is.3,
+      is.4,
+    )) c.tell_in.ensures

@@ -1,0 +1,14 @@
+-- What a verdict rests on, by the values of the code.
+use Rattle.std.specs.Prelude.{map}
+use Rattle.report.specs.Views.{line_view}
+use Rattle.report_why.specs.Views.{fact_view}
+use Rattle.report_verdict.specs.Verdict.{Basis}
+use Rattle.report_verdict.specs.declared.grounds.Grounds.{Grounds}
+
+abbrev pub basis_of : Grounds → Basis
+basis_of a = record {
+  bypass = a.bypass.now;
+  facts = map fact_view a.facts.now;
+  conflicts = a.conflicts.now;
+  lines = map line_view a.lines.now;
+}

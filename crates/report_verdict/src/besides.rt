@@ -1,0 +1,271 @@
+//! Which other candidates serve what an id asks for, and what BYPASS covers.
+ghost use Rattle.std.specs.Prelude.{◌≡◌, ◌++◌, ◌∷◌, [], map, option_map, OnOk};
+ghost use Rattle.std.specs.List.{flat_map};
+ghost use Rattle.std.specs.String.{string_bytes};
+ghost use Rattle.terms.specs.Needs.{is_bypassed};
+ghost use Rattle.machine.specs.Report.{optional_text};
+ghost use Rattle.report.specs.Views.{line_view, status_view};
+ghost use Rattle.report_why.specs.Facts.{RequisiteFact, HoldFact};
+ghost use Rattle.report_why.specs.Views.{answer_view, fact_view};
+ghost use Rattle.report_verdict.specs.Verdict.{is_candidate, supply_by, supply_of, supply_told, is_lacking};
+ghost use Rattle.report_verdict.specs.Verdict.{bypassed_told, besides_told};
+ghost use Rattle.report_verdict.specs.Grounds.{basis_of};
+
+use crate::grounds::Grounds;
+use crate::verdict::verdict_word;
+use fields::spelling::{hold_text, need_text};
+use fields::{Bypass, Id};
+use report::{ReportLine, Status};
+use report_why::{Fact, FactWord, Requisite, Resolution, class_text, date_text, put_words};
+use std::alloc::AllocError;
+use sysmods_values::Hold;
+use terms::NeedKind;
+use zones::is_bypassed_hold;
+
+fn is_candidate(status: &Status) -> bool
+    ensures { result ≡ is_candidate (status_view status.now) }
+{
+    match status {
+        Status::Applied => true,
+        Status::Accepted => true,
+        Status::Superseded => true,
+        Status::Failed(_) => true,
+        _ => false,
+    }
+}
+
+// Appends what becomes of the SYSMOD that serves what is asked for, if this line is about it.
+fn put_supply_by<'a>(
+    kind: NeedKind,
+    id: &'a [u8],
+    by: &'a Id,
+    line: &ReportLine,
+    text: &mut Vec<u8>,
+) -> Result<(), AllocError>
+    ensures { OnOk result (text.new.items ≡ text.old.items ++ supply_by kind id.now by.now (line_view line.now)) }
+{
+    match line {
+        ReportLine::Status { id: of, status, .. } => {
+            let is_it = *by == *of && is_candidate(status);
+            if !is_it {
+                return Ok(());
+            }
+            let supply = FactWord::Of(b"SUPPLY");
+            let kind = FactWord::Of(need_text(kind));
+            let id = FactWord::Named(id);
+            let by = FactWord::Of(by.as_bytes());
+            let word = FactWord::Of(verdict_word(status));
+            put_words(b"   ", &[supply, kind, id, by, word], text)
+        }
+        ReportLine::Nothing => Ok(()),
+        ReportLine::Errsysmod { .. } => Ok(()),
+    }
+}
+
+fn put_supply_in<'a>(
+    kind: NeedKind,
+    id: &'a [u8],
+    by: &'a Id,
+    lines: &[ReportLine],
+    text: &mut Vec<u8>,
+) -> Result<(), AllocError>
+    ensures { OnOk result (text.new.items
+        ≡ text.old.items ++ flat_map (supply_by kind id.now by.now) (map line_view lines.now)) }
+{
+    for line in lines {
+        put_supply_by(kind, id, by, line, text)?;
+    }
+    Ok(())
+}
+
+fn put_supplies<'a>(
+    kind: NeedKind,
+    id: &'a [u8],
+    ids: &'a [Id],
+    lines: &[ReportLine],
+    text: &mut Vec<u8>,
+) -> Result<(), AllocError>
+    ensures { OnOk result (text.new.items ≡ text.old.items
+        ++ flat_map (λ y. flat_map (supply_by kind id.now y) (map line_view lines.now)) ids.now) }
+{
+    for by in ids {
+        put_supply_in(kind, id, by, lines, text)?;
+    }
+    Ok(())
+}
+
+// Appends what becomes of the candidates that serve what is asked for.
+fn put_supply_of<'a>(
+    kind: NeedKind,
+    id: &'a [u8],
+    answer: &'a Resolution,
+    lines: &[ReportLine],
+    text: &mut Vec<u8>,
+) -> Result<(), AllocError>
+    ensures { OnOk result (text.new.items ≡ text.old.items
+        ++ supply_of (map line_view lines.now) kind id.now (answer_view answer.now)) }
+{
+    match answer {
+        Resolution::Open(ids) => put_supplies(kind, id, ids.as_slice(), lines, text),
+        _ => Ok(()),
+    }
+}
+
+fn put_supply(fact: &Fact<'_>, lines: &[ReportLine], text: &mut Vec<u8>) -> Result<(), AllocError>
+    ensures { OnOk result (text.new.items
+        ≡ text.old.items ++ supply_told (map line_view lines.now) (fact_view fact.now)) }
+{
+    match fact {
+        Fact::Requisite { requisite, answer } => put_supply_of(
+            requisite.kind,
+            requisite.id.as_bytes(),
+            answer,
+            lines,
+            text,
+        ),
+        Fact::Hold { hold, resolution } => match resolution {
+            Some(answer) => put_supply_of(
+                NeedKind::HoldError,
+                hold.reason.as_bytes(),
+                answer,
+                lines,
+                text,
+            ),
+            None => Ok(()),
+        },
+        _ => Ok(()),
+    }
+}
+
+fn is_bypassed(bypass: &Bypass, kind: NeedKind) -> bool
+    ensures { result ≡ is_bypassed bypass.now kind }
+{
+    match kind {
+        NeedKind::Pre => bypass.pre,
+        NeedKind::Req => bypass.req,
+        NeedKind::Ifreq => bypass.ifreq,
+        _ => false,
+    }
+}
+
+fn is_lacking(answer: &Resolution) -> bool
+    ensures { result ≡ is_lacking (answer_view answer.now) }
+{
+    match answer {
+        Resolution::Supplied(_) => false,
+        _ => true,
+    }
+}
+
+// Appends a requisite that BYPASS covers, if nothing supplies it.
+fn put_bypassed_requisite(
+    bypass: &Bypass,
+    requisite: &Requisite,
+    answer: &Resolution,
+    text: &mut Vec<u8>,
+) -> Result<(), AllocError>
+    ensures { OnOk result (text.new.items ≡ text.old.items
+        ++ bypassed_told bypass.now (RequisiteFact requisite.now (answer_view answer.now))) }
+{
+    let covered = is_bypassed(bypass, requisite.kind) && is_lacking(answer);
+    if !covered {
+        return Ok(());
+    }
+    let bypassed = FactWord::Of(b"BYPASSED");
+    let kind = FactWord::Of(need_text(requisite.kind));
+    let id = FactWord::Of(requisite.id.as_bytes());
+    put_words(b"   ", &[bypassed, kind, id], text)
+}
+
+fn comment_text(comment: &Option<String>) -> &[u8]
+    ensures { result.now ≡ optional_text (option_map string_bytes comment.now) }
+{
+    match comment {
+        Some(comment) => comment.as_bytes(),
+        None => b"-",
+    }
+}
+
+// Appends a hold that BYPASS covers.
+fn put_bypassed_hold(
+    bypass: &Bypass,
+    hold: &Hold,
+    resolution: &Option<Resolution>,
+    text: &mut Vec<u8>,
+) -> Result<(), AllocError>
+    ensures { OnOk result (text.new.items ≡ text.old.items
+        ++ bypassed_told bypass.now (HoldFact hold.now (option_map answer_view resolution.now))) }
+{
+    if !is_bypassed_hold(bypass, hold) {
+        return Ok(());
+    }
+    let bypassed = FactWord::Of(b"BYPASSED");
+    let kind = FactWord::Of(hold_text(hold.kind));
+    let hold_word = FactWord::Of(b"hold");
+    let reason = FactWord::Of(hold.reason.as_bytes());
+    let (of_class, of_date) = (FactWord::Of(b"CLASS"), FactWord::Of(b"DATE"));
+    let class = FactWord::Of(class_text(&hold.class));
+    let date = FactWord::Of(date_text(&hold.date));
+    let of_comment = FactWord::Of(b"COMMENT");
+    let comment = FactWord::Of(comment_text(&hold.comment));
+    let words = [
+        bypassed, kind, hold_word, reason, of_class, class, of_date, date, of_comment, comment,
+    ];
+    put_words(b"   ", &words, text)
+}
+
+fn put_bypassed(bypass: &Bypass, fact: &Fact<'_>, text: &mut Vec<u8>) -> Result<(), AllocError>
+    ensures { OnOk result (text.new.items ≡ text.old.items ++ bypassed_told bypass.now (fact_view fact.now)) }
+{
+    match fact {
+        Fact::Requisite { requisite, answer } => {
+            put_bypassed_requisite(bypass, requisite, answer, text)
+        }
+        Fact::Hold { hold, resolution } => put_bypassed_hold(bypass, hold, resolution, text),
+        _ => Ok(()),
+    }
+}
+
+fn put_all_supplies(
+    facts: &[Fact<'_>],
+    lines: &[ReportLine],
+    text: &mut Vec<u8>,
+) -> Result<(), AllocError>
+    ensures { OnOk result (text.new.items ≡ text.old.items
+        ++ flat_map (supply_told (map line_view lines.now)) (map fact_view facts.now)) }
+{
+    for fact in facts {
+        put_supply(fact, lines, text)?;
+    }
+    Ok(())
+}
+
+fn put_all_bypassed(
+    bypass: &Bypass,
+    facts: &[Fact<'_>],
+    text: &mut Vec<u8>,
+) -> Result<(), AllocError>
+    ensures { OnOk result (text.new.items
+        ≡ text.old.items ++ flat_map (bypassed_told bypass.now) (map fact_view facts.now)) }
+{
+    for fact in facts {
+        put_bypassed(bypass, fact, text)?;
+    }
+    Ok(())
+}
+
+/// Appends which other candidates serve what a candidate asks for, and what BYPASS covers.
+pub(crate) fn put_besides(
+    grounds: &Grounds<'_, '_>,
+    status: &Status,
+    text: &mut Vec<u8>,
+) -> Result<(), AllocError>
+    ensures { OnOk result (text.new.items
+        ≡ text.old.items ++ besides_told (basis_of grounds.now) (status_view status.now)) }
+{
+    if !is_candidate(status) {
+        return Ok(());
+    }
+    put_all_supplies(grounds.facts, grounds.lines, text)?;
+    put_all_bypassed(grounds.bypass, grounds.facts, text)
+}

@@ -1,0 +1,118 @@
+//! The lines of a failed test, by the conflicts with other candidates on which it rests.
+ghost use Rattle.std.specs.Prelude.{◌≡◌, ◌++◌, ◌∷◌, [], OnOk};
+ghost use Rattle.std.specs.List.{flat_map};
+ghost use Rattle.report_verdict.specs.Verdict.{element_reason, apart_text, conflict_reason};
+ghost use Rattle.report_verdict.specs.declared.conflict.Conflict.TheVariants.{Deletes, Forbids, ForbiddenBy, Shares};
+
+use crate::conflict::{Apart, Conflict};
+use crate::statuses::{by_clash, by_delete};
+use fields::spelling::{test_text, type_text};
+use fields::{Id, Name};
+use report_why::{FactWord, put_words};
+use std::alloc::AllocError;
+use terms::{ElemType, Test};
+
+fn put_deletes<'a>(test: Test, by: &'a Id, id: &'a Id, text: &mut Vec<u8>) -> Result<(), AllocError>
+    ensures { OnOk result (text.new.items ≡ text.old.items ++ conflict_reason test (Deletes by.now id.now)) }
+{
+    if !by_delete(test) {
+        return Ok(());
+    }
+    let code = FactWord::Of(test_text(test));
+    let delete = FactWord::Of(b"DELETE");
+    let id = FactWord::Of(id.as_bytes());
+    let of = FactWord::Of(b"of");
+    let by = FactWord::Of(by.as_bytes());
+    let chain = FactWord::Of(b"is in its chain");
+    let words = [code, delete, id, of, by, chain];
+    put_words(b"   ", &words, text)
+}
+
+fn put_forbids(test: Test, id: &Id, text: &mut Vec<u8>) -> Result<(), AllocError>
+    ensures { OnOk result (text.new.items ≡ text.old.items ++ conflict_reason test (Forbids id.now)) }
+{
+    if !by_clash(test) {
+        return Ok(());
+    }
+    let code = FactWord::Of(test_text(test));
+    let npre = FactWord::Of(b"NPRE");
+    let id = FactWord::Of(id.as_bytes());
+    let selected = FactWord::Of(b"is selected too");
+    let words = [code, npre, id, selected];
+    put_words(b"   ", &words, text)
+}
+
+fn put_forbidden_by(test: Test, id: &Id, text: &mut Vec<u8>) -> Result<(), AllocError>
+    ensures { OnOk result (text.new.items ≡ text.old.items ++ conflict_reason test (ForbiddenBy id.now)) }
+{
+    if !by_clash(test) {
+        return Ok(());
+    }
+    let code = FactWord::Of(test_text(test));
+    let id = FactWord::Of(id.as_bytes());
+    let forbids = FactWord::Of(b"is selected too and has it in NPRE");
+    let words = [code, id, forbids];
+    put_words(b"   ", &words, text)
+}
+
+fn apart_text(apart: Apart) -> &'static [u8]
+    ensures { result.now ≡ apart_text apart }
+{
+    match apart {
+        Apart::OtherOwner => b"changes it for another function",
+        Apart::Unordered => b"changes it too, and neither requires or supersedes the other",
+    }
+}
+
+fn put_shares<'a>(
+    test: Test,
+    with: &'a Id,
+    elem_type: ElemType,
+    name: &'a Name,
+    apart: Apart,
+    text: &mut Vec<u8>,
+) -> Result<(), AllocError>
+    ensures { OnOk result (text.new.items
+        ≡ text.old.items ++ conflict_reason test (Shares with.now elem_type name.now apart)) }
+{
+    if !by_clash(test) {
+        return Ok(());
+    }
+    let code = FactWord::Of(test_text(test));
+    let elem_type = FactWord::Of(type_text(elem_type));
+    let name = FactWord::Named(name.as_bytes());
+    let with = FactWord::Of(with.as_bytes());
+    let why = FactWord::Of(apart_text(apart));
+    let words = [code, elem_type, name, with, why];
+    put_words(b"   ", &words, text)
+}
+
+fn put_conflict(test: Test, conflict: &Conflict, text: &mut Vec<u8>) -> Result<(), AllocError>
+    ensures { OnOk result (text.new.items ≡ text.old.items ++ conflict_reason test conflict.now) }
+{
+    match conflict {
+        Conflict::Deletes { by, id } => put_deletes(test, by, id, text),
+        Conflict::Forbids(id) => put_forbids(test, id, text),
+        Conflict::ForbiddenBy(id) => put_forbidden_by(test, id, text),
+        Conflict::Shares {
+            with,
+            elem_type,
+            name,
+            apart,
+        } => put_shares(test, with, *elem_type, name, *apart, text),
+    }
+}
+
+/// Appends the lines of a failed test that rest on these conflicts.
+pub(crate) fn put_conflicts(
+    conflicts: &[Conflict],
+    test: Test,
+    text: &mut Vec<u8>,
+) -> Result<(), AllocError>
+    ensures { OnOk result (text.new.items ≡ text.old.items ++ flat_map (conflict_reason test) conflicts.now) }
+{
+    for conflict in conflicts {
+        put_conflict(test, conflict, text)?;
+    }
+    Ok(())
+}

@@ -1,0 +1,291 @@
+//! The conflicts of a candidate with the others of a report.
+ghost use Rattle.std.specs.Prelude.{◌≡◌, ◌==◌, ◌↔◌, ◌⊎◌, ◌&&◌, ◌++◌, [], ◌∷◌, map, find, option_copied, IsTrue, IfOk, OnOk};
+ghost use Rattle.std.specs.Prelude.{if◌then◌else◌};
+ghost use Rattle.std.specs.List.{flat_map};
+ghost use Rattle.std.specs.Str.{bytes_eq};
+ghost use Rattle.terms.specs.Types.{type_number};
+ghost use Rattle.terms.specs.Beside.{Beside};
+ghost use Rattle.terms.specs.Lookups.{is_in, changes_of, has_change};
+ghost use Rattle.terms.specs.Choice.{npre_of, del_of};
+ghost use Rattle.terms.specs.Over.{IsOver, owner, chain};
+ghost use Rattle.sysmods.specs.Choices.{choice};
+ghost use Rattle.zones.specs.Scopes.{setting_of};
+ghost use Rattle.report.specs.Views.{line_view};
+ghost use Rattle.report_verdict.specs.Conflicts.{clashing, deletion_of, deletions_by, IsApart, IsPartner, share_of};
+ghost use Rattle.report_verdict.specs.Conflicts.{shares, clashes_with, AreConflicts};
+ghost use Rattle.report_verdict.specs.declared.conflict.Conflict.TheVariants.{Forbids, ForbiddenBy};
+
+use crate::conflict::{Apart, Conflict, Partner};
+use crate::statuses::{clashing, deleters};
+use fields::{Id, Name};
+use report::ReportLine;
+use std::alloc::{AllocError, Global};
+use sysmods::{GlobalZone, VerChoice};
+use sysmods_values::ElemChange;
+use terms::ElemType;
+use zones::Scope;
+
+// What it names in DELETE.
+fn dels<'a>(vers: &VerChoice<'a>, id: Id) -> &'a [Id]
+    ensures { result.now ≡ del_of (choice vers.now) id }
+{
+    match vers.ver(id) {
+        Some(ver) => ver.del.as_slice(),
+        None => &[],
+    }
+}
+
+// What it names in NPRE.
+fn npre<'a>(vers: &VerChoice<'a>, id: Id) -> &'a [Id]
+    ensures { result.now ≡ npre_of (choice vers.now) id }
+{
+    match vers.ver(id) {
+        Some(ver) => ver.npre.as_slice(),
+        None => &[],
+    }
+}
+
+// Whether its chain contains this id.
+fn is_in_chain(vers: &VerChoice<'_>, id: Id, other: Id) -> bool
+    ensures { result ≡ is_in (chain vers.now.global.now (choice vers.now) id) other }
+{
+    vers.meets(id, &[other])
+}
+
+// Whether NPRE of the first names the second.
+fn forbids(vers: &VerChoice<'_>, first: Id, second: Id) -> bool
+    ensures { result ≡ is_in (npre_of (choice vers.now) first) second }
+{
+    npre(vers, first).contains(&second)
+}
+
+// The element statements of a received SYSMOD.
+fn changes_of(global: &GlobalZone, id: Id) -> &[ElemChange]
+    ensures { result.now ≡ changes_of global.now id }
+{
+    match global.get(id) {
+        Some(sysmod) => sysmod.changes.as_slice(),
+        None => &[],
+    }
+}
+
+fn is_about(change: &ElemChange, elem_type: ElemType, name: Name) -> bool
+    ensures { result ≡ ((type_number change.now.elem_type == type_number elem_type) && bytes_eq change.now.name name) }
+{
+    change.elem_type == elem_type && change.name == name
+}
+
+// The first statement about the element.
+fn change_at(changes: &[ElemChange], elem_type: ElemType, name: Name) -> Option<&ElemChange>
+    ensures { option_copied result
+        ≡ find (λ h. (type_number h.elem_type == type_number elem_type) && bytes_eq h.name name) changes.now }
+{
+    changes
+        .iter()
+        .find(|change| is_about(change, elem_type, name))
+}
+
+// Whether it changes the element.
+fn has_change(global: &GlobalZone, id: Id, elem_type: ElemType, name: Name) -> bool
+    ensures { result ≡ has_change global.now id elem_type name }
+{
+    match change_at(changes_of(global, id), elem_type, name) {
+        Some(_) => true,
+        None => false,
+    }
+}
+
+// Adds the conflict if it is so.
+fn push_where(is_so: bool, conflict: Conflict, found: &mut Vec<Conflict>) -> Result<(), AllocError>
+    ensures { OnOk result (found.new.items ≡ found.old.items ++ (if is_so then conflict ∷ [] else [])) }
+{
+    if is_so {
+        found.push(conflict)?;
+    }
+    Ok(())
+}
+
+// Adds the deletion of an id that another candidate names, if it is in the chain.
+fn push_deletion(
+    scope: &Scope<'_, '_>,
+    id: Id,
+    by: Id,
+    del: Id,
+    found: &mut Vec<Conflict>,
+) -> Result<(), AllocError>
+    ensures { OnOk result (found.new.items ≡ found.old.items ++ deletion_of (setting_of scope.now) id by del) }
+{
+    push_where(
+        is_in_chain(scope.vers, id, del),
+        Conflict::Deletes { by, id: del },
+        found,
+    )
+}
+
+// Adds what another candidate deletes of the chain.
+fn push_deletions(
+    scope: &Scope<'_, '_>,
+    id: Id,
+    by: Id,
+    found: &mut Vec<Conflict>,
+) -> Result<(), AllocError>
+    ensures { OnOk result (found.new.items ≡ found.old.items ++ deletions_by (setting_of scope.now) id by) }
+{
+    let named = dels(scope.vers, by);
+    for del in named {
+        push_deletion(scope, id, by, *del, found)?;
+    }
+    Ok(())
+}
+
+// Whether both have one owner.
+fn have_one_owner(vers: &VerChoice<'_>, x: Id, y: Id) -> bool
+    ensures { IsTrue result ↔ (owner vers.now.global.now (choice vers.now) x
+        ≡ owner vers.now.global.now (choice vers.now) y) }
+{
+    vers.owner(x) == vers.owner(y)
+}
+
+// Whether one of the two is over the other.
+fn are_ordered(alloc: Global, vers: &VerChoice<'_>, x: Id, y: Id) -> Result<bool, AllocError>
+    ensures { IfOk result (λ are. IsTrue are ↔ (IsOver (choice vers.now) x y ⊎ IsOver (choice vers.now) y x)) }
+{
+    if vers.over(alloc, x, y)? {
+        return Ok(true);
+    }
+    let back = vers.over(alloc, y, x)?;
+    Ok(back)
+}
+
+// Why the two may not change one element, if they may not.
+fn apart(alloc: Global, scope: &Scope<'_, '_>, x: Id, y: Id) -> Result<Option<Apart>, AllocError>
+    ensures { IfOk result (λ apart. IsApart (setting_of scope.now) x y apart) }
+{
+    if !have_one_owner(scope.vers, x, y) {
+        return Ok(Some(Apart::OtherOwner));
+    }
+    if are_ordered(alloc, scope.vers, x, y)? {
+        return Ok(None);
+    }
+    Ok(Some(Apart::Unordered))
+}
+
+// The candidates with which it clashes.
+fn partners(
+    alloc: Global,
+    scope: &Scope<'_, '_>,
+    lines: &[ReportLine],
+    id: Id,
+) -> Result<Vec<Partner>, AllocError>
+    ensures { IfOk result (λ partners. Beside (λ n y p. IsPartner (setting_of scope.now) id y p)
+        (clashing (map line_view lines.now) id) partners.items) }
+{
+    let others = clashing(alloc, lines, id)?;
+    let mut partners = Vec::new(alloc);
+    for other in others.as_slice() {
+        let apart = apart(alloc, scope, id, *other)?;
+        partners.push(Partner { id: *other, apart })?;
+    }
+    Ok(partners)
+}
+
+// Adds the element if the other candidate changes it too.
+fn push_share(
+    global: &GlobalZone,
+    with: Id,
+    apart: Apart,
+    change: &ElemChange,
+    found: &mut Vec<Conflict>,
+) -> Result<(), AllocError>
+    ensures { OnOk result (found.new.items ≡ found.old.items ++ share_of global.now with apart change.now) }
+{
+    let elem_type = change.elem_type;
+    let name = change.name;
+    let share = Conflict::Shares {
+        with,
+        elem_type,
+        name,
+        apart,
+    };
+    push_where(has_change(global, with, elem_type, name), share, found)
+}
+
+// Adds the elements that both change.
+fn push_shares(
+    scope: &Scope<'_, '_>,
+    id: Id,
+    with: Id,
+    apart: Apart,
+    found: &mut Vec<Conflict>,
+) -> Result<(), AllocError>
+    ensures { OnOk result (found.new.items ≡ found.old.items
+        ++ flat_map (share_of scope.now.vers.now.global.now with apart) (changes_of scope.now.vers.now.global.now id)) }
+{
+    let global = scope.global();
+    let changes = changes_of(global, id);
+    for change in changes {
+        push_share(global, with, apart, change, found)?;
+    }
+    Ok(())
+}
+
+// Adds the elements that both change, if they may not.
+fn push_apart(
+    scope: &Scope<'_, '_>,
+    id: Id,
+    partner: &Partner,
+    found: &mut Vec<Conflict>,
+) -> Result<(), AllocError>
+    ensures { OnOk result (found.new.items
+        ≡ found.old.items ++ shares (setting_of scope.now) id partner.now.id partner.now.apart) }
+{
+    match partner.apart {
+        Some(apart) => push_shares(scope, id, partner.id, apart, found),
+        None => Ok(()),
+    }
+}
+
+// Adds the clashes with a partner.
+fn push_clashes(
+    scope: &Scope<'_, '_>,
+    id: Id,
+    partner: &Partner,
+    found: &mut Vec<Conflict>,
+) -> Result<(), AllocError>
+    ensures { OnOk result (found.new.items ≡ found.old.items ++ clashes_with (setting_of scope.now) id partner.now) }
+{
+    let with = partner.id;
+    push_where(
+        forbids(scope.vers, id, with),
+        Conflict::Forbids(with),
+        found,
+    )?;
+    push_where(
+        forbids(scope.vers, with, id),
+        Conflict::ForbiddenBy(with),
+        found,
+    )?;
+    push_apart(scope, id, partner, found)
+}
+
+/// The conflicts of the id with the other candidates of a report with these lines: those on which its failure of J8 or
+/// J9 rests.
+pub fn conflicts_of(
+    alloc: Global,
+    scope: &Scope<'_, '_>,
+    lines: &[ReportLine],
+    id: Id,
+) -> Result<Vec<Conflict>, AllocError>
+    ensures { IfOk result (λ found. AreConflicts (setting_of scope.now) (map line_view lines.now) id found.items) }
+{
+    let deleters = deleters(alloc, lines, id)?;
+    let partners = partners(alloc, scope, lines, id)?;
+    let mut found = Vec::new(alloc);
+    for by in deleters.as_slice() {
+        push_deletions(scope, id, *by, &mut found)?;
+    }
+    for partner in partners.as_slice() {
+        push_clashes(scope, id, partner, &mut found)?;
+    }
+    Ok(found)
+}

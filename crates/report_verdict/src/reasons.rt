@@ -1,0 +1,348 @@
+//! The lines of a failed test, by the facts on which it rests.
+ghost use Rattle.std.specs.Prelude.{◌≡◌, ◌++◌, map, option_map, OnOk};
+ghost use Rattle.std.specs.List.{flat_map};
+ghost use Rattle.terms.specs.CommandForms.{no_bypass};
+ghost use Rattle.report_why.specs.Facts.{ElementFact, VerFact, DeleteFact, NpreFact, ForbiddenFact};
+ghost use Rattle.report_why.specs.Views.{rank_view, maker_view, found_view, fact_view};
+ghost use Rattle.report_verdict.specs.Verdict.{by_hold, by_npre, by_owner, by_makers, by_update, by_target, by_vers};
+ghost use Rattle.report_verdict.specs.Verdict.{hold_reason, element_reason, is_over, maker_reason, owner_reason};
+ghost use Rattle.report_verdict.specs.Verdict.{makers_reason, there_reason, missing_reason, reason, test_told};
+ghost use Rattle.report_verdict.specs.Grounds.{basis_of};
+
+use crate::conflict_reasons::put_conflicts;
+use crate::grounds::Grounds;
+use crate::statuses::by_delete;
+use fields::spelling::{hold_text, test_text, type_text};
+use fields::{Bypass, Id, Name};
+use report_why::{Fact, FactWord, Found, Maker, Rank, id_text, put_words};
+use std::alloc::AllocError;
+use sysmods_values::Hold;
+use terms::{ElemType, HoldKind, Test};
+use zones::is_bypassed_hold;
+
+fn by_hold(test: Test, kind: HoldKind) -> bool
+    ensures { result ≡ by_hold test kind }
+{
+    match test {
+        Test::HeldBySystem => matches!(kind, HoldKind::System),
+        Test::HeldByUser => matches!(kind, HoldKind::User),
+        _ => false,
+    }
+}
+
+fn by_npre(test: Test) -> bool
+    ensures { result ≡ by_npre test }
+{
+    matches!(test, Test::ForbiddenByNpre)
+}
+
+fn by_owner(test: Test) -> bool
+    ensures { result ≡ by_owner test }
+{
+    matches!(test, Test::OwnedByAnother)
+}
+
+fn by_makers(test: Test) -> bool
+    ensures { result ≡ by_makers test }
+{
+    matches!(test, Test::Regression)
+}
+
+fn by_update(test: Test) -> bool
+    ensures { result ≡ by_update test }
+{
+    matches!(test, Test::NothingToUpdate)
+}
+
+fn by_target(test: Test) -> bool
+    ensures { result ≡ by_target test }
+{
+    matches!(test, Test::NotInTarget)
+}
+
+fn by_vers(test: Test) -> bool
+    ensures { result ≡ by_vers test }
+{
+    matches!(test, Test::SeveralFit)
+}
+
+fn is_over(rank: Rank) -> bool
+    ensures { result ≡ is_over (rank_view rank) }
+{
+    matches!(rank, Rank::Over)
+}
+
+// The line of a hold that BYPASS does not cover.
+fn put_hold(bypass: &Bypass, test: Test, hold: &Hold, text: &mut Vec<u8>) -> Result<(), AllocError>
+    ensures { OnOk result (text.new.items ≡ text.old.items ++ hold_reason bypass.now test hold.now) }
+{
+    let stands = by_hold(test, hold.kind) && !is_bypassed_hold(bypass, hold);
+    if !stands {
+        return Ok(());
+    }
+    let code = FactWord::Of(test_text(test));
+    let kind = FactWord::Of(hold_text(hold.kind));
+    let hold_word = FactWord::Of(b"hold");
+    let reason = FactWord::Of(hold.reason.as_bytes());
+    let words = [code, kind, hold_word, reason];
+    put_words(b"   ", &words, text)
+}
+
+// The line of a SYSMOD that made the element, unless the id is over it.
+fn put_maker<'a>(
+    test: Test,
+    elem_type: ElemType,
+    name: &'a Name,
+    word: &'a [u8],
+    maker: &'a Maker,
+    text: &mut Vec<u8>,
+) -> Result<(), AllocError>
+    ensures { OnOk result (text.new.items
+        ≡ text.old.items ++ maker_reason test elem_type name.now word.now (maker_view maker.now)) }
+{
+    if is_over(maker.rank) {
+        return Ok(());
+    }
+    let code = FactWord::Of(test_text(test));
+    let elem_type = FactWord::Of(type_text(elem_type));
+    let name = FactWord::Named(name.as_bytes());
+    let word = FactWord::Of(word);
+    let id = FactWord::Of(maker.id.as_bytes());
+    let not_over = FactWord::Of(b"is not required or superseded by it");
+    let words = [code, elem_type, name, word, id, not_over];
+    put_words(b"   ", &words, text)
+}
+
+fn put_makers<'a>(
+    test: Test,
+    elem_type: ElemType,
+    name: &'a Name,
+    found: &'a Found,
+    text: &mut Vec<u8>,
+) -> Result<(), AllocError>
+    ensures { OnOk result (text.new.items
+        ≡ text.old.items ++ makers_reason test elem_type name.now (found_view found.now)) }
+{
+    put_maker(test, elem_type, name, b"RMID", &found.rmid, text)?;
+    for umid in found.umids.as_slice() {
+        put_maker(test, elem_type, name, b"UMID", umid, text)?;
+    }
+    Ok(())
+}
+
+fn put_owner<'a>(
+    test: Test,
+    elem_type: ElemType,
+    name: &'a Name,
+    found: &'a Found,
+    text: &mut Vec<u8>,
+) -> Result<(), AllocError>
+    ensures { OnOk result (text.new.items
+        ≡ text.old.items ++ owner_reason test elem_type name.now (found_view found.now)) }
+{
+    if found.owned {
+        return Ok(());
+    }
+    let code = FactWord::Of(test_text(test));
+    let elem_type = FactWord::Of(type_text(elem_type));
+    let name = FactWord::Named(name.as_bytes());
+    let belongs = FactWord::Of(b"it belongs to");
+    let owner = FactWord::Of(found.fmid.as_bytes());
+    let words = [code, elem_type, name, belongs, owner];
+    put_words(b"   ", &words, text)
+}
+
+// The lines of an element that exists.
+fn put_there<'a>(
+    test: Test,
+    elem_type: ElemType,
+    name: &'a Name,
+    found: &'a Found,
+    text: &mut Vec<u8>,
+) -> Result<(), AllocError>
+    ensures { OnOk result (text.new.items
+        ≡ text.old.items ++ there_reason test elem_type name.now (found_view found.now)) }
+{
+    if by_owner(test) {
+        return put_owner(test, elem_type, name, found, text);
+    }
+    if by_makers(test) {
+        return put_makers(test, elem_type, name, found, text);
+    }
+    Ok(())
+}
+
+// The line of an element that does not exist.
+fn put_missing(
+    test: Test,
+    elem_type: ElemType,
+    name: &Name,
+    replaces: bool,
+    text: &mut Vec<u8>,
+) -> Result<(), AllocError>
+    ensures { OnOk result (text.new.items
+        ≡ text.old.items ++ missing_reason test elem_type name.now replaces) }
+{
+    let fails = by_update(test) && !replaces;
+    if !fails {
+        return Ok(());
+    }
+    let code = FactWord::Of(test_text(test));
+    let elem_type = FactWord::Of(type_text(elem_type));
+    let name = FactWord::Named(name.as_bytes());
+    let none = FactWord::Of(b"there is none to update");
+    let words = [code, elem_type, name, none];
+    put_words(b"   ", &words, text)
+}
+
+fn put_element<'a>(
+    test: Test,
+    elem_type: ElemType,
+    name: &'a Name,
+    replaces: bool,
+    found: &'a Option<Found>,
+    text: &mut Vec<u8>,
+) -> Result<(), AllocError>
+    ensures { OnOk result (text.new.items ≡ text.old.items
+        ++ reason no_bypass test (ElementFact elem_type name.now replaces (option_map found_view found.now))) }
+{
+    match found {
+        Some(found) => put_there(test, elem_type, name, found, text),
+        None => put_missing(test, elem_type, name, replaces, text),
+    }
+}
+
+fn put_ver(
+    test: Test,
+    number: usize,
+    fmid: &Option<Id>,
+    fits: bool,
+    counts: bool,
+    text: &mut Vec<u8>,
+) -> Result<(), AllocError>
+    ensures { OnOk result (text.new.items
+        ≡ text.old.items ++ reason no_bypass test (VerFact number fmid.now fits counts)) }
+{
+    let fails = by_vers(test) && fits;
+    if !fails {
+        return Ok(());
+    }
+    let code = FactWord::Of(test_text(test));
+    let ver = FactWord::Of(b"VER");
+    let number = FactWord::Number(number);
+    let of_fmid = FactWord::Of(b"FMID");
+    let fmid = FactWord::Of(id_text(fmid));
+    let fits_word = FactWord::Of(b"fits");
+    let words = [code, ver, number, of_fmid, fmid, fits_word];
+    put_words(b"   ", &words, text)
+}
+
+fn put_delete(test: Test, id: &Id, own: bool, text: &mut Vec<u8>) -> Result<(), AllocError>
+    ensures { OnOk result (text.new.items ≡ text.old.items ++ reason no_bypass test (DeleteFact id.now own)) }
+{
+    let fails = by_delete(test) && own;
+    if !fails {
+        return Ok(());
+    }
+    let code = FactWord::Of(test_text(test));
+    let delete = FactWord::Of(b"DELETE");
+    let id = FactWord::Of(id.as_bytes());
+    let chain = FactWord::Of(b"is in its own chain");
+    let words = [code, delete, id, chain];
+    put_words(b"   ", &words, text)
+}
+
+fn put_npre(test: Test, id: &Id, applied: bool, text: &mut Vec<u8>) -> Result<(), AllocError>
+    ensures { OnOk result (text.new.items ≡ text.old.items ++ reason no_bypass test (NpreFact id.now applied)) }
+{
+    let fails = by_npre(test) && applied;
+    if !fails {
+        return Ok(());
+    }
+    let code = FactWord::Of(test_text(test));
+    let npre = FactWord::Of(b"NPRE");
+    let id = FactWord::Of(id.as_bytes());
+    let applied_word = FactWord::Of(b"is applied");
+    let words = [code, npre, id, applied_word];
+    put_words(b"   ", &words, text)
+}
+
+fn put_forbidden(test: Test, id: &Id, text: &mut Vec<u8>) -> Result<(), AllocError>
+    ensures { OnOk result (text.new.items ≡ text.old.items ++ reason no_bypass test (ForbiddenFact id.now)) }
+{
+    if !by_npre(test) {
+        return Ok(());
+    }
+    let code = FactWord::Of(test_text(test));
+    let id = FactWord::Of(id.as_bytes());
+    let forbids = FactWord::Of(b"is applied and has it in NPRE");
+    let words = [code, id, forbids];
+    put_words(b"   ", &words, text)
+}
+
+fn put_reason(
+    bypass: &Bypass,
+    test: Test,
+    fact: &Fact<'_>,
+    text: &mut Vec<u8>,
+) -> Result<(), AllocError>
+    ensures { OnOk result (text.new.items ≡ text.old.items ++ reason bypass.now test (fact_view fact.now)) }
+{
+    match fact {
+        Fact::Standing { .. } => Ok(()),
+        Fact::Entry { .. } => Ok(()),
+        Fact::Ver {
+            number,
+            fmid,
+            fits,
+            counts,
+        } => put_ver(test, *number, fmid, *fits, *counts, text),
+        Fact::Requisite { .. } => Ok(()),
+        Fact::Hold { hold, .. } => put_hold(bypass, test, hold, text),
+        Fact::Element {
+            elem_type,
+            name,
+            replaces,
+            found,
+        } => put_element(test, *elem_type, name, *replaces, found, text),
+        Fact::Delete { id, own } => put_delete(test, id, *own, text),
+        Fact::Takes(_) => Ok(()),
+        Fact::Npre { id, applied } => put_npre(test, id, *applied, text),
+        Fact::Forbidden(id) => put_forbidden(test, id, text),
+        Fact::Needed(_) => Ok(()),
+    }
+}
+
+// Appends the lines that rest on these facts.
+fn put_reasons(
+    bypass: &Bypass,
+    facts: &[Fact<'_>],
+    test: Test,
+    text: &mut Vec<u8>,
+) -> Result<(), AllocError>
+    ensures { OnOk result (text.new.items
+        ≡ text.old.items ++ flat_map (reason bypass.now test) (map fact_view facts.now)) }
+{
+    for fact in facts {
+        put_reason(bypass, test, fact, text)?;
+    }
+    Ok(())
+}
+
+/// Appends the lines of a test that an id has failed.
+pub(crate) fn put_test(
+    grounds: &Grounds<'_, '_>,
+    test: Test,
+    text: &mut Vec<u8>,
+) -> Result<(), AllocError>
+    ensures { OnOk result (text.new.items ≡ text.old.items ++ test_told (basis_of grounds.now) test) }
+{
+    if by_target(test) {
+        let code = FactWord::Of(test_text(test));
+        let none = FactWord::Of(b"no related target zone has applied it");
+        let words = [code, none];
+        return put_words(b"   ", &words, text);
+    }
+    put_reasons(grounds.bypass, grounds.facts, test, text)?;
+    put_conflicts(grounds.conflicts, test, text)
+}

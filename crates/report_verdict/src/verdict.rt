@@ -1,0 +1,293 @@
+//! What APPLY or ACCEPT would make of an id, in words.
+ghost use Rattle.std.specs.Prelude.{◌≡◌, ◌++◌, ◌∷◌, ◌&&◌, [], Some, map, option_map, OnOk};
+ghost use Rattle.std.specs.List.{flat_map};
+ghost use Rattle.std.specs.Str.{bytes_eq};
+ghost use Rattle.terms.specs.Spelling.{need_text};
+ghost use Rattle.judge_system.specs.Views.{need_view, failure_view};
+ghost use Rattle.report.specs.Views.{status_view, line_view};
+ghost use Rattle.report_why.specs.Facts.{Open};
+ghost use Rattle.report_why.specs.Views.{answer_view, fact_view};
+ghost use Rattle.report_verdict.specs.Verdict.{answered, first_answer, supply_words, need_line, need_told, causer_told};
+ghost use Rattle.report_verdict.specs.Verdict.{test_told, failure_told, verdict_word, why_told, status_told};
+ghost use Rattle.report_verdict.specs.Verdict.{verdict_told, verdict_text};
+ghost use Rattle.report_verdict.specs.Grounds.{basis_of};
+
+use crate::besides::put_besides;
+use crate::grounds::Grounds;
+use crate::reasons::put_test;
+use fields::Id;
+use fields::spelling::need_text;
+use judge_system::{Failure, OpenNeed};
+use report::{ReportLine, Status};
+use report_why::{Fact, FactWord, Resolution, put_words};
+use std::alloc::AllocError;
+use terms::{NeedKind, Test};
+
+// Whether the kind and the id are those of the need.
+fn is_of(need: &OpenNeed, kind: NeedKind, id: &[u8]) -> bool
+    ensures { result ≡ (bytes_eq (need_text need.now.kind) (need_text kind) && bytes_eq need.now.id id.now) }
+{
+    need_text(need.kind) == need_text(kind) && need.id.as_bytes() == id
+}
+
+// The answer of the fact to what is needed.
+fn answered<'f>(need: &OpenNeed, fact: &'f Fact<'_>) -> Option<&'f Resolution>
+    ensures { option_map (λ a. answer_view a.now) result ≡ answered need.now.kind need.now.id (fact_view fact.now) }
+{
+    match fact {
+        Fact::Requisite { requisite, answer } => {
+            if is_of(need, requisite.kind, requisite.id.as_bytes()) {
+                Some(answer)
+            } else {
+                None
+            }
+        }
+        Fact::Hold { hold, resolution } => {
+            if is_of(need, NeedKind::HoldError, hold.reason.as_bytes()) {
+                resolution.as_ref()
+            } else {
+                None
+            }
+        }
+        _ => None,
+    }
+}
+
+// The answer of the first fact that has one to what is needed.
+fn first_answer<'f>(need: &OpenNeed, facts: &'f [Fact<'_>]) -> Option<&'f Resolution>
+    ensures { option_map (λ a. answer_view a.now) result ≡ first_answer need.now.kind need.now.id (map fact_view facts.now) }
+{
+    for fact in facts {
+        if let Some(answer) = answered(need, fact) {
+            return Some(answer);
+        }
+    }
+    None
+}
+
+// Appends the line of a need whose fact leaves it open.
+fn put_open<'a>(need: &'a OpenNeed, ids: &'a [Id], text: &mut Vec<u8>) -> Result<(), AllocError>
+    ensures { OnOk result (text.new.items
+        ≡ text.old.items ++ need_line (need_view need.now) (supply_words (Some (Open ids.now)))) }
+{
+    if ids.is_empty() {
+        return put_need_line(need, b"no SYSMOD that supplies it is received", text);
+    }
+    let need_word = FactWord::Of(b"NEED");
+    let kind = FactWord::Of(need_text(need.kind));
+    let id = FactWord::Named(need.id.as_bytes());
+    let ids = FactWord::Ids(ids);
+    let would = FactWord::Of(b"would supply it");
+    let words = [need_word, kind, id, ids, would];
+    put_words(b"   ", &words, text)
+}
+
+fn put_need_line<'a>(
+    need: &'a OpenNeed,
+    why: &'a [u8],
+    text: &mut Vec<u8>,
+) -> Result<(), AllocError>
+    ensures { OnOk result (text.new.items ≡ text.old.items ++ need_line (need_view need.now) (why.now ∷ [])) }
+{
+    let need_word = FactWord::Of(b"NEED");
+    let kind = FactWord::Of(need_text(need.kind));
+    let id = FactWord::Named(need.id.as_bytes());
+    let why = FactWord::Of(why);
+    let words = [need_word, kind, id, why];
+    put_words(b"   ", &words, text)
+}
+
+fn put_answer<'a>(
+    need: &'a OpenNeed,
+    answer: Option<&'a Resolution>,
+    text: &mut Vec<u8>,
+) -> Result<(), AllocError>
+    ensures { OnOk result (text.new.items ≡ text.old.items
+        ++ need_line (need_view need.now) (supply_words (option_map (λ a. answer_view a.now) answer.entry))) }
+{
+    let Some(answer) = answer else {
+        return put_need_line(need, b"nothing supplies it", text);
+    };
+    match answer {
+        Resolution::Supplied(_) => put_need_line(need, b"nothing supplies it", text),
+        Resolution::Waived => put_need_line(need, b"nothing supplies it", text),
+        Resolution::ByItself => put_need_line(need, b"it supplies this itself", text),
+        Resolution::Open(ids) => put_open(need, ids.as_slice(), text),
+    }
+}
+
+// Appends the line of an open need of the id with these facts.
+fn put_need<'a>(
+    facts: &'a [Fact<'_>],
+    need: &'a OpenNeed,
+    text: &mut Vec<u8>,
+) -> Result<(), AllocError>
+    ensures { OnOk result (text.new.items ≡ text.old.items ++ need_told (map fact_view facts.now) (need_view need.now)) }
+{
+    put_answer(need, first_answer(need, facts), text)
+}
+
+// Appends the line of a causer other than the id itself.
+fn put_causer(id: Id, causer: &Id, text: &mut Vec<u8>) -> Result<(), AllocError>
+    ensures { OnOk result (text.new.items ≡ text.old.items ++ causer_told id causer.now) }
+{
+    if id == *causer {
+        return Ok(());
+    }
+    let word = FactWord::Of(b"CAUSER");
+    let causer = FactWord::Of(causer.as_bytes());
+    put_words(b"   ", &[word, causer], text)
+}
+
+fn put_tests(
+    grounds: &Grounds<'_, '_>,
+    tests: &[Test],
+    text: &mut Vec<u8>,
+) -> Result<(), AllocError>
+    ensures { OnOk result (text.new.items
+        ≡ text.old.items ++ flat_map (test_told (basis_of grounds.now)) tests.now) }
+{
+    for failed in tests {
+        put_test(grounds, *failed, text)?;
+    }
+    Ok(())
+}
+
+fn put_needs<'a>(
+    facts: &'a [Fact<'_>],
+    needs: &'a [OpenNeed],
+    text: &mut Vec<u8>,
+) -> Result<(), AllocError>
+    ensures { OnOk result (text.new.items
+        ≡ text.old.items ++ flat_map (need_told (map fact_view facts.now)) (map need_view needs.now)) }
+{
+    for need in needs {
+        put_need(facts, need, text)?;
+    }
+    Ok(())
+}
+
+fn put_causers(id: Id, causers: &[Id], text: &mut Vec<u8>) -> Result<(), AllocError>
+    ensures { OnOk result (text.new.items ≡ text.old.items ++ flat_map (causer_told id) causers.now) }
+{
+    for causer in causers {
+        put_causer(id, causer, text)?;
+    }
+    Ok(())
+}
+
+fn put_failure(
+    id: Id,
+    grounds: &Grounds<'_, '_>,
+    failure: &Failure,
+    text: &mut Vec<u8>,
+) -> Result<(), AllocError>
+    ensures { OnOk result (text.new.items
+        ≡ text.old.items ++ failure_told id (basis_of grounds.now) (failure_view failure.now)) }
+{
+    put_tests(grounds, failure.tests.as_slice(), text)?;
+    put_needs(grounds.facts, failure.needs.as_slice(), text)?;
+    put_causers(id, failure.causers.as_slice(), text)
+}
+
+/// What would become of a candidate; for another id the word of its line.
+pub(crate) fn verdict_word(status: &Status) -> &'static [u8]
+    ensures { result.now ≡ verdict_word (status_view status.now) }
+{
+    match status {
+        Status::Received => b"RECEIVED",
+        Status::Already => b"ALREADY",
+        Status::Refused(_) => b"REFUSED",
+        Status::Assigned(_) => b"ASSIGNED",
+        Status::Unknown => b"UNKNOWN",
+        Status::Held(_) => b"HELD",
+        Status::Replaced(_) => b"REPLACED",
+        Status::Released(_) => b"RELEASED",
+        Status::Rejected => b"REJECTED",
+        Status::Applied => b"WOULD BE APPLIED",
+        Status::Accepted => b"WOULD BE ACCEPTED",
+        Status::Superseded => b"WOULD BE SUPERSEDED",
+        Status::Failed(_) => b"WOULD FAIL",
+        Status::Deleted => b"DELETED",
+        Status::Missing => b"MISSING",
+        Status::NoVer => b"NOVER",
+        Status::Restored => b"RESTORED",
+        Status::NotApplied => b"NOTAPPLIED",
+    }
+}
+
+// Appends why it would fail, if it would.
+fn put_why(
+    id: Id,
+    grounds: &Grounds<'_, '_>,
+    status: &Status,
+    text: &mut Vec<u8>,
+) -> Result<(), AllocError>
+    ensures { OnOk result (text.new.items
+        ≡ text.old.items ++ why_told id (basis_of grounds.now) (status_view status.now)) }
+{
+    match status {
+        Status::Failed(failure) => put_failure(id, grounds, failure, text),
+        _ => Ok(()),
+    }
+}
+
+fn put_status(
+    id: Id,
+    grounds: &Grounds<'_, '_>,
+    status: &Status,
+    text: &mut Vec<u8>,
+) -> Result<(), AllocError>
+    ensures { OnOk result (text.new.items
+        ≡ text.old.items ++ status_told id (basis_of grounds.now) (status_view status.now)) }
+{
+    put_words(b" ", &[FactWord::Of(verdict_word(status))], text)?;
+    put_why(id, grounds, status, text)?;
+    put_besides(grounds, status, text)
+}
+
+fn put_line(
+    id: Id,
+    grounds: &Grounds<'_, '_>,
+    line: &ReportLine,
+    text: &mut Vec<u8>,
+) -> Result<(), AllocError>
+    ensures { OnOk result (text.new.items
+        ≡ text.old.items ++ verdict_told id (basis_of grounds.now) (line_view line.now)) }
+{
+    match line {
+        ReportLine::Status { id: of, status, .. } => {
+            if id == *of {
+                put_status(id, grounds, status, text)
+            } else {
+                Ok(())
+            }
+        }
+        ReportLine::Nothing => Ok(()),
+        ReportLine::Errsysmod { .. } => Ok(()),
+    }
+}
+
+// Appends what these lines say about the id.
+fn put_lines(
+    id: Id,
+    grounds: &Grounds<'_, '_>,
+    lines: &[ReportLine],
+    text: &mut Vec<u8>,
+) -> Result<(), AllocError>
+    ensures { OnOk result (text.new.items
+        ≡ text.old.items ++ flat_map (verdict_told id (basis_of grounds.now)) (map line_view lines.now)) }
+{
+    for line in lines {
+        put_line(id, grounds, line, text)?;
+    }
+    Ok(())
+}
+
+/// Appends what the lines of an APPLY or ACCEPT say about the id, in words that name its facts, the other candidates
+/// and what BYPASS covers.
+pub fn put_verdict(id: Id, grounds: &Grounds<'_, '_>, text: &mut Vec<u8>) -> Result<(), AllocError>
+    ensures { OnOk result (text.new.items ≡ text.old.items ++ verdict_text id (basis_of grounds.now)) }
+{
+    put_lines(id, grounds, grounds.lines, text)
+}

@@ -1,0 +1,31 @@
+use Rattle.std.proofs.Common.{◌∙◌, ◌++◌, [], ap, map, refl, sym, subst₂}
+use Rattle.terms.specs.Types.{Zone}
+use Rattle.terms.specs.Choice.{counting}
+use Rattle.report_why.specs.Asking.{setting_in}
+use Rattle.report_why.specs.Facts.{standing_facts, ver_facts}
+use Rattle.report_why.specs.Needed.{AreNeeded}
+use Rattle.report_why.specs.Views.{fact_view}
+use Rattle.report_why.proofs.NeededPairs.{all_needed}
+use Rattle.report_why.proofs.Together.{are_facts}
+use Rattle.report_why.proofs.facts.facts_by.Goals as goal
+
+pub returns : goal.returns
+returns c =
+    let g = c.args.lookups.now.global.now in
+    let zone = c.args.lookups.now.zone.now in
+    let s = setting_in c.args.asking.now in
+    let x = c.args.asking.now.id in
+    let changes = c.in_ok-changes.changes.items in
+    let needed = c.in_ok-needed.needed.items in
+    are_facts s x c.append-3.new.self.items c.in_ok-facts.facts.items c.in_ok-asked.asked.items changes needed
+    (c.in_ok-append-3.ensures.items
+    ∙ ap (λ l. l ++ needed) (c.in_ok-append-2.ensures.items ∙ ap (λ l. l ++ changes) c.in_ok-append.ensures.items))
+    (c.in_ok-facts.ensures
+    ∙ ap (λ g. standing_facts g zone x ++ ver_facts s x) (sym c.requires.global)
+    ∙ ap (λ (zone : Zone). standing_facts s.global zone x ++ ver_facts s x) (sym c.requires.zone))
+    c.in_ok-asked.ensures
+    c.in_ok-changes.ensures
+    (subst₂ (λ g zone. AreNeeded g zone x (map fact_view needed)) (sym c.requires.global) (sym c.requires.zone)
+    (c.in_ok-needed.ensures g zone
+    (all_needed g (counting g zone []) zone c.as_slice.result.now c.attest.ensures refl
+    (c.as_slice.ensures.value ∙ c.args.lookups.now.needed_is))))

@@ -1,0 +1,13 @@
+use Rattle.std.proofs.Common.{◌∙◌, refl, subst, sym, Contains}
+use Rattle.std.specs.Prelude.{◌↔◌}
+use Rattle.terms.specs.Types.{Id}
+use Rattle.smpe_why.proofs.told.selection.Goals as goal
+
+pub returns : goal.returns
+returns c =
+    record {
+      rising = c.attest.ensures;
+      members = λ x. subst (λ l. Contains c.from_vec-select.result x ↔ Contains l x) c.in_ok-from_slice.ensures.items
+          (c.from_vec-select.ensures x);
+      selection = rw (c.new-exclude.ensures, c.new-sourceid.ensures, c.new-forfmid.ensures, c.new-group.ensures) refl;
+    }

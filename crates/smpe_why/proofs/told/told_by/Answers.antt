@@ -1,0 +1,30 @@
+use Rattle.std.proofs.Common.{◌≡◌, map, refl}
+use Rattle.std.proofs.lemmas.Result.{IfOk-weaker}
+use Rattle.report.specs.Views.{line_view}
+use Rattle.smpe_why.proofs.told.told_by.Goals as goal
+
+pub told_in_turn-requires : goal.told_in_turn-requires
+told_in_turn-requires c = record {
+  global_is = c.in_ok-vers.ensures.global;
+  zone_is = refl;
+  srel_is = c.in_ok-vers.ensures.srel;
+  choice_is = c.in_ok-vers.ensures.counting;
+  numbers_are = c.in_ok-vers.ensures.numbers;
+}
+
+pub returns : goal.returns
+returns c =
+    let lines : c.as_slice.result.now ≡ c.in_ok-lines.lines.items = c.as_slice.ensures.value in
+    IfOk-weaker c.told_in_turn.result _ _ (λ told in_turn. record {
+      cands = c.in_ok-candidates.field-0.ids;
+      lines = map line_view c.as_slice.result.now;
+      prints = record {
+        selection = c.in_ok-selection.selection;
+        selects = c.in_ok-selection.ensures;
+        candidates = c.in_ok-candidates.ensures.members;
+        date = c.in_ok-lines.ensures.0;
+        new = c.in_ok-lines.ensures.1;
+        installs = rw lines c.in_ok-lines.ensures.2;
+      };
+      told = in_turn;
+    }) c.told_in_turn.ensures
