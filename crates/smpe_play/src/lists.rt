@@ -5,6 +5,7 @@ use crate::jobs::{compare, run_printing};
 use smpe::{Answer, Job};
 use sqlite::{Alter, Connection};
 use std::alloc::Global;
+use std::slice;
 use std::test::Fail;
 
 /// What a list of jobs must print and return.
@@ -61,7 +62,7 @@ fn run_each(alloc: Global, jobs: &[Job<'_>], wanted: ListWanted<'_>) -> Result<(
     let (mut report, mut answers) = (Vec::new(alloc), Vec::new(alloc));
     let mut conn = in_memory(alloc)?;
     for job in jobs {
-        conn = run_over(alloc, conn, &[*job], &mut report, &mut answers)?;
+        conn = run_over(alloc, conn, slice::from_ref(job), &mut report, &mut answers)?;
     }
     let disk = "in memory, opened for each";
     check(alloc, disk, report.as_slice(), answers.as_slice(), wanted)
@@ -75,7 +76,7 @@ fn run_closed(alloc: Global, jobs: &[Job<'_>], wanted: ListWanted<'_>) -> Result
         conn = run_over(
             alloc,
             reopened(alloc, conn)?,
-            &[*job],
+            slice::from_ref(job),
             &mut report,
             &mut answers,
         )?;
