@@ -1,6 +1,6 @@
 //! Direct tests of the calls that decide about service and change zones: their parts, the commands that are made of
-//! them, sessions over a store, and what `smpe verify` tells of it. Each compares what a call returns, as text. The
-//! crate contains only tests.
+//! them, sessions over a store, and what `smpe verify` and `smpe why` tell of it. Each compares what a call returns, as
+//! text. The crate contains only tests.
 #![tactic(auto)]
 
 #[cfg(test)]
@@ -19,3 +19,5 @@ mod restoring;
 mod sessions;
 #[cfg(test)]
 mod verified;
+#[cfg(test)]
+mod why;
