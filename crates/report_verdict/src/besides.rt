@@ -35,10 +35,10 @@ fn is_candidate(status: &Status) -> bool
 }
 
 // Appends what becomes of the SYSMOD that serves what is asked for, if this line is about it.
-fn put_supply_by(
+fn put_supply_by<'a>(
     kind: NeedKind,
-    id: &[u8],
-    by: &Id,
+    id: &'a [u8],
+    by: &'a Id,
     line: &ReportLine,
     text: &mut Vec<u8>,
 ) -> Result<(), AllocError>
@@ -62,10 +62,10 @@ fn put_supply_by(
     }
 }
 
-fn put_supply_in(
+fn put_supply_in<'a>(
     kind: NeedKind,
-    id: &[u8],
-    by: &Id,
+    id: &'a [u8],
+    by: &'a Id,
     lines: &[ReportLine],
     text: &mut Vec<u8>,
 ) -> Result<(), AllocError>
@@ -78,10 +78,10 @@ fn put_supply_in(
     Ok(())
 }
 
-fn put_supplies(
+fn put_supplies<'a>(
     kind: NeedKind,
-    id: &[u8],
-    ids: &[Id],
+    id: &'a [u8],
+    ids: &'a [Id],
     lines: &[ReportLine],
     text: &mut Vec<u8>,
 ) -> Result<(), AllocError>
@@ -95,10 +95,10 @@ fn put_supplies(
 }
 
 // Appends what becomes of the candidates that serve what is asked for.
-fn put_supply_of(
+fn put_supply_of<'a>(
     kind: NeedKind,
-    id: &[u8],
-    answer: &Resolution,
+    id: &'a [u8],
+    answer: &'a Resolution,
     lines: &[ReportLine],
     text: &mut Vec<u8>,
 ) -> Result<(), AllocError>

@@ -12,7 +12,7 @@ use report_why::{FactWord, put_words};
 use std::alloc::AllocError;
 use terms::{ElemType, Test};
 
-fn put_deletes(test: Test, by: &Id, id: &Id, text: &mut Vec<u8>) -> Result<(), AllocError>
+fn put_deletes<'a>(test: Test, by: &'a Id, id: &'a Id, text: &mut Vec<u8>) -> Result<(), AllocError>
     ensures { OnOk result (text.new.items ≡ text.old.items ++ conflict_reason test (Deletes by.now id.now)) }
 {
     if !by_delete(test) {
@@ -64,11 +64,11 @@ fn apart_text(apart: Apart) -> &'static [u8]
     }
 }
 
-fn put_shares(
+fn put_shares<'a>(
     test: Test,
-    with: &Id,
+    with: &'a Id,
     elem_type: ElemType,
-    name: &Name,
+    name: &'a Name,
     apart: Apart,
     text: &mut Vec<u8>,
 ) -> Result<(), AllocError>

@@ -1,7 +1,9 @@
 //! The conflicts of a candidate with the others of a report.
-ghost use Rattle.std.specs.Prelude.{◌≡◌, ◌↔◌, ◌⊎◌, ◌++◌, [], ◌∷◌, map, IsTrue, IfOk, OnOk};
+ghost use Rattle.std.specs.Prelude.{◌≡◌, ◌==◌, ◌↔◌, ◌⊎◌, ◌&&◌, ◌++◌, [], ◌∷◌, map, find, option_copied, IsTrue, IfOk, OnOk};
 ghost use Rattle.std.specs.Prelude.{if◌then◌else◌};
 ghost use Rattle.std.specs.List.{flat_map};
+ghost use Rattle.std.specs.Str.{bytes_eq};
+ghost use Rattle.terms.specs.Types.{type_number};
 ghost use Rattle.terms.specs.Beside.{Beside};
 ghost use Rattle.terms.specs.Lookups.{is_in, changes_of, has_change};
 ghost use Rattle.terms.specs.Choice.{npre_of, del_of};
@@ -67,14 +69,30 @@ fn changes_of(global: &GlobalZone, id: Id) -> &[ElemChange]
     }
 }
 
+fn is_about(change: &ElemChange, elem_type: ElemType, name: Name) -> bool
+    ensures { result ≡ ((type_number change.now.elem_type == type_number elem_type) && bytes_eq change.now.name name) }
+{
+    change.elem_type == elem_type && change.name == name
+}
+
+// The first statement about the element.
+fn change_at(changes: &[ElemChange], elem_type: ElemType, name: Name) -> Option<&ElemChange>
+    ensures { option_copied result
+        ≡ find (λ h. (type_number h.elem_type == type_number elem_type) && bytes_eq h.name name) changes.now }
+{
+    changes
+        .iter()
+        .find(|change| is_about(change, elem_type, name))
+}
+
 // Whether it changes the element.
 fn has_change(global: &GlobalZone, id: Id, elem_type: ElemType, name: Name) -> bool
     ensures { result ≡ has_change global.now id elem_type name }
 {
-    changes_of(global, id)
-        .iter()
-        .find(|change| change.elem_type == elem_type && change.name == name)
-        .is_some()
+    match change_at(changes_of(global, id), elem_type, name) {
+        Some(_) => true,
+        None => false,
+    }
 }
 
 // Adds the conflict if it is so.
@@ -252,7 +270,7 @@ fn push_clashes(
 
 /// The conflicts of the id with the other candidates of a report with these lines: those on which its failure of J8 or
 /// J9 rests.
-pub fn conflicts(
+pub fn conflicts_of(
     alloc: Global,
     scope: &Scope<'_, '_>,
     lines: &[ReportLine],

@@ -204,7 +204,7 @@ fn put_element<'a>(
     text: &mut Vec<u8>,
 ) -> Result<(), AllocError>
     ensures { OnOk result (text.new.items ≡ text.old.items
-        ++ reason test (ElementFact elem_type name.now replaces (option_map found_view found.now))) }
+        ++ reason no_bypass test (ElementFact elem_type name.now replaces (option_map found_view found.now))) }
 {
     match found {
         Some(found) => put_there(test, elem_type, name, found, text),

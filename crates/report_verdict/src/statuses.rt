@@ -1,7 +1,9 @@
 //! What the lines of a report say about its candidates.
 ghost use Rattle.std.specs.Prelude.{◌≡◌, ◌++◌, [], ◌∷◌, filter, map, not, IfOk, OnOk};
 ghost use Rattle.std.specs.Prelude.{if◌then◌else◌};
+ghost use Rattle.std.specs.List.{list_any, list_all};
 ghost use Rattle.std.specs.Str.{bytes_eq};
+ghost use Rattle.terms.specs.Lookups.{is_in};
 ghost use Rattle.report.specs.Views.{status_view, line_view};
 ghost use Rattle.report_verdict.specs.Conflicts.{by_delete, by_clash, by_others, is_chain_deleted, is_in_clash};
 ghost use Rattle.report_verdict.specs.Conflicts.{passes_alone, id_where, ids_where, others, deleters, clashing};
@@ -29,11 +31,29 @@ fn by_others(test: Test) -> bool
     by_delete(test) || by_clash(test)
 }
 
+fn any_by_delete(tests: &[Test]) -> bool
+    ensures { result ≡ list_any by_delete tests.now }
+{
+    tests.iter().any(|test| by_delete(*test))
+}
+
+fn any_by_clash(tests: &[Test]) -> bool
+    ensures { result ≡ list_any by_clash tests.now }
+{
+    tests.iter().any(|test| by_clash(*test))
+}
+
+fn all_by_others(tests: &[Test]) -> bool
+    ensures { result ≡ list_all by_others tests.now }
+{
+    tests.iter().all(|test| by_others(*test))
+}
+
 fn is_chain_deleted(status: &Status) -> bool
     ensures { result ≡ is_chain_deleted (status_view status.now) }
 {
     match status {
-        Status::Failed(failure) => failure.tests.iter().any(|test| by_delete(*test)),
+        Status::Failed(failure) => any_by_delete(failure.tests.as_slice()),
         _ => false,
     }
 }
@@ -42,7 +62,7 @@ fn is_in_clash(status: &Status) -> bool
     ensures { result ≡ is_in_clash (status_view status.now) }
 {
     match status {
-        Status::Failed(failure) => failure.tests.iter().any(|test| by_clash(*test)),
+        Status::Failed(failure) => any_by_clash(failure.tests.as_slice()),
         _ => false,
     }
 }
@@ -54,7 +74,7 @@ fn passes_alone(status: &Status) -> bool
         Status::Applied => true,
         Status::Accepted => true,
         Status::Superseded => true,
-        Status::Failed(failure) => failure.tests.iter().all(|test| by_others(*test)),
+        Status::Failed(failure) => all_by_others(failure.tests.as_slice()),
         _ => false,
     }
 }
@@ -139,16 +159,22 @@ fn others(alloc: Global, id: Id, ids: &[Id]) -> Result<Vec<Id>, AllocError>
         .collect(alloc)
 }
 
+fn is_among(ids: &[Id], id: Id) -> bool
+    ensures { result ≡ is_in ids.now id }
+{
+    ids.contains(&id)
+}
+
 /// If the id fails J8, the other candidates whose DELETEs decide that.
 pub(crate) fn deleters(alloc: Global, lines: &[ReportLine], id: Id) -> Result<Vec<Id>, AllocError>
     ensures { IfOk result (λ ids. ids.items ≡ deleters (map line_view lines.now) id) }
 {
     let deleted = all_chain_deleted(alloc, lines)?;
-    if !deleted.contains(&id) {
-        return Ok(Vec::new(alloc));
+    if is_among(deleted.as_slice(), id) {
+        let passing = all_passing(alloc, lines)?;
+        return others(alloc, id, passing.as_slice());
     }
-    let passing = all_passing(alloc, lines)?;
-    others(alloc, id, passing.as_slice())
+    Ok(Vec::new(alloc))
 }
 
 /// If the id fails J9, the other candidates that fail it.
@@ -156,8 +182,8 @@ pub(crate) fn clashing(alloc: Global, lines: &[ReportLine], id: Id) -> Result<Ve
     ensures { IfOk result (λ ids. ids.items ≡ clashing (map line_view lines.now) id) }
 {
     let clashing = all_in_clash(alloc, lines)?;
-    if !clashing.contains(&id) {
-        return Ok(Vec::new(alloc));
+    if is_among(clashing.as_slice(), id) {
+        return others(alloc, id, clashing.as_slice());
     }
-    others(alloc, id, clashing.as_slice())
+    Ok(Vec::new(alloc))
 }

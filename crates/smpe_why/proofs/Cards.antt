@@ -1,6 +1,6 @@
 -- A text as records, byte by byte.
-use Rattle.std.proofs.Common.{◌≡◌, ◌∙◌, ◌≤◌, ◌<◌, ◌+◌, ◌-◌, ℕ, Bool, true, false, List, [], ◌∷◌, ◌++◌, refl, ap, sym, arith}
-use Rattle.std.proofs.Common.{append_assoc, drop, drop-cons, get_or, length, add-one, subst}
+use Rattle.std.proofs.Common.{◌≡◌, ◌∙◌, ◌≤◌, ◌<◌, ◌+◌, ◌-◌, ℕ, Bool, true, false, List, [], ◌∷◌, ◌++◌, ap, sym, arith}
+use Rattle.std.proofs.Common.{append_assoc, drop, drop-cons, get_or, length, add-one}
 use Rattle.std.specs.Prelude.{replicate, nat_lt, ◌&&◌, if◌then◌else◌}
 use Rattle.std.proofs.lemmas.Bool.Decides.{nat_tests}
 use Rattle.terms.specs.Statement.{is_blank}

@@ -1,7 +1,7 @@
 -- What is told of ids, part by part.
 use Rattle.std.proofs.Common.{◌≡◌, ◌∙◌, ◌+◌, ℕ, zero, suc, List, [], ◌∷◌, ◌++◌, Some, map, refl, sym, ap, arith}
 use Rattle.std.proofs.Common.{◌<◌, slice_get, get_or, take, length, append-nil, subst, subst₂, Option, None}
-use Rattle.std.proofs.Common.{Bool, true, false, Contains}
+use Rattle.std.proofs.Common.{true, false, Contains}
 use Rattle.std.specs.Prelude.{max, if◌then◌else◌}
 use Rattle.std.specs.List.{flat_map}
 use Rattle.std.specs.Ordering.{nat_cmp}
@@ -109,7 +109,7 @@ module _ (g : Global) (zone : Zone) (related : Option Zone) (a : Inquiry) where
       → IsTold g (Some zone) related a told
   told_once told together is = (
     (told.text.items, told.status) ∷ [],
-    subst (λ b. Beside (λ n ids p. By ids p.0 p.1) (if b then a.ids ∷ [] else map (λ x. x ∷ []) a.ids)
+    subst (λ b. Beside (λ n ids (p : Text × ℕ). By ids p.0 p.1) (if b then a.ids ∷ [] else map (λ x. x ∷ []) a.ids)
         ((told.text.items, told.status) ∷ [])) (sym together) (record { lengths = refl; each = one }),
     sym (append-nil told.text.items),
     omega arith,
@@ -129,8 +129,8 @@ module _ (g : Global) (zone : Zone) (related : Option Zone) (a : Inquiry) where
       → told.status ≡ greatest parts → IsTold g (Some zone) related a told
   told_each told apart parts each text status = (
     parts,
-    subst (λ b. Beside (λ n ids p. By ids p.0 p.1) (if b then a.ids ∷ [] else map (λ x. x ∷ []) a.ids) parts) (sym apart)
-        (beside_seen (λ ids p. By ids p.0 p.1) (λ x. x ∷ []) a.ids parts each),
+    subst (λ b. Beside (λ n ids (p : Text × ℕ). By ids p.0 p.1) (if b then a.ids ∷ [] else map (λ x. x ∷ []) a.ids)
+        parts) (sym apart) (beside_seen (λ ids (p : Text × ℕ). By ids p.0 p.1) (λ x. x ∷ []) a.ids parts each),
     text,
     status,
   )

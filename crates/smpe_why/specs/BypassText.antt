@@ -1,7 +1,7 @@
 -- BYPASS, by the text of its list.
-use Rattle.std.specs.Prelude.{◌≡◌, ◌+◌, ◌-◌, ◌<◌, ◌&&◌, ℕ, Bool, true, not, List, [], ◌∷◌, ◌++◌, Option, None, Some, codes}
+use Rattle.std.specs.Prelude.{◌≡◌, ◌+◌, ◌-◌, ◌&&◌, ℕ, Bool, true, not, List, [], ◌∷◌, ◌++◌, Option, None, Some, codes}
 use Rattle.std.specs.Prelude.{replicate, nat_lt, IsTrue, if◌then◌else◌}
-use Rattle.terms.specs.Types.{Text, Bypass, Selection, Install, Command, Accept}
+use Rattle.terms.specs.Types.{Text, Bypass, Selection, Install, Accept}
 use Rattle.terms.specs.Lookups.{is_nil}
 use Rattle.terms.specs.Statement.{is_blank}
 use Rattle.terms.specs.Commands.{IsCommandFile}

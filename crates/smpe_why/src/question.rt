@@ -3,7 +3,7 @@ use fields::{Bypass, Id};
 use std::marker::Model;
 
 /// The ids, whether one command selects them all or each has its own, whether GROUPEXTEND is given, and BYPASS.
-#[derive(Clone, Copy)]
+#[derive(Drop)]
 pub struct Question<'a> {
     pub ids: &'a [Id],
     pub together: bool,

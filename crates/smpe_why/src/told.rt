@@ -16,7 +16,7 @@ use crate::found::LoadedZones;
 use crate::question::Question;
 use fields::{Attest, Bypass, Id, IdList, Selection, SourceList, YyDdd};
 use report::ReportLine;
-use report_verdict::{Grounds, conflicts, put_verdict};
+use report_verdict::{Grounds, conflicts_of, put_verdict};
 use report_why::{Lookups, facts_code, facts_of, put_facts};
 use select::candidates;
 use smpe_service::{InstallChange, apply};
@@ -183,7 +183,7 @@ fn tell_in<'a>(
         × (told.new.text.items ≡ told.old.text.items ++ text) × (told.new.status ≡ max told.old.status code)) }
 {
     let facts = facts_of(alloc, lookups, scope, id)?;
-    let conflicts = conflicts(alloc, scope, lines, id)?;
+    let conflicts = conflicts_of(alloc, scope, lines, id)?;
     let grounds = Grounds {
         bypass: scope.bypass,
         facts: facts.as_slice(),

@@ -1,6 +1,5 @@
-use Rattle.std.proofs.Common.{◌++◌, ◌∙◌, ap, arith, map, sym, take_all}
+use Rattle.std.proofs.Common.{◌++◌, ◌∙◌, ap, arith, map, take_all}
 use Rattle.std.specs.List.{flat_map}
-use Rattle.std.proofs.lemmas.List.Folds.{flat_map-map}
 use Rattle.report_verdict.specs.Verdict.{supply_by}
 use Rattle.report.specs.Views.{line_view}
 use Rattle.report_why.proofs.TextParts.{flat_more}

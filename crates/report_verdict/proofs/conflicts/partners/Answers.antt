@@ -1,4 +1,4 @@
-use Rattle.std.proofs.Common.{◌∙◌, arith, refl, subst, map}
+use Rattle.std.proofs.Common.{◌∙◌, arith, refl, subst}
 use Rattle.terms.specs.Beside.{Beside}
 use Rattle.terms.proofs.BesideLists.{beside_next, beside_through}
 use Rattle.zones.specs.Scopes.{setting_of}

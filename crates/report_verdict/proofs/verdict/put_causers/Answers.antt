@@ -1,6 +1,5 @@
-use Rattle.std.proofs.Common.{◌++◌, ◌∙◌, ap, arith, map, sym, take_all}
+use Rattle.std.proofs.Common.{◌++◌, ◌∙◌, ap, arith, take_all}
 use Rattle.std.specs.List.{flat_map}
-use Rattle.std.proofs.lemmas.List.Folds.{flat_map-map}
 use Rattle.report_verdict.specs.Verdict.{causer_told}
 use Rattle.report_why.proofs.TextParts.{flat_more}
 use Rattle.report_verdict.proofs.verdict.put_causers.Goals as goal

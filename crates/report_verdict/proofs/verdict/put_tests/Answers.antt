@@ -1,4 +1,4 @@
-use Rattle.std.proofs.Common.{◌++◌, ◌∙◌, ap, append_assoc, arith, get_or, map, take, take_all}
+use Rattle.std.proofs.Common.{◌++◌, ◌∙◌, ap, append_assoc, arith, get_or, take, take_all}
 use Rattle.std.specs.List.{flat_map}
 use Rattle.terms.specs.declared.codes.Test.TheVariants.{HeldBySystem}
 use Rattle.report.proofs.Texts.{flat_map_more}

@@ -1,6 +1,5 @@
-use Rattle.std.proofs.Common.{◌∙◌, refl, subst, sym, Contains}
+use Rattle.std.proofs.Common.{refl, subst, Contains}
 use Rattle.std.specs.Prelude.{◌↔◌}
-use Rattle.terms.specs.Types.{Id}
 use Rattle.smpe_why.proofs.told.selection.Goals as goal
 
 pub returns : goal.returns

@@ -1,6 +1,10 @@
-use Rattle.std.proofs.Common.{◌≡◌, map, refl}
+use Rattle.std.proofs.Common.{◌≡◌, ap, map, refl, subst, sym, List}
+use Rattle.std.specs.Prelude.{option_copied, IfOk}
 use Rattle.std.proofs.lemmas.Result.{IfOk-weaker}
+use Rattle.machine.specs.Installing.{InstallsSelected}
+use Rattle.machine.specs.Outcome.{Line}
 use Rattle.report.specs.Views.{line_view}
+use Rattle.smpe_why.specs.Telling.{Inquiry, AreToldBy}
 use Rattle.smpe_why.proofs.told.told_by.Goals as goal
 
 pub told_in_turn-requires : goal.told_in_turn-requires
@@ -14,17 +18,25 @@ told_in_turn-requires c = record {
 
 pub returns : goal.returns
 returns c =
+    let g = c.args.lookups.now.global.now in
+    let zone = c.args.lookups.now.zone.now in
+    let related = option_copied c.args.related in
+    let selection = c.in_ok-selection.selection in
+    let bypass = c.question.inside.bypass.now in
     let lines : c.as_slice.result.now ≡ c.in_ok-lines.lines.items = c.as_slice.ensures.value in
-    IfOk-weaker c.told_in_turn.result _ _ (λ told in_turn. record {
+    subst (λ (a : Inquiry). IfOk c.told_in_turn.result (λ told. AreToldBy g zone related a c.args.ids.now
+    told.text.items told.status)) c.question.view_is
+    (IfOk-weaker c.told_in_turn.result _ _ (λ told in_turn. record {
       cands = c.in_ok-candidates.field-0.ids;
       lines = map line_view c.as_slice.result.now;
       prints = record {
-        selection = c.in_ok-selection.selection;
+        selection = selection;
         selects = c.in_ok-selection.ensures;
         candidates = c.in_ok-candidates.ensures.members;
         date = c.in_ok-lines.ensures.0;
         new = c.in_ok-lines.ensures.1;
-        installs = rw lines c.in_ok-lines.ensures.2;
+        installs = subst (λ (l : List Line). InstallsSelected g zone related selection bypass c.in_ok-lines.ensures.0
+            c.in_ok-lines.ensures.1 l) (ap (map line_view) (sym lines)) c.in_ok-lines.ensures.2;
       };
       told = in_turn;
-    }) c.told_in_turn.ensures
+    }) c.told_in_turn.ensures)

@@ -2,7 +2,7 @@ use Rattle.std.proofs.Common.{◌≡◌, ◌++◌, take}
 use Rattle.std.specs.List.{flat_map}
 use Rattle.zones.specs.Scopes.{setting_of}
 use Rattle.report_verdict.specs.Conflicts.{deletions_by, clashes_with}
-use Rattle.report_verdict.proofs.conflicts.conflicts.Given as goal
+use Rattle.report_verdict.proofs.conflicts.conflicts_of.Given as goal
 
 abbrev pub invariant-loop-by : goal.invariant-loop-by
 invariant-loop-by l = l.found.items ≡ flat_map (deletions_by (setting_of l.scope) l.id) (take l.by-index l.by-items)
