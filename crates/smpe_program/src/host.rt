@@ -8,11 +8,12 @@ ghost use Rattle.smpe_program.specs.Wary.{IsWary};
 
 use crate::copy::{CopyFault, copied};
 use crate::place::{has_other_form, is_missing};
+use crate::related::related_zone;
 use clap::Error as WordsError;
 use smpe_command::{DatabaseFile, Host};
-use smpe_hints::ReadFile;
+use smpe_hints::{ReadFile, RelatedZone};
 use sqlite::{Connection, Error, ErrorCode, FileFrom, FileStore, Wary};
-use sqlite_disk::Memory;
+use sqlite_disk::{Memory, Tally};
 use std::io::IsTerminal;
 use std::time::Duration;
 use std::{fs, io, thread};
@@ -29,13 +30,42 @@ pub(crate) enum Database {
     Missing(String),
     /// It was not opened, for this reason.
     Refused(String, Error),
-    /// It was opened. The first error is why its table `meta` was not read, the second why it was not closed properly.
+    /// It was opened, and this was met when it was closed.
     Opened {
         name: String,
         is_new: bool,
-        meta: Option<Error>,
-        closing: Option<Error>,
+        closing: Option<Closing>,
     },
+}
+
+/// What was met when a database was closed.
+#[derive(Clone, Copy)]
+pub(crate) struct Closing {
+    /// Why its table `meta` was not read.
+    pub(crate) meta: Option<Error>,
+    /// Why its log was not moved over.
+    pub(crate) log: Option<Error>,
+    /// What the failed calls of its files met, since they were opened.
+    pub(crate) met: Tally,
+}
+
+impl Closing {
+    // What was committed is moved over from the database's log. If that fails, it remains in the log.
+    fn of(mut open: Connection<FileStore<FileFrom<Wary>>>) -> Closing {
+        let meta = open.query_row("SELECT v FROM meta", &[]).err();
+        match open.close_files() {
+            Ok(files) => Closing {
+                meta,
+                log: None,
+                met: files.tally(),
+            },
+            Err((error, store)) => Closing {
+                meta,
+                log: Some(error),
+                met: store.close().tally(),
+            },
+        }
+    }
 }
 
 impl Database {
@@ -54,6 +84,9 @@ pub(crate) struct ProgramHost<'a> {
     rt: &'a HostRuntime,
     /// Whether to create a database if there is none.
     makes: bool,
+    /// The zone of which there may be something to say, and what the database knows of it.
+    related_name: Option<&'a str>,
+    pub(crate) related: RelatedZone,
     pub(crate) database: Database,
     /// The files that were read.
     pub(crate) files: Vec<ReadFile>,
@@ -62,10 +95,16 @@ pub(crate) struct ProgramHost<'a> {
 }
 
 impl ProgramHost<'_> {
-    pub(crate) fn new<'a>(rt: &'a HostRuntime, makes: bool) -> ProgramHost<'a> {
+    pub(crate) fn new<'a>(
+        rt: &'a HostRuntime,
+        makes: bool,
+        related_name: Option<&'a str>,
+    ) -> ProgramHost<'a> {
         ProgramHost {
             rt,
             makes,
+            related_name,
+            related: RelatedZone::Unknown,
             database: Database::None,
             files: Vec::new(rt.alloc()),
             unread: None,
@@ -204,7 +243,6 @@ impl Host for ProgramHost<'_> {
                 self.database = Database::Opened {
                     name: self.name(name),
                     is_new,
-                    meta: None,
                     closing: None,
                 };
                 Ok(conn)
@@ -228,7 +266,6 @@ impl Host for ProgramHost<'_> {
                 self.database = Database::Opened {
                     name: self.name(name),
                     is_new: false,
-                    meta: None,
                     closing: None,
                 };
                 Ok(conn)
@@ -237,14 +274,14 @@ impl Host for ProgramHost<'_> {
         }
     }
 
-    // What was committed is moved over from the database's log. If that fails, it remains in the log.
     fn close(&mut self, conn: &mut Option<Connection<Self::Disk>>) {
         if let Some(mut open) = conn.take() {
-            let read = open.query_row("SELECT v FROM meta", &[]).err();
-            let closed = open.close().err();
-            if let Database::Opened { meta, closing, .. } = &mut self.database {
-                *meta = read;
-                *closing = closed;
+            if let Some(name) = self.related_name {
+                self.related = related_zone(&mut open, name);
+            }
+            let met = Closing::of(open);
+            if let Database::Opened { closing, .. } = &mut self.database {
+                *closing = Some(met);
             }
         }
     }
