@@ -1,6 +1,7 @@
 //! What is asked about ids in a zone is told.
-ghost use Rattle.std.specs.Prelude.{Ok, IfOk};
+ghost use Rattle.std.specs.Prelude.{◌≡◌, Ok, IfOk, IfErr};
 ghost use Rattle.std.specs.String.{string_bytes};
+ghost use Rattle.smpe.specs.declared.error.JobError.TheVariants.{Memory};
 ghost use Rattle.smpe_command.specs.Serving.{AsksZone, IsGiven, ServesWhy};
 ghost use Rattle.smpe_command.specs.Told.{TellsFound, TellsText};
 
@@ -41,7 +42,8 @@ pub(crate) fn why<'a, H: Host, O: Sink>(
 
 // The BYPASS of the words, or `None` if ACCEPT does not take its list.
 fn given(alloc: Global, options: &WhyOptions) -> Result<Option<Bypass>, JobError>
-    ensures { IfOk result (IsGiven options.now) }
+    ensures ok { IfOk result (IsGiven options.now) }
+    ensures err { IfErr result (λ error. error ≡ Memory) }
 {
     match &options.bypass {
         Some(list) => Ok(bypass_of(alloc, list.as_bytes())?),

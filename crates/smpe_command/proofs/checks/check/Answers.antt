@@ -11,16 +11,16 @@ use Rattle.smpe_command.proofs.checks.check.Goals as goal
 
 -- the names of the files
 names : (g : Over) (c : After-as_deref g)
-    → option_copied c.map-cntl.result ∷ Some c.as_str-ptfin.result.now ∷ option_copied c.as_deref.result ∷ []
+    → option_copied c.map-cntl.result ∷ Some c.as_str.result.now ∷ option_copied c.as_deref.result ∷ []
     ≡ option_map (λ c. string_bytes c.cntl) c.args.set.now.commands ∷ Some (string_bytes c.args.set.now.ptfin)
     ∷ option_map string_bytes c.args.set.now.hold ∷ []
 names g c =
     let cntl : option_copied c.map-cntl.result ≡ option_map (λ c. string_bytes c.cntl) c.args.set.now.commands =
     search rules in
-    ap₂ (λ (cntl : Option Text) (hold : Option Text). cntl ∷ Some c.as_str-ptfin.result.now ∷ hold ∷ []) cntl
+    ap₂ (λ (cntl : Option Text) (hold : Option Text). cntl ∷ Some c.as_str.result.now ∷ hold ∷ []) cntl
     c.as_deref.ensures.value
     ∙ ap (λ (ptfin : Text). option_map (λ c. string_bytes c.cntl) c.args.set.now.commands ∷ Some ptfin
-    ∷ option_map string_bytes c.args.set.now.hold ∷ []) c.as_str-ptfin.ensures.value
+    ∷ option_map string_bytes c.args.set.now.hold ∷ []) c.as_str.ensures.value
 
 pub returns-in_err-files : goal.returns-in_err-files
 returns-in_err-files g c =

@@ -11,7 +11,7 @@ returns-in-Ok g c =
       same = opened.same;
       crash = opened.crash;
     } in
-    inr (c.in-Ok.store, over, c.ran_and_asked.ensures c.args.conn over)
+    inr (c.in-Ok.store, over, c.ran_and_asked-status.ensures c.args.conn over)
 
 pub returns-in-Err : goal.returns-in-Err
 returns-in-Err g c = inl (
